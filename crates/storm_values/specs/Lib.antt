@@ -1,0 +1,5 @@
+pub mod Json
+pub mod Lines
+pub mod Faults
+pub mod Keys
+pub mod Order

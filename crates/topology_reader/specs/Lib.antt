@@ -1,0 +1,3 @@
+pub mod Inside
+pub mod Topology
+pub mod Valid
