@@ -1,0 +1,2 @@
+mod FateLemmas
+mod WordLemmas

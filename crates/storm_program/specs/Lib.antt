@@ -1,0 +1,6 @@
+pub mod Batches
+pub mod Fates
+pub mod Fated
+pub mod Report
+pub mod Statuses
+pub mod Words

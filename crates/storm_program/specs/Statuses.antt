@@ -1,0 +1,13 @@
+-- The numbers of the statuses. This project's own.
+use Rattle.std.specs.Prelude.{ℕ}
+use Rattle.storm_program.specs.declared.status.Status.{Status}
+use Rattle.storm_program.specs.declared.status.Status.TheVariants as status
+
+abbrev pub code_of : Status → ℕ
+code_of status.Done = 0
+code_of status.Memory = 1
+code_of status.Words = 2
+code_of status.Topology = 3
+code_of status.Input = 4
+code_of status.ReadFault = 5
+code_of status.WriteFault = 6

@@ -1,0 +1,38 @@
+ghost use Rattle.std.specs.Prelude.{◌≡◌};
+ghost use Rattle.storm_program.specs.Statuses.{code_of};
+
+/// How a command ended.
+#[derive(Clone, Copy, Debug, PartialEq, Eq)]
+pub enum Status {
+    /// All was read to its end and accepted, and the whole output was taken.
+    Done,
+    /// Want of memory. Nothing is written.
+    Memory,
+    /// The words are no command.
+    Words,
+    /// The topology was refused.
+    Topology,
+    /// The input was refused.
+    Input,
+    /// A file was not read.
+    ReadFault,
+    /// The output was not taken. What was taken is a front of the text.
+    WriteFault,
+}
+
+impl Status {
+    /// The exit status of the program.
+    pub fn code(self) -> u8
+        ensures { result ≡ code_of self }
+    {
+        match self {
+            Status::Done => 0,
+            Status::Memory => 1,
+            Status::Words => 2,
+            Status::Topology => 3,
+            Status::Input => 4,
+            Status::ReadFault => 5,
+            Status::WriteFault => 6,
+        }
+    }
+}
