@@ -1,12 +1,14 @@
 //! Values, rows and the lists of a storm topology.
 #![tactic(auto)]
 
+mod keys;
 mod lines;
 mod list;
 mod text;
 mod value;
 
+pub use keys::{key_hash, key_text};
 pub use lines::{InputFault, LineFault, MOST_INPUT_BYTES, MOST_LINE_BYTES, MOST_LINES};
 pub use list::{Bytes, Duplicate, Indexes, Memory, Path, Seq};
 pub use text::Txt;
-pub use value::{Names, Root, Row, Rows, Value};
+pub use value::{Names, Root, Row, Rows, Value, value_order_is_total};
