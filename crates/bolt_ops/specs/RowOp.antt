@@ -1,0 +1,11 @@
+-- What every operation of the user's own keeps, said of the rows that it makes of a row.
+use Rattle.std.specs.Prelude.{◌≡◌, ◌≤◌, List, length, All}
+use Rattle.storm_values.specs.declared.value.Value.{Value}
+
+-- at most 16 rows for a row
+abbrev pub MakesFew : (List Value → List (List Value)) → Type 0
+MakesFew custom = (row : List Value) → length (custom row) ≤ 16
+
+-- each row has as many values as the row that it is made of
+abbrev pub KeepsLength : (List Value → List (List Value)) → Type 0
+KeepsLength custom = (row : List Value) → All (λ (made : List Value). length made ≡ length row) (custom row)

@@ -1,0 +1,108 @@
+use crate::{Outcome, Reversed, RowOp, exec, output_rows};
+use std::alloc::Global;
+use std::test::Fail;
+use storm_values::{Indexes, Memory, Row, Rows, Txt, Value};
+use topology_reader::{Op, Test};
+
+fn text(alloc: Global, text: &str) -> Result<Value, Memory> {
+    Ok(Value::Text(Txt::from_str(alloc, text)?))
+}
+
+/// The row of the number 7 and a text.
+fn row_of(alloc: Global, last: &str) -> Result<Row, Memory> {
+    let mut row = Row::new(alloc);
+    row.push(Value::Int(7))?;
+    row.push(text(alloc, last)?)?;
+    Ok(row)
+}
+
+/// Each value with a comma after it, and each row with a semicolon.
+fn shown(alloc: Global, rows: &Rows) -> Result<String, Memory> {
+    let mut shown = String::new(alloc);
+    for row in rows.as_slice() {
+        for value in row.as_slice() {
+            match value {
+                Value::Int(number) => write!(shown, "{number},")?,
+                Value::Text(text) => {
+                    shown.push_str(text.as_str())?;
+                    shown.push_str(",")?;
+                }
+            }
+        }
+        shown.push_str(";")?;
+    }
+    Ok(shown)
+}
+
+#[test]
+fn splits_into_words(rt: HostRuntime) -> Result<(), Fail> {
+    let alloc = rt.alloc();
+    for (given, expected) in [("", ""), ("the cow  jumped ", "the,;cow,;jumped,;")] {
+        let row = row_of(alloc, given)?;
+        let rows = output_rows(alloc, &Op::Split { field: 1 }, &row, &Reversed)?;
+        assert_eq!(rt; shown(alloc, &rows)?.as_str(), expected);
+    }
+    Ok(())
+}
+
+#[test]
+fn makes_rows(rt: HostRuntime) -> Result<(), Fail> {
+    let alloc = rt.alloc();
+    let mut fields = Indexes::new(alloc);
+    fields.push(1)?;
+    fields.push(0)?;
+    let table = [
+        (Op::Split { field: 0 }, ""),
+        (Op::Project(fields), "cow,7,;"),
+        (filter(Test::Eq, Value::Int(7)), "7,cow,;"),
+        (filter(Test::Ne, Value::Int(7)), ""),
+        (filter(Test::Lt, Value::Int(7)), ""),
+        (filter(Test::Lt, text(alloc, "")?), "7,cow,;"),
+        (
+            Op::Set {
+                field: 1,
+                value: Value::Int(-4),
+            },
+            "7,-4,;",
+        ),
+        (Op::Len { field: 1 }, "7,cow,3,;"),
+        (Op::Len { field: 0 }, "7,cow,0,;"),
+        (Op::Route { field: 0 }, "7,cow,;"),
+        (Op::Custom, "cow,7,;"),
+    ];
+    let row = row_of(alloc, "cow")?;
+    for (op, expected) in &table {
+        let rows = output_rows(alloc, op, &row, &Reversed)?;
+        assert_eq!(rt; shown(alloc, &rows)?.as_str(), *expected);
+    }
+    Ok(())
+}
+
+fn filter(test: Test, value: Value) -> Op {
+    Op::Filter {
+        field: 0,
+        test,
+        value,
+    }
+}
+
+#[test]
+fn fails_below(rt: HostRuntime) -> Result<(), Fail> {
+    let alloc = rt.alloc();
+    let row = row_of(alloc, "cow")?;
+    let flaky = Op::Flaky { below: 3 };
+    let mute = Op::Mute { below: 3 };
+    assert!(rt; matches!(exec(alloc, &flaky, &row, 2, &Reversed)?, Outcome::Fail));
+    assert!(rt; matches!(exec(alloc, &flaky, &row, 3, &Reversed)?, Outcome::Rows(_)));
+    assert!(rt; matches!(exec(alloc, &mute, &row, 2, &Reversed)?, Outcome::Mute));
+    assert!(rt; matches!(exec(alloc, &mute, &row, 3, &Reversed)?, Outcome::Rows(_)));
+    Ok(())
+}
+
+#[test]
+fn reverses(rt: HostRuntime) -> Result<(), Fail> {
+    let alloc = rt.alloc();
+    let rows = Reversed.rows(alloc, &row_of(alloc, "cow")?)?;
+    assert_eq!(rt; shown(alloc, &rows)?.as_str(), "cow,7,;");
+    Ok(())
+}
