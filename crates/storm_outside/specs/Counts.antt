@@ -1,0 +1,6 @@
+-- Counts of faults.
+use Rattle.std.specs.Prelude.{ℕ, ◌≡◌, ◌<◌, ◌-◌, ◌^◌, ◌⊎◌}
+
+-- a count that ends at 2^64 - 1 rose: it is greater now, or it stands at its end
+abbrev pub Rose : ℕ → ℕ → Type 0
+Rose before after = (before < after) ⊎ (after ≡ 2 ^ 64 - 1)

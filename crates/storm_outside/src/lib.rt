@@ -1,0 +1,10 @@
+//! The world outside: files by name and an output, as traits, with objects in memory and real ones.
+#![tactic(auto)]
+
+mod failed;
+mod shelf;
+mod sink;
+
+pub use failed::Failed;
+pub use shelf::{InFault, Shelf, read_all};
+pub use sink::{Sink, write_all};
