@@ -1,2 +1,4 @@
 pub mod Counts
+pub mod Calls
 pub mod Pieces
+pub mod MemorySink

@@ -1,10 +1,13 @@
 //! The world outside: files by name and an output, as traits, with objects in memory and real ones.
 #![tactic(auto)]
 
+mod calls;
 mod failed;
+mod memory_sink;
 mod shelf;
 mod sink;
 
 pub use failed::Failed;
+pub use memory_sink::MemSink;
 pub use shelf::{InFault, Shelf, read_all};
 pub use sink::{Sink, write_all};
