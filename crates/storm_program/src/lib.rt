@@ -3,6 +3,7 @@
 
 mod batches;
 mod fates;
+mod files;
 mod report;
 mod status;
 mod words;
