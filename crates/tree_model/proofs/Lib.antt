@@ -1,0 +1,4 @@
+mod Folding
+mod Loops
+mod Maps
+mod Tallies

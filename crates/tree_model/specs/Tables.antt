@@ -1,0 +1,87 @@
+-- The tables that writes leave: for each state its keys in order, each with the fold of its amounts.
+use Rattle.std.specs.Prelude.{◌≡◌, ℕ, ◌==◌, ◌&&◌, ℤ, pos, ◌+ℤ◌, List, [], ◌∷◌, ◌++◌, length, map, filter, fold, slice_index_or, Option, Some, None, option_map, IfSome, option_and_then, slice_get, unwrap_or}
+use Rattle.std.specs.List.{filter_map, range_with_len, find, AllZip}
+use Rattle.std.specs.List.Sorted.{IsStrictlySortedBy}
+use Rattle.std.specs.Cmp.Lexicographic.{slice_cmp}
+use Rattle.std.specs.Ordering.{nat_cmp}
+use Rattle.std.specs.Int.{int_max, saturate_signed, w128}
+use Rattle.std.specs.Str.{bytes_eq}
+use Rattle.topology_reader.specs.declared.plan.Body.{Body}
+use Rattle.topology_reader.specs.declared.plan.Body.TheVariants.{Bolt, State}
+use Rattle.topology_reader.specs.declared.plan.Component.{Component}
+use Rattle.topology_reader.specs.declared.plan.Fold.{Fold}
+use Rattle.topology_reader.specs.declared.plan.Fold.TheVariants.{Count, Sum, Last, Max}
+use Rattle.topology_reader.specs.declared.plan.StateSpec.{StateSpec}
+use Rattle.topology_reader.specs.Topology.{Topology}
+use Rattle.tree_model.specs.declared.write.Write.{Write}
+use Rattle.tree_model.specs.declared.write.Pair.{Pair}
+use Rattle.tree_model.specs.declared.write.Table.{Table}
+
+-- ---- the value of a key
+
+-- A key's value after one more amount, from its value before, if it has one. Sums end at the ends of 128 bits.
+abbrev pub folded : Fold → Option ℤ → ℤ → ℤ
+folded Count old amount = saturate_signed w128 (unwrap_or old (pos 0) +ℤ amount)
+folded Sum old amount = saturate_signed w128 (unwrap_or old (pos 0) +ℤ amount)
+folded Last old amount = amount
+folded Max None amount = amount
+folded Max (Some old) amount = int_max old amount
+
+-- the amounts that are written for a key of a state, in order
+abbrev pub amounts_of : List Write → ℕ → List ℕ → List ℤ
+amounts_of writes state key =
+    map (λ (write : Write). write.amount) (filter (λ (write : Write). (write.state == state) && bytes_eq write.key key) writes)
+
+-- the value of a key of a state, where something is written for it
+abbrev pub base : Fold → List Write → ℕ → List ℕ → Option ℤ
+base by writes state key = fold (λ old amount. Some (folded by old amount)) None (amounts_of writes state key)
+
+-- ---- tables
+
+-- the value beside a key
+abbrev pub value_at : List Pair → List ℕ → Option ℤ
+value_at pairs key = option_map (λ (pair : Pair). pair.value) (find (λ (pair : Pair). bytes_eq key pair.key) pairs)
+
+-- the pairs have each key that is written for a state, once and in the order of their bytes, with its value
+pub record IsTable (by : Fold) (writes : List Write) (state : ℕ) (pairs : List Pair) : Type 0 where
+  pub ordered : IsStrictlySortedBy (slice_cmp nat_cmp) (map (λ (pair : Pair). pair.key) pairs)
+  pub values : (key : List ℕ) → value_at pairs key ≡ base by writes state key
+
+-- a state by its component number, with its name and its fold
+pub record StateOf : Type 0 where
+  pub number : ℕ
+  pub name : List ℕ
+  pub by : Fold
+
+abbrev pub state_by : ℕ → Component → Body → Option StateOf
+state_by number component (Bolt op) = None
+state_by number component (State spec) = Some (record { number = number; name = component.name; by = spec.fold })
+
+-- the state of a component number
+abbrev pub state_at : Topology → ℕ → Option StateOf
+state_at t number = option_and_then (λ (component : Component). state_by number component component.body) (slice_get t.components number)
+
+-- the states of a topology, in the order of their numbers
+abbrev pub states_of : Topology → List StateOf
+states_of t = filter_map (state_at t) (range_with_len 0 (length t.components))
+
+-- the table of one state
+pub record IsTableOf (writes : List Write) (state : StateOf) (table : Table) : Type 0 where
+  pub name : table.name ≡ state.name
+  pub pairs : IsTable state.by writes state.number table.pairs
+
+-- the tables of all states, in order
+abbrev pub AreTables : Topology → List Write → List Table → Type 0
+AreTables t writes tables = AllZip (IsTableOf writes) (states_of t) tables
+
+-- ---- running tables
+
+-- the pairs of each component, where a state's are its table
+pub record IsTallyOf (t : Topology) (writes : List Write) (tally : List (List Pair)) : Type 0 where
+  pub count : length tally ≡ length t.components
+  pub tables : (number : ℕ) → IfSome (state_at t number) (λ state. IsTable state.by writes number (slice_index_or tally number []))
+
+-- where a component is a state, one more table with its name and some pairs
+abbrev pub AddsTable : Option StateOf → List Pair → List Table → List Table → Type 0
+AddsTable None pairs old new = new ≡ old
+AddsTable (Some state) pairs old new = new ≡ old ++ record { name = state.name; pairs = pairs } ∷ []
