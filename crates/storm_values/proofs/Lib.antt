@@ -1,2 +1,5 @@
 mod KeyLemmas
 mod OrderLemmas
+mod SplitLemmas
+mod LineLemmas
+pub mod InputLemmas

@@ -1,6 +1,16 @@
-ghost use Rattle.std.specs.Prelude.{Some};
+ghost use Rattle.std.specs.Prelude.{◌≡◌, ◌≢◌, ℕ, ◌<◌, ◌==◌, List, ◌∷◌, length, take, Some, None, option_map, IfOk, IfErr};
+ghost use Rattle.std.specs.List.{position};
+ghost use Rattle.std.specs.Option.{option_or};
+ghost use Rattle.serde_json.specs.View.{view, items_view};
 ghost use Rattle.storm_values.specs.Faults.{line_fault_text, input_fault_text};
+ghost use Rattle.storm_values.specs.Json.{json_of, value_of};
+ghost use Rattle.storm_values.specs.Lines.{lines_of, array_of, not_json, not_array, bad_item, values_of, line_fault, row_of, input_fault, records_of};
 
+use crate::list::{Memory, Seq};
+use crate::text::Txt;
+use crate::value::{Row, Rows, Value};
+use serde_json::Value as Json;
+use std::alloc::Global;
 use std::error::Error;
 use std::fmt;
 
@@ -67,3 +77,152 @@ impl fmt::Display for InputFault {
 }
 
 impl Error for InputFault {}
+
+impl From<Memory> for LineFault {
+    ghost use Rattle.std.specs.Prelude.{◌≡◌};
+    ghost use Rattle.storm_values.specs.declared.lines.LineFault.TheVariants as line;
+
+    ghost from_gives = { λ _ fault. fault ≡ line.Memory };
+
+    fn from(_: Memory) -> LineFault {
+        LineFault::Memory
+    }
+}
+
+impl From<Memory> for InputFault {
+    ghost use Rattle.std.specs.Prelude.{◌≡◌};
+    ghost use Rattle.storm_values.specs.declared.lines.InputFault.TheVariants as input;
+
+    ghost from_gives = { λ _ fault. fault ≡ input.Memory };
+
+    fn from(_: Memory) -> InputFault {
+        InputFault::Memory
+    }
+}
+
+/// The record of a line, which comes without its byte 10 and is to have `want` values.
+pub fn row_from_line(alloc: Global, line: &[u8], want: u32) -> Result<Row, LineFault>
+    ensures good { IfOk result
+        (λ row. (line_fault line.now want ≡ None) × (row ≡ row_of line.now)) }
+    ensures fault { IfErr result
+        (λ fault. fault ≢ LineFault.Memory → line_fault line.now want ≡ Some fault) }
+{
+    if line.len() > MOST_LINE_BYTES {
+        return Err(LineFault::TooLong);
+    }
+    let items = array_from_line(alloc, line)?;
+    let row = row_from_items(alloc, items)?;
+    let found = row.len();
+    if found != want as usize {
+        return Err(LineFault::WrongCount(found));
+    }
+    Ok(row)
+}
+
+/// The items of the JSON array that a line is.
+fn array_from_line(alloc: Global, line: &[u8]) -> Result<Vec<Json>, LineFault>
+    ensures good { IfOk result (λ items. array_of line.now ≡ Some (items_view items.items)) }
+    ensures fault { IfErr result (λ fault. fault ≢ LineFault.Memory
+        → option_or (not_json (json_of line.now)) (not_array (array_of line.now)) ≡ Some fault) }
+{
+    match Json::from_slice(alloc, line) {
+        Ok(json) => match json {
+            Json::Array(items) => Ok(items),
+            _other => Err(LineFault::NotArray),
+        },
+        Err(error) if error.is_memory() => Err(LineFault::Memory),
+        Err(_) => Err(LineFault::NotJson),
+    }
+}
+
+/// The values of the items. Their texts are moved.
+fn row_from_items(alloc: Global, items: Vec<Json>) -> Result<Row, LineFault>
+    ensures good { IfOk result (λ row. (bad_item (Some (items_view items.items)) ≡ None)
+        × (row ≡ values_of (items_view items.items))) }
+    ensures fault { IfErr result (λ fault. fault ≢ LineFault.Memory
+        → bad_item (Some (items_view items.items)) ≡ Some fault) }
+{
+    let mut row = Seq::from_vec(Vec::with_capacity(alloc, items.len())?);
+    for item in items {
+        let Some(value) = value_from_item(item) else {
+            return Err(LineFault::BadItem(row.len()));
+        };
+        row.push(value)?;
+    }
+    Ok(row)
+}
+
+fn value_from_item(item: Json) -> Option<Value>
+    ensures { result ≡ value_of (view item) }
+{
+    match item {
+        Json::Number(number) => number.as_i64().map(Value::Int),
+        Json::String(text) => Some(Value::Text(Txt::from_string(text))),
+        _ => None,
+    }
+}
+
+/// The records of an input whose lines are to have `want` values each, in time linear in its length.
+pub fn read_input(alloc: Global, bytes: &[u8], want: u32) -> Result<Rows, InputFault>
+    ensures good { IfOk result
+        (λ rows. (input_fault bytes.now want ≡ None) × (rows ≡ records_of bytes.now)) }
+    ensures fault { IfErr result
+        (λ fault. fault ≢ InputFault.Memory → input_fault bytes.now want ≡ Some fault) }
+{
+    if bytes.len() > MOST_INPUT_BYTES {
+        return Err(InputFault::TooBig);
+    }
+    let mut rows = Seq::new(alloc);
+    let mut rest = bytes;
+    while !rest.is_empty() {
+        let read = rows.len();
+        if read == MOST_LINES {
+            return Err(InputFault::TooMany);
+        }
+        let (line, after) = split_line(rest);
+        let row = numbered_row(alloc, line, want, read + 1)?;
+        rows.push(row)?;
+        rest = after;
+    }
+    Ok(rows)
+}
+
+/// The record of the line with this number.
+fn numbered_row(alloc: Global, line: &[u8], want: u32, number: usize) -> Result<Row, InputFault>
+    ensures good { IfOk result
+        (λ row. (line_fault line.now want ≡ None) × (row ≡ row_of line.now)) }
+    ensures fault { IfErr result (λ fault. fault ≢ InputFault.Memory
+        → option_map (InputFault.Line number) (line_fault line.now want) ≡ Some fault) }
+{
+    match row_from_line(alloc, line, want) {
+        Ok(row) => Ok(row),
+        Err(LineFault::Memory) => Err(InputFault::Memory),
+        Err(fault) => Err(InputFault::Line(number, fault)),
+    }
+}
+
+/// The first line without its byte 10, and what follows.
+fn split_line(bytes: &[u8]) -> (&[u8], &[u8])
+    requires { 0 < length bytes.now }
+    ensures lines { lines_of bytes.now ≡ result.0.now ∷ lines_of result.1.now }
+    ensures shorter { length result.1.now < length bytes.now }
+{
+    match line_end(bytes) {
+        Some(end) => (&bytes[..end], &bytes[end + 1..]),
+        None => (bytes, &[]),
+    }
+}
+
+fn line_end(bytes: &[u8]) -> Option<usize>
+    ensures { result ≡ position (λ byte. byte == 10) bytes.now }
+{
+    bytes.iter().position(|byte| *byte == b'\n')
+}
+
+/// A law: the first byte past the limit tells as much of an input as all that follow it.
+pub fn one_byte_past_the_limit_suffices()
+    ensures fault { (bytes : List ℕ) (want : ℕ)
+        → input_fault (take 67108865 bytes) want ≡ input_fault bytes want }
+    ensures records { (bytes : List ℕ) (want : ℕ) → input_fault bytes want ≡ None
+        → records_of (take 67108865 bytes) ≡ records_of bytes }
+{}

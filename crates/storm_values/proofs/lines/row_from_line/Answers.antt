@@ -1,0 +1,35 @@
+use Rattle.std.proofs.Common.{◌≡◌, length, ap, sym, ◌∙◌, arith}
+use Rattle.std.proofs.lemmas.Result.{err_from_is_err_and}
+use Rattle.serde_json.specs.View.{items_view}
+use Rattle.storm_values.specs.Lines.{values_of}
+use Rattle.storm_values.proofs.LineLemmas.{line_fault-TooLong, line_fault-no_array, line_fault-BadItem, line_fault-WrongCount, line_fault-None, row_of-array}
+use Rattle.storm_values.proofs.lines.row_from_line.Goals as goal
+
+pub returns-then-line-gt-MOST_LINE_BYTES-clause-fault :
+    goal.returns-then-line-gt-MOST_LINE_BYTES-clause-fault
+returns-then-line-gt-MOST_LINE_BYTES-clause-fault c = λ _. line_fault-TooLong c.args.line.now c.args.want (omega arith)
+
+pub returns-in_err-items-clause-fault : goal.returns-in_err-items-clause-fault
+returns-in_err-items-clause-fault c =
+    let made = err_from_is_err_and c.from_residual.result c.from_residual.ensures.1 in
+    rw (made.1, made.2) (λ other. line_fault-no_array c.args.line.now c.args.want c.in_err-items.field-0.0 (omega arith) (c.in_err-items.ensures.fault other))
+
+pub returns-in_err-row-clause-fault : goal.returns-in_err-row-clause-fault
+returns-in_err-row-clause-fault c =
+    let made = err_from_is_err_and c.from_residual-in_err-row.result c.from_residual-in_err-row.ensures.1 in
+    rw (made.1, made.2) (λ other. line_fault-BadItem c.args.line.now c.args.want (items_view c.in_ok-items.items.items) c.in_err-row.field-0.0 (omega arith) c.in_ok-items.ensures.good (c.in_err-row.ensures.fault other))
+
+pub returns-then-found-want-clause-fault : goal.returns-then-found-want-clause-fault
+returns-then-found-want-clause-fault c =
+    let items = items_view c.in_ok-items.items.items in
+    let counted : length (values_of items) ≡ c.len-found.result = ap length (sym c.in_ok-row.ensures.good.1) ∙ sym c.len-found.ensures in
+    let differs = λ (same : length (values_of items) ≡ c.args.want). c.if-found-want.true (sym counted ∙ same) in
+    λ _. rw (← counted) (line_fault-WrongCount c.args.line.now c.args.want items (omega arith) c.in_ok-items.ensures.good c.in_ok-row.ensures.good.0 differs)
+
+pub returns-clause-good : goal.returns-clause-good
+returns-clause-good c =
+    let items = items_view c.in_ok-items.items.items in
+    let counted : length (values_of items) ≡ c.args.want = ap length (sym c.in_ok-row.ensures.good.1) ∙ sym c.len-found.ensures ∙ c.if-found-want.false in (
+      line_fault-None c.args.line.now c.args.want items (omega arith) c.in_ok-items.ensures.good c.in_ok-row.ensures.good.0 counted,
+      c.in_ok-row.ensures.good.1 ∙ sym (row_of-array c.args.line.now items c.in_ok-items.ensures.good),
+    )
