@@ -1,14 +1,13 @@
-ghost use Rattle.std.specs.Prelude.{◌≡◌, List, [], ◌∷◌, length, reverse, IfOk};
+ghost use Rattle.std.specs.Prelude.{◌≡◌, List, [], ◌∷◌, reverse, IfOk};
 ghost use Rattle.std.proofs.Common.{lit≤};
 ghost use Rattle.std.proofs.lemmas.List.{length-reverse};
-ghost use Rattle.std.proofs.lemmas.List.Elements.{All-nil, All-cons};
 ghost use Rattle.storm_values.specs.declared.value.Value.{Value};
-ghost use Rattle.bolt_ops.specs.RowOp.{MakesFew, KeepsLength};
+ghost use Rattle.bolt_ops.specs.RowOp.{MakesFew, KeepsLength, KeepsLength-one};
 
 use std::alloc::Global;
 use storm_values::{Duplicate, Memory, Row, Rows};
 
-/// An operation of the user's own. The rows depend on the row alone.
+/// An operation of the user's own, which makes at most 16 rows of a row. They depend on the operation and the row alone.
 pub trait RowOp {
     ghost rows_of: { Self → List Value → List (List Value) };
 
@@ -29,7 +28,7 @@ impl RowOp for Reversed {
 
     ghost few = { λ _ _. lit≤ tt };
 
-    ghost keeps_length = { λ _ row. All-cons (λ (made : List Value). length made ≡ length row) (reverse row) [] (length-reverse row) (All-nil (λ (made : List Value). length made ≡ length row)) };
+    ghost keeps_length = { λ _. KeepsLength-one reverse length-reverse };
 
     fn rows(&self, alloc: Global, row: &Row) -> Result<Rows, Memory> {
         let mut made = Row::new(alloc);

@@ -1,7 +1,6 @@
 ghost use Rattle.std.specs.Prelude.{◌≡◌, ◌∷◌, ◌++◌, [], length, map, pos, IfOk, IsTrue, if◌then◌else◌, slice_set, Some};
 ghost use Rattle.std.specs.List.{filter_map};
 ghost use Rattle.std.specs.Option.{option_copied};
-ghost use Rattle.storm_values.specs.Order.{value_cmp};
 ghost use Rattle.bolt_ops.specs.Operations.{value_at, text_at, bytes_of, words, passes, keeps, out, exec_of};
 
 use crate::custom::RowOp;
@@ -19,7 +18,8 @@ pub enum Outcome {
     Mute,
 }
 
-/// What an attempt at a row, counted from 1, comes to.
+/// What an attempt at a row comes to. Attempts are counted from 1. A failed or mute attempt costs nothing, another
+/// what [`output_rows`] costs.
 pub fn exec<O: RowOp>(
     alloc: Global,
     op: &Op,
@@ -27,7 +27,8 @@ pub fn exec<O: RowOp>(
     attempt: u32,
     custom: &O,
 ) -> Result<Outcome, Memory>
-    ensures { IfOk result (λ outcome. outcome ≡ exec_of (O.rows_of custom.now) op.now row.now attempt) }
+    ensures { IfOk result
+        (λ outcome. outcome ≡ exec_of (O.rows_of custom.now) op.now row.now attempt) }
 {
     match op {
         Op::Flaky { below } if attempt < *below => Ok(Outcome::Fail),
@@ -36,7 +37,9 @@ pub fn exec<O: RowOp>(
     }
 }
 
-/// The rows that an operation makes of a row, whatever the attempt.
+/// The rows that an operation makes of a row, whatever the attempt, in a time that grows with the bytes of the row
+/// and of the rows made. Where the row has no such field, a split or a filter makes no row, a projection leaves the
+/// field out, a set changes nothing, and a length is 0.
 pub fn output_rows<O: RowOp>(alloc: Global, op: &Op, row: &Row, custom: &O) -> Result<Rows, Memory>
     ensures { IfOk result (λ rows. rows ≡ out (O.rows_of custom.now) op.now row.now) }
 {
@@ -112,7 +115,7 @@ fn is_kept(field: u32, test: Test, value: &Value, row: &Row) -> bool
     ensures { result ≡ keeps field test value.now row.now }
 {
     match value_of_field(row, field) {
-        Some(found) => passes(test, compare(found, value)),
+        Some(found) => passes(test, found.compare(value)),
         None => false,
     }
 }
@@ -128,7 +131,8 @@ fn with_field(field: u32, value: &Value, row: &Row) -> Result<Row, Memory>
 }
 
 fn with_len(field: u32, row: &Row) -> Result<Row, Memory>
-    ensures { IfOk result (λ made. made ≡ row.now ++ Value.Int (pos (length (text_at row.now field))) ∷ []) }
+    ensures { IfOk result
+        (λ made. made ≡ row.now ++ Value.Int (pos (length (text_at row.now field))) ∷ []) }
 {
     let mut made = row.copy()?;
     made.push(Value::Int(text_of_field(row, field).len() as i64))?;
@@ -142,16 +146,5 @@ fn passes(test: Test, order: Ordering) -> bool
         Test::Eq => order.is_eq(),
         Test::Ne => order.is_ne(),
         Test::Lt => order.is_lt(),
-    }
-}
-
-fn compare(a: &Value, b: &Value) -> Ordering
-    ensures { result ≡ value_cmp a.now b.now }
-{
-    match (a, b) {
-        (Value::Int(a), Value::Int(b)) => a.cmp(b),
-        (Value::Int(_), Value::Text(_)) => Ordering::Less,
-        (Value::Text(_), Value::Int(_)) => Ordering::Greater,
-        (Value::Text(a), Value::Text(b)) => a.as_bytes().cmp(b.as_bytes()),
     }
 }
