@@ -4,3 +4,4 @@ pub mod Valid
 pub mod WordCount
 pub mod Drafts
 pub mod Faults
+pub mod PlanFacts

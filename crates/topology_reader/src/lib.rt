@@ -7,6 +7,8 @@ mod file;
 mod make;
 mod plan;
 mod read;
+#[cfg(test)]
+mod tests;
 
 pub use fault::TopoFault;
 pub use plan::{Body, Component, Fold, Grouping, Kind, Op, Origin, Plan, StateSpec, Sub, Test};
