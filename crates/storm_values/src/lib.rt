@@ -4,6 +4,8 @@
 mod keys;
 mod lines;
 mod list;
+#[cfg(test)]
+mod tests;
 mod text;
 mod value;
 

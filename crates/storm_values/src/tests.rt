@@ -1,0 +1,102 @@
+ghost use Rattle.std.specs.Prelude.{◌≡◌, [], ◌∷◌, IfOk};
+
+use crate::{
+    Bytes, Duplicate, Indexes, InputFault, LineFault, MOST_INPUT_BYTES, MOST_LINES, Memory, Names,
+    Path, Row, Rows, Seq, Txt, Value, key_hash, key_text, read_input, row_from_line,
+};
+use std::alloc::Global;
+use std::cmp::Ordering;
+use std::test::Fail;
+
+#[test]
+fn hashes_and_texts_of_keys(rt: HostRuntime) -> Result<(), Fail> {
+    let alloc = rt.alloc();
+    for (text, hash) in [("a", 0xaf63_dc4c_8601_ec8c), ("", 0xcbf2_9ce4_8422_2325)] {
+        let key = [Value::Text(Txt::from_str(alloc, text)?)];
+        assert_eq!(rt; key_hash(&key), hash, "at {text}");
+    }
+    let key = [Value::Text(Txt::from_str(alloc, "a\"b")?), Value::Int(-5)];
+    assert!(rt; key_text(alloc, &key)?.as_str() == "[\"a\\\"b\",-5]");
+    Ok(())
+}
+
+#[test]
+fn reads_lines_with_any_end(rt: HostRuntime) -> Result<(), Fail> {
+    let alloc = rt.alloc();
+    let rows = read_input(alloc, b"[\"a\"]\r\n[\"b\"]", 1)?;
+    assert_eq!(rt; rows.len(), 2);
+    Ok(())
+}
+
+#[test]
+fn tells_the_first_fault_of_a_line(rt: HostRuntime) -> Result<(), Fail> {
+    let alloc = rt.alloc();
+    let long = vec![in alloc; b' '; 4097]?;
+    for (line, fault) in [
+        (long.as_slice(), LineFault::TooLong),
+        (b"[", LineFault::NotJson),
+        (b"[\"\xff\"]", LineFault::NotJson),
+        (b"{}", LineFault::NotArray),
+        (b"[1,2.5]", LineFault::BadItem(1)),
+        (b"[9223372036854775808]", LineFault::BadItem(0)),
+        (b"[1,\"a\"]", LineFault::WrongCount(2)),
+    ] {
+        assert_eq!(rt; row_from_line(alloc, line, 1).err(), Some(fault));
+    }
+    Ok(())
+}
+
+#[test]
+fn tells_the_first_fault_of_an_input(rt: HostRuntime) -> Result<(), Fail> {
+    let alloc = rt.alloc();
+    let big = vec![in alloc; b' '; MOST_INPUT_BYTES + 1]?;
+    let mut many = Vec::new(alloc);
+    for _ in 0..=MOST_LINES {
+        many.extend_from_slice(b"[1]\n")?;
+    }
+    for (bytes, fault) in [
+        (big.as_slice(), InputFault::TooBig),
+        (many.as_slice(), InputFault::TooMany),
+        (
+            b"[\"a\"]\n[1.5]",
+            InputFault::Line(2, LineFault::BadItem(0)),
+        ),
+    ] {
+        assert_eq!(rt; read_input(alloc, bytes, 1).err(), Some(fault));
+    }
+    let text = format!(in alloc; "{}", InputFault::Line(2, LineFault::BadItem(0)))?;
+    assert!(rt; text.as_str() == "line 2: item 0 is no text and no whole number");
+    Ok(())
+}
+
+#[test]
+fn orders_numbers_before_texts(rt: HostRuntime) -> Result<(), Fail> {
+    let text = Value::Text(Txt::from_str(rt.alloc(), "")?);
+    assert_eq!(rt; Value::Int(9).compare(&text), Ordering::Less);
+    Ok(())
+}
+
+fn copied_list<E: Duplicate>(alloc: Global, item: E) -> Result<Seq<E>, Memory>
+    ensures { IfOk result (λ list. list ≡ item ∷ []) }
+{
+    let mut list = Seq::new(alloc);
+    list.push(item)?;
+    list.copy()
+}
+
+#[test]
+fn lists_keep_their_items(rt: HostRuntime) -> Result<(), Fail> {
+    let alloc = rt.alloc();
+    let bytes: Bytes = copied_list(alloc, 7)?;
+    let path: Path = copied_list(alloc, 7)?;
+    let indexes: Indexes = copied_list(alloc, 7)?;
+    assert_eq!(rt; (*bytes.at(0), *path.at(0), *indexes.at(0)), (7, 7, 7));
+    let mut text = Txt::new(alloc);
+    text.push('é')?;
+    let names: Names = copied_list(alloc, text.copy()?)?;
+    assert_eq!(rt; names.at(0).len(), 2);
+    let row: Row = copied_list(alloc, Value::Int(7))?;
+    let rows: Rows = copied_list(alloc, row)?;
+    assert_eq!(rt; rows.at(0).len(), 1);
+    Ok(())
+}
