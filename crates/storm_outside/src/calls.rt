@@ -8,7 +8,7 @@ use std::marker::Model;
 use storm_values::Memory;
 
 /// Calls of one kind, some of which are to fail.
-#[derive(Drop)]
+#[derive(Debug, Drop)]
 pub(crate) struct Calls {
     made: u64,
     failing: Vec<u64>,

@@ -3,11 +3,13 @@
 
 mod calls;
 mod failed;
+mod memory_shelf;
 mod memory_sink;
 mod shelf;
 mod sink;
 
 pub use failed::Failed;
+pub use memory_shelf::MemShelf;
 pub use memory_sink::MemSink;
 pub use shelf::{InFault, Shelf, read_all};
 pub use sink::{Sink, write_all};

@@ -12,7 +12,7 @@ use storm_values::Memory;
 
 /// A sink in memory. A write takes no more than is free and no more than a given number of bytes, and one that finds no
 /// room fails.
-#[derive(Drop)]
+#[derive(Debug, Drop)]
 pub struct MemSink {
     taken: Vec<u8>,
     longest: usize,
@@ -57,14 +57,16 @@ impl MemSink {
 
     /// The bytes taken.
     pub fn bytes(&self) -> &[u8]
-        ensures { result.now ≡ self.now.taken }
+        ensures value { result.now ≡ self.now.taken }
+        ensures told { ⟦<MemSink as Sink>⟧.taken self.now ≡ Some result.now }
     {
         self.taken.as_slice()
     }
 
     /// How often a write has failed. The count ends at 2^64 - 1.
     pub fn faults(&self) -> u64
-        ensures { result ≡ self.now.faults }
+        ensures value { result ≡ self.now.faults }
+        ensures told { ⟦<MemSink as Sink>⟧.faults self.now ≡ result }
     {
         self.faults
     }
