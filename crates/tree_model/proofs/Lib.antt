@@ -2,3 +2,4 @@ mod Folding
 mod Loops
 mod Maps
 mod Tallies
+mod Walks

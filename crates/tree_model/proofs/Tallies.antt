@@ -1,22 +1,29 @@
 -- What one more write does to the running tables.
-use Rattle.std.proofs.Common.{◌≡◌, ℕ, zero, suc, replicate, ◌==◌, ◌<◌, ◌⊎◌, true, false, inl, inr, ℤ, List, [], ◌∷◌, ◌++◌, map, length, get_or, set, Option, Some, None, IfSome, String, BTreeMap, sym, refl, ap, ◌∙◌, subst, ⊎_elim, length-set}
+use Rattle.std.proofs.Common.{◌≡◌, ℕ, zero, suc, ◌+◌, arith, slice_get, replicate, ◌==◌, ◌<◌, ◌⊎◌, false, inl, inr, ℤ, List, [], ◌∷◌, ◌++◌, map, length, get_or, set, Option, Some, None, IfSome, String, BTreeMap, sym, refl, ap, ◌∙◌, subst, ⊎_elim, length-set}
 use Rattle.std.proofs.Math.Seq.{map-set_same}
 use Rattle.std.proofs.lemmas.Bool.{cases_eq, eq-eqb, ne_eqb}
-use Rattle.std.proofs.lemmas.List.{length-map, length-replicate, map-set, get_or-map, get_or-set_same, get_or-set_other, get_or_read}
-use Rattle.std.proofs.lemmas.Option.{none-some, same_Some, slice_get_cases}
+use Rattle.std.proofs.lemmas.List.{append-nil, map-id, length-map, length-replicate, map-set, get_or-map, get_or-set_same, get_or-set_other}
+use Rattle.std.proofs.lemmas.List.Elements.{filter_map-append}
+use Rattle.std.proofs.lemmas.List.FromFn.{map-range_with_len_more}
+use Rattle.std.proofs.lemmas.Slice.Zip.{all_zipped_more}
+use Rattle.std.proofs.lemmas.Option.{none-some, same_Some, slice_get_cases, option_and_then_some}
 use Rattle.std.specs.BTreeMap.{IsOrdered, get_by_text}
+use Rattle.std.specs.List.{AllZip, cons_option, filter_map, range_with_len}
 use Rattle.std.specs.List.Sorted.{IsStrictlySortedBy}
 use Rattle.std.specs.Map.{update}
 use Rattle.std.specs.Option.{option_map, option_and_then}
 use Rattle.std.specs.Str.{bytes_eq}
 use Rattle.std.specs.String.{string_cmp}
+use Rattle.topology_reader.specs.declared.plan.Body.{Body}
+use Rattle.topology_reader.specs.declared.plan.Body.TheVariants.{Bolt, State}
 use Rattle.topology_reader.specs.declared.plan.Component.{Component}
 use Rattle.topology_reader.specs.declared.plan.Fold.{Fold}
 use Rattle.topology_reader.specs.Topology.{Topology}
 use Rattle.tree_model.specs.declared.write.Pair.{Pair}
+use Rattle.tree_model.specs.declared.write.Table.{Table}
 use Rattle.tree_model.specs.declared.write.Write.{Write}
 use Rattle.tree_model.specs.Inside.{pair_of, pairs_of, pairs_by}
-use Rattle.tree_model.specs.Tables.{StateOf, folded, state_by, state_at, IsTable, IsTallyOf}
+use Rattle.tree_model.specs.Tables.{StateOf, folded, state_by, state_at, IsTable, IsTableOf, IsTallyOf, AddsTable}
 use Rattle.tree_model.proofs.Folding.{base-push_other}
 use Rattle.tree_model.proofs.Maps.{IsTable-put}
 
@@ -103,3 +110,28 @@ IsTallyOf-none t = record {
   count = length-replicate (length t.components) [];
   tables = λ number. IfSome-always (state_at t number) (λ state. rw (get_or-replicate_same {X = List Pair} (length t.components) number []) (IsTable-none state.by number));
 }
+
+range_with_len_more : (n : ℕ) → range_with_len 0 (n + 1) ≡ range_with_len 0 n ++ n ∷ []
+range_with_len_more n = sym (map-id (range_with_len 0 (n + 1))) ∙ map-range_with_len_more (λ (k : ℕ). k) 0 n n (omega arith) ∙ ap (λ ks. ks ++ n ∷ []) (map-id (range_with_len 0 n))
+
+state_by-number : (n : ℕ) (component : Component) (body : Body) (state : StateOf) → state_by n component body ≡ Some state → state.number ≡ n
+state_by-number n component (Bolt op) state found = absurd (none-some state found)
+state_by-number n component (State spec) state found = ap (λ (s : StateOf). s.number) (sym (same_Some _ _ found))
+
+state_at-number : (t : Topology) (n : ℕ) (state : StateOf) → state_at t n ≡ Some state → state.number ≡ n
+state_at-number t n state found = option_and_then_some (λ (component : Component). state_by n component component.body) (slice_get t.components n) state found (λ component there is. state_by-number n component component.body state is)
+
+AllZip-table : (writes : List Write) (o : Option StateOf) (pairs : List Pair) (states : List StateOf) (old new : List Table) → AllZip (IsTableOf writes) states old → IfSome o (λ state. IsTable state.by writes state.number pairs) → AddsTable o pairs old new → AllZip (IsTableOf writes) (states ++ cons_option o []) new
+AllZip-table writes None pairs states old new all table adds = rw (append-nil states, adds) all
+AllZip-table writes (Some state) pairs states old new all table adds = rw adds (all_zipped_more (IsTableOf writes) states old state (record { name = state.name; pairs = pairs }) all (record { name = refl; pairs = table }))
+
+-- one more component in a list of tables
+pub tables_more : (t : Topology) (writes : List Write) (tally : List (List Pair)) (n : ℕ) (component : Component) (pairs : List Pair) (old new : List Table) → slice_get t.components n ≡ Some component → pairs ≡ get_or tally n [] → IsTallyOf t writes tally
+    → AddsTable (state_by n component component.body) pairs old new → AllZip (IsTableOf writes) (filter_map (state_at t) (range_with_len 0 n)) old → AllZip (IsTableOf writes) (filter_map (state_at t) (range_with_len 0 (n + 1))) new
+tables_more t writes tally n component pairs old new there same is adds all =
+    let at : state_at t n ≡ state_by n component component.body = ap (option_and_then (λ (c : Component). state_by n c c.body)) there in
+    let table : IfSome (state_at t n) (λ state. IsTable state.by writes state.number pairs) =
+        IfSome_with (state_at t n) (is.tables n) (λ state found table. rw (state_at-number t n state found, same) table) in
+    let more : filter_map (state_at t) (range_with_len 0 (n + 1)) ≡ filter_map (state_at t) (range_with_len 0 n) ++ cons_option (state_at t n) [] =
+        ap (filter_map (state_at t)) (range_with_len_more n) ∙ filter_map-append (state_at t) (range_with_len 0 n) (n ∷ []) in
+    rw more (AllZip-table writes (state_at t n) pairs (filter_map (state_at t) (range_with_len 0 n)) old new all table (rw at adds))

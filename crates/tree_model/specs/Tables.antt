@@ -11,7 +11,6 @@ use Rattle.topology_reader.specs.declared.plan.Body.TheVariants.{Bolt, State}
 use Rattle.topology_reader.specs.declared.plan.Component.{Component}
 use Rattle.topology_reader.specs.declared.plan.Fold.{Fold}
 use Rattle.topology_reader.specs.declared.plan.Fold.TheVariants.{Count, Sum, Last, Max}
-use Rattle.topology_reader.specs.declared.plan.StateSpec.{StateSpec}
 use Rattle.topology_reader.specs.Topology.{Topology}
 use Rattle.tree_model.specs.declared.write.Write.{Write}
 use Rattle.tree_model.specs.declared.write.Pair.{Pair}

@@ -1,8 +1,11 @@
 //! The tuple trees of records, what their state nodes write, and the tables of the states.
 #![tactic(auto)]
 
+mod plain;
 mod tally;
+mod tree;
 mod write;
 
+pub use plain::{count_nodes, plain_tables};
 pub use tally::Tally;
-pub use write::{Pair, Pairs, Table, Tables, Write, Writes};
+pub use write::{Pair, Pairs, Table, Tables, Write, Writes, writes_of};

@@ -1,4 +1,12 @@
-use storm_values::{Seq, Txt};
+ghost use Rattle.std.specs.Prelude.{◌≡◌, List, ◌++◌, Some, IfOk, slice_get, option_and_then, option_copied};
+ghost use Rattle.std.specs.List.{filter_map};
+ghost use Rattle.tree_model.specs.Trees.{amount_by, int_of, write_by, writes};
+
+use crate::tree::{Tree, Visitor};
+use bolt_ops::RowOp;
+use std::alloc::Global;
+use storm_values::{Duplicate, Memory, Row, Seq, Txt, Value, key_hash, key_text};
+use topology_reader::{Body, Fold, Origin, Plan, StateSpec};
 
 /// What a state is to add to the value of a key.
 #[derive(Debug, Drop)]
@@ -31,3 +39,108 @@ pub struct Table {
 }
 
 pub type Tables = Seq<Table>;
+
+/// The writes of the state nodes of the rows' tuple tree, in path order. Each node's rows are made once, so that the
+/// time grows with the nodes and their bytes.
+pub fn writes_of<O: RowOp>(
+    alloc: Global,
+    plan: &Plan,
+    rows: &[Row],
+    custom: &O,
+) -> Result<Writes, Memory>
+    ensures { IfOk result (λ made. made ≡ writes plan.now (O.rows_of custom.now) rows.now) }
+{
+    let mut writes = Writes::new(alloc);
+    let tree = Tree {
+        alloc,
+        plan,
+        custom,
+    };
+    tree.visit_rows(&mut writes, plan.components(), Origin::Spout, rows)?;
+    Ok(writes)
+}
+
+impl Visitor for Writes {
+    ghost use Rattle.std.specs.Prelude.{◌++◌};
+    ghost use Rattle.std.specs.Option.{option_to_list};
+    ghost use Rattle.tree_model.specs.Trees.{write_of};
+
+    ghost visited = { λ t writes node. writes ++ option_to_list (write_of t node) };
+
+    fn visit(
+        &mut self,
+        alloc: Global,
+        plan: &Plan,
+        component: u32,
+        row: &Row,
+    ) -> Result<(), Memory> {
+        let at = plan.component(component);
+        if let Body::State(spec) = &at.body {
+            self.push(write_at(alloc, component, at.tasks, spec, row)?)?;
+        }
+        Ok(())
+    }
+}
+
+/// What a state with this many parts is to add for a row.
+fn write_at(
+    alloc: Global,
+    state: u32,
+    parts: u32,
+    spec: &StateSpec,
+    row: &Row,
+) -> Result<Write, Memory>
+    ensures { IfOk result (λ write. Some write ≡ write_by state parts (Body.State spec.now) row.now) }
+{
+    let values = key_values(alloc, spec.key.as_slice(), row)?;
+    let part = key_hash(values.as_slice()) % u64::from(parts.max(1));
+    let key = key_text(alloc, values.as_slice())?;
+    Ok(Write {
+        state,
+        part: part as u32,
+        key,
+        amount: amount(spec, row),
+    })
+}
+
+/// The values in some fields of a row. Fields that it does not have are left out.
+fn key_values(alloc: Global, fields: &[u32], row: &Row) -> Result<Row, Memory>
+    ensures { IfOk result (λ values. values ≡ filter_map (slice_get row.now) fields.now) }
+{
+    let mut values = Row::new(alloc);
+    for field in fields {
+        if let Some(value) = field_of(row, *field) {
+            values.push(value.copy()?)?;
+        }
+    }
+    Ok(values)
+}
+
+fn amount(spec: &StateSpec, row: &Row) -> i64
+    ensures { result ≡ amount_by spec.now.fold (option_and_then (slice_get row.now) spec.now.amount) }
+{
+    match spec.fold {
+        Fold::Count => 1,
+        Fold::Sum | Fold::Last | Fold::Max => number_at(row, spec.amount),
+    }
+}
+
+/// The number in a field, 0 where it is a text or not there.
+fn number_at(row: &Row, field: Option<u32>) -> i64
+    ensures { result ≡ int_of (option_and_then (slice_get row.now) field) }
+{
+    let Some(field) = field else {
+        return 0;
+    };
+    match field_of(row, field) {
+        Some(Value::Int(number)) => *number,
+        _ => 0,
+    }
+}
+
+/// The value of a field, if the row has the field.
+fn field_of(row: &Row, field: u32) -> Option<&Value>
+    ensures { option_copied result ≡ slice_get row.now field }
+{
+    row.as_slice().get(field as usize)
+}

@@ -1,4 +1,4 @@
-use Rattle.std.proofs.Common.{◌≡◌, ◌++◌, length, take, sym, subst, ◌∙◌, append_assoc}
+use Rattle.std.proofs.Common.{◌++◌, length, subst, ◌∙◌, append_assoc}
 use Rattle.tree_model.specs.Inside.{pairs_by}
 use Rattle.tree_model.specs.Tables.{IsTallyOf}
 use Rattle.tree_model.proofs.Loops.{seen_so_far, seen_all, OnErr-from}

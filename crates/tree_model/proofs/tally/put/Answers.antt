@@ -1,11 +1,10 @@
-use Rattle.std.proofs.Common.{◌≡◌, ℤ, Option, Some, List, ℕ, string_bytes, rules, SFits, ap, ◌∙◌}
+use Rattle.std.proofs.Common.{◌≡◌, Some, List, ℕ, string_bytes, rules, SFits, ap, ◌∙◌}
 use Rattle.std.proofs.lemmas.Int.{to_z-of_z}
 use Rattle.std.proofs.lemmas.Map.Text.{btree_map_updates_text}
 use Rattle.std.specs.BTreeMap.{get_by_text}
 use Rattle.std.specs.Int.{w64, w128}
 use Rattle.std.specs.Map.{update}
 use Rattle.std.specs.Str.{bytes_eq}
-use Rattle.tree_model.specs.Tables.{folded}
 use Rattle.tree_model.proofs.tally.put.Goals as goal
 
 -- the key has the text's bytes, so that `insert` set its value

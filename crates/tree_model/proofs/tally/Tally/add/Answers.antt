@@ -1,4 +1,3 @@
-use Rattle.std.proofs.Common.{List, ◌++◌}
 use Rattle.std.proofs.lemmas.Result.{on_ok_weaker, on_err_weaker}
 use Rattle.tree_model.proofs.tally.Tally.add.Goals as goal
 

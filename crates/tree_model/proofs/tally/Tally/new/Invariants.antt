@@ -1,4 +1,4 @@
-use Rattle.std.proofs.Common.{◌≡◌, length, replicate, []}
+use Rattle.std.proofs.Common.{◌≡◌, replicate, []}
 use Rattle.tree_model.specs.Inside.{pairs_by}
 use Rattle.tree_model.proofs.tally.Tally.new.Given as goal
 

@@ -1,0 +1,14 @@
+use Rattle.std.proofs.Common.{◌≡◌, ◌∙◌, ap, subst, take, ◌∷◌, []}
+use Rattle.tree_model.specs.Tables.{IsTallyOf}
+use Rattle.tree_model.specs.Trees.{writes}
+use Rattle.tree_model.proofs.Walks.{writes-nil, writes-take_more}
+use Rattle.tree_model.proofs.plain.plain_tables.Goals as goal
+
+pub loop-row-init : goal.loop-row-init
+loop-row-init g c = rw (writes-nil c.args.plan.now (g.O.RowOp.rows_of c.args.custom.now)) c.in_ok-tally.ensures
+
+pub loop-row-preserved : goal.loop-row-preserved
+loop-row-preserved g c =
+    let made = rw c.from_ref.ensures.value at c.in_ok-writes.ensures in
+    let added = c.in_ok-add.ensures.ok (writes c.args.plan.now (g.O.RowOp.rows_of c.args.custom.now) (take c.loop-row.row-index c.args.rows.now)) c.loop-row.invariant in
+    rw (← writes-take_more c.args.plan.now (g.O.RowOp.rows_of c.args.custom.now) c.args.rows.now c.loop-row.row-index c.row-item.result c.loop-row-test.true c.row-item.is, ← made) added

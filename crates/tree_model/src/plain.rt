@@ -1,0 +1,72 @@
+ghost use Rattle.std.specs.Prelude.{◌≡◌, ◌-◌, ◌^◌, min, IfOk};
+ghost use Rattle.tree_model.specs.Tables.{AreTables};
+ghost use Rattle.tree_model.specs.Trees.{node_count, writes};
+
+use crate::tally::Tally;
+use crate::tree::{Tree, Visitor};
+use crate::write::{Tables, writes_of};
+use bolt_ops::RowOp;
+use std::alloc::Global;
+use std::slice;
+use storm_values::{Memory, Row};
+use topology_reader::{Origin, Plan};
+
+/// The tables that the rows' tuple tree leaves. At most one row's writes are held at a time.
+pub fn plain_tables<O: RowOp>(
+    alloc: Global,
+    plan: &Plan,
+    rows: &[Row],
+    custom: &O,
+) -> Result<Tables, Memory>
+    ensures { IfOk result
+        (AreTables plan.now (writes plan.now (O.rows_of custom.now) rows.now)) }
+{
+    let mut tally = Tally::new(alloc, plan)?;
+    for row in rows {
+        let writes = writes_of(alloc, plan, slice::from_ref(row), custom)?;
+        tally.add(plan, writes)?;
+    }
+    tally.tables(alloc, plan)
+}
+
+/// How many nodes the rows' tuple tree has, or `u64::MAX` where there are more.
+pub fn count_nodes<O: RowOp>(
+    alloc: Global,
+    plan: &Plan,
+    rows: &[Row],
+    custom: &O,
+) -> Result<u64, Memory>
+    ensures { IfOk result
+        (λ count. count ≡ min (node_count plan.now (O.rows_of custom.now) rows.now) (2 ^ 64 - 1)) }
+{
+    let mut counter = NodeCounter { count: 0 };
+    let tree = Tree {
+        alloc,
+        plan,
+        custom,
+    };
+    tree.visit_rows(&mut counter, plan.components(), Origin::Spout, rows)?;
+    Ok(counter.count)
+}
+
+#[derive(Clone, Copy)]
+struct NodeCounter {
+    count: u64,
+}
+
+impl Visitor for NodeCounter {
+    ghost use Rattle.std.specs.Prelude.{◌+◌, ◌-◌, ◌^◌, min};
+
+    ghost visited = { λ t counter node. record { count = min (counter.count + 1) (2 ^ 64 - 1) } };
+
+    fn visit(
+        &mut self,
+        alloc: Global,
+        plan: &Plan,
+        component: u32,
+        row: &Row,
+    ) -> Result<(), Memory> {
+        self.count = self.count.saturating_add(1);
+        Ok(())
+    }
+}
