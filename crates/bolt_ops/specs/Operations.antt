@@ -27,7 +27,7 @@ bytes_of (Text bytes) = bytes
 abbrev pub text_at : List Value → ℕ → List ℕ
 text_at row field = option_map_or bytes_of (value_at row field) []
 
--- the pieces between the bytes of this value
+-- the pieces of a text between the bytes that are `byte`; two of them side by side have an empty piece between them
 abbrev pub pieces : ℕ → List ℕ → List (List ℕ)
 pieces byte text = slice_split (λ b. b == byte) text
 

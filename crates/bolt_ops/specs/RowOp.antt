@@ -12,5 +12,7 @@ abbrev pub KeepsLength : (List Value → List (List Value)) → Type 0
 KeepsLength custom = (row : List Value) → All (λ (made : List Value). length made ≡ length row) (custom row)
 
 -- an operation that makes one row, with as many values
-pub KeepsLength-one : (f : List Value → List Value) → ((row : List Value) → length (f row) ≡ length row) → KeepsLength (λ row. f row ∷ [])
-KeepsLength-one f kept row = let P : List Value → Type 0 = λ made. length made ≡ length row in All-cons P (f row) [] (kept row) (All-nil P)
+pub KeepsLength-one : (f : List Value → List Value) → ((row : List Value) → length (f row) ≡ length row)
+    → KeepsLength (λ row. f row ∷ [])
+KeepsLength-one f kept row =
+    let P : List Value → Type 0 = λ made. length made ≡ length row in All-cons P (f row) [] (kept row) (All-nil P)
