@@ -1,11 +1,11 @@
 -- Files found by name.
-use Rattle.std.proofs.Common.{◌≡◌, ℕ, ◌<◌, ◌≤◌, Bool, true, false, cond, nat_lt, List, [], ◌∷◌, ◌++◌, length, Option, Some, None, MatchOption, IfSome, option_map, IsTrue, IsSome, is_some, find, position, slice_index_or, refl, sym, ap, ◌∙◌, arith}
-use Rattle.std.specs.List.{position_or_len, slice_get}
+use Rattle.std.proofs.Common.{◌≡◌, ℕ, ◌<◌, ◌≤◌, Bool, true, false, cond, nat_lt, List, [], ◌∷◌, ◌++◌, length, Option, Some, None, MatchOption, option_map, IsTrue, IsSome, is_some, find, position, slice_index_or, refl, ap, ◌∙◌, arith}
+use Rattle.std.specs.List.{position_or_len}
 use Rattle.std.specs.Option.{option_or}
 use Rattle.std.specs.Str.{bytes_eq}
 use Rattle.std.proofs.lemmas.Bool.Decides.{nat_tests}
 use Rattle.std.proofs.lemmas.List.Folds.{find_at, find-append}
-use Rattle.std.proofs.lemmas.Option.{gets, slice_get-get_or, slice_get_past}
+use Rattle.std.proofs.lemmas.Option.{slice_get-get_or, slice_get_past}
 use Rattle.std.proofs.lemmas.Slice.Eq.{bytes_eq-Decides}
 use Rattle.storm_outside.specs.Files.{file_of}
 

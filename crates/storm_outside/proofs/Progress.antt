@@ -41,7 +41,7 @@ given_here left got rest bytes new after k within fits first grown gives =
     let piece : take k (got ++ rest) ≡ take k (drop (length bytes) left) = take-append-le k got rest within ∙ gives.given in
     let room : k + length bytes ≤ length left = omega (arith, gives.within, length-drop (length bytes) left) in
     let count : length new ≡ length bytes + k =
-        rw (grown, piece) (omega (arith, length-append bytes (take k (drop (length bytes) left)), length-take k (drop (length bytes) left), length-drop (length bytes) left)) in
+    rw (grown, piece) (omega (arith, length-append bytes (take k (drop (length bytes) left)), length-take k (drop (length bytes) left), length-drop (length bytes) left)) in
     record {
       within = omega arith;
       first = rw (count, grown, piece, take-add (length bytes) k left, ← first) refl;

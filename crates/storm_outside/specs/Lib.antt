@@ -1,7 +1,8 @@
 pub mod Counts
 pub mod Calls
+pub mod Faults
 pub mod Pieces
-pub mod MemorySink
 pub mod Files
-pub mod MemoryShelf
 pub mod Place
+pub mod MemoryShelf
+pub mod MemorySink

@@ -1,5 +1,5 @@
 -- A sink in memory.
-use Rattle.std.specs.Prelude.{ℕ, ◌≡◌, ◌≤◌, ◌-◌, ◌⊎◌, List, [], length, min}
+use Rattle.std.specs.Prelude.{ℕ, ◌≡◌, ◌-◌, ◌⊎◌, List, [], length}
 use Rattle.storm_outside.specs.Calls.{CallLog, NextFails, no_calls}
 
 -- the bytes taken, the most that one write takes, and the most that there is room for in all

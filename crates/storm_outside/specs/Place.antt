@@ -1,5 +1,5 @@
 -- How far the current file was read.
-use Rattle.std.specs.Prelude.{ℕ, ◌≡◌, ◌<◌, ◌≤◌, List, [], length, drop, Option, option_map, IfSome, slice_index_or}
+use Rattle.std.specs.Prelude.{ℕ, ◌<◌, ◌≤◌, List, [], length, drop, Option, option_map, slice_index_or}
 use Rattle.storm_outside.specs.declared.memory_shelf.Place.{Place}
 
 -- the bytes of the file of this number

@@ -7,9 +7,14 @@ mod memory_shelf;
 mod memory_sink;
 mod shelf;
 mod sink;
+mod system;
 
 pub use failed::Failed;
 pub use memory_shelf::MemShelf;
 pub use memory_sink::MemSink;
 pub use shelf::{InFault, Shelf, read_all};
 pub use sink::{Sink, write_all};
+pub use system::{FileShelf, OutSink};
+
+#[cfg(test)]
+mod tests;

@@ -1,5 +1,6 @@
 ghost use Rattle.std.specs.Prelude.{◌≡◌, ℕ, ◌+◌, ◌-◌, ◌%◌, ◌^◌, ◌<◌, ◌≤◌, List, length, take, drop, Option, Some, codes, IsOk, IfOk, OnOk, OnErr, IfSome, IsNone, IsErrOf};
 ghost use Rattle.storm_outside.specs.Counts.{Rose};
+ghost use Rattle.storm_outside.specs.Faults.{in_fault_text};
 ghost use Rattle.storm_outside.specs.Pieces.{GivesFirst, HasGiven};
 ghost use Rattle.storm_outside.specs.declared.shelf.InFault.TheVariants as fault;
 
@@ -69,13 +70,15 @@ pub trait Shelf {
 }
 
 /// Why a file was not read.
-#[derive(Debug, Drop)]
+#[derive(Debug, PartialEq, Eq, Drop)]
 pub enum InFault {
     Failed,
     Memory,
 }
 
 impl fmt::Display for InFault {
+    ghost output = { λ fault. Some (in_fault_text fault) };
+
     fn fmt<W: fmt::Write>(&self, f: &mut fmt::Formatter<W>) -> fmt::Result {
         match self {
             InFault::Failed => write!(f, "the outside failed"),
@@ -105,8 +108,8 @@ impl From<Memory> for InFault {
 /// The most bytes that one read asks for.
 const PIECE: usize = 8192;
 
-/// Reads what is left of the current file, or its first `most + 1` bytes where it is longer. It copies each byte
-/// twice at most for a byte that it answers, in pieces of 8 KiB.
+/// Reads the rest of the current file, or its first `most + 1` bytes where it is longer. The time is in proportion to
+/// the bytes read.
 pub fn read_all<H: Shelf>(alloc: Global, shelf: &mut H, most: u64) -> Result<Bytes, InFault>
     requires limit { most < 2 ^ 64 - 1 }
     requires fetched { H.has_file shelf.old }

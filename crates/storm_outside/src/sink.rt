@@ -34,7 +34,8 @@ pub fn write_all<K: Sink>(sink: &mut K, bytes: &[u8]) -> Result<(), Failed>
 {
     let mut at = 0;
     while at < bytes.len() {
-        at += sink.write(&bytes[at..])?;
+        let count = sink.write(&bytes[at..])?;
+        at += count;
     }
     Ok(())
 }

@@ -1,4 +1,4 @@
-use Rattle.std.proofs.Common.{ℕ, ◌≡◌, ◌≤◌, ◌+◌, ◌∙◌, length, arith}
+use Rattle.std.proofs.Common.{ℕ, ◌≤◌, ◌+◌, ◌∙◌, length, arith}
 use Rattle.std.proofs.lemmas.List.{length-take}
 use Rattle.storm_outside.proofs.Progress.{given_more, given_most, given_end}
 use Rattle.storm_outside.proofs.shelf.read_all.Goals as goal
@@ -26,7 +26,7 @@ pub returns-clause-bytes : goal.returns-clause-bytes
 returns-clause-bytes g c =
     let so_far = c.loop-buf.invariant.reads in
     rw c.from_vec.ensures
-      (elim c.loop-buf-test.branch [
-        else-loop-buf-test w ↦ given_most _ _ _ (c.args.most + 1) (omega (arith, c.loop-buf.bytes.ok.0)) so_far.given
-        | then-loop-buf-test+in_ok-count+then-count-eq0 w ↦ given_end _ _ _ _ _ _ (c.args.most + 1) w.if-count-eq0.true (omega (arith, c.loop-buf.bytes.ok.0)) so_far.given w.in_ok-count.ensures.bytes
-      ])
+    (elim c.loop-buf-test.branch [
+      | else-loop-buf-test w ↦ given_most _ _ _ (c.args.most + 1) (omega (arith, c.loop-buf.bytes.ok.0)) so_far.given
+      | then-loop-buf-test+in_ok-count+then-count-eq0 w ↦ given_end _ _ _ _ _ _ (c.args.most + 1) w.if-count-eq0.true (omega (arith, c.loop-buf.bytes.ok.0)) so_far.given w.in_ok-count.ensures.bytes
+    ])

@@ -1,5 +1,4 @@
-use Rattle.std.proofs.Common.{◌≡◌, Some, None, inl, inr, refl}
-use Rattle.storm_outside.specs.Files.{file_of}
+use Rattle.std.proofs.Common.{inl, inr, refl}
 use Rattle.storm_outside.proofs.Named.{file_of-here, file_of-nowhere}
 use Rattle.storm_outside.proofs.memory_shelf.MemShelfShelf.fetch.Goals as goal
 use Rattle.storm_outside.proofs.memory_shelf.MemShelfShelf.fetch.Goals.{in_default-via-in-Some+else-not-fails, in_default-via-in_default}
@@ -16,7 +15,10 @@ returns-in-Some-clause-found c =
 
 pub returns-in_default-clause-fails : goal.returns-in_default-clause-fails
 returns-in_default-clause-fails c =
-    rw (← c.self.view_is) (λ _. elim c.in_default.branch [
-        in_default-via-in-Some+else-not-fails w ↦ inl (w.if-not-fails.ensures.fails.0 refl)
+    rw (← c.self.view_is) (
+      λ _. elim c.in_default.branch [
+        | in_default-via-in-Some+else-not-fails w ↦ inl (w.if-not-fails.ensures.fails.0 refl)
         | in_default-via-in_default w ↦ inr (file_of-nowhere c.self.inside.files.items c.deref.result.now c.args.name.now c.deref.ensures.value w.in_default.ensures)
-      ], λ _. refl)
+      ],
+      λ _. refl,
+    )
