@@ -1,6 +1,6 @@
-ghost use Rattle.std.specs.Prelude.{◌≡◌, ℕ, ◌≤◌, ◌↔◌, [], ◌∷◌, ◌++◌, IsTrue, Contains, OnOk, OnErr};
+ghost use Rattle.std.specs.Prelude.{◌≡◌, ◌≤◌, ◌↔◌, IsTrue, OnOk, OnErr};
 ghost use Rattle.storm_outside.specs.Counts.{Rose, raised};
-ghost use Rattle.storm_outside.specs.Calls.{no_calls, counted, NextFails};
+ghost use Rattle.storm_outside.specs.Calls.{no_calls, failing_at, counted, NextFails};
 
 use crate::failed::Failed;
 use std::alloc::Global;
@@ -34,7 +34,7 @@ impl Calls {
 
     /// Lets the call of this number fail, the first being number 1.
     pub fn fail(&mut self, number: u64) -> Result<(), Memory>
-        ensures ok { OnOk result (self.new ≡ record self.old { failing = self.old.failing ++ number ∷ [] }) }
+        ensures ok { OnOk result (self.new ≡ failing_at self.old number) }
         ensures err { OnErr result (self.new ≡ self.old) }
     {
         self.failing.push(number)?;

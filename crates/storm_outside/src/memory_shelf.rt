@@ -1,7 +1,7 @@
-ghost use Rattle.std.specs.Prelude.{◌≡◌, ℕ, ◌<◌, ◌≤◌, ◌↔◌, List, [], ◌∷◌, ◌++◌, length, take, drop, min, Some, None, IsTrue, IsSome, IfSome, IfOk, IsErr, OnOk, OnErr, MatchOption, slice_index_or, position};
+ghost use Rattle.std.specs.Prelude.{◌≡◌, ℕ, ◌<◌, ◌≤◌, ◌↔◌, List, [], ◌∷◌, ◌++◌, length, take, drop, min, Some, None, IsTrue, IsSome, IfSome, IfOk, IsErr, OnOk, OnErr, position};
 ghost use Rattle.std.specs.Str.{bytes_eq};
 ghost use Rattle.storm_outside.specs.Counts.{Rose, raised};
-ghost use Rattle.storm_outside.specs.Calls.{counted, NextFails};
+ghost use Rattle.storm_outside.specs.Calls.{counted, failing_at, NextFails};
 ghost use Rattle.storm_outside.specs.Files.{file_of, one_file};
 ghost use Rattle.storm_outside.specs.Pieces.{GivesFirst};
 ghost use Rattle.storm_outside.specs.MemoryShelf.{empty_shelf, FetchFails, IsReady};
@@ -20,7 +20,8 @@ struct Place {
     at: usize,
 }
 
-/// Files in memory. A read gives no more than a given number of bytes. To find a file takes time for each file.
+/// Files in memory. A read gives no more than a given number of bytes. A fetch and an `add` take
+/// time in proportion to the number of files at most.
 #[derive(Debug, Drop)]
 pub struct MemShelf {
     files: Vec<(Txt, Bytes)>,
@@ -39,7 +40,14 @@ impl Model for MemShelf {
 
     ghost use Rattle.storm_outside.specs.Place.{rest_at, IsIn};
 
-    ghost view = { λ s. record { files = s.files.items; rest = rest_at s.files.items s.current; longest = s.longest; fetches = s.fetches; reads = s.reads; faults = s.faults } };
+    ghost view = { λ s. record {
+      files = s.files.items;
+      rest = rest_at s.files.items s.current;
+      longest = s.longest;
+      fetches = s.fetches;
+      reads = s.reads;
+      faults = s.faults;
+    } };
 
     ghost invariant = { λ s. (1 ≤ s.longest) × IfSome s.current (IsIn s.files.items) };
 }
@@ -90,10 +98,14 @@ impl MemShelf {
     /// Adds a file. The current file and its place stay.
     pub fn add(&mut self, name: Txt, bytes: Bytes) -> Result<(), Memory>
         requires { file_of self.old.files name ≡ None }
-        ensures ok { OnOk result (self.new ≡ record self.old { files = self.old.files ++ (name, bytes) ∷ [] }) }
+        ensures ok { OnOk result (self.new ≡ record self.old {
+          files = self.old.files ++ (name, bytes) ∷ [];
+        }) }
         ensures err { OnErr result (self.new ≡ self.old) }
         ensures held { OnOk result (⟦<MemShelf as Shelf>⟧.holds self.new name bytes) }
-        ensures kept { (n b : List ℕ) → ⟦<MemShelf as Shelf>⟧.holds self.old n b → ⟦<MemShelf as Shelf>⟧.holds self.new n b }
+        ensures kept { (n b : List ℕ) →
+            ⟦<MemShelf as Shelf>⟧.holds self.old n b → ⟦<MemShelf as Shelf>⟧.holds self.new n b }
+        ensures stays_ready { ⟦<MemShelf as Shelf>⟧.ready self.old → ⟦<MemShelf as Shelf>⟧.ready self.new }
     {
         self.files.push((name, bytes))?;
         Ok(())
@@ -101,7 +113,7 @@ impl MemShelf {
 
     /// Lets the fetch of this number fail, the first being number 1.
     pub fn fail_fetch(&mut self, number: u64) -> Result<(), Memory>
-        ensures ok { OnOk result (self.new ≡ record self.old { fetches = record self.old.fetches { failing = self.old.fetches.failing ++ number ∷ [] } }) }
+        ensures ok { OnOk result (self.new ≡ record self.old { fetches = failing_at self.old.fetches number }) }
         ensures err { OnErr result (self.new ≡ self.old) }
     {
         self.fetches.fail(number)
@@ -109,7 +121,7 @@ impl MemShelf {
 
     /// Lets the read of this number fail, the first being number 1.
     pub fn fail_read(&mut self, number: u64) -> Result<(), Memory>
-        ensures ok { OnOk result (self.new ≡ record self.old { reads = record self.old.reads { failing = self.old.reads.failing ++ number ∷ [] } }) }
+        ensures ok { OnOk result (self.new ≡ record self.old { reads = failing_at self.old.reads number }) }
         ensures err { OnErr result (self.new ≡ self.old) }
     {
         self.reads.fail(number)
@@ -141,8 +153,14 @@ impl Shelf for MemShelf {
 
     fn fetch(&mut self, name: &str) -> Result<(), Failed>
         ensures fails { IsErr result ↔ FetchFails self.old name.now }
-        ensures found { OnOk result (self.new ≡ record self.old { rest = file_of self.old.files name.now; fetches = counted self.old.fetches }) }
-        ensures refused { OnErr result (self.new ≡ record self.old { fetches = counted self.old.fetches; faults = raised self.old.faults }) }
+        ensures found { OnOk result (self.new ≡ record self.old {
+          rest = file_of self.old.files name.now;
+          fetches = counted self.old.fetches;
+        }) }
+        ensures refused { OnErr result (self.new ≡ record self.old {
+          fetches = counted self.old.fetches;
+          faults = raised self.old.faults;
+        }) }
         ensures failed { OnErr result (Rose self.old.faults self.new.faults) }
         ensures never_falls { self.old.faults ≤ self.new.faults }
     {
@@ -160,11 +178,19 @@ impl Shelf for MemShelf {
         requires buffer { 0 < length buf.old }
         requires fetched { IsSome self.old.rest }
         ensures fails { IsErr result ↔ NextFails self.old.reads }
-        ensures count { IfOk result (λ k. IfSome self.old.rest (λ left. k ≡ min self.old.longest (min (length left) (length buf.old)))) }
-        ensures bytes { IfOk result (λ k. IfSome self.old.rest (λ left. GivesFirst k left buf.new self.new.rest)) }
+        ensures count { IfOk result (λ k. IfSome self.old.rest (λ left.
+            k ≡ min self.old.longest (min (length left) (length buf.old)))) }
+        ensures bytes { IfOk result (λ k. IfSome self.old.rest (λ left.
+            GivesFirst k left buf.new self.new.rest)) }
         ensures behind { IfOk result (λ k. drop k buf.new ≡ drop k buf.old) }
-        ensures given { IfOk result (λ k. self.new ≡ record self.old { rest = self.new.rest; reads = counted self.old.reads }) }
-        ensures refused { OnErr result (self.new ≡ record self.old { reads = counted self.old.reads; faults = raised self.old.faults }) }
+        ensures given { OnOk result (self.new ≡ record self.old {
+          rest = self.new.rest;
+          reads = counted self.old.reads;
+        }) }
+        ensures refused { OnErr result (self.new ≡ record self.old {
+          reads = counted self.old.reads;
+          faults = raised self.old.faults;
+        }) }
         ensures failed { OnErr result (Rose self.old.faults self.new.faults) }
         ensures never_falls { self.old.faults ≤ self.new.faults }
     {

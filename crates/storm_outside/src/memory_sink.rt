@@ -1,6 +1,6 @@
-ghost use Rattle.std.specs.Prelude.{◌≡◌, ℕ, ◌<◌, ◌≤◌, ◌↔◌, [], ◌∷◌, ◌++◌, length, take, min, Some, IfOk, IsErr, OnOk, OnErr};
+ghost use Rattle.std.specs.Prelude.{◌≡◌, ◌<◌, ◌≤◌, ◌↔◌, ◌++◌, length, take, min, Some, IfOk, IsErr, OnOk, OnErr};
 ghost use Rattle.storm_outside.specs.Counts.{Rose, raised};
-ghost use Rattle.storm_outside.specs.Calls.{counted};
+ghost use Rattle.storm_outside.specs.Calls.{counted, failing_at};
 ghost use Rattle.storm_outside.specs.MemorySink.{empty_sink, free, WriteFails};
 
 use crate::calls::{Calls, count_fault};
@@ -10,8 +10,8 @@ use std::alloc::Global;
 use std::marker::Model;
 use storm_values::Memory;
 
-/// A sink in memory. A write takes no more than is free and no more than a given number of bytes, and one that finds no
-/// room fails.
+/// An output in memory. A write takes no more than is free, and no more than a given number of
+/// bytes. One that finds no room fails.
 #[derive(Debug, Drop)]
 pub struct MemSink {
     taken: Vec<u8>,
@@ -27,9 +27,16 @@ impl Model for MemSink {
 
     ghost Value = { SinkState };
 
-    ghost view = { λ s. record { taken = s.taken.items; longest = s.longest; room = s.room; writes = s.writes; faults = s.faults } };
+    ghost view = { λ s. record {
+      taken = s.taken.items;
+      longest = s.longest;
+      room = s.room;
+      writes = s.writes;
+      faults = s.faults;
+    } };
 
-    ghost invariant = { λ s. (1 ≤ s.longest) × (s.room ≤ vec_capacity s.taken) × (vec_len s.taken ≤ s.room) };
+    ghost invariant = { λ s.
+        (1 ≤ s.longest) × (s.room ≤ vec_capacity s.taken) × (vec_len s.taken ≤ s.room) };
 }
 
 impl MemSink {
@@ -49,7 +56,7 @@ impl MemSink {
 
     /// Lets the write of this number fail, the first being number 1.
     pub fn fail_write(&mut self, number: u64) -> Result<(), Memory>
-        ensures ok { OnOk result (self.new ≡ record self.old { writes = record self.old.writes { failing = self.old.writes.failing ++ number ∷ [] } }) }
+        ensures ok { OnOk result (self.new ≡ record self.old { writes = failing_at self.old.writes number }) }
         ensures err { OnErr result (self.new ≡ self.old) }
     {
         self.writes.fail(number)
@@ -81,9 +88,16 @@ impl Sink for MemSink {
         requires some { 0 < length bytes.now }
         ensures fails { IsErr result ↔ WriteFails self.old }
         ensures least { IfOk result (λ k. 0 < k) }
-        ensures count { IfOk result (λ k. k ≡ min (length bytes.now) (min self.old.longest (free self.old))) }
-        ensures took { IfOk result (λ k. self.new ≡ record self.old { taken = self.old.taken ++ take k bytes.now; writes = counted self.old.writes }) }
-        ensures refused { OnErr result (self.new ≡ record self.old { writes = counted self.old.writes; faults = raised self.old.faults }) }
+        ensures count { IfOk result (λ k.
+            k ≡ min (length bytes.now) (min self.old.longest (free self.old))) }
+        ensures took { IfOk result (λ k. self.new ≡ record self.old {
+          taken = self.old.taken ++ take k bytes.now;
+          writes = counted self.old.writes;
+        }) }
+        ensures refused { OnErr result (self.new ≡ record self.old {
+          writes = counted self.old.writes;
+          faults = raised self.old.faults;
+        }) }
         ensures failed { OnErr result (Rose self.old.faults self.new.faults) }
         ensures never_falls { self.old.faults ≤ self.new.faults }
     {

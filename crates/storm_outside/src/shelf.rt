@@ -1,4 +1,4 @@
-ghost use Rattle.std.specs.Prelude.{◌≡◌, ℕ, ◌+◌, ◌-◌, ◌%◌, ◌^◌, ◌<◌, ◌≤◌, List, length, take, drop, Option, Some, codes, IsOk, IfOk, OnOk, OnErr, IfSome, IsNone, IsErrOf};
+ghost use Rattle.std.specs.Prelude.{◌≡◌, ℕ, ◌+◌, ◌-◌, ◌%◌, ◌^◌, ◌<◌, ◌≤◌, List, length, take, drop, Option, Some, IsOk, IfOk, OnOk, OnErr, IfSome, IsNone, IsErrOf};
 ghost use Rattle.storm_outside.specs.Counts.{Rose};
 ghost use Rattle.storm_outside.specs.Faults.{in_fault_text};
 ghost use Rattle.storm_outside.specs.Pieces.{GivesFirst, HasGiven};
@@ -30,10 +30,11 @@ pub trait Shelf {
     /// The shelf tells that neither a fetch of a name that it holds nor a read fails.
     ghost ready: { Self → Type 0 };
 
-    /// Makes the file of this name the current one, at its beginning. Which file is current after a failed fetch
-    /// is left open.
+    /// Makes the file of this name the current one, at its beginning. Which file is current after a
+    /// failed fetch is left open.
     fn fetch(&mut self, name: &str) -> Result<(), Failed>
-        ensures begins { OnOk result ((bytes : List ℕ) → holds self.old name.now bytes → rest self.new ≡ Some bytes) }
+        ensures begins { OnOk result ((bytes : List ℕ) →
+            holds self.old name.now bytes → rest self.new ≡ Some bytes) }
         ensures fetched { OnOk result (has_file self.new) }
         ensures keeps_file { has_file self.old → has_file self.new }
         ensures counted { fetches self.new ≡ (fetches self.old + 1) % 2 ^ 64 }
@@ -47,12 +48,14 @@ pub trait Shelf {
         ensures ready { ready self.old → (bytes : List ℕ) → holds self.old name.now bytes → IsOk result }
         ensures stays_ready { ready self.old → ready self.new };
 
-    /// Reads some of the current file into the front of the buffer, and answers how many bytes. 0 is the end.
+    /// Reads some of the current file into the front of the buffer, and answers how many bytes.
+    /// 0 is the end.
     fn read(&mut self, buf: &mut [u8]) -> Result<usize, Failed>
         requires buffer { 0 < length buf.old }
         requires fetched { has_file self.old }
         ensures count { IfOk result (λ k. k ≤ length buf.old) }
-        ensures bytes { IfOk result (λ k. IfSome (rest self.old) (λ left. GivesFirst k left buf.new (rest self.new))) }
+        ensures bytes { IfOk result (λ k. IfSome (rest self.old) (λ left.
+            GivesFirst k left buf.new (rest self.new))) }
         ensures untold { IsNone (rest self.old) → IsNone (rest self.new) }
         ensures keeps_file { has_file self.new }
         ensures fetches { fetches self.new ≡ fetches self.old }
@@ -108,15 +111,21 @@ impl From<Memory> for InFault {
 /// The most bytes that one read asks for.
 const PIECE: usize = 8192;
 
-/// Reads the rest of the current file, or its first `most + 1` bytes where it is longer. The time is in proportion to
-/// the bytes read.
+/// Reads the rest of the current file, or its first `most + 1` bytes where it is longer. The time is
+/// in proportion to the bytes read.
 pub fn read_all<H: Shelf>(alloc: Global, shelf: &mut H, most: u64) -> Result<Bytes, InFault>
     requires limit { most < 2 ^ 64 - 1 }
     requires fetched { H.has_file shelf.old }
-    ensures bytes { IfOk result (λ bytes. IfSome (H.rest shelf.old) (λ left. bytes ≡ take (most + 1) left)) }
-    ensures rest { IfOk result (λ bytes. IfSome (H.rest shelf.old) (λ left. H.rest shelf.new ≡ Some (drop (length bytes) left))) }
+    ensures bytes { IfOk result (λ bytes. IfSome (H.rest shelf.old) (λ left.
+        bytes ≡ take (most + 1) left)) }
+    ensures rest { IfOk result (λ bytes. IfSome (H.rest shelf.old) (λ left.
+        H.rest shelf.new ≡ Some (drop (length bytes) left))) }
     ensures length { IfOk result (λ bytes. length bytes ≤ most + 1) }
-    ensures prefix { OnErr result (IfSome (H.rest shelf.old) (λ left. HasGiven (most + 1) left (H.rest shelf.new))) }
+
+    // After either error the shelf has given the first of its bytes.
+    ensures prefix { OnErr result (IfSome (H.rest shelf.old) (λ left.
+        HasGiven (most + 1) left (H.rest shelf.new))) }
+
     ensures untold { IsNone (H.rest shelf.old) → IsNone (H.rest shelf.new) }
     ensures keeps_file { H.has_file shelf.new }
     ensures fetches { H.fetches shelf.new ≡ H.fetches shelf.old }

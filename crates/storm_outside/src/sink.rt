@@ -17,7 +17,8 @@ pub trait Sink {
         requires some { 0 < length bytes.now }
         ensures least { IfOk result (λ k. 0 < k) }
         ensures count { IfOk result (λ k. k ≤ length bytes.now) }
-        ensures took { IfOk result (λ k. IfSome (taken self.old) (λ before. taken self.new ≡ Some (before ++ take k bytes.now))) }
+        ensures took { IfOk result (λ k. IfSome (taken self.old) (λ before.
+            taken self.new ≡ Some (before ++ take k bytes.now))) }
         ensures untold { IsNone (taken self.old) → IsNone (taken self.new) }
         ensures failed { OnErr result (Rose (faults self.old) (faults self.new)) }
         ensures failed_taken { OnErr result (taken self.new ≡ taken self.old) }
@@ -26,8 +27,10 @@ pub trait Sink {
 
 /// Writes all the bytes, in order.
 pub fn write_all<K: Sink>(sink: &mut K, bytes: &[u8]) -> Result<(), Failed>
-    ensures ok { OnOk result (IfSome (K.taken sink.old) (λ before. K.taken sink.new ≡ Some (before ++ bytes.now))) }
-    ensures prefix { OnErr result (IfSome (K.taken sink.old) (λ before. HasTaken before bytes.now (K.taken sink.new))) }
+    ensures ok { OnOk result (IfSome (K.taken sink.old) (λ before.
+        K.taken sink.new ≡ Some (before ++ bytes.now))) }
+    ensures prefix { OnErr result (IfSome (K.taken sink.old) (λ before.
+        HasTaken before bytes.now (K.taken sink.new))) }
     ensures untold { IsNone (K.taken sink.old) → IsNone (K.taken sink.new) }
     ensures failed { OnErr result (Rose (K.faults sink.old) (K.faults sink.new)) }
     ensures never_falls { K.faults sink.old ≤ K.faults sink.new }

@@ -1,5 +1,5 @@
 // The real outside. It tells neither what a file holds nor what was taken.
-ghost use Rattle.std.specs.Prelude.{◌≡◌, ℕ, IsSome, None};
+ghost use Rattle.std.specs.Prelude.{◌≡◌, IsSome, None};
 
 use crate::calls::count_fault;
 use crate::failed::Failed;
