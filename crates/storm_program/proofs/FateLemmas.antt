@@ -5,20 +5,8 @@ use Rattle.std.proofs.lemmas.Bool.Decides.{nat_tests}
 use Rattle.std.proofs.lemmas.List.{length-map}
 use Rattle.std.proofs.lemmas.List.FromFn.{length-range_with_len, get_or-map-range_with_len}
 use Rattle.storm_program.specs.declared.fates.Attempt.{Attempt}
-use Rattle.storm_program.specs.declared.fates.End.TheVariants.{Committed}
-use Rattle.storm_program.specs.Batches.{batch_count, first_of, last_of}
-use Rattle.storm_program.specs.Fates.{committed_txids, attempt_numbers, IsOfBatch, IsWhole}
-
--- the first attempt of a batch, committed at once
-abbrev pub first_attempt : ℕ → ℕ → ℕ → Attempt
-first_attempt n size txid = record {
-  root = record { txid = txid; attempt = 1 };
-  first = first_of size txid;
-  last = last_of n size txid;
-  start = 0;
-  finish = 0;
-  end = Committed;
-}
+use Rattle.storm_program.specs.Batches.{batch_count}
+use Rattle.storm_program.specs.Fates.{first_attempt, committed_txids, attempt_numbers, IsOfBatch, IsWhole}
 
 -- those of the batches 1 to k
 abbrev pub first_attempts : ℕ → ℕ → ℕ → List Attempt

@@ -1,2 +1,5 @@
+mod AnswerLemmas
+mod CauseLemmas
+mod EngineLemmas
 mod FateLemmas
 mod WordLemmas

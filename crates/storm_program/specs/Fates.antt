@@ -7,6 +7,17 @@ use Rattle.storm_program.specs.declared.fates.End.{End}
 use Rattle.storm_program.specs.declared.fates.End.TheVariants.{Committed}
 use Rattle.storm_program.specs.Batches.{batch_count, first_of, last_of}
 
+-- the first attempt of a batch of n records in batches of a size, committed before any tick
+abbrev pub first_attempt : ℕ → ℕ → ℕ → Attempt
+first_attempt n size txid = record {
+  root = record { txid = txid; attempt = 1 };
+  first = first_of size txid;
+  last = last_of n size txid;
+  start = 0;
+  finish = 0;
+  end = Committed;
+}
+
 abbrev pub is_committed : End → Bool
 is_committed Committed = true
 

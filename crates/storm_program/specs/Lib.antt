@@ -1,4 +1,7 @@
+pub mod Answers
 pub mod Batches
+pub mod Cells
+pub mod Custom
 pub mod Fates
 pub mod Fated
 pub mod Outside

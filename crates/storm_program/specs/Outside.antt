@@ -19,6 +19,11 @@ pub record Counts : Type 0 where
   pub faults_before : ℕ
   pub faults_after : ℕ
 
+-- the counts of fetches before and after, and of faults before and after
+abbrev pub around : ℕ → ℕ → ℕ → ℕ → Counts
+around fetched fetches failed faults =
+    record { fetches_before = fetched; fetches_after = fetches; faults_before = failed; faults_after = faults }
+
 abbrev pub FetchedTimes : ℕ → Counts → Type 0
 FetchedTimes times counts = counts.fetches_after ≡ (counts.fetches_before + times) % 2 ^ 64
 

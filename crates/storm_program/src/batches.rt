@@ -1,4 +1,4 @@
-ghost use Rattle.std.specs.Prelude.{◌≡◌, ◌<◌, ◌≤◌, ◌⊎◌, ◌↔◌, length, IsNone, IfSome};
+ghost use Rattle.std.specs.Prelude.{◌≡◌, ◌<◌, ◌*◌, ◌≤◌, ◌⊎◌, ◌↔◌, length, IsNone, IfSome};
 ghost use Rattle.storm_program.specs.Batches.{batch_count, batch_of};
 
 use std::marker::Model;
@@ -34,9 +34,18 @@ impl Batches {
 
     /// How many batches there are.
     pub fn count(&self) -> u64
-        ensures { result ≡ batch_count (length self.now.records) self.now.size }
+        ensures value { result ≡ batch_count (length self.now.records) self.now.size }
+        ensures enough { length self.now.records ≤ result * self.now.size }
     {
         (self.rows.len() as u64).div_ceil(u64::from(self.size))
+    }
+
+    /// The most records of a batch.
+    pub fn size(&self) -> u64
+        ensures value { result ≡ self.now.size }
+        ensures some { 0 < result }
+    {
+        u64::from(self.size)
     }
 
     pub fn rows(&self) -> &Rows

@@ -2,11 +2,16 @@
 #![tactic(auto)]
 
 mod batches;
+mod custom;
+mod engine;
 mod fates;
 mod files;
+mod program;
 mod report;
+mod run;
 mod status;
 mod words;
 
 pub use fates::{Attempt, End, Fates};
+pub use program::storm_run;
 pub use status::Status;

@@ -1,5 +1,6 @@
 mod Folding
 mod Loops
 mod Maps
+mod Single
 mod Tallies
-mod Walks
+pub mod Walks

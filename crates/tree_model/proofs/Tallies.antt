@@ -69,7 +69,7 @@ IsTallyOf-put t before write by olds old new has within read sorted puts is = re
         let was : get_or (pairs_by olds) write.state [] ≡ pairs_of old = get_or-map pairs_of olds write.state old [] within ∙ ap pairs_of (sym read) in
         let within_pairs : write.state < length (pairs_by olds) = rw length-map within in
         let now : get_or (pairs_by (set olds write.state new)) write.state [] ≡ pairs_of new =
-            ap (λ lists. get_or lists write.state []) (map-set pairs_of olds write.state new) ∙ get_or-set_same (pairs_by olds) write.state (pairs_of new) [] within_pairs in
+        ap (λ lists. get_or lists write.state []) (map-set pairs_of olds write.state new) ∙ get_or-set_same (pairs_by olds) write.state (pairs_of new) [] within_pairs in
         let same_by : by ≡ state.by = same_Some _ _ (has ∙ ap (option_map (λ (s : StateOf). s.by)) found) in
         let puts_by = subst (λ f. (at : List ℕ) → get_by_text new at ≡ update bytes_eq (get_by_text old) write.key (Some (folded f (get_by_text old write.key) write.amount)) at) same_by puts in
         subst (IsTable state.by (before ++ write ∷ []) write.state) (sym now)
@@ -80,7 +80,7 @@ IsTallyOf-put t before write by olds old new has within read sorted puts is = re
         subst (λ n. state_at t n ≡ Some state → IsTable state.by before n (get_or (pairs_by olds) n []) → IsTable state.by (before ++ write ∷ []) n (get_or (pairs_by (set olds write.state new)) n [])) same (own state) found table
     at number state found table (inr differs) =
         let stays : get_or (pairs_by (set olds write.state new)) number [] ≡ get_or (pairs_by olds) number [] =
-            ap (λ lists. get_or lists number []) (map-set pairs_of olds write.state new) ∙ get_or-set_other (pairs_by olds) write.state number (pairs_of new) [] (λ e. differs (sym e)) in
+        ap (λ lists. get_or lists number []) (map-set pairs_of olds write.state new) ∙ get_or-set_other (pairs_by olds) write.state number (pairs_of new) [] (λ e. differs (sym e)) in
         subst (IsTable state.by (before ++ write ∷ []) number) (sym stays) (IsTable-other state.by before write number (get_or (pairs_by olds) number []) (ne_eqb _ _ differs) table)
 
 -- where a map's entries stay, its pairs do
@@ -131,7 +131,7 @@ pub tables_more : (t : Topology) (writes : List Write) (tally : List (List Pair)
 tables_more t writes tally n component pairs old new there same is adds all =
     let at : state_at t n ≡ state_by n component component.body = ap (option_and_then (λ (c : Component). state_by n c c.body)) there in
     let table : IfSome (state_at t n) (λ state. IsTable state.by writes state.number pairs) =
-        IfSome_with (state_at t n) (is.tables n) (λ state found table. rw (state_at-number t n state found, same) table) in
+    IfSome_with (state_at t n) (is.tables n) (λ state found table. rw (state_at-number t n state found, same) table) in
     let more : filter_map (state_at t) (range_with_len 0 (n + 1)) ≡ filter_map (state_at t) (range_with_len 0 n) ++ cons_option (state_at t n) [] =
-        ap (filter_map (state_at t)) (range_with_len_more n) ∙ filter_map-append (state_at t) (range_with_len 0 n) (n ∷ []) in
+    ap (filter_map (state_at t)) (range_with_len_more n) ∙ filter_map-append (state_at t) (range_with_len 0 n) (n ∷ []) in
     rw more (AllZip-table writes (state_at t n) pairs (filter_map (state_at t) (range_with_len 0 n)) old new all table (rw at adds))

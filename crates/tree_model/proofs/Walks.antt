@@ -1,5 +1,5 @@
 -- The nodes below some nodes, piece by piece.
-use Rattle.std.proofs.Common.{◌≡◌, ◌≢◌, ℕ, zero, suc, ◌+◌, ◌-◌, ◌^◌, ◌<◌, ◌≤◌, min, arith, List, [], ◌∷◌, ◌++◌, length, take, get_or, fold, slice_get, Option, Some, None, sym, refl, ap, ◌∙◌}
+use Rattle.std.proofs.Common.{◌≡◌, ◌≢◌, ℕ, zero, suc, ◌+◌, ◌-◌, ◌^◌, ◌<◌, ◌≤◌, min, arith, zero-add, List, [], ◌∷◌, ◌++◌, length, take, get_or, fold, slice_get, Option, Some, None, sym, refl, ap, ◌∙◌}
 use Rattle.std.proofs.lemmas.List.{take_more, append-nil, append_assoc}
 use Rattle.std.proofs.lemmas.List.Concat.{flat_map-append}
 use Rattle.std.proofs.lemmas.List.Elements.{filter_map-append}
@@ -16,42 +16,19 @@ use Rattle.topology_reader.specs.declared.plan.StateSpec.{StateSpec}
 use Rattle.topology_reader.specs.Topology.{Topology, subs_of}
 use Rattle.tree_model.specs.declared.plain.NodeCounter.{NodeCounter}
 use Rattle.tree_model.specs.declared.write.Write.{Write}
-use Rattle.tree_model.specs.Trees.{Node, kids, kids_of, copies_at, rows_by, nodes_below, nodes_of, write_of, writes}
-
--- one more item
-pub flat_map-take_item : {X A : Type 0} (f : X → List A) (xs : List X) (i : ℕ) (x : X) → i < length xs → x ≡ get_or xs i x → flat_map f (take i xs) ++ flat_map f (x ∷ []) ≡ flat_map f (take (i + 1) xs)
-flat_map-take_item f xs i x below read =
-    sym (flat_map-append f (take i xs) (x ∷ [])) ∙ ap (flat_map f) (ap (λ y. take i xs ++ y ∷ []) read ∙ sym (take_more xs i x below))
-
--- the same, with the item's list
-pub flat_map-take_more : {X A : Type 0} (f : X → List A) (xs : List X) (i : ℕ) (x : X) → i < length xs → x ≡ get_or xs i x → flat_map f (take i xs) ++ f x ≡ flat_map f (take (i + 1) xs)
-flat_map-take_more f xs i x below read = ap (λ ys. flat_map f (take i xs) ++ ys) (sym (append-nil (f x))) ∙ flat_map-take_item f xs i x below read
+use Rattle.tree_model.specs.Trees.{Node, kids, kids_of, kids_by, rows_by, nodes_from, nodes_of, write_of, writes, node_count}
 
 module _ (t : Topology) (custom : List Value → List (List Value)) where
-  pub nodes_below-nil : (levels : ℕ) → nodes_below levels t custom [] ≡ []
-  nodes_below-nil zero = refl
-  nodes_below-nil (suc levels) = refl
-
-  pub nodes_below-append : (levels : ℕ) (xs ys : List Node) → nodes_below levels t custom (xs ++ ys) ≡ nodes_below levels t custom xs ++ nodes_below levels t custom ys
-  nodes_below-append zero xs ys = refl
-  nodes_below-append (suc levels) xs ys = flat_map-append (λ node. node ∷ nodes_below levels t custom (kids_of t custom node)) xs ys
-
-  -- what is done at some nodes and then at more is done at them all
-  pub walk_more : {V : Type 0} (f : V → Node → V) (levels : ℕ) (before more after : List Node) (a b c : V) → before ++ more ≡ after → b ≡ fold f a (nodes_below levels t custom before) → c ≡ fold f b (nodes_below levels t custom more) → c ≡ fold f a (nodes_below levels t custom after)
-  walk_more f levels before more after a b c same first then =
-      then ∙ ap (λ v. fold f v (nodes_below levels t custom more)) first ∙ sym (fold-append f a (nodes_below levels t custom before) (nodes_below levels t custom more))
-      ∙ ap (fold f a) (sym (nodes_below-append levels before more) ∙ ap (nodes_below levels t custom) same)
-
   kids_of-state : (node : Node) (component : Component) (spec : StateSpec) → slice_get t.components node.component ≡ Some component → component.body ≡ State spec → kids_of t custom node ≡ []
   kids_of-state node component spec there state =
       ap (λ o. option_map_or (λ (c : Component). kids t (origin.Component node.component) (rows_by custom c.body node.row)) o []) there
       ∙ ap (λ body. kids t (origin.Component node.component) (rows_by custom body node.row)) state
 
   -- nothing is below a state's node
-  pub nodes_below-state : (levels : ℕ) (node : Node) (component : Component) (spec : StateSpec) → levels ≢ 0 → slice_get t.components node.component ≡ Some component → component.body ≡ State spec → nodes_below levels t custom (node ∷ []) ≡ node ∷ []
-  nodes_below-state zero node component spec some there state = absurd (some refl)
-  nodes_below-state (suc levels) node component spec some there state =
-      append-nil _ ∙ ap (λ nodes. node ∷ nodes) (ap (nodes_below levels t custom) (kids_of-state node component spec there state) ∙ nodes_below-nil levels)
+  pub nodes_from-state : (levels : ℕ) (node : Node) (component : Component) (spec : StateSpec) → levels ≢ 0 → slice_get t.components node.component ≡ Some component → component.body ≡ State spec → nodes_from levels t custom node ≡ node ∷ []
+  nodes_from-state zero node component spec some there state = absurd (some refl)
+  nodes_from-state (suc levels) node component spec some there state =
+      ap (λ nodes. node ∷ flat_map (nodes_from levels t custom) nodes) (kids_of-state node component spec there state)
 
 -- a node's write at the end of the writes so far
 abbrev pub with_write : Topology → List Write → Node → List Write
@@ -65,21 +42,27 @@ pub fold-with_write : (t : Topology) (before : List Write) (nodes : List Node) �
 fold-with_write t before [] = sym (append-nil before)
 fold-with_write t before (node ∷ nodes) = fold-with_write t (with_write t before node) nodes ∙ one_write (write_of t node) before (filter_map (write_of t) nodes)
 
+-- a walk that adds each node's write has them all
+pub writes_from_walk : (t : Topology) (custom : List Value → List (List Value)) (rows : List (List Value)) (levels : ℕ) (start made : List Write) → start ≡ [] → levels ≡ length t.components → made ≡ fold (with_write t) start (flat_map (nodes_from levels t custom) (kids t origin.Spout rows)) → made ≡ writes t custom rows
+unfolding nodes_of
+writes_from_walk t custom rows levels start made empty all walk =
+    walk ∙ rw (empty, all) (fold-with_write t [] (flat_map (nodes_from (length t.components) t custom) (kids t origin.Spout rows)))
+
 -- ---- the rows of two lists
 
 module _ (t : Topology) (custom : List Value → List (List Value)) where
   pub nodes_of-append : (xs ys : List (List Value)) → nodes_of t custom (xs ++ ys) ≡ nodes_of t custom xs ++ nodes_of t custom ys
   unfolding nodes_of
   nodes_of-append xs ys =
-      ap (nodes_below (length t.components) t custom) (flat_map-append (λ row. flat_map (copies_at t row) (subs_of t origin.Spout)) xs ys)
-      ∙ nodes_below-append t custom (length t.components) (kids t origin.Spout xs) (kids t origin.Spout ys)
+      ap (flat_map (nodes_from (length t.components) t custom)) (flat_map-append (kids_by t origin.Spout) xs ys)
+      ∙ flat_map-append (nodes_from (length t.components) t custom) (kids t origin.Spout xs) (kids t origin.Spout ys)
 
   pub writes-append : (xs ys : List (List Value)) → writes t custom (xs ++ ys) ≡ writes t custom xs ++ writes t custom ys
   writes-append xs ys = ap (filter_map (write_of t)) (nodes_of-append xs ys) ∙ filter_map-append (write_of t) (nodes_of t custom xs) (nodes_of t custom ys)
 
   pub writes-nil : writes t custom [] ≡ []
   unfolding nodes_of
-  writes-nil = ap (filter_map (write_of t)) (nodes_below-nil t custom (length t.components))
+  writes-nil = refl
 
   -- one more row's writes
   pub writes-take_more : (rows : List (List Value)) (i : ℕ) (row : List Value) → i < length rows → row ≡ get_or rows i row → writes t custom (take i rows) ++ writes t custom (row ∷ []) ≡ writes t custom (take (i + 1) rows)
@@ -94,3 +77,9 @@ counted counter node = record { count = min (counter.count + 1) (2 ^ 64 - 1) }
 pub fold-counted : (n : ℕ) (nodes : List Node) → n ≤ 2 ^ 64 - 1 → (fold counted (record { count = n }) nodes).count ≡ min (n + length nodes) (2 ^ 64 - 1)
 fold-counted n [] fits = omega arith
 fold-counted n (node ∷ nodes) fits = fold-counted (min (n + 1) (2 ^ 64 - 1)) nodes (omega arith) ∙ omega arith
+
+-- a walk that counts each node
+pub count_from_walk : (t : Topology) (custom : List Value → List (List Value)) (rows : List (List Value)) (levels : ℕ) (made : NodeCounter) → levels ≡ length t.components → made ≡ fold counted (record { count = 0 }) (flat_map (nodes_from levels t custom) (kids t origin.Spout rows)) → made.count ≡ min (node_count t custom rows) (2 ^ 64 - 1)
+unfolding nodes_of
+count_from_walk t custom rows levels made all walk =
+    ap (λ (counter : NodeCounter). counter.count) walk ∙ rw all (fold-counted 0 (flat_map (nodes_from (length t.components) t custom) (kids t origin.Spout rows)) (omega arith) ∙ ap (λ n. min n (2 ^ 64 - 1)) (zero-add _))

@@ -27,9 +27,13 @@ pub record Node : Type 0 where
 abbrev pub copies_at : Topology → List Value → Sub → List Node
 copies_at t row sub = replicate (copies_of t sub) (record { component = sub.to; row = row })
 
--- the nodes that rows of a source make, row by row and then subscription by subscription
+-- the nodes that a row of a source makes, subscription by subscription
+abbrev pub kids_by : Topology → Origin → List Value → List Node
+kids_by t from row = flat_map (copies_at t row) (subs_of t from)
+
+-- the nodes that rows of a source make, row by row
 abbrev pub kids : Topology → Origin → List (List Value) → List Node
-kids t from rows = flat_map (λ row. flat_map (copies_at t row) (subs_of t from)) rows
+kids t from rows = flat_map (kids_by t from) rows
 
 -- the rows that a component makes of a row; a state makes none
 abbrev pub rows_by : (List Value → List (List Value)) → Body → List Value → List (List Value)
@@ -41,29 +45,29 @@ abbrev pub kids_of : Topology → (List Value → List (List Value)) → Node �
 kids_of t custom node =
     option_map_or (λ (c : Component). kids t (origin.Component node.component) (rows_by custom c.body node.row)) (slice_get t.components node.component) []
 
--- The node at a path from some nodes: its first number picks one of them, each further number a child of the one before.
-abbrev pub node_below : Topology → (List Value → List (List Value)) → List Node → List ℕ → Option Node
-node_below t custom nodes [] = None
-node_below t custom nodes (i ∷ []) = slice_get nodes i
-node_below t custom nodes (i ∷ j ∷ path) = option_and_then (λ node. node_below t custom (kids_of t custom node) (j ∷ path)) (slice_get nodes i)
+-- the node at a path from a node: itself at the empty path, and else each number picks a child
+abbrev pub node_from : Topology → (List Value → List (List Value)) → Node → List ℕ → Option Node
+node_from t custom node [] = Some node
+node_from t custom node (i ∷ path) = option_and_then (λ kid. node_from t custom kid path) (slice_get (kids_of t custom node) i)
 
--- the node at a path in the tree of the spout's rows
+-- the node at a path in the tree of the spout's rows, which has none at the empty path
 abbrev pub node_at : Topology → (List Value → List (List Value)) → List (List Value) → List ℕ → Option Node
-node_at t custom rows path = node_below t custom (kids t origin.Spout rows) path
+node_at t custom rows [] = None
+node_at t custom rows (i ∷ path) = option_and_then (λ node. node_from t custom node path) (slice_get (kids t origin.Spout rows) i)
 
 -- the tree of the spout's rows has this path
 abbrev pub IsInTree : Topology → (List Value → List (List Value)) → List (List Value) → List ℕ → Type 0
 IsInTree t custom rows path = IsSome (node_at t custom rows path)
 
--- Some nodes and what is below them, at most this many levels, in path order: each node right before its children's trees.
-abbrev pub nodes_below : ℕ → Topology → (List Value → List (List Value)) → List Node → List Node
-nodes_below zero t custom nodes = []
-nodes_below (suc levels) t custom nodes = flat_map (λ node. node ∷ nodes_below levels t custom (kids_of t custom node)) nodes
+-- a node and what is below it, at most this many levels, in path order: a node right before its children's trees
+abbrev pub nodes_from : ℕ → Topology → (List Value → List (List Value)) → Node → List Node
+nodes_from zero t custom node = []
+nodes_from (suc levels) t custom node = node ∷ flat_map (nodes_from levels t custom) (kids_of t custom node)
 
 -- All nodes of the tree, in path order. A way from the spout goes through each component at most once, so that there are
 -- no more levels than components.
 unfoldable pub nodes_of : Topology → (List Value → List (List Value)) → List (List Value) → List Node
-nodes_of t custom rows = nodes_below (length t.components) t custom (kids t origin.Spout rows)
+nodes_of t custom rows = flat_map (nodes_from (length t.components) t custom) (kids t origin.Spout rows)
 
 -- how many nodes the tree has
 abbrev pub node_count : Topology → (List Value → List (List Value)) → List (List Value) → ℕ

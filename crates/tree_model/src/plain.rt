@@ -61,10 +61,10 @@ impl Visitor for NodeCounter {
 
     fn visit(
         &mut self,
-        alloc: Global,
-        plan: &Plan,
-        component: u32,
-        row: &Row,
+        _alloc: Global,
+        _plan: &Plan,
+        _component: u32,
+        _row: &Row,
     ) -> Result<(), Memory> {
         self.count = self.count.saturating_add(1);
         Ok(())

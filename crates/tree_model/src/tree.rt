@@ -1,7 +1,8 @@
-ghost use Rattle.std.specs.Prelude.{◌≡◌, ◌<◌, List, [], ◌∷◌, length, fold, OnOk};
+ghost use Rattle.std.specs.Prelude.{◌≡◌, ◌<◌, List, length, fold, OnOk};
+ghost use Rattle.std.specs.List.{flat_map};
 ghost use Rattle.storm_values.specs.declared.value.Value.{Value};
 ghost use Rattle.topology_reader.specs.Topology.{Topology, copies_of};
-ghost use Rattle.tree_model.specs.Trees.{Node, kids, copies_at, nodes_below};
+ghost use Rattle.tree_model.specs.Trees.{Node, kids, kids_by, copies_at, nodes_from};
 
 use bolt_ops::{RowOp, output_rows};
 use std::alloc::Global;
@@ -12,13 +13,7 @@ use topology_reader::{Body, Grouping, Origin, Plan, Sub};
 pub(crate) trait Visitor {
     ghost visited: { Topology → Self → Node → Self };
 
-    fn visit(
-        &mut self,
-        alloc: Global,
-        plan: &Plan,
-        component: u32,
-        row: &Row,
-    ) -> Result<(), Memory>
+    fn visit(&mut self, alloc: Global, plan: &Plan, component: u32, row: &Row) -> Result<(), Memory>
         requires { component < length plan.now.components }
         ensures { OnOk result
             (self.new ≡ visited plan.now self.old (record { component = component; row = row.now })) };
@@ -43,8 +38,8 @@ impl<O: RowOp> Tree<'_, O> {
         rows: &[Row],
     ) -> Result<(), Memory>
         ensures { OnOk result (visitor.new ≡ fold (V.visited self.now.plan.now) visitor.old
-            (nodes_below levels self.now.plan.now (O.rows_of self.now.custom.now)
-                (kids self.now.plan.now from rows.now))) }
+            (flat_map (nodes_from levels self.now.plan.now (O.rows_of self.now.custom.now))
+            (kids self.now.plan.now from rows.now))) }
     {
         for row in rows {
             self.visit_row(visitor, levels, from, row)?;
@@ -61,8 +56,8 @@ impl<O: RowOp> Tree<'_, O> {
         row: &Row,
     ) -> Result<(), Memory>
         ensures { OnOk result (visitor.new ≡ fold (V.visited self.now.plan.now) visitor.old
-            (nodes_below levels self.now.plan.now (O.rows_of self.now.custom.now)
-                (kids self.now.plan.now from (row.now ∷ [])))) }
+            (flat_map (nodes_from levels self.now.plan.now (O.rows_of self.now.custom.now))
+            (kids_by self.now.plan.now from row.now))) }
     {
         for sub in self.plan.subs(from) {
             self.visit_copies(visitor, levels, sub, row)?;
@@ -80,8 +75,8 @@ impl<O: RowOp> Tree<'_, O> {
     ) -> Result<(), Memory>
         requires { sub.now.to < length self.now.plan.now.components }
         ensures { OnOk result (visitor.new ≡ fold (V.visited self.now.plan.now) visitor.old
-            (nodes_below levels self.now.plan.now (O.rows_of self.now.custom.now)
-                (copies_at self.now.plan.now row.now sub.now))) }
+            (flat_map (nodes_from levels self.now.plan.now (O.rows_of self.now.custom.now))
+            (copies_at self.now.plan.now row.now sub.now))) }
     {
         for _ in 0..copies(self.plan, sub) {
             self.visit_node(visitor, levels, sub.to, row)?;
@@ -99,8 +94,8 @@ impl<O: RowOp> Tree<'_, O> {
     ) -> Result<(), Memory>
         requires { component < length self.now.plan.now.components }
         ensures { OnOk result (visitor.new ≡ fold (V.visited self.now.plan.now) visitor.old
-            (nodes_below levels self.now.plan.now (O.rows_of self.now.custom.now)
-                (record { component = component; row = row.now } ∷ []))) }
+            (nodes_from levels self.now.plan.now (O.rows_of self.now.custom.now)
+            (record { component = component; row = row.now }))) }
     {
         if levels == 0 {
             return Ok(());

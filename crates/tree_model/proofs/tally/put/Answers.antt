@@ -15,6 +15,6 @@ returns-clause-ok c = λ at.
     let sets = btree_map_updates_text (string_bytes c.into_string.result) c.args.values.now c.insert.new.self _ c.in_ok-insert.ensures.updates at in
     let sets_same = rw (to_z-of_z, c.into_string.ensures) at sets in
     let old : c.copied-old.result ≡ get_by_text c.args.values.now c.args.key =
-        c.copied-old.ensures ∙ c.get.ensures.value ∙ ap (λ (key : List ℕ). get_by_text c.args.values.now key) c.as_str.ensures in
+    c.copied-old.ensures ∙ c.get.ensures.value ∙ ap (λ (key : List ℕ). get_by_text c.args.values.now key) c.as_str.ensures in
     let value = rw (to_z-of_z, old) at c.folded.ensures in
     sets_same ∙ ap (λ v. update bytes_eq (get_by_text c.args.values.now) c.args.key (Some v) at) value

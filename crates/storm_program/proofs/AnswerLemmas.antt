@@ -1,0 +1,105 @@
+-- What a run comes to, from what its parts answer.
+use Rattle.std.proofs.Common.{◌≡◌, ℕ, ◌+◌, ◌%◌, ◌^◌, ◌≤◌, List, [], Some, None, Result, Ok, Err, IfOk, sym, ap, subst, ◌∙◌, inl, inr, arith}
+use Rattle.std.proofs.Math.Nat.{mod-add-mod}
+use Rattle.storm_values.specs.declared.value.Value.{Value}
+use Rattle.storm_values.specs.declared.lines.InputFault.{InputFault}
+use Rattle.storm_values.specs.Lines.{input_fault, records_of}
+use Rattle.storm_values.proofs.InputLemmas.{input_fault-take, records_of-take}
+use Rattle.storm_outside.specs.Counts.{Rose}
+use Rattle.topology_reader.specs.declared.fault.TopoFault.{TopoFault}
+use Rattle.topology_reader.specs.PlanFacts.{plan_of_front, refused_by_front}
+use Rattle.topology_reader.specs.Topology.{Topology}
+use Rattle.topology_reader.specs.WordCount.{IsPlanOf, IsRefused}
+use Rattle.storm_program.specs.declared.fates.Attempt.{Attempt}
+use Rattle.storm_program.specs.declared.status.Status.{Status}
+use Rattle.storm_program.specs.declared.status.Status.TheVariants as status
+use Rattle.storm_program.specs.Outside.{AreBytesOf, WasRead, Counts}
+use Rattle.storm_program.specs.Answers.{topology_line, input_line, IsReport, IsAccepted, ComesTo, ComesToWith}
+
+-- a fact of a value from two of them
+pub IfOk-both : {T E : Type 0} (r : Result T E) (P Q R : T → Type 0) → ((x : T) → P x → Q x → R x) → IfOk r P → IfOk r Q → IfOk r R
+IfOk-both (Ok x) P Q R f p q = f x p q
+IfOk-both (Err e) P Q R f p q = tt
+
+module _ (holds : List ℕ → List ℕ → Type 0) (plan : Topology) (name : List ℕ) (counts : Counts) where
+  -- the rows of an input that was read and accepted have their report
+  pub comes_done : (front slice : List ℕ) (want : ℕ) (rows : List (List Value)) (s : Status) (text : List ℕ) (fates : List Attempt) → WasRead holds name 67108865 front → slice ≡ front → want ≡ plan.spout_fields → (input_fault slice want ≡ None) × (rows ≡ records_of slice) → s ≡ status.Done → IsReport plan rows fates text → ComesToWith holds plan name counts s text fates
+  comes_done front slice want rows s text fates read sliced wants good done report =
+      let same : input_fault read.bytes want ≡ None = sym (input_fault-take read.bytes want) ∙ (ap (λ f. input_fault f want) (sym (sliced ∙ read.is_front)) ∙ good.0) in
+      let all : rows ≡ records_of read.bytes = good.1 ∙ (ap records_of (sliced ∙ read.is_front) ∙ records_of-take read.bytes want same) in
+      subst (λ t. ComesToWith holds plan name counts t text fates) (sym done) (record {
+        bytes = read.bytes;
+        were_read = read.are_of;
+        is_accepted = subst (λ w. input_fault read.bytes w ≡ None) wants same;
+        report = subst (λ rs. IsReport plan rs fates text) all report;
+      })
+
+  -- an input that was refused has its line
+  pub comes_refused : (front slice : List ℕ) (want : ℕ) (fault : InputFault) (s : Status) (text : List ℕ) (fates : List Attempt) → WasRead holds name 67108865 front → slice ≡ front → want ≡ plan.spout_fields → input_fault slice want ≡ Some fault → s ≡ status.Input → text ≡ input_line fault → fates ≡ [] → ComesToWith holds plan name counts s text fates
+  comes_refused front slice want fault s text fates read sliced wants refused is line none =
+      let same : input_fault read.bytes want ≡ Some fault = sym (input_fault-take read.bytes want) ∙ (ap (λ f. input_fault f want) (sym (sliced ∙ read.is_front)) ∙ refused) in
+      subst (λ t. ComesToWith holds plan name counts t text fates) (sym is) (
+        record {
+          bytes = read.bytes;
+          fault = fault;
+          were_read = read.are_of;
+          is_refused = subst (λ w. input_fault read.bytes w ≡ Some fault) wants same;
+          printed = line;
+        },
+        none,
+      )
+
+-- a count that rose has risen since any moment before
+rose_since : (a b c : ℕ) → a ≤ b → Rose b c → Rose a c
+rose_since a b c before (inl more) = inl (omega arith)
+rose_since a b c before (inr ends) = inr ends
+
+-- one fetch and then one more are two
+two_fetches : (before mid after : ℕ) → mid ≡ (before + 1) % 2 ^ 64 → after ≡ (mid + 1) % 2 ^ 64 → after ≡ (before + 2) % 2 ^ 64
+two_fetches before mid after first second = second ∙ (ap (λ m. (m + 1) % 2 ^ 64) first ∙ (mod-add-mod (before + 1) (2 ^ 64) 1 ∙ ap (λ n. n % 2 ^ 64) (omega arith)))
+
+-- what is told of a file before a call is told of it after
+told_before : (was is : List ℕ → List ℕ → Type 0) (name bytes : List ℕ) → ((n b : List ℕ) → was n b → is n b) → AreBytesOf is name bytes → AreBytesOf was name bytes
+told_before was is name bytes keeps are told holds = are told (keeps name told holds)
+
+module _ (was is : List ℕ → List ℕ → Type 0) (topology input : List ℕ) (before mid after : ℕ) (faults_before faults_mid faults_after : ℕ) (keeps : (n b : List ℕ) → was n b → is n b) where
+  -- the counts of the whole, and those of its second part
+  abbrev pub all_counts : Counts
+  all_counts = record { fetches_before = before; fetches_after = after; faults_before = faults_before; faults_after = faults_after }
+
+  abbrev pub rest_counts : Counts
+  rest_counts = record { fetches_before = mid; fetches_after = after; faults_before = faults_mid; faults_after = faults_after }
+
+  -- what comes of a plan comes of the files
+  pub comes_of_plan : (plan : Topology) (front slice : List ℕ) (s : Status) (text : List ℕ) (fates : List Attempt) → mid ≡ (before + 1) % 2 ^ 64 → faults_before ≤ faults_mid → WasRead was topology 65537 front → slice ≡ front → IsPlanOf slice plan → ComesToWith is plan input rest_counts s text fates → ComesTo was topology input all_counts s text fates
+  comes_of_plan plan front slice s text fates fetched falls read sliced is_plan = by_status s
+    where
+      accepted : IsAccepted was topology plan
+      accepted = record {
+        bytes = read.bytes;
+        were_read = read.are_of;
+        is_plan = (plan_of_front read.bytes plan).0 (subst (λ f. IsPlanOf f plan) (sliced ∙ read.is_front) is_plan);
+      }
+
+      by_status : (t : Status) → ComesToWith is plan input rest_counts t text fates → ComesTo was topology input all_counts t text fates
+      by_status status.Done report = (plan, accepted, record { bytes = report.bytes; were_read = told_before was is input report.bytes keeps report.were_read; is_accepted = report.is_accepted; report = report.report })
+      by_status status.Input (line, none) = ((plan, accepted, record { bytes = line.bytes; fault = line.fault; were_read = told_before was is input line.bytes keeps line.were_read; is_refused = line.is_refused; printed = line.printed }), none)
+      by_status status.ReadFault (rose, times, line, none) = (rose_since faults_before faults_mid faults_after falls rose, inr (two_fetches before mid after fetched times, line, (plan, accepted)), none)
+      by_status status.Topology never = absurd never
+      by_status status.Memory never = absurd never
+      by_status status.Words never = absurd never
+      by_status status.WriteFault never = absurd never
+
+-- a topology that was refused has its line
+pub comes_refused_topology : (holds : List ℕ → List ℕ → Type 0) (topology input : List ℕ) (counts : Counts) (front slice : List ℕ) (fault : TopoFault) (s : Status) (text : List ℕ) (fates : List Attempt) → WasRead holds topology 65537 front → slice ≡ front → IsRefused slice fault → s ≡ status.Topology → text ≡ topology_line fault → fates ≡ [] → ComesTo holds topology input counts s text fates
+comes_refused_topology holds topology input counts front slice fault s text fates read sliced refused is line none =
+    subst (λ t. ComesTo holds topology input counts t text fates) (sym is) (
+      record {
+        bytes = read.bytes;
+        fault = fault;
+        were_read = read.are_of;
+        is_refused = (refused_by_front read.bytes fault).0 (subst (λ f. IsRefused f fault) (sliced ∙ read.is_front) refused);
+        printed = line;
+      },
+      none,
+    )

@@ -1,0 +1,74 @@
+-- Which answers the files of a shelf that tells them rule out.
+use Rattle.std.proofs.Common.{◌≡◌, ◌≢◌, ◌⊎◌, ℕ, List, Option, Some, None, refl, sym, ap, subst, ◌∙◌, inl, inr}
+use Rattle.storm_values.specs.declared.lines.InputFault.{InputFault}
+use Rattle.storm_values.specs.Lines.{input_fault}
+use Rattle.topology_reader.specs.declared.fault.TopoFault.{TopoFault}
+use Rattle.topology_reader.specs.PlanFacts.{one_plan, plan_or_fault}
+use Rattle.topology_reader.specs.Topology.{Topology}
+use Rattle.topology_reader.specs.WordCount.{IsPlanOf, IsRefused}
+use Rattle.storm_program.specs.declared.fates.Attempt.{Attempt}
+use Rattle.storm_program.specs.declared.status.Status.{Status}
+use Rattle.storm_program.specs.declared.status.Status.TheVariants as status
+use Rattle.storm_program.specs.Outside.{AreBytesOf, Counts, HasRisen, Appends, AppendsFront}
+use Rattle.storm_program.specs.Answers.{IsAccepted, IsTopologyLine, ComesTo}
+
+module _ (holds : List ℕ → List ℕ → Type 0) (topology input : List ℕ) (t : List ℕ) (told : holds topology t) where
+  -- a topology that was accepted is that of the file
+  pub plan_of_file : (plan : Topology) → IsAccepted holds topology plan → IsPlanOf t plan
+  plan_of_file plan accepted = subst (λ b. IsPlanOf b plan) (sym (accepted.were_read t told)) accepted.is_plan
+
+  never_accepted : (plan : Topology) (fault : TopoFault) → IsRefused t fault → IsAccepted holds topology plan → ⊥
+  never_accepted plan fault refused accepted = plan_or_fault t plan fault (plan_of_file plan accepted) refused
+
+  never_refused : (plan : Topology) (text : List ℕ) → IsPlanOf t plan → IsTopologyLine holds topology text → ⊥
+  never_refused plan text is_plan line = plan_or_fault t plan line.fault is_plan (subst (λ b. IsRefused b line.fault) (sym (line.were_read t told)) line.is_refused)
+
+  module _ (counts : Counts) (text : List ℕ) (fates : List Attempt) where
+    -- a run over a refused topology does not go on
+    pub stops_at_topology : (fault : TopoFault) (s : Status) → IsRefused t fault → ComesTo holds topology input counts s text fates → (s ≢ status.Done) × (s ≢ status.Input)
+    stops_at_topology fault s refused comes = (
+      λ is. let done : ComesTo holds topology input counts status.Done text fates = subst (λ u. ComesTo holds topology input counts u text fates) is comes in never_accepted done.0 fault refused done.1,
+      λ is. let line : ComesTo holds topology input counts status.Input text fates = subst (λ u. ComesTo holds topology input counts u text fates) is comes in never_accepted line.0.0 fault refused line.0.1,
+    )
+
+    module _ (i : List ℕ) (told_input : holds input i) (plan : Topology) (is_plan : IsPlanOf t plan) where
+      -- the plan of the file is the one that was run
+      same_plan : (other : Topology) → IsAccepted holds topology other → other ≡ plan
+      same_plan other accepted = one_plan t other plan (plan_of_file other accepted) is_plan
+
+      fault_of_input : (other : Topology) (bytes : List ℕ) → IsAccepted holds topology other → AreBytesOf holds input bytes → input_fault i plan.spout_fields ≡ input_fault bytes other.spout_fields
+      fault_of_input other bytes accepted read =
+          ap (λ b. input_fault b plan.spout_fields) (read i told_input) ∙ ap (λ (p : Topology). input_fault bytes p.spout_fields) (sym (same_plan other accepted))
+
+      -- a run over a refused input does not go on, and its topology was not refused
+      pub stops_at_input : (fault : InputFault) (s : Status) → input_fault i plan.spout_fields ≡ Some fault → ComesTo holds topology input counts s text fates → (s ≢ status.Done) × (s ≢ status.Topology)
+      stops_at_input fault s refused comes = (
+        λ is.
+            let done : ComesTo holds topology input counts status.Done text fates = subst (λ u. ComesTo holds topology input counts u text fates) is comes in
+            let none : Some fault ≡ None = sym refused ∙ (fault_of_input done.0 done.2.bytes done.1 done.2.were_read ∙ done.2.is_accepted) in
+            cc,
+        λ is. let line : ComesTo holds topology input counts status.Topology text fates = subst (λ u. ComesTo holds topology input counts u text fates) is comes in never_refused plan text is_plan line.0,
+      )
+
+      -- with files that are accepted and no fault of the shelf, a run comes to its report
+      pub comes_to_done : (s : Status) → input_fault i plan.spout_fields ≡ None → s ≢ status.ReadFault → ComesTo holds topology input counts s text fates → s ≡ status.Done
+      comes_to_done status.Done good read comes = refl
+      comes_to_done status.Topology good read comes = absurd (never_refused plan text is_plan comes.0)
+      comes_to_done status.Input good read comes =
+          let some : None ≡ Some comes.0.2.fault = sym good ∙ (fault_of_input comes.0.0 comes.0.2.bytes comes.0.1 comes.0.2.were_read ∙ comes.0.2.is_refused) in
+          cc
+      comes_to_done status.ReadFault good read comes = absurd (read refl)
+      comes_to_done status.Memory good read comes = absurd comes
+      comes_to_done status.Words good read comes = absurd comes
+      comes_to_done status.WriteFault good read comes = absurd comes
+
+-- no fault of the shelf comes of a shelf that is ready, or whose count did not rise
+pub no_read_fault : (holds : List ℕ → List ℕ → Type 0) (topology input : List ℕ) (counts : Counts) (s : Status) (text : List ℕ) (fates : List Attempt) (ready : Type 0) → (ready → s ≢ status.ReadFault) → ready ⊎ ¬ (HasRisen counts) → ComesTo holds topology input counts s text fates → s ≢ status.ReadFault
+no_read_fault holds topology input counts s text fates ready never (inl is_ready) comes = never is_ready
+no_read_fault holds topology input counts s text fates ready never (inr still) comes = λ is. let fault : ComesTo holds topology input counts status.ReadFault text fates = subst (λ u. ComesTo holds topology input counts u text fates) is comes in still fault.0
+
+-- with no fault of the sink the status of a text that is written is the run's
+pub written : (before after : Option (List ℕ)) (text : List ℕ) (s r : Status) (rose : Type 0) → s ≡ status.Done → (r ≢ status.WriteFault → (r ≡ s) × Appends before after text) → (r ≡ status.WriteFault → s ≢ status.WriteFault → rose × AppendsFront before after text) → ¬ rose → r ≡ status.Done
+written before after text s r rose done whole front still =
+    let other : s ≢ status.WriteFault = λ e. let clash : status.Done ≡ status.WriteFault = sym done ∙ e in cc in
+    (whole (λ cut. still (front cut other).0)).0 ∙ done

@@ -1,0 +1,36 @@
+use Rattle.std.proofs.Common.{◌≡◌, ℕ, ◌+◌, ◌-◌, ◌*◌, ◌∷◌, [], ◌++◌, length, take, sym, ap, ◌∙◌, subst, arith}
+use Rattle.std.proofs.lemmas.Result.{IfOk-weaker}
+use Rattle.tree_model.specs.Trees.{writes}
+use Rattle.tree_model.specs.Tables.{IsTallyOf}
+use Rattle.storm_program.specs.Custom.{as_it_is}
+use Rattle.storm_program.specs.Fates.{IsWhole}
+use Rattle.storm_program.proofs.EngineLemmas.{attempts_joined, tally_empty}
+use Rattle.storm_program.proofs.FateLemmas.{first_attempts, first_attempts_whole}
+use Rattle.storm_program.proofs.engine.run_batches.Goals as goal
+
+-- the number before the next one
+next_before : (n : ℕ) → n ≡ n + 1 - 1
+next_before n = omega arith
+
+pub loop-number-init : goal.loop-number-init
+loop-number-init c = record {
+  tally = tally_empty _ as_it_is c.args.batches.now.size c.args.batches.now.records _ c.in_ok-tally.ensures;
+  fates = c.requires;
+}
+
+pub loop-number-preserved : goal.loop-number-preserved
+loop-number-preserved c =
+    let n = length c.args.batches.now.records in
+    let size = c.args.batches.now.size in
+    let k = c.loop-number.number in record {
+      tally = c.in_ok-run_batch.ensures (subst (λ m. IsTallyOf c.args.plan.now (writes c.args.plan.now as_it_is (take (m * size) c.args.batches.now.records)) c.loop-number.tally) (next_before k) c.loop-number.invariant.tally);
+      fates = c.in_ok-push.ensures.ok ∙ (ap (λ fates. fates ++ c.committed.result ∷ []) c.loop-number.invariant.fates ∙ (ap (λ a. first_attempts n size k ++ a ∷ []) c.committed.ensures ∙ attempts_joined n size k));
+    }
+
+pub returns-clause-fates : goal.returns-clause-fates
+returns-clause-fates c =
+    let n = length c.args.batches.now.records in
+    let size = c.args.batches.now.size in
+    let last : c.loop-number.number ≡ c.count-number-end.result = omega arith in
+    let fates = c.loop-number.invariant.fates ∙ ap (first_attempts n size) (last ∙ c.count-number-end.ensures.value) in
+    IfOk-weaker c.tables.result _ _ (λ _ _. subst (IsWhole n size) (sym fates) (first_attempts_whole n size)) c.tables.ensures

@@ -1,0 +1,74 @@
+ghost use Rattle.std.specs.Prelude.{◌≡◌, ◌≤◌, ◌<◌, ◌-◌, ◌*◌, [], length, take, IfOk, OnOk};
+ghost use Rattle.tree_model.specs.Trees.{writes};
+ghost use Rattle.tree_model.specs.Tables.{AreTables, IsTallyOf};
+ghost use Rattle.storm_program.specs.Batches.{batch_count};
+ghost use Rattle.storm_program.specs.Custom.{as_it_is};
+ghost use Rattle.storm_program.specs.Fates.{first_attempt, IsWhole};
+
+use crate::batches::Batches;
+use crate::custom::AsItIs;
+use crate::fates::{Attempt, End, Fates};
+use std::alloc::Global;
+use storm_values::{Memory, Root};
+use topology_reader::Plan;
+use tree_model::{Tables, Tally, writes_of};
+
+/// Runs a plan over its batches, one after another, and commits each at its first attempt.
+pub fn run_batches(
+    alloc: Global,
+    plan: &Plan,
+    batches: &Batches,
+    fates: &mut Fates,
+) -> Result<Tables, Memory>
+    requires { fates.old ≡ [] }
+    ensures tables { IfOk result (AreTables plan.now (writes plan.now as_it_is batches.now.records)) }
+    ensures fates { OnOk result (IsWhole (length batches.now.records) batches.now.size fates.new) }
+{
+    let mut tally = Tally::new(alloc, plan)?;
+    for number in 0..batches.count() {
+        let txid = number + 1;
+        run_batch(alloc, plan, batches, txid, &mut tally)?;
+        fates.push(committed(batches, txid))?;
+    }
+    tally.tables(alloc, plan)
+}
+
+/// Executes the nodes of a batch in path order, and adds its writes to the tables.
+fn run_batch(
+    alloc: Global,
+    plan: &Plan,
+    batches: &Batches,
+    txid: u64,
+    tally: &mut Tally,
+) -> Result<(), Memory>
+    requires first { 0 < txid }
+    requires last { txid ≤ batch_count (length batches.now.records) batches.now.size }
+    ensures { OnOk result (
+        IsTallyOf plan.now (writes plan.now as_it_is (take ((txid - 1) * batches.now.size) batches.now.records)) tally.old
+        → IsTallyOf plan.now (writes plan.now as_it_is (take (txid * batches.now.size) batches.now.records)) tally.new) }
+{
+    let Some(batch) = batches.batch(txid) else {
+        unreachable!()
+    };
+    let writes = writes_of(alloc, plan, batch, &AsItIs)?;
+    tally.add(plan, writes)
+}
+
+/// The first attempt of a batch, which was committed before any tick.
+fn committed(batches: &Batches, txid: u64) -> Attempt
+    requires first { 0 < txid }
+    requires last { txid ≤ batch_count (length batches.now.records) batches.now.size }
+    ensures { result ≡ first_attempt (length batches.now.records) batches.now.size txid }
+{
+    let records = batches.rows().len() as u64;
+    let size = batches.size();
+    let before = (txid - 1) * size;
+    Attempt {
+        root: Root { txid, attempt: 1 },
+        first: before + 1,
+        last: before + size.min(records - before),
+        start: 0,
+        finish: 0,
+        end: End::Committed,
+    }
+}

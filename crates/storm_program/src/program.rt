@@ -1,0 +1,83 @@
+ghost use Rattle.std.specs.Prelude.{◌≡◌, ◌≢◌, ◌≤◌, ◌⊎◌, ℕ, List, [], Some, None, IfSome, map, string_bytes};
+ghost use Rattle.storm_values.specs.Lines.{input_fault};
+ghost use Rattle.storm_outside.specs.Counts.{Rose};
+ghost use Rattle.topology_reader.specs.Topology.{Topology};
+ghost use Rattle.topology_reader.specs.WordCount.{IsPlanOf, IsRefused};
+ghost use Rattle.topology_reader.specs.declared.fault.TopoFault.{TopoFault};
+ghost use Rattle.storm_values.specs.declared.lines.InputFault.{InputFault};
+ghost use Rattle.storm_program.specs.declared.status.Status.{Status};
+ghost use Rattle.storm_program.specs.Outside.{around};
+ghost use Rattle.storm_program.specs.Answers.{ComesTo, IsReportOfFiles, IsTopologyLine, IsInputLineOfFiles, IsReadFaultLine, IsRefusal, Took, TookFront};
+
+use crate::fates::Fates;
+use crate::files::write_text;
+use crate::run::run_files;
+use crate::status::Status;
+use std::alloc::Global;
+use std::sync::Wait;
+use std::thread::Threads;
+use storm_outside::{Shelf, Sink};
+
+/// Runs the topology of one file over the records of another, and writes the report.
+///
+/// With one thread so far, whatever the number of workers. It reads both files before it begins, and builds the whole
+/// text before it writes. Memory is proportional to the input, and time to the number of tuples.
+pub fn storm_run<R: Threads + Wait + Sync, H: Shelf, K: Sink>(
+    rt: &R,
+    alloc: Global,
+    topology: &str,
+    input: &str,
+    workers: u32,
+    shelf: &mut H,
+    out: &mut K,
+    fates: &mut Fates,
+) -> Status
+    requires workers { (1 ≤ workers) × (workers ≤ 64) }
+    requires no_fates { fates.old ≡ [] }
+
+    // The printed tables are those of one machine that takes all records in order, and every record stands in exactly
+    // one committed batch.
+    ensures done { result ≡ Status.Done
+        → Took (K.taken out.old) (K.taken out.new) (IsReportOfFiles (H.holds shelf.old) topology.now input.now fates.new) }
+
+    // Each refusal has its cause, and its line is all that is written.
+    ensures topology { result ≡ Status.Topology
+        → Took (K.taken out.old) (K.taken out.new) (IsTopologyLine (H.holds shelf.old) topology.now) }
+    ensures input { result ≡ Status.Input
+        → Took (K.taken out.old) (K.taken out.new) (IsInputLineOfFiles (H.holds shelf.old) topology.now input.now) }
+    ensures read_fault { result ≡ Status.ReadFault → Rose (H.faults shelf.old) (H.faults shelf.new)
+        × Took (K.taken out.old) (K.taken out.new) (IsReadFaultLine (H.holds shelf.old) topology.now
+        (around (H.fetches shelf.old) (H.fetches shelf.new) (H.faults shelf.old) (H.faults shelf.new))) }
+    ensures write_fault { result ≡ Status.WriteFault
+        → Rose (K.faults out.old) (K.faults out.new)
+        × ((status : Status) × TookFront (K.taken out.old) (K.taken out.new)
+        (λ text. ComesTo (H.holds shelf.old) topology.now input.now
+        (around (H.fetches shelf.old) (H.fetches shelf.new) (H.faults shelf.old) (H.faults shelf.new)) status text fates.new)) }
+
+    // Where the shelf tells the files, each refusal comes exactly where it has to, unless an earlier one, a fault of
+    // reading or writing, or want of memory takes its place.
+    ensures refused_topology { (t : List ℕ) (fault : TopoFault) → H.holds shelf.old topology.now t → IsRefused t fault
+        → (result ≢ Status.Done) × (result ≢ Status.Input) }
+    ensures refused_input { (t i : List ℕ) (plan : Topology) (fault : InputFault)
+        → H.holds shelf.old topology.now t → H.holds shelf.old input.now i
+        → IsPlanOf t plan → input_fault i plan.spout_fields ≡ Some fault
+        → (result ≢ Status.Done) × (result ≢ Status.Topology) }
+    ensures ready { H.ready shelf.old → (t i : List ℕ)
+        → H.holds shelf.old topology.now t → H.holds shelf.old input.now i → result ≢ Status.ReadFault }
+    ensures complete { (t i : List ℕ) (plan : Topology)
+        → H.holds shelf.old topology.now t → H.holds shelf.old input.now i
+        → IsPlanOf t plan → input_fault i plan.spout_fields ≡ None
+        → (H.ready shelf.old ⊎ ¬ Rose (H.faults shelf.old) (H.faults shelf.new)) → ¬ Rose (K.faults out.old) (K.faults out.new)
+        → (result ≡ Status.Done) ⊎ (result ≡ Status.Memory) }
+
+    ensures memory { result ≡ Status.Memory → K.taken out.new ≡ K.taken out.old }
+    ensures words { result ≢ Status.Words }
+    ensures no_run { IsRefusal result → fates.new ≡ [] }
+{
+    let _ = rt;
+    let _ = workers;
+    match run_files(alloc, topology, input, shelf, fates) {
+        Ok(outcome) => write_text(outcome.status, outcome.text.as_bytes(), out),
+        Err(_) => Status::Memory,
+    }
+}
