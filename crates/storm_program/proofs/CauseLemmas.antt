@@ -1,5 +1,5 @@
 -- Which answers the files of a shelf that tells them rule out.
-use Rattle.std.proofs.Common.{◌≡◌, ◌≢◌, ◌⊎◌, ℕ, List, Option, Some, None, refl, sym, ap, subst, ◌∙◌, inl, inr}
+use Rattle.std.proofs.Common.{◌≡◌, ◌≢◌, ◌⊎◌, ℕ, List, Option, Some, None, refl, sym, ap, subst, ◌∙◌, inl, inr, IfNone}
 use Rattle.storm_values.specs.declared.lines.InputFault.{InputFault}
 use Rattle.storm_values.specs.Lines.{input_fault}
 use Rattle.topology_reader.specs.declared.fault.TopoFault.{TopoFault}
@@ -10,7 +10,7 @@ use Rattle.storm_program.specs.declared.fates.Attempt.{Attempt}
 use Rattle.storm_program.specs.declared.status.Status.{Status}
 use Rattle.storm_program.specs.declared.status.Status.TheVariants as status
 use Rattle.storm_program.specs.Outside.{AreBytesOf, Counts, HasRisen, Appends, AppendsFront}
-use Rattle.storm_program.specs.Answers.{IsAccepted, IsTopologyLine, ComesTo}
+use Rattle.storm_program.specs.Answers.{IsAccepted, IsTopologyLine, ComesTo, TookFront}
 
 module _ (holds : List ℕ → List ℕ → Type 0) (topology input : List ℕ) (t : List ℕ) (told : holds topology t) where
   -- a topology that was accepted is that of the file
@@ -72,3 +72,8 @@ pub written : (before after : Option (List ℕ)) (text : List ℕ) (s r : Status
 written before after text s r rose done whole front still =
     let other : s ≢ status.WriteFault = λ e. let clash : status.Done ≡ status.WriteFault = sym done ∙ e in cc in
     (whole (λ cut. still (front cut other).0)).0 ∙ done
+
+-- the line that refuses the words was cut short by a fault of the sink
+pub words_cut : {T : Type 0} (names : Option T) (before after : Option (List ℕ)) (text line : List ℕ) (r : Status) (rose : Type 0) → text ≡ line → (r ≡ status.WriteFault → status.Words ≢ status.WriteFault → rose × AppendsFront before after text) → IfNone names (r ≡ status.WriteFault → rose × TookFront before after (λ t. t ≡ line))
+words_cut None before after text line r rose same front = λ cut. let part = front cut (λ e. cc) in (part.0, (text, same, part.1))
+words_cut (Some x) before after text line r rose same front = tt

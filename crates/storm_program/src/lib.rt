@@ -13,5 +13,5 @@ mod status;
 mod words;
 
 pub use fates::{Attempt, End, Fates};
-pub use program::storm_run;
+pub use program::{storm, storm_run};
 pub use status::Status;

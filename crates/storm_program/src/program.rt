@@ -1,4 +1,4 @@
-ghost use Rattle.std.specs.Prelude.{◌≡◌, ◌≢◌, ◌≤◌, ◌⊎◌, ℕ, List, [], Some, None, IfSome, map, string_bytes};
+ghost use Rattle.std.specs.Prelude.{◌≡◌, ◌≢◌, ◌≤◌, ◌⊎◌, ℕ, List, [], Some, None, IfSome, IfNone, map, string_bytes};
 ghost use Rattle.storm_values.specs.Lines.{input_fault};
 ghost use Rattle.storm_outside.specs.Counts.{Rose};
 ghost use Rattle.topology_reader.specs.Topology.{Topology};
@@ -7,16 +7,88 @@ ghost use Rattle.topology_reader.specs.declared.fault.TopoFault.{TopoFault};
 ghost use Rattle.storm_values.specs.declared.lines.InputFault.{InputFault};
 ghost use Rattle.storm_program.specs.declared.status.Status.{Status};
 ghost use Rattle.storm_program.specs.Outside.{around};
+ghost use Rattle.storm_program.specs.Words.{built, usage};
 ghost use Rattle.storm_program.specs.Answers.{ComesTo, IsReportOfFiles, IsTopologyLine, IsInputLineOfFiles, IsReadFaultLine, IsRefusal, Took, TookFront};
 
 use crate::fates::Fates;
 use crate::files::write_text;
 use crate::run::run_files;
 use crate::status::Status;
+use crate::words::{USAGE, read_words};
 use std::alloc::Global;
 use std::sync::Wait;
 use std::thread::Threads;
 use storm_outside::{Shelf, Sink};
+
+/// How many workers run a topology where the words do not say it.
+const WORKERS: u32 = 4;
+
+/// Carries out the command that the words after the program's name give.
+///
+/// The words are those of `run` with two files so far; all others get the usage line.
+pub fn storm<R: Threads + Wait + Sync, H: Shelf, K: Sink>(
+    rt: &R,
+    alloc: Global,
+    words: &[String],
+    shelf: &mut H,
+    out: &mut K,
+    fates: &mut Fates,
+) -> Status
+    requires { fates.old ≡ [] }
+
+    // The words are refused exactly where they are no command.
+    ensures words { result ≡ Status.Words → (built (map string_bytes words.now) ≡ None)
+        × Took (K.taken out.old) (K.taken out.new) (λ text. text ≡ usage) }
+    ensures no_command { IfNone (built (map string_bytes words.now)) ((result ≡ Status.Words) ⊎ (result ≡ Status.WriteFault)) }
+    ensures no_command_cut { IfNone (built (map string_bytes words.now)) (result ≡ Status.WriteFault
+        → Rose (K.faults out.old) (K.faults out.new) × TookFront (K.taken out.old) (K.taken out.new) (λ text. text ≡ usage)) }
+    ensures no_command_fates { IfNone (built (map string_bytes words.now)) (fates.new ≡ []) }
+
+    // The printed tables are those of one machine that takes all records in order, and every record stands in exactly
+    // one committed batch.
+    ensures done { IfSome (built (map string_bytes words.now)) (λ names. result ≡ Status.Done
+        → Took (K.taken out.old) (K.taken out.new) (IsReportOfFiles (H.holds shelf.old) names.0 names.1 fates.new)) }
+
+    // Each refusal has its cause, and its line is all that is written.
+    ensures topology { IfSome (built (map string_bytes words.now)) (λ names. result ≡ Status.Topology
+        → Took (K.taken out.old) (K.taken out.new) (IsTopologyLine (H.holds shelf.old) names.0)) }
+    ensures input { IfSome (built (map string_bytes words.now)) (λ names. result ≡ Status.Input
+        → Took (K.taken out.old) (K.taken out.new) (IsInputLineOfFiles (H.holds shelf.old) names.0 names.1)) }
+    ensures read_fault { IfSome (built (map string_bytes words.now)) (λ names. result ≡ Status.ReadFault → Rose (H.faults shelf.old) (H.faults shelf.new)
+        × Took (K.taken out.old) (K.taken out.new) (IsReadFaultLine (H.holds shelf.old) names.0
+        (around (H.fetches shelf.old) (H.fetches shelf.new) (H.faults shelf.old) (H.faults shelf.new)))) }
+    ensures write_fault { IfSome (built (map string_bytes words.now)) (λ names. result ≡ Status.WriteFault
+        → Rose (K.faults out.old) (K.faults out.new)
+        × ((status : Status) × TookFront (K.taken out.old) (K.taken out.new)
+        (λ text. ComesTo (H.holds shelf.old) names.0 names.1
+        (around (H.fetches shelf.old) (H.fetches shelf.new) (H.faults shelf.old) (H.faults shelf.new)) status text fates.new))) }
+
+    // Where the shelf tells the files, each refusal comes exactly where it has to, unless an earlier one, a fault of
+    // reading or writing, or want of memory takes its place.
+    ensures refused_topology { IfSome (built (map string_bytes words.now)) (λ names. (t : List ℕ) (fault : TopoFault) → H.holds shelf.old names.0 t → IsRefused t fault
+        → (result ≢ Status.Done) × (result ≢ Status.Input)) }
+    ensures refused_input { IfSome (built (map string_bytes words.now)) (λ names. (t i : List ℕ) (plan : Topology) (fault : InputFault)
+        → H.holds shelf.old names.0 t → H.holds shelf.old names.1 i
+        → IsPlanOf t plan → input_fault i plan.spout_fields ≡ Some fault
+        → (result ≢ Status.Done) × (result ≢ Status.Topology)) }
+    ensures ready { IfSome (built (map string_bytes words.now)) (λ names. H.ready shelf.old → (t i : List ℕ)
+        → H.holds shelf.old names.0 t → H.holds shelf.old names.1 i → result ≢ Status.ReadFault) }
+    ensures complete { IfSome (built (map string_bytes words.now)) (λ names. (t i : List ℕ) (plan : Topology)
+        → H.holds shelf.old names.0 t → H.holds shelf.old names.1 i
+        → IsPlanOf t plan → input_fault i plan.spout_fields ≡ None
+        → (H.ready shelf.old ⊎ ¬ Rose (H.faults shelf.old) (H.faults shelf.new)) → ¬ Rose (K.faults out.old) (K.faults out.new)
+        → (result ≡ Status.Done) ⊎ (result ≡ Status.Memory)) }
+
+    ensures memory { result ≡ Status.Memory → K.taken out.new ≡ K.taken out.old }
+    ensures no_run { IsRefusal result → fates.new ≡ [] }
+{
+    match read_words(words) {
+        Some((topology, input)) => storm_run(
+            rt, alloc, topology, input, WORKERS, shelf, out, fates,
+        ),
+        None => write_text(Status::Words, USAGE.as_bytes(), out),
+    }
+}
 
 /// Runs the topology of one file over the records of another, and writes the report.
 ///
