@@ -1,3 +1,4 @@
 pub mod Inside
+pub mod Paths
 pub mod Tables
 pub mod Trees

@@ -1,10 +1,15 @@
-ghost use Rattle.std.specs.Prelude.{◌≡◌, List, ◌++◌};
+ghost use Rattle.std.specs.Prelude.{◌≡◌, ◌≢◌, ℕ, List, [], ◌∷◌, ◌++◌, length, slice_get, option_and_then};
+ghost use Rattle.std.specs.List.{filter_map};
 ghost use Rattle.storm_values.specs.declared.value.Value.{Value};
 ghost use Rattle.topology_reader.specs.Topology.{Topology};
 ghost use Rattle.tree_model.specs.declared.write.Table.{Table};
 ghost use Rattle.tree_model.specs.declared.write.Write.{Write};
+ghost use Rattle.topology_reader.specs.Valid.{IsValid};
+ghost use Rattle.tree_model.specs.Paths.{ArePathsOf, write_at};
 ghost use Rattle.tree_model.specs.Tables.{AreTables};
-ghost use Rattle.tree_model.specs.Trees.{writes};
+ghost use Rattle.tree_model.specs.Trees.{kids, kids_of, node_at, node_count, writes};
+
+use topology_reader::Origin;
 
 /// A law: the writes of joined rows are the joined writes.
 pub fn writes_of_joined_rows()
@@ -16,4 +21,24 @@ pub fn writes_of_joined_rows()
 pub fn tables_are_one()
     ensures { (t : Topology) (made : List Write) (a b : List Table)
         → AreTables t made a → AreTables t made b → a ≡ b }
+{}
+
+/// A law: a path of one number leads to a node that the rows make, and one more number leads from a node to a child.
+pub fn paths_lead_to_children()
+    ensures first { (t : Topology) (custom : List Value → List (List Value)) (rows : List (List Value)) (i : ℕ)
+        → node_at t custom rows (i ∷ []) ≡ slice_get (kids t Origin.Spout rows) i }
+    ensures next { (t : Topology) (custom : List Value → List (List Value)) (rows : List (List Value)) (path : List ℕ) (j : ℕ)
+        → path ≢ [] → node_at t custom rows (path ++ j ∷ [])
+        ≡ option_and_then (λ node. slice_get (kids_of t custom node) j) (node_at t custom rows path) }
+{}
+
+/// A law: the paths of a tree stand in one order, the writes stand in the order of their nodes' paths, and there are as
+/// many nodes as paths.
+pub fn writes_stand_in_path_order()
+    ensures paths { (t : Topology) (custom : List Value → List (List Value)) (rows : List (List Value))
+        → IsValid t → (paths : List (List ℕ)) × ArePathsOf t custom rows paths }
+    ensures writes { (t : Topology) (custom : List Value → List (List Value)) (rows : List (List Value)) (paths : List (List ℕ))
+        → IsValid t → ArePathsOf t custom rows paths → writes t custom rows ≡ filter_map (write_at t custom rows) paths }
+    ensures count { (t : Topology) (custom : List Value → List (List Value)) (rows : List (List Value)) (paths : List (List ℕ))
+        → IsValid t → ArePathsOf t custom rows paths → node_count t custom rows ≡ length paths }
 {}

@@ -1,5 +1,4 @@
-use Rattle.std.proofs.Common.{◌≡◌, ◌∙◌, ap, subst, take, ◌∷◌, []}
-use Rattle.tree_model.specs.Tables.{IsTallyOf}
+use Rattle.std.proofs.Common.{take}
 use Rattle.tree_model.specs.Trees.{writes}
 use Rattle.tree_model.proofs.Walks.{writes-nil, writes-take_more}
 use Rattle.tree_model.proofs.plain.plain_tables.Goals as goal
