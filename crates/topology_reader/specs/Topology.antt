@@ -1,5 +1,5 @@
 -- What a plan is, seen by contracts, and its numbers.
-use Rattle.std.specs.Prelude.{ℕ, zero, suc, ◌+◌, ◌*◌, ◌-◌, ◌^◌, List, [], ◌∷◌, length, map, filter, sum_by, slice_index_or, slice_get, min, max, ◌==◌}
+use Rattle.std.specs.Prelude.{ℕ, zero, suc, ◌+◌, ◌*◌, ◌-◌, ◌^◌, List, [], ◌∷◌, length, map, filter, sum_by, slice_index_or, slice_get, min, max, ◌==◌, if◌then◌else◌, nat_lt}
 use Rattle.std.specs.Option.{option_map_or}
 use Rattle.std.specs.List.{range_with_len, flat_map}
 use Rattle.topology_reader.specs.declared.plan.Component.{Component}
@@ -45,6 +45,16 @@ copies_of t sub = copies_by sub.grouping (tasks_of t sub.to)
 -- tasks and parts of all components
 abbrev pub tasks_in_all : Topology → ℕ
 tasks_in_all t = sum_by (λ (component : Component). component.tasks) t.components
+
+-- the component of a task number, the tasks of these components having the numbers from 0 and the first of them the number c
+abbrev pub component_from : ℕ → ℕ → List Component → ℕ
+component_from c task [] = c
+component_from c task (component ∷ components) =
+    if nat_lt task component.tasks then c else component_from (c + 1) (task - component.tasks) components
+
+-- the component that a task belongs to
+abbrev pub component_of : Topology → ℕ → ℕ
+component_of t task = component_from 0 task t.components
 
 -- ---- depth and weight
 

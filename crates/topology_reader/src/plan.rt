@@ -1,5 +1,5 @@
-ghost use Rattle.std.specs.Prelude.{◌≡◌, ◌<◌, ◌≤◌, All, length, slice_get, Some};
-ghost use Rattle.topology_reader.specs.Topology.{subs_of, tasks_in_all, depth_of, weight_of};
+ghost use Rattle.std.specs.Prelude.{◌≡◌, ◌<◌, ◌≤◌, All, length, slice_get, Some, sum_by, ◌^◌};
+ghost use Rattle.topology_reader.specs.Topology.{component_from, component_of, subs_of, tasks_in_all, depth_of, weight_of};
 ghost use Rattle.topology_reader.specs.Valid.{IsTarget};
 
 use std::alloc::Global;
@@ -167,6 +167,15 @@ impl Plan {
         self.tasks
     }
 
+    /// The component that a task belongs to. It goes through the components.
+    pub fn component_of(&self, task: u32) -> u32
+        requires { task < tasks_in_all self.now }
+        ensures value { result ≡ component_of self.now task }
+        ensures there { result < length self.now.components }
+    {
+        component_from(self.components.as_slice(), task)
+    }
+
     /// The subscriptions of a source, in the order of the consumers.
     pub fn subs(&self, from: Origin) -> &[Sub]
         ensures value { result.now ≡ subs_of self.now from }
@@ -239,4 +248,23 @@ impl Plan {
     {
         self.weight
     }
+}
+
+/// The place of the component that has a task, where tasks are numbered through the components.
+fn component_from(components: &[Component], task: u32) -> u32
+    requires there { task < sum_by (λ component. component.tasks) components.now }
+    requires few { length components.now < 2 ^ 32 }
+    ensures value { result ≡ component_from 0 task components.now }
+    ensures within { result < length components.now }
+{
+    let mut left = task;
+    let mut place = 0;
+    for component in components {
+        if left < component.tasks {
+            return place;
+        }
+        left -= component.tasks;
+        place += 1;
+    }
+    unreachable!()
 }

@@ -4,6 +4,7 @@ ghost use Rattle.serde_json.specs.Read.{max_depth};
 ghost use Rattle.serde_json.specs.View.{view};
 ghost use Rattle.serde_json.specs.Written.{has_float};
 ghost use Rattle.storm_values.specs.Json.{json_of};
+ghost use Rattle.topology_reader.specs.Valid.{IsValid};
 ghost use Rattle.topology_reader.specs.WordCount.{IsPlanOf, IsRefused};
 
 use crate::draft::Draft;
@@ -20,6 +21,7 @@ pub const MOST_TOPOLOGY_BYTES: usize = 65_536;
 /// The plan of a topology file. Only the word count is read yet; every other file is `NotYet`.
 pub fn read_topology(alloc: Global, bytes: &[u8]) -> Result<Plan, TopoFault>
     ensures plan { IfOk result (λ plan. IsPlanOf bytes.now plan) }
+    ensures valid { IfOk result (λ plan. IsValid plan) }
     ensures fault { IfErr result (λ fault. fault ≢ TopoFault.Memory → IsRefused bytes.now fault) }
 {
     if bytes.len() > MOST_TOPOLOGY_BYTES {
