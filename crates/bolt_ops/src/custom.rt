@@ -2,7 +2,7 @@ ghost use Rattle.std.specs.Prelude.{◌≡◌, List, [], ◌∷◌, reverse, IfO
 ghost use Rattle.std.proofs.Common.{lit≤};
 ghost use Rattle.std.proofs.lemmas.List.{length-reverse};
 ghost use Rattle.storm_values.specs.declared.value.Value.{Value};
-ghost use Rattle.bolt_ops.specs.RowOp.{MakesFew, KeepsLength, KeepsLength-one};
+ghost use Rattle.bolt_ops.specs.RowOp.{MakesFew, KeepsLength, KeepsLength-one, KeepsLimits, KeepsLimits-one, All-reverse_short};
 
 use std::alloc::Global;
 use storm_values::{Duplicate, Memory, Row, Rows};
@@ -17,6 +17,8 @@ pub trait RowOp {
     ghost few: { (op : Self) → MakesFew (rows_of op) };
 
     ghost keeps_length: { (op : Self) → KeepsLength (rows_of op) };
+
+    ghost keeps_limits: { (op : Self) → KeepsLimits (rows_of op) };
 }
 
 /// Makes one row, of the values in reverse order.
@@ -29,6 +31,8 @@ impl RowOp for Reversed {
     ghost few = { λ _ _. lit≤ tt };
 
     ghost keeps_length = { λ _. KeepsLength-one reverse length-reverse };
+
+    ghost keeps_limits = { λ _. KeepsLimits-one reverse All-reverse_short };
 
     fn rows(&self, alloc: Global, row: &Row) -> Result<Rows, Memory> {
         let mut made = Row::new(alloc);

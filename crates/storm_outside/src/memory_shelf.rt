@@ -113,7 +113,9 @@ impl MemShelf {
 
     /// Lets the fetch of this number fail, the first being number 1.
     pub fn fail_fetch(&mut self, number: u64) -> Result<(), Memory>
-        ensures ok { OnOk result (self.new ≡ record self.old { fetches = failing_at self.old.fetches number }) }
+        ensures ok { OnOk result (self.new ≡ record self.old {
+          fetches = failing_at self.old.fetches number;
+        }) }
         ensures err { OnErr result (self.new ≡ self.old) }
     {
         self.fetches.fail(number)
@@ -121,7 +123,9 @@ impl MemShelf {
 
     /// Lets the read of this number fail, the first being number 1.
     pub fn fail_read(&mut self, number: u64) -> Result<(), Memory>
-        ensures ok { OnOk result (self.new ≡ record self.old { reads = failing_at self.old.reads number }) }
+        ensures ok { OnOk result (self.new ≡ record self.old {
+          reads = failing_at self.old.reads number;
+        }) }
         ensures err { OnErr result (self.new ≡ self.old) }
     {
         self.reads.fail(number)

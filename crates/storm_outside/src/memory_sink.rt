@@ -56,7 +56,9 @@ impl MemSink {
 
     /// Lets the write of this number fail, the first being number 1.
     pub fn fail_write(&mut self, number: u64) -> Result<(), Memory>
-        ensures ok { OnOk result (self.new ≡ record self.old { writes = failing_at self.old.writes number }) }
+        ensures ok { OnOk result (self.new ≡ record self.old {
+          writes = failing_at self.old.writes number;
+        }) }
         ensures err { OnErr result (self.new ≡ self.old) }
     {
         self.writes.fail(number)

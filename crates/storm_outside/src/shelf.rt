@@ -45,7 +45,8 @@ pub trait Shelf {
 
         ensures failed { OnErr result (Rose (faults self.old) (faults self.new)) }
         ensures never_falls { faults self.old ≤ faults self.new }
-        ensures ready { ready self.old → (bytes : List ℕ) → holds self.old name.now bytes → IsOk result }
+        ensures ready { ready self.old →
+            (bytes : List ℕ) → holds self.old name.now bytes → IsOk result }
         ensures stays_ready { ready self.old → ready self.new };
 
     /// Reads some of the current file into the front of the buffer, and answers how many bytes.

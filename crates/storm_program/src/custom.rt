@@ -1,6 +1,6 @@
 ghost use Rattle.std.specs.Prelude.{refl};
 ghost use Rattle.std.proofs.Common.{lit≤};
-ghost use Rattle.bolt_ops.specs.RowOp.{KeepsLength-one};
+ghost use Rattle.bolt_ops.specs.RowOp.{KeepsLength-one, KeepsLimits-one};
 ghost use Rattle.storm_program.specs.Custom.{as_it_is};
 
 use bolt_ops::RowOp;
@@ -16,6 +16,8 @@ impl RowOp for AsItIs {
     ghost few = { λ _ _. lit≤ tt };
 
     ghost keeps_length = { λ _. KeepsLength-one (λ row. row) (λ _. refl) };
+
+    ghost keeps_limits = { λ _. KeepsLimits-one (λ row. row) (λ _ short. short) };
 
     fn rows(&self, alloc: Global, row: &Row) -> Result<Rows, Memory> {
         let mut rows = Rows::new(alloc);

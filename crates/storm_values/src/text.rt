@@ -1,4 +1,4 @@
-ghost use Rattle.std.specs.Prelude.{◌≡◌, List, [], ◌++◌, ℕ, length, encode_utf8, string_bytes, IfOk, OnOk, OnErr};
+ghost use Rattle.std.specs.Prelude.{◌≡◌, ◌<◌, slice_get, Some, List, [], ◌++◌, ℕ, length, encode_utf8, string_bytes, IfOk, OnOk, OnErr};
 
 use crate::list::{Duplicate, Memory};
 use std::alloc::Global;
@@ -53,6 +53,14 @@ impl Txt {
         ensures { result ≡ length self.now }
     {
         self.text.len()
+    }
+
+    /// The byte at a place.
+    pub fn at(&self, i: usize) -> &u8
+        requires { i < length self.now }
+        ensures { slice_get self.now i ≡ Some result.now }
+    {
+        &self.text.as_bytes()[i]
     }
 
     pub fn as_str(&self) -> &str

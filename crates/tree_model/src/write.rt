@@ -20,6 +20,17 @@ pub struct Write {
     pub amount: i64,
 }
 
+impl Duplicate for Write {
+    fn copy(&self) -> Result<Write, Memory> {
+        Ok(Write {
+            state: self.state,
+            part: self.part,
+            key: self.key.copy()?,
+            amount: self.amount,
+        })
+    }
+}
+
 pub type Writes = Seq<Write>;
 
 /// A key of a state, and its value.
