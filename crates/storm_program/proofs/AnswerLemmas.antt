@@ -13,7 +13,7 @@ use Rattle.topology_reader.specs.WordCount.{IsPlanOf, IsRefused}
 use Rattle.storm_program.specs.declared.fates.Attempt.{Attempt}
 use Rattle.storm_program.specs.declared.status.Status.{Status}
 use Rattle.storm_program.specs.declared.status.Status.TheVariants as status
-use Rattle.storm_program.specs.Outside.{AreBytesOf, WasRead, Counts}
+use Rattle.storm_program.specs.Outside.{AreBytesOf, WasRead, Counts, FetchedTimes}
 use Rattle.storm_program.specs.Answers.{topology_line, input_line, IsReport, IsAccepted, ComesTo, ComesToWith}
 
 -- a fact of a value from two of them
@@ -23,22 +23,26 @@ IfOk-both (Err e) P Q R f p q = tt
 
 module _ (holds : List ℕ → List ℕ → Type 0) (plan : Topology) (name : List ℕ) (counts : Counts) where
   -- the rows of an input that was read and accepted have their report
-  pub comes_done : (front slice : List ℕ) (want : ℕ) (rows : List (List Value)) (s : Status) (text : List ℕ) (fates : List Attempt) → WasRead holds name 67108865 front → slice ≡ front → want ≡ plan.spout_fields → (input_fault slice want ≡ None) × (rows ≡ records_of slice) → s ≡ status.Done → IsReport plan rows fates text → ComesToWith holds plan name counts s text fates
-  comes_done front slice want rows s text fates read sliced wants good done report =
+  pub comes_done : (front slice : List ℕ) (want : ℕ) (rows : List (List Value)) (s : Status) (text : List ℕ) (fates : List Attempt) → WasRead holds name 67108865 front → slice ≡ front → want ≡ plan.spout_fields → (input_fault slice want ≡ None) × (rows ≡ records_of slice) → FetchedTimes 1 counts → s ≡ status.Done → IsReport plan rows fates text → ComesToWith holds plan name counts s text fates
+  comes_done front slice want rows s text fates read sliced wants good times done report =
       let same : input_fault read.bytes want ≡ None = sym (input_fault-take read.bytes want) ∙ (ap (λ f. input_fault f want) (sym (sliced ∙ read.is_front)) ∙ good.0) in
       let all : rows ≡ records_of read.bytes = good.1 ∙ (ap records_of (sliced ∙ read.is_front) ∙ records_of-take read.bytes want same) in
-      subst (λ t. ComesToWith holds plan name counts t text fates) (sym done) (record {
-        bytes = read.bytes;
-        were_read = read.are_of;
-        is_accepted = subst (λ w. input_fault read.bytes w ≡ None) wants same;
-        report = subst (λ rs. IsReport plan rs fates text) all report;
-      })
+      subst (λ t. ComesToWith holds plan name counts t text fates) (sym done) (
+        times,
+        record {
+          bytes = read.bytes;
+          were_read = read.are_of;
+          is_accepted = subst (λ w. input_fault read.bytes w ≡ None) wants same;
+          report = subst (λ rs. IsReport plan rs fates text) all report;
+        },
+      )
 
   -- an input that was refused has its line
-  pub comes_refused : (front slice : List ℕ) (want : ℕ) (fault : InputFault) (s : Status) (text : List ℕ) (fates : List Attempt) → WasRead holds name 67108865 front → slice ≡ front → want ≡ plan.spout_fields → input_fault slice want ≡ Some fault → s ≡ status.Input → text ≡ input_line fault → fates ≡ [] → ComesToWith holds plan name counts s text fates
-  comes_refused front slice want fault s text fates read sliced wants refused is line none =
+  pub comes_refused : (front slice : List ℕ) (want : ℕ) (fault : InputFault) (s : Status) (text : List ℕ) (fates : List Attempt) → WasRead holds name 67108865 front → slice ≡ front → want ≡ plan.spout_fields → input_fault slice want ≡ Some fault → FetchedTimes 1 counts → s ≡ status.Input → text ≡ input_line fault → fates ≡ [] → ComesToWith holds plan name counts s text fates
+  comes_refused front slice want fault s text fates read sliced wants refused times is line none =
       let same : input_fault read.bytes want ≡ Some fault = sym (input_fault-take read.bytes want) ∙ (ap (λ f. input_fault f want) (sym (sliced ∙ read.is_front)) ∙ refused) in
       subst (λ t. ComesToWith holds plan name counts t text fates) (sym is) (
+        times,
         record {
           bytes = read.bytes;
           fault = fault;
@@ -82,8 +86,8 @@ module _ (was is : List ℕ → List ℕ → Type 0) (topology input : List ℕ)
       }
 
       by_status : (t : Status) → ComesToWith is plan input rest_counts t text fates → ComesTo was topology input all_counts t text fates
-      by_status status.Done report = (plan, accepted, record { bytes = report.bytes; were_read = told_before was is input report.bytes keeps report.were_read; is_accepted = report.is_accepted; report = report.report })
-      by_status status.Input (line, none) = ((plan, accepted, record { bytes = line.bytes; fault = line.fault; were_read = told_before was is input line.bytes keeps line.were_read; is_refused = line.is_refused; printed = line.printed }), none)
+      by_status status.Done (times, report) = (two_fetches before mid after fetched times, (plan, accepted, record { bytes = report.bytes; were_read = told_before was is input report.bytes keeps report.were_read; is_accepted = report.is_accepted; report = report.report }))
+      by_status status.Input (times, line, none) = (two_fetches before mid after fetched times, (plan, accepted, record { bytes = line.bytes; fault = line.fault; were_read = told_before was is input line.bytes keeps line.were_read; is_refused = line.is_refused; printed = line.printed }), none)
       by_status status.ReadFault (rose, times, line, none) = (rose_since faults_before faults_mid faults_after falls rose, inr (two_fetches before mid after fetched times, line, (plan, accepted)), none)
       by_status status.Topology never = absurd never
       by_status status.Memory never = absurd never
@@ -91,9 +95,10 @@ module _ (was is : List ℕ → List ℕ → Type 0) (topology input : List ℕ)
       by_status status.WriteFault never = absurd never
 
 -- a topology that was refused has its line
-pub comes_refused_topology : (holds : List ℕ → List ℕ → Type 0) (topology input : List ℕ) (counts : Counts) (front slice : List ℕ) (fault : TopoFault) (s : Status) (text : List ℕ) (fates : List Attempt) → WasRead holds topology 65537 front → slice ≡ front → IsRefused slice fault → s ≡ status.Topology → text ≡ topology_line fault → fates ≡ [] → ComesTo holds topology input counts s text fates
-comes_refused_topology holds topology input counts front slice fault s text fates read sliced refused is line none =
+pub comes_refused_topology : (holds : List ℕ → List ℕ → Type 0) (topology input : List ℕ) (counts : Counts) (front slice : List ℕ) (fault : TopoFault) (s : Status) (text : List ℕ) (fates : List Attempt) → WasRead holds topology 65537 front → slice ≡ front → IsRefused slice fault → FetchedTimes 1 counts → s ≡ status.Topology → text ≡ topology_line fault → fates ≡ [] → ComesTo holds topology input counts s text fates
+comes_refused_topology holds topology input counts front slice fault s text fates read sliced refused times is line none =
     subst (λ t. ComesTo holds topology input counts t text fates) (sym is) (
+      times,
       record {
         bytes = read.bytes;
         fault = fault;

@@ -1,5 +1,5 @@
 -- Which answers the files of a shelf that tells them rule out.
-use Rattle.std.proofs.Common.{◌≡◌, ◌≢◌, ◌⊎◌, ℕ, List, Option, Some, None, refl, sym, ap, subst, ◌∙◌, inl, inr, IfNone}
+use Rattle.std.proofs.Common.{◌≡◌, ◌≢◌, ◌⊎◌, ℕ, ◌+◌, ◌%◌, ◌^◌, List, Option, Some, None, refl, sym, ap, subst, ◌∙◌, inl, inr, IfNone, arith}
 use Rattle.storm_values.specs.declared.lines.InputFault.{InputFault}
 use Rattle.storm_values.specs.Lines.{input_fault}
 use Rattle.topology_reader.specs.declared.fault.TopoFault.{TopoFault}
@@ -9,7 +9,7 @@ use Rattle.topology_reader.specs.WordCount.{IsPlanOf, IsRefused}
 use Rattle.storm_program.specs.declared.fates.Attempt.{Attempt}
 use Rattle.storm_program.specs.declared.status.Status.{Status}
 use Rattle.storm_program.specs.declared.status.Status.TheVariants as status
-use Rattle.storm_program.specs.Outside.{AreBytesOf, Counts, HasRisen, Appends, AppendsFront}
+use Rattle.storm_program.specs.Outside.{AreBytesOf, Counts, FetchedTimes, HasRisen, Appends, AppendsFront}
 use Rattle.storm_program.specs.Answers.{IsAccepted, IsTopologyLine, ComesTo, TookFront}
 
 module _ (holds : List ℕ → List ℕ → Type 0) (topology input : List ℕ) (t : List ℕ) (told : holds topology t) where
@@ -27,8 +27,8 @@ module _ (holds : List ℕ → List ℕ → Type 0) (topology input : List ℕ) 
     -- a run over a refused topology does not go on
     pub stops_at_topology : (fault : TopoFault) (s : Status) → IsRefused t fault → ComesTo holds topology input counts s text fates → (s ≢ status.Done) × (s ≢ status.Input)
     stops_at_topology fault s refused comes = (
-      λ is. let done : ComesTo holds topology input counts status.Done text fates = subst (λ u. ComesTo holds topology input counts u text fates) is comes in never_accepted done.0 fault refused done.1,
-      λ is. let line : ComesTo holds topology input counts status.Input text fates = subst (λ u. ComesTo holds topology input counts u text fates) is comes in never_accepted line.0.0 fault refused line.0.1,
+      λ is. let done : ComesTo holds topology input counts status.Done text fates = subst (λ u. ComesTo holds topology input counts u text fates) is comes in never_accepted done.1.0 fault refused done.1.1,
+      λ is. let line : ComesTo holds topology input counts status.Input text fates = subst (λ u. ComesTo holds topology input counts u text fates) is comes in never_accepted line.1.0 fault refused line.1.1,
     )
 
     module _ (i : List ℕ) (told_input : holds input i) (plan : Topology) (is_plan : IsPlanOf t plan) where
@@ -45,17 +45,17 @@ module _ (holds : List ℕ → List ℕ → Type 0) (topology input : List ℕ) 
       stops_at_input fault s refused comes = (
         λ is.
             let done : ComesTo holds topology input counts status.Done text fates = subst (λ u. ComesTo holds topology input counts u text fates) is comes in
-            let none : Some fault ≡ None = sym refused ∙ (fault_of_input done.0 done.2.bytes done.1 done.2.were_read ∙ done.2.is_accepted) in
+            let none : Some fault ≡ None = sym refused ∙ (fault_of_input done.1.0 done.1.2.bytes done.1.1 done.1.2.were_read ∙ done.1.2.is_accepted) in
             cc,
-        λ is. let line : ComesTo holds topology input counts status.Topology text fates = subst (λ u. ComesTo holds topology input counts u text fates) is comes in never_refused plan text is_plan line.0,
+        λ is. let line : ComesTo holds topology input counts status.Topology text fates = subst (λ u. ComesTo holds topology input counts u text fates) is comes in never_refused plan text is_plan line.1,
       )
 
       -- with files that are accepted and no fault of the shelf, a run comes to its report
       pub comes_to_done : (s : Status) → input_fault i plan.spout_fields ≡ None → s ≢ status.ReadFault → ComesTo holds topology input counts s text fates → s ≡ status.Done
       comes_to_done status.Done good read comes = refl
-      comes_to_done status.Topology good read comes = absurd (never_refused plan text is_plan comes.0)
+      comes_to_done status.Topology good read comes = absurd (never_refused plan text is_plan comes.1)
       comes_to_done status.Input good read comes =
-          let some : None ≡ Some comes.0.2.fault = sym good ∙ (fault_of_input comes.0.0 comes.0.2.bytes comes.0.1 comes.0.2.were_read ∙ comes.0.2.is_refused) in
+          let some : None ≡ Some comes.1.2.fault = sym good ∙ (fault_of_input comes.1.0 comes.1.2.bytes comes.1.1 comes.1.2.were_read ∙ comes.1.2.is_refused) in
           cc
       comes_to_done status.ReadFault good read comes = absurd (read refl)
       comes_to_done status.Memory good read comes = absurd comes
@@ -77,3 +77,15 @@ written before after text s r rose done whole front still =
 pub words_cut : {T : Type 0} (names : Option T) (before after : Option (List ℕ)) (text line : List ℕ) (r : Status) (rose : Type 0) → text ≡ line → (r ≡ status.WriteFault → status.Words ≢ status.WriteFault → rose × AppendsFront before after text) → IfNone names (r ≡ status.WriteFault → rose × TookFront before after (λ t. t ≡ line))
 words_cut None before after text line r rose same front = λ cut. let part = front cut (λ e. cc) in (part.0, (text, same, part.1))
 words_cut (Some x) before after text line r rose same front = tt
+
+module _ (holds : List ℕ → List ℕ → Type 0) (topology input : List ℕ) (counts : Counts) (t : List ℕ) (told : holds topology t) where
+  -- a read fault after two fetches is one of the input of an accepted topology
+  pub reads_topology : (text : List ℕ) (fates : List Attempt) (s : Status) → s ≡ status.ReadFault → FetchedTimes 2 counts → ComesTo holds topology input counts s text fates → (plan : Topology) × IsPlanOf t plan
+  reads_topology text fates s is twice comes = of_fault (subst (λ u. ComesTo holds topology input counts u text fates) is comes)
+    where
+      never_both : (before after : ℕ) → after ≡ (before + 1) % 2 ^ 64 → after ≡ (before + 2) % 2 ^ 64 → ⊥
+      never_both before after one two = omega (arith, one, two)
+
+      of_fault : ComesTo holds topology input counts status.ReadFault text fates → (plan : Topology) × IsPlanOf t plan
+      of_fault (rose, inl (once, line), none) = absurd (never_both counts.fetches_before counts.fetches_after once twice)
+      of_fault (rose, inr (times, line, (plan, accepted)), none) = (plan, plan_of_file holds topology input t told plan accepted)

@@ -1,12 +1,12 @@
 -- The fates of a run in which each batch is committed at its first attempt.
-use Rattle.std.proofs.Common.{◌≡◌, ℕ, ◌+◌, ◌<◌, ◌≤◌, zero, suc, Bool, true, false, eqb, List, [], ◌∷◌, length, map, get_or, sym, refl, ap, ◌∙◌, subst, arith}
+use Rattle.std.proofs.Common.{◌≡◌, ℕ, ◌+◌, ◌<◌, ◌≤◌, zero, suc, Bool, true, false, eqb, List, [], ◌∷◌, length, map, get_or, sym, refl, ap, ◌∙◌, subst, arith, Result, Ok, Err, OnErr}
 use Rattle.std.specs.List.{range_with_len}
 use Rattle.std.proofs.lemmas.Bool.Decides.{nat_tests}
 use Rattle.std.proofs.lemmas.List.{length-map}
 use Rattle.std.proofs.lemmas.List.FromFn.{length-range_with_len, get_or-map-range_with_len}
 use Rattle.storm_program.specs.declared.fates.Attempt.{Attempt}
 use Rattle.storm_program.specs.Batches.{batch_count}
-use Rattle.storm_program.specs.Fates.{first_attempt, committed_txids, attempt_numbers, IsOfBatch, IsWhole}
+use Rattle.storm_program.specs.Fates.{first_attempt, committed_txids, attempt_numbers, IsOfBatch, IsOnce, IsOnceOfSome, IsWhole}
 
 -- those of the batches 1 to k
 abbrev pub first_attempts : ℕ → ℕ → ℕ → List Attempt
@@ -58,17 +58,36 @@ no_ticks n size txids i j d order below =
     let many : length (map (λ (a : Attempt). a.finish) (map (first_attempt n size) txids)) ≡ length txids = length-map (map (first_attempt n size) txids) (λ (a : Attempt). a.finish) ∙ length-map txids (first_attempt n size) in
     omega (arith, none i (omega arith), none j (omega arith))
 
+-- the first attempts of some batches, each committed at once
+pub first_attempts_once : (n size k : ℕ) → k ≤ batch_count n size → IsOnce n size (first_attempts n size k)
+first_attempts_once n size k there = record {
+  in_order = rw (committed_all n size (range_with_len 1 k), length-range_with_len 1 k) refl;
+  numbered = λ txid. one_attempt n size 1 k txid;
+  last_committed = λ i j d order below. λ _ same. apart n size k i j d order below same;
+  of_batch = λ i d below. subst (IsOfBatch n size) (sym (attempt_at n size k i d below)) (record { is_there = (omega arith, omega (arith, count_of n size k)); first = refl; last = refl });
+  spans = λ i d below. subst (λ (a : Attempt). a.start ≤ a.finish) (sym (attempt_at n size k i d below)) (omega arith);
+  finishes = λ i j d order below. no_ticks n size (range_with_len 1 k) i j d order below;
+}
+
 pub first_attempts_whole : (n size : ℕ) → IsWhole n size (first_attempts n size (batch_count n size))
-first_attempts_whole n size =
-    let k = batch_count n size in
-    record {
-      once = record {
-        in_order = rw (committed_all n size (range_with_len 1 k), length-range_with_len 1 k) refl;
-        numbered = λ txid. one_attempt n size 1 k txid;
-        last_committed = λ i j d order below. λ _ same. apart n size k i j d order below same;
-        of_batch = λ i d below. subst (IsOfBatch n size) (sym (attempt_at n size k i d below)) (record { first = refl; last = refl });
-        spans = λ i d below. subst (λ (a : Attempt). a.start ≤ a.finish) (sym (attempt_at n size k i d below)) (omega arith);
-        finishes = λ i j d order below. no_ticks n size (range_with_len 1 k) i j d order below;
-      };
-      all_committed = committed_all n size (range_with_len 1 k);
-    }
+first_attempts_whole n size = record {
+  once = first_attempts_once n size (batch_count n size) (omega arith);
+  all_committed = committed_all n size (range_with_len 1 (batch_count n size));
+}
+
+-- no attempt at all
+pub once_nothing : (n size : ℕ) → IsOnce n size []
+once_nothing n size = first_attempts_once n size 0 (omega arith)
+
+-- no attempts are of no batch twice
+pub once_of_none : (fates : List Attempt) → fates ≡ [] → IsOnceOfSome fates
+once_of_none fates none = subst IsOnceOfSome (sym none) (0, 1, once_nothing 0 1)
+
+-- the attempts of the batches so far
+pub once_so_far : (n size k : ℕ) (fates : List Attempt) → fates ≡ first_attempts n size k → k ≤ batch_count n size → IsOnce n size fates
+once_so_far n size k fates are there = subst (IsOnce n size) (sym are) (first_attempts_once n size k there)
+
+-- what holds whatever comes holds of an error
+pub OnErr-always : {T E : Type 0} (r : Result T E) (P : Type 0) → P → OnErr r P
+OnErr-always (Ok x) P p = tt
+OnErr-always (Err e) P p = p

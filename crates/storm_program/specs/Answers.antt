@@ -82,8 +82,9 @@ pub record IsReportOf (holds : List ℕ → List ℕ → Type 0) (plan : Topolog
 
 -- What a run of a plan comes to: a status, the text, and the fates.
 abbrev pub ComesToWith : (List ℕ → List ℕ → Type 0) → Topology → List ℕ → Counts → Status → List ℕ → List Attempt → Type 0
-ComesToWith holds plan input counts status.Done text fates = IsReportOf holds plan input fates text
-ComesToWith holds plan input counts status.Input text fates = IsInputLine holds plan input text × (fates ≡ [])
+ComesToWith holds plan input counts status.Done text fates = FetchedTimes 1 counts × IsReportOf holds plan input fates text
+ComesToWith holds plan input counts status.Input text fates =
+    FetchedTimes 1 counts × IsInputLine holds plan input text × (fates ≡ [])
 ComesToWith holds plan input counts status.ReadFault text fates =
     HasRisen counts × FetchedTimes 1 counts × (text ≡ input_not_read) × (fates ≡ [])
 ComesToWith holds plan input counts status.Topology text fates = ⊥
@@ -110,9 +111,12 @@ IsInputLineOfFiles holds topology input text =
 
 -- What a run comes to before its text is written. No run comes to the other statuses.
 abbrev pub ComesTo : (List ℕ → List ℕ → Type 0) → List ℕ → List ℕ → Counts → Status → List ℕ → List Attempt → Type 0
-ComesTo holds topology input counts status.Done text fates = IsReportOfFiles holds topology input fates text
-ComesTo holds topology input counts status.Topology text fates = IsTopologyLine holds topology text × (fates ≡ [])
-ComesTo holds topology input counts status.Input text fates = IsInputLineOfFiles holds topology input text × (fates ≡ [])
+ComesTo holds topology input counts status.Done text fates =
+    FetchedTimes 2 counts × IsReportOfFiles holds topology input fates text
+ComesTo holds topology input counts status.Topology text fates =
+    FetchedTimes 1 counts × IsTopologyLine holds topology text × (fates ≡ [])
+ComesTo holds topology input counts status.Input text fates =
+    FetchedTimes 2 counts × IsInputLineOfFiles holds topology input text × (fates ≡ [])
 ComesTo holds topology input counts status.ReadFault text fates =
     HasRisen counts × IsReadFaultLine holds topology counts text × (fates ≡ [])
 ComesTo holds topology input counts status.Memory text fates = ⊥

@@ -29,8 +29,9 @@ committed_txids fates = map (λ (a : Attempt). a.root.txid) (filter (λ (a : Att
 abbrev pub attempt_numbers : ℕ → List Attempt → List ℕ
 attempt_numbers txid fates = map (λ (a : Attempt). a.root.attempt) (filter (λ (a : Attempt). a.root.txid == txid) fates)
 
--- the attempt is of the records of its batch
+-- the attempt is of a batch that is there, and of its records
 pub record IsOfBatch (n size : ℕ) (a : Attempt) : Type 0 where
+  pub is_there : (1 ≤ a.root.txid) × (a.root.txid ≤ batch_count n size)
   pub first : a.first ≡ first_of size a.root.txid
   pub last : a.last ≡ last_of n size a.root.txid
 
@@ -55,3 +56,7 @@ pub record IsOnce (n size : ℕ) (fates : List Attempt) : Type 0 where
 pub record IsWhole (n size : ℕ) (fates : List Attempt) : Type 0 where
   pub once : IsOnce n size fates
   pub all_committed : committed_txids fates ≡ range_with_len 1 (batch_count n size)
+
+-- no batch was committed twice, of whatever many records in batches of whatever size
+abbrev pub IsOnceOfSome : List Attempt → Type 0
+IsOnceOfSome fates = (n : ℕ) × (size : ℕ) × IsOnce n size fates

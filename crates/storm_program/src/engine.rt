@@ -1,9 +1,9 @@
-ghost use Rattle.std.specs.Prelude.{◌≡◌, ◌≤◌, ◌<◌, ◌-◌, ◌*◌, [], length, take, IfOk, OnOk};
+ghost use Rattle.std.specs.Prelude.{◌≡◌, ◌≤◌, ◌<◌, ◌-◌, ◌*◌, [], length, take, IfOk, OnOk, OnErr};
 ghost use Rattle.tree_model.specs.Trees.{writes};
 ghost use Rattle.tree_model.specs.Tables.{AreTables, IsTallyOf};
 ghost use Rattle.storm_program.specs.Batches.{batch_count};
 ghost use Rattle.storm_program.specs.Custom.{as_it_is};
-ghost use Rattle.storm_program.specs.Fates.{first_attempt, IsWhole};
+ghost use Rattle.storm_program.specs.Fates.{first_attempt, IsOnce, IsWhole};
 
 use crate::batches::Batches;
 use crate::custom::AsItIs;
@@ -23,6 +23,7 @@ pub fn run_batches(
     requires { fates.old ≡ [] }
     ensures tables { IfOk result (AreTables plan.now (writes plan.now as_it_is batches.now.records)) }
     ensures fates { OnOk result (IsWhole (length batches.now.records) batches.now.size fates.new) }
+    ensures once { OnErr result (IsOnce (length batches.now.records) batches.now.size fates.new) }
 {
     let mut tally = Tally::new(alloc, plan)?;
     for number in 0..batches.count() {

@@ -6,7 +6,8 @@ ghost use Rattle.topology_reader.specs.WordCount.{IsPlanOf, IsRefused};
 ghost use Rattle.topology_reader.specs.declared.fault.TopoFault.{TopoFault};
 ghost use Rattle.storm_values.specs.declared.lines.InputFault.{InputFault};
 ghost use Rattle.storm_program.specs.declared.status.Status.{Status};
-ghost use Rattle.storm_program.specs.Outside.{around};
+ghost use Rattle.storm_program.specs.Outside.{around, FetchedTimes};
+ghost use Rattle.storm_program.specs.Fates.{IsOnceOfSome};
 ghost use Rattle.storm_program.specs.Words.{built, usage};
 ghost use Rattle.storm_program.specs.Answers.{ComesTo, IsReportOfFiles, IsTopologyLine, IsInputLineOfFiles, IsReadFaultLine, IsRefusal, Took, TookFront};
 
@@ -36,7 +37,7 @@ pub fn storm<R: Threads + Wait + Sync, H: Shelf, K: Sink>(
 ) -> Status
     requires { fates.old ≡ [] }
 
-    // The words are refused exactly where they are no command.
+    // The words are refused exactly where they are no command that is built so far.
     ensures words { result ≡ Status.Words → (built (map string_bytes words.now) ≡ None)
         × Took (K.taken out.old) (K.taken out.new) (λ text. text ≡ usage) }
     ensures no_command { IfNone (built (map string_bytes words.now)) ((result ≡ Status.Words) ⊎ (result ≡ Status.WriteFault)) }
@@ -46,14 +47,14 @@ pub fn storm<R: Threads + Wait + Sync, H: Shelf, K: Sink>(
 
     // The printed tables are those of one machine that takes all records in order, and every record stands in exactly
     // one committed batch.
-    ensures done { IfSome (built (map string_bytes words.now)) (λ names. result ≡ Status.Done
-        → Took (K.taken out.old) (K.taken out.new) (IsReportOfFiles (H.holds shelf.old) names.0 names.1 fates.new)) }
+    ensures done { IfSome (built (map string_bytes words.now)) (λ names. result ≡ Status.Done → FetchedTimes 2 (around (H.fetches shelf.old) (H.fetches shelf.new) (H.faults shelf.old) (H.faults shelf.new))
+        × Took (K.taken out.old) (K.taken out.new) (IsReportOfFiles (H.holds shelf.old) names.0 names.1 fates.new)) }
 
     // Each refusal has its cause, and its line is all that is written.
-    ensures topology { IfSome (built (map string_bytes words.now)) (λ names. result ≡ Status.Topology
-        → Took (K.taken out.old) (K.taken out.new) (IsTopologyLine (H.holds shelf.old) names.0)) }
-    ensures input { IfSome (built (map string_bytes words.now)) (λ names. result ≡ Status.Input
-        → Took (K.taken out.old) (K.taken out.new) (IsInputLineOfFiles (H.holds shelf.old) names.0 names.1)) }
+    ensures topology { IfSome (built (map string_bytes words.now)) (λ names. result ≡ Status.Topology → FetchedTimes 1 (around (H.fetches shelf.old) (H.fetches shelf.new) (H.faults shelf.old) (H.faults shelf.new))
+        × Took (K.taken out.old) (K.taken out.new) (IsTopologyLine (H.holds shelf.old) names.0)) }
+    ensures input { IfSome (built (map string_bytes words.now)) (λ names. result ≡ Status.Input → FetchedTimes 2 (around (H.fetches shelf.old) (H.fetches shelf.new) (H.faults shelf.old) (H.faults shelf.new))
+        × Took (K.taken out.old) (K.taken out.new) (IsInputLineOfFiles (H.holds shelf.old) names.0 names.1)) }
     ensures read_fault { IfSome (built (map string_bytes words.now)) (λ names. result ≡ Status.ReadFault → Rose (H.faults shelf.old) (H.faults shelf.new)
         × Took (K.taken out.old) (K.taken out.new) (IsReadFaultLine (H.holds shelf.old) names.0
         (around (H.fetches shelf.old) (H.fetches shelf.new) (H.faults shelf.old) (H.faults shelf.new)))) }
@@ -73,13 +74,18 @@ pub fn storm<R: Threads + Wait + Sync, H: Shelf, K: Sink>(
         → (result ≢ Status.Done) × (result ≢ Status.Topology)) }
     ensures ready { IfSome (built (map string_bytes words.now)) (λ names. H.ready shelf.old → (t i : List ℕ)
         → H.holds shelf.old names.0 t → H.holds shelf.old names.1 i → result ≢ Status.ReadFault) }
+    ensures ready_topology { IfSome (built (map string_bytes words.now)) (λ names. H.ready shelf.old → (t : List ℕ) → H.holds shelf.old names.0 t
+        → result ≡ Status.ReadFault
+        → FetchedTimes 2 (around (H.fetches shelf.old) (H.fetches shelf.new) (H.faults shelf.old) (H.faults shelf.new)) × ((plan : Topology) × IsPlanOf t plan)) }
     ensures complete { IfSome (built (map string_bytes words.now)) (λ names. (t i : List ℕ) (plan : Topology)
         → H.holds shelf.old names.0 t → H.holds shelf.old names.1 i
         → IsPlanOf t plan → input_fault i plan.spout_fields ≡ None
         → (H.ready shelf.old ⊎ ¬ Rose (H.faults shelf.old) (H.faults shelf.new)) → ¬ Rose (K.faults out.old) (K.faults out.new)
         → (result ≡ Status.Done) ⊎ (result ≡ Status.Memory)) }
 
+    // A run that ends for want of memory writes nothing, and no batch was committed twice.
     ensures memory { result ≡ Status.Memory → K.taken out.new ≡ K.taken out.old }
+    ensures memory_fates { result ≡ Status.Memory → IsOnceOfSome fates.new }
     ensures no_run { IsRefusal result → fates.new ≡ [] }
 {
     match read_words(words) {
@@ -93,7 +99,8 @@ pub fn storm<R: Threads + Wait + Sync, H: Shelf, K: Sink>(
 /// Runs the topology of one file over the records of another, and writes the report.
 ///
 /// With one thread so far, whatever the number of workers. It reads both files before it begins, and builds the whole
-/// text before it writes. Memory is proportional to the input, and time to the number of tuples.
+/// text before it writes. Memory is proportional to the input and to the writes of one batch. Time is proportional to
+/// the number of tuples, and each write of a state costs the logarithm of its keys besides.
 pub fn storm_run<R: Threads + Wait + Sync, H: Shelf, K: Sink>(
     rt: &R,
     alloc: Global,
@@ -109,14 +116,14 @@ pub fn storm_run<R: Threads + Wait + Sync, H: Shelf, K: Sink>(
 
     // The printed tables are those of one machine that takes all records in order, and every record stands in exactly
     // one committed batch.
-    ensures done { result ≡ Status.Done
-        → Took (K.taken out.old) (K.taken out.new) (IsReportOfFiles (H.holds shelf.old) topology.now input.now fates.new) }
+    ensures done { result ≡ Status.Done → FetchedTimes 2 (around (H.fetches shelf.old) (H.fetches shelf.new) (H.faults shelf.old) (H.faults shelf.new))
+        × Took (K.taken out.old) (K.taken out.new) (IsReportOfFiles (H.holds shelf.old) topology.now input.now fates.new) }
 
     // Each refusal has its cause, and its line is all that is written.
-    ensures topology { result ≡ Status.Topology
-        → Took (K.taken out.old) (K.taken out.new) (IsTopologyLine (H.holds shelf.old) topology.now) }
-    ensures input { result ≡ Status.Input
-        → Took (K.taken out.old) (K.taken out.new) (IsInputLineOfFiles (H.holds shelf.old) topology.now input.now) }
+    ensures topology { result ≡ Status.Topology → FetchedTimes 1 (around (H.fetches shelf.old) (H.fetches shelf.new) (H.faults shelf.old) (H.faults shelf.new))
+        × Took (K.taken out.old) (K.taken out.new) (IsTopologyLine (H.holds shelf.old) topology.now) }
+    ensures input { result ≡ Status.Input → FetchedTimes 2 (around (H.fetches shelf.old) (H.fetches shelf.new) (H.faults shelf.old) (H.faults shelf.new))
+        × Took (K.taken out.old) (K.taken out.new) (IsInputLineOfFiles (H.holds shelf.old) topology.now input.now) }
     ensures read_fault { result ≡ Status.ReadFault → Rose (H.faults shelf.old) (H.faults shelf.new)
         × Took (K.taken out.old) (K.taken out.new) (IsReadFaultLine (H.holds shelf.old) topology.now
         (around (H.fetches shelf.old) (H.fetches shelf.new) (H.faults shelf.old) (H.faults shelf.new))) }
@@ -136,13 +143,17 @@ pub fn storm_run<R: Threads + Wait + Sync, H: Shelf, K: Sink>(
         → (result ≢ Status.Done) × (result ≢ Status.Topology) }
     ensures ready { H.ready shelf.old → (t i : List ℕ)
         → H.holds shelf.old topology.now t → H.holds shelf.old input.now i → result ≢ Status.ReadFault }
+    ensures ready_topology { H.ready shelf.old → (t : List ℕ) → H.holds shelf.old topology.now t → result ≡ Status.ReadFault
+        → FetchedTimes 2 (around (H.fetches shelf.old) (H.fetches shelf.new) (H.faults shelf.old) (H.faults shelf.new)) × ((plan : Topology) × IsPlanOf t plan) }
     ensures complete { (t i : List ℕ) (plan : Topology)
         → H.holds shelf.old topology.now t → H.holds shelf.old input.now i
         → IsPlanOf t plan → input_fault i plan.spout_fields ≡ None
         → (H.ready shelf.old ⊎ ¬ Rose (H.faults shelf.old) (H.faults shelf.new)) → ¬ Rose (K.faults out.old) (K.faults out.new)
         → (result ≡ Status.Done) ⊎ (result ≡ Status.Memory) }
 
+    // A run that ends for want of memory writes nothing, and no batch was committed twice.
     ensures memory { result ≡ Status.Memory → K.taken out.new ≡ K.taken out.old }
+    ensures memory_fates { result ≡ Status.Memory → IsOnceOfSome fates.new }
     ensures words { result ≢ Status.Words }
     ensures no_run { IsRefusal result → fates.new ≡ [] }
 {

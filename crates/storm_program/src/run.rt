@@ -1,11 +1,12 @@
-ghost use Rattle.std.specs.Prelude.{◌≡◌, ◌≢◌, ◌≤◌, ◌^◌, ◌-◌, ◌+◌, ◌%◌, ◌<◌, ℕ, List, [], IfOk, IsErrOf, length, string_bytes};
+ghost use Rattle.std.specs.Prelude.{◌≡◌, ◌≢◌, ◌≤◌, ◌^◌, ◌-◌, ◌+◌, ◌%◌, ◌<◌, ℕ, List, [], IfOk, OnErr, IsErrOf, length, string_bytes};
 ghost use Rattle.storm_values.specs.Lines.{input_fault, records_of};
 ghost use Rattle.storm_outside.specs.Counts.{Rose};
 ghost use Rattle.bolt_ops.specs.Operations.{out};
 ghost use Rattle.tree_model.specs.Trees.{writes};
 ghost use Rattle.tree_model.specs.Tables.{AreTables};
 ghost use Rattle.topology_reader.specs.WordCount.{IsRefused};
-ghost use Rattle.storm_program.specs.Outside.{around};
+ghost use Rattle.storm_program.specs.Outside.{around, FetchedTimes};
+ghost use Rattle.storm_program.specs.Fates.{IsOnceOfSome};
 ghost use Rattle.storm_program.specs.Answers.{topology_line, input_line, IsReport, ComesTo, ComesToWith};
 
 use crate::batches::Batches;
@@ -44,6 +45,10 @@ pub fn run_files<H: Shelf>(
         (around (H.fetches shelf.old) (H.fetches shelf.new) (H.faults shelf.old) (H.faults shelf.new)) outcome.status (string_bytes outcome.text) fates.new) }
     ensures ready { IfOk result (λ outcome. H.ready shelf.old → (t i : List ℕ) → H.holds shelf.old topology.now t
         → H.holds shelf.old input.now i → outcome.status ≢ Status.ReadFault) }
+    ensures ready_topology { IfOk result (λ outcome. H.ready shelf.old → (t : List ℕ) → H.holds shelf.old topology.now t
+        → outcome.status ≡ Status.ReadFault
+        → FetchedTimes 2 (around (H.fetches shelf.old) (H.fetches shelf.new) (H.faults shelf.old) (H.faults shelf.new))) }
+    ensures fates { OnErr result (IsOnceOfSome fates.new) }
     ensures never_falls { H.faults shelf.old ≤ H.faults shelf.new }
 {
     let bytes = match read_file(alloc, topology, MOST_TOPOLOGY, shelf) {
@@ -70,6 +75,7 @@ fn run_plan<H: Shelf>(
         (around (H.fetches shelf.old) (H.fetches shelf.new) (H.faults shelf.old) (H.faults shelf.new)) outcome.status (string_bytes outcome.text) fates.new) }
     ensures ready { IfOk result (λ outcome. H.ready shelf.old → (i : List ℕ) → H.holds shelf.old input.now i
         → outcome.status ≢ Status.ReadFault) }
+    ensures fates { OnErr result (IsOnceOfSome fates.new) }
     ensures never_falls { H.faults shelf.old ≤ H.faults shelf.new }
 {
     let bytes = match read_file(alloc, input, MOST_INPUT, shelf) {
@@ -88,6 +94,7 @@ fn run_rows(alloc: Global, plan: &Plan, rows: Rows, fates: &mut Fates) -> Result
     requires { fates.old ≡ [] }
     ensures status { IfOk result (λ outcome. outcome.status ≡ Status.Done) }
     ensures report { IfOk result (λ outcome. IsReport plan.now rows fates.new (string_bytes outcome.text)) }
+    ensures fates { OnErr result (IsOnceOfSome fates.new) }
 {
     let batches = Batches::cut(rows, plan.batch());
     let tables = run_batches(alloc, plan, &batches, fates)?;

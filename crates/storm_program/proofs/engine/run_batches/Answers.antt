@@ -1,11 +1,11 @@
-use Rattle.std.proofs.Common.{◌≡◌, ℕ, ◌+◌, ◌-◌, ◌*◌, ◌∷◌, [], ◌++◌, length, take, sym, ap, ◌∙◌, subst, arith}
+use Rattle.std.proofs.Common.{◌≡◌, ℕ, ◌+◌, ◌-◌, ◌*◌, ◌≤◌, ◌∷◌, [], ◌++◌, length, take, sym, ap, ◌∙◌, subst, arith}
 use Rattle.std.proofs.lemmas.Result.{IfOk-weaker}
 use Rattle.tree_model.specs.Trees.{writes}
 use Rattle.tree_model.specs.Tables.{IsTallyOf}
 use Rattle.storm_program.specs.Custom.{as_it_is}
 use Rattle.storm_program.specs.Fates.{IsWhole}
 use Rattle.storm_program.proofs.EngineLemmas.{attempts_joined, tally_empty}
-use Rattle.storm_program.proofs.FateLemmas.{first_attempts, first_attempts_whole}
+use Rattle.storm_program.proofs.FateLemmas.{first_attempts, first_attempts_whole, once_so_far, OnErr-always}
 use Rattle.storm_program.proofs.engine.run_batches.Goals as goal
 
 -- the number before the next one
@@ -34,3 +34,18 @@ returns-clause-fates c =
     let last : c.loop-number.number ≡ c.count-number-end.result = omega arith in
     let fates = c.loop-number.invariant.fates ∙ ap (first_attempts n size) (last ∙ c.count-number-end.ensures.value) in
     IfOk-weaker c.tables.result _ _ (λ _ _. subst (IsWhole n size) (sym fates) (first_attempts_whole n size)) c.tables.ensures
+
+pub returns-in_err-run_batch-clause-once : goal.returns-in_err-run_batch-clause-once
+returns-in_err-run_batch-clause-once c =
+    let last : c.loop-number.number ≤ c.count-number-end.result = omega arith in
+    OnErr-always c.from_residual-in_err-run_batch.result _ (once_so_far _ _ c.loop-number.number _ c.loop-number.invariant.fates (subst (λ m. c.loop-number.number ≤ m) c.count-number-end.ensures.value last))
+
+pub returns-in_err-push-clause-once : goal.returns-in_err-push-clause-once
+returns-in_err-push-clause-once c =
+    let last : c.loop-number.number ≤ c.count-number-end.result = omega arith in
+    OnErr-always c.from_residual-in_err-push.result _ (once_so_far _ _ c.loop-number.number _ (c.in_err-push.ensures.err ∙ c.loop-number.invariant.fates) (subst (λ m. c.loop-number.number ≤ m) c.count-number-end.ensures.value last))
+
+pub returns-clause-once : goal.returns-clause-once
+returns-clause-once c =
+    let last : c.loop-number.number ≤ c.count-number-end.result = omega arith in
+    OnErr-always c.tables.result _ (once_so_far _ _ c.loop-number.number _ c.loop-number.invariant.fates (subst (λ m. c.loop-number.number ≤ m) c.count-number-end.ensures.value last))

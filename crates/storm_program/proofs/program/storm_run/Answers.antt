@@ -1,5 +1,5 @@
 use Rattle.std.proofs.Common.{sym, ◌∙◌, inl}
-use Rattle.storm_program.proofs.CauseLemmas.{stops_at_topology, stops_at_input, comes_to_done, no_read_fault, written}
+use Rattle.storm_program.proofs.CauseLemmas.{stops_at_topology, stops_at_input, comes_to_done, no_read_fault, reads_topology, written}
 use Rattle.storm_program.proofs.program.storm_run.Goals as goal
 
 pub returns-in-Ok-clause-refused_topology : goal.returns-in-Ok-clause-refused_topology
@@ -21,3 +21,9 @@ returns-in-Ok-clause-complete g c = λ t i plan told told_input is_plan good sti
     let read = no_read_fault _ _ _ _ c.in-Ok.outcome.status _ _ _ (λ is_ready. c.in-Ok.ensures.ready is_ready t i told told_input) still c.in-Ok.ensures.comes in
     let done = comes_to_done _ _ _ t told _ _ _ i told_input plan is_plan c.in-Ok.outcome.status good read c.in-Ok.ensures.comes in
     inl (written _ _ _ _ _ _ done c.write_text.ensures.whole c.write_text.ensures.front silent)
+
+pub returns-in-Ok-clause-ready_topology : goal.returns-in-Ok-clause-ready_topology
+returns-in-Ok-clause-ready_topology g c = λ ready t told is.
+    let same = sym (c.write_text.ensures.whole (λ cut. cc)).0 ∙ is in
+    let twice = c.in-Ok.ensures.ready_topology ready t told same in
+    (twice, reads_topology _ _ _ _ t told _ _ c.in-Ok.outcome.status same twice c.in-Ok.ensures.comes)

@@ -1,0 +1,211 @@
+// What a call answers and writes where nothing outside fails.
+use crate::call::{CALM, COUNTED_SENTENCES, RUN, SENTENCES, Scene, WORD_COUNT, call, run_over};
+use std::test::Fail;
+use storm_program::{Attempt, End};
+use storm_values::Root;
+
+// Inputs, and their reports in batches of two.
+const REPORTS: [(&str, &str); 9] = [
+    ("", "ok 0 records 0 batches\n"),
+    (
+        "[\"\"]",
+        "attempt 1.1 records 1-1 ticks 0-0 committed
+ok 1 records 1 batches
+",
+    ),
+    // a line that ends with byte 13, and one without an end
+    (
+        "[\"a\"]\r\n[\"b\"]",
+        "attempt 1.1 records 1-2 ticks 0-0 committed
+cell counts [\"a\"] 1
+cell counts [\"b\"] 1
+ok 2 records 1 batches
+",
+    ),
+    // a word twice in a batch, keys in the order of their texts' bytes, and a number, which has no word
+    (
+        "[\" b  a a! a\"]\n[7]\n",
+        "attempt 1.1 records 1-2 ticks 0-0 committed
+cell counts [\"a!\"] 1
+cell counts [\"a\"] 2
+cell counts [\"b\"] 1
+ok 2 records 1 batches
+",
+    ),
+    // one short batch, one whole batch, and so on
+    (
+        "[\"a\"]\n",
+        "attempt 1.1 records 1-1 ticks 0-0 committed
+cell counts [\"a\"] 1
+ok 1 records 1 batches
+",
+    ),
+    (
+        "[\"a\"]\n[\"a\"]\n",
+        "attempt 1.1 records 1-2 ticks 0-0 committed
+cell counts [\"a\"] 2
+ok 2 records 1 batches
+",
+    ),
+    (
+        "[\"a\"]\n[\"a\"]\n[\"a\"]\n",
+        "attempt 1.1 records 1-2 ticks 0-0 committed
+attempt 2.1 records 3-3 ticks 0-0 committed
+cell counts [\"a\"] 3
+ok 3 records 2 batches
+",
+    ),
+    (
+        "[\"a\"]\n[\"a\"]\n[\"a\"]\n[\"a\"]\n",
+        "attempt 1.1 records 1-2 ticks 0-0 committed
+attempt 2.1 records 3-4 ticks 0-0 committed
+cell counts [\"a\"] 4
+ok 4 records 2 batches
+",
+    ),
+    (
+        "[\"a\"]\n[\"a\"]\n[\"a\"]\n[\"a\"]\n[\"a\"]\n",
+        "attempt 1.1 records 1-2 ticks 0-0 committed
+attempt 2.1 records 3-4 ticks 0-0 committed
+attempt 3.1 records 5-5 ticks 0-0 committed
+cell counts [\"a\"] 5
+ok 5 records 3 batches
+",
+    ),
+];
+
+// Files, the status that they end with, and the line.
+const NOT_READ: [(Option<&str>, Option<&str>, u8, &str); 6] = [
+    (None, None, 5, "read fault topology\n"),
+    (None, Some("[]"), 5, "read fault topology\n"),
+    (Some(WORD_COUNT), None, 5, "read fault input\n"),
+    (Some("{\"version\":1"), None, 3, "topology: not yet\n"),
+    (Some("{\"version\":1"), Some("[]"), 3, "topology: not yet\n"),
+    (Some(""), Some(""), 3, "topology: not yet\n"),
+];
+
+// Inputs of a sentence a line, and the lines that refuse them.
+const REFUSED_INPUTS: [(&str, &str); 7] = [
+    (
+        "[\"a\"]\n[1.5]",
+        "input: line 2: item 0 is no text and no whole number\n",
+    ),
+    ("[\"a\"]\n\n{", "input: line 2: no JSON\n"),
+    ("[\"a\"]\n[\"a\"]\n\"a\"\n", "input: line 3: no array\n"),
+    ("[]\n", "input: line 1: 0 items\n"),
+    ("[\"a\", 1]\n[1.5]\n", "input: line 1: 2 items\n"),
+    (
+        "[9223372036854775807]\n[9223372036854775808]\n",
+        "input: line 2: item 0 is no text and no whole number\n",
+    ),
+    (
+        "[\"a\", null]",
+        "input: line 1: item 1 is no text and no whole number\n",
+    ),
+];
+
+const USAGE: &str = "usage: storm check T | plain T I | replay T I S | run T I [W] | load N SEED\n";
+
+// Words that are no command.
+const NO_COMMANDS: [&[&str]; 10] = [
+    &[],
+    &["run"],
+    &["run", "t"],
+    &["run", "t", "i", "0"],
+    &["run", "t", "i", "65"],
+    &["--help"],
+    &["run", "-t", "i"],
+    &["run", "t", "-"],
+    &["run", "", "i"],
+    &["Run", "t", "i"],
+];
+
+fn committed(txid: u64, first: u64, last: u64) -> Attempt {
+    Attempt {
+        root: Root { txid, attempt: 1 },
+        first,
+        last,
+        start: 0,
+        finish: 0,
+        end: End::Committed,
+    }
+}
+
+#[test]
+fn the_words_of_three_sentences(rt: HostRuntime) -> Result<(), Fail> {
+    let told = call(&rt, rt.alloc(), run_over(SENTENCES), CALM)?;
+    assert_eq!(rt; told.text.as_str(), COUNTED_SENTENCES);
+    assert_eq!(rt; told.status.code(), 0);
+    let fates = [committed(1, 1, 2), committed(2, 3, 3)];
+    assert_eq!(rt; told.fates.as_slice(), fates.as_slice());
+    Ok(())
+}
+
+#[test]
+fn reports_of_inputs(rt: HostRuntime) -> Result<(), Fail> {
+    for (input, want) in REPORTS {
+        let told = call(&rt, rt.alloc(), run_over(input), CALM)?;
+        assert_eq!(rt; told.text.as_str(), want, "of {input}");
+        assert_eq!(rt; told.status.code(), 0, "of {input}");
+    }
+    Ok(())
+}
+
+#[test]
+fn files_that_are_not_read(rt: HostRuntime) -> Result<(), Fail> {
+    for (topology, input, code, want) in NOT_READ {
+        let scene = Scene {
+            words: &RUN,
+            topology,
+            input,
+        };
+        let told = call(&rt, rt.alloc(), scene, CALM)?;
+        assert_eq!(rt; told.text.as_str(), want);
+        assert_eq!(rt; told.status.code(), code, "of {want}");
+        assert!(rt; told.fates.is_empty(), "of {want}");
+    }
+    Ok(())
+}
+
+#[test]
+fn refusals_of_inputs(rt: HostRuntime) -> Result<(), Fail> {
+    for (input, want) in REFUSED_INPUTS {
+        let told = call(&rt, rt.alloc(), run_over(input), CALM)?;
+        assert_eq!(rt; told.text.as_str(), want, "of {input}");
+        assert_eq!(rt; told.status.code(), 4, "of {input}");
+        assert!(rt; told.fates.is_empty(), "of {input}");
+    }
+    Ok(())
+}
+
+#[test]
+fn words_that_are_no_command(rt: HostRuntime) -> Result<(), Fail> {
+    for words in NO_COMMANDS {
+        let scene = Scene {
+            words,
+            ..run_over(SENTENCES)
+        };
+        let told = call(&rt, rt.alloc(), scene, CALM)?;
+        assert_eq!(rt; told.text.as_str(), USAGE, "of {words:?}");
+        assert_eq!(rt; told.status.code(), 2, "of {words:?}");
+        assert!(rt; told.fates.is_empty(), "of {words:?}");
+    }
+    Ok(())
+}
+
+#[test]
+fn lines_of_4096_bytes_and_more(rt: HostRuntime) -> Result<(), Fail> {
+    let alloc = rt.alloc();
+    for (letters, code) in [(4_092, 0), (4_093, 4)] {
+        let input = format!(in alloc; "[\"{}\"]", "a".repeat(alloc, letters)?)?;
+        let told = call(&rt, alloc, run_over(input.as_str()), CALM)?;
+        assert_eq!(rt; told.status.code(), code);
+        if code == 4 {
+            assert_eq!(rt;
+                told.text.as_str(),
+                "input: line 1: longer than 4096 bytes\n"
+            );
+        }
+    }
+    Ok(())
+}

@@ -1,0 +1,11 @@
+//! Tests of whole calls of `storm`, from the files of a shelf in memory to the bytes that a sink in memory took.
+#![tactic(auto)]
+
+#[cfg(test)]
+mod answers;
+#[cfg(test)]
+mod beside;
+#[cfg(test)]
+mod call;
+#[cfg(test)]
+mod faults;
