@@ -2,9 +2,8 @@
 #![tactic(auto)]
 
 use std::alloc::Global;
-use std::env;
-use std::io;
 use std::process::ExitCode;
+use std::{env, io};
 use storm_outside::{FileShelf, OutSink};
 use storm_program::{Fates, Status, storm};
 
