@@ -3,3 +3,4 @@ mod CauseLemmas
 mod EngineLemmas
 mod FateLemmas
 mod WordLemmas
+mod RecordLemmas

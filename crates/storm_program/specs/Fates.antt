@@ -1,5 +1,5 @@
 -- When each record stands in exactly one committed batch (Storm's documentation, "Trident Spouts").
-use Rattle.std.specs.Prelude.{◌≡◌, ◌≢◌, ◌≤◌, ℕ, List, length, map, filter, All, AllPairs, Bool, true, IsTrue, ◌==◌}
+use Rattle.std.specs.Prelude.{◌≡◌, ◌≢◌, ◌≤◌, ℕ, List, length, map, filter, All, AllPairs, Bool, true, IsTrue, ◌==◌, ◌&&◌, nat_le}
 use Rattle.std.specs.List.{range_with_len}
 use Rattle.std.specs.List.Sorted.{IsNonDecreasing}
 use Rattle.storm_program.specs.declared.fates.Attempt.{Attempt}
@@ -60,3 +60,11 @@ pub record IsWhole (n size : ℕ) (fates : List Attempt) : Type 0 where
 -- no batch was committed twice, of whatever many records in batches of whatever size
 abbrev pub IsOnceOfSome : List Attempt → Type 0
 IsOnceOfSome fates = (n : ℕ) × (size : ℕ) × IsOnce n size fates
+
+-- whether the record of that number, counted from 1, is one of the attempt's
+abbrev pub has_record : ℕ → Attempt → Bool
+has_record number a = nat_le a.first number && nat_le number a.last
+
+-- the committed attempts that have the record
+abbrev pub commits_of : ℕ → List Attempt → List Attempt
+commits_of number fates = filter (has_record number) (filter (λ (a : Attempt). is_committed a.end) fates)

@@ -6,6 +6,7 @@ mod custom;
 mod engine;
 mod fates;
 mod files;
+mod laws;
 mod program;
 mod report;
 mod run;
@@ -13,5 +14,6 @@ mod status;
 mod words;
 
 pub use fates::{Attempt, End, Fates};
+pub use laws::each_record_is_committed_once;
 pub use program::{storm, storm_run};
 pub use status::Status;

@@ -1,0 +1,28 @@
+use Rattle.std.proofs.Common.{◌≤◌, Some, length, ap, sym, ◌∙◌, arith}
+use Rattle.std.proofs.lemmas.Result.{err_from_is_err_and}
+use Rattle.serde_json.specs.View.{view}
+use Rattle.topology_file.specs.FirstFault.{value_fault}
+use Rattle.topology_file.proofs.FileFaults.{too_long, of_value, plan_of_checked, fault_of_checked}
+use Rattle.topology_file.proofs.check.check_file.Goals as goal
+
+pub returns-then-bytes-gt-MOST_TOPOLOGY_BYTES-clause-fault :
+    goal.returns-then-bytes-gt-MOST_TOPOLOGY_BYTES-clause-fault
+returns-then-bytes-gt-MOST_TOPOLOGY_BYTES-clause-fault c = λ _. too_long c.args.bytes.now (omega arith)
+
+pub returns-in_err-value-clause-fault : goal.returns-in_err-value-clause-fault
+returns-in_err-value-clause-fault c =
+    let made = err_from_is_err_and c.from_residual.result c.from_residual.ensures.1 in
+    let short : length c.args.bytes.now ≤ 65536 = omega arith in
+    rw (made.1, made.2) (λ other.
+    let unread = c.in_err-value.ensures.fault other in
+    of_value c.args.bytes.now short ∙ (ap value_fault unread.1 ∙ ap Some (sym unread.0)))
+
+pub returns-in-Ok-clause-plan : goal.returns-in-Ok-clause-plan
+returns-in-Ok-clause-plan c =
+    let short : length c.args.bytes.now ≤ 65536 = omega arith in
+    plan_of_checked c.args.bytes.now (view c.in_ok-value.value) c.in-Ok.checked short c.in_ok-value.ensures.ok c.in-Ok.ensures
+
+pub returns-in-Ok-clause-fault : goal.returns-in-Ok-clause-fault
+returns-in-Ok-clause-fault c =
+    let short : length c.args.bytes.now ≤ 65536 = omega arith in
+    fault_of_checked c.args.bytes.now (view c.in_ok-value.value) c.in-Ok.checked short c.in_ok-value.ensures.ok c.in-Ok.ensures

@@ -1,0 +1,19 @@
+-- What the program keeps of who feeds whom.
+use Rattle.std.specs.Prelude.{◌<◌, ◌^◌, List, length, map}
+use Rattle.std.specs.List.{filter_map}
+use Rattle.topology_reader.specs.declared.plan.Origin.{Origin}
+use Rattle.topology_file.specs.declared.parts.Input.{Input}
+use Rattle.topology_file.specs.declared.parts.Parts.{Parts}
+use Rattle.topology_file.specs.Wiring.{source_of, inputs_by_component}
+
+-- the sources of some inputs, in their order
+abbrev pub sources_among : Parts → List Input → List Origin
+sources_among p inputs = filter_map (λ (input : Input). source_of p input.from) inputs
+
+-- the sources of each component
+abbrev pub source_table : Parts → List (List Origin)
+source_table p = map (sources_among p) (inputs_by_component p)
+
+-- the bolts' numbers fit 32 bits
+abbrev pub IsNumbered : Parts → Type 0
+IsNumbered p = length p.bolts < 2 ^ 32
