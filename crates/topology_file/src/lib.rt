@@ -17,8 +17,6 @@ mod planned;
 mod said;
 mod sources;
 mod subscribed;
-#[cfg(test)]
-mod tests;
 
 pub use assembly::Made;
 pub use check::{Checked, check_file};
