@@ -6,8 +6,8 @@ use Rattle.std.proofs.lemmas.List.Elements.{All-nil, All-cons, All-head, All-tai
 use Rattle.std.proofs.lemmas.Option.{slice_get-get_or}
 use Rattle.storm_values.specs.declared.value.Value.{Value}
 use Rattle.storm_values.specs.declared.value.Value.TheVariants.{Int, Text}
-use Rattle.topology_reader.specs.declared.plan.Op.{Op}
-use Rattle.topology_reader.specs.declared.plan.Op.TheVariants.{Split, Project, Filter, Set, Len, Route, Flaky, Mute, Custom}
+use Rattle.topology_plan.specs.declared.parts.Op.{Op}
+use Rattle.topology_plan.specs.declared.parts.Op.TheVariants.{Split, Project, Filter, Set, Len, Route, Flaky, Mute, Custom}
 use Rattle.bolt_ops.specs.Operations.{value_at, text_at, words, keeps, out, output_fields, OpFits}
 use Rattle.bolt_ops.specs.RowOp.{KeepsLength}
 

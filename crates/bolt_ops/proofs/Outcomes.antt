@@ -2,7 +2,7 @@
 use Rattle.std.proofs.Common.{◌≡◌, List, ℕ, Bool, true, false}
 use Rattle.std.specs.Prelude.{if◌then◌else◌}
 use Rattle.storm_values.specs.declared.value.Value.{Value}
-use Rattle.topology_reader.specs.declared.plan.Op.{Op}
+use Rattle.topology_plan.specs.declared.parts.Op.{Op}
 use Rattle.bolt_ops.specs.declared.operation.Outcome.TheVariants.{Rows, Fail, Mute}
 use Rattle.bolt_ops.specs.Operations.{out, fails_at, is_mute_at, exec_of}
 

@@ -7,10 +7,10 @@ use Rattle.std.specs.declared.cmp.Ordering.{Ordering}
 use Rattle.storm_values.specs.declared.value.Value.{Value}
 use Rattle.storm_values.specs.declared.value.Value.TheVariants.{Int, Text}
 use Rattle.storm_values.specs.Order.{value_cmp}
-use Rattle.topology_reader.specs.declared.plan.Op.{Op}
-use Rattle.topology_reader.specs.declared.plan.Op.TheVariants.{Split, Project, Filter, Set, Len, Route, Flaky, Mute, Custom}
-use Rattle.topology_reader.specs.declared.plan.Test.{Test}
-use Rattle.topology_reader.specs.declared.plan.Test.TheVariants.{Eq, Ne, Lt}
+use Rattle.topology_plan.specs.declared.parts.Op.{Op}
+use Rattle.topology_plan.specs.declared.parts.Op.TheVariants.{Split, Project, Filter, Set, Len, Route, Flaky, Mute, Custom}
+use Rattle.topology_plan.specs.declared.parts.Test.{Test}
+use Rattle.topology_plan.specs.declared.parts.Test.TheVariants.{Eq, Ne, Lt}
 use Rattle.bolt_ops.specs.declared.operation.Outcome.{Outcome}
 use Rattle.bolt_ops.specs.declared.operation.Outcome.TheVariants as outcome
 

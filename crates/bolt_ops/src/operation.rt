@@ -7,7 +7,7 @@ use crate::custom::RowOp;
 use std::alloc::Global;
 use std::cmp::Ordering;
 use storm_values::{Duplicate, Memory, Row, Rows, Txt, Value};
-use topology_reader::{Op, Test};
+use topology_plan::{Op, Test};
 
 /// What an attempt at a row comes to.
 #[derive(Debug, Drop)]

@@ -2,7 +2,7 @@ use crate::{Outcome, Reversed, RowOp, exec, output_rows};
 use std::alloc::Global;
 use std::test::Fail;
 use storm_values::{Indexes, Memory, Row, Rows, Txt, Value};
-use topology_reader::{Op, Test};
+use topology_plan::{Op, Test};
 
 fn text(alloc: Global, text: &str) -> Result<Value, Memory> {
     Ok(Value::Text(Txt::from_str(alloc, text)?))

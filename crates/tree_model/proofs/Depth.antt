@@ -7,12 +7,12 @@ use Rattle.std.proofs.lemmas.Option.{option_and_then_some}
 use Rattle.std.specs.List.{AllByRecursion, IsDistinct}
 use Rattle.std.specs.Option.{option_map_or}
 use Rattle.storm_values.specs.declared.value.Value.{Value}
-use Rattle.topology_reader.specs.declared.plan.Component.{Component}
-use Rattle.topology_reader.specs.declared.plan.Origin.{Origin}
-use Rattle.topology_reader.specs.declared.plan.Origin.TheVariants as origin
-use Rattle.topology_reader.specs.declared.plan.Sub.{Sub}
-use Rattle.topology_reader.specs.Topology.{Topology, subs_of, copies_of}
-use Rattle.topology_reader.specs.Valid.{IsValid, IsTarget}
+use Rattle.topology_plan.specs.declared.parts.Component.{Component}
+use Rattle.topology_plan.specs.declared.parts.Origin.{Origin}
+use Rattle.topology_plan.specs.declared.parts.Origin.TheVariants as origin
+use Rattle.topology_plan.specs.declared.parts.Sub.{Sub}
+use Rattle.topology_plan.specs.Topology.{Topology, subs_of, copies_of}
+use Rattle.topology_plan.specs.Valid.{IsValid, IsTarget}
 use Rattle.tree_model.specs.Trees.{Node, kids, kids_by, kids_of, copies_at, rows_by, node_from}
 use Rattle.tree_model.proofs.Lists.{each-flat_map, each-replicate, each-any, each_at, each-weaker, each-found}
 

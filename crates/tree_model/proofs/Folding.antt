@@ -5,7 +5,7 @@ use Rattle.std.proofs.lemmas.List.{map-append}
 use Rattle.std.proofs.lemmas.List.Elements.{filter-append}
 use Rattle.std.proofs.lemmas.List.Sums.{fold-append}
 use Rattle.std.specs.Str.{bytes_eq}
-use Rattle.topology_reader.specs.declared.plan.Fold.{Fold}
+use Rattle.topology_plan.specs.declared.parts.Fold.{Fold}
 use Rattle.tree_model.specs.declared.write.Write.{Write}
 use Rattle.tree_model.specs.Tables.{folded, amounts_of, base}
 

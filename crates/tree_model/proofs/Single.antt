@@ -10,8 +10,8 @@ use Rattle.std.specs.FinMap.Entries as entry
 use Rattle.std.specs.Option.{option_map}
 use Rattle.std.specs.Ordering.{nat_cmp, is_lt}
 use Rattle.std.specs.Str.{bytes_eq}
-use Rattle.topology_reader.specs.declared.plan.Fold.{Fold}
-use Rattle.topology_reader.specs.Topology.{Topology}
+use Rattle.topology_plan.specs.declared.parts.Fold.{Fold}
+use Rattle.topology_plan.specs.Topology.{Topology}
 use Rattle.tree_model.specs.declared.write.Pair.{Pair}
 use Rattle.tree_model.specs.declared.write.Table.{Table}
 use Rattle.tree_model.specs.declared.write.Write.{Write}

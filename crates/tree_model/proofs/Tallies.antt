@@ -14,11 +14,11 @@ use Rattle.std.specs.Map.{update}
 use Rattle.std.specs.Option.{option_map, option_and_then}
 use Rattle.std.specs.Str.{bytes_eq}
 use Rattle.std.specs.String.{string_cmp}
-use Rattle.topology_reader.specs.declared.plan.Body.{Body}
-use Rattle.topology_reader.specs.declared.plan.Body.TheVariants.{Bolt, State}
-use Rattle.topology_reader.specs.declared.plan.Component.{Component}
-use Rattle.topology_reader.specs.declared.plan.Fold.{Fold}
-use Rattle.topology_reader.specs.Topology.{Topology}
+use Rattle.topology_plan.specs.declared.parts.Body.{Body}
+use Rattle.topology_plan.specs.declared.parts.Body.TheVariants.{Bolt, State}
+use Rattle.topology_plan.specs.declared.parts.Component.{Component}
+use Rattle.topology_plan.specs.declared.parts.Fold.{Fold}
+use Rattle.topology_plan.specs.Topology.{Topology}
 use Rattle.tree_model.specs.declared.write.Pair.{Pair}
 use Rattle.tree_model.specs.declared.write.Table.{Table}
 use Rattle.tree_model.specs.declared.write.Write.{Write}

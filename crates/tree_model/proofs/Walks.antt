@@ -6,11 +6,11 @@ use Rattle.std.proofs.lemmas.List.Elements.{filter_map-append}
 use Rattle.std.specs.List.{flat_map, filter_map, cons_option}
 use Rattle.std.specs.Option.{option_map_or, option_to_list}
 use Rattle.storm_values.specs.declared.value.Value.{Value}
-use Rattle.topology_reader.specs.declared.plan.Body.TheVariants.{State}
-use Rattle.topology_reader.specs.declared.plan.Component.{Component}
-use Rattle.topology_reader.specs.declared.plan.Origin.TheVariants as origin
-use Rattle.topology_reader.specs.declared.plan.StateSpec.{StateSpec}
-use Rattle.topology_reader.specs.Topology.{Topology}
+use Rattle.topology_plan.specs.declared.parts.Body.TheVariants.{State}
+use Rattle.topology_plan.specs.declared.parts.Component.{Component}
+use Rattle.topology_plan.specs.declared.parts.Origin.TheVariants as origin
+use Rattle.topology_plan.specs.declared.parts.StateSpec.{StateSpec}
+use Rattle.topology_plan.specs.Topology.{Topology}
 use Rattle.tree_model.specs.declared.plain.NodeCounter.{NodeCounter}
 use Rattle.tree_model.specs.declared.write.Write.{Write}
 use Rattle.tree_model.specs.Trees.{Node, kids, kids_of, kids_by, rows_by, nodes_from, nodes_of, write_of, writes, node_count}

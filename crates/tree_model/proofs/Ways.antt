@@ -10,9 +10,9 @@ use Rattle.std.specs.List.{flat_map, filter_map, cons_option, AllByRecursion}
 use Rattle.std.specs.List.Sorted.{IsStrictlySortedBy}
 use Rattle.std.specs.Ordering.{ordering_then}
 use Rattle.storm_values.specs.declared.value.Value.{Value}
-use Rattle.topology_reader.specs.declared.plan.Origin.TheVariants as origin
-use Rattle.topology_reader.specs.Topology.{Topology}
-use Rattle.topology_reader.specs.Valid.{IsValid}
+use Rattle.topology_plan.specs.declared.parts.Origin.TheVariants as origin
+use Rattle.topology_plan.specs.Topology.{Topology}
+use Rattle.topology_plan.specs.Valid.{IsValid}
 use Rattle.tree_model.specs.Paths.{path_cmp, ArePathsOf, write_at}
 use Rattle.tree_model.specs.Trees.{Node, kids, kids_of, node_from, node_at, IsInTree, nodes_from, nodes_of, node_count, write_of, writes}
 use Rattle.tree_model.proofs.Depth.{path_below, spout_targets}

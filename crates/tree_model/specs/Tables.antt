@@ -6,12 +6,12 @@ use Rattle.std.specs.Cmp.Lexicographic.{slice_cmp}
 use Rattle.std.specs.Ordering.{nat_cmp}
 use Rattle.std.specs.Int.{int_max, saturate_signed, w128}
 use Rattle.std.specs.Str.{bytes_eq}
-use Rattle.topology_reader.specs.declared.plan.Body.{Body}
-use Rattle.topology_reader.specs.declared.plan.Body.TheVariants.{Bolt, State}
-use Rattle.topology_reader.specs.declared.plan.Component.{Component}
-use Rattle.topology_reader.specs.declared.plan.Fold.{Fold}
-use Rattle.topology_reader.specs.declared.plan.Fold.TheVariants.{Count, Sum, Last, Max}
-use Rattle.topology_reader.specs.Topology.{Topology}
+use Rattle.topology_plan.specs.declared.parts.Body.{Body}
+use Rattle.topology_plan.specs.declared.parts.Body.TheVariants.{Bolt, State}
+use Rattle.topology_plan.specs.declared.parts.Component.{Component}
+use Rattle.topology_plan.specs.declared.parts.Fold.{Fold}
+use Rattle.topology_plan.specs.declared.parts.Fold.TheVariants.{Count, Sum, Last, Max}
+use Rattle.topology_plan.specs.Topology.{Topology}
 use Rattle.tree_model.specs.declared.write.Write.{Write}
 use Rattle.tree_model.specs.declared.write.Pair.{Pair}
 use Rattle.tree_model.specs.declared.write.Table.{Table}

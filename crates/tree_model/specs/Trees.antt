@@ -6,16 +6,16 @@ use Rattle.storm_values.specs.declared.value.Value.{Value}
 use Rattle.storm_values.specs.declared.value.Value.TheVariants.{Int, Text}
 use Rattle.storm_values.specs.Keys.{hash_of, text_of}
 use Rattle.bolt_ops.specs.Operations.{out}
-use Rattle.topology_reader.specs.declared.plan.Body.{Body}
-use Rattle.topology_reader.specs.declared.plan.Body.TheVariants.{Bolt, State}
-use Rattle.topology_reader.specs.declared.plan.Component.{Component}
-use Rattle.topology_reader.specs.declared.plan.Fold.{Fold}
-use Rattle.topology_reader.specs.declared.plan.Fold.TheVariants.{Count, Sum, Last, Max}
-use Rattle.topology_reader.specs.declared.plan.Origin.{Origin}
-use Rattle.topology_reader.specs.declared.plan.Origin.TheVariants as origin
-use Rattle.topology_reader.specs.declared.plan.StateSpec.{StateSpec}
-use Rattle.topology_reader.specs.declared.plan.Sub.{Sub}
-use Rattle.topology_reader.specs.Topology.{Topology, subs_of, copies_of}
+use Rattle.topology_plan.specs.declared.parts.Body.{Body}
+use Rattle.topology_plan.specs.declared.parts.Body.TheVariants.{Bolt, State}
+use Rattle.topology_plan.specs.declared.parts.Component.{Component}
+use Rattle.topology_plan.specs.declared.parts.Fold.{Fold}
+use Rattle.topology_plan.specs.declared.parts.Fold.TheVariants.{Count, Sum, Last, Max}
+use Rattle.topology_plan.specs.declared.parts.Origin.{Origin}
+use Rattle.topology_plan.specs.declared.parts.Origin.TheVariants as origin
+use Rattle.topology_plan.specs.declared.parts.StateSpec.{StateSpec}
+use Rattle.topology_plan.specs.declared.parts.Sub.{Sub}
+use Rattle.topology_plan.specs.Topology.{Topology, subs_of, copies_of}
 use Rattle.tree_model.specs.declared.write.Write.{Write}
 
 -- A tuple that has come to a component.

@@ -1,15 +1,15 @@
 ghost use Rattle.std.specs.Prelude.{◌≡◌, ◌≢◌, ℕ, List, [], ◌∷◌, ◌++◌, length, slice_get, option_and_then};
 ghost use Rattle.std.specs.List.{filter_map};
 ghost use Rattle.storm_values.specs.declared.value.Value.{Value};
-ghost use Rattle.topology_reader.specs.Topology.{Topology};
+ghost use Rattle.topology_plan.specs.Topology.{Topology};
 ghost use Rattle.tree_model.specs.declared.write.Table.{Table};
 ghost use Rattle.tree_model.specs.declared.write.Write.{Write};
-ghost use Rattle.topology_reader.specs.Valid.{IsValid};
+ghost use Rattle.topology_plan.specs.Valid.{IsValid};
 ghost use Rattle.tree_model.specs.Paths.{ArePathsOf, write_at};
 ghost use Rattle.tree_model.specs.Tables.{AreTables};
 ghost use Rattle.tree_model.specs.Trees.{kids, kids_of, node_at, node_count, writes};
 
-use topology_reader::Origin;
+use topology_plan::Origin;
 
 /// A law: the writes of joined rows are the joined writes.
 pub fn writes_of_joined_rows()

@@ -13,6 +13,3 @@ pub use laws::{
 pub use plain::{count_nodes, plain_tables};
 pub use tally::Tally;
 pub use write::{Pair, Pairs, Table, Tables, Write, Writes, writes_of};
-
-#[cfg(test)]
-mod tests;

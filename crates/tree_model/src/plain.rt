@@ -9,7 +9,7 @@ use bolt_ops::RowOp;
 use std::alloc::Global;
 use std::slice;
 use storm_values::{Memory, Row};
-use topology_reader::{Origin, Plan};
+use topology_plan::{Origin, Plan};
 
 /// The tables that the rows' tuple tree leaves. At most one row's writes are held at a time.
 pub fn plain_tables<O: RowOp>(

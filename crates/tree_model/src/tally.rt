@@ -11,7 +11,7 @@ use std::alloc::Global;
 use std::collections::BTreeMap;
 use std::marker::Model;
 use storm_values::{Memory, Seq, Txt};
-use topology_reader::{Body, Component, Fold, Plan};
+use topology_plan::{Body, Component, Fold, Plan};
 
 type Values = BTreeMap<String, i128>;
 

@@ -1,13 +1,13 @@
 ghost use Rattle.std.specs.Prelude.{◌≡◌, ◌<◌, List, length, fold, OnOk};
 ghost use Rattle.std.specs.List.{flat_map};
 ghost use Rattle.storm_values.specs.declared.value.Value.{Value};
-ghost use Rattle.topology_reader.specs.Topology.{Topology, copies_of};
+ghost use Rattle.topology_plan.specs.Topology.{Topology, copies_of};
 ghost use Rattle.tree_model.specs.Trees.{Node, kids, kids_by, copies_at, nodes_from};
 
 use bolt_ops::{RowOp, output_rows};
 use std::alloc::Global;
 use storm_values::{Memory, Row};
-use topology_reader::{Body, Grouping, Origin, Plan, Sub};
+use topology_plan::{Body, Grouping, Origin, Plan, Sub};
 
 /// What is done at each node of a tree.
 pub(crate) trait Visitor {

@@ -6,7 +6,7 @@ use crate::tree::{Tree, Visitor};
 use bolt_ops::RowOp;
 use std::alloc::Global;
 use storm_values::{Duplicate, Memory, Row, Seq, Txt, Value, key_hash, key_text};
-use topology_reader::{Body, Fold, Origin, Plan, StateSpec};
+use topology_plan::{Body, Fold, Origin, Plan, StateSpec};
 
 /// What a state is to add to the value of a key.
 #[derive(Debug, Drop)]

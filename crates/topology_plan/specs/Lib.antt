@@ -1,0 +1,5 @@
+pub mod Texts
+pub mod Topology
+pub mod Valid
+pub mod Wired
+pub mod Inside

@@ -1,0 +1,34 @@
+-- What every plan keeps. This project's own.
+use Rattle.std.specs.Prelude.{◌≡◌, ◌≤◌, ◌<◌, ℕ, length, All}
+use Rattle.topology_plan.specs.declared.parts.Sub.{Sub}
+use Rattle.topology_plan.specs.declared.parts.Origin.{Origin}
+use Rattle.topology_plan.specs.declared.parts.Origin.TheVariants as origin
+use Rattle.topology_plan.specs.Topology.{Topology, subs_of, tasks_in_all, weight_of}
+
+-- from the least to the most, both included
+abbrev pub IsBetween : ℕ → ℕ → ℕ → Type 0
+IsBetween n least most = (least ≤ n) × (n ≤ most)
+
+-- each subscription names a component that is there
+abbrev pub IsTarget : Topology → Sub → Type 0
+IsTarget t sub = sub.to < length t.components
+
+-- numbers of components that grow along each subscription
+pub record IsRanked (t : Topology) : Type 0 where
+  pub rank : ℕ → ℕ
+  pub grows : (c : ℕ) → All (λ (sub : Sub). rank c < rank sub.to) (subs_of t (origin.Component c))
+
+-- numbers in their ranges, subscriptions of components that are there, and no cycle
+pub record IsValid (t : Topology) : Type 0 where
+  pub spout_fields : IsBetween t.spout_fields 1 8
+  pub batch : IsBetween t.batch 1 10000
+  pub ackers : IsBetween t.ackers 1 16
+  pub pending : IsBetween t.pending 1 64
+  pub buckets : IsBetween t.buckets 2 16
+  pub attempts : IsBetween t.attempts 1 100
+  pub components : IsBetween (length t.components) 1 40
+  pub tasks : IsBetween (tasks_in_all t) 1 256
+  pub sources : length t.component_subs ≡ length t.components
+  pub targets : (from : Origin) → All (IsTarget t) (subs_of t from)
+  pub ranked : IsRanked t
+  pub weight : weight_of t ≤ 256

@@ -1,0 +1,138 @@
+-- What a plan keeps beyond its numbers: whose rows come to whom, with which fields. Widths are numbers of fields. This project's own.
+use Rattle.std.specs.Prelude.{◌≡◌, ◌≢◌, ◌<◌, ℕ, ◌+◌, ◌-◌, ◌≤◌, List, [], length, map, All, Option, None, IsSome, slice_get, IfSome, Some, sum, take, AllPairs}
+use Rattle.std.specs.List.Sorted.{IsStrictlyIncreasing}
+use Rattle.std.specs.Option.{option_map_or}
+use Rattle.storm_values.specs.declared.value.Value.{Value}
+use Rattle.storm_values.specs.declared.value.Value.TheVariants.{Int, Text}
+use Rattle.topology_plan.specs.declared.parts.Body.{Body}
+use Rattle.topology_plan.specs.declared.parts.Body.TheVariants.{Bolt, State}
+use Rattle.topology_plan.specs.declared.parts.Component.{Component}
+use Rattle.topology_plan.specs.declared.parts.Fold.{Fold}
+use Rattle.topology_plan.specs.declared.parts.Fold.TheVariants.{Count, Sum, Last, Max}
+use Rattle.topology_plan.specs.declared.parts.Grouping.{Grouping}
+use Rattle.topology_plan.specs.declared.parts.Grouping.TheVariants as grouping
+use Rattle.topology_plan.specs.declared.parts.Kind.TheVariants.{Opaque}
+use Rattle.topology_plan.specs.declared.parts.Op.{Op}
+use Rattle.topology_plan.specs.declared.parts.Op.TheVariants.{Split, Project, Filter, Set, Len, Route, Flaky, Mute, Custom}
+use Rattle.topology_plan.specs.declared.parts.Origin.{Origin}
+use Rattle.topology_plan.specs.declared.parts.Origin.TheVariants as origin
+use Rattle.topology_plan.specs.declared.parts.StateSpec.{StateSpec}
+use Rattle.topology_plan.specs.declared.parts.Sub.{Sub}
+use Rattle.topology_plan.specs.Texts.{IsName}
+use Rattle.topology_plan.specs.Topology.{Topology, subs_of, inputs_of}
+use Rattle.topology_plan.specs.Valid.{IsBetween}
+
+-- ---- widths
+
+-- how many fields a source's rows have
+abbrev pub width_of : Topology → Origin → ℕ
+width_of t origin.Spout = t.spout_fields
+width_of t (origin.Component c) = option_map_or (λ (component : Component). length component.fields) (slice_get t.components c) 0
+
+-- how many fields an operation leaves of a row of n
+abbrev pub width_after : Op → ℕ → ℕ
+width_after (Split field) n = 1
+width_after (Project fields) n = length fields
+width_after (Filter field test value) n = n
+width_after (Set field value) n = n
+width_after (Len field) n = n + 1
+width_after (Route field) n = n
+width_after (Flaky below) n = n
+width_after (Mute below) n = n
+width_after Custom n = n
+
+-- some fields of a row of n, each once
+abbrev pub AreWithin : List ℕ → ℕ → Type 0
+AreWithin fields n = IsBetween (length fields) 1 8 × All (λ field. field < n) fields × AllPairs (λ a b. a ≢ b) fields
+
+-- a number, or a text of at most 256 bytes
+abbrev pub IsConstant : Value → Type 0
+IsConstant (Int number) = Unit {0}
+IsConstant (Text bytes) = length bytes ≤ 256
+
+-- the fields of an operation are there, and its numbers and its constant are within their limits
+abbrev pub IsWithin : Op → ℕ → Type 0
+IsWithin (Split field) n = field < n
+IsWithin (Project fields) n = AreWithin fields n
+IsWithin (Filter field test value) n = (field < n) × IsConstant value
+IsWithin (Set field value) n = (field < n) × IsConstant value
+IsWithin (Len field) n = field < n
+IsWithin (Route field) n = field < n
+IsWithin (Flaky below) n = IsBetween below 1 100
+IsWithin (Mute below) n = IsBetween below 1 100
+IsWithin Custom n = Unit {0}
+
+-- an amount is there for each fold but count
+abbrev pub HasAmount : Fold → Option ℕ → ℕ → Type 0
+HasAmount Count amount n = amount ≡ None
+HasAmount Sum amount n = IsSome amount × IfSome amount (λ field. field < n)
+HasAmount Last amount n = IsSome amount × IfSome amount (λ field. field < n)
+HasAmount Max amount n = IsSome amount × IfSome amount (λ field. field < n)
+
+-- ---- subscriptions
+
+-- a direct grouping comes from a route alone, by the route's own field
+abbrev pub IsRouteOf : Body → ℕ → Type 0
+IsRouteOf (Bolt (Route chosen)) field = chosen ≡ field
+IsRouteOf _ field = ⊥
+
+-- a grouping fits its source: its key is among the source's fields, and where it is direct, the source is a route
+abbrev pub IsFrom : Topology → Origin → Grouping → Type 0
+IsFrom t from grouping.Shuffle = Unit {0}
+IsFrom t from (grouping.Fields key) = AreWithin key (width_of t from)
+IsFrom t from grouping.All = Unit {0}
+IsFrom t from grouping.Global = Unit {0}
+IsFrom t origin.Spout (grouping.Direct field) = ⊥
+IsFrom t (origin.Component c) (grouping.Direct field) = (component : Component) × (slice_get t.components c ≡ Some component) × IsRouteOf component.body field × (field < length component.fields)
+
+-- each input of a state is grouped by the state's key
+abbrev pub IsKeyed : StateSpec → Grouping → Type 0
+IsKeyed spec by = by ≡ grouping.Fields spec.key
+
+-- ---- components
+
+-- component c fits the n fields that come to it, and has the fields that its body leaves
+abbrev pub IsFed : Topology → ℕ → ℕ → Body → List (List ℕ) → Type 0
+IsFed t c n (Bolt op) fields = IsWithin op n × (length fields ≡ width_after op n) × IsBetween (length fields) 1 8
+IsFed t c n (State spec) fields =
+    (fields ≡ []) × (subs_of t (origin.Component c) ≡ []) × AreWithin spec.key n × HasAmount spec.fold spec.amount n × All (λ input. IsKeyed spec (input.1).grouping) (inputs_of t c)
+
+-- component c: its number of fields coming in is that of each of its sources, of which there is one at least
+pub record IsComponent (t : Topology) (c : ℕ) (component : Component) : Type 0 where
+  pub name : IsName component.name
+  pub width : ℕ
+  pub sources : All (λ input. width_of t input.0 ≡ width) (inputs_of t c)
+  pub some_source : inputs_of t c ≢ []
+  pub fed : IsFed t c width component.body component.fields
+  pub fields : AllPairs (λ a b. a ≢ b) component.fields
+  pub field_names : All IsName component.fields
+  pub first_task : component.first_task ≡ sum (take c (map (λ (other : Component). other.tasks) t.components))
+  pub tasks : IsBetween component.tasks 1 64
+
+-- bolts have the numbers below this one, states those from there on
+abbrev pub IsPlaced : ℕ → ℕ → Body → Type 0
+IsPlaced bolts c (Bolt op) = c < bolts
+IsPlaced bolts c (State spec) = bolts ≤ c
+
+-- the components are at most 32 bolts, and then 1 to 8 states
+pub record IsLaidOut (t : Topology) : Type 0 where
+  pub bolts : ℕ
+  pub few : bolts ≤ 32
+  pub states : IsBetween (length t.components - bolts) 1 8
+  pub placed : (c : ℕ) → IfSome (slice_get t.components c) (λ component. IsPlaced bolts c component.body)
+
+-- an opaque spout may have this body behind it: any bolt, and an opaque state
+abbrev pub MayFollowOpaque : Body → Type 0
+MayFollowOpaque (Bolt op) = Unit {0}
+MayFollowOpaque (State spec) = spec.kind ≡ Opaque
+
+-- names, subscriptions, groupings and fields fit together
+pub record IsWired (t : Topology) : Type 0 where
+  pub layout : IsLaidOut t
+  pub names : AllPairs (λ (a b : Component). a.name ≢ b.name) t.components
+  -- a component takes a source at most once, and a source's subscriptions stand in the order of their consumers
+  pub once : (from : Origin) → IsStrictlyIncreasing (map (λ (sub : Sub). sub.to) (subs_of t from))
+  pub groupings : (from : Origin) → All (λ (sub : Sub). IsFrom t from sub.grouping) (subs_of t from)
+  pub components : (c : ℕ) → IfSome (slice_get t.components c) (IsComponent t c)
+  -- an opaque spout has no transactional state
+  pub replays : t.spout_kind ≡ Opaque → All (λ (component : Component). MayFollowOpaque component.body) t.components

@@ -1,0 +1,110 @@
+//! What a topology is made of: bolts and states, and who takes whose rows.
+
+use storm_values::{Indexes, Names, Txt, Value};
+
+/// How a spout replays, or how a state keeps its values.
+#[derive(Clone, Copy, Debug, PartialEq, Eq)]
+pub enum Kind {
+    Transactional,
+    Opaque,
+}
+
+/// What a state makes of the amounts of a key.
+#[derive(Clone, Copy, Debug, PartialEq, Eq)]
+pub enum Fold {
+    Count,
+    Sum,
+    Last,
+    Max,
+}
+
+/// A source of rows, by its component number where it is a bolt.
+#[derive(Clone, Copy, Debug, PartialEq, Eq)]
+pub enum Origin {
+    Spout,
+    Component(u32),
+}
+
+/// Which of the consumer's tasks a row goes to. Fields are numbers in the source's row, counted from 0.
+#[derive(Debug, Drop)]
+pub enum Grouping {
+    /// Round the tasks in turn. `none` and `local_or_shuffle` are this too.
+    Shuffle,
+    Fields(Indexes),
+    All,
+    Global,
+    Direct(u32),
+}
+
+/// A subscription: a consumer of a source's rows.
+#[derive(Debug, Drop)]
+pub struct Sub {
+    /// The consumer's component number.
+    pub to: u32,
+    pub grouping: Grouping,
+}
+
+#[derive(Clone, Copy, Debug, PartialEq, Eq)]
+pub enum Test {
+    Eq,
+    Ne,
+    Lt,
+}
+
+/// What a bolt does to a row. Fields are numbers in its input row, counted from 0.
+#[derive(Debug, Drop)]
+pub enum Op {
+    Split {
+        field: u32,
+    },
+    Project(Indexes),
+    Filter {
+        field: u32,
+        test: Test,
+        value: Value,
+    },
+    Set {
+        field: u32,
+        value: Value,
+    },
+    Len {
+        field: u32,
+    },
+    Route {
+        field: u32,
+    },
+    Flaky {
+        below: u32,
+    },
+    Mute {
+        below: u32,
+    },
+    Custom,
+}
+
+/// What a state keeps: the fold of an amount for each key.
+#[derive(Debug, Drop)]
+pub struct StateSpec {
+    pub kind: Kind,
+    pub key: Indexes,
+    /// The field of the amount, which `Count` does not have.
+    pub amount: Option<u32>,
+    pub fold: Fold,
+}
+
+#[derive(Debug, Drop)]
+pub enum Body {
+    Bolt(Op),
+    State(StateSpec),
+}
+
+/// A bolt or a state. A state's tasks are its parts, and it has no fields.
+#[derive(Debug, Drop)]
+pub struct Component {
+    pub name: Txt,
+    /// Tasks are numbered through the components, from 0.
+    pub first_task: u32,
+    pub tasks: u32,
+    pub fields: Names,
+    pub body: Body,
+}
