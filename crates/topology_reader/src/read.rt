@@ -1,68 +1,70 @@
-ghost use Rattle.std.specs.Prelude.{◌≡◌, ◌≢◌, ◌≤◌, ◌↔◌, IsTrue, Some, None, false, IfOk, IfErr};
-ghost use Rattle.serde_json.specs.Data.{depth};
-ghost use Rattle.serde_json.specs.Read.{max_depth};
-ghost use Rattle.serde_json.specs.View.{view};
-ghost use Rattle.serde_json.specs.Written.{has_float};
-ghost use Rattle.storm_values.specs.Json.{json_of};
-ghost use Rattle.topology_reader.specs.Valid.{IsValid};
-ghost use Rattle.topology_reader.specs.WordCount.{IsPlanOf, IsRefused};
+//! From the bytes of a topology file to its plan.
 
-use crate::draft::Draft;
-use crate::fault::TopoFault;
-use crate::file::word_count_file;
-use crate::make::word_count_plan;
-use crate::plan::Plan;
+ghost use Rattle.std.specs.Prelude.{◌≡◌, ◌≢◌, Some, None, IfOk, IfErr, MatchResult};
+ghost use Rattle.serde_json.specs.View.{view};
+ghost use Rattle.storm_values.specs.Json.{json_of};
+ghost use Rattle.topology_plan.specs.Valid.{IsValid};
+ghost use Rattle.topology_plan.specs.Wired.{IsWired};
+ghost use Rattle.topology_reader.specs.FirstFault.{first_fault, value_fault, IsFilePlan};
+ghost use Rattle.topology_reader.specs.Planned.{plan_of};
+ghost use Rattle.topology_reader.specs.Said.{parts_said};
+
+use crate::assembly::plan_from;
+use crate::forms::form_fault;
+use crate::parts::TopoFault;
+use crate::said::parts_from;
 use serde_json::Value;
-use std::alloc::{AllocError, Global};
+use std::alloc::Global;
+use storm_values::Memory;
+use topology_plan::Plan;
 
 /// The most bytes of a topology file.
 pub const MOST_TOPOLOGY_BYTES: usize = 65_536;
 
-/// The plan of a topology file. Only the word count is read yet; every other file is `NotYet`.
+/// The plan of a topology file, or the file's first fault: its length, JSON, its form, and then what it says.
+///
+/// Time is linear in the bytes; the depth and the weight take a walk over all inputs for each of the at most 40
+/// components besides.
 pub fn read_topology(alloc: Global, bytes: &[u8]) -> Result<Plan, TopoFault>
-    ensures plan { IfOk result (λ plan. IsPlanOf bytes.now plan) }
+    ensures plan { IfOk result (λ plan. IsFilePlan bytes.now plan) }
     ensures valid { IfOk result (λ plan. IsValid plan) }
-    ensures fault { IfErr result (λ fault. fault ≢ TopoFault.Memory → IsRefused bytes.now fault) }
+    ensures wired { IfOk result (λ plan. IsWired plan) }
+    ensures fault { IfErr result (λ fault. fault ≢ TopoFault.Memory → first_fault bytes.now ≡ Some fault) }
 {
     if bytes.len() > MOST_TOPOLOGY_BYTES {
-        return Err(TopoFault::NotYet);
+        return Err(TopoFault::TooLong(bytes.len()));
     }
-    let file = parse(alloc, bytes)?;
-    let draft = Draft::of(&file);
-    if !draft.is_fine() {
-        return Err(TopoFault::NotYet);
+    let value = parse(alloc, bytes)?;
+    match read_value(alloc, &value) {
+        Ok(read) => read,
+        Err(_) => Err(TopoFault::Memory),
     }
-    let wanted = word_count_file(alloc, &draft)?;
-    if !is_same(alloc, &file, &wanted)? {
-        return Err(TopoFault::NotYet);
-    }
-    Ok(word_count_plan(alloc, &draft)?)
 }
 
 fn parse(alloc: Global, bytes: &[u8]) -> Result<Value, TopoFault>
     ensures ok { IfOk result (λ value. json_of bytes.now ≡ Some (view value)) }
-    ensures nests { IfOk result (λ value. depth (view value) ≤ max_depth) }
     ensures fault { IfErr result (λ fault. fault ≢ TopoFault.Memory
-        → (fault ≡ TopoFault.NotYet) × (json_of bytes.now ≡ None)) }
+        → (fault ≡ TopoFault.NotJson) × (json_of bytes.now ≡ None)) }
 {
     match Value::from_slice(alloc, bytes) {
         Ok(value) => Ok(value),
         Err(error) => Err(if error.is_memory() {
             TopoFault::Memory
         } else {
-            TopoFault::NotYet
+            TopoFault::NotJson
         }),
     }
 }
 
-/// Whether a value is a given one, which has no float.
-fn is_same(alloc: Global, value: &Value, wanted: &Value) -> Result<bool, AllocError>
-    requires value { depth (view value.now) ≤ max_depth }
-    requires wanted { depth (view wanted.now) ≤ max_depth }
-    requires whole { has_float (view wanted.now) ≡ false }
-    ensures { IfOk result (λ same. IsTrue same ↔ (view value.now ≡ view wanted.now)) }
+/// The plan of a file's value, or the value's first fault of form and then of what it says.
+fn read_value(alloc: Global, value: &Value) -> Result<Result<Plan, TopoFault>, Memory>
+    ensures { IfOk result (λ read. MatchResult read
+        (λ plan. (value_fault (Some (view value.now)) ≡ None) × (plan ≡ plan_of (parts_said (view value.now))))
+        (λ fault. value_fault (Some (view value.now)) ≡ Some fault)) }
 {
-    let text = value.to_string(alloc)?;
-    let wanted_text = wanted.to_string(alloc)?;
-    Ok(text.as_str() == wanted_text.as_str())
+    if let Some(fault) = form_fault(alloc, value)? {
+        return Ok(Err(fault));
+    }
+    let parts = parts_from(alloc, value)?;
+    plan_from(alloc, &parts)
 }

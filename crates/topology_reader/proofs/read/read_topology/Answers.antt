@@ -1,17 +1,39 @@
-use Rattle.std.proofs.Common.{sym, ◌∙◌, refl}
-use Rattle.std.proofs.lemmas.Bool.{false≢true}
-use Rattle.topology_reader.proofs.WordCounts.{held_by_plan}
+use Rattle.std.proofs.Common.{◌≤◌, Some, length, ap, sym, ◌∙◌, arith}
+use Rattle.std.proofs.lemmas.Result.{err_from_is_err_and, IfOk-weaker}
+use Rattle.serde_json.specs.View.{view}
+use Rattle.topology_reader.specs.FirstFault.{value_fault}
+use Rattle.topology_reader.proofs.FileFaults.{too_long, of_value, plan_of_read, fault_of_read}
+use Rattle.topology_reader.proofs.FilePlans.{plan_is_valid}
 use Rattle.topology_reader.proofs.read.read_topology.Goals as goal
 
-pub returns-then-not-is_fine-clause-fault : goal.returns-then-not-is_fine-clause-fault
-returns-then-not-is_fine-clause-fault c =
-    λ other. (refl, λ t plan. false≢true (c.if-not-is_fine.ensures.1 (held_by_plan _ t _ _ c.in_ok-file.ensures.ok c.of-draft.ensures plan).0))
+pub returns-then-bytes-gt-MOST_TOPOLOGY_BYTES-clause-fault :
+    goal.returns-then-bytes-gt-MOST_TOPOLOGY_BYTES-clause-fault
+returns-then-bytes-gt-MOST_TOPOLOGY_BYTES-clause-fault c = λ _. too_long c.args.bytes.now (omega arith)
 
-pub returns-then-not-branch-clause-fault : goal.returns-then-not-branch-clause-fault
-returns-then-not-branch-clause-fault c =
-    λ other. (
-      refl,
-      λ t plan.
-          let is = (held_by_plan _ t _ _ c.in_ok-file.ensures.ok c.of-draft.ensures plan).1 in
-          false≢true (sym c.if-not-branch.true ∙ c.in_ok-is_same.ensures.1 (is ∙ sym c.in_ok-wanted.ensures)),
-    )
+pub returns-in_err-value-clause-fault : goal.returns-in_err-value-clause-fault
+returns-in_err-value-clause-fault c =
+    let made = err_from_is_err_and c.from_residual.result c.from_residual.ensures.1 in
+    let short : length c.args.bytes.now ≤ 65536 = omega arith in
+    rw (made.1, made.2) (λ other.
+    let unread = c.in_err-value.ensures.fault other in
+    of_value c.args.bytes.now short ∙ (ap value_fault unread.1 ∙ ap Some (sym unread.0)))
+
+pub returns-in-Ok-clause-plan : goal.returns-in-Ok-clause-plan
+returns-in-Ok-clause-plan c =
+    let short : length c.args.bytes.now ≤ 65536 = omega arith in
+    plan_of_read c.args.bytes.now (view c.in_ok-value.value) c.in-Ok.read short c.in_ok-value.ensures.ok c.in-Ok.ensures
+
+pub returns-in-Ok-clause-fault : goal.returns-in-Ok-clause-fault
+returns-in-Ok-clause-fault c =
+    let short : length c.args.bytes.now ≤ 65536 = omega arith in
+    fault_of_read c.args.bytes.now (view c.in_ok-value.value) c.in-Ok.read short c.in_ok-value.ensures.ok c.in-Ok.ensures
+
+pub returns-in-Ok-clause-valid : goal.returns-in-Ok-clause-valid
+returns-in-Ok-clause-valid c =
+    let short : length c.args.bytes.now ≤ 65536 = omega arith in
+    IfOk-weaker c.in-Ok.read _ _ (λ plan is. (plan_is_valid c.args.bytes.now plan is).0) (plan_of_read c.args.bytes.now (view c.in_ok-value.value) c.in-Ok.read short c.in_ok-value.ensures.ok c.in-Ok.ensures)
+
+pub returns-in-Ok-clause-wired : goal.returns-in-Ok-clause-wired
+returns-in-Ok-clause-wired c =
+    let short : length c.args.bytes.now ≤ 65536 = omega arith in
+    IfOk-weaker c.in-Ok.read _ _ (λ plan is. (plan_is_valid c.args.bytes.now plan is).1) (plan_of_read c.args.bytes.now (view c.in_ok-value.value) c.in-Ok.read short c.in_ok-value.ensures.ok c.in-Ok.ensures)

@@ -1,7 +1,0 @@
-use Rattle.std.proofs.Common.{◌≡◌, drop}
-use Rattle.std.specs.Cmp.Lexicographic.{pointwise}
-use Rattle.std.specs.Str.{bytes_eq}
-use Rattle.topology_file.proofs.fields_fault.are_same.Given as goal
-
-abbrev pub invariant-loop-i : goal.invariant-loop-i
-invariant-loop-i l = pointwise bytes_eq (drop l.i l.a) (drop l.i l.b) ≡ pointwise bytes_eq l.a l.b

@@ -1,0 +1,346 @@
+-- The fields of the sources where a file has no fault: each source has one to eight fields, none twice, that its operation makes of the fields of its sources.
+use Rattle.std.specs.Prelude.{◌≡◌, ℕ, zero, suc, ◌+◌, ◌<◌, ◌≤◌, ◌==◌, pos, List, [], ◌∷◌, ◌++◌, length, map, filter, All, Bool, true, false, not, cond, Option, Some, None, option_map, option_and_then, slice_get, is_none, codes}
+use Rattle.std.specs.List.{count_by, range_with_len, flat_map, list_any, find}
+use Rattle.std.specs.Option.{option_map_or}
+use Rattle.std.specs.Str.{bytes_eq}
+use Rattle.std.specs.Cmp.Lexicographic.{pointwise, pointwise_decides}
+use Rattle.std.proofs.Common.{inl, inr, refl, sym, ◌∙◌, ap, subst, arith}
+use Rattle.std.proofs.lemmas.Bool.{true≢false, cases_Bool, cases_eq, cond-true, cond-false, both_ways, eq-eqb, not-false}
+use Rattle.std.proofs.lemmas.List.{length-append, length-map}
+use Rattle.std.proofs.lemmas.List.Elements.{All-nil, All-cons, All-append}
+use Rattle.std.proofs.lemmas.List.FromFn.{length-range_with_len}
+use Rattle.std.proofs.lemmas.List.Sums.{sum_by-cons, count_by-le-length}
+use Rattle.std.proofs.lemmas.Option.{none-some, get_or_from_slice_get, slice_get_within}
+use Rattle.topology_plan.specs.declared.parts.Origin.{Origin}
+use Rattle.topology_plan.specs.declared.parts.Origin.TheVariants as origin
+use Rattle.topology_reader.specs.declared.parts.TopoFault.TheVariants.{Twice, NoSource, NoField, FieldsDiffer}
+use Rattle.topology_reader.specs.declared.parts.Way.TheVariants as way
+use Rattle.topology_reader.specs.declared.parts.Input.{Input}
+use Rattle.topology_reader.specs.declared.parts.Operation.{Operation}
+use Rattle.topology_reader.specs.declared.parts.Operation.TheVariants.{Split, Project, Filter, Set, Len, Route, Flaky, Mute, Custom}
+use Rattle.topology_reader.specs.declared.parts.BoltPart.{BoltPart}
+use Rattle.topology_reader.specs.declared.parts.StatePart.{StatePart}
+use Rattle.topology_reader.specs.declared.parts.Parts.{Parts}
+use Rattle.storm_values.specs.Lines.{first_some}
+use Rattle.topology_reader.specs.Forms.{is_among, range_fault}
+use Rattle.topology_plan.specs.Topology.{greatest}
+use Rattle.topology_plan.specs.Texts.{IsName}
+use Rattle.topology_plan.specs.Valid.{IsBetween}
+use Rattle.topology_reader.specs.Wiring.{bolt_names, component_count, name_at, source_of, state_inputs, inputs_by_component, inputs_at, sources_at, is_component, feeds, reaches, depth_in, depth_at, by_depth, fields_after, first_fields, fields_in, fields_of, fields_to, operation_at}
+use Rattle.topology_reader.specs.Meant.{first_again, key_of, projected, bolt_lists, state_lists, name_lists, twice_fault, source_fault, cycle_fault, differ_fault, field_fault, direct_fault, input_fault, reads_at, added_fault, component_fault, fields_fault}
+use Rattle.topology_reader.specs.Ranges.{IsOperationInRange, IsBoltInRange, IsStateInRange, IsInRange}
+use Rattle.topology_reader.proofs.Ranks.{rank, rank_grows, no_cycle}
+use Rattle.topology_reader.proofs.Listed.{IsIn, All-at_in, to_map, in_map, to_left, to_right, to_flat_map, to_filter, in_filter_map, to_filter_map, in_place, to_range, to_any, none_mapped, none_found, none_of_some}
+use Rattle.topology_reader.proofs.Distinct.{bytes_same, bytes_itself, among_in, AreApart, apart_push, not_among, apart_from_again}
+use Rattle.topology_reader.proofs.Numbered.{IsBoltAt, some_there, cases_component, inputs_at_bolt, inputs_at_state}
+use Rattle.topology_reader.proofs.ValidPlan.{HasNoFault, between_from_range, source_within}
+
+-- ---- sources
+
+pub in_sources : (p : Parts) (c : ℕ) (from : Origin) → IsIn from (sources_at p c) → (input : Input) × IsIn input (inputs_at p c) × (source_of p input.from ≡ Some from)
+in_sources p c from at = in_filter_map (λ (input : Input). source_of p input.from) (inputs_at p c) from at
+
+pub to_sources : (p : Parts) (c : ℕ) (input : Input) (from : Origin) → IsIn input (inputs_at p c) → source_of p input.from ≡ Some from → IsIn from (sources_at p c)
+to_sources p c input from at is = to_filter_map (λ (input : Input). source_of p input.from) (inputs_at p c) input from at is
+
+pub bolt_source : (p : Parts) (c b : ℕ) → IsIn (origin.Component b) (sources_at p c) → b < length p.bolts
+bolt_source p c b at = let input = in_sources p c (origin.Component b) at in source_within p input.0.from b input.2
+
+pub feeds_from_source : (p : Parts) (c b : ℕ) → IsIn (origin.Component b) (sources_at p c) → feeds p b c ≡ true
+feeds_from_source p c b at = to_any (is_component b) (sources_at p c) (origin.Component b) at (eq-eqb b b refl)
+
+first_of : (f : Origin → List (List ℕ)) (sources : List Origin) (from : Origin) → IsIn from sources → (first : Origin) × IsIn first sources × (first_fields f sources ≡ f first)
+first_of f [] from at = elim at [ ]
+first_of f (first ∷ sources) from at = (first, inl refl, refl)
+
+first_same : (f g : Origin → List (List ℕ)) (sources : List Origin) → ((from : Origin) → IsIn from sources → f from ≡ g from) → first_fields f sources ≡ first_fields g sources
+first_same f g [] same = refl
+first_same f g (first ∷ sources) same = same first (inl refl)
+
+-- ---- the fields hang on no bound
+
+count_below : (f : ℕ → Bool) (first n c : ℕ) → first ≤ c → c < first + n → f c ≡ false → count_by f (range_with_len first n) < n
+count_below f first zero c from to fails = absurd (omega arith)
+count_below f first (suc n) c from to fails =
+    rw (sum_by-cons (λ a. cond (f a) 1 0) first (range_with_len (first + 1) n))
+    (elim (cases_eq first c) [
+      | inl same ↦
+          let here : ◌≡◌ {A = ℕ} (cond (f first) 1 0) 0 = cond-false (f first) 1 0 (ap f same ∙ fails) in
+          let rest : count_by f (range_with_len (first + 1) n) ≤ n = omega (arith, count_by-le-length f (range_with_len (first + 1) n), length-range_with_len (first + 1) n) in
+          omega arith
+      | inr other ↦
+          let here : cond (f first) 1 0 ≤ 1 = at_most_one (f first) in
+          let rest : count_by f (range_with_len (first + 1) n) < n = count_below f (first + 1) n c (omega arith) (omega arith) fails in
+          omega arith
+    ])
+  where
+    at_most_one : (b : Bool) → cond b 1 0 ≤ 1
+    at_most_one true = omega arith
+    at_most_one false = omega arith
+
+rank_of_bolt : (p : Parts) (c : ℕ) → cycle_fault p ≡ None → c < length p.bolts → rank p c < length p.bolts
+unfolding rank
+rank_of_bolt p c none within = count_below (λ a. reaches p a c) 0 (length p.bolts) c (omega arith) (omega arith) (no_cycle p c none within)
+
+abbrev IsRankBelow : Parts → ℕ → Origin → Type 0
+IsRankBelow p n origin.Spout = Unit {0}
+IsRankBelow p n (origin.Component c) = rank p c < n
+
+source_below : (p : Parts) (n c : ℕ) (from : Origin) → cycle_fault p ≡ None → IsIn from (sources_at p c) → rank p c < suc n → IsRankBelow p n from
+source_below p n c origin.Spout none at below = tt
+source_below p n c (origin.Component b) none at below = omega (arith, rank_grows p b c none (bolt_source p c b at) (feeds_from_source p c b at))
+
+fields_stable : (p : Parts) (n m : ℕ) (from : Origin) → cycle_fault p ≡ None → IsRankBelow p n from → IsRankBelow p m from → fields_in n p from ≡ fields_in m p from
+fields_stable p n m origin.Spout none below under = refl
+fields_stable p zero m (origin.Component c) none below under = absurd (omega arith)
+fields_stable p (suc n) zero (origin.Component c) none below under = absurd (omega arith)
+fields_stable p (suc n) (suc m) (origin.Component c) none below under =
+    ap (λ fields. option_map_or (λ (bolt : BoltPart). fields_after bolt.operation fields) (slice_get p.bolts c) [])
+    (first_same (fields_in n p) (fields_in m p) (sources_at p c)
+    (λ from at. fields_stable p n m from none (source_below p n c from none at below) (source_below p m c from none at under)))
+
+pub fields_of_spout : (p : Parts) → fields_of p origin.Spout ≡ p.spout.fields
+unfolding fields_of
+fields_of_spout p = refl
+
+fields_once_more : (p : Parts) (c : ℕ) (bolt : BoltPart) → IsBoltAt p c bolt → fields_in (suc (length p.bolts)) p (origin.Component c) ≡ fields_after bolt.operation (fields_to p c)
+unfolding fields_of
+fields_once_more p c bolt is = ap (λ there. option_map_or (λ (b : BoltPart). fields_after b.operation (fields_to p c)) there []) is
+
+-- a bolt's fields are what its operation leaves of those that come to it
+pub fields_of_bolt : (p : Parts) (c : ℕ) (bolt : BoltPart) → cycle_fault p ≡ None → IsBoltAt p c bolt → fields_of p (origin.Component c) ≡ fields_after bolt.operation (fields_to p c)
+unfolding fields_of
+fields_of_bolt p c bolt none is =
+    let within : rank p c < length p.bolts = rank_of_bolt p c none (slice_get_within p.bolts c bolt is) in
+    fields_stable p (length p.bolts) (suc (length p.bolts)) (origin.Component c) none within (omega arith) ∙ fields_once_more p c bolt is
+
+-- ---- the faults of one component
+
+pub record HasNoFaultAt (p : Parts) (c : ℕ) : Type 0 where
+  pub same : (from : Origin) → IsIn from (sources_at p c) → fields_of p from ≡ fields_to p c
+  pub keys : (input : Input) → IsIn input (inputs_at p c) → (name : List ℕ) → IsIn name (key_of input.way) → IsIn name (fields_to p c)
+  pub direct : (input : Input) → IsIn input (inputs_at p c) → direct_fault p input input.way ≡ None
+  pub reads : (name : List ℕ) → IsIn name (reads_at p c) → IsIn name (fields_to p c)
+  pub added : option_and_then (added_fault (fields_to p c)) (operation_at p (origin.Component c)) ≡ None
+
+names_same : (xs ys : List (List ℕ)) → pointwise bytes_eq xs ys ≡ true → xs ≡ ys
+names_same xs ys same = (pointwise_decides (λ a b. (bytes_same a b, bytes_itself a b)) xs ys).0 same
+
+same_from_none : (p : Parts) (c : ℕ) → differ_fault p c ≡ None → (from : Origin) → IsIn from (sources_at p c) → fields_of p from ≡ fields_to p c
+same_from_none p c none from at =
+    let differs = λ (other : Origin). not (pointwise bytes_eq (fields_of p other) (fields_to p c)) in
+    elim (cases_Bool (list_any differs (sources_at p c))) [
+      | inl some ↦ absurd (none-some (FieldsDiffer (name_at p c)) (sym none ∙ cond-true (list_any differs (sources_at p c)) (Some (FieldsDiffer (name_at p c))) None some))
+      | inr never ↦
+          names_same (fields_of p from) (fields_to p c)
+          (elim (cases_Bool (pointwise bytes_eq (fields_of p from) (fields_to p c))) [
+            | inl same ↦ same
+            | inr other ↦ absurd (both_ways (list_any differs (sources_at p c)) never (to_any differs (sources_at p c) from at (ap not other)))
+          ])
+    ]
+
+there_from_none : (p : Parts) (c : ℕ) (names : List (List ℕ)) → field_fault p c names ≡ None → (name : List ℕ) → IsIn name names → IsIn name (fields_to p c)
+there_from_none p c names none name at =
+    let strange = λ (name : List ℕ). not (is_among (fields_to p c) name) in
+    let known : not (is_among (fields_to p c) name) ≡ false = none_found strange names (none_mapped (NoField (name_at p c)) (find strange names) none) name at in
+    among_in (fields_to p c) name (not-false (is_among (fields_to p c) name) known)
+
+no_fault_from_none : (p : Parts) (c : ℕ) → component_fault p c ≡ None → HasNoFaultAt p c
+no_fault_from_none p c none =
+    let firsts : List (Option _) = differ_fault p c ∷ map (input_fault p c) (inputs_at p c) in
+    let lasts : List (Option _) = field_fault p c (reads_at p c) ∷ option_and_then (added_fault (fields_to p c)) (operation_at p (origin.Component c)) ∷ [] in
+    let each = none_of_some (firsts ++ lasts) none in
+    let input = λ (input : Input) (at : IsIn input (inputs_at p c)).
+    none_of_some (field_fault p c (key_of input.way) ∷ direct_fault p input input.way ∷ [])
+    (each (input_fault p c input) (to_left firsts lasts (input_fault p c input) (inr (to_map (input_fault p c) (inputs_at p c) input at))))
+    in
+    record {
+      same = same_from_none p c (each (differ_fault p c) (to_left firsts lasts (differ_fault p c) (inl refl)));
+      keys = λ i at. there_from_none p c (key_of i.way) (input i at (field_fault p c (key_of i.way)) (inl refl));
+      direct = λ i at. input i at (direct_fault p i i.way) (inr (inl refl));
+      reads = there_from_none p c (reads_at p c) (each (field_fault p c (reads_at p c)) (to_right firsts lasts (field_fault p c (reads_at p c)) (inl refl)));
+      added = each (option_and_then (added_fault (fields_to p c)) (operation_at p (origin.Component c))) (to_right firsts lasts (option_and_then (added_fault (fields_to p c)) (operation_at p (origin.Component c))) (inr (inl refl)));
+    }
+
+-- ---- depths
+
+greatest_le : (most : ℕ) (ns : List ℕ) → ((n : ℕ) → IsIn n ns → n ≤ most) → greatest ns ≤ most
+greatest_le most [] each = omega arith
+greatest_le most (n ∷ ns) each = omega (arith, each n (inl refl), greatest_le most ns (λ m at. each m (inr at)))
+
+depth_in_le : (n : ℕ) (p : Parts) (from : Origin) → depth_in n p from ≤ n
+depth_in_le n p origin.Spout = omega arith
+depth_in_le zero p (origin.Component c) = omega arith
+depth_in_le (suc n) p (origin.Component c) =
+    omega (
+      arith,
+      greatest_le n (map (depth_in n p) (sources_at p c))
+          (λ m at. let found = in_map (depth_in n p) (sources_at p c) m at in rw (← found.2) (depth_in_le n p found.0)),
+    )
+
+some_depth : (n : ℕ) (p : Parts) (c : ℕ) → 0 < n → 1 ≤ depth_in n p (origin.Component c)
+some_depth zero p c above = absurd (omega arith)
+some_depth (suc n) p c above = omega arith
+
+-- every component is among those by depth
+in_by_depth : (p : Parts) (c : ℕ) → c < component_count p → IsIn c (by_depth p)
+unfolding depth_at
+in_by_depth p c within =
+    to_flat_map (λ depth. filter (λ d. depth_at p d == depth) (range_with_len 0 (component_count p))) (range_with_len 1 (component_count p)) (depth_at p c) c
+    (to_range 1 (component_count p) (depth_at p c) (some_depth (component_count p) p c (omega arith)) (omega (arith, depth_in_le (component_count p) p (origin.Component c))))
+    (to_filter (λ d. depth_at p d == depth_at p c) (range_with_len 0 (component_count p)) c (to_range 0 (component_count p) c (omega arith) (omega arith)) (eq-eqb (depth_at p c) (depth_at p c) refl))
+
+pub no_fault_at : (p : Parts) (c : ℕ) → fields_fault p ≡ None → c < component_count p → HasNoFaultAt p c
+no_fault_at p c none within =
+    no_fault_from_none p c (none_of_some (map (component_fault p) (by_depth p)) none (component_fault p c) (to_map (component_fault p) (by_depth p) c (in_by_depth p c within)))
+
+-- ---- names that stand once
+
+pub lists_apart : (p : Parts) (names : List (List ℕ)) → twice_fault p ≡ None → IsIn names (name_lists p) → AreApart names
+lists_apart p names none at =
+    apart_from_again names
+    (none_of_some (map (first_again []) (name_lists p)) (none_mapped Twice (first_some (map (first_again []) (name_lists p))) none) (first_again [] names) (to_map (first_again []) (name_lists p) names at))
+
+pub bolt_list_apart : (p : Parts) (bolt : BoltPart) (names : List (List ℕ)) → twice_fault p ≡ None → IsIn bolt p.bolts → IsIn names (bolt_lists bolt) → AreApart names
+bolt_list_apart p bolt names none there at =
+    lists_apart p names none
+    (inr (inr (to_left (flat_map bolt_lists p.bolts) (flat_map state_lists p.states) names (to_flat_map bolt_lists p.bolts bolt names there at))))
+
+pub state_list_apart : (p : Parts) (state : StatePart) (names : List (List ℕ)) → twice_fault p ≡ None → IsIn state p.states → IsIn names (state_lists state) → AreApart names
+state_list_apart p state names none there at =
+    lists_apart p names none
+    (inr (inr (to_right (flat_map bolt_lists p.bolts) (flat_map state_lists p.states) names (to_flat_map state_lists p.states state names there at))))
+
+-- ---- one to eight names of fields, none twice
+
+pub record AreFields (fields : List (List ℕ)) : Type 0 where
+  pub count : IsBetween (length fields) 1 8
+  pub apart : AreApart fields
+  pub named : All IsName fields
+
+fields_with : (fields : List (List ℕ)) (into : List ℕ) → IsName into → added_fault fields (Len (codes "") into) ≡ None → AreFields fields → AreFields (fields ++ into ∷ [])
+fields_with fields into name none were =
+    let counted = range_fault (codes "fields") (pos (length fields + 1)) 1 8 in
+    elim (cases_Bool (is_among fields into)) [
+      | inl again ↦ absurd (none-some (Twice into) (sym none ∙ cond-true (is_among fields into) (Some (Twice into)) counted again))
+      | inr new ↦
+          let count : IsBetween (length fields + 1) 1 8 = between_from_range (codes "fields") (length fields + 1) 1 8 (sym (cond-false (is_among fields into) (Some (Twice into)) counted new) ∙ none) in
+          record {
+            count = (omega (arith, length-append fields (into ∷ []), count.0), omega (arith, length-append fields (into ∷ []), count.1));
+            apart = apart_push fields into were.apart (not_among fields into new);
+            named = All-append IsName fields (into ∷ []) were.named (All-cons IsName into [] name (All-nil IsName));
+          }
+    ]
+
+fields_kept : (operation : Operation) (fields : List (List ℕ)) → IsOperationInRange operation → AreApart (projected operation) → added_fault fields operation ≡ None → AreFields fields → AreFields (fields_after operation fields)
+fields_kept (Split field into) fields range apart none were = record { count = (omega arith, omega arith); apart = (λ at. elim at [ ], tt); named = All-cons IsName into [] range (All-nil IsName) }
+fields_kept (Project names) fields range apart none were = record { count = range.0; apart = apart; named = range.1 }
+fields_kept (Filter field test value) fields range apart none were = were
+fields_kept (Set field value) fields range apart none were = were
+fields_kept (Len field into) fields range apart none were = fields_with fields into range none were
+fields_kept (Route field) fields range apart none were = were
+fields_kept (Flaky below) fields range apart none were = were
+fields_kept (Mute below) fields range apart none were = were
+fields_kept Custom fields range apart none were = were
+
+-- ---- a source for each component
+
+some_in : {X : Type 0} (xs : List X) → 1 ≤ length xs → (x : X) × IsIn x xs
+some_in [] some = absurd (omega arith)
+some_in (x ∷ xs) some = (x, inl refl)
+
+some_value : {X : Type 0} (o : Option X) → is_none o ≡ false → (x : X) × (o ≡ Some x)
+some_value None none = absurd (true≢false none)
+some_value (Some x) none = (x, refl)
+
+pub length_names : (p : Parts) → component_count p ≡ length p.bolts + length p.states
+length_names p =
+    omega
+    (arith, length-append (bolt_names p) (map (λ (state : StatePart). state.name) p.states), length-map p.bolts (λ (bolt : BoltPart). bolt.name), length-map p.states (λ (state : StatePart). state.name))
+
+pub some_inputs : (p : Parts) (c : ℕ) → IsInRange p → c < length p.bolts + length p.states → (inputs : List Input) × (slice_get (inputs_by_component p) c ≡ Some inputs) × (1 ≤ length inputs)
+some_inputs p c range within =
+    elim (cases_component p c within) [
+      | inl bolt ↦
+          let limits : IsBoltInRange bolt.0 = All-at_in IsBoltInRange p.bolts range.each_bolt bolt.0 (in_place p.bolts c bolt.0 bolt.1) in
+          (bolt.0.inputs, inputs_at_bolt p c bolt.0 bolt.1, limits.inputs.0)
+      | inr state ↦
+          let limits : IsStateInRange state.0 = All-at_in IsStateInRange p.states range.each_state state.0 (in_place p.states state.1.place state.0 state.1.is) in
+          (state_inputs state.0, inputs_at_state p c state.0 state.1, omega (arith, limits.inputs.0, length-map {B = Input} state.0.inputs (λ from. record { from = from; way = way.Fields state.0.key })))
+    ]
+
+-- each input names a source
+pub named_source : (p : Parts) (c : ℕ) (inputs : List Input) (input : Input) → source_fault p ≡ None → slice_get (inputs_by_component p) c ≡ Some inputs → IsIn input inputs → (from : Origin) × (source_of p input.from ≡ Some from)
+named_source p c inputs input none is at =
+    let named = map (λ (i : Input). i.from) (flat_map (λ (inputs : List Input). inputs) (inputs_by_component p)) in
+    some_value (source_of p input.from)
+    (none_found (λ name. is_none (source_of p name)) named (none_mapped NoSource (find (λ name. is_none (source_of p name)) named) none) input.from
+    (to_map (λ (i : Input). i.from) (flat_map (λ (inputs : List Input). inputs) (inputs_by_component p)) input
+    (to_flat_map (λ (inputs : List Input). inputs) (inputs_by_component p) inputs input (in_place (inputs_by_component p) c inputs is) at)))
+
+-- an input of a component, with its source
+pub record HasSource (p : Parts) (c : ℕ) : Type 0 where
+  pub inputs : List Input
+  pub input : Input
+  pub from : Origin
+  pub consumer : slice_get (inputs_by_component p) c ≡ Some inputs
+  pub listed : IsIn input inputs
+  pub is : source_of p input.from ≡ Some from
+
+pub some_source : (p : Parts) (c : ℕ) → IsInRange p → source_fault p ≡ None → c < length p.bolts + length p.states → HasSource p c
+some_source p c range none within =
+    let inputs = some_inputs p c range within in
+    let input = some_in inputs.0 inputs.2 in
+    let from = named_source p c inputs.0 input.0 none inputs.1 input.1 in
+    record { inputs = inputs.0; input = input.0; from = from.0; consumer = inputs.1; listed = input.1; is = from.1 }
+
+pub in_inputs_at : (p : Parts) (c : ℕ) (inputs : List Input) (input : Input) → slice_get (inputs_by_component p) c ≡ Some inputs → IsIn input inputs → IsIn input (inputs_at p c)
+in_inputs_at p c inputs input is at = subst (IsIn input) (sym (get_or_from_slice_get (inputs_by_component p) c inputs [] is)) at
+
+-- ---- the fields of each source
+
+abbrev pub IsBoltOrSpout : Parts → Origin → Type 0
+IsBoltOrSpout p origin.Spout = Unit {0}
+IsBoltOrSpout p (origin.Component c) = c < length p.bolts
+
+pub source_there : (p : Parts) (c : ℕ) (from : Origin) → IsIn from (sources_at p c) → IsBoltOrSpout p from
+source_there p c origin.Spout at = tt
+source_there p c (origin.Component b) at = bolt_source p c b at
+
+added_at : (p : Parts) (c : ℕ) (bolt : BoltPart) → IsBoltAt p c bolt → HasNoFaultAt p c → added_fault (fields_to p c) bolt.operation ≡ None
+added_at p c bolt is faultless =
+    subst (λ there. option_and_then (added_fault (fields_to p c)) (option_map (λ (b : BoltPart). b.operation) there) ≡ None) is faultless.added
+
+module _ (p : Parts) (range : IsInRange p) (faultless : HasNoFault p) where
+  pub no_fault_here : (c : ℕ) → c < length p.bolts + length p.states → HasNoFaultAt p c
+  no_fault_here c within = no_fault_at p c faultless.fields (omega (arith, length_names p))
+
+  first_source : (c : ℕ) → c < length p.bolts + length p.states → (first : Origin) × IsIn first (sources_at p c) × (fields_to p c ≡ fields_of p first)
+  first_source c within =
+      let source = some_source p c range faultless.sources within in
+      first_of (fields_of p) (sources_at p c) source.from (to_sources p c source.input source.from (in_inputs_at p c source.inputs source.input source.consumer source.listed) source.is)
+
+  -- from those of the sources on, as far as there are n bolts before it
+  fields_before : (n : ℕ) (from : Origin) → IsRankBelow p n from → IsBoltOrSpout p from → AreFields (fields_of p from)
+  fields_before n origin.Spout below there =
+      subst AreFields (sym (fields_of_spout p)) (record { count = range.spout.fields; apart = lists_apart p p.spout.fields faultless.twice (inr (inl refl)); named = range.spout.field_names })
+  fields_before zero (origin.Component c) below there = absurd (omega arith)
+  fields_before (suc n) (origin.Component c) below there =
+      let bolt = some_there p.bolts c there in
+      let within : c < length p.bolts + length p.states = omega arith in
+      let first = first_source c within in
+      let come : AreFields (fields_to p c) = subst AreFields (sym first.2) (fields_before n first.0 (source_below p n c first.0 faultless.cycle first.1 below) (source_there p c first.0 first.1)) in
+      let limits : IsBoltInRange bolt.0 = All-at_in IsBoltInRange p.bolts range.each_bolt bolt.0 (in_place p.bolts c bolt.0 bolt.1) in
+      subst AreFields (sym (fields_of_bolt p c bolt.0 faultless.cycle bolt.1))
+      (fields_kept bolt.0.operation (fields_to p c) limits.operation
+      (bolt_list_apart p bolt.0 (projected bolt.0.operation) faultless.twice (in_place p.bolts c bolt.0 bolt.1) (inr (to_right (map (λ (input : Input). key_of input.way) bolt.0.inputs) (projected bolt.0.operation ∷ []) (projected bolt.0.operation) (inl refl))))
+      (added_at p c bolt.0 bolt.1 (no_fault_here c within)) come)
+
+  pub fields_of_source : (from : Origin) → IsBoltOrSpout p from → AreFields (fields_of p from)
+  fields_of_source origin.Spout there = fields_before 0 origin.Spout tt there
+  fields_of_source (origin.Component c) there = fields_before (suc (rank p c)) (origin.Component c) (omega arith) there
+
+  pub fields_to_component : (c : ℕ) → c < length p.bolts + length p.states → AreFields (fields_to p c)
+  fields_to_component c within =
+      let first = first_source c within in
+      subst AreFields (sym first.2) (fields_of_source first.0 (source_there p c first.0 first.1))

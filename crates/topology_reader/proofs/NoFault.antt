@@ -1,0 +1,418 @@
+-- A file that says what is valid has no fault in what it says.
+use Rattle.std.specs.Prelude.{◌≡◌, ◌≢◌, ◌↔◌, ℕ, zero, suc, ◌+◌, ◌<◌, ◌≤◌, ◌==◌, ◌&&◌, ◌∷◌, List, [], ◌++◌, pos, length, map, filter, All, AllPairs, Bool, true, false, not, nat_lt, int_le, Option, Some, None, IfSome, option_map, option_and_then, slice_get, is_none, codes}
+use Rattle.std.specs.List.{Contains, find, list_any, flat_map, range_with_len}
+use Rattle.std.specs.Option.{option_map_or}
+use Rattle.std.specs.Str.{bytes_eq}
+use Rattle.std.specs.Cmp.Lexicographic.{pointwise, pointwise_decides}
+use Rattle.std.proofs.Common.{inl, inr, refl, sym, ◌∙◌, ap, subst, arith}
+use Rattle.std.proofs.lemmas.Bool.{cond-true, cond-false, false≢true, false_from_ne_true, and_from, eqb-true, le-leb, le-ltb}
+use Rattle.std.proofs.lemmas.List.{map-id, length-append}
+use Rattle.std.proofs.lemmas.Option.{none-some, same_Some, get_or_from_slice_get, slice_get_within, slice_get_past}
+use Rattle.storm_values.specs.Lines.{first_some}
+use Rattle.topology_plan.specs.declared.parts.Kind.{Kind}
+use Rattle.topology_plan.specs.declared.parts.Kind.TheVariants.{Transactional, Opaque}
+use Rattle.topology_plan.specs.declared.parts.Origin.{Origin}
+use Rattle.topology_plan.specs.declared.parts.Origin.TheVariants as origin
+use Rattle.topology_plan.specs.Topology.{tasks_in_all, weight_of}
+use Rattle.topology_plan.specs.Valid.{IsBetween}
+use Rattle.topology_reader.specs.declared.parts.TopoFault.{TopoFault}
+use Rattle.topology_reader.specs.declared.parts.TopoFault.TheVariants.{WrongKind, OutOfRange, Twice, NoSource, FieldsDiffer, NoField, NotExactlyOnce, Weight}
+use Rattle.topology_reader.specs.declared.parts.Way.{Way}
+use Rattle.topology_reader.specs.declared.parts.Way.TheVariants as way
+use Rattle.topology_reader.specs.declared.parts.Input.{Input}
+use Rattle.topology_reader.specs.declared.parts.Operation.{Operation}
+use Rattle.topology_reader.specs.declared.parts.Operation.TheVariants.{Split, Project, Filter, Set, Len, Route, Flaky, Mute, Custom}
+use Rattle.topology_reader.specs.declared.parts.BoltPart.{BoltPart}
+use Rattle.topology_reader.specs.declared.parts.StatePart.{StatePart}
+use Rattle.topology_reader.specs.declared.parts.Parts.{Parts}
+use Rattle.topology_reader.specs.Forms.{is_among, range_fault}
+use Rattle.topology_reader.specs.Wiring.{component_names, component_count, name_at, source_of, state_inputs, inputs_by_component, inputs_at, sources_at, is_component, feeds, depth_at, by_depth, fields_after, fields_of, fields_to, operation_at}
+use Rattle.topology_reader.specs.Planned.{plan_of}
+use Rattle.topology_reader.specs.Meant.{first_again, key_of, projected, bolt_lists, state_lists, name_lists, twice_fault, source_fault, cycle_fault, differ_fault, field_fault, is_route, chooses, direct_fault, input_fault, reads_at, added_fault, component_fault, fields_fault, is_transactional, replay_fault, weight_fault, meaning_fault}
+use Rattle.topology_reader.specs.Ranges.{IsStateInRange, IsInRange}
+use Rattle.topology_reader.specs.Reach.{IsWayThrough}
+use Rattle.topology_reader.specs.ValidFile.{AreDistinct, HasFields, IsRoute, IsRouteAt, IsValidInput, IsValidComponent, IsValidFile}
+use Rattle.topology_reader.proofs.Listed.{IsIn, All-at_in, in_map, to_map, in_append, in_flat_map, in_filter, in_place, in_range, in_any}
+use Rattle.topology_reader.proofs.Distinct.{bytes_same, bytes_itself, among_in, in_among, AreApart}
+use Rattle.topology_reader.proofs.Numbered.{IsBoltAt, IsStateAt, map_twice, cases_component, inputs_at_bolt, inputs_at_state}
+use Rattle.topology_reader.proofs.ValidPlan.{length_inputs}
+use Rattle.topology_reader.proofs.Columns.{in_sources, length_names}
+use Rattle.topology_reader.proofs.ValidFile.{contains_from_in, sum_of_tasks, valid_file}
+use Rattle.topology_reader.proofs.CycleWays.{no_cycle_by_ways}
+
+-- ---- lists
+
+none_from_each : {F : Type 0} (faults : List (Option F)) → ((fault : Option F) → IsIn fault faults → fault ≡ None) → first_some faults ≡ None
+none_from_each [] each = refl
+none_from_each (None ∷ rest) each = none_from_each rest (λ fault at. each fault (inr at))
+none_from_each (Some found ∷ rest) each = absurd (none-some found (sym (each (Some found) (inl refl))))
+
+find_none : {X : Type 0} (test : X → Bool) (xs : List X) → ((x : X) → IsIn x xs → test x ≡ false) → find test xs ≡ None
+find_none test [] each = refl
+find_none test (x ∷ xs) each = cond-false (test x) (Some x) (find test xs) (each x (inl refl)) ∙ find_none test xs (λ y at. each y (inr at))
+
+any_none : {X : Type 0} (test : X → Bool) (xs : List X) → ((x : X) → IsIn x xs → test x ≡ false) → list_any test xs ≡ false
+any_none test xs each =
+    false_from_ne_true (list_any test xs)
+    (λ some.
+    let found = in_any test xs some in
+    false≢true (sym (each found.0 found.1) ∙ found.2))
+
+in_from_contains : {X : Type 0} (xs : List X) (x : X) → Contains xs x → IsIn x xs
+in_from_contains [] x (k, within, is) = absurd (omega arith)
+in_from_contains (y ∷ ys) x (zero, within, is) = inl is
+in_from_contains (y ∷ ys) x (suc k, within, is) = inr (in_from_contains ys x (k, omega arith, is))
+
+place_in : {X : Type 0} (xs : List X) (x : X) → IsIn x xs → (k : ℕ) × (slice_get xs k ≡ Some x)
+place_in [] x at = elim at [ ]
+place_in (y ∷ ys) x at =
+    elim at [
+      | inl same ↦ (zero, ap Some same)
+      | inr later ↦ let found = place_in ys x later in (suc found.0, found.1)
+    ]
+
+-- ---- names that stand once
+
+apart_from_pairs : {X Y : Type 0} (f : X → Y) (xs : List X) → AllPairs (λ a b. f a ≢ f b) xs → AreApart (map f xs)
+apart_from_pairs f [] pairs = tt
+apart_from_pairs f (x ∷ xs) pairs = (
+  λ at.
+      let other = in_map f xs (f x) at in
+      let place = contains_from_in xs other.0 other.1 in
+      pairs 0 (suc place.0) other.0 (omega arith) (omega (arith, place.1)) (sym other.2 ∙ ap f (sym place.2)),
+  apart_from_pairs f xs (λ i j d before within. pairs (suc i) (suc j) d (omega arith) (omega arith)),
+)
+
+apart_from_distinct : (names : List (List ℕ)) → AreDistinct names → AreApart names
+apart_from_distinct names distinct = subst AreApart (map-id names) (apart_from_pairs (λ (name : List ℕ). name) names distinct)
+
+none_again : (before names : List (List ℕ)) → AreApart names → ((name : List ℕ) → IsIn name names → IsIn name before → ⊥) → first_again before names ≡ None
+none_again before [] apart new = refl
+none_again before (first ∷ names) apart new =
+    let unseen : is_among before first ≡ false = false_from_ne_true (is_among before first) (λ among. new first (inl refl) (among_in before first among)) in
+    cond-false (is_among before first) (Some first) (first_again (first ∷ before) names) unseen
+    ∙ none_again (first ∷ before) names apart.1
+    (λ name at seen. elim seen [
+      | inl same ↦ apart.0 (subst (λ n. IsIn n names) (sym same) at)
+      | inr earlier ↦ new name (inr at) earlier
+    ])
+
+-- ---- ways
+
+is_component_same : (c : ℕ) (from : Origin) → is_component c from ≡ true → from ≡ origin.Component c
+is_component_same c origin.Spout is = absurd (false≢true is)
+is_component_same c (origin.Component d) is = ap origin.Component (sym (eqb-true c d is))
+
+module _ (p : Parts) (valid : IsValidFile p) where
+  fed_above : (a b : ℕ) → feeds p a b ≡ true → (valid.numbered).number a < (valid.numbered).number b
+  fed_above a b fed =
+      let from = in_any (is_component a) (sources_at p b) fed in
+      let input = in_sources p b from.0 from.1 in
+      All-at_in (λ (i : Input). source_of p i.from ≡ Some (origin.Component a) → (valid.numbered).number a < (valid.numbered).number b) (inputs_at p b) ((valid.numbered).grows a b) input.0 input.1
+      (input.2 ∙ ap Some (is_component_same a from.0 from.2))
+
+  way_above : (a b : ℕ) (bolts : List ℕ) → IsWayThrough p a bolts b → (valid.numbered).number a < (valid.numbered).number b
+  way_above a b [] fed = fed_above a b fed
+  way_above a b (next ∷ bolts) through = omega (arith, fed_above a next through.1, way_above next b bolts through.2)
+
+  cycle_none : cycle_fault p ≡ None
+  cycle_none = (no_cycle_by_ways p).1 (λ c below way. let above : (valid.numbered).number c < (valid.numbered).number c = way_above c c way.0 way.1 in absurd (omega arith))
+
+  -- ---- the inputs of a component
+
+  counted : (c : ℕ) (inputs : List Input) → slice_get (inputs_by_component p) c ≡ Some inputs → c < component_count p
+  counted c inputs is = omega (arith, slice_get_within (inputs_by_component p) c inputs is, length_inputs p, length_names p)
+
+  inputs_are : (c : ℕ) (inputs : List Input) → slice_get (inputs_by_component p) c ≡ Some inputs → inputs_at p c ≡ inputs
+  inputs_are c inputs is = get_or_from_slice_get (inputs_by_component p) c inputs [] is
+
+  froms_apart : (c : ℕ) (inputs : List Input) → slice_get (inputs_by_component p) c ≡ Some inputs → AreApart (map (λ (input : Input). input.from) inputs)
+  froms_apart c inputs is =
+      apart_from_pairs (λ (input : Input). input.from) inputs
+      (subst (AllPairs (λ (a b : Input). a.from ≢ b.from)) (inputs_are c inputs is) (IsValidComponent.distinct (valid.components c (counted c inputs is))))
+
+  input_valid : (c : ℕ) (inputs : List Input) (input : Input) → slice_get (inputs_by_component p) c ≡ Some inputs → IsIn input inputs → IsValidInput p (fields_to p c) input
+  input_valid c inputs input is at =
+      All-at_in (IsValidInput p (fields_to p c)) inputs
+      (subst (All (IsValidInput p (fields_to p c))) (inputs_are c inputs is) (IsValidComponent.inputs (valid.components c (counted c inputs is)))) input at
+
+  key_apart_of : (c : ℕ) (inputs : List Input) (input : Input) → slice_get (inputs_by_component p) c ≡ Some inputs → IsIn input inputs → AreApart (key_of input.way)
+  key_apart_of c inputs input is at = apart_from_distinct (key_of input.way) (IsValidInput.key (input_valid c inputs input is at))
+
+  -- ---- names that stand twice
+
+  fields_made : (c : ℕ) (bolt : BoltPart) → IsBoltAt p c bolt → fields_of p (origin.Component c) ≡ fields_after bolt.operation (fields_to p c)
+  fields_made c bolt is = subst (λ there. IfSome there (λ (bolt : BoltPart). fields_of p (origin.Component c) ≡ fields_after bolt.operation (fields_to p c))) is (valid.bolt_fields c)
+
+  bolt_has : (c : ℕ) (bolt : BoltPart) → IsBoltAt p c bolt → HasFields p (origin.Component c)
+  bolt_has c bolt is = valid.fields (origin.Component c) (slice_get_within p.bolts c bolt is)
+
+  projected_by : (fields come : List (List ℕ)) (operation : Operation) → fields ≡ fields_after operation come → AreDistinct fields → AreApart (projected operation)
+  projected_by fields come (Split field into) is distinct = tt
+  projected_by fields come (Project names) is distinct = apart_from_distinct names (subst AreDistinct is distinct)
+  projected_by fields come (Filter field test value) is distinct = tt
+  projected_by fields come (Set field value) is distinct = tt
+  projected_by fields come (Len field into) is distinct = tt
+  projected_by fields come (Route field) is distinct = tt
+  projected_by fields come (Flaky below) is distinct = tt
+  projected_by fields come (Mute below) is distinct = tt
+  projected_by fields come Custom is distinct = tt
+
+  bolt_list_once : (c : ℕ) (bolt : BoltPart) (names : List (List ℕ)) → IsBoltAt p c bolt → IsIn names (bolt_lists bolt) → AreApart names
+  bolt_list_once c bolt names is at =
+      let inputs : slice_get (inputs_by_component p) c ≡ Some bolt.inputs = inputs_at_bolt p c bolt is in
+      elim at [
+        | inl froms ↦ subst AreApart froms (froms_apart c bolt.inputs inputs)
+        | inr later ↦ elim (in_append (map (λ (input : Input). key_of input.way) bolt.inputs) (projected bolt.operation ∷ []) names later) [
+          | inl keys ↦
+              let input = in_map (λ (input : Input). key_of input.way) bolt.inputs names keys in
+              subst AreApart input.2 (key_apart_of c bolt.inputs input.0 inputs input.1)
+          | inr last ↦ elim last [
+            | inl same ↦ subst AreApart same (projected_by (fields_of p (origin.Component c)) (fields_to p c) bolt.operation (fields_made c bolt is) (HasFields.distinct (bolt_has c bolt is)))
+            | inr none ↦ elim none [ ]
+          ]
+        ]
+      ]
+
+  some_first : {X : Type 0} (xs : List X) → 1 ≤ length xs → (x : X) × IsIn x xs
+  some_first [] some = absurd (omega arith)
+  some_first (x ∷ xs) some = (x, inl refl)
+
+  state_list_once : (place : ℕ) (state : StatePart) (names : List (List ℕ)) → slice_get p.states place ≡ Some state → IsIn names (state_lists state) → AreApart names
+  state_list_once place state names is at =
+      let c = length p.bolts + place in
+      let there : IsStateAt p c state = record { place = place; number = refl; is = is } in
+      let inputs : slice_get (inputs_by_component p) c ≡ Some (state_inputs state) = inputs_at_state p c state there in
+      elim at [
+        | inl key ↦
+            let limits : IsStateInRange state = All-at_in IsStateInRange p.states (valid.range).each_state state (in_place p.states place state is) in
+            let first = some_first state.inputs (limits.inputs).0 in
+            let input : Input = record { from = first.0; way = way.Fields state.key } in
+            let listed : IsIn input (state_inputs state) = to_map (λ from. record { from = from; way = way.Fields state.key }) state.inputs first.0 first.1 in
+            subst AreApart key (key_apart_of c (state_inputs state) input inputs listed)
+        | inr later ↦ elim later [
+          | inl froms ↦
+              let same : map (λ (input : Input). input.from) (state_inputs state) ≡ state.inputs =
+              map_twice (λ (input : Input). input.from) (λ from. record { from = from; way = way.Fields state.key }) state.inputs ∙ map-id state.inputs
+              in
+              subst AreApart (same ∙ froms) (froms_apart c (state_inputs state) inputs)
+          | inr none ↦ elim none [ ]
+        ]
+      ]
+
+  list_once : (names : List (List ℕ)) → IsIn names (name_lists p) → AreApart names
+  list_once names at =
+      elim at [
+        | inl components ↦ subst AreApart components (apart_from_distinct (p.spout.name ∷ component_names p) valid.names)
+        | inr later ↦ elim later [
+          | inl fields ↦
+              subst AreApart (valid.spout_fields ∙ fields) (apart_from_distinct (fields_of p origin.Spout) (HasFields.distinct (valid.fields origin.Spout tt)))
+          | inr others ↦ elim (in_append (flat_map bolt_lists p.bolts) (flat_map state_lists p.states) names others) [
+            | inl left ↦
+                let bolt = in_flat_map bolt_lists p.bolts names left in
+                let place = place_in p.bolts bolt.0 bolt.1 in
+                bolt_list_once place.0 bolt.0 names place.1 bolt.2
+            | inr right ↦
+                let state = in_flat_map state_lists p.states names right in
+                let place = place_in p.states state.0 state.1 in
+                state_list_once place.0 state.0 names place.1 state.2
+          ]
+        ]
+      ]
+
+  twice_none : twice_fault p ≡ None
+  twice_none =
+      ap (option_map Twice)
+      (none_from_each (map (first_again []) (name_lists p))
+      (λ again at.
+      let names = in_map (first_again []) (name_lists p) again at in
+      sym names.2 ∙ none_again [] names.0 (list_once names.0 names.1) (λ name listed before. elim before [ ])))
+
+  -- ---- sources
+
+  source_none : source_fault p ≡ None
+  source_none =
+      let inputs = flat_map (λ (inputs : List Input). inputs) (inputs_by_component p) in
+      ap (option_map NoSource)
+      (find_none (λ name. is_none (source_of p name)) (map (λ (input : Input). input.from) inputs)
+      (λ name at.
+      let input = in_map (λ (input : Input). input.from) inputs name at in
+      let of = in_flat_map (λ (inputs : List Input). inputs) (inputs_by_component p) input.0 input.1 in
+      let place = place_in (inputs_by_component p) of.0 of.1 in
+      let has : IsValidInput p (fields_to p place.0) input.0 = input_valid place.0 of.0 input.0 place.1 of.2 in
+      ap (λ name. is_none (source_of p name)) (sym input.2) ∙ ap (λ (there : Option Origin). is_none there) has.named))
+
+  -- ---- fields
+
+  here_valid : (c : ℕ) (input : Input) → c < component_count p → IsIn input (inputs_at p c) → IsValidInput p (fields_to p c) input
+  here_valid c input within at = All-at_in (IsValidInput p (fields_to p c)) (inputs_at p c) (IsValidComponent.inputs (valid.components c within)) input at
+
+  same_none : (c : ℕ) → c < component_count p → differ_fault p c ≡ None
+  same_none c within =
+      let differs = λ (from : Origin). not (pointwise bytes_eq (fields_of p from) (fields_to p c)) in
+      cond-false (list_any differs (sources_at p c)) (Some (FieldsDiffer (name_at p c))) None
+      (any_none differs (sources_at p c)
+      (λ from at.
+      let input = in_sources p c from at in
+      let has : IsValidInput p (fields_to p c) input.0 = here_valid c input.0 within input.1 in
+      let one : has.from ≡ from = same_Some has.from from (sym has.named ∙ input.2) in
+      let same : fields_of p from ≡ fields_to p c = ap (fields_of p) (sym one) ∙ has.comes in
+      ap not ((pointwise_decides (λ a b. (bytes_same a b, bytes_itself a b)) (fields_of p from) (fields_to p c)).1 same)))
+
+  there_none : (c : ℕ) (names : List (List ℕ)) → All (Contains (fields_to p c)) names → field_fault p c names ≡ None
+  there_none c names each =
+      ap (option_map (NoField (name_at p c)))
+      (find_none (λ name. not (is_among (fields_to p c) name)) names
+      (λ name at. ap not (in_among (fields_to p c) name (in_from_contains (fields_to p c) name (All-at_in (Contains (fields_to p c)) names each name at)))))
+
+  route_test : (operation : Operation) → IsRoute operation → is_route operation ≡ true
+  route_test (Split field into) route = elim route [ ]
+  route_test (Project names) route = elim route [ ]
+  route_test (Filter field test value) route = elim route [ ]
+  route_test (Set field value) route = elim route [ ]
+  route_test (Len field into) route = elim route [ ]
+  route_test (Route field) route = refl
+  route_test (Flaky below) route = elim route [ ]
+  route_test (Mute below) route = elim route [ ]
+  route_test Custom route = elim route [ ]
+
+  route_chosen : (from : Origin) → IsRouteAt p from → option_map_or is_route (operation_at p from) false ≡ true
+  route_chosen origin.Spout route = absurd route
+  route_chosen (origin.Component b) (bolt, is, route) =
+      ap (λ (there : Option BoltPart). option_map_or is_route (option_map (λ (b : BoltPart). b.operation) there) false) is ∙ route_test bolt.operation route
+
+  direct_none : (c : ℕ) (input : Input) (by : Way) → IsValidInput p (fields_to p c) input → (by ≡ way.Direct → input.way ≡ way.Direct) → direct_fault p input by ≡ None
+  direct_none c input way.Shuffle has is = refl
+  direct_none c input (way.Fields key) has is = refl
+  direct_none c input way.All has is = refl
+  direct_none c input way.Global has is = refl
+  direct_none c input way.Direct has is =
+      let chosen : chooses p input ≡ true =
+      ap (λ there. option_map_or is_route (option_and_then (operation_at p) there) false) has.named ∙ route_chosen has.from (has.direct (is refl))
+      in
+      cond-true (chooses p input) None (Some (WrongKind (codes "grouping"))) chosen
+
+  input_none : (c : ℕ) (input : Input) → IsValidInput p (fields_to p c) input → input_fault p c input ≡ None
+  input_none c input has =
+      none_from_each (field_fault p c (key_of input.way) ∷ direct_fault p input input.way ∷ [])
+      (λ fault at. elim at [
+        | inl key ↦ sym key ∙ there_none c (key_of input.way) has.key_fields
+        | inr later ↦ elim later [
+          | inl direct ↦ sym direct ∙ direct_none c input input.way has (λ is. is)
+          | inr none ↦ elim none [ ]
+        ]
+      ])
+
+within_range : (name : List ℕ) (n least most : ℕ) → IsBetween n least most → range_fault name (pos n) least most ≡ None
+within_range name n least most between =
+    cond-true (int_le (pos least) (pos n) && int_le (pos n) (pos most)) None (Some (OutOfRange name (pos n) least most))
+    (and_from (int_le (pos least) (pos n)) (int_le (pos n) (pos most)) (le-leb least n between.0) (le-leb n most between.1))
+
+new_last : (names : List (List ℕ)) (name : List ℕ) → AreApart (names ++ name ∷ []) → IsIn name names → ⊥
+new_last [] name apart at = elim at [ ]
+new_last (first ∷ names) name apart at =
+    elim at [
+      | inl same ↦ apart.0 (subst (λ n. IsIn n (names ++ name ∷ [])) (sym same) (last_in names name))
+      | inr later ↦ new_last names name apart.1 later
+    ]
+  where
+    last_in : (names : List (List ℕ)) (name : List ℕ) → IsIn name (names ++ name ∷ [])
+    last_in [] name = inl refl
+    last_in (first ∷ names) name = inr (last_in names name)
+
+added_none : (fields come : List (List ℕ)) (operation : Operation) → fields ≡ fields_after operation come → AreDistinct fields → IsBetween (length fields) 1 8 → added_fault come operation ≡ None
+added_none fields come (Split field into) is distinct count = refl
+added_none fields come (Project names) is distinct count = refl
+added_none fields come (Filter field test value) is distinct count = refl
+added_none fields come (Set field value) is distinct count = refl
+added_none fields come (Len field into) is distinct count =
+    let apart : AreApart (come ++ into ∷ []) = apart_from_distinct (come ++ into ∷ []) (subst AreDistinct is distinct) in
+    let new : is_among come into ≡ false = false_from_ne_true (is_among come into) (λ among. new_last come into apart (among_in come into among)) in
+    let more : length fields ≡ length come + 1 = ap (λ (names : List (List ℕ)). length names) is ∙ length-append come (into ∷ []) in
+    cond-false (is_among come into) (Some (Twice into)) (range_fault (codes "fields") (pos (length come + 1)) 1 8) new
+    ∙ within_range (codes "fields") (length come + 1) 1 8 (subst (λ n. IsBetween n 1 8) more count)
+added_none fields come (Route field) is distinct count = refl
+added_none fields come (Flaky below) is distinct count = refl
+added_none fields come (Mute below) is distinct count = refl
+added_none fields come Custom is distinct count = refl
+
+module _ (p : Parts) (valid : IsValidFile p) where
+  added_here : (c : ℕ) → c < component_count p → option_and_then (added_fault (fields_to p c)) (operation_at p (origin.Component c)) ≡ None
+  added_here c within =
+      elim (cases_component p c (omega (arith, length_names p))) [
+        | inl bolt ↦
+            let has : HasFields p (origin.Component c) = bolt_has p valid c bolt.0 bolt.1 in
+            ap (λ (there : Option BoltPart). option_and_then (added_fault (fields_to p c)) (option_map (λ (b : BoltPart). b.operation) there)) bolt.1
+            ∙ added_none (fields_of p (origin.Component c)) (fields_to p c) bolt.0.operation (fields_made p valid c bolt.0 bolt.1) has.distinct has.count
+        | inr state ↦
+            let past : length p.bolts ≤ c = omega (arith, (state.1).number) in
+            ap (λ (there : Option BoltPart). option_and_then (added_fault (fields_to p c)) (option_map (λ (b : BoltPart). b.operation) there)) (slice_get_past p.bolts c past)
+      ]
+
+  component_none : (c : ℕ) → c < component_count p → component_fault p c ≡ None
+  component_none c within =
+      let firsts : List (Option TopoFault) = differ_fault p c ∷ map (input_fault p c) (inputs_at p c) in
+      let lasts : List (Option TopoFault) = field_fault p c (reads_at p c) ∷ option_and_then (added_fault (fields_to p c)) (operation_at p (origin.Component c)) ∷ [] in
+      none_from_each (firsts ++ lasts)
+      (λ fault at. elim (in_append firsts lasts fault at) [
+        | inl first ↦ elim first [
+          | inl differ ↦ sym differ ∙ same_none p valid c within
+          | inr later ↦
+              let input = in_map (input_fault p c) (inputs_at p c) fault later in
+              sym input.2 ∙ input_none p valid c input.0 (here_valid p valid c input.0 within input.1)
+        ]
+        | inr last ↦ elim last [
+          | inl reads ↦ sym reads ∙ there_none p valid c (reads_at p c) (IsValidComponent.reads (valid.components c within))
+          | inr later ↦ elim later [
+            | inl added ↦ sym added ∙ added_here c within
+            | inr none ↦ elim none [ ]
+          ]
+        ]
+      ])
+
+  depth_within : (c : ℕ) → IsIn c (by_depth p) → c < component_count p
+  depth_within c at =
+      let depth = in_flat_map (λ depth. filter (λ d. depth_at p d == depth) (range_with_len 0 (component_count p))) (range_with_len 1 (component_count p)) c at in
+      let kept = in_filter (λ d. depth_at p d == depth.0) (range_with_len 0 (component_count p)) c depth.2 in
+      let bounds = in_range 0 (component_count p) c kept.0 in
+      omega (arith, bounds.1)
+
+  fields_none : fields_fault p ≡ None
+  fields_none =
+      none_from_each (map (component_fault p) (by_depth p))
+      (λ fault at.
+      let c = in_map (component_fault p) (by_depth p) fault at in
+      sym c.2 ∙ component_none c.0 (depth_within c.0 c.1))
+
+  -- ---- the whole
+
+  opaque_only : (kind : Kind) → kind ≡ Opaque → is_transactional kind ≡ false
+  opaque_only Transactional is = cc
+  opaque_only Opaque is = refl
+
+  replay_none : (kind : Kind) → p.spout.kind ≡ kind → replay_fault p kind ≡ None
+  replay_none Transactional is = refl
+  replay_none Opaque is =
+      ap (option_map (λ (state : StatePart). NotExactlyOnce state.name))
+      (find_none (λ (state : StatePart). is_transactional state.kind) p.states
+      (λ state at. opaque_only state.kind (All-at_in (λ (s : StatePart). s.kind ≡ Opaque) p.states (valid.replays is) state at)))
+
+light : (weight : ℕ) → weight ≤ 256 → weight_fault weight ≡ None
+light weight few = cond-false (nat_lt 256 weight) (Some (Weight weight)) None (le-ltb 256 weight few)
+
+none_of_each_seven : {F : Type 0} (a b c d e f g : Option F) → a ≡ None → b ≡ None → c ≡ None → d ≡ None → e ≡ None → f ≡ None → g ≡ None → first_some (a ∷ b ∷ c ∷ d ∷ e ∷ f ∷ g ∷ []) ≡ None
+none_of_each_seven a b c d e f g is_a is_b is_c is_d is_e is_f is_g = rw (is_a, is_b, is_c, is_d, is_e, is_f, is_g) refl
+
+pub none_of_valid : (p : Parts) → IsValidFile p → meaning_fault p ≡ None
+unfolding meaning_fault
+none_of_valid p valid =
+    none_of_each_seven (twice_fault p) (source_fault p) (cycle_fault p) (fields_fault p) (replay_fault p p.spout.kind)
+    (range_fault (codes "tasks in all") (pos (tasks_in_all (plan_of p))) 1 256)
+    (weight_fault (weight_of (plan_of p)))
+    (twice_none p valid) (source_none p valid) (cycle_none p valid) (fields_none p valid) (replay_none p valid p.spout.kind refl)
+    (within_range (codes "tasks in all") (tasks_in_all (plan_of p)) 1 256 (subst (λ n. IsBetween n 1 256) (sum_of_tasks p) valid.tasks))
+    (light (weight_of (plan_of p)) valid.weight)
+
+-- what a file says has no fault exactly where it is valid
+pub none_exactly_valid : (p : Parts) → IsInRange p → (meaning_fault p ≡ None) ↔ IsValidFile p
+none_exactly_valid p range = (valid_file p range, none_of_valid p)

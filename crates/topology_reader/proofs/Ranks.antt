@@ -1,0 +1,179 @@
+-- What is reached is that to which there is a way, and without cycles the bolts before a component grow in number along it.
+use Rattle.std.specs.Prelude.{◌≡◌, ◌↔◌, ℕ, zero, suc, ◌+◌, ◌<◌, ◌≤◌, Bool, true, false, ◌&&◌, cond, List, [], ◌∷◌, ◌++◌, length, Option, Some, None}
+use Rattle.std.specs.List.{find, count_by, range_with_len}
+use Rattle.std.specs.Option.{option_map}
+use Rattle.std.proofs.Common.{◌⊎◌, inl, inr, refl, sym, ◌∙◌, ap, arith}
+use Rattle.std.proofs.lemmas.Bool.{and_parts, and_from, or_cases, or_left, or_right, cases_Bool, cases_order, cond-true, cond-false}
+use Rattle.std.proofs.lemmas.List.FromFn.{length-range_with_len}
+use Rattle.std.proofs.lemmas.List.Sums.{sum_by-cons, count_by-le-length}
+use Rattle.std.proofs.lemmas.Option.{none-some}
+use Rattle.topology_reader.specs.declared.parts.Parts.{Parts}
+use Rattle.topology_reader.specs.declared.parts.TopoFault.TheVariants.{Cycle}
+use Rattle.topology_reader.specs.Wiring.{name_at, feeds, reaches_over, reaches}
+use Rattle.topology_reader.specs.Meant.{cycle_fault}
+use Rattle.topology_reader.specs.Reach.{IsWayThrough, IsWay}
+
+-- how many bolts there are before a component, on any way to it
+unfoldable pub rank : Parts → ℕ → ℕ
+rank p c = count_by (λ a. reaches p a c) (range_with_len 0 (length p.bolts))
+
+-- ---- ways over the first bolts
+
+-- what a way over the first n + 1 bolts is: one over the first n, or two of them that meet at n
+over_more : (n : ℕ) (p : Parts) (a b : ℕ) → reaches_over (suc n) p a b ≡ true → (reaches_over n p a b ≡ true) ⊎ ((reaches_over n p a n ≡ true) × (reaches_over n p n b ≡ true))
+over_more n p a b way =
+    elim (or_cases (reaches_over n p a b) (reaches_over n p a n && reaches_over n p n b) way) [
+      | inl direct ↦ inl direct
+      | inr through ↦ inr (and_parts (reaches_over n p a n) (reaches_over n p n b) through)
+    ]
+
+over_same : (n : ℕ) (p : Parts) (a b : ℕ) → reaches_over n p a b ≡ true → reaches_over (suc n) p a b ≡ true
+over_same n p a b way = or_left (reaches_over n p a b) (reaches_over n p a n && reaches_over n p n b) way
+
+over_meeting : (n : ℕ) (p : Parts) (a b : ℕ) → reaches_over n p a n ≡ true → reaches_over n p n b ≡ true → reaches_over (suc n) p a b ≡ true
+over_meeting n p a b first second =
+    or_right (reaches_over n p a b) (reaches_over n p a n && reaches_over n p n b) (and_from (reaches_over n p a n) (reaches_over n p n b) first second)
+
+-- a way to the new bolt, and one from it, needs it in between no more
+over_to_last : (n : ℕ) (p : Parts) (a : ℕ) → reaches_over (suc n) p a n ≡ true → reaches_over n p a n ≡ true
+over_to_last n p a way = elim (over_more n p a n way) [ inl direct ↦ direct | inr through ↦ through.0 ]
+
+over_from_last : (n : ℕ) (p : Parts) (b : ℕ) → reaches_over (suc n) p n b ≡ true → reaches_over n p n b ≡ true
+over_from_last n p b way = elim (over_more n p n b way) [ inl direct ↦ direct | inr through ↦ through.1 ]
+
+-- one subscription is a way
+pub over_from_feeds : (n : ℕ) (p : Parts) (a b : ℕ) → feeds p a b ≡ true → reaches_over n p a b ≡ true
+over_from_feeds zero p a b way = way
+over_from_feeds (suc n) p a b way = over_same n p a b (over_from_feeds n p a b way)
+
+-- two ways that meet at one of the first n bolts are a way over these
+pub over_joined : (n : ℕ) (p : Parts) (a m b : ℕ) → m < n → reaches_over n p a m ≡ true → reaches_over n p m b ≡ true → reaches_over n p a b ≡ true
+over_joined zero p a m b below first second = absurd (omega arith)
+over_joined (suc n) p a m b below first second =
+    elim (cases_order m n) [
+      | inl same ↦ over_meeting n p a b (over_to_last n p a (rw same at first)) (over_from_last n p b (rw same at second))
+      | inr other ↦
+          let under : m < n = omega arith in
+          elim (over_more n p a m first) [
+            | inl direct ↦
+                elim (over_more n p m b second) [
+                  | inl on ↦ over_same n p a b (over_joined n p a m b under direct on)
+                  | inr through ↦ over_meeting n p a b (over_joined n p a m n under direct through.0) through.1
+                ]
+            | inr to ↦
+                elim (over_more n p m b second) [
+                  | inl on ↦ over_meeting n p a b to.0 (over_joined n p n m b under to.1 on)
+                  | inr through ↦ over_meeting n p a b to.0 through.1
+                ]
+          ]
+    ]
+
+-- ---- any ways
+
+pub reaches_from_feeds : (p : Parts) (a b : ℕ) → feeds p a b ≡ true → reaches p a b ≡ true
+unfolding reaches
+reaches_from_feeds p a b way = over_from_feeds (length p.bolts) p a b way
+
+pub reaches_joined : (p : Parts) (a m b : ℕ) → m < length p.bolts → reaches p a m ≡ true → reaches p m b ≡ true → reaches p a b ≡ true
+unfolding reaches
+reaches_joined p a m b below first second = over_joined (length p.bolts) p a m b below first second
+
+-- a way goes on along a feeding
+pub reaches_on : (p : Parts) (a b c : ℕ) → b < length p.bolts → reaches p a b ≡ true → feeds p b c ≡ true → reaches p a c ≡ true
+reaches_on p a b c below way fed = reaches_joined p a b c below way (reaches_from_feeds p b c fed)
+
+-- ---- ways, bolt by bolt
+
+through_both : (p : Parts) (a m b : ℕ) (first second : List ℕ) → m < length p.bolts → IsWayThrough p a first m → IsWayThrough p m second b → IsWayThrough p a (first ++ m ∷ second) b
+through_both p a m b [] second below to on = (below, to, on)
+through_both p a m b (next ∷ first) second below to on = (to.0, to.1, through_both p next m b first second below to.2 on)
+
+way_from_over : (n : ℕ) (p : Parts) (a b : ℕ) → n ≤ length p.bolts → reaches_over n p a b ≡ true → IsWay p a b
+way_from_over zero p a b below way = ([], way)
+way_from_over (suc n) p a b below way =
+    elim (over_more n p a b way) [
+      | inl direct ↦ way_from_over n p a b (omega arith) direct
+      | inr through ↦
+          let to = way_from_over n p a n (omega arith) through.0 in
+          let on = way_from_over n p n b (omega arith) through.1 in
+          (to.0 ++ n ∷ on.0, through_both p a n b to.0 on.0 (omega arith) to.1 on.1)
+    ]
+
+reaches_through : (p : Parts) (a b : ℕ) (bolts : List ℕ) → IsWayThrough p a bolts b → reaches p a b ≡ true
+reaches_through p a b [] fed = reaches_from_feeds p a b fed
+reaches_through p a b (next ∷ bolts) through = reaches_joined p a next b through.0 (reaches_from_feeds p a next through.1) (reaches_through p next b bolts through.2)
+
+way_from_reaches : (p : Parts) (a b : ℕ) → reaches p a b ≡ true → IsWay p a b
+unfolding reaches
+way_from_reaches p a b way = way_from_over (length p.bolts) p a b (omega arith) way
+
+-- what is reached is that to which there is a way
+pub reaches_by_way : (p : Parts) (a b : ℕ) → (reaches p a b ≡ true) ↔ IsWay p a b
+reaches_by_way p a b = (way_from_reaches p a b, λ way. reaches_through p a b way.0 way.1)
+
+-- ---- counting
+
+one_le : (x y : Bool) → (x ≡ true → y ≡ true) → cond x 1 0 ≤ cond y 1 0
+one_le true y onward = rw (onward refl) (omega arith)
+one_le false y onward = omega arith
+
+one_lt : (x y : Bool) → x ≡ false → y ≡ true → cond x 1 0 < cond y 1 0
+one_lt x y fails passes = rw (fails, passes) (omega arith)
+
+count_le : (f g : ℕ → Bool) (first n : ℕ) → ((a : ℕ) → a < first + n → f a ≡ true → g a ≡ true) → count_by f (range_with_len first n) ≤ count_by g (range_with_len first n)
+count_le f g first zero onward = omega arith
+count_le f g first (suc n) onward =
+    let here : cond (f first) 1 0 ≤ cond (g first) 1 0 = one_le (f first) (g first) (onward first (omega arith)) in
+    let rest : count_by f (range_with_len (first + 1) n) ≤ count_by g (range_with_len (first + 1) n) = count_le f g (first + 1) n (λ a below. onward a (omega arith)) in
+    rw (sum_by-cons (λ a. cond (f a) 1 0) first (range_with_len (first + 1) n), sum_by-cons (λ a. cond (g a) 1 0) first (range_with_len (first + 1) n)) (omega arith)
+
+-- what only the second test has makes it pass more
+count_lt : (f g : ℕ → Bool) (first n c : ℕ) → ((a : ℕ) → a < first + n → f a ≡ true → g a ≡ true) → first ≤ c → c < first + n → f c ≡ false → g c ≡ true → count_by f (range_with_len first n) < count_by g (range_with_len first n)
+count_lt f g first zero c onward from to fails passes = absurd (omega arith)
+count_lt f g first (suc n) c onward from to fails passes =
+    let bound : (a : ℕ) → a < (first + 1) + n → f a ≡ true → g a ≡ true = λ a below. onward a (omega arith) in
+    rw (sum_by-cons (λ a. cond (f a) 1 0) first (range_with_len (first + 1) n), sum_by-cons (λ a. cond (g a) 1 0) first (range_with_len (first + 1) n))
+    (elim (cases_order first c) [
+      | inl same ↦
+          let here : cond (f first) 1 0 < cond (g first) 1 0 = one_lt (f first) (g first) (ap f same ∙ fails) (ap g same ∙ passes) in
+          let rest : count_by f (range_with_len (first + 1) n) ≤ count_by g (range_with_len (first + 1) n) = count_le f g (first + 1) n bound in
+          omega arith
+      | inr other ↦
+          let here : cond (f first) 1 0 ≤ cond (g first) 1 0 = one_le (f first) (g first) (onward first (omega arith)) in
+          let rest : count_by f (range_with_len (first + 1) n) < count_by g (range_with_len (first + 1) n) = count_lt f g (first + 1) n c bound (omega arith) (omega arith) fails passes in
+          omega arith
+    ])
+
+-- ---- ranks
+
+none_mapped : {A B : Type 0} (f : A → B) (o : Option A) → option_map f o ≡ None → o ≡ None
+none_mapped f None none = refl
+none_mapped f (Some x) none = absurd (none-some (f x) (sym none))
+
+pub rank-le : (p : Parts) (c : ℕ) → rank p c ≤ length p.bolts
+unfolding rank
+rank-le p c = omega (arith, count_by-le-length (λ a. reaches p a c) (range_with_len 0 (length p.bolts)), length-range_with_len 0 (length p.bolts))
+
+none_found : (test : ℕ → Bool) (first n : ℕ) → find test (range_with_len first n) ≡ None → (c : ℕ) → first ≤ c → c < first + n → test c ≡ false
+none_found test first zero none c from to = absurd (omega arith)
+none_found test first (suc n) none c from to =
+    elim (cases_Bool (test first)) [
+      | inl passes ↦ absurd (none-some first (sym none ∙ cond-true (test first) (Some first) (find test (range_with_len (first + 1) n)) passes))
+      | inr fails ↦ elim (cases_order first c) [
+        | inl same ↦ rw (sym same) fails
+        | inr other ↦ none_found test (first + 1) n (sym (cond-false (test first) (Some first) (find test (range_with_len (first + 1) n)) fails) ∙ none) c (omega arith) (omega arith)
+      ]
+    ]
+
+-- where no fault is told, no bolt is reached from itself
+pub no_cycle : (p : Parts) (c : ℕ) → cycle_fault p ≡ None → c < length p.bolts → reaches p c c ≡ false
+no_cycle p c none below =
+    none_found (λ a. reaches p a a) 0 (length p.bolts) (none_mapped (λ a. Cycle (name_at p a)) (find (λ a. reaches p a a) (range_with_len 0 (length p.bolts))) none) c (omega arith) (omega arith)
+
+-- a fed component has more bolts before it than the bolt that feeds it
+pub rank_grows : (p : Parts) (c d : ℕ) → cycle_fault p ≡ None → c < length p.bolts → feeds p c d ≡ true → rank p c < rank p d
+unfolding rank
+rank_grows p c d none below fed =
+    count_lt (λ a. reaches p a c) (λ a. reaches p a d) 0 (length p.bolts) c
+    (λ a under way. reaches_on p a c d below way fed)
+    (omega arith) (omega arith) (no_cycle p c none below) (reaches_from_feeds p c d fed)

@@ -1,0 +1,296 @@
+-- The subscriptions of the plan of a file without a fault: at most one of a component to a source, with a grouping by fields that are there.
+use Rattle.std.specs.Prelude.{◌≡◌, ℕ, ◌+◌, ◌<◌, List, [], ◌∷◌, ◌++◌, length, map, filter, All, Bool, true, false, Option, Some, None, option_map, option_and_then, slice_get, unwrap_or, codes}
+use Rattle.std.specs.List.{enumerate_from, flat_map}
+use Rattle.std.specs.List.Sorted.{IsStrictlyIncreasing}
+use Rattle.std.specs.Option.{option_map_or}
+use Rattle.std.specs.Str.{bytes_eq}
+use Rattle.std.proofs.Common.{◌⊎◌, inl, inr, refl, sym, ◌∙◌, ap, subst, arith}
+use Rattle.std.proofs.lemmas.Bool.{cases_Bool, cases_lt, cond-true, cond-false, false≢true, false_from_ne_true}
+use Rattle.std.proofs.lemmas.List.{length-map, map-id}
+use Rattle.std.proofs.lemmas.Option.{none-some, same_Some, slice_get_within}
+use Rattle.topology_plan.specs.declared.parts.Body.TheVariants.{Bolt}
+use Rattle.topology_plan.specs.declared.parts.Component.{Component}
+use Rattle.topology_plan.specs.declared.parts.Origin.{Origin}
+use Rattle.topology_plan.specs.declared.parts.Origin.TheVariants as origin
+use Rattle.topology_plan.specs.declared.parts.Sub.{Sub}
+use Rattle.topology_reader.specs.declared.parts.TopoFault.TheVariants.{WrongKind}
+use Rattle.topology_reader.specs.declared.parts.Way.{Way}
+use Rattle.topology_reader.specs.declared.parts.Way.TheVariants as way
+use Rattle.topology_reader.specs.declared.parts.Input.{Input}
+use Rattle.topology_reader.specs.declared.parts.Operation.{Operation}
+use Rattle.topology_reader.specs.declared.parts.Operation.TheVariants.{Split, Project, Filter, Set, Len, Route, Flaky, Mute, Custom}
+use Rattle.topology_reader.specs.declared.parts.BoltPart.{BoltPart}
+use Rattle.topology_reader.specs.declared.parts.Parts.{Parts}
+use Rattle.topology_plan.specs.Topology.{subs_of}
+use Rattle.topology_plan.specs.Valid.{IsBetween}
+use Rattle.topology_plan.specs.Wired.{width_of, AreWithin, IsRouteOf, IsFrom}
+use Rattle.topology_reader.specs.Wiring.{bolt_names, place_of, source_of, state_inputs, inputs_by_component, inputs_at, sources_at, fields_after, fields_of, fields_to, operation_at}
+use Rattle.topology_reader.specs.Planned.{number_of, numbers_of, planned_operation, route_field, planned_grouping, is_from, subs_of_component, planned_subs, planned_bolt, plan_of}
+use Rattle.topology_reader.specs.Meant.{key_of, projected, is_route, chooses, direct_fault, fields_read, twice_fault}
+use Rattle.topology_reader.specs.Ranges.{IsWayInRange, IsInputInRange, IsBoltInRange, IsStateInRange, IsInRange}
+use Rattle.topology_reader.proofs.Listed.{IsIn, All-from_in, All-at_in, in_map, to_map, in_append, in_place, to_left}
+use Rattle.topology_reader.proofs.Distinct.{bytes_same, some_mapped, place_named, place_within, place_there, AreApart, AllPairs-from_apart, IsRising, rising_above, increasing_from_rising}
+use Rattle.topology_reader.proofs.Numbered.{map_twice, some_there, reads_at_bolt, component_at_bolt}
+use Rattle.topology_reader.proofs.ValidPlan.{HasNoFault, is_source, IsPlanned, planned_in_plan, subs_of_plan, no_subs_past, length_inputs}
+use Rattle.topology_reader.proofs.Columns.{to_sources, fields_of_spout, fields_of_bolt, HasNoFaultAt, bolt_list_apart, state_list_apart, in_inputs_at, IsBoltOrSpout, source_there, no_fault_here}
+
+-- ---- one name of a source
+
+abbrev IsNamed : Parts → Origin → List ℕ → Type 0
+IsNamed p origin.Spout name = p.spout.name ≡ name
+IsNamed p (origin.Component c) name = slice_get (bolt_names p) c ≡ Some name
+
+source_named : (p : Parts) (name : List ℕ) (from : Origin) → source_of p name ≡ Some from → IsNamed p from name
+source_named p name origin.Spout is =
+    elim (cases_Bool (bytes_eq p.spout.name name)) [
+      | inl spout ↦ bytes_same p.spout.name name spout
+      | inr bolt ↦
+          let found = some_mapped origin.Component (place_of (bolt_names p) name) origin.Spout (sym (cond-false (bytes_eq p.spout.name name) (Some origin.Spout) (option_map origin.Component (place_of (bolt_names p) name)) bolt) ∙ is) in
+          let wrong : origin.Component found.0 ≡ origin.Spout = found.2 in
+          absurd (cc)
+    ]
+source_named p name (origin.Component c) is =
+    elim (cases_Bool (bytes_eq p.spout.name name)) [
+      | inl spout ↦
+          let wrong : Some origin.Spout ≡ Some (origin.Component c) = sym (cond-true (bytes_eq p.spout.name name) (Some origin.Spout) (option_map origin.Component (place_of (bolt_names p) name)) spout) ∙ is in
+          absurd (cc)
+      | inr bolt ↦
+          let found = some_mapped origin.Component (place_of (bolt_names p) name) (origin.Component c) (sym (cond-false (bytes_eq p.spout.name name) (Some origin.Spout) (option_map origin.Component (place_of (bolt_names p) name)) bolt) ∙ is) in
+          let same : found.0 ≡ c = (let parts : origin.Component found.0 ≡ origin.Component c = found.2 in cc) in
+          subst (λ k. slice_get (bolt_names p) k ≡ Some name) same (place_named (bolt_names p) name found.0 found.1)
+    ]
+
+one_name : (p : Parts) (from : Origin) (a b : List ℕ) → IsNamed p from a → IsNamed p from b → a ≡ b
+one_name p origin.Spout a b first second = sym first ∙ second
+one_name p (origin.Component c) a b first second = same_Some a b (sym first ∙ second)
+
+-- ---- at most one subscription of a component to a source
+
+none_kept : {X : Type 0} (test : X → Bool) (xs : List X) → ((x : X) → IsIn x xs → test x ≡ false) → filter test xs ≡ []
+none_kept test [] each = refl
+none_kept test (x ∷ xs) each = cond-false (test x) (x ∷ filter test xs) (filter test xs) (each x (inl refl)) ∙ none_kept test xs (λ y at. each y (inr at))
+
+one_kept : (p : Parts) (from : Origin) (inputs : List Input) → AreApart (map (λ (input : Input). input.from) inputs)
+    → (filter (is_from p from) inputs ≡ []) ⊎ ((input : Input) × (filter (is_from p from) inputs ≡ input ∷ []))
+one_kept p from [] apart = inl refl
+one_kept p from (input ∷ inputs) apart =
+    elim (cases_Bool (is_from p from input)) [
+      | inl here ↦
+          let others : filter (is_from p from) inputs ≡ [] =
+          none_kept (is_from p from) inputs
+          (λ other at. false_from_ne_true (is_from p from other)
+          (λ again.
+          let same : other.from ≡ input.from = one_name p from other.from input.from (source_named p other.from from (is_source from (source_of p other.from) again)) (source_named p input.from from (is_source from (source_of p input.from) here)) in
+          apart.0 (subst (λ name. IsIn name (map (λ (i : Input). i.from) inputs)) same (to_map (λ (i : Input). i.from) inputs other at))))
+          in
+          inr (input, cond-true (is_from p from input) (input ∷ filter (is_from p from) inputs) (filter (is_from p from) inputs) here ∙ ap (λ rest. input ∷ rest) others)
+      | inr gone ↦
+          let same = cond-false (is_from p from input) (input ∷ filter (is_from p from) inputs) (filter (is_from p from) inputs) gone in
+          elim (one_kept p from inputs apart.1) [
+            | inl none ↦ inl (same ∙ none)
+            | inr one ↦ inr (one.0, same ∙ one.1)
+          ]
+    ]
+
+rising_subs : (p : Parts) (from : Origin) (n : ℕ) (all : List (List Input)) → ((inputs : List Input) → IsIn inputs all → AreApart (map (λ (input : Input). input.from) inputs))
+    → IsRising n (map (λ (sub : Sub). sub.to) (flat_map (subs_of_component p from) (enumerate_from n all)))
+rising_subs p from n [] apart = tt
+rising_subs p from n (inputs ∷ all) apart =
+    let later = flat_map (subs_of_component p from) (enumerate_from (n + 1) all) in
+    let rest : IsRising (n + 1) (map (λ (sub : Sub). sub.to) later) = rising_subs p from (n + 1) all (λ others at. apart others (inr at)) in
+    let made = λ (kept : List Input). map (λ (sub : Sub). sub.to) (map (λ (input : Input). record { to = n; grouping = planned_grouping p from input.way }) kept ++ later) in
+    elim (one_kept p from inputs (apart inputs (inl refl))) [
+      | inl none ↦ subst (λ kept. IsRising n (made kept)) (sym none) (rising_above n (n + 1) (map (λ (sub : Sub). sub.to) later) (omega arith) rest)
+      | inr one ↦ subst (λ kept. IsRising n (made kept)) (sym one.1) (omega arith, rest)
+    ]
+
+pub inputs_apart : (p : Parts) (inputs : List Input) → twice_fault p ≡ None → IsIn inputs (inputs_by_component p) → AreApart (map (λ (input : Input). input.from) inputs)
+inputs_apart p inputs none at =
+    elim (in_append (map (λ (bolt : BoltPart). bolt.inputs) p.bolts) (map state_inputs p.states) inputs at) [
+      | inl left ↦
+          let bolt = in_map (λ (bolt : BoltPart). bolt.inputs) p.bolts inputs left in
+          subst (λ (is : List Input). AreApart (map (λ (input : Input). input.from) is)) bolt.2 (bolt_list_apart p bolt.0 (map (λ (input : Input). input.from) bolt.0.inputs) none bolt.1 (inl refl))
+      | inr right ↦
+          let state = in_map state_inputs p.states inputs right in
+          let names : map (λ (input : Input). input.from) (state_inputs state.0) ≡ state.0.inputs =
+          map_twice (λ (input : Input). input.from) (λ from. record { from = from; way = way.Fields state.0.key }) state.0.inputs ∙ map-id state.0.inputs
+          in
+          subst (λ (is : List Input). AreApart (map (λ (input : Input). input.from) is)) state.2 (subst AreApart (sym names) (state_list_apart p state.0 state.0.inputs none state.1 (inr (inl refl))))
+    ]
+
+once_from : (p : Parts) (from : Origin) → twice_fault p ≡ None → IsStrictlyIncreasing (map (λ (sub : Sub). sub.to) (planned_subs p from))
+once_from p from none =
+    increasing_from_rising 0 (map (λ (sub : Sub). sub.to) (planned_subs p from)) (rising_subs p from 0 (inputs_by_component p) (λ inputs at. inputs_apart p inputs none at))
+
+pub once_planned : (p : Parts) (from : Origin) → twice_fault p ≡ None → IsStrictlyIncreasing (map (λ (sub : Sub). sub.to) (subs_of (plan_of p) from))
+unfolding plan_of
+once_planned p origin.Spout none = once_from p origin.Spout none
+once_planned p (origin.Component c) none =
+    elim (cases_lt c (length (inputs_by_component p))) [
+      | inl within ↦ subst (λ (subs : List Sub). IsStrictlyIncreasing (map (λ (sub : Sub). sub.to) subs)) (sym (subs_of_plan p c within)) (once_from p (origin.Component c) none)
+      | inr past ↦ subst (λ (subs : List Sub). IsStrictlyIncreasing (map (λ (sub : Sub). sub.to) subs)) (sym (no_subs_past p c past)) (λ k within. absurd (omega arith))
+    ]
+
+-- ---- fields by their numbers
+
+pub number_within : (fields : List (List ℕ)) (name : List ℕ) → IsIn name fields → number_of fields name < length fields
+number_within fields name at =
+    let place = place_there fields name at in
+    subst (λ there. unwrap_or there 0 < length fields) (sym place.1) (place_within fields name place.0 place.1)
+
+one_number : (fields : List (List ℕ)) (a b : List ℕ) → IsIn a fields → IsIn b fields → number_of fields a ≡ number_of fields b → a ≡ b
+one_number fields a b first second same =
+    let here = place_there fields a first in
+    let there = place_there fields b second in
+    let one : here.0 ≡ there.0 = sym (ap (λ place. unwrap_or place 0) here.1) ∙ (same ∙ ap (λ place. unwrap_or place 0) there.1) in
+    same_Some a b (sym (place_named fields a here.0 here.1) ∙ (ap (slice_get fields) one ∙ place_named fields b there.0 there.1))
+
+numbers_apart : (fields names : List (List ℕ)) → AreApart names → ((name : List ℕ) → IsIn name names → IsIn name fields) → AreApart (numbers_of fields names)
+numbers_apart fields [] apart there = tt
+numbers_apart fields (name ∷ names) apart there = (
+  λ at.
+      let other = in_map (number_of fields) names (number_of fields name) at in
+      apart.0 (subst (λ n. IsIn n names) (one_number fields other.0 name (there other.0 (inr other.1)) (there name (inl refl)) other.2) other.1),
+  numbers_apart fields names apart.1 (λ n at. there n (inr at)),
+)
+
+pub numbers_within : (fields names : List (List ℕ)) → IsBetween (length names) 1 8 → AreApart names → ((name : List ℕ) → IsIn name names → IsIn name fields) → AreWithin (numbers_of fields names) (length fields)
+numbers_within fields names count apart there = (
+  (omega (arith, length-map names (number_of fields), count.0), omega (arith, length-map names (number_of fields), count.1)),
+  All-from_in (λ field. field < length fields) (numbers_of fields names)
+      (λ field at.
+      let name = in_map (number_of fields) names field at in
+      subst (λ n. n < length fields) name.2 (number_within fields name.0 (there name.0 name.1))),
+  AllPairs-from_apart (λ (n : ℕ). n) (numbers_of fields names) (subst AreApart (sym (map-id (numbers_of fields names))) (numbers_apart fields names apart there)),
+)
+
+-- ---- widths
+
+pub width_planned : (p : Parts) (from : Origin) → IsBoltOrSpout p from → width_of (plan_of p) from ≡ length (fields_of p from)
+unfolding plan_of
+width_planned p origin.Spout there = sym (ap (λ (fields : List (List ℕ)). length fields) (fields_of_spout p))
+width_planned p (origin.Component c) there =
+    let bolt = some_there p.bolts c there in
+    ap (λ (component : Option Component). option_map_or (λ (c : Component). length c.fields) component 0) (component_at_bolt p c bolt.0 bolt.1)
+
+-- ---- routes
+
+route_of : (fields : List (List ℕ)) (operation : Operation) → is_route operation ≡ true → IsRouteOf (Bolt (planned_operation fields operation)) (route_field fields operation)
+route_of fields (Split field into) route = absurd (false≢true route)
+route_of fields (Project names) route = absurd (false≢true route)
+route_of fields (Filter field test value) route = absurd (false≢true route)
+route_of fields (Set field value) route = absurd (false≢true route)
+route_of fields (Len field into) route = absurd (false≢true route)
+route_of fields (Route field) route = refl
+route_of fields (Flaky below) route = absurd (false≢true route)
+route_of fields (Mute below) route = absurd (false≢true route)
+route_of fields Custom route = absurd (false≢true route)
+
+route_keeps : (fields : List (List ℕ)) (operation : Operation) → is_route operation ≡ true → fields_after operation fields ≡ fields
+route_keeps fields (Split field into) route = absurd (false≢true route)
+route_keeps fields (Project names) route = absurd (false≢true route)
+route_keeps fields (Filter field test value) route = refl
+route_keeps fields (Set field value) route = refl
+route_keeps fields (Len field into) route = absurd (false≢true route)
+route_keeps fields (Route field) route = refl
+route_keeps fields (Flaky below) route = refl
+route_keeps fields (Mute below) route = refl
+route_keeps fields Custom route = refl
+
+route_within : (fields : List (List ℕ)) (operation : Operation) → is_route operation ≡ true → ((name : List ℕ) → IsIn name (fields_read operation) → IsIn name fields) → route_field fields operation < length fields
+route_within fields (Split field into) route there = absurd (false≢true route)
+route_within fields (Project names) route there = absurd (false≢true route)
+route_within fields (Filter field test value) route there = absurd (false≢true route)
+route_within fields (Set field value) route there = absurd (false≢true route)
+route_within fields (Len field into) route there = absurd (false≢true route)
+route_within fields (Route field) route there = number_within fields field (there field (inl refl))
+route_within fields (Flaky below) route there = absurd (false≢true route)
+route_within fields (Mute below) route there = absurd (false≢true route)
+route_within fields Custom route there = absurd (false≢true route)
+
+pub chosen_by_route : (p : Parts) (input : Input) (from : Origin) → source_of p input.from ≡ Some from → direct_fault p input way.Direct ≡ None → option_map_or is_route (operation_at p from) false ≡ true
+chosen_by_route p input from source none =
+    elim (cases_Bool (chooses p input)) [
+      | inl chosen ↦ subst (λ there. option_map_or is_route (option_and_then (operation_at p) there) false ≡ true) source chosen
+      | inr other ↦ absurd (none-some (WrongKind (codes "grouping")) (sym none ∙ cond-false (chooses p input) None (Some (WrongKind (codes "grouping"))) other))
+    ]
+
+-- ---- groupings
+
+way_in_range : (p : Parts) (inputs : List Input) (input : Input) → IsInRange p → IsIn inputs (inputs_by_component p) → IsIn input inputs → IsWayInRange input.way
+way_in_range p inputs input range at listed =
+    elim (in_append (map (λ (bolt : BoltPart). bolt.inputs) p.bolts) (map state_inputs p.states) inputs at) [
+      | inl left ↦
+          let bolt = in_map (λ (bolt : BoltPart). bolt.inputs) p.bolts inputs left in
+          let limits : IsBoltInRange bolt.0 = All-at_in IsBoltInRange p.bolts range.each_bolt bolt.0 bolt.1 in
+          All-at_in IsInputInRange bolt.0.inputs limits.ways input (subst (IsIn input) (sym bolt.2) listed)
+      | inr right ↦
+          let state = in_map state_inputs p.states inputs right in
+          let limits : IsStateInRange state.0 = All-at_in IsStateInRange p.states range.each_state state.0 state.1 in
+          let made = in_map (λ from. record { from = from; way = way.Fields state.0.key }) state.0.inputs input (subst (IsIn input) (sym state.2) listed) in
+          subst (λ (i : Input). IsWayInRange i.way) made.2 limits.key
+    ]
+
+-- no name stands twice in a key
+pub key_apart : (p : Parts) (inputs : List Input) (input : Input) → twice_fault p ≡ None → IsIn inputs (inputs_by_component p) → IsIn input inputs → AreApart (key_of input.way)
+key_apart p inputs input none at listed =
+    elim (in_append (map (λ (bolt : BoltPart). bolt.inputs) p.bolts) (map state_inputs p.states) inputs at) [
+      | inl left ↦
+          let bolt = in_map (λ (bolt : BoltPart). bolt.inputs) p.bolts inputs left in
+          let own : IsIn input bolt.0.inputs = subst (IsIn input) (sym bolt.2) listed in
+          bolt_list_apart p bolt.0 (key_of input.way) none bolt.1
+          (inr (to_left (map (λ (i : Input). key_of i.way) bolt.0.inputs) (projected bolt.0.operation ∷ []) (key_of input.way) (to_map (λ (i : Input). key_of i.way) bolt.0.inputs input own)))
+      | inr right ↦
+          let state = in_map state_inputs p.states inputs right in
+          let made = in_map (λ from. record { from = from; way = way.Fields state.0.key }) state.0.inputs input (subst (IsIn input) (sym state.2) listed) in
+          subst (λ (i : Input). AreApart (key_of i.way)) made.2 (state_list_apart p state.0 state.0.key none state.1 (inl refl))
+    ]
+
+module _ (p : Parts) (range : IsInRange p) (faultless : HasNoFault p) where
+  -- a direct grouping comes from a route
+  direct_planned : (c : ℕ) → c < length p.bolts → option_map_or is_route (operation_at p (origin.Component c)) false ≡ true → IsFrom (plan_of p) (origin.Component c) (planned_grouping p (origin.Component c) way.Direct)
+  direct_planned c within chosen =
+      let bolt = some_there p.bolts c within in
+      let here : HasNoFaultAt p c = no_fault_here p range faultless c (omega arith) in
+      let route : is_route bolt.0.operation ≡ true = subst (λ (there : Option BoltPart). option_map_or is_route (option_map (λ (b : BoltPart). b.operation) there) false ≡ true) bolt.1 chosen in
+      let fields : fields_of p (origin.Component c) ≡ fields_to p c = fields_of_bolt p c bolt.0 faultless.cycle bolt.1 ∙ route_keeps (fields_to p c) bolt.0.operation route in
+      let field : option_map_or (route_field (fields_of p (origin.Component c))) (operation_at p (origin.Component c)) 0 ≡ route_field (fields_to p c) bolt.0.operation =
+      ap (λ (there : Option BoltPart). option_map_or (route_field (fields_of p (origin.Component c))) (option_map (λ (b : BoltPart). b.operation) there) 0) bolt.1
+      ∙ ap (λ names. route_field names bolt.0.operation) fields
+      in
+      let reads : (name : List ℕ) → IsIn name (fields_read bolt.0.operation) → IsIn name (fields_to p c) = λ name at. here.reads name (subst (IsIn name) (sym (reads_at_bolt p c bolt.0 bolt.1)) at) in (
+        planned_bolt p (c, bolt.0),
+        component_at_bolt p c bolt.0 bolt.1,
+        subst (IsRouteOf (Bolt (planned_operation (fields_to p c) bolt.0.operation))) (sym field) (route_of (fields_to p c) bolt.0.operation route),
+        subst (λ n. n < length (fields_of p (origin.Component c))) (sym field)
+            (subst (λ (names : List (List ℕ)). route_field (fields_to p c) bolt.0.operation < length names) (sym fields) (route_within (fields_to p c) bolt.0.operation route reads)),
+      )
+
+  way_planned : (from : Origin) (by : Way) → IsBoltOrSpout p from → IsWayInRange by → AreApart (key_of by) → ((name : List ℕ) → IsIn name (key_of by) → IsIn name (fields_of p from))
+      → (by ≡ way.Direct → option_map_or is_route (operation_at p from) false ≡ true) → IsFrom (plan_of p) from (planned_grouping p from by)
+  way_planned from way.Shuffle there limits apart keys direct = tt
+  way_planned from (way.Fields key) there limits apart keys direct =
+      subst (AreWithin (numbers_of (fields_of p from) key)) (sym (width_planned p from there)) (numbers_within (fields_of p from) key limits apart keys)
+  way_planned from way.All there limits apart keys direct = tt
+  way_planned from way.Global there limits apart keys direct = tt
+  way_planned origin.Spout way.Direct there limits apart keys direct = absurd (false≢true (direct refl))
+  way_planned (origin.Component c) way.Direct there limits apart keys direct = direct_planned c there (direct refl)
+
+  pub grouping_planned : (from : Origin) (sub : Sub) → IsPlanned p from sub → IsFrom (plan_of p) from sub.grouping
+  grouping_planned from sub planned =
+      let within : sub.to < length p.bolts + length p.states = omega (arith, slice_get_within (inputs_by_component p) sub.to planned.inputs planned.consumer, length_inputs p) in
+      let here : HasNoFaultAt p sub.to = no_fault_here p range faultless sub.to within in
+      let listed : IsIn planned.input (inputs_at p sub.to) = in_inputs_at p sub.to planned.inputs planned.input planned.consumer planned.listed in
+      let source : IsIn from (sources_at p sub.to) = to_sources p sub.to planned.input from listed planned.source in
+      let same : fields_of p from ≡ fields_to p sub.to = here.same from source in
+      subst (IsFrom (plan_of p) from) (sym planned.grouping)
+      (way_planned from planned.input.way (source_there p sub.to from source)
+      (way_in_range p planned.inputs planned.input range (in_place (inputs_by_component p) sub.to planned.inputs planned.consumer) planned.listed)
+      (key_apart p planned.inputs planned.input faultless.twice (in_place (inputs_by_component p) sub.to planned.inputs planned.consumer) planned.listed)
+      (λ name at. subst (IsIn name) (sym same) (here.keys planned.input listed name at))
+      (λ direct. chosen_by_route p planned.input from planned.source (subst (λ (by : Way). direct_fault p planned.input by ≡ None) direct (here.direct planned.input listed))))
+
+  pub groupings_planned : (from : Origin) → All (λ (sub : Sub). IsFrom (plan_of p) from sub.grouping) (subs_of (plan_of p) from)
+  groupings_planned from =
+      All-from_in (λ (sub : Sub). IsFrom (plan_of p) from sub.grouping) (subs_of (plan_of p) from)
+      (λ sub at. grouping_planned from sub (planned_in_plan p from sub at))

@@ -1,0 +1,183 @@
+-- The subscriptions of all sources, made in one walk over the inputs.
+use Rattle.std.proofs.Common.{◌≡◌, ◌≢◌, ℕ, ◌+◌, ◌<◌, ◌==◌, Bool, true, false, cond, inl, inr, List, [], ◌∷◌, ◌++◌, length, map, filter, take, get_or, set, fold, Option, Some, None, Vec, refl, sym, ap, ◌∙◌, subst, arith, append_assoc, length-append}
+use Rattle.std.proofs.lemmas.Bool.{cases_Bool, eqb-true, eqb-false}
+use Rattle.std.proofs.lemmas.List.{map-set, get_or-map, append-nil, take_more, length-take-le, map-append, length-map, length-set, length-replicate, get_or-replicate, get_or-set_same, get_or-set_other}
+use Rattle.std.proofs.lemmas.List.FromFn.{fill_by_all}
+use Rattle.std.proofs.lemmas.List.Sums.{fold_push, fold-append}
+use Rattle.std.specs.List.{enumerate_from, flat_map, range_with_len}
+use Rattle.std.specs.declared.alloc.Global.{Global}
+use Rattle.topology_plan.specs.declared.parts.Origin.{Origin}
+use Rattle.topology_plan.specs.declared.parts.Origin.TheVariants as origin
+use Rattle.topology_plan.specs.declared.parts.Sub.{Sub}
+use Rattle.topology_reader.specs.declared.parts.BoltPart.{BoltPart}
+use Rattle.topology_reader.specs.declared.parts.StatePart.{StatePart}
+use Rattle.topology_reader.specs.declared.parts.Input.{Input}
+use Rattle.topology_reader.specs.declared.parts.Parts.{Parts}
+use Rattle.topology_reader.specs.Planned.{is_origin, is_from, planned_grouping, subs_of_component, planned_subs}
+use Rattle.topology_reader.specs.Subscribed.{SubTable, with_sub, with_input, with_inputs, no_subs}
+use Rattle.topology_reader.specs.Wires.{items_by}
+use Rattle.topology_reader.specs.Wiring.{source_of, state_inputs, inputs_by_component, component_count}
+
+-- a vector of the table with one more subscription
+pub added_at : (components : List (Vec Sub Global)) (c : ℕ) (old new : Vec Sub Global) (sub : Sub) → c < length components → old ≡ get_or components c old → new.items ≡ old.items ++ sub ∷ [] → items_by (set components c new) ≡ set (items_by components) c (get_or (items_by components) c [] ++ sub ∷ [])
+added_at components c old new sub below is added =
+    map-set (λ (subs : Vec Sub Global). subs.items) components c new
+    ∙ ap (set (items_by components) c)
+    (added ∙ ap (λ xs. xs ++ sub ∷ []) (ap (λ (subs : Vec Sub Global). subs.items) is ∙ sym (get_or-map (λ (subs : Vec Sub Global). subs.items) components c old [] below)))
+
+-- ---- numbered rows
+
+enumerate_append : {X : Type 0} (n : ℕ) (xs ys : List X) → enumerate_from n (xs ++ ys) ≡ enumerate_from n xs ++ enumerate_from (n + length xs) ys
+enumerate_append n [] ys = ap (λ k. enumerate_from k ys) (omega arith)
+enumerate_append n (x ∷ xs) ys =
+    ap (λ zs. (n, x) ∷ zs) (enumerate_append (n + 1) xs ys) ∙ ap (λ k. (n, x) ∷ (enumerate_from (n + 1) xs ++ enumerate_from k ys)) (omega arith)
+
+map-enumerate : {X Y : Type 0} (g : ℕ → Y) (n : ℕ) (xs : List X) → map (λ (numbered : ℕ × X). g numbered.0) (enumerate_from n xs) ≡ map g (range_with_len n (length xs))
+map-enumerate g n [] = refl
+map-enumerate g n (x ∷ xs) = ap (λ ys. g n ∷ ys) (map-enumerate g (n + 1) xs)
+
+-- one component more
+pub walk_next : {X : Type 0} (p : Parts) (rows : X → List Input) (n : ℕ) (xs : List X) (i : ℕ) (x : X) (start old new : SubTable) → i < length xs → x ≡ get_or xs i x → old ≡ fold (with_inputs p) start (enumerate_from n (map rows (take i xs))) → new ≡ with_inputs p old (n + i, rows x) → new ≡ fold (with_inputs p) start (enumerate_from n (map rows (take (i + 1) xs)))
+walk_next p rows n xs i x start old new below is so_far added =
+    let whole : take (i + 1) xs ≡ take i xs ++ x ∷ [] = take_more xs i x below ∙ ap (λ z. take i xs ++ z ∷ []) (sym is) in
+    let count : n + i ≡ n + length (map rows (take i xs)) = omega (arith, length-map (take i xs) rows, length-take-le i xs (omega arith)) in
+    let numbered : enumerate_from n (map rows (take (i + 1) xs)) ≡ enumerate_from n (map rows (take i xs)) ++ (n + i, rows x) ∷ [] =
+    ap (λ ys. enumerate_from n (map rows ys)) whole
+    ∙ ap (enumerate_from n) (map-append rows (take i xs) (x ∷ []))
+    ∙ enumerate_append n (map rows (take i xs)) (rows x ∷ [])
+    ∙ ap (λ k. enumerate_from n (map rows (take i xs)) ++ (k, rows x) ∷ []) (sym count) in
+    added
+    ∙ ap (λ table. with_inputs p table (n + i, rows x)) so_far
+    ∙ sym (fold_push (with_inputs p) start (enumerate_from n (map rows (take i xs))) (n + i, rows x))
+    ∙ ap (fold (with_inputs p) start) (sym numbered)
+
+-- the bolts and then the states are all components
+pub walk_whole : (p : Parts) (start middle end : SubTable) → middle ≡ fold (with_inputs p) start (enumerate_from 0 (map (λ (bolt : BoltPart). bolt.inputs) p.bolts)) → end ≡ fold (with_inputs p) middle (enumerate_from (length p.bolts) (map state_inputs p.states)) → end ≡ fold (with_inputs p) start (enumerate_from 0 (inputs_by_component p))
+walk_whole p start middle end first second =
+    let bolts = map (λ (bolt : BoltPart). bolt.inputs) p.bolts in
+    let count : length p.bolts ≡ 0 + length bolts = omega (arith, length-map p.bolts (λ (bolt : BoltPart). bolt.inputs)) in
+    second
+    ∙ ap (λ table. fold (with_inputs p) table (enumerate_from (length p.bolts) (map state_inputs p.states))) first
+    ∙ sym (fold-append (with_inputs p) start (enumerate_from 0 bolts) (enumerate_from (length p.bolts) (map state_inputs p.states)))
+    ∙ ap (λ k. fold (with_inputs p) start (enumerate_from 0 bolts ++ enumerate_from k (map state_inputs p.states))) count
+    ∙ ap (fold (with_inputs p) start) (sym (enumerate_append 0 bolts (map state_inputs p.states)))
+
+-- ---- what a table holds
+
+-- the table has these subscriptions of each source, of which n are components
+record IsTable (n : ℕ) (f : Origin → List Sub) (table : SubTable) : Type 0 where
+  from_spout : table.from_spout ≡ f origin.Spout
+  count : length table.from_components ≡ n
+  each : (c : ℕ) → c < n → get_or table.from_components c [] ≡ f (origin.Component c)
+
+IsTable-none : (n : ℕ) → IsTable n (λ _. []) (no_subs n)
+IsTable-none n = record {
+  from_spout = refl;
+  count = length-replicate n [];
+  each = λ c below. get_or-replicate n c [] [] below;
+}
+
+IsTable-same : (n : ℕ) (f g : Origin → List Sub) (table : SubTable) → ((from : Origin) → f from ≡ g from) → IsTable n f table → IsTable n g table
+IsTable-same n f g table same is = record {
+  from_spout = is.from_spout ∙ same origin.Spout;
+  count = is.count;
+  each = λ c below. is.each c below ∙ same (origin.Component c);
+}
+
+-- what a subscription to one source adds to each
+addition : Origin → Sub → Origin → List Sub
+addition from sub other = cond (is_origin other from) (sub ∷ []) []
+
+-- the place that a subscription is added at, and the others
+set_each : (d : ℕ) (sub : Sub) (f : Origin → List Sub) (subs : List (List Sub)) (c : ℕ) → c < length subs → get_or subs c [] ≡ f (origin.Component c) → get_or (set subs d (get_or subs d [] ++ sub ∷ [])) c [] ≡ f (origin.Component c) ++ cond (c == d) (sub ∷ []) []
+set_each d sub f subs c below is =
+    elim (cases_Bool (c == d)) [
+      | inl equal ↦
+          let same : c ≡ d = eqb-true c d equal in
+          let there : d < length subs = omega arith in
+          let here : get_or subs d [] ≡ f (origin.Component c) = ap (λ k. get_or subs k []) (sym same) ∙ is in
+          rw (equal) (ap (λ k. get_or (set subs d (get_or subs d [] ++ sub ∷ [])) k []) same ∙ get_or-set_same subs d (get_or subs d [] ++ sub ∷ []) [] there ∙ ap (λ xs. xs ++ sub ∷ []) here)
+      | inr differs ↦
+          let other : c ≢ d = eqb-false c d differs in
+          rw (differs) (get_or-set_other subs d c (get_or subs d [] ++ sub ∷ []) [] other ∙ is ∙ sym (append-nil (f (origin.Component c))))
+    ]
+
+IsTable-add : (n : ℕ) (f : Origin → List Sub) (table : SubTable) (from : Origin) (sub : Sub) → IsTable n f table → IsTable n (λ other. f other ++ addition from sub other) (with_sub table from sub)
+unfolding addition
+IsTable-add n f table origin.Spout sub is = record {
+  from_spout = ap (λ xs. xs ++ sub ∷ []) is.from_spout;
+  count = is.count;
+  each = λ c below. is.each c below ∙ sym (append-nil (f (origin.Component c)));
+}
+IsTable-add n f table (origin.Component d) sub is = record {
+  from_spout = is.from_spout ∙ sym (append-nil (f origin.Spout));
+  count = length-set table.from_components d (get_or table.from_components d [] ++ sub ∷ []) ∙ is.count;
+  each = λ c below. set_each d sub f table.from_components c (omega (arith, is.count)) (is.each c below);
+}
+
+-- ---- inputs
+
+planned_sub : Parts → ℕ → Input → Origin → Sub
+planned_sub p to input from = record { to = to; grouping = planned_grouping p from input.way }
+
+-- one input adds what the definition has of it
+addition-input : (p : Parts) (to : ℕ) (input : Input) (from other : Origin) → addition from (planned_sub p to input from) other ≡ map (λ (i : Input). record { to = to; grouping = planned_grouping p other i.way }) (cond (is_origin other from) (input ∷ []) [])
+unfolding addition planned_sub
+addition-input p to input origin.Spout origin.Spout = refl
+addition-input p to input origin.Spout (origin.Component c) = refl
+addition-input p to input (origin.Component d) origin.Spout = refl
+addition-input p to input (origin.Component d) (origin.Component c) =
+    elim (cases_Bool (c == d)) [
+      | inl equal ↦ rw (equal) (ap (λ k. record { to = to; grouping = planned_grouping p (origin.Component k) input.way } ∷ []) (sym (eqb-true c d equal)))
+      | inr differs ↦ rw (differs) refl
+    ]
+
+IsTable-source : (n : ℕ) (f : Origin → List Sub) (table : SubTable) (p : Parts) (to : ℕ) (input : Input) (source : Option Origin) → source_of p input.from ≡ source → IsTable n f table → IsTable n (λ other. f other ++ subs_of_component p other (to, input ∷ [])) (with_input p to table input)
+unfolding addition planned_sub
+IsTable-source n f table p to input None is holds =
+    rw is (IsTable-same n f (λ other. f other ++ []) table (λ other. sym (append-nil (f other))) holds)
+IsTable-source n f table p to input (Some from) is holds =
+    rw is
+    (IsTable-same n (λ other. f other ++ addition from (planned_sub p to input from) other) (λ other. f other ++ map (λ (i : Input). record { to = to; grouping = planned_grouping p other i.way }) (cond (is_origin other from) (input ∷ []) [])) (with_sub table from (planned_sub p to input from))
+    (λ other. ap (λ subs. f other ++ subs) (addition-input p to input from other)) (IsTable-add n f table from (planned_sub p to input from) holds))
+
+first_and_rest : {X Y : Type 0} (g : X → Y) (passes : Bool) (x : X) (rest : List X) → map g (cond passes (x ∷ []) []) ++ map g rest ≡ map g (cond passes (x ∷ rest) rest)
+first_and_rest g true x rest = refl
+first_and_rest g false x rest = refl
+
+IsTable-inputs : (n : ℕ) (f : Origin → List Sub) (table : SubTable) (p : Parts) (to : ℕ) (inputs : List Input) → IsTable n f table → IsTable n (λ other. f other ++ subs_of_component p other (to, inputs)) (fold (with_input p to) table inputs)
+IsTable-inputs n f table p to [] holds = IsTable-same n f (λ other. f other ++ []) table (λ other. sym (append-nil (f other))) holds
+IsTable-inputs n f table p to (input ∷ inputs) holds =
+    IsTable-same n (λ other. (f other ++ subs_of_component p other (to, input ∷ [])) ++ subs_of_component p other (to, inputs)) (λ other. f other ++ subs_of_component p other (to, input ∷ inputs)) (fold (with_input p to) (with_input p to table input) inputs)
+    (λ other.
+    append_assoc (f other) (subs_of_component p other (to, input ∷ [])) (subs_of_component p other (to, inputs))
+    ∙ ap (λ subs. f other ++ subs) (first_and_rest (λ (i : Input). record { to = to; grouping = planned_grouping p other i.way }) (is_from p other input) input (filter (is_from p other) inputs)))
+    (IsTable-inputs n (λ other. f other ++ subs_of_component p other (to, input ∷ [])) (with_input p to table input) p to inputs (IsTable-source n f table p to input (source_of p input.from) refl holds))
+
+IsTable-walk : (n : ℕ) (f : Origin → List Sub) (table : SubTable) (p : Parts) (components : List (ℕ × List Input)) → IsTable n f table → IsTable n (λ other. f other ++ flat_map (subs_of_component p other) components) (fold (with_inputs p) table components)
+IsTable-walk n f table p [] holds = IsTable-same n f (λ other. f other ++ []) table (λ other. sym (append-nil (f other))) holds
+IsTable-walk n f table p (component ∷ components) holds =
+    IsTable-same n (λ other. (f other ++ subs_of_component p other component) ++ flat_map (subs_of_component p other) components) (λ other. f other ++ (subs_of_component p other component ++ flat_map (subs_of_component p other) components)) (fold (with_inputs p) (with_inputs p table component) components)
+    (λ other. append_assoc (f other) (subs_of_component p other component) (flat_map (subs_of_component p other) components))
+    (IsTable-walk n (λ other. f other ++ subs_of_component p other component) (with_inputs p table component) p components (IsTable-inputs n f table p component.0 component.1 holds))
+
+-- ---- the whole walk
+
+length-inputs : (p : Parts) → component_count p ≡ length (inputs_by_component p)
+length-inputs p =
+    length-append (map (λ (bolt : BoltPart). bolt.name) p.bolts) (map (λ (state : StatePart). state.name) p.states)
+    ∙ omega (arith, length-map p.bolts (λ (bolt : BoltPart). bolt.name), length-map p.states (λ (state : StatePart). state.name), length-map p.bolts (λ (bolt : BoltPart). bolt.inputs), length-map p.states state_inputs)
+    ∙ sym (length-append (map (λ (bolt : BoltPart). bolt.inputs) p.bolts) (map state_inputs p.states))
+
+module _ (p : Parts) (table : SubTable) (walked : table ≡ fold (with_inputs p) (no_subs (component_count p)) (enumerate_from 0 (inputs_by_component p))) where
+  whole : IsTable (component_count p) (planned_subs p) table
+  whole = subst (IsTable (component_count p) (planned_subs p)) (sym walked) (IsTable-walk (component_count p) (λ _. []) (no_subs (component_count p)) p (enumerate_from 0 (inputs_by_component p)) (IsTable-none (component_count p)))
+
+  pub from_spout-walked : table.from_spout ≡ planned_subs p origin.Spout
+  from_spout-walked = whole.from_spout
+
+  pub from_components-walked : table.from_components ≡ map (λ (numbered : ℕ × List Input). planned_subs p (origin.Component numbered.0)) (enumerate_from 0 (inputs_by_component p))
+  from_components-walked =
+      fill_by_all (λ c. planned_subs p (origin.Component c)) table.from_components (component_count p) [] whole.count whole.each
+      ∙ ap (λ n. map (λ c. planned_subs p (origin.Component c)) (range_with_len 0 n)) (length-inputs p)
+      ∙ sym (map-enumerate (λ c. planned_subs p (origin.Component c)) 0 (inputs_by_component p))

@@ -1,0 +1,15 @@
+use Rattle.std.proofs.Common.{[], codes, ap, ◌∙◌}
+use Rattle.serde_json.specs.View.{members_view}
+use Rattle.topology_reader.specs.Format.{text_in, beside, groupings, input_table}
+use Rattle.topology_reader.specs.Progress.{progress_of, along}
+use Rattle.topology_reader.proofs.Walks.{object_fault-walk, onward, onward_along}
+use Rattle.topology_reader.proofs.forms.InputTableTable.fault.Goals as goal
+
+pub returns : goal.returns
+returns c =
+    let object = members_view c.args.object.now.entries in
+    let lines = beside groupings (text_in (codes "grouping") object) [] in
+    let walked = c.in_ok-walk_grouping.ensures ∙ ap (λ word. along (progress_of c.required-2.new.self) (beside groupings word [])) c.text_in.ensures in
+    object_fault-walk input_table object _ c.end.result
+    (onward_along lines (onward _ (onward _ c.new-walk.ensures c.in_ok-required.ensures) c.in_ok-required-2.ensures) walked)
+    c.end.ensures

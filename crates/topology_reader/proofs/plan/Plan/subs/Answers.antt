@@ -1,5 +1,0 @@
-use Rattle.topology_reader.proofs.Plans.{targets_of}
-use Rattle.topology_reader.proofs.plan.Plan.subs.Goals as goal
-
-pub returns-clause-targets : goal.returns-clause-targets
-returns-clause-targets c = targets_of _ _ c.args.from _ c.self.invariant.valid c.self.view_is c.subs_from.ensures

@@ -1,0 +1,7 @@
+use Rattle.std.proofs.Common.{◌≡◌, fold, map, take}
+use Rattle.topology_reader.specs.Subscribed.{with_input}
+use Rattle.topology_reader.proofs.subscribed.Subs.add_names.Given as goal
+
+abbrev pub invariant-loop-name : goal.invariant-loop-name
+invariant-loop-name l =
+    l.self ≡ fold (with_input l.wiring l.to) l.initial.self (map (λ name. record { from = name; way = l.way }) (take l.name-index l.names))

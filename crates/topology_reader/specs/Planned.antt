@@ -1,0 +1,143 @@
+-- The topology of what a file says. It means something where the file has no fault. This project's own.
+use Rattle.std.specs.Prelude.{ℕ, ◌==◌, List, [], ◌++◌, length, map, filter, Bool, true, false, option_map, unwrap_or, sum, take}
+use Rattle.std.specs.List.{enumerate_from, flat_map}
+use Rattle.std.specs.Option.{option_map_or}
+use Rattle.topology_plan.specs.declared.parts.Body.TheVariants.{Bolt, State}
+use Rattle.topology_plan.specs.declared.parts.Component.{Component}
+use Rattle.topology_plan.specs.declared.parts.Grouping.{Grouping}
+use Rattle.topology_plan.specs.declared.parts.Grouping.TheVariants as grouping
+use Rattle.topology_plan.specs.declared.parts.Op.{Op}
+use Rattle.topology_plan.specs.declared.parts.Op.TheVariants as op
+use Rattle.topology_plan.specs.declared.parts.Origin.{Origin}
+use Rattle.topology_plan.specs.declared.parts.Origin.TheVariants as origin
+use Rattle.topology_plan.specs.declared.parts.Sub.{Sub}
+use Rattle.topology_reader.specs.declared.parts.Way.{Way}
+use Rattle.topology_reader.specs.declared.parts.Way.TheVariants as way
+use Rattle.topology_reader.specs.declared.parts.Input.{Input}
+use Rattle.topology_reader.specs.declared.parts.Operation.{Operation}
+use Rattle.topology_reader.specs.declared.parts.Operation.TheVariants.{Split, Project, Filter, Set, Len, Route, Flaky, Mute, Custom}
+use Rattle.topology_reader.specs.declared.parts.BoltPart.{BoltPart}
+use Rattle.topology_reader.specs.declared.parts.StatePart.{StatePart}
+use Rattle.topology_reader.specs.declared.parts.Parts.{Parts}
+use Rattle.topology_plan.specs.Topology.{Topology}
+use Rattle.topology_reader.specs.Wiring.{place_of, source_of, inputs_by_component, fields_of, fields_to, operation_at}
+
+-- ---- fields by their numbers
+
+-- the place of a field's name among these, from 0
+abbrev pub number_of : List (List ℕ) → List ℕ → ℕ
+number_of fields name = unwrap_or (place_of fields name) 0
+
+-- the same of some names
+abbrev pub numbers_of : List (List ℕ) → List (List ℕ) → List ℕ
+numbers_of fields names = map (number_of fields) names
+
+-- an operation with the numbers of its fields, which come with these names
+abbrev pub planned_operation : List (List ℕ) → Operation → Op
+planned_operation fields (Split field into) = op.Split (number_of fields field)
+planned_operation fields (Project names) = op.Project (numbers_of fields names)
+planned_operation fields (Filter field test value) = op.Filter (number_of fields field) test value
+planned_operation fields (Set field value) = op.Set (number_of fields field) value
+planned_operation fields (Len field into) = op.Len (number_of fields field)
+planned_operation fields (Route field) = op.Route (number_of fields field)
+planned_operation fields (Flaky below) = op.Flaky below
+planned_operation fields (Mute below) = op.Mute below
+planned_operation fields Custom = op.Custom
+
+-- ---- subscriptions
+
+-- the number of the field by which a route chooses
+abbrev pub route_field : List (List ℕ) → Operation → ℕ
+route_field fields (Split field into) = 0
+route_field fields (Project names) = 0
+route_field fields (Filter field test value) = 0
+route_field fields (Set field value) = 0
+route_field fields (Len field into) = 0
+route_field fields (Route field) = number_of fields field
+route_field fields (Flaky below) = 0
+route_field fields (Mute below) = 0
+route_field fields Custom = 0
+
+-- the grouping of a subscription to a source, in the numbers of the source's fields
+abbrev pub planned_grouping : Parts → Origin → Way → Grouping
+planned_grouping p from way.Shuffle = grouping.Shuffle
+planned_grouping p from (way.Fields key) = grouping.Fields (numbers_of (fields_of p from) key)
+planned_grouping p from way.All = grouping.All
+planned_grouping p from way.Global = grouping.Global
+planned_grouping p from way.Direct = grouping.Direct (option_map_or (route_field (fields_of p from)) (operation_at p from) 0)
+
+-- the two sources are one
+abbrev pub is_origin : Origin → Origin → Bool
+is_origin origin.Spout origin.Spout = true
+is_origin origin.Spout (origin.Component d) = false
+is_origin (origin.Component c) origin.Spout = false
+is_origin (origin.Component c) (origin.Component d) = c == d
+
+-- the input is of this source
+abbrev pub is_from : Parts → Origin → Input → Bool
+is_from p from input = option_map_or (is_origin from) (source_of p input.from) false
+
+-- the subscriptions of a component to a source
+abbrev pub subs_of_component : Parts → Origin → ℕ × List Input → List Sub
+subs_of_component p from component =
+    map (λ (input : Input). record { to = component.0; grouping = planned_grouping p from input.way }) (filter (is_from p from) component.1)
+
+-- the subscriptions to a source, in the order of their consumers
+abbrev pub planned_subs : Parts → Origin → List Sub
+planned_subs p from = flat_map (subs_of_component p from) (enumerate_from 0 (inputs_by_component p))
+
+-- ---- components
+
+-- tasks and parts of the components
+abbrev pub tasks_by_component : Parts → List ℕ
+tasks_by_component p = map (λ (bolt : BoltPart). bolt.tasks) p.bolts ++ map (λ (state : StatePart). state.parts) p.states
+
+-- tasks are numbered through the components
+abbrev pub first_task_of : Parts → ℕ → ℕ
+first_task_of p c = sum (take c (tasks_by_component p))
+
+-- the component of a bolt and its number
+abbrev pub planned_bolt : Parts → ℕ × BoltPart → Component
+planned_bolt p numbered =
+    let c = numbered.0 in
+    let bolt = numbered.1 in
+    record {
+      name = bolt.name;
+      first_task = first_task_of p c;
+      tasks = bolt.tasks;
+      fields = fields_of p (origin.Component c);
+      body = Bolt (planned_operation (fields_to p c) bolt.operation);
+    }
+
+-- the component of a state and its number
+abbrev pub planned_state : Parts → ℕ × StatePart → Component
+planned_state p numbered =
+    let c = numbered.0 in
+    let state = numbered.1 in
+    record {
+      name = state.name;
+      first_task = first_task_of p c;
+      tasks = state.parts;
+      fields = [];
+      body = State (record {
+        kind = state.kind;
+        key = numbers_of (fields_to p c) state.key;
+        amount = option_map (number_of (fields_to p c)) state.amount;
+        fold = state.fold;
+      });
+    }
+
+-- the whole plan
+unfoldable pub plan_of : Parts → Topology
+plan_of p = record {
+  spout_fields = length p.spout.fields;
+  spout_kind = p.spout.kind;
+  batch = p.spout.batch;
+  components = map (planned_bolt p) (enumerate_from 0 p.bolts) ++ map (planned_state p) (enumerate_from (length p.bolts) p.states);
+  spout_subs = planned_subs p origin.Spout;
+  component_subs = map (λ (numbered : ℕ × List Input). planned_subs p (origin.Component numbered.0)) (enumerate_from 0 (inputs_by_component p));
+  ackers = p.ackers;
+  pending = p.pending;
+  buckets = p.buckets;
+  attempts = p.attempts;
+}

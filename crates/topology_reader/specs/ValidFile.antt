@@ -1,0 +1,90 @@
+-- What a file says that has no fault, in its own names. Components are the bolts and then the states, each in file order. This project's own.
+use Rattle.std.specs.Prelude.{◌≡◌, ◌≢◌, ◌<◌, ◌≤◌, ℕ, List, ◌∷◌, length, All, AllPairs, Some, IfSome, slice_get, sum}
+use Rattle.std.specs.List.{Contains}
+use Rattle.topology_plan.specs.declared.parts.Kind.TheVariants.{Opaque}
+use Rattle.topology_plan.specs.declared.parts.Origin.{Origin}
+use Rattle.topology_plan.specs.declared.parts.Origin.TheVariants as origin
+use Rattle.topology_plan.specs.Texts.{IsName}
+use Rattle.topology_plan.specs.Topology.{weight_of}
+use Rattle.topology_plan.specs.Valid.{IsBetween}
+use Rattle.topology_reader.specs.declared.parts.Way.TheVariants as way
+use Rattle.topology_reader.specs.declared.parts.Input.{Input}
+use Rattle.topology_reader.specs.declared.parts.Operation.{Operation}
+use Rattle.topology_reader.specs.declared.parts.Operation.TheVariants.{Route}
+use Rattle.topology_reader.specs.declared.parts.BoltPart.{BoltPart}
+use Rattle.topology_reader.specs.declared.parts.StatePart.{StatePart}
+use Rattle.topology_reader.specs.declared.parts.Parts.{Parts}
+use Rattle.topology_reader.specs.Wiring.{component_names, component_count, source_of, inputs_at, fields_after, fields_of, fields_to}
+use Rattle.topology_reader.specs.Planned.{tasks_by_component, plan_of}
+use Rattle.topology_reader.specs.Meant.{key_of, reads_at}
+use Rattle.topology_reader.specs.Ranges.{IsInRange}
+
+-- no name stands twice
+abbrev pub AreDistinct : List (List ℕ) → Type 0
+AreDistinct names = AllPairs (λ a b. a ≢ b) names
+
+-- ---- sources
+
+-- the source is the spout or a bolt
+abbrev pub IsSource : Parts → Origin → Type 0
+IsSource p origin.Spout = Unit {0}
+IsSource p (origin.Component b) = b < length p.bolts
+
+-- a source has 1 to 8 fields, which are names, none twice
+pub record HasFields (p : Parts) (from : Origin) : Type 0 where
+  pub count : IsBetween (length (fields_of p from)) 1 8
+  pub named : All IsName (fields_of p from)
+  pub distinct : AreDistinct (fields_of p from)
+
+-- the operation chooses the tasks of its rows
+abbrev pub IsRoute : Operation → Type 0
+IsRoute (Route field) = Unit {0}
+IsRoute _ = ⊥
+
+-- the source is a bolt that chooses the tasks of its rows
+abbrev pub IsRouteAt : Parts → Origin → Type 0
+IsRouteAt p origin.Spout = ⊥
+IsRouteAt p (origin.Component b) = (bolt : BoltPart) × (slice_get p.bolts b ≡ Some bolt) × IsRoute bolt.operation
+
+-- ---- components
+
+-- An input names a source that has these fields. The names of its key are among them, none twice, and it is grouped
+-- direct where its source is a route alone.
+pub record IsValidInput (p : Parts) (fields : List (List ℕ)) (input : Input) : Type 0 where
+  pub from : Origin
+  pub named : source_of p input.from ≡ Some from
+  pub source : IsSource p from
+  pub comes : fields_of p from ≡ fields
+  pub key : AreDistinct (key_of input.way)
+  pub key_fields : All (Contains fields) (key_of input.way)
+  pub direct : input.way ≡ way.Direct → IsRouteAt p from
+
+-- the inputs of component c name different sources, all with the same fields, and what it reads is among these
+pub record IsValidComponent (p : Parts) (c : ℕ) : Type 0 where
+  pub distinct : AllPairs (λ (a b : Input). a.from ≢ b.from) (inputs_at p c)
+  pub inputs : All (IsValidInput p (fields_to p c)) (inputs_at p c)
+  pub reads : All (Contains (fields_to p c)) (reads_at p c)
+
+-- ---- the file
+
+-- components can be numbered so that each has a greater number than each bolt whose rows it takes
+pub record IsNumbered (p : Parts) : Type 0 where
+  pub number : ℕ → ℕ
+  pub grows : (b c : ℕ) → All (λ (input : Input). source_of p input.from ≡ Some (origin.Component b) → number b < number c) (inputs_at p c)
+
+-- names, sources, fields, kinds and numbers are such that the file has a plan
+pub record IsValidFile (p : Parts) : Type 0 where
+  -- numbers, lengths of lists, and names by themselves
+  pub range : IsInRange p
+  pub names : AreDistinct (p.spout.name ∷ component_names p)
+  pub numbered : IsNumbered p
+  pub spout_fields : fields_of p origin.Spout ≡ p.spout.fields
+  -- a bolt's operation makes its fields of those that come to it
+  pub bolt_fields : (c : ℕ) → IfSome (slice_get p.bolts c) (λ bolt. fields_of p (origin.Component c) ≡ fields_after bolt.operation (fields_to p c))
+  pub fields : (from : Origin) → IsSource p from → HasFields p from
+  pub components : (c : ℕ) → c < component_count p → IsValidComponent p c
+  -- an opaque spout has no transactional state
+  pub replays : p.spout.kind ≡ Opaque → All (λ (state : StatePart). state.kind ≡ Opaque) p.states
+  -- tasks and parts of all components
+  pub tasks : IsBetween (sum (tasks_by_component p)) 1 256
+  pub weight : weight_of (plan_of p) ≤ 256

@@ -1,0 +1,143 @@
+//! Bolts that can be reached from themselves, and states that an opaque spout does not allow.
+
+ghost use Rattle.std.specs.Prelude.{◌≡◌, ◌≤◌, ◌<◌, ℕ, if◌then◌else◌, bit_or, length, map, slice_index, option_map, false, IfOk};
+ghost use Rattle.std.specs.List.{find, list_any, range_with_len};
+ghost use Rattle.std.specs.Option.{option_copied, option_map_or};
+ghost use Rattle.topology_reader.specs.Meant.{cycle_fault, is_transactional, replay_fault};
+ghost use Rattle.topology_reader.specs.Ways.{has, input_sources, AreWays};
+ghost use Rattle.topology_reader.specs.Wiring.{is_component, source_of};
+
+use crate::index::Index;
+use crate::parts::{Input, Parts, StatePart, TopoFault};
+use std::alloc::Global;
+use storm_values::{Memory, Txt};
+use topology_plan::{Kind, Origin};
+
+/// The first bolt that can be reached from itself.
+pub(crate) fn cycle_fault(alloc: Global, index: &Index<'_>) -> Result<Option<TopoFault>, Memory>
+    requires few { length index.now.bolts ≤ 32 }
+    ensures { IfOk result (λ fault. fault ≡ cycle_fault index.now) }
+{
+    let sets = ways(alloc, index)?;
+    match own_member(sets.as_slice()) {
+        Some(c) => {
+            let name = index.parts().bolts.at(c).name.as_str();
+            Ok(Some(TopoFault::Cycle(Txt::from_str(alloc, name)?)))
+        }
+        None => Ok(None),
+    }
+}
+
+/// The first set that holds its own number.
+fn own_member(sets: &[u64]) -> Option<usize>
+    requires few { length sets.now ≤ 64 }
+    ensures { result ≡ find (λ c. has (slice_index sets.now c) c) (range_with_len 0 (length sets.now)) }
+{
+    for (c, set) in sets.iter().enumerate() {
+        if has(*set, c) {
+            return Some(c);
+        }
+    }
+    None
+}
+
+/// For each bolt the set of the bolts from which there is a way to it. After the look-up of each input
+/// it takes as many steps as the square of the number of bolts.
+fn ways(alloc: Global, index: &Index<'_>) -> Result<Vec<u64>, Memory>
+    requires few { length index.now.bolts ≤ 32 }
+    ensures { IfOk result (λ sets. AreWays (length index.now.bolts) index.now sets.items) }
+{
+    let mut sets = direct_sources(alloc, index)?;
+    for n in 0..sets.len() {
+        lead_through(&mut sets, n);
+    }
+    Ok(sets)
+}
+
+/// Lets ways go through bolt n.
+fn lead_through(sets: &mut [u64], n: usize)
+    requires within { n < length sets.old }
+    requires few { length sets.old ≤ 64 }
+    ensures { sets.new ≡ map (λ set. if has set n then bit_or set (slice_index sets.old n) else set) sets.old }
+{
+    let before = sets[n];
+    for set in sets.iter_mut() {
+        if has(*set, n) {
+            *set |= before;
+        }
+    }
+}
+
+/// For each bolt the set of the bolts that feed it.
+fn direct_sources(alloc: Global, index: &Index<'_>) -> Result<Vec<u64>, Memory>
+    requires few { length index.now.bolts ≤ 32 }
+    ensures { IfOk result (λ sets. AreWays 0 index.now sets.items) }
+{
+    let bolts = index.parts().bolts.as_slice();
+    let mut sets = Vec::with_capacity(alloc, bolts.len())?;
+    for bolt in bolts {
+        sets.push(bolt_sources(index, bolt.inputs.as_slice()))?;
+    }
+    Ok(sets)
+}
+
+/// The bolts among the sources of some inputs.
+fn bolt_sources(index: &Index<'_>, inputs: &[Input]) -> u64
+    requires few { length index.now.bolts ≤ 32 }
+    ensures { (a : ℕ) → has result a ≡ list_any (is_component a) (input_sources index.now inputs.now) }
+{
+    let mut set = 0;
+    for input in inputs {
+        set |= source_set(index, input.from.as_str());
+    }
+    set
+}
+
+/// The bolt of this name alone, or no bolt.
+fn source_set(index: &Index<'_>, name: &str) -> u64
+    requires few { length index.now.bolts ≤ 32 }
+    ensures { (a : ℕ) → has result a ≡ option_map_or (is_component a) (source_of index.now name.now) false }
+{
+    match index.source_of(name) {
+        Some(Origin::Component(a)) => 1 << a,
+        Some(Origin::Spout) | None => 0,
+    }
+}
+
+fn has(set: u64, a: usize) -> bool
+    requires { a < 64 }
+    ensures { result ≡ has set a }
+{
+    (set >> a) & 1 == 1
+}
+
+/// The first transactional state, which an opaque spout does not keep exact.
+pub(crate) fn replay_fault(
+    alloc: Global,
+    parts: &Parts,
+    kind: Kind,
+) -> Result<Option<TopoFault>, Memory>
+    ensures { IfOk result (λ fault. fault ≡ replay_fault parts.now kind) }
+{
+    if is_transactional(kind) {
+        return Ok(None);
+    }
+    match transactional_name(parts.states.as_slice()) {
+        Some(name) => Ok(Some(TopoFault::NotExactlyOnce(Txt::from_str(alloc, name)?))),
+        None => Ok(None),
+    }
+}
+
+fn transactional_name(states: &[StatePart]) -> Option<&str>
+    ensures { option_copied result ≡ option_map (λ (state : StatePart). state.name)
+        (find (λ (state : StatePart). is_transactional state.kind) states.now) }
+{
+    let state = states.iter().find(|state| is_transactional(state.kind))?;
+    Some(state.name.as_str())
+}
+
+fn is_transactional(kind: Kind) -> bool
+    ensures { result ≡ is_transactional kind }
+{
+    matches!(kind, Kind::Transactional)
+}
