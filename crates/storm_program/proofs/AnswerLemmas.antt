@@ -1,20 +1,21 @@
 -- What a run comes to, from what its parts answer.
-use Rattle.std.proofs.Common.{◌≡◌, ℕ, ◌+◌, ◌%◌, ◌^◌, ◌≤◌, List, [], Some, None, Result, Ok, Err, IfOk, sym, ap, subst, ◌∙◌, inl, inr, arith}
+use Rattle.std.proofs.Common.{◌≡◌, ℕ, ◌+◌, ◌%◌, ◌^◌, ◌≤◌, List, [], ◌++◌, false, codes, Some, None, Result, Ok, Err, IfOk, sym, ap, subst, ◌∙◌, inl, inr, arith}
 use Rattle.std.proofs.Math.Nat.{mod-add-mod}
 use Rattle.storm_values.specs.declared.value.Value.{Value}
 use Rattle.storm_values.specs.declared.lines.InputFault.{InputFault}
 use Rattle.storm_values.specs.Lines.{input_fault, records_of}
 use Rattle.storm_values.proofs.InputLemmas.{input_fault-take, records_of-take}
 use Rattle.storm_outside.specs.Counts.{Rose}
-use Rattle.topology_reader.specs.declared.fault.TopoFault.{TopoFault}
-use Rattle.topology_reader.specs.PlanFacts.{plan_of_front, refused_by_front}
-use Rattle.topology_reader.specs.Topology.{Topology}
-use Rattle.topology_reader.specs.WordCount.{IsPlanOf, IsRefused}
+use Rattle.topology_reader.specs.declared.parts.TopoFault.{TopoFault}
+use Rattle.topology_reader.proofs.FilePlans.{plan_of_front, IsRefusedAlike, refused_by_front}
+use Rattle.topology_plan.specs.Topology.{Topology}
+use Rattle.topology_reader.specs.FirstFault.{first_fault, IsFilePlan}
 use Rattle.storm_program.specs.declared.fates.Attempt.{Attempt}
 use Rattle.storm_program.specs.declared.status.Status.{Status}
 use Rattle.storm_program.specs.declared.status.Status.TheVariants as status
 use Rattle.storm_program.specs.Outside.{AreBytesOf, WasRead, Counts, FetchedTimes}
-use Rattle.storm_program.specs.Answers.{topology_line, input_line, IsReport, IsAccepted, ComesTo, ComesToWith}
+use Rattle.storm_program.specs.Answers.{topology_line, input_line, valid_line, IsReport, IsAccepted, IsTopologyLine, ComesTo, ComesToOf, ComesToWith, ChecksTo}
+use Rattle.storm_program.specs.NotYet.{is_not_yet}
 
 -- a fact of a value from two of them
 pub IfOk-both : {T E : Type 0} (r : Result T E) (P Q R : T → Type 0) → ((x : T) → P x → Q x → R x) → IfOk r P → IfOk r Q → IfOk r R
@@ -62,6 +63,14 @@ rose_since a b c before (inr ends) = inr ends
 two_fetches : (before mid after : ℕ) → mid ≡ (before + 1) % 2 ^ 64 → after ≡ (mid + 1) % 2 ^ 64 → after ≡ (before + 2) % 2 ^ 64
 two_fetches before mid after first second = second ∙ (ap (λ m. (m + 1) % 2 ^ 64) first ∙ (mod-add-mod (before + 1) (2 ^ 64) 1 ∙ ap (λ n. n % 2 ^ 64) (omega arith)))
 
+-- a topology whose first bytes have a plan was accepted
+accepted_by_front : (holds : List ℕ → List ℕ → Type 0) (topology : List ℕ) (plan : Topology) (front slice : List ℕ) → WasRead holds topology 65537 front → slice ≡ front → IsFilePlan slice plan → IsAccepted holds topology plan
+accepted_by_front holds topology plan front slice read sliced is_plan = record {
+  bytes = read.bytes;
+  were_read = read.are_of;
+  is_plan = (plan_of_front read.bytes plan).0 (subst (λ f. IsFilePlan f plan) (sliced ∙ read.is_front) is_plan);
+}
+
 -- what is told of a file before a call is told of it after
 told_before : (was is : List ℕ → List ℕ → Type 0) (name bytes : List ℕ) → ((n b : List ℕ) → was n b → is n b) → AreBytesOf is name bytes → AreBytesOf was name bytes
 told_before was is name bytes keeps are told holds = are told (keeps name told holds)
@@ -75,36 +84,48 @@ module _ (was is : List ℕ → List ℕ → Type 0) (topology input : List ℕ)
   rest_counts = record { fetches_before = mid; fetches_after = after; faults_before = faults_mid; faults_after = faults_after }
 
   -- what comes of a plan comes of the files
-  pub comes_of_plan : (plan : Topology) (front slice : List ℕ) (s : Status) (text : List ℕ) (fates : List Attempt) → mid ≡ (before + 1) % 2 ^ 64 → faults_before ≤ faults_mid → WasRead was topology 65537 front → slice ≡ front → IsPlanOf slice plan → ComesToWith is plan input rest_counts s text fates → ComesTo was topology input all_counts s text fates
-  comes_of_plan plan front slice s text fates fetched falls read sliced is_plan = by_status s
+  pub comes_of_plan : (plan : Topology) (front slice : List ℕ) (s : Status) (text : List ℕ) (fates : List Attempt) → mid ≡ (before + 1) % 2 ^ 64 → faults_before ≤ faults_mid → WasRead was topology 65537 front → slice ≡ front → IsFilePlan slice plan → ComesToOf is plan input rest_counts s text fates → ComesTo was topology input all_counts s text fates
+  comes_of_plan plan front slice s text fates fetched falls read sliced is_plan comes =
+      elim comes [
+        | inl late ↦ subst (λ t. ComesTo was topology input all_counts t text fates) (sym late.2) (late.1 ∙ fetched, inr (plan, accepted, late.0, late.3), late.4)
+        | inr goes ↦ by_status s goes.0 goes.1
+      ]
     where
       accepted : IsAccepted was topology plan
-      accepted = record {
-        bytes = read.bytes;
-        were_read = read.are_of;
-        is_plan = (plan_of_front read.bytes plan).0 (subst (λ f. IsPlanOf f plan) (sliced ∙ read.is_front) is_plan);
-      }
+      accepted = accepted_by_front was topology plan front slice read sliced is_plan
 
-      by_status : (t : Status) → ComesToWith is plan input rest_counts t text fates → ComesTo was topology input all_counts t text fates
-      by_status status.Done (times, report) = (two_fetches before mid after fetched times, (plan, accepted, record { bytes = report.bytes; were_read = told_before was is input report.bytes keeps report.were_read; is_accepted = report.is_accepted; report = report.report }))
-      by_status status.Input (times, line, none) = (two_fetches before mid after fetched times, (plan, accepted, record { bytes = line.bytes; fault = line.fault; were_read = told_before was is input line.bytes keeps line.were_read; is_refused = line.is_refused; printed = line.printed }), none)
-      by_status status.ReadFault (rose, times, line, none) = (rose_since faults_before faults_mid faults_after falls rose, inr (two_fetches before mid after fetched times, line, (plan, accepted)), none)
-      by_status status.Topology never = absurd never
-      by_status status.Memory never = absurd never
-      by_status status.Words never = absurd never
-      by_status status.WriteFault never = absurd never
+      by_status : (t : Status) → is_not_yet plan ≡ false → ComesToWith is plan input rest_counts t text fates → ComesTo was topology input all_counts t text fates
+      by_status status.Done runs (times, report) = (two_fetches before mid after fetched times, (plan, (accepted, runs), record { bytes = report.bytes; were_read = told_before was is input report.bytes keeps report.were_read; is_accepted = report.is_accepted; report = report.report }))
+      by_status status.Input runs (times, line, none) = (two_fetches before mid after fetched times, (plan, (accepted, runs), record { bytes = line.bytes; fault = line.fault; were_read = told_before was is input line.bytes keeps line.were_read; is_refused = line.is_refused; printed = line.printed }), none)
+      by_status status.ReadFault runs (rose, times, line, none) = (rose_since faults_before faults_mid faults_after falls rose, inr (two_fetches before mid after fetched times, line, (plan, (accepted, runs))), none)
+      by_status status.Topology runs never = absurd never
+      by_status status.Memory runs never = absurd never
+      by_status status.Words runs never = absurd never
+      by_status status.WriteFault runs never = absurd never
+
+-- the line that refuses a topology
+refused_line : (holds : List ℕ → List ℕ → Type 0) (topology : List ℕ) (front slice : List ℕ) (fault : TopoFault) (text : List ℕ) → WasRead holds topology 65537 front → slice ≡ front → first_fault slice ≡ Some fault → text ≡ topology_line fault → IsTopologyLine holds topology text
+refused_line holds topology front slice fault text read sliced refused line =
+    let alike : IsRefusedAlike read.bytes fault = refused_by_front read.bytes fault (subst (λ f. first_fault f ≡ Some fault) (sliced ∙ read.is_front) refused) in
+    record {
+      bytes = read.bytes;
+      fault = alike.told;
+      were_read = read.are_of;
+      is_refused = alike.is_first;
+      printed = line ∙ ap (λ told. codes "topology: " ++ told ++ codes "\n") alike.alike;
+    }
 
 -- a topology that was refused has its line
-pub comes_refused_topology : (holds : List ℕ → List ℕ → Type 0) (topology input : List ℕ) (counts : Counts) (front slice : List ℕ) (fault : TopoFault) (s : Status) (text : List ℕ) (fates : List Attempt) → WasRead holds topology 65537 front → slice ≡ front → IsRefused slice fault → FetchedTimes 1 counts → s ≡ status.Topology → text ≡ topology_line fault → fates ≡ [] → ComesTo holds topology input counts s text fates
+pub comes_refused_topology : (holds : List ℕ → List ℕ → Type 0) (topology input : List ℕ) (counts : Counts) (front slice : List ℕ) (fault : TopoFault) (s : Status) (text : List ℕ) (fates : List Attempt) → WasRead holds topology 65537 front → slice ≡ front → first_fault slice ≡ Some fault → FetchedTimes 1 counts → s ≡ status.Topology → text ≡ topology_line fault → fates ≡ [] → ComesTo holds topology input counts s text fates
 comes_refused_topology holds topology input counts front slice fault s text fates read sliced refused times is line none =
-    subst (λ t. ComesTo holds topology input counts t text fates) (sym is) (
-      times,
-      record {
-        bytes = read.bytes;
-        fault = fault;
-        were_read = read.are_of;
-        is_refused = (refused_by_front read.bytes fault).0 (subst (λ f. IsRefused f fault) (sliced ∙ read.is_front) refused);
-        printed = line;
-      },
-      none,
-    )
+    subst (λ t. ComesTo holds topology input counts t text fates) (sym is) (times, inl (refused_line holds topology front slice fault text read sliced refused line), none)
+
+-- ---- a check
+
+pub checks_done : (holds : List ℕ → List ℕ → Type 0) (topology : List ℕ) (counts : Counts) (plan : Topology) (front slice : List ℕ) (s : Status) (text : List ℕ) → WasRead holds topology 65537 front → slice ≡ front → IsFilePlan slice plan → FetchedTimes 1 counts → s ≡ status.Done → text ≡ valid_line plan → ChecksTo holds topology counts s text
+checks_done holds topology counts plan front slice s text read sliced is_plan times is line =
+    subst (λ t. ChecksTo holds topology counts t text) (sym is) (times, (plan, accepted_by_front holds topology plan front slice read sliced is_plan, line))
+
+pub checks_refused : (holds : List ℕ → List ℕ → Type 0) (topology : List ℕ) (counts : Counts) (front slice : List ℕ) (fault : TopoFault) (s : Status) (text : List ℕ) → WasRead holds topology 65537 front → slice ≡ front → first_fault slice ≡ Some fault → FetchedTimes 1 counts → s ≡ status.Topology → text ≡ topology_line fault → ChecksTo holds topology counts s text
+checks_refused holds topology counts front slice fault s text read sliced refused times is line =
+    subst (λ t. ChecksTo holds topology counts t text) (sym is) (times, refused_line holds topology front slice fault text read sliced refused line)

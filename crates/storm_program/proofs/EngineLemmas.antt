@@ -3,7 +3,7 @@ use Rattle.std.proofs.Common.{◌≡◌, ℕ, ◌+◌, ◌-◌, ◌*◌, ◌<◌
 use Rattle.std.proofs.lemmas.List.FromFn.{map-range_with_len_more}
 use Rattle.std.proofs.Math.Seq.{take-add}
 use Rattle.storm_values.specs.declared.value.Value.{Value}
-use Rattle.topology_reader.specs.Topology.{Topology}
+use Rattle.topology_plan.specs.Topology.{Topology}
 use Rattle.tree_model.specs.declared.write.Write.{Write}
 use Rattle.tree_model.specs.declared.write.Pair.{Pair}
 use Rattle.tree_model.specs.Tables.{IsTallyOf}

@@ -2,5 +2,6 @@ mod AnswerLemmas
 mod CauseLemmas
 mod EngineLemmas
 mod FateLemmas
+mod NotYetLemmas
 mod WordLemmas
 mod RecordLemmas

@@ -1,36 +1,133 @@
 -- Which words the program takes.
-use Rattle.std.proofs.Common.{◌≡◌, ◌≢◌, ℕ, Bool, true, false, cond, ◌&&◌, List, [], ◌∷◌, length, Option, Some, None, codes, bytes_eq, option_and_then, refl, arith}
+use Rattle.std.proofs.Common.{◌≡◌, ◌≢◌, ℕ, ◌<◌, ◌≤◌, ◌^◌, zero, suc, Bool, true, false, not, cond, ◌==◌, ◌&&◌, nat_lt, nat_le, List, [], ◌∷◌, length, Option, Some, None, codes, bytes_eq, option_and_then, option_map, refl, ap, subst, inl, inr, arith}
+use Rattle.std.specs.Char.{is_ascii_digit}
 use Rattle.std.specs.List.{list_all}
+use Rattle.std.proofs.lemmas.Bool.{cases_Bool, and_parts, eqb-true, false≢true}
 use Rattle.std.proofs.lemmas.Bool.Decides.{nat_tests}
-use Rattle.storm_program.specs.Words.{Command, load, is_word, command_of, command, files_of_run, built}
+use Rattle.std.proofs.lemmas.Option.{none-some}
+use Rattle.storm_program.specs.Words.{Command, check, run, load, is_word, number_word, digits_value, command_of, command, if_built, built}
 
--- a choice of two commands neither of which has the files of a run
-neither : (b : Bool) (x y : Option Command) → files_of_run x ≡ None → files_of_run y ≡ None → files_of_run (cond b x y) ≡ None
+-- a choice of two commands that the program does not have
+neither : (b : Bool) (x y : Option Command) → if_built x ≡ None → if_built y ≡ None → if_built (cond b x y) ≡ None
 neither true x y p q = p
 neither false x y p q = q
 
-load_has_none : (m s : Option ℕ) → files_of_run (option_and_then (λ n. option_and_then (λ seed. Some (load n seed)) s) m) ≡ None
-load_has_none None s = refl
-load_has_none (Some n) None = refl
-load_has_none (Some n) (Some seed) = refl
+load_is_out : (m s : Option ℕ) → if_built (option_and_then (λ n. option_and_then (λ seed. Some (load n seed)) s) m) ≡ None
+load_is_out None s = refl
+load_is_out (Some n) None = refl
+load_is_out (Some n) (Some seed) = refl
 
--- with another verb
-pub built_other : (verb t i : List ℕ) → bytes_eq verb (codes "run") ≡ false → built (verb ∷ t ∷ i ∷ []) ≡ None
-unfolding built command
-built_other verb t i e =
-    let run_is_out : files_of_run (command_of (verb ∷ t ∷ i ∷ [])) ≡ None = rw e (neither (bytes_eq verb (codes "plain")) _ _ refl (neither (bytes_eq verb (codes "load")) _ _ (load_has_none _ _) refl)) in
-    neither (list_all is_word (verb ∷ t ∷ i ∷ [])) _ _ run_is_out refl
+-- ---- two words
 
--- with the verb of a run
-pub built_run : (verb t i : List ℕ) → verb ≡ codes "run" → built (verb ∷ t ∷ i ∷ []) ≡ cond (is_word t && is_word i) (Some (t, i)) None
+pub check_other : (verb t : List ℕ) → bytes_eq verb (codes "check") ≡ false → built (verb ∷ t ∷ []) ≡ None
 unfolding built command
-built_run verb t i e = rw e (by_words (is_word t) (is_word i))
+check_other verb t e =
+    let out : if_built (command_of (verb ∷ t ∷ [])) ≡ None = rw e refl in
+    neither (list_all is_word (verb ∷ t ∷ [])) (command_of (verb ∷ t ∷ [])) None out refl
+
+pub check_good : (verb t : List ℕ) → verb ≡ codes "check" → built (verb ∷ t ∷ []) ≡ cond (is_word t) (Some (check t)) None
+unfolding built command
+check_good verb t e = rw e (by_word (is_word t))
   where
-    by_words : (x y : Bool) → files_of_run (cond (x && (y && true)) (command_of (codes "run" ∷ t ∷ i ∷ [])) None) ≡ cond (x && y) (Some (t, i)) None
+    by_word : (x : Bool) → if_built (cond (x && true) (command_of (codes "check" ∷ t ∷ [])) None) ≡ cond x (Some (check t)) None
+    by_word true = refl
+    by_word false = refl
+
+-- ---- three words
+
+pub run_other : (verb t i : List ℕ) → bytes_eq verb (codes "run") ≡ false → built (verb ∷ t ∷ i ∷ []) ≡ None
+unfolding built command
+run_other verb t i e =
+    let out : if_built (command_of (verb ∷ t ∷ i ∷ [])) ≡ None = rw e (neither (bytes_eq verb (codes "plain")) _ _ refl (neither (bytes_eq verb (codes "load")) _ _ (load_is_out _ _) refl)) in
+    neither (list_all is_word (verb ∷ t ∷ i ∷ [])) (command_of (verb ∷ t ∷ i ∷ [])) None out refl
+
+pub run_good : (verb t i : List ℕ) → verb ≡ codes "run" → built (verb ∷ t ∷ i ∷ []) ≡ cond (is_word t && is_word i) (Some (run t i 4)) None
+unfolding built command
+run_good verb t i e = rw e (by_words (is_word t) (is_word i))
+  where
+    by_words : (x y : Bool) → if_built (cond (x && (y && true)) (command_of (codes "run" ∷ t ∷ i ∷ [])) None) ≡ cond (x && y) (Some (run t i 4)) None
     by_words true true = refl
     by_words true false = refl
     by_words false y = refl
 
-pub built_length : (words : List (List ℕ)) → length words ≢ 3 → built words ≡ None
-unfolding built
-built_length words ne = grind (arith, nat_tests)
+-- ---- numbers
+
+some_of : {A : Type 0} (b : Bool) (x y : A) → cond b (Some x) None ≡ Some y → b ≡ true
+some_of true x y is = refl
+some_of false x y is = absurd (none-some y is)
+
+digits_are_word : (word : List ℕ) → nat_lt 0 (length word) ≡ true → list_all is_ascii_digit word ≡ true → is_word word ≡ true
+digits_are_word [] some digits = absurd (false≢true some)
+digits_are_word (byte ∷ bytes) some digits =
+    elim (cases_Bool (byte == 45)) [
+      | inl dash ↦ absurd (false≢true (subst (λ b. is_ascii_digit b ≡ true) (eqb-true byte 45 dash) (and_parts (is_ascii_digit byte) (list_all is_ascii_digit bytes) digits).0))
+      | inr other ↦ ap not other
+    ]
+
+-- a number is a word
+pub number_is_word : (least most : ℕ) (word : List ℕ) (n : ℕ) → number_word least most word ≡ Some n → is_word word ≡ true
+number_is_word least most word n is =
+    let some : Bool = nat_lt 0 (length word) in
+    let few : Bool = nat_le (length word) 5 in
+    let digits : Bool = list_all is_ascii_digit word in
+    let above : Bool = nat_le least (digits_value word) in
+    let below : Bool = nat_le (digits_value word) most in
+    let all = and_parts (some && few && digits && above) below (some_of _ (digits_value word) n is) in
+    let three = and_parts (some && few) digits (and_parts (some && few && digits) above all.0).0 in
+    digits_are_word word (and_parts some few three.0).0 three.1
+
+-- ---- four words
+
+pub workers_other : (verb t i w : List ℕ) → bytes_eq verb (codes "run") ≡ false → built (verb ∷ t ∷ i ∷ w ∷ []) ≡ None
+unfolding built command
+workers_other verb t i w e =
+    let out : if_built (command_of (verb ∷ t ∷ i ∷ w ∷ [])) ≡ None = rw e (neither (bytes_eq verb (codes "replay")) _ _ refl refl) in
+    neither (list_all is_word (verb ∷ t ∷ i ∷ w ∷ [])) (command_of (verb ∷ t ∷ i ∷ w ∷ [])) None out refl
+
+pub workers_good : (verb t i w : List ℕ) → verb ≡ codes "run" → built (verb ∷ t ∷ i ∷ w ∷ []) ≡ cond (is_word t && is_word i) (option_map (run t i) (number_word 1 64 w)) None
+unfolding built command
+workers_good verb t i w e = rw e (by_words (is_word t) (is_word i) (is_word w) (number_word 1 64 w) (number_is_word 1 64 w))
+  where
+    by_words : (x y z : Bool) (number : Option ℕ) → ((n : ℕ) → number ≡ Some n → z ≡ true) → if_built (cond (x && (y && (z && true))) (option_and_then (λ n. Some (run t i n)) number) None) ≡ cond (x && y) (option_map (run t i) number) None
+    by_words true true true None word = refl
+    by_words true true true (Some n) word = refl
+    by_words true true false None word = refl
+    by_words true true false (Some n) word = absurd (false≢true (word n refl))
+    by_words true false z number word = refl
+    by_words false y z number word = refl
+
+-- ---- how many words
+
+built_none : built [] ≡ None
+unfolding built command
+built_none = refl
+
+built_one : (a : List ℕ) → built (a ∷ []) ≡ None
+unfolding built command
+built_one a = neither (list_all is_word (a ∷ [])) (command_of (a ∷ [])) None refl refl
+
+built_more : (a b c d e : List ℕ) (more : List (List ℕ)) → built (a ∷ b ∷ c ∷ d ∷ e ∷ more) ≡ None
+unfolding built command
+built_more a b c d e more = neither (list_all is_word (a ∷ b ∷ c ∷ d ∷ e ∷ more)) (command_of (a ∷ b ∷ c ∷ d ∷ e ∷ more)) None refl refl
+
+pub built_length : (words : List (List ℕ)) → length words ≢ 2 → length words ≢ 3 → length words ≢ 4 → built words ≡ None
+built_length [] two three four = built_none
+built_length (a ∷ []) two three four = built_one a
+built_length (a ∷ (b ∷ [])) two three four = absurd (two refl)
+built_length (a ∷ (b ∷ (c ∷ []))) two three four = absurd (three refl)
+built_length (a ∷ (b ∷ (c ∷ (d ∷ [])))) two three four = absurd (four refl)
+built_length (a ∷ (b ∷ (c ∷ (d ∷ (e ∷ more))))) two three four = built_more a b c d e more
+
+-- ---- digits
+
+pub digit_within : (byte : ℕ) → is_ascii_digit byte ≡ true → (48 ≤ byte) × (byte ≤ 57)
+digit_within byte is = (grind (arith, nat_tests), grind (arith, nat_tests))
+
+-- a number of less than five digits
+pub few_digits : (value k : ℕ) → k < 5 → value < 10 ^ k → value < 10000
+few_digits value zero few below = omega (arith, below)
+few_digits value (suc zero) few below = omega (arith, below)
+few_digits value (suc (suc zero)) few below = omega (arith, below)
+few_digits value (suc (suc (suc zero))) few below = omega (arith, below)
+few_digits value (suc (suc (suc (suc zero)))) few below = omega (arith, below)
+few_digits value (suc (suc (suc (suc (suc k))))) few below = absurd (omega arith)

@@ -1,13 +1,13 @@
--- What a run of a topology comes to, and what is printed of it.
-use Rattle.std.specs.Prelude.{◌≡◌, ◌⊎◌, ℕ, List, [], ◌++◌, length, Option, Some, None, codes}
+-- What a command comes to, and what is printed of it.
+use Rattle.std.specs.Prelude.{◌≡◌, ◌⊎◌, ℕ, List, [], ◌++◌, length, Option, Some, None, true, false, codes, decimal}
 use Rattle.storm_values.specs.declared.value.Value.{Value}
 use Rattle.storm_values.specs.declared.lines.InputFault.{InputFault}
 use Rattle.storm_values.specs.Lines.{input_fault, records_of}
 use Rattle.storm_values.specs.Faults.{input_fault_text}
-use Rattle.topology_reader.specs.declared.fault.TopoFault.{TopoFault}
+use Rattle.topology_plan.specs.Topology.{Topology, tasks_in_all, depth_of, weight_of}
+use Rattle.topology_reader.specs.declared.parts.TopoFault.{TopoFault}
 use Rattle.topology_reader.specs.Faults.{fault_text}
-use Rattle.topology_reader.specs.WordCount.{IsPlanOf, IsRefused}
-use Rattle.topology_reader.specs.Topology.{Topology}
+use Rattle.topology_reader.specs.FirstFault.{first_fault, IsFilePlan}
 use Rattle.tree_model.specs.declared.write.Table.{Table}
 use Rattle.tree_model.specs.Trees.{writes}
 use Rattle.tree_model.specs.Tables.{AreTables}
@@ -16,6 +16,7 @@ use Rattle.storm_program.specs.declared.status.Status.{Status}
 use Rattle.storm_program.specs.declared.status.Status.TheVariants as status
 use Rattle.storm_program.specs.Batches.{batch_count}
 use Rattle.storm_program.specs.Custom.{as_it_is}
+use Rattle.storm_program.specs.NotYet.{is_not_yet}
 use Rattle.storm_program.specs.Outside.{AreBytesOf, Counts, FetchedTimes, HasRisen, Appends, AppendsFront}
 use Rattle.storm_program.specs.Fates.{IsWhole}
 use Rattle.storm_program.specs.Fated.{attempt_lines}
@@ -30,6 +31,23 @@ topology_line fault = codes "topology: " ++ fault_text fault ++ codes "\n"
 
 abbrev pub input_line : InputFault → List ℕ
 input_line fault = codes "input: " ++ input_fault_text fault ++ codes "\n"
+
+-- the line of a valid plan that is not run yet
+abbrev pub not_yet_line : List ℕ
+not_yet_line = codes "topology: not yet\n"
+
+-- the line of these numbers of components and tasks, this weight and this depth
+unfoldable pub size_line : ℕ → ℕ → ℕ → ℕ → List ℕ
+size_line components tasks weight depth =
+    codes "valid components " ++ decimal components
+    ++ codes " tasks " ++ decimal tasks
+    ++ codes " weight " ++ decimal weight
+    ++ codes " depth " ++ decimal depth
+    ++ codes "\n"
+
+-- the line of a valid plan
+abbrev pub valid_line : Topology → List ℕ
+valid_line plan = size_line (length plan.components) (tasks_in_all plan) (weight_of plan) (depth_of plan)
 
 abbrev pub topology_not_read : List ℕ
 topology_not_read = codes "read fault topology\n"
@@ -55,15 +73,31 @@ pub record IsReport (plan : Topology) (rows : List (List Value)) (fates : List A
 pub record IsAccepted (holds : List ℕ → List ℕ → Type 0) (name : List ℕ) (plan : Topology) : Type 0 where
   pub bytes : List ℕ
   pub were_read : AreBytesOf holds name bytes
-  pub is_plan : IsPlanOf bytes plan
+  pub is_plan : IsFilePlan bytes plan
+
+-- the topology file was read and accepted, and its plan is one that is run
+abbrev pub IsRunnable : (List ℕ → List ℕ → Type 0) → List ℕ → Topology → Type 0
+IsRunnable holds name plan = IsAccepted holds name plan × (is_not_yet plan ≡ false)
 
 -- the line that refuses the topology
 pub record IsTopologyLine (holds : List ℕ → List ℕ → Type 0) (name text : List ℕ) : Type 0 where
   pub bytes : List ℕ
   pub fault : TopoFault
   pub were_read : AreBytesOf holds name bytes
-  pub is_refused : IsRefused bytes fault
+  pub is_refused : first_fault bytes ≡ Some fault
   pub printed : text ≡ topology_line fault
+
+-- the line that puts off an accepted topology
+abbrev pub IsNotYetLine : (List ℕ → List ℕ → Type 0) → List ℕ → List ℕ → Type 0
+IsNotYetLine holds name text = (plan : Topology) × IsAccepted holds name plan × (is_not_yet plan ≡ true) × (text ≡ not_yet_line)
+
+-- the line with which a run ends at the topology
+abbrev pub IsTopologyStop : (List ℕ → List ℕ → Type 0) → List ℕ → List ℕ → Type 0
+IsTopologyStop holds name text = IsTopologyLine holds name text ⊎ IsNotYetLine holds name text
+
+-- the line of an accepted topology
+abbrev pub IsValidLine : (List ℕ → List ℕ → Type 0) → List ℕ → List ℕ → Type 0
+IsValidLine holds name text = (plan : Topology) × IsAccepted holds name plan × (text ≡ valid_line plan)
 
 -- the line that refuses the input of a plan
 pub record IsInputLine (holds : List ℕ → List ℕ → Type 0) (plan : Topology) (name text : List ℕ) : Type 0 where
@@ -92,29 +126,35 @@ ComesToWith holds plan input counts status.Memory text fates = ⊥
 ComesToWith holds plan input counts status.Words text fates = ⊥
 ComesToWith holds plan input counts status.WriteFault text fates = ⊥
 
+-- What comes of an accepted plan: it is put off before the input is fetched, or it is run.
+abbrev pub ComesToOf : (List ℕ → List ℕ → Type 0) → Topology → List ℕ → Counts → Status → List ℕ → List Attempt → Type 0
+ComesToOf holds plan input counts ends text fates =
+    ((is_not_yet plan ≡ true) × (counts.fetches_after ≡ counts.fetches_before) × (ends ≡ status.Topology) × (text ≡ not_yet_line) × (fates ≡ []))
+    ⊎ ((is_not_yet plan ≡ false) × ComesToWith holds plan input counts ends text fates)
+
 -- the line of a read fault names the file of the last fetch: the topology after one, the input of an accepted
 -- topology after two
 abbrev pub IsReadFaultLine : (List ℕ → List ℕ → Type 0) → List ℕ → Counts → List ℕ → Type 0
 IsReadFaultLine holds topology counts text =
     (FetchedTimes 1 counts × (text ≡ topology_not_read))
-    ⊎ (FetchedTimes 2 counts × (text ≡ input_not_read) × ((plan : Topology) × IsAccepted holds topology plan))
+    ⊎ (FetchedTimes 2 counts × (text ≡ input_not_read) × ((plan : Topology) × IsRunnable holds topology plan))
 
 -- the report of the files of these names
 abbrev pub IsReportOfFiles : (List ℕ → List ℕ → Type 0) → List ℕ → List ℕ → List Attempt → List ℕ → Type 0
 IsReportOfFiles holds topology input fates text =
-    (plan : Topology) × IsAccepted holds topology plan × IsReportOf holds plan input fates text
+    (plan : Topology) × IsRunnable holds topology plan × IsReportOf holds plan input fates text
 
 -- the line that refuses the input, where the topology was accepted
 abbrev pub IsInputLineOfFiles : (List ℕ → List ℕ → Type 0) → List ℕ → List ℕ → List ℕ → Type 0
 IsInputLineOfFiles holds topology input text =
-    (plan : Topology) × IsAccepted holds topology plan × IsInputLine holds plan input text
+    (plan : Topology) × IsRunnable holds topology plan × IsInputLine holds plan input text
 
 -- What a run comes to before its text is written. No run comes to the other statuses.
 abbrev pub ComesTo : (List ℕ → List ℕ → Type 0) → List ℕ → List ℕ → Counts → Status → List ℕ → List Attempt → Type 0
 ComesTo holds topology input counts status.Done text fates =
     FetchedTimes 2 counts × IsReportOfFiles holds topology input fates text
 ComesTo holds topology input counts status.Topology text fates =
-    FetchedTimes 1 counts × IsTopologyLine holds topology text × (fates ≡ [])
+    FetchedTimes 1 counts × IsTopologyStop holds topology text × (fates ≡ [])
 ComesTo holds topology input counts status.Input text fates =
     FetchedTimes 2 counts × IsInputLineOfFiles holds topology input text × (fates ≡ [])
 ComesTo holds topology input counts status.ReadFault text fates =
@@ -122,6 +162,16 @@ ComesTo holds topology input counts status.ReadFault text fates =
 ComesTo holds topology input counts status.Memory text fates = ⊥
 ComesTo holds topology input counts status.Words text fates = ⊥
 ComesTo holds topology input counts status.WriteFault text fates = ⊥
+
+-- What a check of a topology comes to before its text is written. No check comes to the other statuses.
+abbrev pub ChecksTo : (List ℕ → List ℕ → Type 0) → List ℕ → Counts → Status → List ℕ → Type 0
+ChecksTo holds topology counts status.Done text = FetchedTimes 1 counts × IsValidLine holds topology text
+ChecksTo holds topology counts status.Topology text = FetchedTimes 1 counts × IsTopologyLine holds topology text
+ChecksTo holds topology counts status.ReadFault text = HasRisen counts × FetchedTimes 1 counts × (text ≡ topology_not_read)
+ChecksTo holds topology counts status.Memory text = ⊥
+ChecksTo holds topology counts status.Words text = ⊥
+ChecksTo holds topology counts status.Input text = ⊥
+ChecksTo holds topology counts status.WriteFault text = ⊥
 
 -- the statuses with which a run ends before it begins its first batch
 abbrev pub IsRefusal : Status → Type 0

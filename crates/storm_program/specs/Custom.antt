@@ -1,4 +1,4 @@
--- What a custom bolt makes of a row, where a topology has none.
+-- What stands for the rows of custom bolts. A plan with one is not run yet.
 use Rattle.std.specs.Prelude.{List, [], ◌∷◌}
 use Rattle.storm_values.specs.declared.value.Value.{Value}
 

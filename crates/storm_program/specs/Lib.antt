@@ -4,7 +4,9 @@ pub mod Cells
 pub mod Custom
 pub mod Fates
 pub mod Fated
+pub mod NotYet
 pub mod Outside
 pub mod Report
 pub mod Statuses
 pub mod Words
+pub mod Commands

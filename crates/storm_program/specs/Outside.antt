@@ -24,8 +24,12 @@ abbrev pub around : ℕ → ℕ → ℕ → ℕ → Counts
 around fetched fetches failed faults =
     record { fetches_before = fetched; fetches_after = fetches; faults_before = failed; faults_after = faults }
 
+-- so many fetches between two counts of them
+abbrev pub Fetched : ℕ → ℕ → ℕ → Type 0
+Fetched times before after = after ≡ (before + times) % 2 ^ 64
+
 abbrev pub FetchedTimes : ℕ → Counts → Type 0
-FetchedTimes times counts = counts.fetches_after ≡ (counts.fetches_before + times) % 2 ^ 64
+FetchedTimes times counts = Fetched times counts.fetches_before counts.fetches_after
 
 abbrev pub HasRisen : Counts → Type 0
 HasRisen counts = Rose counts.faults_before counts.faults_after

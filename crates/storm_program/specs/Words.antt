@@ -44,6 +44,28 @@ command_of _ = None
 unfoldable pub command : List (List ℕ) → Option Command
 command words = if list_all is_word words then command_of words else None
 
+-- the commands that the program has so far
+abbrev pub if_built : Option Command → Option Command
+if_built None = None
+if_built (Some (check t)) = Some (check t)
+if_built (Some (plain t i)) = None
+if_built (Some (replay t i s)) = None
+if_built (Some (run t i w)) = Some (run t i w)
+if_built (Some (load n seed)) = None
+
+-- the command of some words, where the program has it
+unfoldable pub built : List (List ℕ) → Option Command
+built words = if_built (command words)
+
+-- the topology of a `check`
+abbrev pub file_of_check : Option Command → Option (List ℕ)
+file_of_check None = None
+file_of_check (Some (check t)) = Some t
+file_of_check (Some (plain t i)) = None
+file_of_check (Some (replay t i s)) = None
+file_of_check (Some (run t i w)) = None
+file_of_check (Some (load n seed)) = None
+
 -- the topology and the input of a `run`
 abbrev pub files_of_run : Option Command → Option (List ℕ × List ℕ)
 files_of_run None = None
@@ -53,9 +75,13 @@ files_of_run (Some (replay t i s)) = None
 files_of_run (Some (run t i w)) = Some (t, i)
 files_of_run (Some (load n seed)) = None
 
--- So far the program has the command `run` with its two files alone.
-unfoldable pub built : List (List ℕ) → Option (List ℕ × List ℕ)
-built words = if length words == 3 then files_of_run (command words) else None
+-- the file of the check that some words ask for
+abbrev pub check_of : List (List ℕ) → Option (List ℕ)
+check_of words = file_of_check (built words)
+
+-- the files of the run that some words ask for
+abbrev pub run_of : List (List ℕ) → Option (List ℕ × List ℕ)
+run_of words = files_of_run (built words)
 
 -- the line that refuses the words
 abbrev pub usage : List ℕ

@@ -7,7 +7,7 @@ use bolt_ops::RowOp;
 use std::alloc::Global;
 use storm_values::{Memory, Row, Rows};
 
-/// Leaves each row as it is. No plan has a custom bolt so far.
+/// Leaves each row as it is, and stands for custom bolts: a plan with one is not run yet.
 pub struct AsItIs;
 
 impl RowOp for AsItIs {

@@ -10,7 +10,7 @@ use crate::custom::AsItIs;
 use crate::fates::{Attempt, End, Fates};
 use std::alloc::Global;
 use storm_values::{Memory, Root};
-use topology_reader::Plan;
+use topology_plan::Plan;
 use tree_model::{Tables, Tally, writes_of};
 
 /// Runs a plan over its batches, one after another, and commits each at its first attempt.

@@ -2,11 +2,14 @@
 #![tactic(auto)]
 
 mod batches;
+mod check;
 mod custom;
 mod engine;
 mod fates;
 mod files;
 mod laws;
+mod not_yet;
+mod outcome;
 mod program;
 mod report;
 mod run;
@@ -15,5 +18,5 @@ mod words;
 
 pub use fates::{Attempt, End, Fates};
 pub use laws::each_record_is_committed_once;
-pub use program::{storm, storm_run};
+pub use program::{storm, storm_check, storm_run};
 pub use status::Status;

@@ -1,32 +1,31 @@
-ghost use Rattle.std.specs.Prelude.{◌≡◌, ◌≢◌, ◌≤◌, ◌⊎◌, ℕ, List, [], Some, None, IfSome, IfNone, map, string_bytes};
+ghost use Rattle.std.specs.Prelude.{◌≡◌, ◌≢◌, ◌≤◌, ◌⊎◌, ℕ, List, [], true, false, Some, None, IfSome, IfNone, map, string_bytes};
 ghost use Rattle.storm_values.specs.Lines.{input_fault};
 ghost use Rattle.storm_outside.specs.Counts.{Rose};
-ghost use Rattle.topology_reader.specs.Topology.{Topology};
-ghost use Rattle.topology_reader.specs.WordCount.{IsPlanOf, IsRefused};
-ghost use Rattle.topology_reader.specs.declared.fault.TopoFault.{TopoFault};
+ghost use Rattle.topology_plan.specs.Topology.{Topology};
+ghost use Rattle.topology_reader.specs.FirstFault.{first_fault, IsFilePlan};
+ghost use Rattle.topology_reader.specs.declared.parts.TopoFault.{TopoFault};
 ghost use Rattle.storm_values.specs.declared.lines.InputFault.{InputFault};
 ghost use Rattle.storm_program.specs.declared.status.Status.{Status};
-ghost use Rattle.storm_program.specs.Outside.{around, FetchedTimes};
+ghost use Rattle.storm_program.specs.Outside.{around, Fetched};
 ghost use Rattle.storm_program.specs.Fates.{IsOnceOfSome};
-ghost use Rattle.storm_program.specs.Words.{built, usage};
-ghost use Rattle.storm_program.specs.Answers.{ComesTo, IsReportOfFiles, IsTopologyLine, IsInputLineOfFiles, IsReadFaultLine, IsRefusal, Took, TookFront};
+ghost use Rattle.storm_program.specs.NotYet.{is_not_yet};
+ghost use Rattle.storm_program.specs.Words.{built, check_of, run_of, usage};
+ghost use Rattle.storm_program.specs.Answers.{ComesTo, ChecksTo, IsReportOfFiles, IsTopologyLine, IsTopologyStop, IsValidLine, IsInputLineOfFiles, IsReadFaultLine, IsRefusal, topology_not_read, Took, TookFront};
 
+use crate::check::check_file;
 use crate::fates::Fates;
 use crate::files::write_text;
 use crate::run::run_files;
 use crate::status::Status;
-use crate::words::{USAGE, read_words};
+use crate::words::{Command, USAGE, read_words};
 use std::alloc::Global;
 use std::sync::Wait;
 use std::thread::Threads;
 use storm_outside::{Shelf, Sink};
 
-/// How many workers run a topology where the words do not say it.
-const WORKERS: u32 = 4;
-
 /// Carries out the command that the words after the program's name give.
 ///
-/// The words are those of `run` with two files so far; all others get the usage line.
+/// The words are those of `check` and `run` so far; all others get the usage line.
 pub fn storm<R: Threads + Wait + Sync, H: Shelf, K: Sink>(
     rt: &R,
     alloc: Global,
@@ -44,21 +43,22 @@ pub fn storm<R: Threads + Wait + Sync, H: Shelf, K: Sink>(
     ensures no_command_cut { IfNone (built (map string_bytes words.now)) (result ≡ Status.WriteFault
         → Rose (K.faults out.old) (K.faults out.new) × TookFront (K.taken out.old) (K.taken out.new) (λ text. text ≡ usage)) }
     ensures no_command_fates { IfNone (built (map string_bytes words.now)) (fates.new ≡ []) }
+    ensures no_command_fetches { IfNone (built (map string_bytes words.now)) (H.fetches shelf.new ≡ H.fetches shelf.old) }
 
     // The printed tables are those of one machine that takes all records in order, and every record stands in exactly
     // one committed batch.
-    ensures done { IfSome (built (map string_bytes words.now)) (λ names. result ≡ Status.Done → FetchedTimes 2 (around (H.fetches shelf.old) (H.fetches shelf.new) (H.faults shelf.old) (H.faults shelf.new))
+    ensures done { IfSome (run_of (map string_bytes words.now)) (λ names. result ≡ Status.Done → Fetched 2 (H.fetches shelf.old) (H.fetches shelf.new)
         × Took (K.taken out.old) (K.taken out.new) (IsReportOfFiles (H.holds shelf.old) names.0 names.1 fates.new)) }
 
     // Each refusal has its cause, and its line is all that is written.
-    ensures topology { IfSome (built (map string_bytes words.now)) (λ names. result ≡ Status.Topology → FetchedTimes 1 (around (H.fetches shelf.old) (H.fetches shelf.new) (H.faults shelf.old) (H.faults shelf.new))
-        × Took (K.taken out.old) (K.taken out.new) (IsTopologyLine (H.holds shelf.old) names.0)) }
-    ensures input { IfSome (built (map string_bytes words.now)) (λ names. result ≡ Status.Input → FetchedTimes 2 (around (H.fetches shelf.old) (H.fetches shelf.new) (H.faults shelf.old) (H.faults shelf.new))
+    ensures topology { IfSome (run_of (map string_bytes words.now)) (λ names. result ≡ Status.Topology → Fetched 1 (H.fetches shelf.old) (H.fetches shelf.new)
+        × Took (K.taken out.old) (K.taken out.new) (IsTopologyStop (H.holds shelf.old) names.0)) }
+    ensures input { IfSome (run_of (map string_bytes words.now)) (λ names. result ≡ Status.Input → Fetched 2 (H.fetches shelf.old) (H.fetches shelf.new)
         × Took (K.taken out.old) (K.taken out.new) (IsInputLineOfFiles (H.holds shelf.old) names.0 names.1)) }
-    ensures read_fault { IfSome (built (map string_bytes words.now)) (λ names. result ≡ Status.ReadFault → Rose (H.faults shelf.old) (H.faults shelf.new)
+    ensures read_fault { IfSome (run_of (map string_bytes words.now)) (λ names. result ≡ Status.ReadFault → Rose (H.faults shelf.old) (H.faults shelf.new)
         × Took (K.taken out.old) (K.taken out.new) (IsReadFaultLine (H.holds shelf.old) names.0
         (around (H.fetches shelf.old) (H.fetches shelf.new) (H.faults shelf.old) (H.faults shelf.new)))) }
-    ensures write_fault { IfSome (built (map string_bytes words.now)) (λ names. result ≡ Status.WriteFault
+    ensures write_fault { IfSome (run_of (map string_bytes words.now)) (λ names. result ≡ Status.WriteFault
         → Rose (K.faults out.old) (K.faults out.new)
         × ((status : Status) × TookFront (K.taken out.old) (K.taken out.new)
         (λ text. ComesTo (H.holds shelf.old) names.0 names.1
@@ -66,22 +66,43 @@ pub fn storm<R: Threads + Wait + Sync, H: Shelf, K: Sink>(
 
     // Where the shelf tells the files, each refusal comes exactly where it has to, unless an earlier one, a fault of
     // reading or writing, or want of memory takes its place.
-    ensures refused_topology { IfSome (built (map string_bytes words.now)) (λ names. (t : List ℕ) (fault : TopoFault) → H.holds shelf.old names.0 t → IsRefused t fault
+    ensures refused_topology { IfSome (run_of (map string_bytes words.now)) (λ names. (t : List ℕ) (fault : TopoFault) → H.holds shelf.old names.0 t → first_fault t ≡ Some fault
         → (result ≢ Status.Done) × (result ≢ Status.Input)) }
-    ensures refused_input { IfSome (built (map string_bytes words.now)) (λ names. (t i : List ℕ) (plan : Topology) (fault : InputFault)
+    ensures not_yet { IfSome (run_of (map string_bytes words.now)) (λ names. (t : List ℕ) (plan : Topology) → H.holds shelf.old names.0 t → IsFilePlan t plan → is_not_yet plan ≡ true
+        → (result ≢ Status.Done) × (result ≢ Status.Input)) }
+    ensures refused_input { IfSome (run_of (map string_bytes words.now)) (λ names. (t i : List ℕ) (plan : Topology) (fault : InputFault)
         → H.holds shelf.old names.0 t → H.holds shelf.old names.1 i
-        → IsPlanOf t plan → input_fault i plan.spout_fields ≡ Some fault
+        → IsFilePlan t plan → is_not_yet plan ≡ false → input_fault i plan.spout_fields ≡ Some fault
         → (result ≢ Status.Done) × (result ≢ Status.Topology)) }
-    ensures ready { IfSome (built (map string_bytes words.now)) (λ names. H.ready shelf.old → (t i : List ℕ)
+    ensures ready { IfSome (run_of (map string_bytes words.now)) (λ names. H.ready shelf.old → (t i : List ℕ)
         → H.holds shelf.old names.0 t → H.holds shelf.old names.1 i → result ≢ Status.ReadFault) }
-    ensures ready_topology { IfSome (built (map string_bytes words.now)) (λ names. H.ready shelf.old → (t : List ℕ) → H.holds shelf.old names.0 t
+    ensures ready_topology { IfSome (run_of (map string_bytes words.now)) (λ names. H.ready shelf.old → (t : List ℕ) → H.holds shelf.old names.0 t
         → result ≡ Status.ReadFault
-        → FetchedTimes 2 (around (H.fetches shelf.old) (H.fetches shelf.new) (H.faults shelf.old) (H.faults shelf.new)) × ((plan : Topology) × IsPlanOf t plan)) }
-    ensures complete { IfSome (built (map string_bytes words.now)) (λ names. (t i : List ℕ) (plan : Topology)
+        → Fetched 2 (H.fetches shelf.old) (H.fetches shelf.new) × ((plan : Topology) × IsFilePlan t plan × (is_not_yet plan ≡ false))) }
+    ensures complete { IfSome (run_of (map string_bytes words.now)) (λ names. (t i : List ℕ) (plan : Topology)
         → H.holds shelf.old names.0 t → H.holds shelf.old names.1 i
-        → IsPlanOf t plan → input_fault i plan.spout_fields ≡ None
+        → IsFilePlan t plan → is_not_yet plan ≡ false → input_fault i plan.spout_fields ≡ None
         → (H.ready shelf.old ⊎ ¬ Rose (H.faults shelf.old) (H.faults shelf.new)) → ¬ Rose (K.faults out.old) (K.faults out.new)
         → (result ≡ Status.Done) ⊎ (result ≡ Status.Memory)) }
+
+    // A check prints the size of the file's plan, or the file's first fault.
+    ensures check_done { IfSome (check_of (map string_bytes words.now)) (λ name. result ≡ Status.Done → Fetched 1 (H.fetches shelf.old) (H.fetches shelf.new)
+        × Took (K.taken out.old) (K.taken out.new) (IsValidLine (H.holds shelf.old) name)) }
+    ensures check_topology { IfSome (check_of (map string_bytes words.now)) (λ name. result ≡ Status.Topology → Fetched 1 (H.fetches shelf.old) (H.fetches shelf.new)
+        × Took (K.taken out.old) (K.taken out.new) (IsTopologyLine (H.holds shelf.old) name)) }
+    ensures check_read_fault { IfSome (check_of (map string_bytes words.now)) (λ name. result ≡ Status.ReadFault → Rose (H.faults shelf.old) (H.faults shelf.new)
+        × Fetched 1 (H.fetches shelf.old) (H.fetches shelf.new)
+        × Took (K.taken out.old) (K.taken out.new) (λ text. text ≡ topology_not_read)) }
+    ensures check_write_fault { IfSome (check_of (map string_bytes words.now)) (λ name. result ≡ Status.WriteFault → Rose (K.faults out.old) (K.faults out.new)
+        × ((status : Status) × TookFront (K.taken out.old) (K.taken out.new)
+        (λ text. ChecksTo (H.holds shelf.old) name (around (H.fetches shelf.old) (H.fetches shelf.new) (H.faults shelf.old) (H.faults shelf.new)) status text))) }
+    ensures check_refused { IfSome (check_of (map string_bytes words.now)) (λ name. (t : List ℕ) (fault : TopoFault) → H.holds shelf.old name t → first_fault t ≡ Some fault → result ≢ Status.Done) }
+    ensures check_ready { IfSome (check_of (map string_bytes words.now)) (λ name. H.ready shelf.old → (t : List ℕ) → H.holds shelf.old name t → result ≢ Status.ReadFault) }
+    ensures check_complete { IfSome (check_of (map string_bytes words.now)) (λ name. (t : List ℕ) (plan : Topology) → H.holds shelf.old name t → IsFilePlan t plan
+        → (H.ready shelf.old ⊎ ¬ Rose (H.faults shelf.old) (H.faults shelf.new)) → ¬ Rose (K.faults out.old) (K.faults out.new)
+        → (result ≡ Status.Done) ⊎ (result ≡ Status.Memory)) }
+    ensures check_input { IfSome (check_of (map string_bytes words.now)) (λ name. result ≢ Status.Input) }
+    ensures check_fates { IfSome (check_of (map string_bytes words.now)) (λ name. fates.new ≡ []) }
 
     // A run that ends for want of memory writes nothing, and no batch was committed twice.
     ensures memory { result ≡ Status.Memory → K.taken out.new ≡ K.taken out.old }
@@ -89,10 +110,49 @@ pub fn storm<R: Threads + Wait + Sync, H: Shelf, K: Sink>(
     ensures no_run { IsRefusal result → fates.new ≡ [] }
 {
     match read_words(words) {
-        Some((topology, input)) => storm_run(
-            rt, alloc, topology, input, WORKERS, shelf, out, fates,
-        ),
+        Some(Command::Check { topology }) => storm_check(alloc, topology, shelf, out),
+        Some(
+            Command::Run {
+                topology,
+                input,
+                workers,
+            },
+        ) => storm_run(rt, alloc, topology, input, workers, shelf, out, fates),
         None => write_text(Status::Words, USAGE.as_bytes(), out),
+    }
+}
+
+/// Reads a topology file and writes the size of its plan, or its first fault.
+///
+/// It costs what `read_topology` does. The file is read to its first 65,537 bytes at most.
+pub fn storm_check<H: Shelf, K: Sink>(
+    alloc: Global,
+    topology: &str,
+    shelf: &mut H,
+    out: &mut K,
+) -> Status
+    ensures done { result ≡ Status.Done → Fetched 1 (H.fetches shelf.old) (H.fetches shelf.new)
+        × Took (K.taken out.old) (K.taken out.new) (IsValidLine (H.holds shelf.old) topology.now) }
+    ensures topology { result ≡ Status.Topology → Fetched 1 (H.fetches shelf.old) (H.fetches shelf.new)
+        × Took (K.taken out.old) (K.taken out.new) (IsTopologyLine (H.holds shelf.old) topology.now) }
+    ensures read_fault { result ≡ Status.ReadFault → Rose (H.faults shelf.old) (H.faults shelf.new)
+        × Fetched 1 (H.fetches shelf.old) (H.fetches shelf.new)
+        × Took (K.taken out.old) (K.taken out.new) (λ text. text ≡ topology_not_read) }
+    ensures write_fault { result ≡ Status.WriteFault → Rose (K.faults out.old) (K.faults out.new)
+        × ((status : Status) × TookFront (K.taken out.old) (K.taken out.new)
+        (λ text. ChecksTo (H.holds shelf.old) topology.now (around (H.fetches shelf.old) (H.fetches shelf.new) (H.faults shelf.old) (H.faults shelf.new)) status text)) }
+    ensures refused { (t : List ℕ) (fault : TopoFault) → H.holds shelf.old topology.now t → first_fault t ≡ Some fault → result ≢ Status.Done }
+    ensures ready { H.ready shelf.old → (t : List ℕ) → H.holds shelf.old topology.now t → result ≢ Status.ReadFault }
+    ensures complete { (t : List ℕ) (plan : Topology) → H.holds shelf.old topology.now t → IsFilePlan t plan
+        → (H.ready shelf.old ⊎ ¬ Rose (H.faults shelf.old) (H.faults shelf.new)) → ¬ Rose (K.faults out.old) (K.faults out.new)
+        → (result ≡ Status.Done) ⊎ (result ≡ Status.Memory) }
+    ensures memory { result ≡ Status.Memory → K.taken out.new ≡ K.taken out.old }
+    ensures words { result ≢ Status.Words }
+    ensures input { result ≢ Status.Input }
+{
+    match check_file(alloc, topology, shelf) {
+        Ok(checked) => write_text(checked.status, checked.text.as_bytes(), out),
+        Err(_) => Status::Memory,
     }
 }
 
@@ -116,13 +176,13 @@ pub fn storm_run<R: Threads + Wait + Sync, H: Shelf, K: Sink>(
 
     // The printed tables are those of one machine that takes all records in order, and every record stands in exactly
     // one committed batch.
-    ensures done { result ≡ Status.Done → FetchedTimes 2 (around (H.fetches shelf.old) (H.fetches shelf.new) (H.faults shelf.old) (H.faults shelf.new))
+    ensures done { result ≡ Status.Done → Fetched 2 (H.fetches shelf.old) (H.fetches shelf.new)
         × Took (K.taken out.old) (K.taken out.new) (IsReportOfFiles (H.holds shelf.old) topology.now input.now fates.new) }
 
     // Each refusal has its cause, and its line is all that is written.
-    ensures topology { result ≡ Status.Topology → FetchedTimes 1 (around (H.fetches shelf.old) (H.fetches shelf.new) (H.faults shelf.old) (H.faults shelf.new))
-        × Took (K.taken out.old) (K.taken out.new) (IsTopologyLine (H.holds shelf.old) topology.now) }
-    ensures input { result ≡ Status.Input → FetchedTimes 2 (around (H.fetches shelf.old) (H.fetches shelf.new) (H.faults shelf.old) (H.faults shelf.new))
+    ensures topology { result ≡ Status.Topology → Fetched 1 (H.fetches shelf.old) (H.fetches shelf.new)
+        × Took (K.taken out.old) (K.taken out.new) (IsTopologyStop (H.holds shelf.old) topology.now) }
+    ensures input { result ≡ Status.Input → Fetched 2 (H.fetches shelf.old) (H.fetches shelf.new)
         × Took (K.taken out.old) (K.taken out.new) (IsInputLineOfFiles (H.holds shelf.old) topology.now input.now) }
     ensures read_fault { result ≡ Status.ReadFault → Rose (H.faults shelf.old) (H.faults shelf.new)
         × Took (K.taken out.old) (K.taken out.new) (IsReadFaultLine (H.holds shelf.old) topology.now
@@ -135,19 +195,21 @@ pub fn storm_run<R: Threads + Wait + Sync, H: Shelf, K: Sink>(
 
     // Where the shelf tells the files, each refusal comes exactly where it has to, unless an earlier one, a fault of
     // reading or writing, or want of memory takes its place.
-    ensures refused_topology { (t : List ℕ) (fault : TopoFault) → H.holds shelf.old topology.now t → IsRefused t fault
+    ensures refused_topology { (t : List ℕ) (fault : TopoFault) → H.holds shelf.old topology.now t → first_fault t ≡ Some fault
+        → (result ≢ Status.Done) × (result ≢ Status.Input) }
+    ensures not_yet { (t : List ℕ) (plan : Topology) → H.holds shelf.old topology.now t → IsFilePlan t plan → is_not_yet plan ≡ true
         → (result ≢ Status.Done) × (result ≢ Status.Input) }
     ensures refused_input { (t i : List ℕ) (plan : Topology) (fault : InputFault)
         → H.holds shelf.old topology.now t → H.holds shelf.old input.now i
-        → IsPlanOf t plan → input_fault i plan.spout_fields ≡ Some fault
+        → IsFilePlan t plan → is_not_yet plan ≡ false → input_fault i plan.spout_fields ≡ Some fault
         → (result ≢ Status.Done) × (result ≢ Status.Topology) }
     ensures ready { H.ready shelf.old → (t i : List ℕ)
         → H.holds shelf.old topology.now t → H.holds shelf.old input.now i → result ≢ Status.ReadFault }
     ensures ready_topology { H.ready shelf.old → (t : List ℕ) → H.holds shelf.old topology.now t → result ≡ Status.ReadFault
-        → FetchedTimes 2 (around (H.fetches shelf.old) (H.fetches shelf.new) (H.faults shelf.old) (H.faults shelf.new)) × ((plan : Topology) × IsPlanOf t plan) }
+        → Fetched 2 (H.fetches shelf.old) (H.fetches shelf.new) × ((plan : Topology) × IsFilePlan t plan × (is_not_yet plan ≡ false)) }
     ensures complete { (t i : List ℕ) (plan : Topology)
         → H.holds shelf.old topology.now t → H.holds shelf.old input.now i
-        → IsPlanOf t plan → input_fault i plan.spout_fields ≡ None
+        → IsFilePlan t plan → is_not_yet plan ≡ false → input_fault i plan.spout_fields ≡ None
         → (H.ready shelf.old ⊎ ¬ Rose (H.faults shelf.old) (H.faults shelf.new)) → ¬ Rose (K.faults out.old) (K.faults out.new)
         → (result ≡ Status.Done) ⊎ (result ≡ Status.Memory) }
 
@@ -160,7 +222,7 @@ pub fn storm_run<R: Threads + Wait + Sync, H: Shelf, K: Sink>(
     let _ = rt;
     let _ = workers;
     match run_files(alloc, topology, input, shelf, fates) {
-        Ok(outcome) => write_text(outcome.status, outcome.text.as_bytes(), out),
+        Ok(ran) => write_text(ran.status, ran.text.as_bytes(), out),
         Err(_) => Status::Memory,
     }
 }

@@ -1,36 +1,25 @@
-ghost use Rattle.std.specs.Prelude.{◌≡◌, ◌≢◌, ◌≤◌, ◌^◌, ◌-◌, ◌+◌, ◌%◌, ◌<◌, ℕ, List, [], IfOk, OnErr, IsErrOf, length, string_bytes};
-ghost use Rattle.storm_values.specs.Lines.{input_fault, records_of};
-ghost use Rattle.storm_outside.specs.Counts.{Rose};
-ghost use Rattle.bolt_ops.specs.Operations.{out};
-ghost use Rattle.tree_model.specs.Trees.{writes};
-ghost use Rattle.tree_model.specs.Tables.{AreTables};
-ghost use Rattle.topology_reader.specs.WordCount.{IsRefused};
+ghost use Rattle.std.specs.Prelude.{◌≡◌, ◌≢◌, ◌≤◌, ℕ, List, [], IfOk, OnErr, string_bytes};
 ghost use Rattle.storm_program.specs.Outside.{around, FetchedTimes};
 ghost use Rattle.storm_program.specs.Fates.{IsOnceOfSome};
-ghost use Rattle.storm_program.specs.Answers.{topology_line, input_line, IsReport, ComesTo, ComesToWith};
+ghost use Rattle.storm_program.specs.Answers.{IsReport, ComesTo, ComesToOf, ComesToWith};
 
 use crate::batches::Batches;
+use crate::check::MOST_TOPOLOGY;
 use crate::engine::run_batches;
 use crate::fates::Fates;
 use crate::files::read_file;
+use crate::not_yet::is_not_yet;
+use crate::outcome::{Outcome, refuse_input, refuse_topology, with_line};
 use crate::report::report_text;
 use crate::status::Status;
 use std::alloc::{AllocError, Global};
 use storm_outside::{InFault, Shelf};
-use storm_values::{InputFault, Memory, Rows, read_input};
-use topology_reader::{Plan, TopoFault, read_topology};
+use storm_values::{Memory, Rows, read_input};
+use topology_plan::Plan;
+use topology_reader::read_topology;
 
-/// The most bytes of a topology file and of an input.
-const MOST_TOPOLOGY: u64 = 65_536;
-
+/// The most bytes of an input.
 const MOST_INPUT: u64 = 67_108_864;
-
-/// What a command comes to before its text is written.
-#[derive(Drop)]
-pub struct Outcome {
-    pub status: Status,
-    pub text: String,
-}
 
 /// Reads a topology and an input, and runs the one over the other.
 pub fn run_files<H: Shelf>(
@@ -53,13 +42,35 @@ pub fn run_files<H: Shelf>(
 {
     let bytes = match read_file(alloc, topology, MOST_TOPOLOGY, shelf) {
         Ok(bytes) => bytes,
-        Err(InFault::Failed) => return not_read(alloc, "read fault topology\n"),
+        Err(InFault::Failed) => return with_line(alloc, Status::ReadFault, "read fault topology\n"),
         Err(InFault::Memory) => return Err(AllocError),
     };
     match read_topology(alloc, bytes.as_slice()) {
-        Ok(plan) => run_plan(alloc, &plan, input, shelf, fates),
-        Err(fault) => refuse_topology(alloc, fault),
+        Ok(plan) => run_accepted(alloc, &plan, input, shelf, fates),
+        Err(fault) => refuse_topology(alloc, &fault),
     }
+}
+
+/// Runs an accepted plan, or puts it off where it has a part that is not run yet.
+fn run_accepted<H: Shelf>(
+    alloc: Global,
+    plan: &Plan,
+    input: &str,
+    shelf: &mut H,
+    fates: &mut Fates,
+) -> Result<Outcome, Memory>
+    requires { fates.old ≡ [] }
+    ensures comes { IfOk result (λ outcome. ComesToOf (H.holds shelf.old) plan.now input.now
+        (around (H.fetches shelf.old) (H.fetches shelf.new) (H.faults shelf.old) (H.faults shelf.new)) outcome.status (string_bytes outcome.text) fates.new) }
+    ensures ready { IfOk result (λ outcome. H.ready shelf.old → (i : List ℕ) → H.holds shelf.old input.now i
+        → outcome.status ≢ Status.ReadFault) }
+    ensures fates { OnErr result (IsOnceOfSome fates.new) }
+    ensures never_falls { H.faults shelf.old ≤ H.faults shelf.new }
+{
+    if is_not_yet(plan) {
+        return with_line(alloc, Status::Topology, "topology: not yet\n");
+    }
+    run_plan(alloc, plan, input, shelf, fates)
 }
 
 /// Reads an input, and runs a plan over it.
@@ -80,7 +91,7 @@ fn run_plan<H: Shelf>(
 {
     let bytes = match read_file(alloc, input, MOST_INPUT, shelf) {
         Ok(bytes) => bytes,
-        Err(InFault::Failed) => return not_read(alloc, "read fault input\n"),
+        Err(InFault::Failed) => return with_line(alloc, Status::ReadFault, "read fault input\n"),
         Err(InFault::Memory) => return Err(AllocError),
     };
     match read_input(alloc, bytes.as_slice(), plan.spout_fields()) {
@@ -109,41 +120,5 @@ fn run_rows(alloc: Global, plan: &Plan, rows: Rows, fates: &mut Fates) -> Result
     Ok(Outcome {
         status: Status::Done,
         text,
-    })
-}
-
-fn not_read(alloc: Global, line: &str) -> Result<Outcome, Memory>
-    ensures status { IfOk result (λ outcome. outcome.status ≡ Status.ReadFault) }
-    ensures text { IfOk result (λ outcome. string_bytes outcome.text ≡ line.now) }
-{
-    Ok(Outcome {
-        status: Status::ReadFault,
-        text: String::from_str(alloc, line)?,
-    })
-}
-
-fn refuse_topology(alloc: Global, fault: TopoFault) -> Result<Outcome, Memory>
-    ensures status { IfOk result (λ outcome. outcome.status ≡ Status.Topology) }
-    ensures text { IfOk result (λ outcome. (fault ≢ TopoFault.Memory) × (string_bytes outcome.text ≡ topology_line fault)) }
-{
-    if matches!(fault, TopoFault::Memory) {
-        return Err(AllocError);
-    }
-    Ok(Outcome {
-        status: Status::Topology,
-        text: format!(in alloc; "topology: {fault}\n")?,
-    })
-}
-
-fn refuse_input(alloc: Global, fault: InputFault) -> Result<Outcome, Memory>
-    ensures status { IfOk result (λ outcome. outcome.status ≡ Status.Input) }
-    ensures text { IfOk result (λ outcome. (fault ≢ InputFault.Memory) × (string_bytes outcome.text ≡ input_line fault)) }
-{
-    if matches!(fault, InputFault::Memory) {
-        return Err(AllocError);
-    }
-    Ok(Outcome {
-        status: Status::Input,
-        text: format!(in alloc; "input: {fault}\n")?,
     })
 }

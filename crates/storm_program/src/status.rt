@@ -10,7 +10,7 @@ pub enum Status {
     Memory,
     /// The words are no command.
     Words,
-    /// The topology was refused.
+    /// The topology was refused, or is not run yet.
     Topology,
     /// The input was refused.
     Input,

@@ -1,22 +1,63 @@
-ghost use Rattle.std.specs.Prelude.{◌≡◌, map, string_bytes, option_map, [], ◌∷◌};
-ghost use Rattle.storm_program.specs.Words.{is_word, built};
+ghost use Rattle.std.specs.Prelude.{◌≡◌, ◌≤◌, map, string_bytes, option_map, [], ◌∷◌, length, true, IfSome};
+ghost use Rattle.std.specs.List.{list_all};
+ghost use Rattle.std.specs.Char.{is_ascii_digit};
+ghost use Rattle.storm_program.specs.Commands.{command_of_words, HasWorkers};
+ghost use Rattle.storm_program.specs.Words.{is_word, digits_value, number_word, built};
 
 /// The line that refuses words.
 pub const USAGE: &str =
     "usage: storm check T | plain T I | replay T I S | run T I [W] | load N SEED\n";
 
-/// The names of the topology and the input, where the words are those of a command.
-pub fn read_words(words: &[String]) -> Option<(&str, &str)>
-    ensures { option_map (λ names. (names.0.now, names.1.now)) result ≡ built (map string_bytes words.now) }
-{
-    if words.len() != 3 {
-        return None;
-    }
-    files_of_run(words[0].as_str(), words[1].as_str(), words[2].as_str())
+/// How many workers run a topology where the words do not say it.
+const WORKERS: u32 = 4;
+
+/// A command that the program has, with the names of its files.
+#[derive(Drop)]
+pub enum Command<'a> {
+    Check {
+        topology: &'a str,
+    },
+    Run {
+        topology: &'a str,
+        input: &'a str,
+        workers: u32,
+    },
 }
 
-fn files_of_run<'a>(verb: &str, topology: &'a str, input: &'a str) -> Option<(&'a str, &'a str)>
-    ensures { option_map (λ names. (names.0.now, names.1.now)) result ≡ built (verb.now ∷ topology.now ∷ input.now ∷ []) }
+/// The command of some words, where the program has it.
+pub fn read_words(words: &[String]) -> Option<Command<'_>>
+    ensures command { option_map command_of_words result ≡ built (map string_bytes words.now) }
+    ensures workers { IfSome result HasWorkers }
+{
+    match words.len() {
+        2 => check_of(words[0].as_str(), words[1].as_str()),
+        3 => run_of(words[0].as_str(), words[1].as_str(), words[2].as_str()),
+        4 => run_with(
+            words[0].as_str(),
+            words[1].as_str(),
+            words[2].as_str(),
+            words[3].as_str(),
+        ),
+        _ => None,
+    }
+}
+
+fn check_of<'a>(verb: &str, topology: &'a str) -> Option<Command<'a>>
+    ensures command { option_map command_of_words result ≡ built (verb.now ∷ topology.now ∷ []) }
+    ensures workers { IfSome result HasWorkers }
+{
+    if verb != "check" {
+        return None;
+    }
+    if !is_word(topology) {
+        return None;
+    }
+    Some(Command::Check { topology })
+}
+
+fn run_of<'a>(verb: &str, topology: &'a str, input: &'a str) -> Option<Command<'a>>
+    ensures command { option_map command_of_words result ≡ built (verb.now ∷ topology.now ∷ input.now ∷ []) }
+    ensures workers { IfSome result HasWorkers }
 {
     if verb != "run" {
         return None;
@@ -27,7 +68,35 @@ fn files_of_run<'a>(verb: &str, topology: &'a str, input: &'a str) -> Option<(&'
     if !is_word(input) {
         return None;
     }
-    Some((topology, input))
+    Some(Command::Run {
+        topology,
+        input,
+        workers: WORKERS,
+    })
+}
+
+/// A run with a number of workers from 1 to 64.
+fn run_with<'a>(verb: &str, topology: &'a str, input: &'a str, workers: &str) -> Option<Command<'a>>
+    ensures command { option_map command_of_words result ≡ built (verb.now ∷ topology.now ∷ input.now ∷ workers.now ∷ []) }
+    ensures workers { IfSome result HasWorkers }
+{
+    if verb != "run" {
+        return None;
+    }
+    if !is_word(topology) {
+        return None;
+    }
+    if !is_word(input) {
+        return None;
+    }
+    match number_word(workers, 1, 64) {
+        Some(workers) => Some(Command::Run {
+            topology,
+            input,
+            workers,
+        }),
+        None => None,
+    }
 }
 
 fn is_word(word: &str) -> bool
@@ -37,4 +106,39 @@ fn is_word(word: &str) -> bool
         Some(first) => *first != b'-',
         None => false,
     }
+}
+
+/// A number of one to five digits within its range; zeros may lead.
+fn number_word(word: &str, least: u32, most: u32) -> Option<u32>
+    ensures number { result ≡ number_word least most word.now }
+    ensures range { IfSome result (λ number. (least ≤ number) × (number ≤ most)) }
+{
+    let digits = word.as_bytes();
+    if digits.is_empty() || digits.len() > 5 || !are_digits(digits) {
+        return None;
+    }
+    let number = digits_value(digits);
+    if least <= number && number <= most {
+        Some(number)
+    } else {
+        None
+    }
+}
+
+fn are_digits(bytes: &[u8]) -> bool
+    ensures { result ≡ list_all is_ascii_digit bytes.now }
+{
+    bytes.iter().all(|byte| byte.is_ascii_digit())
+}
+
+fn digits_value(digits: &[u8]) -> u32
+    requires few { length digits.now ≤ 5 }
+    requires digits { list_all is_ascii_digit digits.now ≡ true }
+    ensures { result ≡ digits_value digits.now }
+{
+    let mut value = 0;
+    for digit in digits {
+        value = 10 * value + u32::from(*digit - b'0');
+    }
+    value
 }

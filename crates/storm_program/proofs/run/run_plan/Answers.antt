@@ -11,7 +11,7 @@ returns-clause-comes g c =
     IfOk-both c.refuse_input.result _ _ _ (λ outcome is text. comes_refused _ _ _ _ _ _ _ _ outcome.status _ _ c.in-Ok.ensures.bytes c.as_slice.ensures c.spout_fields.ensures (c.in-Err.ensures.fault text.0) c.in-Ok.ensures.fetches is text.1 c.requires) c.refuse_input.ensures.status c.refuse_input.ensures.text
 
 pub returns-in-Err-Failed-clause-fates : goal.returns-in-Err-Failed-clause-fates
-returns-in-Err-Failed-clause-fates g c = OnErr-always c.not_read.result _ (once_of_none _ c.requires)
+returns-in-Err-Failed-clause-fates g c = OnErr-always c.with_line.result _ (once_of_none _ c.requires)
 
 pub returns-in-Err-Memory-clause-fates : goal.returns-in-Err-Memory-clause-fates
 returns-in-Err-Memory-clause-fates g c = once_of_none _ c.requires

@@ -1,0 +1,15 @@
+-- The command that the program has read, in the definitions' words.
+use Rattle.std.specs.Prelude.{◌≤◌}
+use Rattle.storm_program.specs.declared.words.Command.{Command}
+use Rattle.storm_program.specs.declared.words.Command.TheVariants as read
+use Rattle.storm_program.specs.Words.{Command as Said, check, run}
+
+-- the same command in the words of the definitions
+abbrev pub command_of_words : Command → Said
+command_of_words (read.Check topology) = check topology.now
+command_of_words (read.Run topology input workers) = run topology.now input.now workers
+
+-- a run has 1 to 64 workers
+abbrev pub HasWorkers : Command → Type 0
+HasWorkers (read.Check topology) = Unit {0}
+HasWorkers (read.Run topology input workers) = (1 ≤ workers) × (workers ≤ 64)
