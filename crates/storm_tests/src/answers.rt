@@ -79,9 +79,14 @@ const NOT_READ: [(Option<&str>, Option<&str>, u8, &str); 6] = [
     (None, None, 5, "read fault topology\n"),
     (None, Some("[]"), 5, "read fault topology\n"),
     (Some(WORD_COUNT), None, 5, "read fault input\n"),
-    (Some("{\"version\":1"), None, 3, "topology: not yet\n"),
-    (Some("{\"version\":1"), Some("[]"), 3, "topology: not yet\n"),
-    (Some(""), Some(""), 3, "topology: not yet\n"),
+    (Some("{\"version\":1"), None, 3, "topology: no JSON\n"),
+    (
+        Some("{\"version\":1}"),
+        Some("[]"),
+        3,
+        "topology: missing \"spout\"\n",
+    ),
+    (Some(""), Some(""), 3, "topology: no JSON\n"),
 ];
 
 // Inputs of a sentence a line, and the lines that refuse them.
@@ -107,17 +112,36 @@ const REFUSED_INPUTS: [(&str, &str); 7] = [
 const USAGE: &str = "usage: storm check T | plain T I | replay T I S | run T I [W] | load N SEED\n";
 
 // Words that are no command.
-const NO_COMMANDS: [&[&str]; 10] = [
+const NO_COMMANDS: [&[&str]; 28] = [
     &[],
     &["run"],
     &["run", "t"],
     &["run", "t", "i", "0"],
     &["run", "t", "i", "65"],
-    &["--help"],
+    &["run", "t", "i", "000004"],
+    &["run", "t", "i", "+4"],
+    &["run", "t", "i", "4 "],
+    &["run", "t", "i", ""],
+    &["run", "t", "i", "4", "4"],
     &["run", "-t", "i"],
     &["run", "t", "-"],
     &["run", "", "i"],
     &["Run", "t", "i"],
+    &["check"],
+    &["check", "t", "i"],
+    &["check", ""],
+    &["check", "-t"],
+    &["check", "--help"],
+    &["Check", "t"],
+    &["--help"],
+    &["--version"],
+    &["help"],
+    &["--", "check", "t"],
+    // commands that are not there yet
+    &["plain", "t", "i"],
+    &["replay", "t", "i", "s"],
+    &["load", "1", "1"],
+    &["t", "i"],
 ];
 
 fn committed(txid: u64, first: u64, last: u64) -> Attempt {

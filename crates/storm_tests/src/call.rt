@@ -48,6 +48,8 @@ ok 3 records 2 batches
 
 pub const RUN: [&str; 3] = ["run", "t", "i"];
 
+pub const CHECK: [&str; 2] = ["check", "t"];
+
 /// The words of a call, and the files `t` and `i`, where they are there.
 #[derive(Clone, Copy)]
 pub struct Scene<'a> {

@@ -2,7 +2,8 @@
 ghost use Rattle.std.specs.Prelude.{◌<◌};
 
 use crate::call::{
-    CALM, COUNTED_SENTENCES, Outside, RUN, SENTENCES, Scene, Told, WORD_COUNT, call, run_over,
+    CALM, CHECK, COUNTED_SENTENCES, Outside, RUN, SENTENCES, Scene, Told, WORD_COUNT, call,
+    run_over,
 };
 use std::alloc::Global;
 use std::process::Abort;
@@ -11,7 +12,7 @@ use std::test::Fail;
 use std::thread::Threads;
 
 // A report, each refusal, and the line of a read fault.
-const SCENES: [Scene<'static>; 5] = [
+const SCENES: [Scene<'static>; 7] = [
     Scene {
         words: &RUN,
         topology: Some(WORD_COUNT),
@@ -30,6 +31,16 @@ const SCENES: [Scene<'static>; 5] = [
     Scene {
         words: &RUN,
         topology: Some(WORD_COUNT),
+        input: None,
+    },
+    Scene {
+        words: &CHECK,
+        topology: Some(WORD_COUNT),
+        input: None,
+    },
+    Scene {
+        words: &CHECK,
+        topology: Some("{}"),
         input: None,
     },
     Scene {
@@ -135,6 +146,36 @@ fn each_fetch_fails(rt: HostRuntime) -> Result<(), Fail> {
         let told = call(&rt, rt.alloc(), run_over(SENTENCES), outside)?;
         assert_eq!(rt; told.text.as_str(), text, "at fetch {failing_fetch}");
         assert_eq!(rt; told.status.code(), code, "at fetch {failing_fetch}");
+    }
+    Ok(())
+}
+
+#[test]
+fn a_check_fetches_and_reads_once(rt: HostRuntime) -> Result<(), Fail> {
+    let scene = Scene {
+        words: &CHECK,
+        topology: Some(WORD_COUNT),
+        input: None,
+    };
+    // the fetch and the read that fail, the number of the status, and the text
+    let valid = "valid components 2 tasks 4 weight 2 depth 2\n";
+    let table = [
+        (1, 0, 5, "read fault topology\n"),
+        (2, 0, 0, valid),
+        (0, 1, 5, "read fault topology\n"),
+        (0, 2, 5, "read fault topology\n"),
+        (0, 3, 0, valid),
+    ];
+    for (failing_fetch, failing_read, code, text) in table {
+        let outside = Outside {
+            failing_fetch,
+            failing_read,
+            ..CALM
+        };
+        let told = call(&rt, rt.alloc(), scene, outside)?;
+        assert_eq!(rt; told.text.as_str(), text);
+        assert_eq!(rt; told.status.code(), code);
+        assert!(rt; told.fates.is_empty());
     }
     Ok(())
 }

@@ -8,4 +8,8 @@ mod beside;
 #[cfg(test)]
 mod call;
 #[cfg(test)]
+mod checks;
+#[cfg(test)]
 mod faults;
+#[cfg(test)]
+mod trees;
