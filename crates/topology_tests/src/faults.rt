@@ -1,6 +1,7 @@
 // Faults of a whole text and of what a file says. Each line of a table of changes is a file: parts of the valid file,
 // what stands in their places, and what is printed of the fault then.
-use crate::files::{FILE, check_changes, check_operations, told};
+use crate::files::{FILE, check_changes, check_operations};
+use crate::told;
 use std::test::Fail;
 use topology_reader::{TopoFault, read_topology};
 

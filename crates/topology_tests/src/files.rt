@@ -1,9 +1,9 @@
 // Files made by changes of a valid one, and what the reader tells of them.
+use crate::told;
 use std::alloc::Global;
 use std::process::Abort;
 use std::test::Fail;
 use storm_values::Memory;
-use topology_reader::read_topology;
 
 /// A valid file with each kind of member. Its tasks in all are 256, the most.
 pub const FILE: &str = r#"{"version":1,
@@ -23,14 +23,6 @@ pub const FILE: &str = r#"{"version":1,
 
 /// The operation of the first bolt of the valid file.
 const OPERATION: &str = r#"{"do":"filter","field":"a","test":"eq","value":"x"}"#;
-
-/// What is printed of a file's fault, or `no fault`.
-pub fn told(alloc: Global, bytes: &[u8]) -> Result<String, Memory> {
-    match read_topology(alloc, bytes) {
-        Ok(_) => String::from_str(alloc, "no fault"),
-        Err(fault) => fault.text(alloc),
-    }
-}
 
 /// The text with a part of it changed. The part has to stand in it once.
 pub fn changed(

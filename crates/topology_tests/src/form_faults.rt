@@ -1,6 +1,7 @@
 // Faults of a file's form. Each line of a table is a file: parts of the valid file, what stands in their places, and
 // what is printed of the fault then.
-use crate::files::{check_changes, told};
+use crate::files::check_changes;
+use crate::told;
 use std::test::Fail;
 
 const NO_TOPOLOGIES: [(&str, &str); 10] = [

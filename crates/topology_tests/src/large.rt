@@ -1,5 +1,5 @@
 // Files with many bolts, and their weights.
-use crate::files::told;
+use crate::told;
 use std::alloc::Global;
 use std::fmt::Write;
 use std::test::Fail;

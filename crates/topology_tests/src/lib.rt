@@ -1,6 +1,10 @@
 //! Tests of the reader of topology files: each fault, the order of the faults, and the plans of valid files.
 #![tactic(auto)]
 
+mod reading;
+
+pub use reading::told;
+
 #[cfg(test)]
 mod described;
 #[cfg(test)]

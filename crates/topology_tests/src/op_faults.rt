@@ -1,5 +1,6 @@
 // Faults of operations and of long lists and texts.
-use crate::files::{FILE, changed, check_operations, told};
+use crate::files::{FILE, changed, check_operations};
+use crate::told;
 use std::test::Fail;
 
 // Operations of the first bolt, and what is printed of the file's fault.
