@@ -1,4 +1,5 @@
 // Calls of `storm` over files and an output in memory.
+use crate::scenes::owned;
 use std::alloc::Global;
 use std::process::Abort;
 use std::sync::Wait;
@@ -126,14 +127,6 @@ pub fn call<R: Abort + Threads + Wait + Sync>(
         text,
         fates,
     })
-}
-
-fn owned(alloc: Global, words: &[&str]) -> Result<Vec<String>, Memory> {
-    let mut made = Vec::new(alloc);
-    for word in words {
-        made.push(String::from_str(alloc, word)?)?;
-    }
-    Ok(made)
 }
 
 /// The shelf of a scene.

@@ -5,6 +5,7 @@ use crate::call::{
     CALM, CHECK, COUNTED_SENTENCES, Outside, RUN, SENTENCES, Scene, Told, WORD_COUNT, call,
     run_over,
 };
+use crate::scenes::reads_of;
 use std::alloc::Global;
 use std::process::Abort;
 use std::sync::Wait;
@@ -65,13 +66,6 @@ fn cut(rt: &impl Abort, told: &Told, whole: &Told, taken: usize) {
         "after {taken} bytes"
     );
     assert_eq!(rt; told.fates.as_slice(), whole.fates.as_slice());
-}
-
-// The number of reads that reach the end of a file, the last of which gives nothing.
-fn reads_of(text: &str, longest: usize) -> u64
-    requires { 0 < longest }
-{
-    text.len().div_ceil(longest) as u64 + 1
 }
 
 // The status and the text of a run over the sentences, a read of which fails.
