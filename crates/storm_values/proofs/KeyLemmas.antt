@@ -1,34 +1,52 @@
--- The bytes and the JSON items of a key.
-use Rattle.std.proofs.Common.{◌≡◌, ℕ, List, [], ◌∷◌, ◌++◌, map, flat_map, pos, negsuc, false, refl, ap, sym}
-use Rattle.std.proofs.lemmas.List.{append-nil}
-use Rattle.serde_json.specs.View.{items_of}
-use Rattle.serde_json.specs.Data.{item}
-use Rattle.serde_json.specs.Written.{has_float, items_have_float}
+-- The bytes and the text of a key, a value at a time.
+use Rattle.std.proofs.Common.{◌≡◌, ℕ, ◌==◌, Bool, true, false, List, [], ◌∷◌, ◌++◌, length, map, fold, pos, negsuc, refl, ap, sym, ◌∙◌, arith}
+use Rattle.std.proofs.lemmas.Bool.Decides.{nat_tests}
+use Rattle.std.proofs.lemmas.List.{append_assoc}
+use Rattle.std.proofs.lemmas.List.Sums.{fold-append}
+use Rattle.json.specs.Token.{Token}
+use Rattle.json.specs.Print.{print, print_from}
+use Rattle.serde_json.specs.Written.{compact_text, items_text}
 use Rattle.storm_values.specs.declared.value.Value.{Value}
 use Rattle.storm_values.specs.declared.value.Value.TheVariants.{Int, Text}
 use Rattle.storm_values.specs.Json.{data_of, items_of_values}
-use Rattle.storm_values.specs.Keys.{value_bytes, key_bytes}
+use Rattle.storm_values.specs.Keys.{value_bytes, key_bytes, fnv_step, fnv_offset, hash_of, text_of, token_of}
+use Rattle.storm_values.specs.steps.Hashing.{bytes_at, hash_more}
 
--- a value's bytes after the byte that parts it from the value before
-abbrev pub parted_bytes : Value → List ℕ
-parted_bytes value = 0x1F ∷ value_bytes value
+key_bytes-next : (first : Value) (values : List Value) (value : Value)
+    → key_bytes (first ∷ (values ++ value ∷ [])) ≡ key_bytes (first ∷ values) ++ 0x1F ∷ value_bytes value
+key_bytes-next first [] value = refl
+key_bytes-next first (next ∷ values) value =
+    ap (λ bytes. value_bytes first ++ 0x1F ∷ bytes) (key_bytes-next next values value) ∙ sym (append_assoc (value_bytes first) (0x1F ∷ key_bytes (next ∷ values)) _)
 
-pub key_bytes-cons : (value : Value) (values : List Value)
-    → key_bytes (value ∷ values) ≡ value_bytes value ++ flat_map parted_bytes values
-key_bytes-cons value [] = sym (append-nil (value_bytes value))
-key_bytes-cons value (next ∷ values) = ap (λ bytes. value_bytes value ++ 0x1F ∷ bytes) (key_bytes-cons next values)
+-- the bytes of a key with one more value
+pub key_bytes-push : (values : List Value) (value : Value) → key_bytes (values ++ value ∷ []) ≡ key_bytes values ++ bytes_at (length values) value
+key_bytes-push [] value = refl
+key_bytes-push (first ∷ values) value =
+    let later : (length (first ∷ values) == 0) ≡ false = grind (arith, nat_tests) in
+    rw later (key_bytes-next first values value)
 
--- the items of the values' data
-pub items_of-values : (values : List Value) → items_of (map data_of values) ≡ items_of_values values
-items_of-values [] = refl
-items_of-values (value ∷ values) = ap (item (data_of value)) (items_of-values values)
+-- the hash of a key with one more value
+pub hash-push : (values : List Value) (value : Value) (hash place : ℕ) → hash ≡ fold fnv_step fnv_offset (key_bytes values) → place ≡ length values
+    → hash_more hash place value ≡ fold fnv_step fnv_offset (key_bytes (values ++ value ∷ []))
+hash-push values value hash place is at =
+    rw (is, at, key_bytes-push values value) (sym (fold-append fnv_step fnv_offset (key_bytes values) (bytes_at (length values) value)))
 
-has_float-data_of : (value : Value) → has_float (data_of value) ≡ false
-has_float-data_of (Int (pos n)) = refl
-has_float-data_of (Int (negsuc n)) = refl
-has_float-data_of (Text bytes) = refl
+pub hash-whole : (values : List Value) → fold fnv_step fnv_offset (key_bytes values) ≡ hash_of values
+unfolding hash_of
+hash-whole values = refl
 
--- no value is a number with a fraction
-pub items_have_float-values : (values : List Value) → items_have_float (items_of_values values) ≡ false
-items_have_float-values [] = refl
-items_have_float-values (value ∷ values) = rw (has_float-data_of value, items_have_float-values values)
+print-values : (later : Bool) (key : List Value) → print_from later (map token_of key ++ Token.end_array ∷ []) ≡ items_text later (items_of_values key)
+unfolding print_from
+print-values true [] = refl
+print-values false [] = refl
+print-values true (Int (pos n) ∷ key) = ap (λ rest. 44 ∷ (compact_text (data_of (Int (pos n))) ++ rest)) (print-values true key)
+print-values false (Int (pos n) ∷ key) = ap (λ rest. compact_text (data_of (Int (pos n))) ++ rest) (print-values true key)
+print-values true (Int (negsuc n) ∷ key) = ap (λ rest. 44 ∷ (compact_text (data_of (Int (negsuc n))) ++ rest)) (print-values true key)
+print-values false (Int (negsuc n) ∷ key) = ap (λ rest. compact_text (data_of (Int (negsuc n))) ++ rest) (print-values true key)
+print-values true (Text bytes ∷ key) = ap (λ rest. 44 ∷ (compact_text (data_of (Text bytes)) ++ rest)) (print-values true key)
+print-values false (Text bytes ∷ key) = ap (λ rest. compact_text (data_of (Text bytes)) ++ rest) (print-values true key)
+
+-- the tokens of an array of a key's values are printed as the key's text
+pub print-key : (key : List Value) → print ((Token.begin_array ∷ map token_of key) ++ Token.end_array ∷ []) ≡ text_of key
+unfolding text_of print_from
+print-key key = ap (λ rest. 91 ∷ rest) (print-values false key)

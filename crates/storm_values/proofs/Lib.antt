@@ -1,3 +1,5 @@
+mod TextLemmas
+mod RowLemmas
 mod KeyLemmas
 mod OrderLemmas
 mod SplitLemmas

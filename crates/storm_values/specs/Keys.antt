@@ -1,6 +1,7 @@
 -- The bytes, the hash and the text of a key.
 use Rattle.std.specs.Prelude.{ℕ, ◌*◌, ◌%◌, ◌^◌, List, [], ◌∷◌, ◌++◌, fold, bit_xor}
 use Rattle.std.specs.Fmt.{signed_decimal}
+use Rattle.json.specs.Token.{Token}
 use Rattle.serde_json.specs.Data.{array}
 use Rattle.serde_json.specs.Written.{compact_text}
 use Rattle.storm_values.specs.declared.value.Value.{Value}
@@ -32,3 +33,8 @@ hash_of key = fold fnv_step fnv_offset (key_bytes key)
 -- the compact JSON text of the array of a key's values, as serde_json writes it
 unfoldable pub text_of : List Value → List ℕ
 text_of key = compact_text (array (items_of_values key))
+
+-- the JSON token of a value
+abbrev pub token_of : Value → Token
+token_of (Int number) = Token.number (signed_decimal number)
+token_of (Text bytes) = Token.string bytes

@@ -8,6 +8,7 @@ use Rattle.storm_values.specs.declared.lines.LineFault.TheVariants.{TooLong, Not
 use Rattle.storm_values.specs.declared.lines.InputFault.{InputFault}
 use Rattle.storm_values.specs.declared.lines.InputFault.TheVariants.{TooBig, Line, TooMany}
 use Rattle.storm_values.specs.Json.{json_of, value_of}
+use Rattle.storm_values.specs.Limits.{most_line_bytes, most_input_bytes, most_lines}
 
 -- the first of some possible faults that is there
 abbrev pub first_some : {F : Type 0} → List (Option F) → Option F
@@ -50,7 +51,7 @@ first_bad_item at (item entry items) = unwrap_or (option_map (λ _. first_bad_it
 
 -- the five faults, each by itself
 abbrev pub too_long : List ℕ → Option LineFault
-too_long line = if nat_lt 4096 (length line) then Some TooLong else None
+too_long line = if nat_lt most_line_bytes (length line) then Some TooLong else None
 
 abbrev pub not_json : Option Data → Option LineFault
 not_json None = Some NotJson
@@ -79,14 +80,8 @@ row_of line = unwrap_or (option_map values_of (array_of line)) []
 
 -- ---- an input
 
-abbrev pub most_lines : ℕ
-most_lines = 100000
-
-abbrev pub most_bytes : ℕ
-most_bytes = 67108864
-
 abbrev pub too_big : List ℕ → Option InputFault
-too_big bytes = if nat_lt most_bytes (length bytes) then Some TooBig else None
+too_big bytes = if nat_lt most_input_bytes (length bytes) then Some TooBig else None
 
 -- the first line with a fault, the first of the lines having this number
 abbrev pub bad_line : ℕ → ℕ → List (List ℕ) → Option InputFault

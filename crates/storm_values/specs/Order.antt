@@ -1,4 +1,5 @@
--- The order of values. This project's own.
+-- The orders of values and of paths. This project's own.
+use Rattle.std.specs.Prelude.{ℕ, List}
 use Rattle.std.specs.Ordering.{nat_cmp, int_cmp}
 use Rattle.std.specs.Cmp.Lexicographic.{slice_cmp}
 use Rattle.std.specs.declared.cmp.Ordering.{Ordering}
@@ -12,3 +13,7 @@ value_cmp (Int a) (Int b) = int_cmp a b
 value_cmp (Int a) (Text b) = Less
 value_cmp (Text a) (Int b) = Greater
 value_cmp (Text a) (Text b) = slice_cmp nat_cmp a b
+
+-- a path before those that it begins, and else by the first numbers that differ
+abbrev pub path_cmp : List ℕ → List ℕ → Ordering
+path_cmp = slice_cmp nat_cmp

@@ -1,13 +1,15 @@
-ghost use Rattle.std.specs.Prelude.{◌≡◌, fold, IfOk};
-ghost use Rattle.serde_json.specs.View.{view};
-ghost use Rattle.storm_values.specs.Json.{data_of};
-ghost use Rattle.storm_values.specs.Keys.{value_bytes, fnv_step, hash_of, text_of};
+ghost use Rattle.std.specs.Prelude.{◌≡◌, List, ◌∷◌, ◌++◌, [], fold, map, slice_get, option_copied, IfOk, OnOk};
+ghost use Rattle.json.specs.Token.{begin_array};
+ghost use Rattle.storm_values.specs.declared.value.Value.{Value as SpecValue};
+ghost use Rattle.storm_values.specs.Keys.{value_bytes, fnv_step, hash_of, text_of, token_of};
+ghost use Rattle.storm_values.specs.Rows.{values_in};
+ghost use Rattle.storm_values.specs.steps.Hashing.{hash_more};
 
 use crate::list::Memory;
 use crate::text::Txt;
 use crate::value::Value;
 use itoa::Buffer;
-use serde_json::Value as Json;
+use json::Writer;
 use std::alloc::Global;
 
 /// Where a hash begins.
@@ -19,18 +21,51 @@ const MULTIPLIER: u64 = 1_099_511_628_211;
 /// The byte between two values.
 const SEPARATOR: u8 = 0x1F;
 
+/// The room for a key's text that is asked for at once, in bytes.
+const KEY_ROOM: usize = 32;
+
 /// FNV-1a of 64 bits over the key's bytes, in their order. It takes no memory.
 pub fn key_hash(key: &[Value]) -> u64
     ensures { result ≡ hash_of key.now }
 {
-    let Some((first, rest)) = key.split_first() else {
-        return OFFSET;
-    };
-    let mut hash = mix_value(OFFSET, first);
-    for value in rest {
-        hash = mix_value(mix(hash, &[SEPARATOR]), value);
+    let mut hash = OFFSET;
+    for (place, value) in key.iter().enumerate() {
+        hash = mix_next(hash, place, value);
     }
     hash
+}
+
+/// The hash of the key that some fields of a row are. It takes no memory.
+pub fn key_hash_in(row: &[Value], fields: &[u32]) -> u64
+    ensures { result ≡ hash_of (values_in row.now fields.now) }
+{
+    let mut hash = OFFSET;
+    let mut place = 0;
+    for field in fields {
+        if let Some(value) = value_at(row, *field) {
+            hash = mix_next(hash, place, value);
+            place += 1;
+        }
+    }
+    hash
+}
+
+/// The value of a field, if the row has the field.
+fn value_at(row: &[Value], field: u32) -> Option<&Value>
+    ensures { option_copied result ≡ slice_get row.now field }
+{
+    row.get(field as usize)
+}
+
+/// The hash with the value at a place of the key, which the byte between two values parts from the one before.
+fn mix_next(hash: u64, place: usize, value: &Value) -> u64
+    ensures { result ≡ hash_more hash place value.now }
+{
+    if place == 0 {
+        mix_value(hash, value)
+    } else {
+        mix_value(mix(hash, &[SEPARATOR]), value)
+    }
 }
 
 fn mix_value(hash: u64, value: &Value) -> u64
@@ -56,19 +91,47 @@ fn mix(hash: u64, bytes: &[u8]) -> u64
 pub fn key_text(alloc: Global, key: &[Value]) -> Result<Txt, Memory>
     ensures { IfOk result (λ text. text ≡ text_of key.now) }
 {
-    let mut items = Vec::with_capacity(alloc, key.len())?;
+    let mut writer = Writer::new(Vec::with_capacity(alloc, KEY_ROOM)?);
+    writer.begin_array()?;
     for value in key {
-        items.push(to_json(alloc, value)?)?;
+        put_value(&mut writer, value)?;
     }
-    let text = Json::Array(items).to_string(alloc)?;
-    Ok(Txt::from_string(text))
+    closed_text(writer)
 }
 
-fn to_json(alloc: Global, value: &Value) -> Result<Json, Memory>
-    ensures { IfOk result (λ json. view json ≡ data_of value.now) }
+/// The text of the key that some fields of a row are. No value is copied on the way.
+pub fn key_text_in(alloc: Global, row: &[Value], fields: &[u32]) -> Result<Txt, Memory>
+    ensures { IfOk result (λ text. text ≡ text_of (values_in row.now fields.now)) }
+{
+    let mut writer = Writer::new(Vec::with_capacity(alloc, KEY_ROOM)?);
+    writer.begin_array()?;
+    for field in fields {
+        if let Some(value) = value_at(row, *field) {
+            put_value(&mut writer, value)?;
+        }
+    }
+    closed_text(writer)
+}
+
+fn put_value(writer: &mut Writer, value: &Value) -> Result<(), Memory>
+    ensures before { writer.new.before ≡ writer.old.before }
+    ensures tokens { OnOk result (writer.new.tokens ≡ writer.old.tokens ++ token_of value.now ∷ []) }
 {
     match value {
-        Value::Int(number) => Ok(Json::from(*number)),
-        Value::Text(text) => Ok(Json::String(String::from_str(alloc, text.as_str())?)),
+        Value::Int(number) => writer.i64(*number),
+        Value::Text(text) => writer.string(text.as_str()),
+    }
+}
+
+/// The text of an array whose values were written.
+fn closed_text(mut writer: Writer) -> Result<Txt, Memory>
+    requires { writer.before ≡ [] }
+    ensures { IfOk result (λ text. (key : List SpecValue)
+        → writer.tokens ≡ begin_array ∷ map token_of key → text ≡ text_of key) }
+{
+    writer.end_array()?;
+    match String::from_utf8(writer.into_inner()) {
+        Ok(text) => Ok(Txt::from_string(text)),
+        Err(_) => unreachable!(),
     }
 }

@@ -1,11 +1,14 @@
-ghost use Rattle.std.specs.Prelude.{◌≡◌, ◌≢◌, ℕ, ◌<◌, ◌==◌, List, ◌∷◌, length, take, Some, None, option_map, IfOk, IfErr};
+ghost use Rattle.std.specs.Prelude.{◌≡◌, ◌≢◌, ℕ, ◌+◌, ◌<◌, ◌==◌, List, ◌∷◌, length, take, Some, None, option_map, All, IfOk, IfErr};
 ghost use Rattle.std.specs.List.{position};
 ghost use Rattle.std.specs.Option.{option_or};
 ghost use Rattle.serde_json.specs.View.{view, items_view};
 ghost use Rattle.storm_values.specs.Faults.{line_fault_text, input_fault_text};
 ghost use Rattle.storm_values.specs.Json.{json_of, value_of};
+ghost use Rattle.storm_values.specs.Limits.{most_input_bytes};
 ghost use Rattle.storm_values.specs.Lines.{lines_of, array_of, not_json, not_array, bad_item, values_of, line_fault, row_of, input_fault, records_of};
+ghost use Rattle.storm_values.specs.Rows.{IsRow};
 
+use crate::limits::{MOST_INPUT_BYTES, MOST_LINE_BYTES, MOST_LINES};
 use crate::list::{Memory, Seq};
 use crate::text::Txt;
 use crate::value::{Row, Rows, Value};
@@ -13,15 +16,6 @@ use serde_json::Value as Json;
 use std::alloc::Global;
 use std::error::Error;
 use std::fmt;
-
-/// The most bytes of a line, without its byte 10.
-pub const MOST_LINE_BYTES: usize = 4096;
-
-/// The most bytes of an input.
-pub const MOST_INPUT_BYTES: usize = 67_108_864;
-
-/// The most lines of an input.
-pub const MOST_LINES: usize = 100_000;
 
 /// Why a line is no record. The first that holds is answered, in the order of the variants.
 #[derive(Debug, PartialEq, Eq, Drop)]
@@ -51,7 +45,7 @@ impl fmt::Display for LineFault {
 
     fn fmt<W: fmt::Write>(&self, f: &mut fmt::Formatter<W>) -> fmt::Result {
         match self {
-            LineFault::TooLong => write!(f, "longer than 4096 bytes"),
+            LineFault::TooLong => write!(f, "longer than {MOST_LINE_BYTES} bytes"),
             LineFault::NotJson => write!(f, "no JSON"),
             LineFault::NotArray => write!(f, "no array"),
             LineFault::BadItem(i) => write!(f, "item {i} is no text and no whole number"),
@@ -68,9 +62,9 @@ impl fmt::Display for InputFault {
 
     fn fmt<W: fmt::Write>(&self, f: &mut fmt::Formatter<W>) -> fmt::Result {
         match self {
-            InputFault::TooBig => write!(f, "longer than 67108864 bytes"),
+            InputFault::TooBig => write!(f, "longer than {MOST_INPUT_BYTES} bytes"),
             InputFault::Line(number, fault) => write!(f, "line {number}: {fault}"),
-            InputFault::TooMany => write!(f, "more than 100000 lines"),
+            InputFault::TooMany => write!(f, "more than {MOST_LINES} lines"),
             InputFault::Memory => write!(f, "out of memory"),
         }
     }
@@ -104,6 +98,7 @@ impl From<Memory> for InputFault {
 pub fn row_from_line(alloc: Global, line: &[u8], want: u32) -> Result<Row, LineFault>
     ensures good { IfOk result
         (λ row. (line_fault line.now want ≡ None) × (row ≡ row_of line.now)) }
+    ensures within { IfOk result (IsRow want) }
     ensures fault { IfErr result
         (λ fault. fault ≢ LineFault.Memory → line_fault line.now want ≡ Some fault) }
 {
@@ -166,6 +161,7 @@ fn value_from_item(item: Json) -> Option<Value>
 pub fn read_input(alloc: Global, bytes: &[u8], want: u32) -> Result<Rows, InputFault>
     ensures good { IfOk result
         (λ rows. (input_fault bytes.now want ≡ None) × (rows ≡ records_of bytes.now)) }
+    ensures within { IfOk result (All (IsRow want)) }
     ensures fault { IfErr result
         (λ fault. fault ≢ InputFault.Memory → input_fault bytes.now want ≡ Some fault) }
 {
@@ -191,6 +187,7 @@ pub fn read_input(alloc: Global, bytes: &[u8], want: u32) -> Result<Rows, InputF
 fn numbered_row(alloc: Global, line: &[u8], want: u32, number: usize) -> Result<Row, InputFault>
     ensures good { IfOk result
         (λ row. (line_fault line.now want ≡ None) × (row ≡ row_of line.now)) }
+    ensures within { IfOk result (IsRow want) }
     ensures fault { IfErr result (λ fault. fault ≢ InputFault.Memory
         → option_map (InputFault.Line number) (line_fault line.now want) ≡ Some fault) }
 {
@@ -222,7 +219,7 @@ fn line_end(bytes: &[u8]) -> Option<usize>
 /// A law: the first byte past the limit tells as much of an input as all that follow it.
 pub fn one_byte_past_the_limit_suffices()
     ensures fault { (bytes : List ℕ) (want : ℕ)
-        → input_fault (take 67108865 bytes) want ≡ input_fault bytes want }
+        → input_fault (take (most_input_bytes + 1) bytes) want ≡ input_fault bytes want }
     ensures records { (bytes : List ℕ) (want : ℕ) → input_fault bytes want ≡ None
-        → records_of (take 67108865 bytes) ≡ records_of bytes }
+        → records_of (take (most_input_bytes + 1) bytes) ≡ records_of bytes }
 {}

@@ -36,9 +36,6 @@ pub type Bytes = Seq<u8>;
 /// A list of field or component numbers.
 pub type Indexes = Seq<u32>;
 
-/// The place of a node in a tuple tree.
-pub type Path = Seq<u32>;
-
 impl<E> Model for Seq<E> {
     ghost Value = { List E };
 

@@ -2,7 +2,8 @@ ghost use Rattle.std.specs.Prelude.{◌≡◌, [], ◌∷◌, IfOk};
 
 use crate::{
     Bytes, Duplicate, Indexes, InputFault, LineFault, MOST_INPUT_BYTES, MOST_LINES, Memory, Names,
-    Path, Row, Rows, Seq, Txt, Value, key_hash, key_text, read_input, row_from_line,
+    Path, Row, Rows, Seq, Txt, Value, key_hash, key_hash_in, key_text, key_text_in, read_input,
+    row_from_line,
 };
 use std::alloc::Global;
 use std::cmp::Ordering;
@@ -15,8 +16,30 @@ fn hashes_and_texts_of_keys(rt: HostRuntime) -> Result<(), Fail> {
         let key = [Value::Text(Txt::from_str(alloc, text)?)];
         assert_eq!(rt; key_hash(&key), hash, "at {text}");
     }
-    let key = [Value::Text(Txt::from_str(alloc, "a\"b")?), Value::Int(-5)];
-    assert!(rt; key_text(alloc, &key)?.as_str() == "[\"a\\\"b\",-5]");
+    let row = [Value::Int(-5), Value::Text(Txt::from_str(alloc, "a\"b")?)];
+    assert!(rt; key_text(alloc, &row)?.as_str() == "[-5,\"a\\\"b\"]");
+    for (fields, text) in [
+        (&[1, 0][..], "[\"a\\\"b\",-5]"),
+        (&[1, 2, 1], "[\"a\\\"b\",\"a\\\"b\"]"),
+        (&[], "[]"),
+    ] {
+        assert!(rt;
+            key_text_in(alloc, &row, fields)?.as_str() == text,
+            "at {text}"
+        );
+    }
+    assert_eq!(rt; key_hash_in(&row, &[0, 1]), key_hash(&row));
+    Ok(())
+}
+
+#[test]
+fn paths_keep_their_numbers(rt: HostRuntime) -> Result<(), Fail> {
+    let alloc = rt.alloc();
+    let path = Path::from_slice(alloc, &[0, 1, 2, 3, 4, 5])?.child(6)?;
+    let front = Path::from_slice(alloc, &[0, 1])?;
+    assert_eq!(rt; (path.len(), *path.at(6)), (7, 6));
+    assert_eq!(rt; front.compare(&path), Ordering::Less);
+    assert_eq!(rt; path.copy()?.compare(&path), Ordering::Equal);
     Ok(())
 }
 
@@ -88,9 +111,8 @@ fn copied_list<E: Duplicate>(alloc: Global, item: E) -> Result<Seq<E>, Memory>
 fn lists_keep_their_items(rt: HostRuntime) -> Result<(), Fail> {
     let alloc = rt.alloc();
     let bytes: Bytes = copied_list(alloc, 7)?;
-    let path: Path = copied_list(alloc, 7)?;
     let indexes: Indexes = copied_list(alloc, 7)?;
-    assert_eq!(rt; (*bytes.at(0), *path.at(0), *indexes.at(0)), (7, 7, 7));
+    assert_eq!(rt; (*bytes.at(0), *indexes.at(0)), (7, 7));
     let mut text = Txt::new(alloc);
     text.push('é')?;
     let names: Names = copied_list(alloc, text.copy()?)?;

@@ -1,19 +1,17 @@
-use Rattle.std.proofs.Common.{◌≡◌, ◌∷◌, flat_map, take, sym, ◌∙◌, arith}
-use Rattle.std.proofs.lemmas.List.{nil_from_length, take_all}
-use Rattle.std.proofs.lemmas.List.Sums.{fold-append}
-use Rattle.storm_values.specs.Keys.{hash_of, value_bytes, fnv_step, fnv_offset}
-use Rattle.storm_values.proofs.KeyLemmas.{parted_bytes, key_bytes-cons}
+use Rattle.std.proofs.Common.{◌≡◌, take, length, ◌∙◌, arith}
+use Rattle.std.proofs.lemmas.List.{take_all, take_more, length-take}
+use Rattle.storm_values.proofs.KeyLemmas.{hash-push, hash-whole}
 use Rattle.storm_values.proofs.keys.key_hash.Goals as goal
 
-pub returns-in_default : goal.returns-in_default
-unfolding hash_of
-returns-in_default c = rw (nil_from_length c.args.key.now c.in_default.ensures.cases)
+pub loop-place-preserved : goal.loop-place-preserved
+loop-place-preserved c =
+    let key = c.args.key.now in
+    let at = c.loop-place.place in
+    let counted : at ≡ length (take at key) = rw length-take (omega arith) in
+    rw (take_more key at c.index-key-place.result c.loop-place-test.true, ← c.index-key-place.is)
+    (c.mix_next-hash.ensures ∙ hash-push (take at key) c.index-key-place.result c.loop-place.hash at c.loop-place.invariant counted)
 
 pub returns : goal.returns
-unfolding hash_of
 returns c =
-    let first = c.in-Some.first.now in
-    let rest = c.in-Some.rest.now in
-    let whole : take c.loop-value.value-index rest ≡ rest = take_all _ rest (omega arith) in
-    let parts : c.args.key.now ≡ first ∷ rest = c.in-Some.ensures.cases.0 in
-    c.loop-value.invariant ∙ rw (whole, c.mix_value-hash.ensures, parts, key_bytes-cons first rest) (sym (fold-append fnv_step fnv_offset (value_bytes first) (flat_map parted_bytes rest)))
+    let whole : take c.loop-place.place c.args.key.now ≡ c.args.key.now = take_all _ c.args.key.now c.loop-place-test.false in
+    rw whole at c.loop-place.invariant ∙ hash-whole c.args.key.now

@@ -1,7 +1,9 @@
 use Rattle.std.proofs.Common.{◌≡◌, suc, ◌+◌, ◌-◌, ◌<◌, [], ◌∷◌, ◌++◌, length, ap, sym, ◌∙◌, arith}
 use Rattle.std.proofs.lemmas.Bool.Decides.{nat_tests}
 use Rattle.std.proofs.lemmas.List.{append_assoc, append-nil, length-append, nil_from_length}
+use Rattle.std.proofs.lemmas.List.Elements.{All-push}
 use Rattle.std.proofs.lemmas.Result.{err_from_is_err_and}
+use Rattle.storm_values.specs.Rows.{IsRow}
 use Rattle.storm_values.specs.Lines.{lines_of}
 use Rattle.storm_values.proofs.InputLemmas.{input_fault-TooBig, input_fault-lines, fault_of_lines-nil, fault_of_lines-TooMany, fault_of_lines-Line, fault_of_lines-cons, length-lines_of, records_of-lines}
 use Rattle.storm_values.proofs.lines.read_input.Goals as goal
@@ -40,7 +42,8 @@ loop-rest-preserved c =
     record {
       records = rw (pushed, append_assoc) (rw (split, ← good.1) at c.loop-rest.invariant.records);
       fault = rw longer (sym step ∙ rw split at c.loop-rest.invariant.fault);
-      within = omega arith;
+      few = omega arith;
+      within = rw pushed (All-push (IsRow c.args.want) rows c.in_ok-row.row c.loop-rest.invariant.within c.in_ok-row.ensures.within);
     }
 
 pub returns-clause-good : goal.returns-clause-good

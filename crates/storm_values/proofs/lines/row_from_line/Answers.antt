@@ -3,6 +3,7 @@ use Rattle.std.proofs.lemmas.Result.{err_from_is_err_and}
 use Rattle.serde_json.specs.View.{items_view}
 use Rattle.storm_values.specs.Lines.{values_of}
 use Rattle.storm_values.proofs.LineLemmas.{line_fault-TooLong, line_fault-no_array, line_fault-BadItem, line_fault-WrongCount, line_fault-None, row_of-array}
+use Rattle.storm_values.proofs.RowLemmas.{row_within}
 use Rattle.storm_values.proofs.lines.row_from_line.Goals as goal
 
 pub returns-then-line-gt-MOST_LINE_BYTES-clause-fault :
@@ -33,3 +34,9 @@ returns-clause-good c =
       line_fault-None c.args.line.now c.args.want items (omega arith) c.in_ok-items.ensures.good c.in_ok-row.ensures.good.0 counted,
       c.in_ok-row.ensures.good.1 ∙ sym (row_of-array c.args.line.now items c.in_ok-items.ensures.good),
     )
+
+pub returns-clause-within : goal.returns-clause-within
+returns-clause-within c =
+    let items = items_view c.in_ok-items.items.items in
+    let counted : length (values_of items) ≡ c.args.want = ap length (sym c.in_ok-row.ensures.good.1) ∙ sym c.len-found.ensures ∙ c.if-found-want.false in
+    rw c.in_ok-row.ensures.good.1 (row_within c.args.line.now c.args.want items (omega arith) c.in_ok-items.ensures.good counted)
