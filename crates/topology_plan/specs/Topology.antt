@@ -13,7 +13,7 @@ use Rattle.topology_plan.specs.declared.parts.Grouping.TheVariants as grouping
 -- A topology: one spout, and components that are the bolts and then the states, each in file order. The
 -- subscriptions of a source stand in the order of their consumers.
 pub record Topology : Type 0 where
-  pub spout_fields : ℕ
+  pub spout_fields : List (List ℕ)
   pub spout_kind : Kind
   pub batch : ℕ
   pub components : List Component
@@ -75,7 +75,7 @@ greatest [] = 0
 greatest (n ∷ ns) = max n (greatest ns)
 
 -- The depth of the spout is 0, that of a component 1 more than the greatest of its sources. Where there is no cycle, a
--- way from the spout goes through each component at most once, so as many steps as there are components reach everything.
+-- chain of subscriptions goes through each component at most once, so as many steps as there are components reach everything.
 abbrev pub depth_within : ℕ → Topology → Origin → ℕ
 depth_within n t origin.Spout = 0
 depth_within zero t (origin.Component c) = 0
@@ -86,22 +86,22 @@ unfoldable pub depth_of : Topology → ℕ
 depth_of t = greatest (map (depth_within (length t.components) t) (origins t))
 
 -- the number at which weights end
-abbrev pub most_weight : ℕ
-most_weight = 2 ^ 64 - 1
+abbrev pub weight_end : ℕ
+weight_end = 2 ^ 64 - 1
 
 -- sums and products that end at 2^64 - 1
 abbrev pub ended_sum : List ℕ → ℕ
 ended_sum [] = 0
-ended_sum (n ∷ ns) = min (n + ended_sum ns) most_weight
+ended_sum (n ∷ ns) = min (n + ended_sum ns) weight_end
 
 -- How many tuples one tuple of the spout can make at most at a source, if each bolt emits one row for a row. Where there
--- is no cycle, as many steps as there are components count every way.
-abbrev pub ways_within : ℕ → Topology → Origin → ℕ
-ways_within n t origin.Spout = 1
-ways_within zero t (origin.Component c) = 0
-ways_within (suc n) t (origin.Component c) =
-    ended_sum (map (λ input. min (ways_within n t input.0 * copies_of t input.1) most_weight) (inputs_of t c))
+-- is no cycle, as many steps as there are components count them all.
+abbrev pub tuples_within : ℕ → Topology → Origin → ℕ
+tuples_within n t origin.Spout = 1
+tuples_within zero t (origin.Component c) = 0
+tuples_within (suc n) t (origin.Component c) =
+    ended_sum (map (λ input. min (tuples_within n t input.0 * copies_of t input.1) weight_end) (inputs_of t c))
 
 -- the same at all components together, where there is no cycle
 unfoldable pub weight_of : Topology → ℕ
-weight_of t = ended_sum (map (λ c. ways_within (length t.components) t (origin.Component c)) (range_with_len 0 (length t.components)))
+weight_of t = ended_sum (map (λ c. tuples_within (length t.components) t (origin.Component c)) (range_with_len 0 (length t.components)))

@@ -1,5 +1,6 @@
 -- What every plan keeps. This project's own.
-use Rattle.std.specs.Prelude.{◌≡◌, ◌≤◌, ◌<◌, ℕ, length, All}
+use Rattle.std.specs.Prelude.{◌≡◌, ◌+◌, ◌≤◌, ◌<◌, ℕ, length, All}
+use Rattle.storm_values.specs.Limits.{most_fields, most_batch, most_ackers, most_pending, least_buckets, most_buckets, most_attempts, most_bolts, most_states, most_tasks_in_all, most_weight}
 use Rattle.topology_plan.specs.declared.parts.Sub.{Sub}
 use Rattle.topology_plan.specs.declared.parts.Origin.{Origin}
 use Rattle.topology_plan.specs.declared.parts.Origin.TheVariants as origin
@@ -20,15 +21,15 @@ pub record IsRanked (t : Topology) : Type 0 where
 
 -- numbers in their ranges, subscriptions of components that are there, and no cycle
 pub record IsValid (t : Topology) : Type 0 where
-  pub spout_fields : IsBetween t.spout_fields 1 8
-  pub batch : IsBetween t.batch 1 10000
-  pub ackers : IsBetween t.ackers 1 16
-  pub pending : IsBetween t.pending 1 64
-  pub buckets : IsBetween t.buckets 2 16
-  pub attempts : IsBetween t.attempts 1 100
-  pub components : IsBetween (length t.components) 1 40
-  pub tasks : IsBetween (tasks_in_all t) 1 256
+  pub spout_fields : IsBetween (length t.spout_fields) 1 most_fields
+  pub batch : IsBetween t.batch 1 most_batch
+  pub ackers : IsBetween t.ackers 1 most_ackers
+  pub pending : IsBetween t.pending 1 most_pending
+  pub buckets : IsBetween t.buckets least_buckets most_buckets
+  pub attempts : IsBetween t.attempts 1 most_attempts
+  pub components : IsBetween (length t.components) 1 (most_bolts + most_states)
+  pub tasks : IsBetween (tasks_in_all t) 1 most_tasks_in_all
   pub sources : length t.component_subs ≡ length t.components
   pub targets : (from : Origin) → All (IsTarget t) (subs_of t from)
   pub ranked : IsRanked t
-  pub weight : weight_of t ≤ 256
+  pub weight : weight_of t ≤ most_weight

@@ -2,6 +2,7 @@
 use Rattle.std.specs.Prelude.{◌≡◌, ◌≢◌, ◌<◌, ℕ, ◌+◌, ◌-◌, ◌≤◌, List, [], length, map, All, Option, None, IsSome, slice_get, IfSome, Some, sum, take, AllPairs}
 use Rattle.std.specs.List.Sorted.{IsStrictlyIncreasing}
 use Rattle.std.specs.Option.{option_map_or}
+use Rattle.storm_values.specs.Limits.{most_fields, most_constant_bytes, most_below, most_tasks, most_bolts, most_states}
 use Rattle.storm_values.specs.declared.value.Value.{Value}
 use Rattle.storm_values.specs.declared.value.Value.TheVariants.{Int, Text}
 use Rattle.topology_plan.specs.declared.parts.Body.{Body}
@@ -22,12 +23,24 @@ use Rattle.topology_plan.specs.Texts.{IsName}
 use Rattle.topology_plan.specs.Topology.{Topology, subs_of, inputs_of}
 use Rattle.topology_plan.specs.Valid.{IsBetween}
 
--- ---- widths
+-- ---- fields
 
--- how many fields a source's rows have
+-- the fields of a source's rows
+abbrev pub fields_of : Topology → Origin → List (List ℕ)
+fields_of t origin.Spout = t.spout_fields
+fields_of t (origin.Component c) = option_map_or (λ (component : Component). component.fields) (slice_get t.components c) []
+
+-- how many there are
 abbrev pub width_of : Topology → Origin → ℕ
-width_of t origin.Spout = t.spout_fields
-width_of t (origin.Component c) = option_map_or (λ (component : Component). length component.fields) (slice_get t.components c) 0
+width_of t from = length (fields_of t from)
+
+-- the fields of the rows that come to a component: those of its first source, and so of each
+abbrev pub fields_to : Topology → ℕ → List (List ℕ)
+fields_to t c = option_map_or (λ (input : Origin × Sub). fields_of t input.0) (slice_get (inputs_of t c) 0) []
+
+-- how many there are
+abbrev pub width_to : Topology → ℕ → ℕ
+width_to t c = length (fields_to t c)
 
 -- how many fields an operation leaves of a row of n
 abbrev pub width_after : Op → ℕ → ℕ
@@ -43,12 +56,12 @@ width_after Custom n = n
 
 -- some fields of a row of n, each once
 abbrev pub AreWithin : List ℕ → ℕ → Type 0
-AreWithin fields n = IsBetween (length fields) 1 8 × All (λ field. field < n) fields × AllPairs (λ a b. a ≢ b) fields
+AreWithin fields n = IsBetween (length fields) 1 most_fields × All (λ field. field < n) fields × AllPairs (λ a b. a ≢ b) fields
 
 -- a number, or a text of at most 256 bytes
 abbrev pub IsConstant : Value → Type 0
 IsConstant (Int number) = Unit {0}
-IsConstant (Text bytes) = length bytes ≤ 256
+IsConstant (Text bytes) = length bytes ≤ most_constant_bytes
 
 -- the fields of an operation are there, and its numbers and its constant are within their limits
 abbrev pub IsWithin : Op → ℕ → Type 0
@@ -58,8 +71,8 @@ IsWithin (Filter field test value) n = (field < n) × IsConstant value
 IsWithin (Set field value) n = (field < n) × IsConstant value
 IsWithin (Len field) n = field < n
 IsWithin (Route field) n = field < n
-IsWithin (Flaky below) n = IsBetween below 1 100
-IsWithin (Mute below) n = IsBetween below 1 100
+IsWithin (Flaky below) n = IsBetween below 1 most_below
+IsWithin (Mute below) n = IsBetween below 1 most_below
 IsWithin Custom n = Unit {0}
 
 -- an amount is there for each fold but count
@@ -93,21 +106,20 @@ IsKeyed spec by = by ≡ grouping.Fields spec.key
 
 -- component c fits the n fields that come to it, and has the fields that its body leaves
 abbrev pub IsFed : Topology → ℕ → ℕ → Body → List (List ℕ) → Type 0
-IsFed t c n (Bolt op) fields = IsWithin op n × (length fields ≡ width_after op n) × IsBetween (length fields) 1 8
+IsFed t c n (Bolt op) fields = IsWithin op n × (length fields ≡ width_after op n) × IsBetween (length fields) 1 most_fields
 IsFed t c n (State spec) fields =
     (fields ≡ []) × (subs_of t (origin.Component c) ≡ []) × AreWithin spec.key n × HasAmount spec.fold spec.amount n × All (λ input. IsKeyed spec (input.1).grouping) (inputs_of t c)
 
--- component c: its number of fields coming in is that of each of its sources, of which there is one at least
+-- component c: the rows of all its sources, of which there is one at least, have the same fields
 pub record IsComponent (t : Topology) (c : ℕ) (component : Component) : Type 0 where
   pub name : IsName component.name
-  pub width : ℕ
-  pub sources : All (λ input. width_of t input.0 ≡ width) (inputs_of t c)
+  pub sources : All (λ input. fields_of t input.0 ≡ fields_to t c) (inputs_of t c)
   pub some_source : inputs_of t c ≢ []
-  pub fed : IsFed t c width component.body component.fields
+  pub fed : IsFed t c (width_to t c) component.body component.fields
   pub fields : AllPairs (λ a b. a ≢ b) component.fields
   pub field_names : All IsName component.fields
   pub first_task : component.first_task ≡ sum (take c (map (λ (other : Component). other.tasks) t.components))
-  pub tasks : IsBetween component.tasks 1 64
+  pub tasks : IsBetween component.tasks 1 most_tasks
 
 -- bolts have the numbers below this one, states those from there on
 abbrev pub IsPlaced : ℕ → ℕ → Body → Type 0
@@ -117,8 +129,8 @@ IsPlaced bolts c (State spec) = bolts ≤ c
 -- the components are at most 32 bolts, and then 1 to 8 states
 pub record IsLaidOut (t : Topology) : Type 0 where
   pub bolts : ℕ
-  pub few : bolts ≤ 32
-  pub states : IsBetween (length t.components - bolts) 1 8
+  pub few : bolts ≤ most_bolts
+  pub states : IsBetween (length t.components - bolts) 1 most_states
   pub placed : (c : ℕ) → IfSome (slice_get t.components c) (λ component. IsPlaced bolts c component.body)
 
 -- an opaque spout may have this body behind it: any bolt, and an opaque state
@@ -129,6 +141,8 @@ MayFollowOpaque (State spec) = spec.kind ≡ Opaque
 -- names, subscriptions, groupings and fields fit together
 pub record IsWired (t : Topology) : Type 0 where
   pub layout : IsLaidOut t
+  pub spout_fields : AllPairs (λ a b. a ≢ b) t.spout_fields
+  pub spout_field_names : All IsName t.spout_fields
   pub names : AllPairs (λ (a b : Component). a.name ≢ b.name) t.components
   -- a component takes a source at most once, and a source's subscriptions stand in the order of their consumers
   pub once : (from : Origin) → IsStrictlyIncreasing (map (λ (sub : Sub). sub.to) (subs_of t from))

@@ -1,15 +1,17 @@
 ghost use Rattle.std.specs.Prelude.{◌≡◌, ◌<◌, ◌≤◌, All, length, slice_get, Some, sum_by, ◌^◌};
 ghost use Rattle.topology_plan.specs.Inside.{topology_of, IsSound};
 ghost use Rattle.topology_plan.specs.Topology.{component_from, component_of, subs_of, tasks_in_all, depth_of, weight_of};
-ghost use Rattle.topology_plan.specs.Valid.{IsTarget};
+ghost use Rattle.topology_plan.specs.Valid.{IsTarget, IsValid};
+ghost use Rattle.topology_plan.specs.Wired.{IsWired};
 
 use crate::parts::{Component, Kind, Origin, Sub};
 use std::marker::Model;
+use storm_values::Names;
 
 /// What a plan is made of. Components are the bolts and then the states, each in file order.
 #[derive(Debug, Drop)]
 pub struct Made {
-    pub spout_fields: u32,
+    pub spout_fields: Names,
     pub spout_kind: Kind,
     /// The most records of a batch.
     pub batch: u32,
@@ -53,6 +55,15 @@ impl Plan {
         ensures { result ≡ topology_of made }
     {
         Plan { made }
+    }
+
+    /// What every plan keeps. It does nothing.
+    pub fn facts(&self)
+        ensures valid { IsValid self.now }
+        ensures wired { IsWired self.now }
+    {
+        // brings in the invariant
+        let _ = &self.made.tasks;
     }
 
     /// How many bolts and states there are.
@@ -117,9 +128,9 @@ impl Plan {
 
     /// How many fields a record has.
     pub fn spout_fields(&self) -> u32
-        ensures { result ≡ self.now.spout_fields }
+        ensures { result ≡ length self.now.spout_fields }
     {
-        self.made.spout_fields
+        self.made.spout_fields.len() as u32
     }
 
     /// The most records of a batch.
