@@ -1,5 +1,5 @@
 -- What an operation of a bolt makes of a row. This project's own.
-use Rattle.std.specs.Prelude.{ℕ, ◌+◌, ◌<◌, pos, Bool, false, not, List, [], ◌∷◌, ◌++◌, length, map, filter, nat_lt, ◌==◌, if◌then◌else◌, Option, All, slice_get, slice_set}
+use Rattle.std.specs.Prelude.{ℕ, pos, Bool, false, not, List, [], ◌∷◌, ◌++◌, length, map, filter, nat_lt, ◌==◌, if◌then◌else◌, Option, slice_get, slice_set}
 use Rattle.std.specs.List.{filter_map, slice_split}
 use Rattle.std.specs.Option.{option_map_or}
 use Rattle.std.specs.Ordering.{is_eq, is_lt}
@@ -8,9 +8,11 @@ use Rattle.storm_values.specs.declared.value.Value.{Value}
 use Rattle.storm_values.specs.declared.value.Value.TheVariants.{Int, Text}
 use Rattle.storm_values.specs.Order.{value_cmp}
 use Rattle.topology_plan.specs.declared.parts.Op.{Op}
-use Rattle.topology_plan.specs.declared.parts.Op.TheVariants.{Split, Project, Filter, Set, Len, Route, Flaky, Mute, Custom}
+use Rattle.topology_plan.specs.declared.parts.Op.TheVariants.{Split, Project, Filter, Set, Len, Route, Flaky, Mute}
+use Rattle.topology_plan.specs.declared.parts.Op.TheVariants as op
 use Rattle.topology_plan.specs.declared.parts.Test.{Test}
 use Rattle.topology_plan.specs.declared.parts.Test.TheVariants.{Eq, Ne, Lt}
+use Rattle.bolt_ops.specs.RowOp.{Custom}
 use Rattle.bolt_ops.specs.declared.operation.Outcome.{Outcome}
 use Rattle.bolt_ops.specs.declared.operation.Outcome.TheVariants as outcome
 
@@ -45,8 +47,8 @@ passes Lt order = is_lt order
 abbrev pub keeps : ℕ → Test → Value → List Value → Bool
 keeps field test value row = option_map_or (λ found. passes test (value_cmp found value)) (value_at row field) false
 
--- the rows that an operation makes of a row; `custom` says which rows the user's own operation makes of it
-abbrev pub out : (List Value → List (List Value)) → Op → List Value → List (List Value)
+-- the rows that an operation makes of a row; `custom` is what the user's own operation means
+abbrev pub out : Custom → Op → List Value → List (List Value)
 out custom (Split field) row = map (λ word. Text word ∷ []) (words (text_at row field))
 out custom (Project fields) row = filter_map (value_at row) fields ∷ []
 out custom (Filter field test value) row = if keeps field test value row then row ∷ [] else []
@@ -55,7 +57,7 @@ out custom (Len field) row = (row ++ Int (pos (length (text_at row field))) ∷ 
 out custom (Route field) row = row ∷ []
 out custom (Flaky below) row = row ∷ []
 out custom (Mute below) row = row ∷ []
-out custom Custom row = custom row
+out custom op.Custom row = custom.rows row
 
 -- a flaky operation fails at each attempt below a number; attempts are counted from 1
 abbrev pub fails_at : Op → ℕ → Bool
@@ -68,32 +70,6 @@ is_mute_at (Mute below) attempt = nat_lt attempt below
 is_mute_at _ attempt = false
 
 -- what an attempt at a row comes to
-abbrev pub exec_of : (List Value → List (List Value)) → Op → List Value → ℕ → Outcome
-exec_of custom op row attempt =
-    if fails_at op attempt then outcome.Fail else (if is_mute_at op attempt then outcome.Mute else outcome.Rows (out custom op row))
-
--- ---- how many values the rows have
-
--- how many values an output row has where the row has n
-abbrev pub output_fields : Op → ℕ → ℕ
-output_fields (Split field) n = 1
-output_fields (Project fields) n = length fields
-output_fields (Filter field test value) n = n
-output_fields (Set field value) n = n
-output_fields (Len field) n = n + 1
-output_fields (Route field) n = n
-output_fields (Flaky below) n = n
-output_fields (Mute below) n = n
-output_fields Custom n = n
-
--- the fields of the operation are fields of a row of n values
-abbrev pub OpFits : Op → ℕ → Type 0
-OpFits (Split field) n = field < n
-OpFits (Project fields) n = All (λ field. field < n) fields
-OpFits (Filter field test value) n = field < n
-OpFits (Set field value) n = field < n
-OpFits (Len field) n = field < n
-OpFits (Route field) n = field < n
-OpFits (Flaky below) n = Unit {0}
-OpFits (Mute below) n = Unit {0}
-OpFits Custom n = Unit {0}
+abbrev pub exec_of : Custom → Op → List Value → ℕ → Outcome
+exec_of custom operation row attempt =
+    if fails_at operation attempt then outcome.Fail else (if is_mute_at operation attempt then outcome.Mute else outcome.Rows (out custom operation row))

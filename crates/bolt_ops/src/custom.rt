@@ -1,24 +1,20 @@
-ghost use Rattle.std.specs.Prelude.{◌≡◌, List, [], ◌∷◌, reverse, IfOk};
-ghost use Rattle.std.proofs.Common.{lit≤};
-ghost use Rattle.std.proofs.lemmas.List.{length-reverse};
-ghost use Rattle.storm_values.specs.declared.value.Value.{Value};
-ghost use Rattle.bolt_ops.specs.RowOp.{MakesFew, KeepsLength, KeepsLength-one, KeepsLimits, KeepsLimits-one, All-reverse_short};
+ghost use Rattle.std.specs.Prelude.{◌≡◌, All, IfOk};
+ghost use Rattle.storm_values.specs.Rows.{IsShort};
+ghost use Rattle.bolt_ops.specs.RowOp.{Custom, IsCustom, IsCustom-reversed, reversed};
 
 use std::alloc::Global;
 use storm_values::{Duplicate, Memory, Row, Rows};
 
-/// An operation of the user's own, which makes at most 16 rows of a row. They depend on the operation and the row alone.
+/// An operation of the user's own, for rows within limits. What it makes depends on the operation and the row alone.
 pub trait RowOp {
-    ghost rows_of: { Self → List Value → List (List Value) };
+    ghost meaning: { Self → Custom };
 
+    ghost keeps: { (op : Self) → IsCustom (meaning op) };
+
+    /// At most 16 rows, each within limits and with as many values as the row.
     fn rows(&self, alloc: Global, row: &Row) -> Result<Rows, Memory>
-        ensures { IfOk result (λ rows. rows ≡ rows_of self.now row.now) };
-
-    ghost few: { (op : Self) → MakesFew (rows_of op) };
-
-    ghost keeps_length: { (op : Self) → KeepsLength (rows_of op) };
-
-    ghost keeps_limits: { (op : Self) → KeepsLimits (rows_of op) };
+        requires { All IsShort row.now }
+        ensures { IfOk result (λ rows. rows ≡ (meaning self.now).rows row.now) };
 }
 
 /// Makes one row, of the values in reverse order.
@@ -26,13 +22,9 @@ pub trait RowOp {
 pub struct Reversed;
 
 impl RowOp for Reversed {
-    ghost rows_of = { λ _ row. reverse row ∷ [] };
+    ghost meaning = { λ _. reversed };
 
-    ghost few = { λ _ _. lit≤ tt };
-
-    ghost keeps_length = { λ _. KeepsLength-one reverse length-reverse };
-
-    ghost keeps_limits = { λ _. KeepsLimits-one reverse All-reverse_short };
+    ghost keeps = { λ _. IsCustom-reversed };
 
     fn rows(&self, alloc: Global, row: &Row) -> Result<Rows, Memory> {
         let mut made = Row::new(alloc);

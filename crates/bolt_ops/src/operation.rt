@@ -1,6 +1,8 @@
-ghost use Rattle.std.specs.Prelude.{◌≡◌, ◌∷◌, ◌++◌, [], length, map, pos, IfOk, IsTrue, if◌then◌else◌, slice_set, Some};
+ghost use Rattle.std.specs.Prelude.{◌≡◌, ◌∷◌, ◌++◌, [], All, length, map, pos, IfOk, IsTrue, if◌then◌else◌, slice_set, Some};
 ghost use Rattle.std.specs.List.{filter_map};
 ghost use Rattle.std.specs.Option.{option_copied};
+ghost use Rattle.storm_values.specs.Rows.{IsShort};
+ghost use Rattle.topology_plan.specs.Wired.{IsWithin};
 ghost use Rattle.bolt_ops.specs.Operations.{value_at, text_at, bytes_of, words, passes, keeps, out, exec_of};
 
 use crate::custom::RowOp;
@@ -27,8 +29,10 @@ pub fn exec<O: RowOp>(
     attempt: u32,
     custom: &O,
 ) -> Result<Outcome, Memory>
+    requires short { All IsShort row.now }
+    requires op { IsWithin op.now (length row.now) }
     ensures { IfOk result
-        (λ outcome. outcome ≡ exec_of (O.rows_of custom.now) op.now row.now attempt) }
+        (λ outcome. outcome ≡ exec_of (O.meaning custom.now) op.now row.now attempt) }
 {
     match op {
         Op::Flaky { below } if attempt < *below => Ok(Outcome::Fail),
@@ -38,10 +42,11 @@ pub fn exec<O: RowOp>(
 }
 
 /// The rows that an operation makes of a row, whatever the attempt, in a time that grows with the bytes of the row
-/// and of the rows made. Where the row has no such field, a split or a filter makes no row, a projection leaves the
-/// field out, a set changes nothing, and a length is 0.
+/// and of the rows made.
 pub fn output_rows<O: RowOp>(alloc: Global, op: &Op, row: &Row, custom: &O) -> Result<Rows, Memory>
-    ensures { IfOk result (λ rows. rows ≡ out (O.rows_of custom.now) op.now row.now) }
+    requires short { All IsShort row.now }
+    requires op { IsWithin op.now (length row.now) }
+    ensures { IfOk result (λ rows. rows ≡ out (O.meaning custom.now) op.now row.now) }
 {
     match op {
         Op::Split { field } => word_rows(alloc, text_of_field(row, *field)),

@@ -1,15 +1,24 @@
+ghost use Rattle.std.specs.Prelude.{◌≡◌, ◌≤◌, length, IfOk};
+ghost use Rattle.storm_values.specs.Rows.{IsRow};
+ghost use Rattle.topology_plan.specs.Wired.{IsWithin};
+
 use crate::{Outcome, Reversed, RowOp, exec, output_rows};
 use std::alloc::Global;
 use std::test::Fail;
 use storm_values::{Indexes, Memory, Row, Rows, Txt, Value};
 use topology_plan::{Op, Test};
 
-fn text(alloc: Global, text: &str) -> Result<Value, Memory> {
+fn text(alloc: Global, text: &str) -> Result<Value, Memory>
+    ensures { IfOk result (λ value. value ≡ Value.Text text.now) }
+{
     Ok(Value::Text(Txt::from_str(alloc, text)?))
 }
 
 /// The row of the number 7 and a text.
-fn row_of(alloc: Global, last: &str) -> Result<Row, Memory> {
+fn row_of(alloc: Global, last: &str) -> Result<Row, Memory>
+    requires { length last.now ≤ 4096 }
+    ensures { IfOk result (IsRow 2) }
+{
     let mut row = Row::new(alloc);
     row.push(Value::Int(7))?;
     row.push(text(alloc, last)?)?;
@@ -45,40 +54,41 @@ fn splits_into_words(rt: HostRuntime) -> Result<(), Fail> {
     Ok(())
 }
 
+/// What an operation makes of the row of 7 and `cow`.
+fn made(alloc: Global, op: &Op) -> Result<String, Memory>
+    requires { IsWithin op.now 2 }
+{
+    let rows = output_rows(alloc, op, &row_of(alloc, "cow")?, &Reversed)?;
+    shown(alloc, &rows)
+}
+
 #[test]
 fn makes_rows(rt: HostRuntime) -> Result<(), Fail> {
     let alloc = rt.alloc();
-    let mut fields = Indexes::new(alloc);
-    fields.push(1)?;
-    fields.push(0)?;
-    let table = [
-        (Op::Split { field: 0 }, ""),
-        (Op::Project(fields), "cow,7,;"),
-        (filter(Test::Eq, Value::Int(7)), "7,cow,;"),
-        (filter(Test::Ne, Value::Int(7)), ""),
-        (filter(Test::Lt, Value::Int(7)), ""),
-        (filter(Test::Lt, text(alloc, "")?), "7,cow,;"),
-        (
-            Op::Set {
-                field: 1,
-                value: Value::Int(-4),
-            },
-            "7,-4,;",
-        ),
-        (Op::Len { field: 1 }, "7,cow,3,;"),
-        (Op::Len { field: 0 }, "7,cow,0,;"),
-        (Op::Route { field: 0 }, "7,cow,;"),
-        (Op::Custom, "cow,7,;"),
-    ];
-    let row = row_of(alloc, "cow")?;
-    for (op, expected) in &table {
-        let rows = output_rows(alloc, op, &row, &Reversed)?;
-        assert_eq!(rt; shown(alloc, &rows)?.as_str(), *expected);
-    }
+    let fields = Indexes::from_vec(vec![in alloc; 1, 0]?);
+    let project = Op::Project(fields);
+    let set = Op::Set {
+        field: 1,
+        value: Value::Int(-4),
+    };
+    let empty = text(alloc, "")?;
+    assert!(rt; made(alloc, &Op::Split { field: 0 })?.as_str() == "");
+    assert!(rt; made(alloc, &project)?.as_str() == "cow,7,;");
+    assert!(rt; made(alloc, &filter(Test::Eq, Value::Int(7)))?.as_str() == "7,cow,;");
+    assert!(rt; made(alloc, &filter(Test::Ne, Value::Int(7)))?.as_str() == "");
+    assert!(rt; made(alloc, &filter(Test::Lt, Value::Int(7)))?.as_str() == "");
+    assert!(rt; made(alloc, &filter(Test::Lt, empty))?.as_str() == "7,cow,;");
+    assert!(rt; made(alloc, &set)?.as_str() == "7,-4,;");
+    assert!(rt; made(alloc, &Op::Len { field: 1 })?.as_str() == "7,cow,3,;");
+    assert!(rt; made(alloc, &Op::Len { field: 0 })?.as_str() == "7,cow,0,;");
+    assert!(rt; made(alloc, &Op::Route { field: 0 })?.as_str() == "7,cow,;");
+    assert!(rt; made(alloc, &Op::Custom)?.as_str() == "cow,7,;");
     Ok(())
 }
 
-fn filter(test: Test, value: Value) -> Op {
+fn filter(test: Test, value: Value) -> Op
+    ensures { result ≡ Op.Filter 0 test value }
+{
     Op::Filter {
         field: 0,
         test,

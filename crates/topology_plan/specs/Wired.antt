@@ -102,6 +102,10 @@ IsFrom t (origin.Component c) (grouping.Direct field) = (component : Component) 
 abbrev pub IsKeyed : StateSpec → Grouping → Type 0
 IsKeyed spec by = by ≡ grouping.Fields spec.key
 
+-- the consumer of a subscription to a source takes rows as wide as the source's
+abbrev pub IsAsWide : Topology → Origin → Sub → Type 0
+IsAsWide t from sub = width_to t sub.to ≡ width_of t from
+
 -- ---- components
 
 -- component c fits the n fields that come to it, and has the fields that its body leaves

@@ -2,7 +2,7 @@ ghost use Rattle.std.specs.Prelude.{◌≡◌, ◌<◌, ◌≤◌, All, length, 
 ghost use Rattle.topology_plan.specs.Inside.{topology_of, IsSound};
 ghost use Rattle.topology_plan.specs.Topology.{component_from, component_of, subs_of, tasks_in_all, depth_of, weight_of};
 ghost use Rattle.topology_plan.specs.Valid.{IsTarget, IsValid};
-ghost use Rattle.topology_plan.specs.Wired.{IsWired};
+ghost use Rattle.topology_plan.specs.Wired.{IsAsWide, IsComponent, IsWired};
 
 use crate::parts::{Component, Kind, Origin, Sub};
 use std::marker::Model;
@@ -76,7 +76,8 @@ impl Plan {
     /// The component of a number.
     pub fn component(&self, c: u32) -> &Component
         requires { c < length self.now.components }
-        ensures { slice_get self.now.components c ≡ Some result.now }
+        ensures value { slice_get self.now.components c ≡ Some result.now }
+        ensures fits { IsComponent self.now c result.now }
     {
         &self.made.components[c as usize]
     }
@@ -101,8 +102,9 @@ impl Plan {
     pub fn subs(&self, from: Origin) -> &[Sub]
         ensures value { result.now ≡ subs_of self.now from }
         ensures targets { All (IsTarget self.now) result.now }
+        ensures widths { All (IsAsWide self.now from) result.now }
     {
-        // brings in the invariant, which the clause on targets needs
+        // brings in the invariant, which the clauses on targets and widths need
         let _ = &self.made.spout_subs;
         self.subs_from(from)
     }
