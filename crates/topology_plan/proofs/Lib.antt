@@ -1,2 +1,2 @@
 mod Plans
-mod Widths
+pub mod Widths

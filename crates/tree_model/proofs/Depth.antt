@@ -7,6 +7,7 @@ use Rattle.std.proofs.lemmas.Option.{option_and_then_some}
 use Rattle.std.specs.List.{AllByRecursion, IsDistinct}
 use Rattle.std.specs.Option.{option_map_or}
 use Rattle.storm_values.specs.declared.value.Value.{Value}
+use Rattle.bolt_ops.specs.RowOp.{Custom}
 use Rattle.topology_plan.specs.declared.parts.Component.{Component}
 use Rattle.topology_plan.specs.declared.parts.Origin.{Origin}
 use Rattle.topology_plan.specs.declared.parts.Origin.TheVariants as origin
@@ -26,7 +27,7 @@ module _ (t : Topology) (P : ℕ → Type 0) where
       (each-weaker (λ (sub : Sub). P sub.to) (λ sub. AllByRecursion (λ (kid : Node). P kid.component) (copies_at t row sub))
       (λ sub p. each-replicate (λ (kid : Node). P kid.component) (copies_of t sub) (record { component = sub.to; row = row }) p) (subs_of t from) all)) rows)
 
-  pub each-kids_of : (custom : List Value → List (List Value)) (node : Node) → AllByRecursion (λ (sub : Sub). P sub.to) (subs_of t (origin.Component node.component)) → AllByRecursion (λ (kid : Node). P kid.component) (kids_of t custom node)
+  pub each-kids_of : (custom : Custom) (node : Node) → AllByRecursion (λ (sub : Sub). P sub.to) (subs_of t (origin.Component node.component)) → AllByRecursion (λ (kid : Node). P kid.component) (kids_of t custom node)
   each-kids_of custom node all =
       elim (slice_get t.components node.component) as (λ o. AllByRecursion (λ (kid : Node). P kid.component) (option_map_or (λ (c : Component). kids t (origin.Component node.component) (rows_by custom c.body node.row)) o [])) [
         | None ↦ tt
@@ -56,7 +57,7 @@ trail-cons rank first next top i path components within grows trail = record {
     apart : (a b : ℕ) → a ≡ b → rank a < rank b → ⊥
     apart a b same less = let equal = ap rank same in omega arith
 
-module _ (t : Topology) (custom : List Value → List (List Value)) (valid : IsValid t) where
+module _ (t : Topology) (custom : Custom) (valid : IsValid t) where
   trail_of : (node : Node) (path : List ℕ) (n : Node) → node_from t custom node path ≡ Some n → node.component < length t.components → (components : List ℕ) × IsTrail valid.ranked.rank node.component (length t.components) path components
   trail_of node [] n found within = (node.component ∷ [], trail-nil valid.ranked.rank node.component (length t.components) within)
   trail_of node (i ∷ path) n found within =

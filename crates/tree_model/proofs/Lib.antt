@@ -4,6 +4,8 @@ mod Lists
 mod Loops
 mod Maps
 mod Single
-mod Tallies
+mod TablesSoFar
 pub mod Walks
-mod Ways
+pub mod TreePaths
+mod Within
+mod Counts

@@ -6,8 +6,11 @@ use Rattle.std.proofs.lemmas.List.Elements.{filter_map-append}
 use Rattle.std.specs.List.{flat_map, filter_map, cons_option}
 use Rattle.std.specs.Option.{option_map_or, option_to_list}
 use Rattle.storm_values.specs.declared.value.Value.{Value}
-use Rattle.topology_plan.specs.declared.parts.Body.TheVariants.{State}
+use Rattle.bolt_ops.specs.Operations.{out}
+use Rattle.bolt_ops.specs.RowOp.{Custom}
+use Rattle.topology_plan.specs.declared.parts.Body.TheVariants.{Bolt, State}
 use Rattle.topology_plan.specs.declared.parts.Component.{Component}
+use Rattle.topology_plan.specs.declared.parts.Op.{Op}
 use Rattle.topology_plan.specs.declared.parts.Origin.TheVariants as origin
 use Rattle.topology_plan.specs.declared.parts.StateSpec.{StateSpec}
 use Rattle.topology_plan.specs.Topology.{Topology}
@@ -15,17 +18,24 @@ use Rattle.tree_model.specs.declared.plain.NodeCounter.{NodeCounter}
 use Rattle.tree_model.specs.declared.write.Write.{Write}
 use Rattle.tree_model.specs.Trees.{Node, kids, kids_of, kids_by, rows_by, nodes_from, nodes_of, write_of, writes, node_count}
 
-module _ (t : Topology) (custom : List Value → List (List Value)) where
-  kids_of-state : (node : Node) (component : Component) (spec : StateSpec) → slice_get t.components node.component ≡ Some component → component.body ≡ State spec → kids_of t custom node ≡ []
+module _ (t : Topology) (custom : Custom) where
+  pub kids_of-state : (node : Node) (component : Component) (spec : StateSpec) → slice_get t.components node.component ≡ Some component → component.body ≡ State spec → kids_of t custom node ≡ []
   kids_of-state node component spec there state =
       ap (λ o. option_map_or (λ (c : Component). kids t (origin.Component node.component) (rows_by custom c.body node.row)) o []) there
       ∙ ap (λ body. kids t (origin.Component node.component) (rows_by custom body node.row)) state
 
-  -- nothing is below a state's node
-  pub nodes_from-state : (levels : ℕ) (node : Node) (component : Component) (spec : StateSpec) → levels ≢ 0 → slice_get t.components node.component ≡ Some component → component.body ≡ State spec → nodes_from levels t custom node ≡ node ∷ []
-  nodes_from-state zero node component spec some there state = absurd (some refl)
-  nodes_from-state (suc levels) node component spec some there state =
-      ap (λ nodes. node ∷ flat_map (nodes_from levels t custom) nodes) (kids_of-state node component spec there state)
+  pub kids_of-bolt : (node : Node) (component : Component) (op : Op) → slice_get t.components node.component ≡ Some component → component.body ≡ Bolt op → kids_of t custom node ≡ kids t (origin.Component node.component) (out custom op node.row)
+  kids_of-bolt node component op there bolt =
+      ap (λ o. option_map_or (λ (c : Component). kids t (origin.Component node.component) (rows_by custom c.body node.row)) o []) there
+      ∙ ap (λ body. kids t (origin.Component node.component) (rows_by custom body node.row)) bolt
+
+  -- a node, and what is below the nodes that its rows make
+  pub nodes_from-more : (levels : ℕ) (node : Node) (rows : List (List Value)) → levels ≢ 0 → kids t (origin.Component node.component) rows ≡ kids_of t custom node
+      → nodes_from levels t custom node ≡ node ∷ flat_map (nodes_from (levels - 1) t custom) (kids t (origin.Component node.component) rows)
+  nodes_from-more zero node rows some made = absurd (some refl)
+  nodes_from-more (suc levels) node rows some made =
+      let less : levels ≡ suc levels - 1 = omega arith in
+      rw (made, ← less) refl
 
 -- a node's write at the end of the writes so far
 abbrev pub with_write : Topology → List Write → Node → List Write
@@ -40,14 +50,14 @@ fold-with_write t before [] = sym (append-nil before)
 fold-with_write t before (node ∷ nodes) = fold-with_write t (with_write t before node) nodes ∙ one_write (write_of t node) before (filter_map (write_of t) nodes)
 
 -- a walk that adds each node's write has them all
-pub writes_from_walk : (t : Topology) (custom : List Value → List (List Value)) (rows : List (List Value)) (levels : ℕ) (start made : List Write) → start ≡ [] → levels ≡ length t.components → made ≡ fold (with_write t) start (flat_map (nodes_from levels t custom) (kids t origin.Spout rows)) → made ≡ writes t custom rows
+pub writes_from_walk : (t : Topology) (custom : Custom) (rows : List (List Value)) (levels : ℕ) (start made : List Write) → start ≡ [] → levels ≡ length t.components → made ≡ fold (with_write t) start (flat_map (nodes_from levels t custom) (kids t origin.Spout rows)) → made ≡ writes t custom rows
 unfolding nodes_of
 writes_from_walk t custom rows levels start made empty all walk =
     walk ∙ rw (empty, all) (fold-with_write t [] (flat_map (nodes_from (length t.components) t custom) (kids t origin.Spout rows)))
 
 -- ---- the rows of two lists
 
-module _ (t : Topology) (custom : List Value → List (List Value)) where
+module _ (t : Topology) (custom : Custom) where
   pub nodes_of-append : (xs ys : List (List Value)) → nodes_of t custom (xs ++ ys) ≡ nodes_of t custom xs ++ nodes_of t custom ys
   unfolding nodes_of
   nodes_of-append xs ys =
@@ -76,7 +86,7 @@ fold-counted n [] fits = omega arith
 fold-counted n (node ∷ nodes) fits = fold-counted (min (n + 1) (2 ^ 64 - 1)) nodes (omega arith) ∙ omega arith
 
 -- a walk that counts each node
-pub count_from_walk : (t : Topology) (custom : List Value → List (List Value)) (rows : List (List Value)) (levels : ℕ) (made : NodeCounter) → levels ≡ length t.components → made ≡ fold counted (record { count = 0 }) (flat_map (nodes_from levels t custom) (kids t origin.Spout rows)) → made.count ≡ min (node_count t custom rows) (2 ^ 64 - 1)
+pub count_from_walk : (t : Topology) (custom : Custom) (rows : List (List Value)) (levels : ℕ) (made : NodeCounter) → levels ≡ length t.components → made ≡ fold counted (record { count = 0 }) (flat_map (nodes_from levels t custom) (kids t origin.Spout rows)) → made.count ≡ min (node_count t custom rows) (2 ^ 64 - 1)
 unfolding nodes_of
 count_from_walk t custom rows levels made all walk =
     ap (λ (counter : NodeCounter). counter.count) walk ∙ rw all (fold-counted 0 (flat_map (nodes_from (length t.components) t custom) (kids t origin.Spout rows)) (omega arith) ∙ ap (λ n. min n (2 ^ 64 - 1)) (zero-add _))

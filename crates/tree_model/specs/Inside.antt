@@ -1,4 +1,4 @@
--- The pairs that a tally's maps stand for.
+-- The pairs that a tables's maps stand for.
 use Rattle.std.specs.Prelude.{ℤ, List, map, String}
 use Rattle.std.specs.BTreeMap.{BTreeMap}
 use Rattle.std.specs.String.{string_bytes}

@@ -76,9 +76,9 @@ AreTables t writes tables = AllZip (IsTableOf writes) (states_of t) tables
 -- ---- running tables
 
 -- the pairs of each component, where a state's are its table
-pub record IsTallyOf (t : Topology) (writes : List Write) (tally : List (List Pair)) : Type 0 where
-  pub count : length tally ≡ length t.components
-  pub tables : (number : ℕ) → IfSome (state_at t number) (λ state. IsTable state.by writes number (slice_index_or tally number []))
+pub record AreRunningTables (t : Topology) (writes : List Write) (running : List (List Pair)) : Type 0 where
+  pub count : length running ≡ length t.components
+  pub tables : (number : ℕ) → IfSome (state_at t number) (λ state. IsTable state.by writes number (slice_index_or running number []))
 
 -- where a component is a state, one more table with its name and some pairs
 abbrev pub AddsTable : Option StateOf → List Pair → List Table → List Table → Type 0

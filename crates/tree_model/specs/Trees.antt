@@ -1,11 +1,15 @@
 -- The tree of tuples that grows from some rows of the spout, and what its state nodes write.
-use Rattle.std.specs.Prelude.{ℕ, zero, suc, ◌%◌, max, ℤ, pos, List, [], ◌∷◌, length, replicate, slice_get, Option, Some, None, IsSome, option_and_then}
+use Rattle.std.specs.Prelude.{ℕ, zero, suc, ◌%◌, ℤ, pos, List, [], ◌∷◌, length, replicate, slice_get, Option, Some, None, IsSome, option_and_then}
 use Rattle.std.specs.Option.{option_map_or}
 use Rattle.std.specs.List.{flat_map, filter_map}
 use Rattle.storm_values.specs.declared.value.Value.{Value}
 use Rattle.storm_values.specs.declared.value.Value.TheVariants.{Int, Text}
 use Rattle.storm_values.specs.Keys.{hash_of, text_of}
-use Rattle.bolt_ops.specs.Operations.{out}
+use Rattle.storm_values.specs.Rows.{values_in}
+use Rattle.bolt_ops.specs.Operations.{out, exec_of}
+use Rattle.bolt_ops.specs.declared.operation.Outcome.{Outcome}
+use Rattle.bolt_ops.specs.declared.operation.Outcome.TheVariants as outcome
+use Rattle.bolt_ops.specs.RowOp.{Custom}
 use Rattle.topology_plan.specs.declared.parts.Body.{Body}
 use Rattle.topology_plan.specs.declared.parts.Body.TheVariants.{Bolt, State}
 use Rattle.topology_plan.specs.declared.parts.Component.{Component}
@@ -36,48 +40,60 @@ abbrev pub kids : Topology → Origin → List (List Value) → List Node
 kids t from rows = flat_map (kids_by t from) rows
 
 -- the rows that a component makes of a row; a state makes none
-abbrev pub rows_by : (List Value → List (List Value)) → Body → List Value → List (List Value)
+abbrev pub rows_by : Custom → Body → List Value → List (List Value)
 rows_by custom (Bolt op) row = out custom op row
 rows_by custom (State spec) row = []
 
 -- the children of a node
-abbrev pub kids_of : Topology → (List Value → List (List Value)) → Node → List Node
+abbrev pub kids_of : Topology → Custom → Node → List Node
 kids_of t custom node =
     option_map_or (λ (c : Component). kids t (origin.Component node.component) (rows_by custom c.body node.row)) (slice_get t.components node.component) []
 
 -- the node at a path from a node: itself at the empty path, and else each number picks a child
-abbrev pub node_from : Topology → (List Value → List (List Value)) → Node → List ℕ → Option Node
+abbrev pub node_from : Topology → Custom → Node → List ℕ → Option Node
 node_from t custom node [] = Some node
 node_from t custom node (i ∷ path) = option_and_then (λ kid. node_from t custom kid path) (slice_get (kids_of t custom node) i)
 
 -- the node at a path in the tree of the spout's rows, which has none at the empty path
-abbrev pub node_at : Topology → (List Value → List (List Value)) → List (List Value) → List ℕ → Option Node
+abbrev pub node_at : Topology → Custom → List (List Value) → List ℕ → Option Node
 node_at t custom rows [] = None
 node_at t custom rows (i ∷ path) = option_and_then (λ node. node_from t custom node path) (slice_get (kids t origin.Spout rows) i)
 
 -- the tree of the spout's rows has this path
-abbrev pub IsInTree : Topology → (List Value → List (List Value)) → List (List Value) → List ℕ → Type 0
+abbrev pub IsInTree : Topology → Custom → List (List Value) → List ℕ → Type 0
 IsInTree t custom rows path = IsSome (node_at t custom rows path)
 
 -- a node and what is below it, at most this many levels, in path order: a node right before its children's trees
-abbrev pub nodes_from : ℕ → Topology → (List Value → List (List Value)) → Node → List Node
+abbrev pub nodes_from : ℕ → Topology → Custom → Node → List Node
 nodes_from zero t custom node = []
 nodes_from (suc levels) t custom node = node ∷ flat_map (nodes_from levels t custom) (kids_of t custom node)
 
--- All nodes of the tree, in path order. A way from the spout goes through each component at most once, so that there are
--- no more levels than components.
-unfoldable pub nodes_of : Topology → (List Value → List (List Value)) → List (List Value) → List Node
+-- All nodes of the tree, in path order. A chain of subscriptions goes through each component at most once, so that there
+-- are no more levels than components.
+unfoldable pub nodes_of : Topology → Custom → List (List Value) → List Node
 nodes_of t custom rows = flat_map (nodes_from (length t.components) t custom) (kids t origin.Spout rows)
 
 -- how many nodes the tree has
-abbrev pub node_count : Topology → (List Value → List (List Value)) → List (List Value) → ℕ
+abbrev pub node_count : Topology → Custom → List (List Value) → ℕ
 node_count t custom rows = length (nodes_of t custom rows)
+
+-- ---- a node at an attempt
+
+-- what an attempt at a row comes to in a component; a state makes no rows, and neither fails nor stays mute
+abbrev pub exec_by : Custom → Body → List Value → ℕ → Outcome
+exec_by custom (Bolt op) row attempt = exec_of custom op row attempt
+exec_by custom (State spec) row attempt = outcome.Rows []
+
+-- what an attempt at a node comes to; attempts are counted from 1
+abbrev pub exec_at : Topology → Custom → ℕ → Node → Outcome
+exec_at t custom attempt node =
+    option_map_or (λ (c : Component). exec_by custom c.body node.row attempt) (slice_get t.components node.component) (outcome.Rows [])
 
 -- ---- writes
 
 -- the values of a state's key in a row
 abbrev pub key_of : StateSpec → List Value → List Value
-key_of spec row = filter_map (slice_get row) spec.key
+key_of spec row = values_in row spec.key
 
 -- the number in a field, 0 where it is a text or not there
 abbrev pub int_of : Option Value → ℤ
@@ -97,7 +113,7 @@ abbrev pub write_by : ℕ → ℕ → Body → List Value → Option Write
 write_by component parts (Bolt op) row = None
 write_by component parts (State spec) row = Some (record {
   state = component;
-  part = hash_of (key_of spec row) % max 1 parts;
+  part = hash_of (key_of spec row) % parts;
   key = text_of (key_of spec row);
   amount = amount_by spec.fold (option_and_then (slice_get row) spec.amount);
 })
@@ -107,5 +123,5 @@ abbrev pub write_of : Topology → Node → Option Write
 write_of t node = option_and_then (λ (c : Component). write_by node.component c.tasks c.body node.row) (slice_get t.components node.component)
 
 -- the writes of the tree's state nodes, in path order
-abbrev pub writes : Topology → (List Value → List (List Value)) → List (List Value) → List Write
+abbrev pub writes : Topology → Custom → List (List Value) → List Write
 writes t custom rows = filter_map (write_of t) (nodes_of t custom rows)

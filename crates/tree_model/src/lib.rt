@@ -3,13 +3,15 @@
 
 mod laws;
 mod plain;
-mod tally;
+mod running;
 mod tree;
 mod write;
 
 pub use laws::{
-    paths_lead_to_children, tables_are_one, writes_of_joined_rows, writes_stand_in_path_order,
+    children_are_made_of_rows, nodes_of_joined_rows, paths_lead_to_children,
+    rows_of_nodes_are_within_limits, tables_are_one, writes_of_joined_rows,
+    writes_stand_in_path_order,
 };
 pub use plain::{count_nodes, plain_tables};
-pub use tally::Tally;
+pub use running::RunningTables;
 pub use write::{Pair, Pairs, Table, Tables, Write, Writes, writes_of};

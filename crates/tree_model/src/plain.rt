@@ -1,43 +1,47 @@
-ghost use Rattle.std.specs.Prelude.{◌≡◌, ◌-◌, ◌^◌, min, IfOk};
+ghost use Rattle.std.specs.Prelude.{◌≡◌, ◌-◌, ◌^◌, All, min, IfOk};
+ghost use Rattle.storm_values.specs.Rows.{IsRow};
+ghost use Rattle.topology_plan.specs.Wired.{width_of};
 ghost use Rattle.tree_model.specs.Tables.{AreTables};
 ghost use Rattle.tree_model.specs.Trees.{node_count, writes};
 
-use crate::tally::Tally;
+use crate::running::RunningTables;
 use crate::tree::{Tree, Visitor};
 use crate::write::{Tables, writes_of};
 use bolt_ops::RowOp;
 use std::alloc::Global;
 use std::slice;
-use storm_values::{Memory, Row};
+use storm_values::{Memory, Row, Rows};
 use topology_plan::{Origin, Plan};
 
 /// The tables that the rows' tuple tree leaves. At most one row's writes are held at a time.
 pub fn plain_tables<O: RowOp>(
     alloc: Global,
     plan: &Plan,
-    rows: &[Row],
+    rows: &Rows,
     custom: &O,
 ) -> Result<Tables, Memory>
+    requires { All (IsRow (width_of plan.now Origin.Spout)) rows.now }
     ensures { IfOk result
-        (AreTables plan.now (writes plan.now (O.rows_of custom.now) rows.now)) }
+        (AreTables plan.now (writes plan.now (O.meaning custom.now) rows.now)) }
 {
-    let mut tally = Tally::new(alloc, plan)?;
-    for row in rows {
+    let mut tables = RunningTables::new(alloc, plan)?;
+    for row in rows.as_slice() {
         let writes = writes_of(alloc, plan, slice::from_ref(row), custom)?;
-        tally.add(plan, writes)?;
+        tables.add(plan, writes)?;
     }
-    tally.tables(alloc, plan)
+    tables.tables(alloc, plan)
 }
 
 /// How many nodes the rows' tuple tree has, or `u64::MAX` where there are more.
 pub fn count_nodes<O: RowOp>(
     alloc: Global,
     plan: &Plan,
-    rows: &[Row],
+    rows: &Rows,
     custom: &O,
 ) -> Result<u64, Memory>
+    requires { All (IsRow (width_of plan.now Origin.Spout)) rows.now }
     ensures { IfOk result
-        (λ count. count ≡ min (node_count plan.now (O.rows_of custom.now) rows.now) (2 ^ 64 - 1)) }
+        (λ count. count ≡ min (node_count plan.now (O.meaning custom.now) rows.now) (2 ^ 64 - 1)) }
 {
     let mut counter = NodeCounter { count: 0 };
     let tree = Tree {
@@ -45,7 +49,12 @@ pub fn count_nodes<O: RowOp>(
         plan,
         custom,
     };
-    tree.visit_rows(&mut counter, plan.components(), Origin::Spout, rows)?;
+    tree.visit_rows(
+        &mut counter,
+        plan.components(),
+        Origin::Spout,
+        rows.as_slice(),
+    )?;
     Ok(counter.count)
 }
 

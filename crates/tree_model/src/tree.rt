@@ -1,12 +1,14 @@
-ghost use Rattle.std.specs.Prelude.{◌≡◌, ◌<◌, List, length, fold, OnOk};
+ghost use Rattle.std.specs.Prelude.{◌≡◌, ◌<◌, List, All, length, fold, IfOk, OnOk};
 ghost use Rattle.std.specs.List.{flat_map};
 ghost use Rattle.storm_values.specs.declared.value.Value.{Value};
+ghost use Rattle.storm_values.specs.Rows.{IsRow};
 ghost use Rattle.topology_plan.specs.Topology.{Topology, copies_of};
-ghost use Rattle.tree_model.specs.Trees.{Node, kids, kids_by, copies_at, nodes_from};
+ghost use Rattle.topology_plan.specs.Wired.{width_of, width_to};
+ghost use Rattle.tree_model.specs.Trees.{Node, kids, kids_by, kids_of, copies_at, nodes_from};
 
 use bolt_ops::{RowOp, output_rows};
 use std::alloc::Global;
-use storm_values::{Memory, Row};
+use storm_values::{Memory, Row, Rows};
 use topology_plan::{Body, Grouping, Origin, Plan, Sub};
 
 /// What is done at each node of a tree.
@@ -14,7 +16,8 @@ pub(crate) trait Visitor {
     ghost visited: { Topology → Self → Node → Self };
 
     fn visit(&mut self, alloc: Global, plan: &Plan, component: u32, row: &Row) -> Result<(), Memory>
-        requires { component < length plan.now.components }
+        requires there { component < length plan.now.components }
+        requires row { IsRow (width_to plan.now component) row.now }
         ensures { OnOk result
             (self.new ≡ visited plan.now self.old (record { component = component; row = row.now })) };
 }
@@ -37,8 +40,9 @@ impl<O: RowOp> Tree<'_, O> {
         from: Origin,
         rows: &[Row],
     ) -> Result<(), Memory>
+        requires { All (IsRow (width_of self.now.plan.now from)) rows.now }
         ensures { OnOk result (visitor.new ≡ fold (V.visited self.now.plan.now) visitor.old
-            (flat_map (nodes_from levels self.now.plan.now (O.rows_of self.now.custom.now))
+            (flat_map (nodes_from levels self.now.plan.now (O.meaning self.now.custom.now))
             (kids self.now.plan.now from rows.now))) }
     {
         for row in rows {
@@ -55,8 +59,9 @@ impl<O: RowOp> Tree<'_, O> {
         from: Origin,
         row: &Row,
     ) -> Result<(), Memory>
+        requires { IsRow (width_of self.now.plan.now from) row.now }
         ensures { OnOk result (visitor.new ≡ fold (V.visited self.now.plan.now) visitor.old
-            (flat_map (nodes_from levels self.now.plan.now (O.rows_of self.now.custom.now))
+            (flat_map (nodes_from levels self.now.plan.now (O.meaning self.now.custom.now))
             (kids_by self.now.plan.now from row.now))) }
     {
         for sub in self.plan.subs(from) {
@@ -73,9 +78,10 @@ impl<O: RowOp> Tree<'_, O> {
         sub: &Sub,
         row: &Row,
     ) -> Result<(), Memory>
-        requires { sub.now.to < length self.now.plan.now.components }
+        requires there { sub.now.to < length self.now.plan.now.components }
+        requires row { IsRow (width_to self.now.plan.now sub.now.to) row.now }
         ensures { OnOk result (visitor.new ≡ fold (V.visited self.now.plan.now) visitor.old
-            (flat_map (nodes_from levels self.now.plan.now (O.rows_of self.now.custom.now))
+            (flat_map (nodes_from levels self.now.plan.now (O.meaning self.now.custom.now))
             (copies_at self.now.plan.now row.now sub.now))) }
     {
         for _ in 0..copies(self.plan, sub) {
@@ -92,21 +98,36 @@ impl<O: RowOp> Tree<'_, O> {
         component: u32,
         row: &Row,
     ) -> Result<(), Memory>
-        requires { component < length self.now.plan.now.components }
+        requires there { component < length self.now.plan.now.components }
+        requires row { IsRow (width_to self.now.plan.now component) row.now }
         ensures { OnOk result (visitor.new ≡ fold (V.visited self.now.plan.now) visitor.old
-            (nodes_from levels self.now.plan.now (O.rows_of self.now.custom.now)
+            (nodes_from levels self.now.plan.now (O.meaning self.now.custom.now)
             (record { component = component; row = row.now }))) }
     {
         if levels == 0 {
             return Ok(());
         }
         visitor.visit(self.alloc, self.plan, component, row)?;
-        if let Body::Bolt(op) = &self.plan.component(component).body {
-            let made = output_rows(self.alloc, op, row, self.custom)?;
-            let from = Origin::Component(component);
-            self.visit_rows(visitor, levels - 1, from, made.as_slice())?;
-        }
+        let made = self.rows_at(component, row)?;
+        let from = Origin::Component(component);
+        self.visit_rows(visitor, levels - 1, from, made.as_slice())?;
         Ok(())
+    }
+
+    /// The rows that a node makes; a state's makes none.
+    fn rows_at(&self, component: u32, row: &Row) -> Result<Rows, Memory>
+        requires there { component < length self.now.plan.now.components }
+        requires row { IsRow (width_to self.now.plan.now component) row.now }
+        ensures kids { IfOk result (λ rows. kids self.now.plan.now (Origin.Component component) rows
+            ≡ kids_of self.now.plan.now (O.meaning self.now.custom.now)
+            (record { component = component; row = row.now })) }
+        ensures within { IfOk result
+            (All (IsRow (width_of self.now.plan.now (Origin.Component component)))) }
+    {
+        match &self.plan.component(component).body {
+            Body::Bolt(op) => output_rows(self.alloc, op, row, self.custom),
+            Body::State(_) => Ok(Rows::new(self.alloc)),
+        }
     }
 }
 

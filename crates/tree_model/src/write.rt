@@ -1,11 +1,12 @@
-ghost use Rattle.std.specs.Prelude.{◌≡◌, List, ◌++◌, Some, IfOk, slice_get, option_and_then, option_copied};
-ghost use Rattle.std.specs.List.{filter_map};
+ghost use Rattle.std.specs.Prelude.{◌≡◌, ◌≤◌, All, Some, IfOk, slice_get, option_and_then, option_copied};
+ghost use Rattle.storm_values.specs.Rows.{IsRow};
+ghost use Rattle.topology_plan.specs.Wired.{width_of};
 ghost use Rattle.tree_model.specs.Trees.{amount_by, int_of, write_by, writes};
 
 use crate::tree::{Tree, Visitor};
 use bolt_ops::RowOp;
 use std::alloc::Global;
-use storm_values::{Duplicate, Memory, Row, Seq, Txt, Value, key_hash, key_text};
+use storm_values::{Duplicate, Memory, Row, Seq, Txt, Value, key_hash_in, key_text_in};
 use topology_plan::{Body, Fold, Origin, Plan, StateSpec};
 
 /// What a state is to add to the value of a key.
@@ -59,7 +60,8 @@ pub fn writes_of<O: RowOp>(
     rows: &[Row],
     custom: &O,
 ) -> Result<Writes, Memory>
-    ensures { IfOk result (λ made. made ≡ writes plan.now (O.rows_of custom.now) rows.now) }
+    requires { All (IsRow (width_of plan.now Origin.Spout)) rows.now }
+    ensures { IfOk result (λ made. made ≡ writes plan.now (O.meaning custom.now) rows.now) }
 {
     let mut writes = Writes::new(alloc);
     let tree = Tree {
@@ -101,30 +103,17 @@ fn write_at(
     spec: &StateSpec,
     row: &Row,
 ) -> Result<Write, Memory>
+    requires { 1 ≤ parts }
     ensures { IfOk result (λ write. Some write ≡ write_by state parts (Body.State spec.now) row.now) }
 {
-    let values = key_values(alloc, spec.key.as_slice(), row)?;
-    let part = key_hash(values.as_slice()) % u64::from(parts.max(1));
-    let key = key_text(alloc, values.as_slice())?;
+    let (values, key) = (row.as_slice(), spec.key.as_slice());
+    let part = key_hash_in(values, key) % u64::from(parts);
     Ok(Write {
         state,
         part: part as u32,
-        key,
+        key: key_text_in(alloc, values, key)?,
         amount: amount(spec, row),
     })
-}
-
-/// The values in some fields of a row. Fields that it does not have are left out.
-fn key_values(alloc: Global, fields: &[u32], row: &Row) -> Result<Row, Memory>
-    ensures { IfOk result (λ values. values ≡ filter_map (slice_get row.now) fields.now) }
-{
-    let mut values = Row::new(alloc);
-    for field in fields {
-        if let Some(value) = field_of(row, *field) {
-            values.push(value.copy()?)?;
-        }
-    }
-    Ok(values)
 }
 
 fn amount(spec: &StateSpec, row: &Row) -> i64

@@ -1,4 +1,4 @@
-use Rattle.tree_model.proofs.Ways.{node_at-one, node_at-push}
+use Rattle.tree_model.proofs.TreePaths.{node_at-one, node_at-push}
 use Rattle.tree_model.proofs.laws.paths_lead_to_children.Goals as goal
 
 pub returns-clause-first : goal.returns-clause-first

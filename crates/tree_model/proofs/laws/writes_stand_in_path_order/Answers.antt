@@ -1,4 +1,4 @@
-use Rattle.tree_model.proofs.Ways.{paths, paths_are, writes_in_order, as_many_paths}
+use Rattle.tree_model.proofs.TreePaths.{paths, paths_are, writes_in_order, as_many_paths}
 use Rattle.tree_model.proofs.laws.writes_stand_in_path_order.Goals as goal
 
 pub returns-clause-paths : goal.returns-clause-paths

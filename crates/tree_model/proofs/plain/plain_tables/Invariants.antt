@@ -1,7 +1,7 @@
 use Rattle.std.proofs.Common.{take}
-use Rattle.tree_model.specs.Tables.{IsTallyOf}
+use Rattle.tree_model.specs.Tables.{AreRunningTables}
 use Rattle.tree_model.specs.Trees.{writes}
 use Rattle.tree_model.proofs.plain.plain_tables.Given as goal
 
 abbrev pub invariant-loop-row : goal.invariant-loop-row
-invariant-loop-row g l = IsTallyOf l.plan (writes l.plan (g.O.RowOp.rows_of l.custom) (take l.row-index l.rows)) l.tally
+invariant-loop-row g l = AreRunningTables l.plan (writes l.plan (g.O.RowOp.meaning l.custom) (take l.row-index l.rows)) l.tables

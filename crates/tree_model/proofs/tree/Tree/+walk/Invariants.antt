@@ -17,12 +17,12 @@ decreases-visit_rows g l = 4 * l.levels + 3
 
 abbrev pub invariant-visit_copies-loop : goal.invariant-visit_copies-loop
 invariant-visit_copies-loop g l =
-    l.visitor ≡ fold (g.V.Visitor.visited l.self.plan.now) l.initial.visitor (flat_map (nodes_from l.levels l.self.plan.now (g.O.RowOp.rows_of l.self.custom.now)) (replicate l.counter (record { component = l.sub.to; row = l.row })))
+    l.visitor ≡ fold (g.V.Visitor.visited l.self.plan.now) l.initial.visitor (flat_map (nodes_from l.levels l.self.plan.now (g.O.RowOp.meaning l.self.custom.now)) (replicate l.counter (record { component = l.sub.to; row = l.row })))
 
 abbrev pub invariant-visit_row-loop-sub : goal.invariant-visit_row-loop-sub
 invariant-visit_row-loop-sub g l =
-    l.visitor ≡ fold (g.V.Visitor.visited l.self.plan.now) l.initial.visitor (flat_map (nodes_from l.levels l.self.plan.now (g.O.RowOp.rows_of l.self.custom.now)) (flat_map (copies_at l.self.plan.now l.row) (take l.sub-index l.sub-items)))
+    l.visitor ≡ fold (g.V.Visitor.visited l.self.plan.now) l.initial.visitor (flat_map (nodes_from l.levels l.self.plan.now (g.O.RowOp.meaning l.self.custom.now)) (flat_map (copies_at l.self.plan.now l.row) (take l.sub-index l.sub-items)))
 
 abbrev pub invariant-visit_rows-loop-row : goal.invariant-visit_rows-loop-row
 invariant-visit_rows-loop-row g l =
-    l.visitor ≡ fold (g.V.Visitor.visited l.self.plan.now) l.initial.visitor (flat_map (nodes_from l.levels l.self.plan.now (g.O.RowOp.rows_of l.self.custom.now)) (kids l.self.plan.now l.from (take l.row-index l.rows)))
+    l.visitor ≡ fold (g.V.Visitor.visited l.self.plan.now) l.initial.visitor (flat_map (nodes_from l.levels l.self.plan.now (g.O.RowOp.meaning l.self.custom.now)) (kids l.self.plan.now l.from (take l.row-index l.rows)))

@@ -4,7 +4,7 @@ ghost use Rattle.std.specs.Map.{update};
 ghost use Rattle.std.specs.Str.{bytes_eq};
 ghost use Rattle.std.specs.String.{string_cmp};
 ghost use Rattle.tree_model.specs.Inside.{pairs_of, pairs_by};
-ghost use Rattle.tree_model.specs.Tables.{AddsTable, AreTables, IsTallyOf, folded, state_at, state_by};
+ghost use Rattle.tree_model.specs.Tables.{AddsTable, AreTables, AreRunningTables, folded, state_at, state_by};
 
 use crate::write::{Pair, Pairs, Table, Tables, Write, Writes};
 use std::alloc::Global;
@@ -17,11 +17,11 @@ type Values = BTreeMap<String, i128>;
 
 /// The tables of the states so far.
 #[derive(Debug, Drop)]
-pub struct Tally {
+pub struct RunningTables {
     values: Vec<Values>,
 }
 
-impl Model for Tally {
+impl Model for RunningTables {
     ghost use Rattle.std.specs.Prelude.{List};
     ghost use Rattle.tree_model.specs.declared.write.Pair.{Pair};
 
@@ -29,34 +29,34 @@ impl Model for Tally {
 
     ghost use Rattle.tree_model.specs.Inside.{pairs_by};
 
-    ghost view = { λ tally. pairs_by tally.values.items };
+    ghost view = { λ tables. pairs_by tables.values.items };
 }
 
-impl Tally {
+impl RunningTables {
     /// The tables before any write.
     pub fn new(alloc: Global, plan: &Plan) -> Result<Self, Memory>
-        ensures { IfOk result (IsTallyOf plan.now []) }
+        ensures { IfOk result (AreRunningTables plan.now []) }
     {
         let mut values = Vec::new(alloc);
         for _ in 0..plan.components() {
             values.push(BTreeMap::new(alloc))?;
         }
-        Ok(Tally { values })
+        Ok(RunningTables { values })
     }
 
     /// Folds the amounts of some writes in, in order. Without memory a first part of the writes is in.
     pub fn add(&mut self, plan: &Plan, writes: Writes) -> Result<(), Memory>
-        ensures ok { OnOk result ((before : List Write) → IsTallyOf plan.now before self.old
-            → IsTallyOf plan.now (before ++ writes) self.new) }
-        ensures err { OnErr result ((before : List Write) → IsTallyOf plan.now before self.old
-            → (done : ℕ) × IsTallyOf plan.now (before ++ take done writes) self.new) }
+        ensures ok { OnOk result ((before : List Write) → AreRunningTables plan.now before self.old
+            → AreRunningTables plan.now (before ++ writes) self.new) }
+        ensures err { OnErr result ((before : List Write) → AreRunningTables plan.now before self.old
+            → (done : ℕ) × AreRunningTables plan.now (before ++ take done writes) self.new) }
     {
         add_all(&mut self.values, plan, writes.into_vec())
     }
 
     /// The tables of the states.
     pub fn tables(self, alloc: Global, plan: &Plan) -> Result<Tables, Memory>
-        ensures { IfOk result (λ tables. (writes : List Write) → IsTallyOf plan.now writes self
+        ensures { IfOk result (λ tables. (writes : List Write) → AreRunningTables plan.now writes self
             → AreTables plan.now writes tables) }
     {
         let mut tables = Seq::new(alloc);
@@ -99,10 +99,10 @@ fn pairs(alloc: Global, values: Values) -> Result<Pairs, Memory>
 
 /// Adds writes to the maps of the components.
 fn add_all(values: &mut Vec<Values>, plan: &Plan, writes: Vec<Write>) -> Result<(), Memory>
-    ensures ok { OnOk result ((before : List Write) → IsTallyOf plan.now before (pairs_by values.old.items)
-        → IsTallyOf plan.now (before ++ writes.items) (pairs_by values.new.items)) }
-    ensures err { OnErr result ((before : List Write) → IsTallyOf plan.now before (pairs_by values.old.items)
-        → (done : ℕ) × IsTallyOf plan.now (before ++ take done writes.items) (pairs_by values.new.items)) }
+    ensures ok { OnOk result ((before : List Write) → AreRunningTables plan.now before (pairs_by values.old.items)
+        → AreRunningTables plan.now (before ++ writes.items) (pairs_by values.new.items)) }
+    ensures err { OnErr result ((before : List Write) → AreRunningTables plan.now before (pairs_by values.old.items)
+        → (done : ℕ) × AreRunningTables plan.now (before ++ take done writes.items) (pairs_by values.new.items)) }
 {
     for write in writes {
         add_one(values, plan, write)?;
@@ -111,8 +111,8 @@ fn add_all(values: &mut Vec<Values>, plan: &Plan, writes: Vec<Write>) -> Result<
 }
 
 fn add_one(values: &mut Vec<Values>, plan: &Plan, write: Write) -> Result<(), Memory>
-    ensures ok { OnOk result ((before : List Write) → IsTallyOf plan.now before (pairs_by values.old.items)
-        → IsTallyOf plan.now (before ++ write ∷ []) (pairs_by values.new.items)) }
+    ensures ok { OnOk result ((before : List Write) → AreRunningTables plan.now before (pairs_by values.old.items)
+        → AreRunningTables plan.now (before ++ write ∷ []) (pairs_by values.new.items)) }
     ensures err { OnErr result (pairs_by values.new.items ≡ pairs_by values.old.items) }
 {
     let state = write.state as usize;

@@ -4,8 +4,8 @@ use Rattle.std.specs.List.{AllZip, filter_map, range_with_len}
 use Rattle.tree_model.specs.Inside.{pairs_of}
 use Rattle.tree_model.specs.Tables.{IsTableOf, state_at}
 use Rattle.tree_model.proofs.Loops.{numbered_turn, numbered_end}
-use Rattle.tree_model.proofs.Tallies.{tables_more}
-use Rattle.tree_model.proofs.tally.Tally.tables.Goals as goal
+use Rattle.tree_model.proofs.TablesSoFar.{tables_more}
+use Rattle.tree_model.proofs.running.RunningTables.tables.Goals as goal
 
 pub component-requires : goal.component-requires
 component-requires c =
@@ -20,11 +20,11 @@ loop-number-preserved c = λ writes is.
     let turn = numbered_turn c.components.result c.self.inside.values c.zip-number-items.result c.into_iter-number-iterator.result c.loop-number.number-iterator c.into_iter-number-iterator.ensures.into_iter_gives z.first z.second.0 z.second.1 c.loop-number.yielded c.loop-number.yielded_by c.next.result c.next.new.self (c.in-Some.number, c.in-Some.values) c.in-Some.is c.next.ensures.steps in
     let pairs : pairs_of c.in-Some.values ≡ get_or c.args.self c.in-Some.number [] =
     ap pairs_of (turn.3 c.in-Some.values) ∙ sym (get_or-map pairs_of c.self.inside.values.items (length c.loop-number.yielded) c.in-Some.values [] turn.1)
-    ∙ ap (λ tally. get_or tally (length c.loop-number.yielded) []) c.self.view_is ∙ ap (λ n. get_or c.args.self n []) (sym turn.2) in
+    ∙ ap (λ tables. get_or tables (length c.loop-number.yielded) []) c.self.view_is ∙ ap (λ n. get_or c.args.self n []) (sym turn.2) in
     let before : AllZip (IsTableOf writes) (filter_map (state_at c.args.plan.now) (range_with_len 0 c.in-Some.number)) c.loop-number.tables = rw turn.2 (c.loop-number.invariant writes is) in
     let count : length (c.loop-number.yielded ++ (c.in-Some.number, c.in-Some.values) ∷ []) ≡ c.in-Some.number + 1 = length_push _ _ ∙ ap (λ n. n + 1) (sym turn.2) in
     rw count
-    (tables_more c.args.plan.now writes c.args.self c.in-Some.number c.component.result.now (pairs_of c.in-Some.values) c.loop-number.tables c.add_table.new.tables c.component.ensures pairs is (c.in_ok-add_table.ensures c.in-Some.number) before)
+    (tables_more c.args.plan.now writes c.args.self c.in-Some.number c.component.result.now (pairs_of c.in-Some.values) c.loop-number.tables c.add_table.new.tables c.component.ensures.value pairs is (c.in_ok-add_table.ensures c.in-Some.number) before)
 
 -- at the end each component has been
 pub returns : goal.returns

@@ -10,10 +10,12 @@ use Rattle.std.specs.List.{flat_map, filter_map, cons_option, AllByRecursion}
 use Rattle.std.specs.List.Sorted.{IsStrictlySortedBy}
 use Rattle.std.specs.Ordering.{ordering_then}
 use Rattle.storm_values.specs.declared.value.Value.{Value}
+use Rattle.bolt_ops.specs.RowOp.{Custom}
 use Rattle.topology_plan.specs.declared.parts.Origin.TheVariants as origin
 use Rattle.topology_plan.specs.Topology.{Topology}
 use Rattle.topology_plan.specs.Valid.{IsValid}
-use Rattle.tree_model.specs.Paths.{path_cmp, ArePathsOf, write_at}
+use Rattle.tree_model.specs.Paths.{ArePathsOf, write_at}
+use Rattle.storm_values.specs.Order.{path_cmp}
 use Rattle.tree_model.specs.Trees.{Node, kids, kids_of, node_from, node_at, IsInTree, nodes_from, nodes_of, node_count, write_of, writes}
 use Rattle.tree_model.proofs.Depth.{path_below, spout_targets}
 use Rattle.tree_model.proofs.Lists.{each-append, each-map, each-any, each-weaker, map-map, map_same, sorted-append, sorted-map, sorted_same, Contains-head, Contains-later, Contains-map}
@@ -25,7 +27,7 @@ and_then-some None = refl
 and_then-some (Some x) = refl
 
 -- a path leads on to a child
-node_from-push : (t : Topology) (custom : List Value → List (List Value)) (node : Node) (path : List ℕ) (j : ℕ) → node_from t custom node (path ++ j ∷ []) ≡ option_and_then (λ n. slice_get (kids_of t custom n) j) (node_from t custom node path)
+node_from-push : (t : Topology) (custom : Custom) (node : Node) (path : List ℕ) (j : ℕ) → node_from t custom node (path ++ j ∷ []) ≡ option_and_then (λ n. slice_get (kids_of t custom n) j) (node_from t custom node path)
 node_from-push t custom node [] j = and_then-some (slice_get (kids_of t custom node) j)
 node_from-push t custom node (i ∷ path) j =
     elim (slice_get (kids_of t custom node) i) as (λ o. option_and_then (λ kid. node_from t custom kid (path ++ j ∷ [])) o ≡ option_and_then (λ n. slice_get (kids_of t custom n) j) (option_and_then (λ kid. node_from t custom kid path) o)) [
@@ -33,10 +35,10 @@ node_from-push t custom node (i ∷ path) j =
       | Some kid ↦ node_from-push t custom kid path j
     ]
 
-pub node_at-one : (t : Topology) (custom : List Value → List (List Value)) (rows : List (List Value)) (i : ℕ) → node_at t custom rows (i ∷ []) ≡ slice_get (kids t origin.Spout rows) i
+pub node_at-one : (t : Topology) (custom : Custom) (rows : List (List Value)) (i : ℕ) → node_at t custom rows (i ∷ []) ≡ slice_get (kids t origin.Spout rows) i
 node_at-one t custom rows i = and_then-some (slice_get (kids t origin.Spout rows) i)
 
-pub node_at-push : (t : Topology) (custom : List Value → List (List Value)) (rows : List (List Value)) (path : List ℕ) (j : ℕ) → path ≢ [] → node_at t custom rows (path ++ j ∷ []) ≡ option_and_then (λ n. slice_get (kids_of t custom n) j) (node_at t custom rows path)
+pub node_at-push : (t : Topology) (custom : Custom) (rows : List (List Value)) (path : List ℕ) (j : ℕ) → path ≢ [] → node_at t custom rows (path ++ j ∷ []) ≡ option_and_then (λ n. slice_get (kids_of t custom n) j) (node_at t custom rows path)
 node_at-push t custom rows [] j some = absurd (some refl)
 node_at-push t custom rows (i ∷ path) j some =
     elim (slice_get (kids t origin.Spout rows) i) as (λ o. option_and_then (λ node. node_from t custom node (path ++ j ∷ [])) o ≡ option_and_then (λ n. slice_get (kids_of t custom n) j) (option_and_then (λ node. node_from t custom node path) o)) [
@@ -52,12 +54,12 @@ paths_over f i [] = []
 paths_over f i (x ∷ xs) = map (λ path. i ∷ path) (f x) ++ paths_over f (suc i) xs
 
 -- the paths from a node, of what is at most this many levels below
-abbrev pub paths_from : ℕ → Topology → (List Value → List (List Value)) → Node → List (List ℕ)
+abbrev pub paths_from : ℕ → Topology → Custom → Node → List (List ℕ)
 paths_from zero t custom node = []
 paths_from (suc levels) t custom node = [] ∷ paths_over (paths_from levels t custom) 0 (kids_of t custom node)
 
 -- the paths of the tree
-abbrev pub paths : Topology → (List Value → List (List Value)) → List (List Value) → List (List ℕ)
+abbrev pub paths : Topology → Custom → List (List Value) → List (List ℕ)
 paths t custom rows = paths_over (paths_from (length t.components) t custom) 0 (kids t origin.Spout rows)
 
 -- ---- order
@@ -97,7 +99,7 @@ after_empty : (i : ℕ) (path : List ℕ) → StartsFrom i path → path_cmp [] 
 after_empty i [] starts = absurd starts
 after_empty i (j ∷ path) starts = refl
 
-sorted_from : (levels : ℕ) (t : Topology) (custom : List Value → List (List Value)) (node : Node) → IsStrictlySortedBy path_cmp (paths_from levels t custom node)
+sorted_from : (levels : ℕ) (t : Topology) (custom : Custom) (node : Node) → IsStrictlySortedBy path_cmp (paths_from levels t custom node)
 unfolding IsStrictlySortedBy
 sorted_from zero t custom node = tt
 sorted_from (suc levels) t custom node = (
@@ -125,13 +127,13 @@ looked_over look from f g each all by i (node ∷ nodes) there =
     here : map look (map (λ path. i ∷ path) (f node)) ≡ map Some (g node)
     here = map-map look (λ path. i ∷ path) (f node) ∙ map_same (λ path. look (i ∷ path)) (from node) (λ path. by i path ∙ ap (option_and_then (λ n. from n path)) at) (f node) ∙ each node
 
-looked_from : (levels : ℕ) (t : Topology) (custom : List Value → List (List Value)) (node : Node) → map (node_from t custom node) (paths_from levels t custom node) ≡ map Some (nodes_from levels t custom node)
+looked_from : (levels : ℕ) (t : Topology) (custom : Custom) (node : Node) → map (node_from t custom node) (paths_from levels t custom node) ≡ map Some (nodes_from levels t custom node)
 looked_from zero t custom node = refl
 looked_from (suc levels) t custom node =
     ap (λ rest. Some node ∷ rest)
     (looked_over (node_from t custom node) (node_from t custom) (paths_from levels t custom) (nodes_from levels t custom) (looked_from levels t custom) (kids_of t custom node) (λ i path. refl) 0 (kids_of t custom node) (λ k. ap (slice_get (kids_of t custom node)) (omega arith)))
 
-looked : (t : Topology) (custom : List Value → List (List Value)) (rows : List (List Value)) → map (node_at t custom rows) (paths t custom rows) ≡ map Some (nodes_of t custom rows)
+looked : (t : Topology) (custom : Custom) (rows : List (List Value)) → map (node_at t custom rows) (paths t custom rows) ≡ map Some (nodes_of t custom rows)
 unfolding nodes_of
 looked t custom rows =
     looked_over (node_at t custom rows) (node_from t custom) (paths_from (length t.components) t custom) (nodes_from (length t.components) t custom) (looked_from (length t.components) t custom) (kids t origin.Spout rows) (λ i path. refl) 0 (kids t origin.Spout rows) (λ k. ap (slice_get (kids t origin.Spout rows)) (omega arith))
@@ -147,7 +149,7 @@ has_over f i (y ∷ ys) zero x path number there has is =
 has_over f i (y ∷ ys) (suc k) x path number there has is =
     Contains-append_right (map (λ p. i ∷ p) (f y)) (paths_over f (suc i) ys) (number ∷ path) (has_over f (suc i) ys k x path number there has (omega arith))
 
-has_from : (levels : ℕ) (t : Topology) (custom : List Value → List (List Value)) (node : Node) (path : List ℕ) (n : Node) → node_from t custom node path ≡ Some n → length path < levels → Contains (paths_from levels t custom node) path
+has_from : (levels : ℕ) (t : Topology) (custom : Custom) (node : Node) (path : List ℕ) (n : Node) → node_from t custom node path ≡ Some n → length path < levels → Contains (paths_from levels t custom node) path
 has_from zero t custom node path n found few = absurd (omega arith)
 has_from (suc levels) t custom node [] n found few = Contains-head [] (paths_over (paths_from levels t custom) 0 (kids_of t custom node))
 has_from (suc levels) t custom node (i ∷ path) n found few =
@@ -155,7 +157,7 @@ has_from (suc levels) t custom node (i ∷ path) n found few =
     (λ kid there rest. Contains-later [] (paths_over (paths_from levels t custom) 0 (kids_of t custom node)) (i ∷ path)
     (has_over (paths_from levels t custom) 0 (kids_of t custom node) i kid path i there (has_from levels t custom kid path n rest (omega arith)) (omega arith)))
 
-has_path : (t : Topology) (custom : List Value → List (List Value)) (rows : List (List Value)) → IsValid t → (path : List ℕ) (n : Node) → node_at t custom rows path ≡ Some n → Contains (paths t custom rows) path
+has_path : (t : Topology) (custom : Custom) (rows : List (List Value)) → IsValid t → (path : List ℕ) (n : Node) → node_at t custom rows path ≡ Some n → Contains (paths t custom rows) path
 has_path t custom rows valid [] n found = absurd (none-some n found)
 has_path t custom rows valid (i ∷ path) n found =
     option_and_then_some (λ node. node_from t custom node path) (slice_get (kids t origin.Spout rows) i) n found
@@ -184,7 +186,7 @@ written_at h look (x ∷ xs) (y ∷ ys) same =
     let later : map look xs ≡ map Some ys = cc in
     ap (λ o. cons_option (option_and_then h o) (filter_map (λ z. option_and_then h (look z)) xs)) here ∙ ap (cons_option (h y)) (written_at h look xs ys later)
 
-module _ (t : Topology) (custom : List Value → List (List Value)) (rows : List (List Value)) where
+module _ (t : Topology) (custom : Custom) (rows : List (List Value)) where
   -- there is a list of the paths
   pub paths_are : IsValid t → ArePathsOf t custom rows (paths t custom rows)
   paths_are valid = record {

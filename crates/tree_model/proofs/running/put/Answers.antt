@@ -5,7 +5,7 @@ use Rattle.std.specs.BTreeMap.{get_by_text}
 use Rattle.std.specs.Int.{w64, w128}
 use Rattle.std.specs.Map.{update}
 use Rattle.std.specs.Str.{bytes_eq}
-use Rattle.tree_model.proofs.tally.put.Goals as goal
+use Rattle.tree_model.proofs.running.put.Goals as goal
 
 -- the key has the text's bytes, so that `insert` set its value
 pub returns-clause-ok : goal.returns-clause-ok

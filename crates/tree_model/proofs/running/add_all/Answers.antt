@@ -1,12 +1,12 @@
 use Rattle.std.proofs.Common.{◌++◌, length, subst, ◌∙◌, append_assoc}
 use Rattle.tree_model.specs.Inside.{pairs_by}
-use Rattle.tree_model.specs.Tables.{IsTallyOf}
+use Rattle.tree_model.specs.Tables.{AreRunningTables}
 use Rattle.tree_model.proofs.Loops.{seen_so_far, seen_all, OnErr-from}
-use Rattle.tree_model.proofs.tally.add_all.Goals as goal
+use Rattle.tree_model.proofs.running.add_all.Goals as goal
 
 pub loop-write-preserved : goal.loop-write-preserved
 loop-write-preserved c = λ before is.
-    subst (λ done. IsTallyOf c.args.plan.now done (pairs_by c.add_one.new.values.items)) (append_assoc before _ _)
+    subst (λ done. AreRunningTables c.args.plan.now done (pairs_by c.add_one.new.values.items)) (append_assoc before _ _)
     (c.in_ok-add_one.ensures.ok (before ++ c.loop-write.yielded) (c.loop-write.invariant before is))
 
 pub returns-in_err-add_one-clause-err : goal.returns-in_err-add_one-clause-err

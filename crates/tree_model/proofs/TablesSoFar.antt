@@ -23,7 +23,7 @@ use Rattle.tree_model.specs.declared.write.Pair.{Pair}
 use Rattle.tree_model.specs.declared.write.Table.{Table}
 use Rattle.tree_model.specs.declared.write.Write.{Write}
 use Rattle.tree_model.specs.Inside.{pair_of, pairs_of, pairs_by}
-use Rattle.tree_model.specs.Tables.{StateOf, folded, state_by, state_at, IsTable, IsTableOf, IsTallyOf, AddsTable}
+use Rattle.tree_model.specs.Tables.{StateOf, folded, state_by, state_at, IsTable, IsTableOf, AreRunningTables, AddsTable}
 use Rattle.tree_model.proofs.Folding.{base-push_other}
 use Rattle.tree_model.proofs.Maps.{IsTable-put}
 
@@ -43,23 +43,23 @@ IsTable-other by before write state pairs other table = record {
 }
 
 -- a write for no state leaves the running tables as they are
-pub IsTallyOf-ignored : (t : Topology) (before : List Write) (write : Write) (tally : List (List Pair)) → option_map (λ (state : StateOf). state.by) (state_at t write.state) ≡ None
-    → IsTallyOf t before tally → IsTallyOf t (before ++ write ∷ []) tally
-IsTallyOf-ignored t before write tally none is = record {
+pub AreRunningTables-ignored : (t : Topology) (before : List Write) (write : Write) (tables : List (List Pair)) → option_map (λ (state : StateOf). state.by) (state_at t write.state) ≡ None
+    → AreRunningTables t before tables → AreRunningTables t (before ++ write ∷ []) tables
+AreRunningTables-ignored t before write tables none is = record {
   count = is.count;
   tables = λ number. IfSome_with (state_at t number) (is.tables number) (λ state found table. at number state found table (cases_eq write.state number));
 }
   where
-    at : (number : ℕ) (state : StateOf) → state_at t number ≡ Some state → IsTable state.by before number (get_or tally number []) → (write.state ≡ number) ⊎ (write.state ≡ number → ⊥) → IsTable state.by (before ++ write ∷ []) number (get_or tally number [])
+    at : (number : ℕ) (state : StateOf) → state_at t number ≡ Some state → IsTable state.by before number (get_or tables number []) → (write.state ≡ number) ⊎ (write.state ≡ number → ⊥) → IsTable state.by (before ++ write ∷ []) number (get_or tables number [])
     at number state found table (inl same) = absurd (none_before (λ (state : StateOf). state.by) (state_at t write.state) state none (ap (state_at t) same ∙ found))
-    at number state found table (inr differs) = IsTable-other state.by before write number (get_or tally number []) (ne_eqb _ _ differs) table
+    at number state found table (inr differs) = IsTable-other state.by before write number (get_or tables number []) (ne_eqb _ _ differs) table
 
 -- a write for a state changes that state's table alone
-pub IsTallyOf-put : {Y : Type 0} (t : Topology) (before : List Write) (write : Write) (by : Fold) (olds : List (BTreeMap (String Y) ℤ)) (old new : BTreeMap (String Y) ℤ)
+pub AreRunningTables-put : {Y : Type 0} (t : Topology) (before : List Write) (write : Write) (by : Fold) (olds : List (BTreeMap (String Y) ℤ)) (old new : BTreeMap (String Y) ℤ)
     → Some by ≡ option_map (λ (state : StateOf). state.by) (state_at t write.state) → write.state < length olds → old ≡ get_or olds write.state old → IsOrdered string_cmp new
     → ((at : List ℕ) → get_by_text new at ≡ update bytes_eq (get_by_text old) write.key (Some (folded by (get_by_text old write.key) write.amount)) at)
-    → IsTallyOf t before (pairs_by olds) → IsTallyOf t (before ++ write ∷ []) (pairs_by (set olds write.state new))
-IsTallyOf-put t before write by olds old new has within read sorted puts is = record {
+    → AreRunningTables t before (pairs_by olds) → AreRunningTables t (before ++ write ∷ []) (pairs_by (set olds write.state new))
+AreRunningTables-put t before write by olds old new has within read sorted puts is = record {
   count = length-map (set olds write.state new) pairs_of ∙ length-set olds write.state new ∙ sym (length-map olds pairs_of) ∙ is.count;
   tables = λ number. IfSome_with (state_at t number) (is.tables number) (λ state found table. at number state found table (cases_eq write.state number));
 }
@@ -88,8 +88,8 @@ pub pairs_by-set_same : {Y : Type 0} (olds : List (BTreeMap (String Y) ℤ)) (i 
 pairs_by-set_same olds i old new within read same = map-set_same pairs_of olds i new old (ap (map pair_of) same ∙ ap pairs_of read)
 
 -- the running tables have a place for each state
-pub state_within : (t : Topology) (before : List Write) (tally : List (List Pair)) (number : ℕ) (by : Fold) → Some by ≡ option_map (λ (state : StateOf). state.by) (state_at t number) → IsTallyOf t before tally → number < length tally
-state_within t before tally number by has is = rw is.count (⊎_elim (λ there. there.1) (λ past. absurd (none-some by (ap (λ o. option_map (λ (state : StateOf). state.by) (option_and_then (λ (component : Component). state_by number component component.body) o)) (sym past.1) ∙ sym has))) (slice_get_cases t.components number).1)
+pub state_within : (t : Topology) (before : List Write) (tables : List (List Pair)) (number : ℕ) (by : Fold) → Some by ≡ option_map (λ (state : StateOf). state.by) (state_at t number) → AreRunningTables t before tables → number < length tables
+state_within t before tables number by has is = rw is.count (⊎_elim (λ there. there.1) (λ past. absurd (none-some by (ap (λ o. option_map (λ (state : StateOf). state.by) (option_and_then (λ (component : Component). state_by number component component.body) o)) (sym past.1) ∙ sym has))) (slice_get_cases t.components number).1)
 
 -- no write is in empty tables
 IsTable-none : (by : Fold) (state : ℕ) → IsTable by [] state []
@@ -105,8 +105,8 @@ get_or-replicate_same zero i x = refl
 get_or-replicate_same (suc n) zero x = refl
 get_or-replicate_same (suc n) (suc i) x = get_or-replicate_same n i x
 
-pub IsTallyOf-none : (t : Topology) → IsTallyOf t [] (replicate (length t.components) [])
-IsTallyOf-none t = record {
+pub AreRunningTables-none : (t : Topology) → AreRunningTables t [] (replicate (length t.components) [])
+AreRunningTables-none t = record {
   count = length-replicate (length t.components) [];
   tables = λ number. IfSome-always (state_at t number) (λ state. rw (get_or-replicate_same {X = List Pair} (length t.components) number []) (IsTable-none state.by number));
 }
@@ -126,9 +126,9 @@ AllZip-table writes None pairs states old new all table adds = rw (append-nil st
 AllZip-table writes (Some state) pairs states old new all table adds = rw adds (all_zipped_more (IsTableOf writes) states old state (record { name = state.name; pairs = pairs }) all (record { name = refl; pairs = table }))
 
 -- one more component in a list of tables
-pub tables_more : (t : Topology) (writes : List Write) (tally : List (List Pair)) (n : ℕ) (component : Component) (pairs : List Pair) (old new : List Table) → slice_get t.components n ≡ Some component → pairs ≡ get_or tally n [] → IsTallyOf t writes tally
+pub tables_more : (t : Topology) (writes : List Write) (tables : List (List Pair)) (n : ℕ) (component : Component) (pairs : List Pair) (old new : List Table) → slice_get t.components n ≡ Some component → pairs ≡ get_or tables n [] → AreRunningTables t writes tables
     → AddsTable (state_by n component component.body) pairs old new → AllZip (IsTableOf writes) (filter_map (state_at t) (range_with_len 0 n)) old → AllZip (IsTableOf writes) (filter_map (state_at t) (range_with_len 0 (n + 1))) new
-tables_more t writes tally n component pairs old new there same is adds all =
+tables_more t writes tables n component pairs old new there same is adds all =
     let at : state_at t n ≡ state_by n component component.body = ap (option_and_then (λ (c : Component). state_by n c c.body)) there in
     let table : IfSome (state_at t n) (λ state. IsTable state.by writes state.number pairs) =
     IfSome_with (state_at t n) (is.tables n) (λ state found table. rw (state_at-number t n state found, same) table) in
