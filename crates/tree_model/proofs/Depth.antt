@@ -1,4 +1,4 @@
--- No way down a tuple tree has more nodes than there are components.
+-- No path down a tuple tree has more nodes than there are components.
 use Rattle.std.proofs.Common.{◌≡◌, ℕ, ◌+◌, ◌<◌, ◌≤◌, false, List, [], ◌∷◌, length, slice_get, Some, None, eqb, ap, arith}
 use Rattle.std.proofs.lemmas.Bool.{ne_eqb}
 use Rattle.std.proofs.lemmas.List.Elements.{recursion_from_All}
@@ -34,7 +34,7 @@ module _ (t : Topology) (P : ℕ → Type 0) where
         | Some component ↦ each-kids (origin.Component node.component) all (rows_by custom component.body node.row)
       ]
 
--- the components on a way down, from the first
+-- the components along a path down, from the first
 record IsTrail (rank : ℕ → ℕ) (first top : ℕ) (path : List ℕ) (components : List ℕ) : Type 0 where
   above : AllByRecursion (λ c. rank first ≤ rank c) components
   below : AllByRecursion (λ c. c < top) components
@@ -70,7 +70,7 @@ module _ (t : Topology) (custom : Custom) (valid : IsValid t) where
       let trail = trail_of kid path n rest target in
       (node.component ∷ trail.0, trail-cons valid.ranked.rank node.component kid.component (length t.components) i path trail.0 within grows trail.1))
 
-  -- a way from a node is shorter than there are components
+  -- a path from a node is shorter than there are components
   pub path_below : (node : Node) (path : List ℕ) (n : Node) → node_from t custom node path ≡ Some n → node.component < length t.components → length path < length t.components
   path_below node path n found within =
       let trail = trail_of node path n found within in
