@@ -6,7 +6,7 @@ use Rattle.storm_values.specs.declared.lines.InputFault.{InputFault}
 use Rattle.storm_values.specs.Lines.{input_fault, records_of}
 use Rattle.storm_values.proofs.InputLemmas.{input_fault-take, records_of-take}
 use Rattle.storm_outside.specs.Counts.{Rose}
-use Rattle.topology_reader.specs.declared.parts.TopoFault.{TopoFault}
+use Rattle.topology_reader.specs.TopoFault.{TopoFault}
 use Rattle.topology_reader.proofs.FilePlans.{plan_of_front, IsRefusedAlike, refused_by_front}
 use Rattle.topology_plan.specs.Topology.{Topology}
 use Rattle.topology_reader.specs.FirstFault.{first_fault, IsFilePlan}

@@ -3,7 +3,7 @@ use Rattle.std.proofs.Common.{◌≡◌, ◌≢◌, ◌⊎◌, ℕ, ◌+◌, ◌
 use Rattle.std.proofs.lemmas.Bool.{false≢true}
 use Rattle.storm_values.specs.declared.lines.InputFault.{InputFault}
 use Rattle.storm_values.specs.Lines.{input_fault}
-use Rattle.topology_reader.specs.declared.parts.TopoFault.{TopoFault}
+use Rattle.topology_reader.specs.TopoFault.{TopoFault}
 use Rattle.topology_reader.proofs.FilePlans.{one_plan, plan_or_fault}
 use Rattle.topology_plan.specs.Topology.{Topology}
 use Rattle.topology_reader.specs.FirstFault.{first_fault, IsFilePlan}

@@ -5,7 +5,7 @@ use Rattle.storm_values.specs.declared.lines.InputFault.{InputFault}
 use Rattle.storm_values.specs.Lines.{input_fault, records_of}
 use Rattle.storm_values.specs.Faults.{input_fault_text}
 use Rattle.topology_plan.specs.Topology.{Topology, tasks_in_all, depth_of, weight_of}
-use Rattle.topology_reader.specs.declared.parts.TopoFault.{TopoFault}
+use Rattle.topology_reader.specs.TopoFault.{TopoFault}
 use Rattle.topology_reader.specs.Faults.{fault_text}
 use Rattle.topology_reader.specs.FirstFault.{first_fault, IsFilePlan}
 use Rattle.tree_model.specs.declared.write.Table.{Table}

@@ -3,7 +3,7 @@ ghost use Rattle.storm_values.specs.Lines.{input_fault};
 ghost use Rattle.storm_outside.specs.Counts.{Rose};
 ghost use Rattle.topology_plan.specs.Topology.{Topology};
 ghost use Rattle.topology_reader.specs.FirstFault.{first_fault, IsFilePlan};
-ghost use Rattle.topology_reader.specs.declared.parts.TopoFault.{TopoFault};
+ghost use Rattle.topology_reader.specs.TopoFault.{TopoFault};
 ghost use Rattle.storm_values.specs.declared.lines.InputFault.{InputFault};
 ghost use Rattle.storm_program.specs.declared.status.Status.{Status};
 ghost use Rattle.storm_program.specs.Outside.{around, Fetched};

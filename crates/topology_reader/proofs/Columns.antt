@@ -13,22 +13,22 @@ use Rattle.std.proofs.lemmas.List.Sums.{sum_by-cons, count_by-le-length}
 use Rattle.std.proofs.lemmas.Option.{none-some, get_or_from_slice_get, slice_get_within}
 use Rattle.topology_plan.specs.declared.parts.Origin.{Origin}
 use Rattle.topology_plan.specs.declared.parts.Origin.TheVariants as origin
-use Rattle.topology_reader.specs.declared.parts.TopoFault.TheVariants.{Twice, NoSource, NoField, FieldsDiffer}
-use Rattle.topology_reader.specs.declared.parts.Way.TheVariants as way
-use Rattle.topology_reader.specs.declared.parts.Input.{Input}
-use Rattle.topology_reader.specs.declared.parts.Operation.{Operation}
-use Rattle.topology_reader.specs.declared.parts.Operation.TheVariants.{Split, Project, Filter, Set, Len, Route, Flaky, Mute, Custom}
-use Rattle.topology_reader.specs.declared.parts.BoltPart.{BoltPart}
-use Rattle.topology_reader.specs.declared.parts.StatePart.{StatePart}
-use Rattle.topology_reader.specs.declared.parts.Parts.{Parts}
+use Rattle.topology_form.specs.declared.fault.TopoFault.TheVariants.{Twice, NoSource, NoField, FieldsDiffer}
+use Rattle.topology_form.specs.declared.parts.GroupingPart.TheVariants as said
+use Rattle.topology_form.specs.declared.parts.Input.{Input}
+use Rattle.topology_form.specs.declared.parts.Operation.{Operation}
+use Rattle.topology_form.specs.declared.parts.Operation.TheVariants.{Split, Project, Filter, Set, Len, Route, Flaky, Mute, Custom}
+use Rattle.topology_form.specs.declared.parts.BoltPart.{BoltPart}
+use Rattle.topology_form.specs.declared.parts.StatePart.{StatePart}
+use Rattle.topology_form.specs.declared.parts.FileParts.{FileParts}
 use Rattle.storm_values.specs.Lines.{first_some}
-use Rattle.topology_reader.specs.Forms.{is_among, range_fault}
+use Rattle.topology_reader.specs.Meant.{is_among, range_fault}
 use Rattle.topology_plan.specs.Topology.{greatest}
 use Rattle.topology_plan.specs.Texts.{IsName}
 use Rattle.topology_plan.specs.Valid.{IsBetween}
 use Rattle.topology_reader.specs.Wiring.{bolt_names, component_count, name_at, source_of, state_inputs, inputs_by_component, inputs_at, sources_at, is_component, feeds, reaches, depth_in, depth_at, by_depth, fields_after, first_fields, fields_in, fields_of, fields_to, operation_at}
 use Rattle.topology_reader.specs.Meant.{first_again, key_of, projected, bolt_lists, state_lists, name_lists, twice_fault, source_fault, cycle_fault, differ_fault, field_fault, direct_fault, input_fault, reads_at, added_fault, component_fault, fields_fault}
-use Rattle.topology_reader.specs.Ranges.{IsOperationInRange, IsBoltInRange, IsStateInRange, IsInRange}
+use Rattle.topology_form.specs.Ranges.{IsOperationInRange, IsBoltInRange, IsStateInRange, IsInRange}
 use Rattle.topology_reader.proofs.Ranks.{rank, rank_grows, no_cycle}
 use Rattle.topology_reader.proofs.Listed.{IsIn, All-at_in, to_map, in_map, to_left, to_right, to_flat_map, to_filter, in_filter_map, to_filter_map, in_place, to_range, to_any, none_mapped, none_found, none_of_some}
 use Rattle.topology_reader.proofs.Distinct.{bytes_same, bytes_itself, among_in, AreApart, apart_push, not_among, apart_from_again}
@@ -37,16 +37,16 @@ use Rattle.topology_reader.proofs.ValidPlan.{HasNoFault, between_from_range, sou
 
 -- ---- sources
 
-pub in_sources : (p : Parts) (c : ℕ) (from : Origin) → IsIn from (sources_at p c) → (input : Input) × IsIn input (inputs_at p c) × (source_of p input.from ≡ Some from)
+pub in_sources : (p : FileParts) (c : ℕ) (from : Origin) → IsIn from (sources_at p c) → (input : Input) × IsIn input (inputs_at p c) × (source_of p input.from ≡ Some from)
 in_sources p c from at = in_filter_map (λ (input : Input). source_of p input.from) (inputs_at p c) from at
 
-pub to_sources : (p : Parts) (c : ℕ) (input : Input) (from : Origin) → IsIn input (inputs_at p c) → source_of p input.from ≡ Some from → IsIn from (sources_at p c)
+pub to_sources : (p : FileParts) (c : ℕ) (input : Input) (from : Origin) → IsIn input (inputs_at p c) → source_of p input.from ≡ Some from → IsIn from (sources_at p c)
 to_sources p c input from at is = to_filter_map (λ (input : Input). source_of p input.from) (inputs_at p c) input from at is
 
-pub bolt_source : (p : Parts) (c b : ℕ) → IsIn (origin.Component b) (sources_at p c) → b < length p.bolts
+pub bolt_source : (p : FileParts) (c b : ℕ) → IsIn (origin.Component b) (sources_at p c) → b < length p.bolts
 bolt_source p c b at = let input = in_sources p c (origin.Component b) at in source_within p input.0.from b input.2
 
-pub feeds_from_source : (p : Parts) (c b : ℕ) → IsIn (origin.Component b) (sources_at p c) → feeds p b c ≡ true
+pub feeds_from_source : (p : FileParts) (c b : ℕ) → IsIn (origin.Component b) (sources_at p c) → feeds p b c ≡ true
 feeds_from_source p c b at = to_any (is_component b) (sources_at p c) (origin.Component b) at (eq-eqb b b refl)
 
 first_of : (f : Origin → List (List ℕ)) (sources : List Origin) (from : Origin) → IsIn from sources → (first : Origin) × IsIn first sources × (first_fields f sources ≡ f first)
@@ -78,19 +78,19 @@ count_below f first (suc n) c from to fails =
     at_most_one true = omega arith
     at_most_one false = omega arith
 
-rank_of_bolt : (p : Parts) (c : ℕ) → cycle_fault p ≡ None → c < length p.bolts → rank p c < length p.bolts
+rank_of_bolt : (p : FileParts) (c : ℕ) → cycle_fault p ≡ None → c < length p.bolts → rank p c < length p.bolts
 unfolding rank
 rank_of_bolt p c none within = count_below (λ a. reaches p a c) 0 (length p.bolts) c (omega arith) (omega arith) (no_cycle p c none within)
 
-abbrev IsRankBelow : Parts → ℕ → Origin → Type 0
+abbrev IsRankBelow : FileParts → ℕ → Origin → Type 0
 IsRankBelow p n origin.Spout = Unit {0}
 IsRankBelow p n (origin.Component c) = rank p c < n
 
-source_below : (p : Parts) (n c : ℕ) (from : Origin) → cycle_fault p ≡ None → IsIn from (sources_at p c) → rank p c < suc n → IsRankBelow p n from
+source_below : (p : FileParts) (n c : ℕ) (from : Origin) → cycle_fault p ≡ None → IsIn from (sources_at p c) → rank p c < suc n → IsRankBelow p n from
 source_below p n c origin.Spout none at below = tt
 source_below p n c (origin.Component b) none at below = omega (arith, rank_grows p b c none (bolt_source p c b at) (feeds_from_source p c b at))
 
-fields_stable : (p : Parts) (n m : ℕ) (from : Origin) → cycle_fault p ≡ None → IsRankBelow p n from → IsRankBelow p m from → fields_in n p from ≡ fields_in m p from
+fields_stable : (p : FileParts) (n m : ℕ) (from : Origin) → cycle_fault p ≡ None → IsRankBelow p n from → IsRankBelow p m from → fields_in n p from ≡ fields_in m p from
 fields_stable p n m origin.Spout none below under = refl
 fields_stable p zero m (origin.Component c) none below under = absurd (omega arith)
 fields_stable p (suc n) zero (origin.Component c) none below under = absurd (omega arith)
@@ -99,16 +99,16 @@ fields_stable p (suc n) (suc m) (origin.Component c) none below under =
     (first_same (fields_in n p) (fields_in m p) (sources_at p c)
     (λ from at. fields_stable p n m from none (source_below p n c from none at below) (source_below p m c from none at under)))
 
-pub fields_of_spout : (p : Parts) → fields_of p origin.Spout ≡ p.spout.fields
+pub fields_of_spout : (p : FileParts) → fields_of p origin.Spout ≡ p.spout.fields
 unfolding fields_of
 fields_of_spout p = refl
 
-fields_once_more : (p : Parts) (c : ℕ) (bolt : BoltPart) → IsBoltAt p c bolt → fields_in (suc (length p.bolts)) p (origin.Component c) ≡ fields_after bolt.operation (fields_to p c)
+fields_once_more : (p : FileParts) (c : ℕ) (bolt : BoltPart) → IsBoltAt p c bolt → fields_in (suc (length p.bolts)) p (origin.Component c) ≡ fields_after bolt.operation (fields_to p c)
 unfolding fields_of
 fields_once_more p c bolt is = ap (λ there. option_map_or (λ (b : BoltPart). fields_after b.operation (fields_to p c)) there []) is
 
 -- a bolt's fields are what its operation leaves of those that come to it
-pub fields_of_bolt : (p : Parts) (c : ℕ) (bolt : BoltPart) → cycle_fault p ≡ None → IsBoltAt p c bolt → fields_of p (origin.Component c) ≡ fields_after bolt.operation (fields_to p c)
+pub fields_of_bolt : (p : FileParts) (c : ℕ) (bolt : BoltPart) → cycle_fault p ≡ None → IsBoltAt p c bolt → fields_of p (origin.Component c) ≡ fields_after bolt.operation (fields_to p c)
 unfolding fields_of
 fields_of_bolt p c bolt none is =
     let within : rank p c < length p.bolts = rank_of_bolt p c none (slice_get_within p.bolts c bolt is) in
@@ -116,17 +116,17 @@ fields_of_bolt p c bolt none is =
 
 -- ---- the faults of one component
 
-pub record HasNoFaultAt (p : Parts) (c : ℕ) : Type 0 where
+pub record HasNoFaultAt (p : FileParts) (c : ℕ) : Type 0 where
   pub same : (from : Origin) → IsIn from (sources_at p c) → fields_of p from ≡ fields_to p c
-  pub keys : (input : Input) → IsIn input (inputs_at p c) → (name : List ℕ) → IsIn name (key_of input.way) → IsIn name (fields_to p c)
-  pub direct : (input : Input) → IsIn input (inputs_at p c) → direct_fault p input input.way ≡ None
+  pub keys : (input : Input) → IsIn input (inputs_at p c) → (name : List ℕ) → IsIn name (key_of input.grouping) → IsIn name (fields_to p c)
+  pub direct : (input : Input) → IsIn input (inputs_at p c) → direct_fault p input input.grouping ≡ None
   pub reads : (name : List ℕ) → IsIn name (reads_at p c) → IsIn name (fields_to p c)
   pub added : option_and_then (added_fault (fields_to p c)) (operation_at p (origin.Component c)) ≡ None
 
 names_same : (xs ys : List (List ℕ)) → pointwise bytes_eq xs ys ≡ true → xs ≡ ys
 names_same xs ys same = (pointwise_decides (λ a b. (bytes_same a b, bytes_itself a b)) xs ys).0 same
 
-same_from_none : (p : Parts) (c : ℕ) → differ_fault p c ≡ None → (from : Origin) → IsIn from (sources_at p c) → fields_of p from ≡ fields_to p c
+same_from_none : (p : FileParts) (c : ℕ) → differ_fault p c ≡ None → (from : Origin) → IsIn from (sources_at p c) → fields_of p from ≡ fields_to p c
 same_from_none p c none from at =
     let differs = λ (other : Origin). not (pointwise bytes_eq (fields_of p other) (fields_to p c)) in
     elim (cases_Bool (list_any differs (sources_at p c))) [
@@ -139,25 +139,25 @@ same_from_none p c none from at =
           ])
     ]
 
-there_from_none : (p : Parts) (c : ℕ) (names : List (List ℕ)) → field_fault p c names ≡ None → (name : List ℕ) → IsIn name names → IsIn name (fields_to p c)
+there_from_none : (p : FileParts) (c : ℕ) (names : List (List ℕ)) → field_fault p c names ≡ None → (name : List ℕ) → IsIn name names → IsIn name (fields_to p c)
 there_from_none p c names none name at =
     let strange = λ (name : List ℕ). not (is_among (fields_to p c) name) in
     let known : not (is_among (fields_to p c) name) ≡ false = none_found strange names (none_mapped (NoField (name_at p c)) (find strange names) none) name at in
     among_in (fields_to p c) name (not-false (is_among (fields_to p c) name) known)
 
-no_fault_from_none : (p : Parts) (c : ℕ) → component_fault p c ≡ None → HasNoFaultAt p c
+no_fault_from_none : (p : FileParts) (c : ℕ) → component_fault p c ≡ None → HasNoFaultAt p c
 no_fault_from_none p c none =
     let firsts : List (Option _) = differ_fault p c ∷ map (input_fault p c) (inputs_at p c) in
     let lasts : List (Option _) = field_fault p c (reads_at p c) ∷ option_and_then (added_fault (fields_to p c)) (operation_at p (origin.Component c)) ∷ [] in
     let each = none_of_some (firsts ++ lasts) none in
     let input = λ (input : Input) (at : IsIn input (inputs_at p c)).
-    none_of_some (field_fault p c (key_of input.way) ∷ direct_fault p input input.way ∷ [])
+    none_of_some (field_fault p c (key_of input.grouping) ∷ direct_fault p input input.grouping ∷ [])
     (each (input_fault p c input) (to_left firsts lasts (input_fault p c input) (inr (to_map (input_fault p c) (inputs_at p c) input at))))
     in
     record {
       same = same_from_none p c (each (differ_fault p c) (to_left firsts lasts (differ_fault p c) (inl refl)));
-      keys = λ i at. there_from_none p c (key_of i.way) (input i at (field_fault p c (key_of i.way)) (inl refl));
-      direct = λ i at. input i at (direct_fault p i i.way) (inr (inl refl));
+      keys = λ i at. there_from_none p c (key_of i.grouping) (input i at (field_fault p c (key_of i.grouping)) (inl refl));
+      direct = λ i at. input i at (direct_fault p i i.grouping) (inr (inl refl));
       reads = there_from_none p c (reads_at p c) (each (field_fault p c (reads_at p c)) (to_right firsts lasts (field_fault p c (reads_at p c)) (inl refl)));
       added = each (option_and_then (added_fault (fields_to p c)) (operation_at p (origin.Component c))) (to_right firsts lasts (option_and_then (added_fault (fields_to p c)) (operation_at p (origin.Component c))) (inr (inl refl)));
     }
@@ -168,7 +168,7 @@ greatest_le : (most : ℕ) (ns : List ℕ) → ((n : ℕ) → IsIn n ns → n �
 greatest_le most [] each = omega arith
 greatest_le most (n ∷ ns) each = omega (arith, each n (inl refl), greatest_le most ns (λ m at. each m (inr at)))
 
-depth_in_le : (n : ℕ) (p : Parts) (from : Origin) → depth_in n p from ≤ n
+depth_in_le : (n : ℕ) (p : FileParts) (from : Origin) → depth_in n p from ≤ n
 depth_in_le n p origin.Spout = omega arith
 depth_in_le zero p (origin.Component c) = omega arith
 depth_in_le (suc n) p (origin.Component c) =
@@ -178,35 +178,35 @@ depth_in_le (suc n) p (origin.Component c) =
           (λ m at. let found = in_map (depth_in n p) (sources_at p c) m at in rw (← found.2) (depth_in_le n p found.0)),
     )
 
-some_depth : (n : ℕ) (p : Parts) (c : ℕ) → 0 < n → 1 ≤ depth_in n p (origin.Component c)
+some_depth : (n : ℕ) (p : FileParts) (c : ℕ) → 0 < n → 1 ≤ depth_in n p (origin.Component c)
 some_depth zero p c above = absurd (omega arith)
 some_depth (suc n) p c above = omega arith
 
 -- every component is among those by depth
-in_by_depth : (p : Parts) (c : ℕ) → c < component_count p → IsIn c (by_depth p)
+in_by_depth : (p : FileParts) (c : ℕ) → c < component_count p → IsIn c (by_depth p)
 unfolding depth_at
 in_by_depth p c within =
     to_flat_map (λ depth. filter (λ d. depth_at p d == depth) (range_with_len 0 (component_count p))) (range_with_len 1 (component_count p)) (depth_at p c) c
     (to_range 1 (component_count p) (depth_at p c) (some_depth (component_count p) p c (omega arith)) (omega (arith, depth_in_le (component_count p) p (origin.Component c))))
     (to_filter (λ d. depth_at p d == depth_at p c) (range_with_len 0 (component_count p)) c (to_range 0 (component_count p) c (omega arith) (omega arith)) (eq-eqb (depth_at p c) (depth_at p c) refl))
 
-pub no_fault_at : (p : Parts) (c : ℕ) → fields_fault p ≡ None → c < component_count p → HasNoFaultAt p c
+pub no_fault_at : (p : FileParts) (c : ℕ) → fields_fault p ≡ None → c < component_count p → HasNoFaultAt p c
 no_fault_at p c none within =
     no_fault_from_none p c (none_of_some (map (component_fault p) (by_depth p)) none (component_fault p c) (to_map (component_fault p) (by_depth p) c (in_by_depth p c within)))
 
 -- ---- names that stand once
 
-pub lists_apart : (p : Parts) (names : List (List ℕ)) → twice_fault p ≡ None → IsIn names (name_lists p) → AreApart names
+pub lists_apart : (p : FileParts) (names : List (List ℕ)) → twice_fault p ≡ None → IsIn names (name_lists p) → AreApart names
 lists_apart p names none at =
     apart_from_again names
     (none_of_some (map (first_again []) (name_lists p)) (none_mapped Twice (first_some (map (first_again []) (name_lists p))) none) (first_again [] names) (to_map (first_again []) (name_lists p) names at))
 
-pub bolt_list_apart : (p : Parts) (bolt : BoltPart) (names : List (List ℕ)) → twice_fault p ≡ None → IsIn bolt p.bolts → IsIn names (bolt_lists bolt) → AreApart names
+pub bolt_list_apart : (p : FileParts) (bolt : BoltPart) (names : List (List ℕ)) → twice_fault p ≡ None → IsIn bolt p.bolts → IsIn names (bolt_lists bolt) → AreApart names
 bolt_list_apart p bolt names none there at =
     lists_apart p names none
     (inr (inr (to_left (flat_map bolt_lists p.bolts) (flat_map state_lists p.states) names (to_flat_map bolt_lists p.bolts bolt names there at))))
 
-pub state_list_apart : (p : Parts) (state : StatePart) (names : List (List ℕ)) → twice_fault p ≡ None → IsIn state p.states → IsIn names (state_lists state) → AreApart names
+pub state_list_apart : (p : FileParts) (state : StatePart) (names : List (List ℕ)) → twice_fault p ≡ None → IsIn state p.states → IsIn names (state_lists state) → AreApart names
 state_list_apart p state names none there at =
     lists_apart p names none
     (inr (inr (to_right (flat_map bolt_lists p.bolts) (flat_map state_lists p.states) names (to_flat_map state_lists p.states state names there at))))
@@ -253,12 +253,12 @@ some_value : {X : Type 0} (o : Option X) → is_none o ≡ false → (x : X) × 
 some_value None none = absurd (true≢false none)
 some_value (Some x) none = (x, refl)
 
-pub length_names : (p : Parts) → component_count p ≡ length p.bolts + length p.states
+pub length_names : (p : FileParts) → component_count p ≡ length p.bolts + length p.states
 length_names p =
     omega
     (arith, length-append (bolt_names p) (map (λ (state : StatePart). state.name) p.states), length-map p.bolts (λ (bolt : BoltPart). bolt.name), length-map p.states (λ (state : StatePart). state.name))
 
-pub some_inputs : (p : Parts) (c : ℕ) → IsInRange p → c < length p.bolts + length p.states → (inputs : List Input) × (slice_get (inputs_by_component p) c ≡ Some inputs) × (1 ≤ length inputs)
+pub some_inputs : (p : FileParts) (c : ℕ) → IsInRange p → c < length p.bolts + length p.states → (inputs : List Input) × (slice_get (inputs_by_component p) c ≡ Some inputs) × (1 ≤ length inputs)
 some_inputs p c range within =
     elim (cases_component p c within) [
       | inl bolt ↦
@@ -266,11 +266,11 @@ some_inputs p c range within =
           (bolt.0.inputs, inputs_at_bolt p c bolt.0 bolt.1, limits.inputs.0)
       | inr state ↦
           let limits : IsStateInRange state.0 = All-at_in IsStateInRange p.states range.each_state state.0 (in_place p.states state.1.place state.0 state.1.is) in
-          (state_inputs state.0, inputs_at_state p c state.0 state.1, omega (arith, limits.inputs.0, length-map {B = Input} state.0.inputs (λ from. record { from = from; way = way.Fields state.0.key })))
+          (state_inputs state.0, inputs_at_state p c state.0 state.1, omega (arith, limits.inputs.0, length-map {B = Input} state.0.inputs (λ from. record { from = from; grouping = said.Fields state.0.key })))
     ]
 
 -- each input names a source
-pub named_source : (p : Parts) (c : ℕ) (inputs : List Input) (input : Input) → source_fault p ≡ None → slice_get (inputs_by_component p) c ≡ Some inputs → IsIn input inputs → (from : Origin) × (source_of p input.from ≡ Some from)
+pub named_source : (p : FileParts) (c : ℕ) (inputs : List Input) (input : Input) → source_fault p ≡ None → slice_get (inputs_by_component p) c ≡ Some inputs → IsIn input inputs → (from : Origin) × (source_of p input.from ≡ Some from)
 named_source p c inputs input none is at =
     let named = map (λ (i : Input). i.from) (flat_map (λ (inputs : List Input). inputs) (inputs_by_component p)) in
     some_value (source_of p input.from)
@@ -279,7 +279,7 @@ named_source p c inputs input none is at =
     (to_flat_map (λ (inputs : List Input). inputs) (inputs_by_component p) inputs input (in_place (inputs_by_component p) c inputs is) at)))
 
 -- an input of a component, with its source
-pub record HasSource (p : Parts) (c : ℕ) : Type 0 where
+pub record HasSource (p : FileParts) (c : ℕ) : Type 0 where
   pub inputs : List Input
   pub input : Input
   pub from : Origin
@@ -287,31 +287,31 @@ pub record HasSource (p : Parts) (c : ℕ) : Type 0 where
   pub listed : IsIn input inputs
   pub is : source_of p input.from ≡ Some from
 
-pub some_source : (p : Parts) (c : ℕ) → IsInRange p → source_fault p ≡ None → c < length p.bolts + length p.states → HasSource p c
+pub some_source : (p : FileParts) (c : ℕ) → IsInRange p → source_fault p ≡ None → c < length p.bolts + length p.states → HasSource p c
 some_source p c range none within =
     let inputs = some_inputs p c range within in
     let input = some_in inputs.0 inputs.2 in
     let from = named_source p c inputs.0 input.0 none inputs.1 input.1 in
     record { inputs = inputs.0; input = input.0; from = from.0; consumer = inputs.1; listed = input.1; is = from.1 }
 
-pub in_inputs_at : (p : Parts) (c : ℕ) (inputs : List Input) (input : Input) → slice_get (inputs_by_component p) c ≡ Some inputs → IsIn input inputs → IsIn input (inputs_at p c)
+pub in_inputs_at : (p : FileParts) (c : ℕ) (inputs : List Input) (input : Input) → slice_get (inputs_by_component p) c ≡ Some inputs → IsIn input inputs → IsIn input (inputs_at p c)
 in_inputs_at p c inputs input is at = subst (IsIn input) (sym (get_or_from_slice_get (inputs_by_component p) c inputs [] is)) at
 
 -- ---- the fields of each source
 
-abbrev pub IsBoltOrSpout : Parts → Origin → Type 0
+abbrev pub IsBoltOrSpout : FileParts → Origin → Type 0
 IsBoltOrSpout p origin.Spout = Unit {0}
 IsBoltOrSpout p (origin.Component c) = c < length p.bolts
 
-pub source_there : (p : Parts) (c : ℕ) (from : Origin) → IsIn from (sources_at p c) → IsBoltOrSpout p from
+pub source_there : (p : FileParts) (c : ℕ) (from : Origin) → IsIn from (sources_at p c) → IsBoltOrSpout p from
 source_there p c origin.Spout at = tt
 source_there p c (origin.Component b) at = bolt_source p c b at
 
-added_at : (p : Parts) (c : ℕ) (bolt : BoltPart) → IsBoltAt p c bolt → HasNoFaultAt p c → added_fault (fields_to p c) bolt.operation ≡ None
+added_at : (p : FileParts) (c : ℕ) (bolt : BoltPart) → IsBoltAt p c bolt → HasNoFaultAt p c → added_fault (fields_to p c) bolt.operation ≡ None
 added_at p c bolt is faultless =
     subst (λ there. option_and_then (added_fault (fields_to p c)) (option_map (λ (b : BoltPart). b.operation) there) ≡ None) is faultless.added
 
-module _ (p : Parts) (range : IsInRange p) (faultless : HasNoFault p) where
+module _ (p : FileParts) (range : IsInRange p) (faultless : HasNoFault p) where
   pub no_fault_here : (c : ℕ) → c < length p.bolts + length p.states → HasNoFaultAt p c
   no_fault_here c within = no_fault_at p c faultless.fields (omega (arith, length_names p))
 
@@ -333,7 +333,7 @@ module _ (p : Parts) (range : IsInRange p) (faultless : HasNoFault p) where
       let limits : IsBoltInRange bolt.0 = All-at_in IsBoltInRange p.bolts range.each_bolt bolt.0 (in_place p.bolts c bolt.0 bolt.1) in
       subst AreFields (sym (fields_of_bolt p c bolt.0 faultless.cycle bolt.1))
       (fields_kept bolt.0.operation (fields_to p c) limits.operation
-      (bolt_list_apart p bolt.0 (projected bolt.0.operation) faultless.twice (in_place p.bolts c bolt.0 bolt.1) (inr (to_right (map (λ (input : Input). key_of input.way) bolt.0.inputs) (projected bolt.0.operation ∷ []) (projected bolt.0.operation) (inl refl))))
+      (bolt_list_apart p bolt.0 (projected bolt.0.operation) faultless.twice (in_place p.bolts c bolt.0 bolt.1) (inr (to_right (map (λ (input : Input). key_of input.grouping) bolt.0.inputs) (projected bolt.0.operation ∷ []) (projected bolt.0.operation) (inl refl))))
       (added_at p c bolt.0 bolt.1 (no_fault_here c within)) come)
 
   pub fields_of_source : (from : Origin) → IsBoltOrSpout p from → AreFields (fields_of p from)

@@ -4,9 +4,9 @@ use Rattle.std.specs.List.{find, range_with_len}
 use Rattle.std.proofs.Common.{inl, inr, refl, sym, ◌∙◌, ap, arith}
 use Rattle.std.proofs.lemmas.Bool.{cases_Bool, cases_order, both_ways, cond-true, cond-false}
 use Rattle.std.proofs.lemmas.Option.{none-some, same_Some}
-use Rattle.topology_reader.specs.declared.parts.Parts.{Parts}
-use Rattle.topology_reader.specs.declared.parts.TopoFault.{TopoFault}
-use Rattle.topology_reader.specs.declared.parts.TopoFault.TheVariants.{Cycle}
+use Rattle.topology_form.specs.declared.parts.FileParts.{FileParts}
+use Rattle.topology_form.specs.declared.fault.TopoFault.{TopoFault}
+use Rattle.topology_form.specs.declared.fault.TopoFault.TheVariants.{Cycle}
 use Rattle.topology_reader.specs.Wiring.{name_at, reaches}
 use Rattle.topology_reader.specs.Meant.{cycle_fault}
 use Rattle.topology_reader.specs.Reach.{IsWay}
@@ -35,11 +35,11 @@ nothing_found test first (suc n) fails =
     cond-false (test first) (Some first) (find test (range_with_len (first + 1) n)) (fails first (omega arith))
     ∙ nothing_found test (first + 1) n (λ c below. fails c (omega arith))
 
-pub no_way_back : (p : Parts) (c : ℕ) → reaches p c c ≡ false → IsWay p c c → ⊥
+pub no_way_back : (p : FileParts) (c : ℕ) → reaches p c c ≡ false → IsWay p c c → ⊥
 no_way_back p c never way = both_ways (reaches p c c) never ((reaches_by_way p c c).1 way)
 
 -- no cycle is told exactly where no bolt has a way to itself
-pub no_cycle_by_ways : (p : Parts) → (cycle_fault p ≡ None) ↔ ((c : ℕ) → c < length p.bolts → IsWay p c c → ⊥)
+pub no_cycle_by_ways : (p : FileParts) → (cycle_fault p ≡ None) ↔ ((c : ℕ) → c < length p.bolts → IsWay p c c → ⊥)
 no_cycle_by_ways p = (
   λ none c below. no_way_back p c (no_cycle p c none below),
   λ never.
@@ -52,7 +52,7 @@ no_cycle_by_ways p = (
 )
 
 -- the bolt of a cycle that is told is the first that has a way to itself
-pub first_cycle : (p : Parts) (fault : TopoFault) → cycle_fault p ≡ Some fault
+pub first_cycle : (p : FileParts) (fault : TopoFault) → cycle_fault p ≡ Some fault
     → (c : ℕ) × (c < length p.bolts) × (fault ≡ Cycle (name_at p c)) × IsWay p c c × ((b : ℕ) → b < c → IsWay p b b → ⊥)
 first_cycle p fault told =
     let found = some_mapped (λ c. Cycle (name_at p c)) (find (λ c. reaches p c c) (range_with_len 0 (length p.bolts))) fault told in

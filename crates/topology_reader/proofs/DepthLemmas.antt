@@ -8,9 +8,9 @@ use Rattle.std.proofs.lemmas.List.Concat.{flat_map-append}
 use Rattle.std.proofs.lemmas.Option.{IfSome_then}
 use Rattle.std.specs.List.{range_with_len, cons_option, flat_map}
 use Rattle.std.specs.Str.{bytes_eq}
-use Rattle.topology_reader.specs.declared.parts.StatePart.{StatePart}
-use Rattle.topology_reader.specs.declared.parts.Input.{Input}
-use Rattle.topology_reader.specs.declared.parts.Parts.{Parts}
+use Rattle.topology_form.specs.declared.parts.StatePart.{StatePart}
+use Rattle.topology_form.specs.declared.parts.Input.{Input}
+use Rattle.topology_form.specs.declared.parts.FileParts.{FileParts}
 use Rattle.topology_plan.specs.declared.parts.Origin.{Origin}
 use Rattle.topology_plan.specs.declared.parts.Origin.TheVariants as origin
 use Rattle.topology_reader.specs.Sources.{sources_among}
@@ -39,7 +39,7 @@ source_next true place n m le below = tt
 source_next false None n m le below = tt
 source_next false (Some c) n m le below = omega (arith, below)
 
-source_inside : (p : Parts) (name : List ℕ) → IfSome (source_of p name) (IsInside (component_count p))
+source_inside : (p : FileParts) (name : List ℕ) → IfSome (source_of p name) (IsInside (component_count p))
 source_inside p name =
     let few : length (bolt_names p) ≤ component_count p = omega (arith, length-append (bolt_names p) (map (λ (state : StatePart). state.name) p.states)) in
     source_next (bytes_eq p.spout.name name) (place_of (bolt_names p) name) (length (bolt_names p)) (component_count p) few (place_below (bolt_names p) name)
@@ -49,7 +49,7 @@ cons_same : (f g : Origin → ℕ) (from : Option Origin) (sources : List Origin
 cons_same f g None sources agree same = same
 cons_same f g (Some source) sources agree same = cc
 
-pub map-sources : (f g : Origin → ℕ) (p : Parts) (inputs : List Input) → ((source : Origin) → IsInside (component_count p) source → f source ≡ g source) → map f (sources_among p inputs) ≡ map g (sources_among p inputs)
+pub map-sources : (f g : Origin → ℕ) (p : FileParts) (inputs : List Input) → ((source : Origin) → IsInside (component_count p) source → f source ≡ g source) → map f (sources_among p inputs) ≡ map g (sources_among p inputs)
 map-sources f g p [] agree = refl
 map-sources f g p (input ∷ inputs) agree =
     cons_same f g (source_of p input.from) (sources_among p inputs) (IfSome_then (source_of p input.from) (source_inside p input.from) agree) (map-sources f g p inputs agree)
@@ -60,13 +60,13 @@ map_same : {X : Type 0} (f g : ℕ → X) → ((n : ℕ) → f n ≡ g n) → (n
 map_same f g same [] = refl
 map_same f g same (n ∷ ns) = let head = same n in let tail = map_same f g same ns in cc
 
-depth_from-depths_in : (n : ℕ) (p : Parts) (from : Origin) → IsInside (component_count p) from → depth_from (depths_in n p) from ≡ depth_in n p from
+depth_from-depths_in : (n : ℕ) (p : FileParts) (from : Origin) → IsInside (component_count p) from → depth_from (depths_in n p) from ≡ depth_in n p from
 depth_from-depths_in zero p origin.Spout inside = refl
 depth_from-depths_in (suc n) p origin.Spout inside = refl
 depth_from-depths_in n p (origin.Component c) inside = get_or-map-range_with_len (λ d. depth_in n p (origin.Component d)) 0 (component_count p) c c 0 inside (omega arith)
 
 -- one round
-pub depths_over-depths_in : (n : ℕ) (p : Parts) → depths_over p (depths_in n p) ≡ depths_in (n + 1) p
+pub depths_over-depths_in : (n : ℕ) (p : FileParts) → depths_over p (depths_in n p) ≡ depths_in (n + 1) p
 depths_over-depths_in n p =
     rw add-one
     (map_same (λ c. depth_over (depths_in n p) (sources_at p c)) (λ c. depth_in (suc n) p (origin.Component c))
@@ -74,20 +74,20 @@ depths_over-depths_in n p =
     (range_with_len 0 (component_count p)))
 
 -- one component more
-pub depths_over_more : (p : Parts) (depths : List ℕ) (c : ℕ) → map (λ d. depth_over depths (sources_at p d)) (range_with_len 0 (c + 1)) ≡ map (λ d. depth_over depths (sources_at p d)) (range_with_len 0 c) ++ depth_over depths (sources_at p c) ∷ []
+pub depths_over_more : (p : FileParts) (depths : List ℕ) (c : ℕ) → map (λ d. depth_over depths (sources_at p d)) (range_with_len 0 (c + 1)) ≡ map (λ d. depth_over depths (sources_at p d)) (range_with_len 0 c) ++ depth_over depths (sources_at p c) ∷ []
 depths_over_more p depths c = map-range_with_len_more (λ d. depth_over depths (sources_at p d)) 0 c c (omega arith)
 
 greatest_le : (f : Origin → ℕ) (n : ℕ) → ((source : Origin) → f source ≤ n) → (sources : List Origin) → greatest (map f sources) ≤ n
 greatest_le f n each [] = omega arith
 greatest_le f n each (source ∷ sources) = omega (arith, each source, greatest_le f n each sources)
 
-depth_in_le : (n : ℕ) (p : Parts) (from : Origin) → depth_in n p from ≤ n
+depth_in_le : (n : ℕ) (p : FileParts) (from : Origin) → depth_in n p from ≤ n
 depth_in_le zero p origin.Spout = omega arith
 depth_in_le (suc n) p origin.Spout = omega arith
 depth_in_le zero p (origin.Component c) = omega arith
 depth_in_le (suc n) p (origin.Component c) = omega (arith, greatest_le (depth_in n p) n (depth_in_le n p) (sources_at p c))
 
-pub All-depths_in : (n m : ℕ) (p : Parts) → n < m → All (λ depth. depth < m) (depths_in n p)
+pub All-depths_in : (n m : ℕ) (p : FileParts) → n < m → All (λ depth. depth < m) (depths_in n p)
 All-depths_in n m p below =
     All-map (λ depth. depth < m) (λ c. depth_in n p (origin.Component c)) (range_with_len 0 (component_count p)) (λ k d within. omega (arith, depth_in_le n p (origin.Component (slice_index_or (range_with_len 0 (component_count p)) k d))))
 
@@ -102,7 +102,7 @@ greatest_below depths m some below [] = some
 greatest_below depths m some below (source ∷ sources) = omega (arith, depth_from_below depths m some below source, greatest_below depths m some below sources)
 
 -- before the first round
-pub replicate-depths_in : (p : Parts) → replicate {A = ℕ} (component_count p) 0 ≡ depths_in zero p
+pub replicate-depths_in : (p : FileParts) → replicate {A = ℕ} (component_count p) 0 ≡ depths_in zero p
 replicate-depths_in p = zeros 0 (component_count p)
   where
     zeros : (a n : ℕ) → replicate {A = ℕ} n 0 ≡ map (λ (c : ℕ). 0) (range_with_len a n)
@@ -110,7 +110,7 @@ replicate-depths_in p = zeros 0 (component_count p)
     zeros a (suc n) = ap (λ ds. 0 ∷ ds) (zeros (a + 1) n)
 
 -- after the last
-pub depths_in-all : (p : Parts) → depths_in (component_count p) p ≡ depths_of p
+pub depths_in-all : (p : FileParts) → depths_in (component_count p) p ≡ depths_of p
 unfolding depth_at
 depths_in-all p = refl
 
@@ -142,12 +142,12 @@ flat_map_same f g same [] = refl
 flat_map_same f g same (n ∷ ns) = let head = same n in let tail = flat_map_same f g same ns in cc
 
 -- which components have a depth
-at_depth-depths_of : (p : Parts) (depths : List ℕ) (depth : ℕ) → depths ≡ depths_of p → length depths ≡ component_count p → at_depth depths depth ≡ filter (λ c. depth_at p c == depth) (range_with_len 0 (component_count p))
+at_depth-depths_of : (p : FileParts) (depths : List ℕ) (depth : ℕ) → depths ≡ depths_of p → length depths ≡ component_count p → at_depth depths depth ≡ filter (λ c. depth_at p c == depth) (range_with_len 0 (component_count p))
 at_depth-depths_of p depths depth is count =
     ap (λ n. filter (λ c. slice_index depths c == depth) (range_with_len 0 n)) count
     ∙ filter_same (λ c. slice_index depths c == depth) (λ c. depth_at p c == depth) 0 (component_count p) (λ c low high. ap (λ found. found == depth) (ap (λ ds. slice_index ds c) is ∙ get_or-map-range_with_len (depth_at p) 0 (component_count p) c c 0 (omega arith) (omega arith)))
 
-pub by_depth-depths_of : (p : Parts) (depths : List ℕ) → depths ≡ depths_of p → flat_map (at_depth depths) (range_with_len 1 (length depths)) ≡ by_depth p
+pub by_depth-depths_of : (p : FileParts) (depths : List ℕ) → depths ≡ depths_of p → flat_map (at_depth depths) (range_with_len 1 (length depths)) ≡ by_depth p
 by_depth-depths_of p depths is =
     let count : length depths ≡ component_count p = ap length is ∙ length-map-range_with_len (depth_at p) 0 (component_count p) in
     ap (λ n. flat_map (at_depth depths) (range_with_len 1 n)) count

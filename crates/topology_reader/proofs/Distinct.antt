@@ -7,7 +7,7 @@ use Rattle.std.proofs.Common.{inl, inr, refl, sym, ◌∙◌, ap, subst, arith, 
 use Rattle.std.proofs.lemmas.Bool.{cases_Bool, cond-true, cond-false, both_ways}
 use Rattle.std.proofs.lemmas.List.Kept.{AllPairs-cons}
 use Rattle.std.proofs.lemmas.Option.{none-some, same_Some, slice_get_within}
-use Rattle.topology_reader.specs.Forms.{is_among}
+use Rattle.topology_reader.specs.Meant.{is_among}
 use Rattle.topology_reader.specs.Wiring.{place_of}
 use Rattle.topology_reader.specs.Meant.{first_again}
 use Rattle.topology_reader.proofs.Listed.{IsIn, All-from_in, in_append, to_map, to_any, in_any}

@@ -6,24 +6,24 @@ use Rattle.std.specs.Cmp.Lexicographic.{pointwise}
 use Rattle.std.specs.Option.{option_or, option_to_list}
 use Rattle.std.specs.Str.{bytes_eq}
 use Rattle.storm_values.specs.Lines.{first_some}
-use Rattle.topology_reader.specs.declared.parts.BoltPart.{BoltPart}
-use Rattle.topology_reader.specs.declared.parts.TopoFault.{TopoFault}
-use Rattle.topology_reader.specs.declared.parts.TopoFault.TheVariants.{FieldsDiffer, NoField}
-use Rattle.topology_reader.specs.declared.parts.Input.{Input}
-use Rattle.topology_reader.specs.declared.parts.Operation.{Operation}
-use Rattle.topology_reader.specs.declared.parts.Parts.{Parts}
-use Rattle.topology_reader.specs.declared.parts.StatePart.{StatePart}
-use Rattle.topology_reader.specs.declared.parts.Way.TheVariants as way
+use Rattle.topology_form.specs.declared.parts.BoltPart.{BoltPart}
+use Rattle.topology_form.specs.declared.fault.TopoFault.{TopoFault}
+use Rattle.topology_form.specs.declared.fault.TopoFault.TheVariants.{FieldsDiffer, NoField}
+use Rattle.topology_form.specs.declared.parts.Input.{Input}
+use Rattle.topology_form.specs.declared.parts.Operation.{Operation}
+use Rattle.topology_form.specs.declared.parts.FileParts.{FileParts}
+use Rattle.topology_form.specs.declared.parts.StatePart.{StatePart}
+use Rattle.topology_form.specs.declared.parts.GroupingPart.TheVariants as said
 use Rattle.topology_plan.specs.declared.parts.Origin.TheVariants as origin
 use Rattle.topology_reader.specs.FieldFaults.{inputs_fault, bolt_fault, state_fault}
-use Rattle.topology_reader.specs.Forms.{is_among}
+use Rattle.topology_reader.specs.Meant.{is_among}
 use Rattle.topology_reader.specs.Meant.{differ_fault, field_fault, input_fault, fields_read, reads_at, added_fault, component_fault}
 use Rattle.topology_reader.specs.Sources.{sources_among}
 use Rattle.topology_reader.specs.Wiring.{name_at, state_inputs, inputs_at, fields_of, fields_to, operation_at}
 use Rattle.topology_reader.proofs.PartLemmas.{at_first, at_second, at_neither}
 
 -- the faults of a component, by what stands there
-abbrev faults_of : Parts → ℕ → List Input → List (List ℕ) → Option Operation → Option TopoFault
+abbrev faults_of : FileParts → ℕ → List Input → List (List ℕ) → Option Operation → Option TopoFault
 faults_of p c inputs reads operation =
     first_some ((differ_fault p c ∷ map (input_fault p c) inputs) ++ field_fault p c reads ∷ option_and_then (added_fault (fields_to p c)) operation ∷ [])
 
@@ -34,7 +34,7 @@ joined None [] rest = refl
 joined None (None ∷ faults) rest = joined None faults rest
 joined None (Some fault ∷ faults) rest = refl
 
-pub component_fault-bolt : (p : Parts) (c : ℕ) (bolt : BoltPart) → slice_get p.bolts c ≡ Some bolt → component_fault p c ≡ bolt_fault p c bolt
+pub component_fault-bolt : (p : FileParts) (c : ℕ) (bolt : BoltPart) → slice_get p.bolts c ≡ Some bolt → component_fault p c ≡ bolt_fault p c bolt
 component_fault-bolt p c bolt is =
     let inputs : inputs_at p c ≡ bolt.inputs = at_first (λ (b : BoltPart). b.inputs) state_inputs p.bolts p.states c bolt [] is in
     let reads : reads_at p c ≡ fields_read bolt.operation = at_first (λ (b : BoltPart). fields_read b.operation) (λ (state : StatePart). state.key ++ option_to_list state.amount) p.bolts p.states c bolt [] is in
@@ -46,14 +46,14 @@ component_fault-bolt p c bolt is =
 
 -- the inputs of a state with a key
 abbrev keyed : List (List ℕ) → List (List ℕ) → List Input
-keyed key names = map (λ from. record { from = from; way = way.Fields key }) names
+keyed key names = map (λ from. record { from = from; grouping = said.Fields key }) names
 
-keyed_none : (p : Parts) (c : ℕ) (key names : List (List ℕ)) → field_fault p c key ≡ None → inputs_fault p c (keyed key names) ≡ None
+keyed_none : (p : FileParts) (c : ℕ) (key names : List (List ℕ)) → field_fault p c key ≡ None → inputs_fault p c (keyed key names) ≡ None
 keyed_none p c key [] is = refl
 keyed_none p c key (name ∷ names) is =
     ap (λ fault. first_some (first_some (fault ∷ None ∷ []) ∷ map (input_fault p c) (keyed key names))) is ∙ keyed_none p c key names is
 
-keyed_some : (p : Parts) (c : ℕ) (key names : List (List ℕ)) (fault : TopoFault) (rest : List (Option TopoFault)) → field_fault p c key ≡ Some fault → first_some (inputs_fault p c (keyed key names) ∷ Some fault ∷ rest) ≡ Some fault
+keyed_some : (p : FileParts) (c : ℕ) (key names : List (List ℕ)) (fault : TopoFault) (rest : List (Option TopoFault)) → field_fault p c key ≡ Some fault → first_some (inputs_fault p c (keyed key names) ∷ Some fault ∷ rest) ≡ Some fault
 keyed_some p c key [] fault rest is = refl
 keyed_some p c key (name ∷ names) fault rest is =
     ap (λ found. first_some (first_some (first_some (found ∷ None ∷ []) ∷ map (input_fault p c) (keyed key names)) ∷ Some fault ∷ rest)) is
@@ -63,7 +63,7 @@ no_last None = refl
 no_last (Some fault) = refl
 
 -- what the inputs of a state lack, its key lacks
-keyed_fault : (p : Parts) (c : ℕ) (key names : List (List ℕ)) (fault amount : Option TopoFault) → field_fault p c key ≡ fault → first_some (inputs_fault p c (keyed key names) ∷ option_or fault amount ∷ None ∷ []) ≡ first_some (fault ∷ amount ∷ [])
+keyed_fault : (p : FileParts) (c : ℕ) (key names : List (List ℕ)) (fault amount : Option TopoFault) → field_fault p c key ≡ fault → first_some (inputs_fault p c (keyed key names) ∷ option_or fault amount ∷ None ∷ []) ≡ first_some (fault ∷ amount ∷ [])
 keyed_fault p c key names None amount is =
     ap (λ first. first_some (first ∷ amount ∷ None ∷ [])) (keyed_none p c key names is) ∙ no_last amount
 keyed_fault p c key names (Some fault) amount is = keyed_some p c key names fault (None ∷ []) is
@@ -72,7 +72,7 @@ option_map-or : (at : List ℕ) (first second : Option (List ℕ)) → option_ma
 option_map-or at None second = refl
 option_map-or at (Some name) second = refl
 
-field_fault-append : (p : Parts) (c : ℕ) (first second : List (List ℕ)) → field_fault p c (first ++ second) ≡ option_or (field_fault p c first) (field_fault p c second)
+field_fault-append : (p : FileParts) (c : ℕ) (first second : List (List ℕ)) → field_fault p c (first ++ second) ≡ option_or (field_fault p c first) (field_fault p c second)
 field_fault-append p c first second =
     ap (λ name. option_map (NoField (name_at p c)) name) (find-append (λ name. not (is_among (fields_to p c) name)) first second)
     ∙ option_map-or (name_at p c) (find (λ name. not (is_among (fields_to p c) name)) first) (find (λ name. not (is_among (fields_to p c) name)) second)
@@ -81,7 +81,7 @@ under : (fault : Option TopoFault) (xs ys : List (Option TopoFault)) → first_s
 under None xs ys same = same
 under (Some fault) xs ys same = refl
 
-pub component_fault-state : (p : Parts) (c : ℕ) (state : StatePart) → slice_get p.bolts c ≡ None → slice_get p.states (c - length p.bolts) ≡ Some state → component_fault p c ≡ state_fault p c state
+pub component_fault-state : (p : FileParts) (c : ℕ) (state : StatePart) → slice_get p.bolts c ≡ None → slice_get p.states (c - length p.bolts) ≡ Some state → component_fault p c ≡ state_fault p c state
 component_fault-state p c state none is =
     let amounts = option_to_list state.amount in
     let inputs : inputs_at p c ≡ state_inputs state = at_second (λ (b : BoltPart). b.inputs) state_inputs p.bolts p.states c state [] none is in
@@ -95,7 +95,7 @@ component_fault-state p c state none is =
 
 -- ---- neither
 
-pub component_fault-neither : (p : Parts) (c : ℕ) → slice_get p.bolts c ≡ None → slice_get p.states (c - length p.bolts) ≡ None → component_fault p c ≡ None
+pub component_fault-neither : (p : FileParts) (c : ℕ) → slice_get p.bolts c ≡ None → slice_get p.states (c - length p.bolts) ≡ None → component_fault p c ≡ None
 component_fault-neither p c none is =
     let inputs : inputs_at p c ≡ [] = at_neither (λ (b : BoltPart). b.inputs) state_inputs p.bolts p.states c [] none is in
     let reads : reads_at p c ≡ [] = at_neither (λ (b : BoltPart). fields_read b.operation) (λ (s : StatePart). s.key ++ option_to_list s.amount) p.bolts p.states c [] none is in

@@ -1,16 +1,16 @@
 -- The first fault of a file, step by step.
-use Rattle.std.proofs.Common.{◌≡◌, ◌<◌, ◌≤◌, ℕ, List, [], ◌∷◌, length, true, false, leb, Option, Some, None, Result, Ok, Err, IfOk, IfErr, MatchResult, ◌≢◌, refl, sym, ap, subst, ◌∙◌, arith}
+use Rattle.std.proofs.Common.{◌≡◌, ◌<◌, ◌≤◌, ℕ, List, [], ◌∷◌, length, true, false, leb, Option, Some, None, Result, Ok, Err, IfOk, IfErr, ◌≢◌, refl, sym, ap, subst, ◌∙◌, arith}
 use Rattle.std.proofs.lemmas.Bool.Decides.{nat_tests}
 use Rattle.serde_json.specs.Data.{Data}
 use Rattle.storm_values.specs.Json.{json_of}
 use Rattle.storm_values.specs.Lines.{first_some}
-use Rattle.topology_reader.specs.declared.parts.TopoFault.{TopoFault}
-use Rattle.topology_reader.specs.declared.parts.TopoFault.TheVariants as topo_fault
-use Rattle.topology_reader.specs.declared.parts.TopoFault.TheVariants.{TooLong}
+use Rattle.topology_form.specs.declared.fault.TopoFault.{TopoFault}
+use Rattle.topology_form.specs.declared.fault.TopoFault.TheVariants as topo_fault
+use Rattle.topology_form.specs.declared.fault.TopoFault.TheVariants.{TooLong}
 use Rattle.topology_plan.specs.Topology.{Topology}
 use Rattle.topology_reader.specs.FirstFault.{first_fault, value_fault, IsFilePlan}
 use Rattle.topology_reader.specs.Planned.{plan_of}
-use Rattle.topology_reader.specs.Said.{parts_said}
+use Rattle.topology_form.specs.File.{parts_said}
 
 -- a fault that is the first of one, or the next
 pub next_alone : {X : Type 0} (fault : Option X) → first_some (fault ∷ []) ≡ fault
@@ -33,13 +33,12 @@ pub plan_of_file : (bytes : List ℕ) (value : Data) → length bytes ≤ 65536 
 plan_of_file bytes value short spelled none = (of_value bytes short ∙ (ap value_fault spelled ∙ none), value, spelled, refl)
 
 -- what is read of a file's value: its plan, or its first fault
-abbrev pub IsReadOrFault : Data → Result Topology TopoFault → Type 0
-IsReadOrFault value read = MatchResult read (λ plan. (value_fault (Some value) ≡ None) × (plan ≡ plan_of (parts_said value))) (λ fault. value_fault (Some value) ≡ Some fault)
-
-pub plan_of_read : (bytes : List ℕ) (value : Data) (read : Result Topology TopoFault) → length bytes ≤ 65536 → json_of bytes ≡ Some value → IsReadOrFault value read → IfOk read (λ plan. IsFilePlan bytes plan)
+pub plan_of_read : (bytes : List ℕ) (value : Data) (read : Result Topology TopoFault) → length bytes ≤ 65536 → json_of bytes ≡ Some value
+    → IfOk read (λ plan. (value_fault (Some value) ≡ None) × (plan ≡ plan_of (parts_said value))) → IfOk read (λ plan. IsFilePlan bytes plan)
 plan_of_read bytes value (Ok plan) short spelled (none, is) = subst (IsFilePlan bytes) (sym is) (plan_of_file bytes value short spelled none)
 plan_of_read bytes value (Err fault) short spelled is = tt
 
-pub fault_of_read : (bytes : List ℕ) (value : Data) (read : Result Topology TopoFault) → length bytes ≤ 65536 → json_of bytes ≡ Some value → IsReadOrFault value read → IfErr read (λ fault. fault ≢ topo_fault.Memory → first_fault bytes ≡ Some fault)
+pub fault_of_read : (bytes : List ℕ) (value : Data) (read : Result Topology TopoFault) → length bytes ≤ 65536 → json_of bytes ≡ Some value
+    → IfErr read (λ fault. fault ≢ topo_fault.Memory → value_fault (Some value) ≡ Some fault) → IfErr read (λ fault. fault ≢ topo_fault.Memory → first_fault bytes ≡ Some fault)
 fault_of_read bytes value (Ok plan) short spelled is = tt
-fault_of_read bytes value (Err fault) short spelled is = λ _. of_value bytes short ∙ (ap value_fault spelled ∙ is)
+fault_of_read bytes value (Err fault) short spelled is = λ other. of_value bytes short ∙ (ap value_fault spelled ∙ is other)

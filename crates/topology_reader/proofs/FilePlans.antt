@@ -8,20 +8,20 @@ use Rattle.storm_values.specs.Json.{json_of}
 use Rattle.storm_values.specs.Lines.{first_some}
 use Rattle.topology_plan.specs.Topology.{Topology}
 use Rattle.topology_plan.specs.Valid.{IsValid}
-use Rattle.topology_reader.specs.declared.parts.TopoFault.{TopoFault}
-use Rattle.topology_reader.specs.declared.parts.TopoFault.TheVariants.{TooLong}
-use Rattle.topology_reader.specs.Faults.{fault_text}
+use Rattle.topology_form.specs.declared.fault.TopoFault.{TopoFault}
+use Rattle.topology_form.specs.declared.fault.TopoFault.TheVariants.{TooLong}
+use Rattle.topology_form.specs.Faults.{fault_text}
 use Rattle.topology_reader.specs.Planned.{plan_of}
 use Rattle.topology_reader.proofs.FileFaults.{too_long}
 use Rattle.topology_reader.specs.FirstFault.{first_fault, length_fault, value_fault, IsFilePlan}
-use Rattle.topology_reader.specs.Format.{form_fault}
+use Rattle.topology_form.specs.File.{form_fault}
 use Rattle.topology_reader.specs.Meant.{meaning_fault}
-use Rattle.topology_reader.specs.Said.{parts_said}
+use Rattle.topology_form.specs.File.{parts_said}
 use Rattle.topology_reader.proofs.ValidPlan.{valid_plan}
 use Rattle.topology_plan.specs.Wired.{IsWired}
 use Rattle.topology_reader.proofs.WiredPlan.{wired_plan}
-use Rattle.topology_reader.proofs.RangeLemmas.{in_range}
-use Rattle.topology_reader.specs.Ranges.{IsInRange}
+use Rattle.topology_form.proofs.InRange.{in_range}
+use Rattle.topology_form.specs.Ranges.{IsInRange}
 use Rattle.topology_reader.specs.ValidFile.{IsValidFile}
 use Rattle.topology_reader.proofs.ValidFile.{valid_file}
 

@@ -8,7 +8,7 @@ use Rattle.std.specs.Str.{bytes_eq}
 use Rattle.indexmap.specs.IndexMap.{IndexMap, get_by}
 use Rattle.topology_plan.specs.declared.parts.Origin.{Origin}
 use Rattle.topology_plan.specs.declared.parts.Origin.TheVariants as origin
-use Rattle.topology_reader.specs.declared.parts.BoltPart.{BoltPart}
+use Rattle.topology_form.specs.declared.parts.BoltPart.{BoltPart}
 use Rattle.topology_reader.specs.Wiring.{place_of}
 use Rattle.topology_reader.proofs.Distinct.{bytes_same}
 

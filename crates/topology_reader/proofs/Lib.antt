@@ -1,4 +1,3 @@
-mod Examples
 mod SourceLemmas
 mod DepthLemmas
 mod PartLemmas
@@ -11,11 +10,7 @@ mod TaskLemmas
 mod NameLists
 mod Sourceless
 mod WaySets
-mod Members
-mod Walks
 mod SubLemmas
-mod LineLemmas
-mod RangeLemmas
 pub mod FilePlans
 mod Listed
 mod Distinct
@@ -28,7 +23,6 @@ mod ValidFile
 mod CycleWays
 mod NoFault
 mod AssemblyLemmas
-mod SaidLemmas
 mod Texts
 mod MeaningLemmas
 mod FileFaults

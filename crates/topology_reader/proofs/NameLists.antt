@@ -11,10 +11,10 @@ use Rattle.std.specs.List.{flat_map, list_any}
 use Rattle.std.specs.Option.{option_or}
 use Rattle.std.specs.Str.{bytes_eq}
 use Rattle.storm_values.specs.Lines.{first_some}
-use Rattle.topology_reader.specs.Forms.{is_among}
-use Rattle.topology_reader.specs.declared.parts.Input.{Input}
-use Rattle.topology_reader.specs.declared.parts.BoltPart.{BoltPart}
-use Rattle.topology_reader.specs.declared.parts.Parts.{Parts}
+use Rattle.topology_reader.specs.Meant.{is_among}
+use Rattle.topology_form.specs.declared.parts.Input.{Input}
+use Rattle.topology_form.specs.declared.parts.BoltPart.{BoltPart}
+use Rattle.topology_form.specs.declared.parts.FileParts.{FileParts}
 use Rattle.topology_reader.specs.Meant.{first_again, key_of, projected, bolt_lists, state_lists}
 use Rattle.topology_reader.specs.Wiring.{place_of}
 use Rattle.topology_reader.specs.Names.{again_among, key_lists, part_lists}
@@ -126,15 +126,15 @@ map-flat f (item ∷ items) = ap (λ rest. f item ∷ rest) (map-flat f items)
 pub again_in_bolt : (bolt : BoltPart) → again_among (bolt_lists bolt) ≡ option_or (option_or (first_again [] (map (λ (input : Input). input.from) bolt.inputs)) (again_among (flat_map key_lists bolt.inputs))) (first_again [] (projected bolt.operation))
 again_in_bolt bolt =
     let sources = map (λ (input : Input). input.from) bolt.inputs in
-    let keys = map (λ (input : Input). key_of input.way) bolt.inputs in
+    let keys = map (λ (input : Input). key_of input.grouping) bolt.inputs in
     let last = projected bolt.operation in
     again_among-cons sources (keys ++ last ∷ [])
     ∙ ap (option_or (first_again [] sources)) (again_among-append keys (last ∷ []))
     ∙ or_assoc (first_again [] sources) (again_among keys) (again_among (last ∷ []))
     ∙ ap (option_or (option_or (first_again [] sources) (again_among keys))) (again_among-one last)
-    ∙ ap (λ lists. option_or (option_or (first_again [] sources) (again_among lists)) (first_again [] last)) (map-flat (λ (input : Input). key_of input.way) bolt.inputs)
+    ∙ ap (λ lists. option_or (option_or (first_again [] sources) (again_among lists)) (first_again [] last)) (map-flat (λ (input : Input). key_of input.grouping) bolt.inputs)
 
-pub again_in_parts : (p : Parts) → again_among (part_lists p) ≡ option_or (option_or (first_again [] p.spout.fields) (again_among (flat_map bolt_lists p.bolts))) (again_among (flat_map state_lists p.states))
+pub again_in_parts : (p : FileParts) → again_among (part_lists p) ≡ option_or (option_or (first_again [] p.spout.fields) (again_among (flat_map bolt_lists p.bolts))) (again_among (flat_map state_lists p.states))
 again_in_parts p =
     let fields = first_again [] p.spout.fields in
     let bolts = flat_map bolt_lists p.bolts in

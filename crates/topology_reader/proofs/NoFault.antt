@@ -15,21 +15,21 @@ use Rattle.topology_plan.specs.declared.parts.Origin.{Origin}
 use Rattle.topology_plan.specs.declared.parts.Origin.TheVariants as origin
 use Rattle.topology_plan.specs.Topology.{tasks_in_all, weight_of}
 use Rattle.topology_plan.specs.Valid.{IsBetween}
-use Rattle.topology_reader.specs.declared.parts.TopoFault.{TopoFault}
-use Rattle.topology_reader.specs.declared.parts.TopoFault.TheVariants.{WrongKind, OutOfRange, Twice, NoSource, FieldsDiffer, NoField, NotExactlyOnce, Weight}
-use Rattle.topology_reader.specs.declared.parts.Way.{Way}
-use Rattle.topology_reader.specs.declared.parts.Way.TheVariants as way
-use Rattle.topology_reader.specs.declared.parts.Input.{Input}
-use Rattle.topology_reader.specs.declared.parts.Operation.{Operation}
-use Rattle.topology_reader.specs.declared.parts.Operation.TheVariants.{Split, Project, Filter, Set, Len, Route, Flaky, Mute, Custom}
-use Rattle.topology_reader.specs.declared.parts.BoltPart.{BoltPart}
-use Rattle.topology_reader.specs.declared.parts.StatePart.{StatePart}
-use Rattle.topology_reader.specs.declared.parts.Parts.{Parts}
-use Rattle.topology_reader.specs.Forms.{is_among, range_fault}
+use Rattle.topology_form.specs.declared.fault.TopoFault.{TopoFault}
+use Rattle.topology_form.specs.declared.fault.TopoFault.TheVariants.{WrongKind, OutOfRange, Twice, NoSource, FieldsDiffer, NoField, NotExactlyOnce, Weight}
+use Rattle.topology_form.specs.declared.parts.GroupingPart.{GroupingPart}
+use Rattle.topology_form.specs.declared.parts.GroupingPart.TheVariants as said
+use Rattle.topology_form.specs.declared.parts.Input.{Input}
+use Rattle.topology_form.specs.declared.parts.Operation.{Operation}
+use Rattle.topology_form.specs.declared.parts.Operation.TheVariants.{Split, Project, Filter, Set, Len, Route, Flaky, Mute, Custom}
+use Rattle.topology_form.specs.declared.parts.BoltPart.{BoltPart}
+use Rattle.topology_form.specs.declared.parts.StatePart.{StatePart}
+use Rattle.topology_form.specs.declared.parts.FileParts.{FileParts}
+use Rattle.topology_reader.specs.Meant.{is_among, range_fault}
 use Rattle.topology_reader.specs.Wiring.{component_names, component_count, name_at, source_of, state_inputs, inputs_by_component, inputs_at, sources_at, is_component, feeds, depth_at, by_depth, fields_after, fields_of, fields_to, operation_at}
 use Rattle.topology_reader.specs.Planned.{plan_of}
 use Rattle.topology_reader.specs.Meant.{first_again, key_of, projected, bolt_lists, state_lists, name_lists, twice_fault, source_fault, cycle_fault, differ_fault, field_fault, is_route, chooses, direct_fault, input_fault, reads_at, added_fault, component_fault, fields_fault, is_transactional, replay_fault, weight_fault, meaning_fault}
-use Rattle.topology_reader.specs.Ranges.{IsStateInRange, IsInRange}
+use Rattle.topology_form.specs.Ranges.{IsStateInRange, IsInRange}
 use Rattle.topology_reader.specs.Reach.{IsWayThrough}
 use Rattle.topology_reader.specs.ValidFile.{AreDistinct, HasFields, IsRoute, IsRouteAt, IsValidInput, IsValidComponent, IsValidFile}
 use Rattle.topology_reader.proofs.Listed.{IsIn, All-at_in, in_map, to_map, in_append, in_flat_map, in_filter, in_place, in_range, in_any}
@@ -103,7 +103,7 @@ is_component_same : (c : ℕ) (from : Origin) → is_component c from ≡ true �
 is_component_same c origin.Spout is = absurd (false≢true is)
 is_component_same c (origin.Component d) is = ap origin.Component (sym (eqb-true c d is))
 
-module _ (p : Parts) (valid : IsValidFile p) where
+module _ (p : FileParts) (valid : IsValidFile p) where
   fed_above : (a b : ℕ) → feeds p a b ≡ true → (valid.numbered).number a < (valid.numbered).number b
   fed_above a b fed =
       let from = in_any (is_component a) (sources_at p b) fed in
@@ -136,8 +136,8 @@ module _ (p : Parts) (valid : IsValidFile p) where
       All-at_in (IsValidInput p (fields_to p c)) inputs
       (subst (All (IsValidInput p (fields_to p c))) (inputs_are c inputs is) (IsValidComponent.inputs (valid.components c (counted c inputs is)))) input at
 
-  key_apart_of : (c : ℕ) (inputs : List Input) (input : Input) → slice_get (inputs_by_component p) c ≡ Some inputs → IsIn input inputs → AreApart (key_of input.way)
-  key_apart_of c inputs input is at = apart_from_distinct (key_of input.way) (IsValidInput.key (input_valid c inputs input is at))
+  key_apart_of : (c : ℕ) (inputs : List Input) (input : Input) → slice_get (inputs_by_component p) c ≡ Some inputs → IsIn input inputs → AreApart (key_of input.grouping)
+  key_apart_of c inputs input is at = apart_from_distinct (key_of input.grouping) (IsValidInput.key (input_valid c inputs input is at))
 
   -- ---- names that stand twice
 
@@ -163,9 +163,9 @@ module _ (p : Parts) (valid : IsValidFile p) where
       let inputs : slice_get (inputs_by_component p) c ≡ Some bolt.inputs = inputs_at_bolt p c bolt is in
       elim at [
         | inl froms ↦ subst AreApart froms (froms_apart c bolt.inputs inputs)
-        | inr later ↦ elim (in_append (map (λ (input : Input). key_of input.way) bolt.inputs) (projected bolt.operation ∷ []) names later) [
+        | inr later ↦ elim (in_append (map (λ (input : Input). key_of input.grouping) bolt.inputs) (projected bolt.operation ∷ []) names later) [
           | inl keys ↦
-              let input = in_map (λ (input : Input). key_of input.way) bolt.inputs names keys in
+              let input = in_map (λ (input : Input). key_of input.grouping) bolt.inputs names keys in
               subst AreApart input.2 (key_apart_of c bolt.inputs input.0 inputs input.1)
           | inr last ↦ elim last [
             | inl same ↦ subst AreApart same (projected_by (fields_of p (origin.Component c)) (fields_to p c) bolt.operation (fields_made c bolt is) (HasFields.distinct (bolt_has c bolt is)))
@@ -187,13 +187,13 @@ module _ (p : Parts) (valid : IsValidFile p) where
         | inl key ↦
             let limits : IsStateInRange state = All-at_in IsStateInRange p.states (valid.range).each_state state (in_place p.states place state is) in
             let first = some_first state.inputs (limits.inputs).0 in
-            let input : Input = record { from = first.0; way = way.Fields state.key } in
-            let listed : IsIn input (state_inputs state) = to_map (λ from. record { from = from; way = way.Fields state.key }) state.inputs first.0 first.1 in
+            let input : Input = record { from = first.0; grouping = said.Fields state.key } in
+            let listed : IsIn input (state_inputs state) = to_map (λ from. record { from = from; grouping = said.Fields state.key }) state.inputs first.0 first.1 in
             subst AreApart key (key_apart_of c (state_inputs state) input inputs listed)
         | inr later ↦ elim later [
           | inl froms ↦
               let same : map (λ (input : Input). input.from) (state_inputs state) ≡ state.inputs =
-              map_twice (λ (input : Input). input.from) (λ from. record { from = from; way = way.Fields state.key }) state.inputs ∙ map-id state.inputs
+              map_twice (λ (input : Input). input.from) (λ from. record { from = from; grouping = said.Fields state.key }) state.inputs ∙ map-id state.inputs
               in
               subst AreApart (same ∙ froms) (froms_apart c (state_inputs state) inputs)
           | inr none ↦ elim none [ ]
@@ -281,12 +281,12 @@ module _ (p : Parts) (valid : IsValidFile p) where
   route_chosen (origin.Component b) (bolt, is, route) =
       ap (λ (there : Option BoltPart). option_map_or is_route (option_map (λ (b : BoltPart). b.operation) there) false) is ∙ route_test bolt.operation route
 
-  direct_none : (c : ℕ) (input : Input) (by : Way) → IsValidInput p (fields_to p c) input → (by ≡ way.Direct → input.way ≡ way.Direct) → direct_fault p input by ≡ None
-  direct_none c input way.Shuffle has is = refl
-  direct_none c input (way.Fields key) has is = refl
-  direct_none c input way.All has is = refl
-  direct_none c input way.Global has is = refl
-  direct_none c input way.Direct has is =
+  direct_none : (c : ℕ) (input : Input) (by : GroupingPart) → IsValidInput p (fields_to p c) input → (by ≡ said.Direct → input.grouping ≡ said.Direct) → direct_fault p input by ≡ None
+  direct_none c input said.Shuffle has is = refl
+  direct_none c input (said.Fields key) has is = refl
+  direct_none c input said.All has is = refl
+  direct_none c input said.Global has is = refl
+  direct_none c input said.Direct has is =
       let chosen : chooses p input ≡ true =
       ap (λ there. option_map_or is_route (option_and_then (operation_at p) there) false) has.named ∙ route_chosen has.from (has.direct (is refl))
       in
@@ -294,11 +294,11 @@ module _ (p : Parts) (valid : IsValidFile p) where
 
   input_none : (c : ℕ) (input : Input) → IsValidInput p (fields_to p c) input → input_fault p c input ≡ None
   input_none c input has =
-      none_from_each (field_fault p c (key_of input.way) ∷ direct_fault p input input.way ∷ [])
+      none_from_each (field_fault p c (key_of input.grouping) ∷ direct_fault p input input.grouping ∷ [])
       (λ fault at. elim at [
-        | inl key ↦ sym key ∙ there_none c (key_of input.way) has.key_fields
+        | inl key ↦ sym key ∙ there_none c (key_of input.grouping) has.key_fields
         | inr later ↦ elim later [
-          | inl direct ↦ sym direct ∙ direct_none c input input.way has (λ is. is)
+          | inl direct ↦ sym direct ∙ direct_none c input input.grouping has (λ is. is)
           | inr none ↦ elim none [ ]
         ]
       ])
@@ -336,7 +336,7 @@ added_none fields come (Flaky below) is distinct count = refl
 added_none fields come (Mute below) is distinct count = refl
 added_none fields come Custom is distinct count = refl
 
-module _ (p : Parts) (valid : IsValidFile p) where
+module _ (p : FileParts) (valid : IsValidFile p) where
   added_here : (c : ℕ) → c < component_count p → option_and_then (added_fault (fields_to p c)) (operation_at p (origin.Component c)) ≡ None
   added_here c within =
       elim (cases_component p c (omega (arith, length_names p))) [
@@ -403,7 +403,7 @@ light weight few = cond-false (nat_lt 256 weight) (Some (Weight weight)) None (l
 none_of_each_seven : {F : Type 0} (a b c d e f g : Option F) → a ≡ None → b ≡ None → c ≡ None → d ≡ None → e ≡ None → f ≡ None → g ≡ None → first_some (a ∷ b ∷ c ∷ d ∷ e ∷ f ∷ g ∷ []) ≡ None
 none_of_each_seven a b c d e f g is_a is_b is_c is_d is_e is_f is_g = rw (is_a, is_b, is_c, is_d, is_e, is_f, is_g) refl
 
-pub none_of_valid : (p : Parts) → IsValidFile p → meaning_fault p ≡ None
+pub none_of_valid : (p : FileParts) → IsValidFile p → meaning_fault p ≡ None
 unfolding meaning_fault
 none_of_valid p valid =
     none_of_each_seven (twice_fault p) (source_fault p) (cycle_fault p) (fields_fault p) (replay_fault p p.spout.kind)
@@ -414,5 +414,5 @@ none_of_valid p valid =
     (light (weight_of (plan_of p)) valid.weight)
 
 -- what a file says has no fault exactly where it is valid
-pub none_exactly_valid : (p : Parts) → IsInRange p → (meaning_fault p ≡ None) ↔ IsValidFile p
+pub none_exactly_valid : (p : FileParts) → IsInRange p → (meaning_fault p ≡ None) ↔ IsValidFile p
 none_exactly_valid p range = (valid_file p range, none_of_valid p)

@@ -7,9 +7,9 @@ use Rattle.std.proofs.lemmas.List.{map-append, length-map}
 use Rattle.std.proofs.lemmas.List.FromFn.{length-enumerate_from}
 use Rattle.std.proofs.lemmas.Option.{none-some, slice_get-map, get_or_from_slice_get}
 use Rattle.topology_plan.specs.declared.parts.Component.{Component}
-use Rattle.topology_reader.specs.declared.parts.BoltPart.{BoltPart}
-use Rattle.topology_reader.specs.declared.parts.StatePart.{StatePart}
-use Rattle.topology_reader.specs.declared.parts.Parts.{Parts}
+use Rattle.topology_form.specs.declared.parts.BoltPart.{BoltPart}
+use Rattle.topology_form.specs.declared.parts.StatePart.{StatePart}
+use Rattle.topology_form.specs.declared.parts.FileParts.{FileParts}
 use Rattle.topology_reader.specs.Wiring.{inputs_by_component, state_inputs}
 use Rattle.topology_reader.specs.Planned.{planned_bolt, planned_state, plan_of}
 use Rattle.topology_reader.specs.Meant.{fields_read, reads_at}
@@ -53,16 +53,16 @@ some_there (x ∷ xs) (suc k) within = some_there xs k (omega arith)
 -- ---- bolts and states
 
 -- component c is this state
-pub record IsStateAt (p : Parts) (c : ℕ) (state : StatePart) : Type 0 where
+pub record IsStateAt (p : FileParts) (c : ℕ) (state : StatePart) : Type 0 where
   pub place : ℕ
   pub number : c ≡ length p.bolts + place
   pub is : slice_get p.states place ≡ Some state
 
-abbrev pub IsBoltAt : Parts → ℕ → BoltPart → Type 0
+abbrev pub IsBoltAt : FileParts → ℕ → BoltPart → Type 0
 IsBoltAt p c bolt = slice_get p.bolts c ≡ Some bolt
 
 -- each number below the number of components is that of a bolt or of a state
-pub cases_component : (p : Parts) (c : ℕ) → c < length p.bolts + length p.states → ((bolt : BoltPart) × IsBoltAt p c bolt) ⊎ ((state : StatePart) × IsStateAt p c state)
+pub cases_component : (p : FileParts) (c : ℕ) → c < length p.bolts + length p.states → ((bolt : BoltPart) × IsBoltAt p c bolt) ⊎ ((state : StatePart) × IsStateAt p c state)
 cases_component p c within =
     elim (cases_lt c (length p.bolts)) [
       | inl bolt ↦ inl (some_there p.bolts c bolt)
@@ -72,28 +72,28 @@ cases_component p c within =
     ]
 
 -- a list over the bolts and then the states
-pub part_at_bolt : {X : Type 0} (f : BoltPart → X) (g : StatePart → X) (p : Parts) (c : ℕ) (bolt : BoltPart) → IsBoltAt p c bolt → slice_get (map f p.bolts ++ map g p.states) c ≡ Some (f bolt)
+pub part_at_bolt : {X : Type 0} (f : BoltPart → X) (g : StatePart → X) (p : FileParts) (c : ℕ) (bolt : BoltPart) → IsBoltAt p c bolt → slice_get (map f p.bolts ++ map g p.states) c ≡ Some (f bolt)
 part_at_bolt f g p c bolt is = place_left (map f p.bolts) (map g p.states) c (f bolt) (place_mapped f p.bolts c bolt is)
 
-pub part_at_state : {X : Type 0} (f : BoltPart → X) (g : StatePart → X) (p : Parts) (c : ℕ) (state : StatePart) → IsStateAt p c state → slice_get (map f p.bolts ++ map g p.states) c ≡ Some (g state)
+pub part_at_state : {X : Type 0} (f : BoltPart → X) (g : StatePart → X) (p : FileParts) (c : ℕ) (state : StatePart) → IsStateAt p c state → slice_get (map f p.bolts ++ map g p.states) c ≡ Some (g state)
 part_at_state f g p c state at =
     place_right (map f p.bolts) (map g p.states) c at.place (omega (arith, at.number, length-map p.bolts f))
     ∙ place_mapped g p.states at.place state at.is
 
-pub inputs_at_bolt : (p : Parts) (c : ℕ) (bolt : BoltPart) → IsBoltAt p c bolt → slice_get (inputs_by_component p) c ≡ Some bolt.inputs
+pub inputs_at_bolt : (p : FileParts) (c : ℕ) (bolt : BoltPart) → IsBoltAt p c bolt → slice_get (inputs_by_component p) c ≡ Some bolt.inputs
 inputs_at_bolt p c bolt is = part_at_bolt (λ (b : BoltPart). b.inputs) state_inputs p c bolt is
 
-pub inputs_at_state : (p : Parts) (c : ℕ) (state : StatePart) → IsStateAt p c state → slice_get (inputs_by_component p) c ≡ Some (state_inputs state)
+pub inputs_at_state : (p : FileParts) (c : ℕ) (state : StatePart) → IsStateAt p c state → slice_get (inputs_by_component p) c ≡ Some (state_inputs state)
 inputs_at_state p c state at = part_at_state (λ (b : BoltPart). b.inputs) state_inputs p c state at
 
-pub reads_at_bolt : (p : Parts) (c : ℕ) (bolt : BoltPart) → IsBoltAt p c bolt → reads_at p c ≡ fields_read bolt.operation
+pub reads_at_bolt : (p : FileParts) (c : ℕ) (bolt : BoltPart) → IsBoltAt p c bolt → reads_at p c ≡ fields_read bolt.operation
 reads_at_bolt p c bolt is =
     get_or_from_slice_get
     (map (λ (b : BoltPart). fields_read b.operation) p.bolts ++ map (λ (s : StatePart). s.key ++ option_to_list s.amount) p.states)
     c (fields_read bolt.operation) []
     (part_at_bolt (λ (b : BoltPart). fields_read b.operation) (λ (s : StatePart). s.key ++ option_to_list s.amount) p c bolt is)
 
-pub reads_at_state : (p : Parts) (c : ℕ) (state : StatePart) → IsStateAt p c state → reads_at p c ≡ state.key ++ option_to_list state.amount
+pub reads_at_state : (p : FileParts) (c : ℕ) (state : StatePart) → IsStateAt p c state → reads_at p c ≡ state.key ++ option_to_list state.amount
 reads_at_state p c state at =
     get_or_from_slice_get
     (map (λ (b : BoltPart). fields_read b.operation) p.bolts ++ map (λ (s : StatePart). s.key ++ option_to_list s.amount) p.states)
@@ -102,13 +102,13 @@ reads_at_state p c state at =
 
 -- ---- components of the plan
 
-pub component_at_bolt : (p : Parts) (c : ℕ) (bolt : BoltPart) → IsBoltAt p c bolt → slice_get (plan_of p).components c ≡ Some (planned_bolt p (c, bolt))
+pub component_at_bolt : (p : FileParts) (c : ℕ) (bolt : BoltPart) → IsBoltAt p c bolt → slice_get (plan_of p).components c ≡ Some (planned_bolt p (c, bolt))
 unfolding plan_of
 component_at_bolt p c bolt is =
     place_left (map (planned_bolt p) (enumerate_from 0 p.bolts)) (map (planned_state p) (enumerate_from (length p.bolts) p.states)) c (planned_bolt p (c, bolt))
     (place_mapped (planned_bolt p) (enumerate_from 0 p.bolts) c (c, bolt) (place_enumerated 0 p.bolts c c bolt (omega arith) is))
 
-pub component_at_state : (p : Parts) (c : ℕ) (state : StatePart) → IsStateAt p c state → slice_get (plan_of p).components c ≡ Some (planned_state p (c, state))
+pub component_at_state : (p : FileParts) (c : ℕ) (state : StatePart) → IsStateAt p c state → slice_get (plan_of p).components c ≡ Some (planned_state p (c, state))
 unfolding plan_of
 component_at_state p c state at =
     place_right (map (planned_bolt p) (enumerate_from 0 p.bolts)) (map (planned_state p) (enumerate_from (length p.bolts) p.states)) c at.place
@@ -116,7 +116,7 @@ component_at_state p c state at =
     ∙ place_mapped (planned_state p) (enumerate_from (length p.bolts) p.states) at.place (c, state) (place_enumerated (length p.bolts) p.states at.place c state at.number at.is)
 
 -- what is made of each component, from the bolts and the states
-pub map_components : {X : Type 0} (h : Component → X) (f : BoltPart → X) (g : StatePart → X) (p : Parts)
+pub map_components : {X : Type 0} (h : Component → X) (f : BoltPart → X) (g : StatePart → X) (p : FileParts)
     → ((c : ℕ) (bolt : BoltPart) → h (planned_bolt p (c, bolt)) ≡ f bolt)
     → ((c : ℕ) (state : StatePart) → h (planned_state p (c, state)) ≡ g state)
     → map h (plan_of p).components ≡ map f p.bolts ++ map g p.states

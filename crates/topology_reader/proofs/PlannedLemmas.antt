@@ -3,13 +3,13 @@ use Rattle.std.proofs.Common.{◌≡◌, ℕ, zero, suc, ◌+◌, ◌≤◌, Boo
 use Rattle.std.specs.List.{position_or_len}
 use Rattle.std.specs.Str.{bytes_eq}
 use Rattle.topology_reader.specs.Wiring.{place_of, sources_at, fields_after, first_fields, fields_in, fields_of, fields_to}
-use Rattle.topology_reader.specs.Ranges.{IsOperationInRange, IsBoltInRange, IsInRange}
+use Rattle.topology_form.specs.Ranges.{IsOperationInRange, IsBoltInRange, IsInRange}
 use Rattle.topology_plan.specs.declared.parts.Origin.{Origin}
 use Rattle.topology_plan.specs.declared.parts.Origin.TheVariants as origin
-use Rattle.topology_reader.specs.declared.parts.Operation.{Operation}
-use Rattle.topology_reader.specs.declared.parts.Operation.TheVariants.{Split, Project, Filter, Set, Len, Route, Flaky, Mute, Custom}
-use Rattle.topology_reader.specs.declared.parts.BoltPart.{BoltPart}
-use Rattle.topology_reader.specs.declared.parts.Parts.{Parts}
+use Rattle.topology_form.specs.declared.parts.Operation.{Operation}
+use Rattle.topology_form.specs.declared.parts.Operation.TheVariants.{Split, Project, Filter, Set, Len, Route, Flaky, Mute, Custom}
+use Rattle.topology_form.specs.declared.parts.BoltPart.{BoltPart}
+use Rattle.topology_form.specs.declared.parts.FileParts.{FileParts}
 use Rattle.std.specs.Option.{option_map_or}
 use Rattle.std.proofs.lemmas.List.Elements.{All-head, All-tail}
 
@@ -53,15 +53,15 @@ few_first : (fields : Origin → List (List ℕ)) (most : ℕ) → ((from : Orig
 few_first fields most few [] = omega arith
 few_first fields most few (first ∷ sources) = few first
 
-few_fields_in : (n : ℕ) (p : Parts) → IsInRange p → (from : Origin) → length (fields_in n p from) ≤ 8 + n
+few_fields_in : (n : ℕ) (p : FileParts) → IsInRange p → (from : Origin) → length (fields_in n p from) ≤ 8 + n
 few_fields_in n p range origin.Spout = omega (arith, range.spout.fields.1)
 few_fields_in zero p range (origin.Component c) = omega arith
 few_fields_in (suc n) p range (origin.Component c) =
     omega (arith, few_behind p.bolts c (first_fields (fields_in n p) (sources_at p c)) (8 + n) range.each_bolt (omega arith) (few_first (fields_in n p) (8 + n) (few_fields_in n p range) (sources_at p c)))
 
-pub few_fields_of : (p : Parts) → IsInRange p → (from : Origin) → length (fields_of p from) ≤ 40
+pub few_fields_of : (p : FileParts) → IsInRange p → (from : Origin) → length (fields_of p from) ≤ 40
 unfolding fields_of
 few_fields_of p range from = omega (arith, few_fields_in (length p.bolts) p range from, range.bolts)
 
-pub few_fields_to : (p : Parts) → IsInRange p → (c : ℕ) → length (fields_to p c) ≤ 40
+pub few_fields_to : (p : FileParts) → IsInRange p → (c : ℕ) → length (fields_to p c) ≤ 40
 few_fields_to p range c = few_first (fields_of p) 40 (few_fields_of p range) (sources_at p c)

@@ -7,47 +7,47 @@ use Rattle.std.proofs.lemmas.Bool.{and_parts, and_from, or_cases, or_left, or_ri
 use Rattle.std.proofs.lemmas.List.FromFn.{length-range_with_len}
 use Rattle.std.proofs.lemmas.List.Sums.{sum_by-cons, count_by-le-length}
 use Rattle.std.proofs.lemmas.Option.{none-some}
-use Rattle.topology_reader.specs.declared.parts.Parts.{Parts}
-use Rattle.topology_reader.specs.declared.parts.TopoFault.TheVariants.{Cycle}
+use Rattle.topology_form.specs.declared.parts.FileParts.{FileParts}
+use Rattle.topology_form.specs.declared.fault.TopoFault.TheVariants.{Cycle}
 use Rattle.topology_reader.specs.Wiring.{name_at, feeds, reaches_over, reaches}
 use Rattle.topology_reader.specs.Meant.{cycle_fault}
 use Rattle.topology_reader.specs.Reach.{IsWayThrough, IsWay}
 
 -- how many bolts there are before a component, on any way to it
-unfoldable pub rank : Parts → ℕ → ℕ
+unfoldable pub rank : FileParts → ℕ → ℕ
 rank p c = count_by (λ a. reaches p a c) (range_with_len 0 (length p.bolts))
 
 -- ---- ways over the first bolts
 
 -- what a way over the first n + 1 bolts is: one over the first n, or two of them that meet at n
-over_more : (n : ℕ) (p : Parts) (a b : ℕ) → reaches_over (suc n) p a b ≡ true → (reaches_over n p a b ≡ true) ⊎ ((reaches_over n p a n ≡ true) × (reaches_over n p n b ≡ true))
+over_more : (n : ℕ) (p : FileParts) (a b : ℕ) → reaches_over (suc n) p a b ≡ true → (reaches_over n p a b ≡ true) ⊎ ((reaches_over n p a n ≡ true) × (reaches_over n p n b ≡ true))
 over_more n p a b way =
     elim (or_cases (reaches_over n p a b) (reaches_over n p a n && reaches_over n p n b) way) [
       | inl direct ↦ inl direct
       | inr through ↦ inr (and_parts (reaches_over n p a n) (reaches_over n p n b) through)
     ]
 
-over_same : (n : ℕ) (p : Parts) (a b : ℕ) → reaches_over n p a b ≡ true → reaches_over (suc n) p a b ≡ true
+over_same : (n : ℕ) (p : FileParts) (a b : ℕ) → reaches_over n p a b ≡ true → reaches_over (suc n) p a b ≡ true
 over_same n p a b way = or_left (reaches_over n p a b) (reaches_over n p a n && reaches_over n p n b) way
 
-over_meeting : (n : ℕ) (p : Parts) (a b : ℕ) → reaches_over n p a n ≡ true → reaches_over n p n b ≡ true → reaches_over (suc n) p a b ≡ true
+over_meeting : (n : ℕ) (p : FileParts) (a b : ℕ) → reaches_over n p a n ≡ true → reaches_over n p n b ≡ true → reaches_over (suc n) p a b ≡ true
 over_meeting n p a b first second =
     or_right (reaches_over n p a b) (reaches_over n p a n && reaches_over n p n b) (and_from (reaches_over n p a n) (reaches_over n p n b) first second)
 
 -- a way to the new bolt, and one from it, needs it in between no more
-over_to_last : (n : ℕ) (p : Parts) (a : ℕ) → reaches_over (suc n) p a n ≡ true → reaches_over n p a n ≡ true
+over_to_last : (n : ℕ) (p : FileParts) (a : ℕ) → reaches_over (suc n) p a n ≡ true → reaches_over n p a n ≡ true
 over_to_last n p a way = elim (over_more n p a n way) [ inl direct ↦ direct | inr through ↦ through.0 ]
 
-over_from_last : (n : ℕ) (p : Parts) (b : ℕ) → reaches_over (suc n) p n b ≡ true → reaches_over n p n b ≡ true
+over_from_last : (n : ℕ) (p : FileParts) (b : ℕ) → reaches_over (suc n) p n b ≡ true → reaches_over n p n b ≡ true
 over_from_last n p b way = elim (over_more n p n b way) [ inl direct ↦ direct | inr through ↦ through.1 ]
 
 -- one subscription is a way
-pub over_from_feeds : (n : ℕ) (p : Parts) (a b : ℕ) → feeds p a b ≡ true → reaches_over n p a b ≡ true
-over_from_feeds zero p a b way = way
+pub over_from_feeds : (n : ℕ) (p : FileParts) (a b : ℕ) → feeds p a b ≡ true → reaches_over n p a b ≡ true
+over_from_feeds zero p a b grouping = grouping
 over_from_feeds (suc n) p a b way = over_same n p a b (over_from_feeds n p a b way)
 
 -- two ways that meet at one of the first n bolts are a way over these
-pub over_joined : (n : ℕ) (p : Parts) (a m b : ℕ) → m < n → reaches_over n p a m ≡ true → reaches_over n p m b ≡ true → reaches_over n p a b ≡ true
+pub over_joined : (n : ℕ) (p : FileParts) (a m b : ℕ) → m < n → reaches_over n p a m ≡ true → reaches_over n p m b ≡ true → reaches_over n p a b ≡ true
 over_joined zero p a m b below first second = absurd (omega arith)
 over_joined (suc n) p a m b below first second =
     elim (cases_order m n) [
@@ -70,25 +70,25 @@ over_joined (suc n) p a m b below first second =
 
 -- ---- any ways
 
-pub reaches_from_feeds : (p : Parts) (a b : ℕ) → feeds p a b ≡ true → reaches p a b ≡ true
+pub reaches_from_feeds : (p : FileParts) (a b : ℕ) → feeds p a b ≡ true → reaches p a b ≡ true
 unfolding reaches
 reaches_from_feeds p a b way = over_from_feeds (length p.bolts) p a b way
 
-pub reaches_joined : (p : Parts) (a m b : ℕ) → m < length p.bolts → reaches p a m ≡ true → reaches p m b ≡ true → reaches p a b ≡ true
+pub reaches_joined : (p : FileParts) (a m b : ℕ) → m < length p.bolts → reaches p a m ≡ true → reaches p m b ≡ true → reaches p a b ≡ true
 unfolding reaches
 reaches_joined p a m b below first second = over_joined (length p.bolts) p a m b below first second
 
 -- a way goes on along a feeding
-pub reaches_on : (p : Parts) (a b c : ℕ) → b < length p.bolts → reaches p a b ≡ true → feeds p b c ≡ true → reaches p a c ≡ true
+pub reaches_on : (p : FileParts) (a b c : ℕ) → b < length p.bolts → reaches p a b ≡ true → feeds p b c ≡ true → reaches p a c ≡ true
 reaches_on p a b c below way fed = reaches_joined p a b c below way (reaches_from_feeds p b c fed)
 
 -- ---- ways, bolt by bolt
 
-through_both : (p : Parts) (a m b : ℕ) (first second : List ℕ) → m < length p.bolts → IsWayThrough p a first m → IsWayThrough p m second b → IsWayThrough p a (first ++ m ∷ second) b
+through_both : (p : FileParts) (a m b : ℕ) (first second : List ℕ) → m < length p.bolts → IsWayThrough p a first m → IsWayThrough p m second b → IsWayThrough p a (first ++ m ∷ second) b
 through_both p a m b [] second below to on = (below, to, on)
 through_both p a m b (next ∷ first) second below to on = (to.0, to.1, through_both p next m b first second below to.2 on)
 
-way_from_over : (n : ℕ) (p : Parts) (a b : ℕ) → n ≤ length p.bolts → reaches_over n p a b ≡ true → IsWay p a b
+way_from_over : (n : ℕ) (p : FileParts) (a b : ℕ) → n ≤ length p.bolts → reaches_over n p a b ≡ true → IsWay p a b
 way_from_over zero p a b below way = ([], way)
 way_from_over (suc n) p a b below way =
     elim (over_more n p a b way) [
@@ -99,16 +99,16 @@ way_from_over (suc n) p a b below way =
           (to.0 ++ n ∷ on.0, through_both p a n b to.0 on.0 (omega arith) to.1 on.1)
     ]
 
-reaches_through : (p : Parts) (a b : ℕ) (bolts : List ℕ) → IsWayThrough p a bolts b → reaches p a b ≡ true
+reaches_through : (p : FileParts) (a b : ℕ) (bolts : List ℕ) → IsWayThrough p a bolts b → reaches p a b ≡ true
 reaches_through p a b [] fed = reaches_from_feeds p a b fed
 reaches_through p a b (next ∷ bolts) through = reaches_joined p a next b through.0 (reaches_from_feeds p a next through.1) (reaches_through p next b bolts through.2)
 
-way_from_reaches : (p : Parts) (a b : ℕ) → reaches p a b ≡ true → IsWay p a b
+way_from_reaches : (p : FileParts) (a b : ℕ) → reaches p a b ≡ true → IsWay p a b
 unfolding reaches
 way_from_reaches p a b way = way_from_over (length p.bolts) p a b (omega arith) way
 
 -- what is reached is that to which there is a way
-pub reaches_by_way : (p : Parts) (a b : ℕ) → (reaches p a b ≡ true) ↔ IsWay p a b
+pub reaches_by_way : (p : FileParts) (a b : ℕ) → (reaches p a b ≡ true) ↔ IsWay p a b
 reaches_by_way p a b = (way_from_reaches p a b, λ way. reaches_through p a b way.0 way.1)
 
 -- ---- counting
@@ -150,7 +150,7 @@ none_mapped : {A B : Type 0} (f : A → B) (o : Option A) → option_map f o ≡
 none_mapped f None none = refl
 none_mapped f (Some x) none = absurd (none-some (f x) (sym none))
 
-pub rank-le : (p : Parts) (c : ℕ) → rank p c ≤ length p.bolts
+pub rank-le : (p : FileParts) (c : ℕ) → rank p c ≤ length p.bolts
 unfolding rank
 rank-le p c = omega (arith, count_by-le-length (λ a. reaches p a c) (range_with_len 0 (length p.bolts)), length-range_with_len 0 (length p.bolts))
 
@@ -166,12 +166,12 @@ none_found test first (suc n) none c from to =
     ]
 
 -- where no fault is told, no bolt is reached from itself
-pub no_cycle : (p : Parts) (c : ℕ) → cycle_fault p ≡ None → c < length p.bolts → reaches p c c ≡ false
+pub no_cycle : (p : FileParts) (c : ℕ) → cycle_fault p ≡ None → c < length p.bolts → reaches p c c ≡ false
 no_cycle p c none below =
     none_found (λ a. reaches p a a) 0 (length p.bolts) (none_mapped (λ a. Cycle (name_at p a)) (find (λ a. reaches p a a) (range_with_len 0 (length p.bolts))) none) c (omega arith) (omega arith)
 
 -- a fed component has more bolts before it than the bolt that feeds it
-pub rank_grows : (p : Parts) (c d : ℕ) → cycle_fault p ≡ None → c < length p.bolts → feeds p c d ≡ true → rank p c < rank p d
+pub rank_grows : (p : FileParts) (c d : ℕ) → cycle_fault p ≡ None → c < length p.bolts → feeds p c d ≡ true → rank p c < rank p d
 unfolding rank
 rank_grows p c d none below fed =
     count_lt (λ a. reaches p a c) (λ a. reaches p a d) 0 (length p.bolts) c

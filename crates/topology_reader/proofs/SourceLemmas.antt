@@ -3,19 +3,19 @@ use Rattle.std.proofs.Common.{◌≡◌, ℕ, List, [], ◌∷◌, ◌++◌, map
 use Rattle.std.proofs.lemmas.List.{map-append}
 use Rattle.std.proofs.lemmas.Simd.{map-map}
 use Rattle.std.specs.List.{filter_map, cons_option}
-use Rattle.topology_reader.specs.declared.parts.BoltPart.{BoltPart}
-use Rattle.topology_reader.specs.declared.parts.Input.{Input}
-use Rattle.topology_reader.specs.declared.parts.Parts.{Parts}
-use Rattle.topology_reader.specs.declared.parts.StatePart.{StatePart}
-use Rattle.topology_reader.specs.declared.parts.Way.TheVariants as way
+use Rattle.topology_form.specs.declared.parts.BoltPart.{BoltPart}
+use Rattle.topology_form.specs.declared.parts.Input.{Input}
+use Rattle.topology_form.specs.declared.parts.FileParts.{FileParts}
+use Rattle.topology_form.specs.declared.parts.StatePart.{StatePart}
+use Rattle.topology_form.specs.declared.parts.GroupingPart.TheVariants as said
 use Rattle.topology_reader.specs.Sources.{sources_among, source_table}
 use Rattle.topology_reader.specs.Wiring.{source_of, state_inputs}
 
-filter_map-state_inputs : (p : Parts) (key names : List (List ℕ)) → filter_map (λ (input : Input). source_of p input.from) (map (λ from. record { from = from; way = way.Fields key }) names) ≡ filter_map (source_of p) names
+filter_map-state_inputs : (p : FileParts) (key names : List (List ℕ)) → filter_map (λ (input : Input). source_of p input.from) (map (λ from. record { from = from; grouping = said.Fields key }) names) ≡ filter_map (source_of p) names
 filter_map-state_inputs p key [] = refl
 filter_map-state_inputs p key (name ∷ names) = ap (cons_option (source_of p name)) (filter_map-state_inputs p key names)
 
-map-state_inputs : (p : Parts) (states : List StatePart) → map (sources_among p) (map state_inputs states) ≡ map (λ (state : StatePart). filter_map (source_of p) state.inputs) states
+map-state_inputs : (p : FileParts) (states : List StatePart) → map (sources_among p) (map state_inputs states) ≡ map (λ (state : StatePart). filter_map (source_of p) state.inputs) states
 map-state_inputs p [] = refl
 map-state_inputs p (state ∷ states) =
     let head : sources_among p (state_inputs state) ≡ filter_map (source_of p) state.inputs = filter_map-state_inputs p state.key state.inputs in
@@ -23,7 +23,7 @@ map-state_inputs p (state ∷ states) =
     cc
 
 -- bolt by bolt, and then state by state
-pub source_table-parts : (p : Parts) → source_table p ≡ map (λ (bolt : BoltPart). sources_among p bolt.inputs) p.bolts ++ map (λ (state : StatePart). filter_map (source_of p) state.inputs) p.states
+pub source_table-parts : (p : FileParts) → source_table p ≡ map (λ (bolt : BoltPart). sources_among p bolt.inputs) p.bolts ++ map (λ (state : StatePart). filter_map (source_of p) state.inputs) p.states
 source_table-parts p =
     map-append (sources_among p) (map (λ (bolt : BoltPart). bolt.inputs) p.bolts) (map state_inputs p.states)
     ∙ ap (λ rows. rows ++ map (sources_among p) (map state_inputs p.states)) (map-map (sources_among p) (λ (bolt : BoltPart). bolt.inputs) p.bolts)

@@ -13,21 +13,21 @@ use Rattle.topology_plan.specs.declared.parts.Component.{Component}
 use Rattle.topology_plan.specs.declared.parts.Origin.{Origin}
 use Rattle.topology_plan.specs.declared.parts.Origin.TheVariants as origin
 use Rattle.topology_plan.specs.declared.parts.Sub.{Sub}
-use Rattle.topology_reader.specs.declared.parts.TopoFault.TheVariants.{WrongKind}
-use Rattle.topology_reader.specs.declared.parts.Way.{Way}
-use Rattle.topology_reader.specs.declared.parts.Way.TheVariants as way
-use Rattle.topology_reader.specs.declared.parts.Input.{Input}
-use Rattle.topology_reader.specs.declared.parts.Operation.{Operation}
-use Rattle.topology_reader.specs.declared.parts.Operation.TheVariants.{Split, Project, Filter, Set, Len, Route, Flaky, Mute, Custom}
-use Rattle.topology_reader.specs.declared.parts.BoltPart.{BoltPart}
-use Rattle.topology_reader.specs.declared.parts.Parts.{Parts}
+use Rattle.topology_form.specs.declared.fault.TopoFault.TheVariants.{WrongKind}
+use Rattle.topology_form.specs.declared.parts.GroupingPart.{GroupingPart}
+use Rattle.topology_form.specs.declared.parts.GroupingPart.TheVariants as said
+use Rattle.topology_form.specs.declared.parts.Input.{Input}
+use Rattle.topology_form.specs.declared.parts.Operation.{Operation}
+use Rattle.topology_form.specs.declared.parts.Operation.TheVariants.{Split, Project, Filter, Set, Len, Route, Flaky, Mute, Custom}
+use Rattle.topology_form.specs.declared.parts.BoltPart.{BoltPart}
+use Rattle.topology_form.specs.declared.parts.FileParts.{FileParts}
 use Rattle.topology_plan.specs.Topology.{subs_of}
 use Rattle.topology_plan.specs.Valid.{IsBetween}
 use Rattle.topology_plan.specs.Wired.{width_of, AreWithin, IsRouteOf, IsFrom}
 use Rattle.topology_reader.specs.Wiring.{bolt_names, place_of, source_of, state_inputs, inputs_by_component, inputs_at, sources_at, fields_after, fields_of, fields_to, operation_at}
 use Rattle.topology_reader.specs.Planned.{number_of, numbers_of, planned_operation, route_field, planned_grouping, is_from, subs_of_component, planned_subs, planned_bolt, plan_of}
 use Rattle.topology_reader.specs.Meant.{key_of, projected, is_route, chooses, direct_fault, fields_read, twice_fault}
-use Rattle.topology_reader.specs.Ranges.{IsWayInRange, IsInputInRange, IsBoltInRange, IsStateInRange, IsInRange}
+use Rattle.topology_form.specs.Ranges.{IsGroupingInRange, IsInputInRange, IsBoltInRange, IsStateInRange, IsInRange}
 use Rattle.topology_reader.proofs.Listed.{IsIn, All-from_in, All-at_in, in_map, to_map, in_append, in_place, to_left}
 use Rattle.topology_reader.proofs.Distinct.{bytes_same, some_mapped, place_named, place_within, place_there, AreApart, AllPairs-from_apart, IsRising, rising_above, increasing_from_rising}
 use Rattle.topology_reader.proofs.Numbered.{map_twice, some_there, reads_at_bolt, component_at_bolt}
@@ -36,11 +36,11 @@ use Rattle.topology_reader.proofs.Columns.{to_sources, fields_of_spout, fields_o
 
 -- ---- one name of a source
 
-abbrev IsNamed : Parts → Origin → List ℕ → Type 0
+abbrev IsNamed : FileParts → Origin → List ℕ → Type 0
 IsNamed p origin.Spout name = p.spout.name ≡ name
 IsNamed p (origin.Component c) name = slice_get (bolt_names p) c ≡ Some name
 
-source_named : (p : Parts) (name : List ℕ) (from : Origin) → source_of p name ≡ Some from → IsNamed p from name
+source_named : (p : FileParts) (name : List ℕ) (from : Origin) → source_of p name ≡ Some from → IsNamed p from name
 source_named p name origin.Spout is =
     elim (cases_Bool (bytes_eq p.spout.name name)) [
       | inl spout ↦ bytes_same p.spout.name name spout
@@ -60,7 +60,7 @@ source_named p name (origin.Component c) is =
           subst (λ k. slice_get (bolt_names p) k ≡ Some name) same (place_named (bolt_names p) name found.0 found.1)
     ]
 
-one_name : (p : Parts) (from : Origin) (a b : List ℕ) → IsNamed p from a → IsNamed p from b → a ≡ b
+one_name : (p : FileParts) (from : Origin) (a b : List ℕ) → IsNamed p from a → IsNamed p from b → a ≡ b
 one_name p origin.Spout a b first second = sym first ∙ second
 one_name p (origin.Component c) a b first second = same_Some a b (sym first ∙ second)
 
@@ -70,7 +70,7 @@ none_kept : {X : Type 0} (test : X → Bool) (xs : List X) → ((x : X) → IsIn
 none_kept test [] each = refl
 none_kept test (x ∷ xs) each = cond-false (test x) (x ∷ filter test xs) (filter test xs) (each x (inl refl)) ∙ none_kept test xs (λ y at. each y (inr at))
 
-one_kept : (p : Parts) (from : Origin) (inputs : List Input) → AreApart (map (λ (input : Input). input.from) inputs)
+one_kept : (p : FileParts) (from : Origin) (inputs : List Input) → AreApart (map (λ (input : Input). input.from) inputs)
     → (filter (is_from p from) inputs ≡ []) ⊎ ((input : Input) × (filter (is_from p from) inputs ≡ input ∷ []))
 one_kept p from [] apart = inl refl
 one_kept p from (input ∷ inputs) apart =
@@ -92,19 +92,19 @@ one_kept p from (input ∷ inputs) apart =
           ]
     ]
 
-rising_subs : (p : Parts) (from : Origin) (n : ℕ) (all : List (List Input)) → ((inputs : List Input) → IsIn inputs all → AreApart (map (λ (input : Input). input.from) inputs))
+rising_subs : (p : FileParts) (from : Origin) (n : ℕ) (all : List (List Input)) → ((inputs : List Input) → IsIn inputs all → AreApart (map (λ (input : Input). input.from) inputs))
     → IsRising n (map (λ (sub : Sub). sub.to) (flat_map (subs_of_component p from) (enumerate_from n all)))
 rising_subs p from n [] apart = tt
 rising_subs p from n (inputs ∷ all) apart =
     let later = flat_map (subs_of_component p from) (enumerate_from (n + 1) all) in
     let rest : IsRising (n + 1) (map (λ (sub : Sub). sub.to) later) = rising_subs p from (n + 1) all (λ others at. apart others (inr at)) in
-    let made = λ (kept : List Input). map (λ (sub : Sub). sub.to) (map (λ (input : Input). record { to = n; grouping = planned_grouping p from input.way }) kept ++ later) in
+    let made = λ (kept : List Input). map (λ (sub : Sub). sub.to) (map (λ (input : Input). record { to = n; grouping = planned_grouping p from input.grouping }) kept ++ later) in
     elim (one_kept p from inputs (apart inputs (inl refl))) [
       | inl none ↦ subst (λ kept. IsRising n (made kept)) (sym none) (rising_above n (n + 1) (map (λ (sub : Sub). sub.to) later) (omega arith) rest)
       | inr one ↦ subst (λ kept. IsRising n (made kept)) (sym one.1) (omega arith, rest)
     ]
 
-pub inputs_apart : (p : Parts) (inputs : List Input) → twice_fault p ≡ None → IsIn inputs (inputs_by_component p) → AreApart (map (λ (input : Input). input.from) inputs)
+pub inputs_apart : (p : FileParts) (inputs : List Input) → twice_fault p ≡ None → IsIn inputs (inputs_by_component p) → AreApart (map (λ (input : Input). input.from) inputs)
 inputs_apart p inputs none at =
     elim (in_append (map (λ (bolt : BoltPart). bolt.inputs) p.bolts) (map state_inputs p.states) inputs at) [
       | inl left ↦
@@ -113,16 +113,16 @@ inputs_apart p inputs none at =
       | inr right ↦
           let state = in_map state_inputs p.states inputs right in
           let names : map (λ (input : Input). input.from) (state_inputs state.0) ≡ state.0.inputs =
-          map_twice (λ (input : Input). input.from) (λ from. record { from = from; way = way.Fields state.0.key }) state.0.inputs ∙ map-id state.0.inputs
+          map_twice (λ (input : Input). input.from) (λ from. record { from = from; grouping = said.Fields state.0.key }) state.0.inputs ∙ map-id state.0.inputs
           in
           subst (λ (is : List Input). AreApart (map (λ (input : Input). input.from) is)) state.2 (subst AreApart (sym names) (state_list_apart p state.0 state.0.inputs none state.1 (inr (inl refl))))
     ]
 
-once_from : (p : Parts) (from : Origin) → twice_fault p ≡ None → IsStrictlyIncreasing (map (λ (sub : Sub). sub.to) (planned_subs p from))
+once_from : (p : FileParts) (from : Origin) → twice_fault p ≡ None → IsStrictlyIncreasing (map (λ (sub : Sub). sub.to) (planned_subs p from))
 once_from p from none =
     increasing_from_rising 0 (map (λ (sub : Sub). sub.to) (planned_subs p from)) (rising_subs p from 0 (inputs_by_component p) (λ inputs at. inputs_apart p inputs none at))
 
-pub once_planned : (p : Parts) (from : Origin) → twice_fault p ≡ None → IsStrictlyIncreasing (map (λ (sub : Sub). sub.to) (subs_of (plan_of p) from))
+pub once_planned : (p : FileParts) (from : Origin) → twice_fault p ≡ None → IsStrictlyIncreasing (map (λ (sub : Sub). sub.to) (subs_of (plan_of p) from))
 unfolding plan_of
 once_planned p origin.Spout none = once_from p origin.Spout none
 once_planned p (origin.Component c) none =
@@ -166,7 +166,7 @@ numbers_within fields names count apart there = (
 
 -- ---- widths
 
-pub width_planned : (p : Parts) (from : Origin) → IsBoltOrSpout p from → width_of (plan_of p) from ≡ length (fields_of p from)
+pub width_planned : (p : FileParts) (from : Origin) → IsBoltOrSpout p from → width_of (plan_of p) from ≡ length (fields_of p from)
 unfolding plan_of
 width_planned p origin.Spout there = sym (ap (λ (fields : List (List ℕ)). length fields) (fields_of_spout p))
 width_planned p (origin.Component c) there =
@@ -208,7 +208,7 @@ route_within fields (Flaky below) route there = absurd (false≢true route)
 route_within fields (Mute below) route there = absurd (false≢true route)
 route_within fields Custom route there = absurd (false≢true route)
 
-pub chosen_by_route : (p : Parts) (input : Input) (from : Origin) → source_of p input.from ≡ Some from → direct_fault p input way.Direct ≡ None → option_map_or is_route (operation_at p from) false ≡ true
+pub chosen_by_route : (p : FileParts) (input : Input) (from : Origin) → source_of p input.from ≡ Some from → direct_fault p input said.Direct ≡ None → option_map_or is_route (operation_at p from) false ≡ true
 chosen_by_route p input from source none =
     elim (cases_Bool (chooses p input)) [
       | inl chosen ↦ subst (λ there. option_map_or is_route (option_and_then (operation_at p) there) false ≡ true) source chosen
@@ -217,38 +217,38 @@ chosen_by_route p input from source none =
 
 -- ---- groupings
 
-way_in_range : (p : Parts) (inputs : List Input) (input : Input) → IsInRange p → IsIn inputs (inputs_by_component p) → IsIn input inputs → IsWayInRange input.way
+way_in_range : (p : FileParts) (inputs : List Input) (input : Input) → IsInRange p → IsIn inputs (inputs_by_component p) → IsIn input inputs → IsGroupingInRange input.grouping
 way_in_range p inputs input range at listed =
     elim (in_append (map (λ (bolt : BoltPart). bolt.inputs) p.bolts) (map state_inputs p.states) inputs at) [
       | inl left ↦
           let bolt = in_map (λ (bolt : BoltPart). bolt.inputs) p.bolts inputs left in
           let limits : IsBoltInRange bolt.0 = All-at_in IsBoltInRange p.bolts range.each_bolt bolt.0 bolt.1 in
-          All-at_in IsInputInRange bolt.0.inputs limits.ways input (subst (IsIn input) (sym bolt.2) listed)
+          All-at_in IsInputInRange bolt.0.inputs limits.groupings input (subst (IsIn input) (sym bolt.2) listed)
       | inr right ↦
           let state = in_map state_inputs p.states inputs right in
           let limits : IsStateInRange state.0 = All-at_in IsStateInRange p.states range.each_state state.0 state.1 in
-          let made = in_map (λ from. record { from = from; way = way.Fields state.0.key }) state.0.inputs input (subst (IsIn input) (sym state.2) listed) in
-          subst (λ (i : Input). IsWayInRange i.way) made.2 limits.key
+          let made = in_map (λ from. record { from = from; grouping = said.Fields state.0.key }) state.0.inputs input (subst (IsIn input) (sym state.2) listed) in
+          subst (λ (i : Input). IsGroupingInRange i.grouping) made.2 limits.key
     ]
 
 -- no name stands twice in a key
-pub key_apart : (p : Parts) (inputs : List Input) (input : Input) → twice_fault p ≡ None → IsIn inputs (inputs_by_component p) → IsIn input inputs → AreApart (key_of input.way)
+pub key_apart : (p : FileParts) (inputs : List Input) (input : Input) → twice_fault p ≡ None → IsIn inputs (inputs_by_component p) → IsIn input inputs → AreApart (key_of input.grouping)
 key_apart p inputs input none at listed =
     elim (in_append (map (λ (bolt : BoltPart). bolt.inputs) p.bolts) (map state_inputs p.states) inputs at) [
       | inl left ↦
           let bolt = in_map (λ (bolt : BoltPart). bolt.inputs) p.bolts inputs left in
           let own : IsIn input bolt.0.inputs = subst (IsIn input) (sym bolt.2) listed in
-          bolt_list_apart p bolt.0 (key_of input.way) none bolt.1
-          (inr (to_left (map (λ (i : Input). key_of i.way) bolt.0.inputs) (projected bolt.0.operation ∷ []) (key_of input.way) (to_map (λ (i : Input). key_of i.way) bolt.0.inputs input own)))
+          bolt_list_apart p bolt.0 (key_of input.grouping) none bolt.1
+          (inr (to_left (map (λ (i : Input). key_of i.grouping) bolt.0.inputs) (projected bolt.0.operation ∷ []) (key_of input.grouping) (to_map (λ (i : Input). key_of i.grouping) bolt.0.inputs input own)))
       | inr right ↦
           let state = in_map state_inputs p.states inputs right in
-          let made = in_map (λ from. record { from = from; way = way.Fields state.0.key }) state.0.inputs input (subst (IsIn input) (sym state.2) listed) in
-          subst (λ (i : Input). AreApart (key_of i.way)) made.2 (state_list_apart p state.0 state.0.key none state.1 (inl refl))
+          let made = in_map (λ from. record { from = from; grouping = said.Fields state.0.key }) state.0.inputs input (subst (IsIn input) (sym state.2) listed) in
+          subst (λ (i : Input). AreApart (key_of i.grouping)) made.2 (state_list_apart p state.0 state.0.key none state.1 (inl refl))
     ]
 
-module _ (p : Parts) (range : IsInRange p) (faultless : HasNoFault p) where
+module _ (p : FileParts) (range : IsInRange p) (faultless : HasNoFault p) where
   -- a direct grouping comes from a route
-  direct_planned : (c : ℕ) → c < length p.bolts → option_map_or is_route (operation_at p (origin.Component c)) false ≡ true → IsFrom (plan_of p) (origin.Component c) (planned_grouping p (origin.Component c) way.Direct)
+  direct_planned : (c : ℕ) → c < length p.bolts → option_map_or is_route (operation_at p (origin.Component c)) false ≡ true → IsFrom (plan_of p) (origin.Component c) (planned_grouping p (origin.Component c) said.Direct)
   direct_planned c within chosen =
       let bolt = some_there p.bolts c within in
       let here : HasNoFaultAt p c = no_fault_here p range faultless c (omega arith) in
@@ -266,15 +266,15 @@ module _ (p : Parts) (range : IsInRange p) (faultless : HasNoFault p) where
             (subst (λ (names : List (List ℕ)). route_field (fields_to p c) bolt.0.operation < length names) (sym fields) (route_within (fields_to p c) bolt.0.operation route reads)),
       )
 
-  way_planned : (from : Origin) (by : Way) → IsBoltOrSpout p from → IsWayInRange by → AreApart (key_of by) → ((name : List ℕ) → IsIn name (key_of by) → IsIn name (fields_of p from))
-      → (by ≡ way.Direct → option_map_or is_route (operation_at p from) false ≡ true) → IsFrom (plan_of p) from (planned_grouping p from by)
-  way_planned from way.Shuffle there limits apart keys direct = tt
-  way_planned from (way.Fields key) there limits apart keys direct =
+  way_planned : (from : Origin) (by : GroupingPart) → IsBoltOrSpout p from → IsGroupingInRange by → AreApart (key_of by) → ((name : List ℕ) → IsIn name (key_of by) → IsIn name (fields_of p from))
+      → (by ≡ said.Direct → option_map_or is_route (operation_at p from) false ≡ true) → IsFrom (plan_of p) from (planned_grouping p from by)
+  way_planned from said.Shuffle there limits apart keys direct = tt
+  way_planned from (said.Fields key) there limits apart keys direct =
       subst (AreWithin (numbers_of (fields_of p from) key)) (sym (width_planned p from there)) (numbers_within (fields_of p from) key limits apart keys)
-  way_planned from way.All there limits apart keys direct = tt
-  way_planned from way.Global there limits apart keys direct = tt
-  way_planned origin.Spout way.Direct there limits apart keys direct = absurd (false≢true (direct refl))
-  way_planned (origin.Component c) way.Direct there limits apart keys direct = direct_planned c there (direct refl)
+  way_planned from said.All there limits apart keys direct = tt
+  way_planned from said.Global there limits apart keys direct = tt
+  way_planned origin.Spout said.Direct there limits apart keys direct = absurd (false≢true (direct refl))
+  way_planned (origin.Component c) said.Direct there limits apart keys direct = direct_planned c there (direct refl)
 
   pub grouping_planned : (from : Origin) (sub : Sub) → IsPlanned p from sub → IsFrom (plan_of p) from sub.grouping
   grouping_planned from sub planned =
@@ -284,11 +284,11 @@ module _ (p : Parts) (range : IsInRange p) (faultless : HasNoFault p) where
       let source : IsIn from (sources_at p sub.to) = to_sources p sub.to planned.input from listed planned.source in
       let same : fields_of p from ≡ fields_to p sub.to = here.same from source in
       subst (IsFrom (plan_of p) from) (sym planned.grouping)
-      (way_planned from planned.input.way (source_there p sub.to from source)
+      (way_planned from planned.input.grouping (source_there p sub.to from source)
       (way_in_range p planned.inputs planned.input range (in_place (inputs_by_component p) sub.to planned.inputs planned.consumer) planned.listed)
       (key_apart p planned.inputs planned.input faultless.twice (in_place (inputs_by_component p) sub.to planned.inputs planned.consumer) planned.listed)
       (λ name at. subst (IsIn name) (sym same) (here.keys planned.input listed name at))
-      (λ direct. chosen_by_route p planned.input from planned.source (subst (λ (by : Way). direct_fault p planned.input by ≡ None) direct (here.direct planned.input listed))))
+      (λ direct. chosen_by_route p planned.input from planned.source (subst (λ (by : GroupingPart). direct_fault p planned.input by ≡ None) direct (here.direct planned.input listed))))
 
   pub groupings_planned : (from : Origin) → All (λ (sub : Sub). IsFrom (plan_of p) from sub.grouping) (subs_of (plan_of p) from)
   groupings_planned from =

@@ -9,10 +9,10 @@ use Rattle.std.specs.declared.alloc.Global.{Global}
 use Rattle.topology_plan.specs.declared.parts.Origin.{Origin}
 use Rattle.topology_plan.specs.declared.parts.Origin.TheVariants as origin
 use Rattle.topology_plan.specs.declared.parts.Sub.{Sub}
-use Rattle.topology_reader.specs.declared.parts.BoltPart.{BoltPart}
-use Rattle.topology_reader.specs.declared.parts.StatePart.{StatePart}
-use Rattle.topology_reader.specs.declared.parts.Input.{Input}
-use Rattle.topology_reader.specs.declared.parts.Parts.{Parts}
+use Rattle.topology_form.specs.declared.parts.BoltPart.{BoltPart}
+use Rattle.topology_form.specs.declared.parts.StatePart.{StatePart}
+use Rattle.topology_form.specs.declared.parts.Input.{Input}
+use Rattle.topology_form.specs.declared.parts.FileParts.{FileParts}
 use Rattle.topology_reader.specs.Planned.{is_origin, is_from, planned_grouping, subs_of_component, planned_subs}
 use Rattle.topology_reader.specs.Subscribed.{SubTable, with_sub, with_input, with_inputs, no_subs}
 use Rattle.topology_reader.specs.Wires.{items_by}
@@ -37,7 +37,7 @@ map-enumerate g n [] = refl
 map-enumerate g n (x ∷ xs) = ap (λ ys. g n ∷ ys) (map-enumerate g (n + 1) xs)
 
 -- one component more
-pub walk_next : {X : Type 0} (p : Parts) (rows : X → List Input) (n : ℕ) (xs : List X) (i : ℕ) (x : X) (start old new : SubTable) → i < length xs → x ≡ get_or xs i x → old ≡ fold (with_inputs p) start (enumerate_from n (map rows (take i xs))) → new ≡ with_inputs p old (n + i, rows x) → new ≡ fold (with_inputs p) start (enumerate_from n (map rows (take (i + 1) xs)))
+pub walk_next : {X : Type 0} (p : FileParts) (rows : X → List Input) (n : ℕ) (xs : List X) (i : ℕ) (x : X) (start old new : SubTable) → i < length xs → x ≡ get_or xs i x → old ≡ fold (with_inputs p) start (enumerate_from n (map rows (take i xs))) → new ≡ with_inputs p old (n + i, rows x) → new ≡ fold (with_inputs p) start (enumerate_from n (map rows (take (i + 1) xs)))
 walk_next p rows n xs i x start old new below is so_far added =
     let whole : take (i + 1) xs ≡ take i xs ++ x ∷ [] = take_more xs i x below ∙ ap (λ z. take i xs ++ z ∷ []) (sym is) in
     let count : n + i ≡ n + length (map rows (take i xs)) = omega (arith, length-map (take i xs) rows, length-take-le i xs (omega arith)) in
@@ -52,7 +52,7 @@ walk_next p rows n xs i x start old new below is so_far added =
     ∙ ap (fold (with_inputs p) start) (sym numbered)
 
 -- the bolts and then the states are all components
-pub walk_whole : (p : Parts) (start middle end : SubTable) → middle ≡ fold (with_inputs p) start (enumerate_from 0 (map (λ (bolt : BoltPart). bolt.inputs) p.bolts)) → end ≡ fold (with_inputs p) middle (enumerate_from (length p.bolts) (map state_inputs p.states)) → end ≡ fold (with_inputs p) start (enumerate_from 0 (inputs_by_component p))
+pub walk_whole : (p : FileParts) (start middle end : SubTable) → middle ≡ fold (with_inputs p) start (enumerate_from 0 (map (λ (bolt : BoltPart). bolt.inputs) p.bolts)) → end ≡ fold (with_inputs p) middle (enumerate_from (length p.bolts) (map state_inputs p.states)) → end ≡ fold (with_inputs p) start (enumerate_from 0 (inputs_by_component p))
 walk_whole p start middle end first second =
     let bolts = map (λ (bolt : BoltPart). bolt.inputs) p.bolts in
     let count : length p.bolts ≡ 0 + length bolts = omega (arith, length-map p.bolts (λ (bolt : BoltPart). bolt.inputs)) in
@@ -117,44 +117,44 @@ IsTable-add n f table (origin.Component d) sub is = record {
 
 -- ---- inputs
 
-planned_sub : Parts → ℕ → Input → Origin → Sub
-planned_sub p to input from = record { to = to; grouping = planned_grouping p from input.way }
+planned_sub : FileParts → ℕ → Input → Origin → Sub
+planned_sub p to input from = record { to = to; grouping = planned_grouping p from input.grouping }
 
 -- one input adds what the definition has of it
-addition-input : (p : Parts) (to : ℕ) (input : Input) (from other : Origin) → addition from (planned_sub p to input from) other ≡ map (λ (i : Input). record { to = to; grouping = planned_grouping p other i.way }) (cond (is_origin other from) (input ∷ []) [])
+addition-input : (p : FileParts) (to : ℕ) (input : Input) (from other : Origin) → addition from (planned_sub p to input from) other ≡ map (λ (i : Input). record { to = to; grouping = planned_grouping p other i.grouping }) (cond (is_origin other from) (input ∷ []) [])
 unfolding addition planned_sub
 addition-input p to input origin.Spout origin.Spout = refl
 addition-input p to input origin.Spout (origin.Component c) = refl
 addition-input p to input (origin.Component d) origin.Spout = refl
 addition-input p to input (origin.Component d) (origin.Component c) =
     elim (cases_Bool (c == d)) [
-      | inl equal ↦ rw (equal) (ap (λ k. record { to = to; grouping = planned_grouping p (origin.Component k) input.way } ∷ []) (sym (eqb-true c d equal)))
+      | inl equal ↦ rw (equal) (ap (λ k. record { to = to; grouping = planned_grouping p (origin.Component k) input.grouping } ∷ []) (sym (eqb-true c d equal)))
       | inr differs ↦ rw (differs) refl
     ]
 
-IsTable-source : (n : ℕ) (f : Origin → List Sub) (table : SubTable) (p : Parts) (to : ℕ) (input : Input) (source : Option Origin) → source_of p input.from ≡ source → IsTable n f table → IsTable n (λ other. f other ++ subs_of_component p other (to, input ∷ [])) (with_input p to table input)
+IsTable-source : (n : ℕ) (f : Origin → List Sub) (table : SubTable) (p : FileParts) (to : ℕ) (input : Input) (source : Option Origin) → source_of p input.from ≡ source → IsTable n f table → IsTable n (λ other. f other ++ subs_of_component p other (to, input ∷ [])) (with_input p to table input)
 unfolding addition planned_sub
 IsTable-source n f table p to input None is holds =
     rw is (IsTable-same n f (λ other. f other ++ []) table (λ other. sym (append-nil (f other))) holds)
 IsTable-source n f table p to input (Some from) is holds =
     rw is
-    (IsTable-same n (λ other. f other ++ addition from (planned_sub p to input from) other) (λ other. f other ++ map (λ (i : Input). record { to = to; grouping = planned_grouping p other i.way }) (cond (is_origin other from) (input ∷ []) [])) (with_sub table from (planned_sub p to input from))
+    (IsTable-same n (λ other. f other ++ addition from (planned_sub p to input from) other) (λ other. f other ++ map (λ (i : Input). record { to = to; grouping = planned_grouping p other i.grouping }) (cond (is_origin other from) (input ∷ []) [])) (with_sub table from (planned_sub p to input from))
     (λ other. ap (λ subs. f other ++ subs) (addition-input p to input from other)) (IsTable-add n f table from (planned_sub p to input from) holds))
 
 first_and_rest : {X Y : Type 0} (g : X → Y) (passes : Bool) (x : X) (rest : List X) → map g (cond passes (x ∷ []) []) ++ map g rest ≡ map g (cond passes (x ∷ rest) rest)
 first_and_rest g true x rest = refl
 first_and_rest g false x rest = refl
 
-IsTable-inputs : (n : ℕ) (f : Origin → List Sub) (table : SubTable) (p : Parts) (to : ℕ) (inputs : List Input) → IsTable n f table → IsTable n (λ other. f other ++ subs_of_component p other (to, inputs)) (fold (with_input p to) table inputs)
+IsTable-inputs : (n : ℕ) (f : Origin → List Sub) (table : SubTable) (p : FileParts) (to : ℕ) (inputs : List Input) → IsTable n f table → IsTable n (λ other. f other ++ subs_of_component p other (to, inputs)) (fold (with_input p to) table inputs)
 IsTable-inputs n f table p to [] holds = IsTable-same n f (λ other. f other ++ []) table (λ other. sym (append-nil (f other))) holds
 IsTable-inputs n f table p to (input ∷ inputs) holds =
     IsTable-same n (λ other. (f other ++ subs_of_component p other (to, input ∷ [])) ++ subs_of_component p other (to, inputs)) (λ other. f other ++ subs_of_component p other (to, input ∷ inputs)) (fold (with_input p to) (with_input p to table input) inputs)
     (λ other.
     append_assoc (f other) (subs_of_component p other (to, input ∷ [])) (subs_of_component p other (to, inputs))
-    ∙ ap (λ subs. f other ++ subs) (first_and_rest (λ (i : Input). record { to = to; grouping = planned_grouping p other i.way }) (is_from p other input) input (filter (is_from p other) inputs)))
+    ∙ ap (λ subs. f other ++ subs) (first_and_rest (λ (i : Input). record { to = to; grouping = planned_grouping p other i.grouping }) (is_from p other input) input (filter (is_from p other) inputs)))
     (IsTable-inputs n (λ other. f other ++ subs_of_component p other (to, input ∷ [])) (with_input p to table input) p to inputs (IsTable-source n f table p to input (source_of p input.from) refl holds))
 
-IsTable-walk : (n : ℕ) (f : Origin → List Sub) (table : SubTable) (p : Parts) (components : List (ℕ × List Input)) → IsTable n f table → IsTable n (λ other. f other ++ flat_map (subs_of_component p other) components) (fold (with_inputs p) table components)
+IsTable-walk : (n : ℕ) (f : Origin → List Sub) (table : SubTable) (p : FileParts) (components : List (ℕ × List Input)) → IsTable n f table → IsTable n (λ other. f other ++ flat_map (subs_of_component p other) components) (fold (with_inputs p) table components)
 IsTable-walk n f table p [] holds = IsTable-same n f (λ other. f other ++ []) table (λ other. sym (append-nil (f other))) holds
 IsTable-walk n f table p (component ∷ components) holds =
     IsTable-same n (λ other. (f other ++ subs_of_component p other component) ++ flat_map (subs_of_component p other) components) (λ other. f other ++ (subs_of_component p other component ++ flat_map (subs_of_component p other) components)) (fold (with_inputs p) (with_inputs p table component) components)
@@ -163,13 +163,13 @@ IsTable-walk n f table p (component ∷ components) holds =
 
 -- ---- the whole walk
 
-length-inputs : (p : Parts) → component_count p ≡ length (inputs_by_component p)
+length-inputs : (p : FileParts) → component_count p ≡ length (inputs_by_component p)
 length-inputs p =
     length-append (map (λ (bolt : BoltPart). bolt.name) p.bolts) (map (λ (state : StatePart). state.name) p.states)
     ∙ omega (arith, length-map p.bolts (λ (bolt : BoltPart). bolt.name), length-map p.states (λ (state : StatePart). state.name), length-map p.bolts (λ (bolt : BoltPart). bolt.inputs), length-map p.states state_inputs)
     ∙ sym (length-append (map (λ (bolt : BoltPart). bolt.inputs) p.bolts) (map state_inputs p.states))
 
-module _ (p : Parts) (table : SubTable) (walked : table ≡ fold (with_inputs p) (no_subs (component_count p)) (enumerate_from 0 (inputs_by_component p))) where
+module _ (p : FileParts) (table : SubTable) (walked : table ≡ fold (with_inputs p) (no_subs (component_count p)) (enumerate_from 0 (inputs_by_component p))) where
   whole : IsTable (component_count p) (planned_subs p) table
   whole = subst (IsTable (component_count p) (planned_subs p)) (sym walked) (IsTable-walk (component_count p) (λ _. []) (no_subs (component_count p)) p (enumerate_from 0 (inputs_by_component p)) (IsTable-none (component_count p)))
 

@@ -13,18 +13,18 @@ use Rattle.topology_plan.specs.declared.parts.Origin.{Origin}
 use Rattle.topology_plan.specs.declared.parts.Origin.TheVariants as origin
 use Rattle.topology_plan.specs.Topology.{tasks_in_all}
 use Rattle.topology_plan.specs.Valid.{IsValid}
-use Rattle.topology_reader.specs.declared.parts.TopoFault.TheVariants.{NotExactlyOnce}
-use Rattle.topology_reader.specs.declared.parts.Way.{Way}
-use Rattle.topology_reader.specs.declared.parts.Input.{Input}
-use Rattle.topology_reader.specs.declared.parts.Operation.{Operation}
-use Rattle.topology_reader.specs.declared.parts.Operation.TheVariants.{Split, Project, Filter, Set, Len, Route, Flaky, Mute, Custom}
-use Rattle.topology_reader.specs.declared.parts.BoltPart.{BoltPart}
-use Rattle.topology_reader.specs.declared.parts.StatePart.{StatePart}
-use Rattle.topology_reader.specs.declared.parts.Parts.{Parts}
+use Rattle.topology_form.specs.declared.fault.TopoFault.TheVariants.{NotExactlyOnce}
+use Rattle.topology_form.specs.declared.parts.GroupingPart.{GroupingPart}
+use Rattle.topology_form.specs.declared.parts.Input.{Input}
+use Rattle.topology_form.specs.declared.parts.Operation.{Operation}
+use Rattle.topology_form.specs.declared.parts.Operation.TheVariants.{Split, Project, Filter, Set, Len, Route, Flaky, Mute, Custom}
+use Rattle.topology_form.specs.declared.parts.BoltPart.{BoltPart}
+use Rattle.topology_form.specs.declared.parts.StatePart.{StatePart}
+use Rattle.topology_form.specs.declared.parts.FileParts.{FileParts}
 use Rattle.topology_reader.specs.Wiring.{component_names, component_count, source_of, inputs_by_component, inputs_at, fields_after, fields_of, fields_to, operation_at, sources_at}
 use Rattle.topology_reader.specs.Planned.{tasks_by_component, plan_of}
 use Rattle.topology_reader.specs.Meant.{key_of, is_route, direct_fault, reads_at, is_transactional, replay_fault, meaning_fault}
-use Rattle.topology_reader.specs.Ranges.{IsInRange}
+use Rattle.topology_form.specs.Ranges.{IsInRange}
 use Rattle.topology_reader.proofs.Ranks.{rank, rank_grows}
 use Rattle.topology_reader.specs.ValidFile.{AreDistinct, IsSource, HasFields, IsRoute, IsRouteAt, IsValidInput, IsValidComponent, IsNumbered, IsValidFile}
 use Rattle.topology_reader.proofs.Listed.{IsIn, All-from_in, in_place, none_mapped, none_found}
@@ -61,14 +61,14 @@ route_is (Flaky below) route = absurd (false≢true route)
 route_is (Mute below) route = absurd (false≢true route)
 route_is Custom route = absurd (false≢true route)
 
-route_there : (p : Parts) (from : Origin) → IsSource p from → option_map_or is_route (operation_at p from) false ≡ true → IsRouteAt p from
+route_there : (p : FileParts) (from : Origin) → IsSource p from → option_map_or is_route (operation_at p from) false ≡ true → IsRouteAt p from
 route_there p origin.Spout there chosen = absurd (false≢true chosen)
 route_there p (origin.Component b) there chosen =
     let bolt = some_there p.bolts b there in
     let route : is_route bolt.0.operation ≡ true = subst (λ (there : Option BoltPart). option_map_or is_route (option_map (λ (b : BoltPart). b.operation) there) false ≡ true) bolt.1 chosen in
     (bolt.0, bolt.1, route_is bolt.0.operation route)
 
-module _ (p : Parts) (range : IsInRange p) (faultless : HasNoFault p) where
+module _ (p : FileParts) (range : IsInRange p) (faultless : HasNoFault p) where
   fields_there : (from : Origin) → IsSource p from → HasFields p from
   fields_there origin.Spout there =
       let fields : AreFields (fields_of p origin.Spout) = fields_of_source p range faultless origin.Spout tt in
@@ -95,9 +95,9 @@ module _ (p : Parts) (range : IsInRange p) (faultless : HasNoFault p) where
         named = from.1;
         source = there;
         comes = here.same from.0 source;
-        key = distinct_from_apart (key_of input.way) (key_apart p inputs input faultless.twice (in_place (inputs_by_component p) c inputs consumer) listed);
-        key_fields = All-from_in (Contains (fields_to p c)) (key_of input.way) (λ name named. contains_from_in (fields_to p c) name (here.keys input at name named));
-        direct = λ direct. route_there p from.0 there (chosen_by_route p input from.0 from.1 (subst (λ (by : Way). direct_fault p input by ≡ None) direct (here.direct input at)));
+        key = distinct_from_apart (key_of input.grouping) (key_apart p inputs input faultless.twice (in_place (inputs_by_component p) c inputs consumer) listed);
+        key_fields = All-from_in (Contains (fields_to p c)) (key_of input.grouping) (λ name named. contains_from_in (fields_to p c) name (here.keys input at name named));
+        direct = λ direct. route_there p from.0 there (chosen_by_route p input from.0 from.1 (subst (λ (by : GroupingPart). direct_fault p input by ≡ None) direct (here.direct input at)));
       }
 
   valid_component : (c : ℕ) → c < component_count p → IsValidComponent p c
@@ -141,10 +141,10 @@ module _ (p : Parts) (range : IsInRange p) (faultless : HasNoFault p) where
       All-from_in (λ (state : StatePart). state.kind ≡ Opaque) p.states
       (λ state at. opaque_kind state.kind (none_found (λ (s : StatePart). is_transactional s.kind) p.states found state at))
 
-pub sum_of_tasks : (p : Parts) → sum (tasks_by_component p) ≡ tasks_in_all (plan_of p)
+pub sum_of_tasks : (p : FileParts) → sum (tasks_by_component p) ≡ tasks_in_all (plan_of p)
 sum_of_tasks p = ap sum (sym (tasks_planned p)) ∙ sum-map (λ (c : Component). c.tasks) (plan_of p).components
 
-pub valid_file : (p : Parts) → IsInRange p → meaning_fault p ≡ None → IsValidFile p
+pub valid_file : (p : FileParts) → IsInRange p → meaning_fault p ≡ None → IsValidFile p
 valid_file p range none =
     let faultless : HasNoFault p = no_fault p none in
     let plan : IsValid (plan_of p) = valid_plan p range none in

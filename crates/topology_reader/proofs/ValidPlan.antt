@@ -12,17 +12,17 @@ use Rattle.storm_values.specs.Lines.{first_some}
 use Rattle.topology_plan.specs.declared.parts.Origin.{Origin}
 use Rattle.topology_plan.specs.declared.parts.Origin.TheVariants as origin
 use Rattle.topology_plan.specs.declared.parts.Sub.{Sub}
-use Rattle.topology_reader.specs.declared.parts.TopoFault.TheVariants.{OutOfRange, Weight}
-use Rattle.topology_reader.specs.declared.parts.Input.{Input}
-use Rattle.topology_reader.specs.declared.parts.BoltPart.{BoltPart}
-use Rattle.topology_reader.specs.declared.parts.Parts.{Parts}
-use Rattle.topology_reader.specs.Forms.{range_fault}
+use Rattle.topology_form.specs.declared.fault.TopoFault.TheVariants.{OutOfRange, Weight}
+use Rattle.topology_form.specs.declared.parts.Input.{Input}
+use Rattle.topology_form.specs.declared.parts.BoltPart.{BoltPart}
+use Rattle.topology_form.specs.declared.parts.FileParts.{FileParts}
+use Rattle.topology_reader.specs.Meant.{range_fault}
 use Rattle.topology_plan.specs.Topology.{Topology, subs_of, tasks_in_all, weight_of}
 use Rattle.topology_plan.specs.Valid.{IsBetween, IsTarget, IsRanked, IsValid}
 use Rattle.topology_reader.specs.Wiring.{bolt_names, place_of, source_of, state_inputs, inputs_by_component, inputs_at, sources_at, is_component, feeds}
 use Rattle.topology_reader.specs.Planned.{is_origin, is_from, planned_grouping, subs_of_component, planned_subs, planned_bolt, planned_state, plan_of}
 use Rattle.topology_reader.specs.Meant.{twice_fault, source_fault, cycle_fault, fields_fault, replay_fault, weight_fault, meaning_fault}
-use Rattle.topology_reader.specs.Ranges.{IsInRange}
+use Rattle.topology_form.specs.Ranges.{IsInRange}
 use Rattle.topology_reader.proofs.Ranks.{rank, rank_grows}
 use Rattle.topology_reader.proofs.Distinct.{some_mapped, place_within}
 use Rattle.topology_reader.proofs.Listed.{IsIn, All-from_in, in_map, to_map, in_flat_map, to_flat_map, in_filter, to_filter, in_enumerated, to_enumerated, to_filter_map, to_any, none_of_some}
@@ -30,7 +30,7 @@ use Rattle.topology_reader.proofs.Listed.{IsIn, All-from_in, in_map, to_map, in_
 -- ---- each fault is none
 
 -- where no fault is told, there is none of each kind
-pub record HasNoFault (p : Parts) : Type 0 where
+pub record HasNoFault (p : FileParts) : Type 0 where
   pub twice : twice_fault p ≡ None
   pub sources : source_fault p ≡ None
   pub cycle : cycle_fault p ≡ None
@@ -51,7 +51,7 @@ none_of_seven {F} a b c d e f g none =
       each g (inr (inr (inr (inr (inr (inr (inl refl))))))),
     )
 
-pub no_fault : (p : Parts) → meaning_fault p ≡ None → HasNoFault p
+pub no_fault : (p : FileParts) → meaning_fault p ≡ None → HasNoFault p
 unfolding meaning_fault
 no_fault p none =
     let each =
@@ -82,7 +82,7 @@ most_from_weight weight none =
 -- ---- sources
 
 -- a source that is a component is a bolt
-pub source_within : (p : Parts) (name : List ℕ) (c : ℕ) → source_of p name ≡ Some (origin.Component c) → c < length p.bolts
+pub source_within : (p : FileParts) (name : List ℕ) (c : ℕ) → source_of p name ≡ Some (origin.Component c) → c < length p.bolts
 source_within p name c is =
     elim (cases_Bool (bytes_eq p.spout.name name)) [
       | inl spout ↦ let wrong : Some origin.Spout ≡ Some (origin.Component c) = sym (cond-true (bytes_eq p.spout.name name) (Some origin.Spout) (option_map origin.Component (place_of (bolt_names p) name)) spout) ∙ is in cc
@@ -109,24 +109,24 @@ is_source from (Some other) is = ap Some (sym (is_origin_same from other is))
 
 -- ---- subscriptions
 
-pub length_inputs : (p : Parts) → length (inputs_by_component p) ≡ length p.bolts + length p.states
+pub length_inputs : (p : FileParts) → length (inputs_by_component p) ≡ length p.bolts + length p.states
 length_inputs p =
     omega (arith, length-append (map (λ (bolt : BoltPart). bolt.inputs) p.bolts) (map state_inputs p.states), length-map p.bolts (λ (bolt : BoltPart). bolt.inputs), length-map p.states state_inputs)
 
 -- where a subscription to a source comes from: an input of its consumer
-pub record IsPlanned (p : Parts) (from : Origin) (sub : Sub) : Type 0 where
+pub record IsPlanned (p : FileParts) (from : Origin) (sub : Sub) : Type 0 where
   pub inputs : List Input
   pub input : Input
   pub consumer : slice_get (inputs_by_component p) sub.to ≡ Some inputs
   pub listed : IsIn input inputs
   pub source : source_of p input.from ≡ Some from
-  pub grouping : sub.grouping ≡ planned_grouping p from input.way
+  pub grouping : sub.grouping ≡ planned_grouping p from input.grouping
 
-pub planned_in : (p : Parts) (from : Origin) (sub : Sub) → IsIn sub (planned_subs p from) → IsPlanned p from sub
+pub planned_in : (p : FileParts) (from : Origin) (sub : Sub) → IsIn sub (planned_subs p from) → IsPlanned p from sub
 planned_in p from sub at =
     let component = in_flat_map (subs_of_component p from) (enumerate_from 0 (inputs_by_component p)) sub at in
     let place = in_enumerated 0 (inputs_by_component p) component.0 component.1 in
-    let made = in_map (λ (input : Input). record { to = component.0.0; grouping = planned_grouping p from input.way }) (filter (is_from p from) component.0.1) sub component.2 in
+    let made = in_map (λ (input : Input). record { to = component.0.0; grouping = planned_grouping p from input.grouping }) (filter (is_from p from) component.0.1) sub component.2 in
     let kept = in_filter (is_from p from) component.0.1 made.0 made.1 in
     record {
       inputs = component.0.1;
@@ -137,20 +137,20 @@ planned_in p from sub at =
       grouping = sym (ap (λ (s : Sub). s.grouping) made.2);
     }
 
-pub subs_of_plan : (p : Parts) (c : ℕ) → c < length (inputs_by_component p) → subs_of (plan_of p) (origin.Component c) ≡ planned_subs p (origin.Component c)
+pub subs_of_plan : (p : FileParts) (c : ℕ) → c < length (inputs_by_component p) → subs_of (plan_of p) (origin.Component c) ≡ planned_subs p (origin.Component c)
 unfolding plan_of
 subs_of_plan p c within =
     let there : c < length (enumerate_from 0 (inputs_by_component p)) = omega (arith, length-enumerate_from 0 (inputs_by_component p)) in
     get_or-map (λ (numbered : ℕ × List Input). planned_subs p (origin.Component numbered.0)) (enumerate_from 0 (inputs_by_component p)) c (0, []) [] there
     ∙ rw (get_or-enumerate_from 0 (inputs_by_component p) c (0, []) within, zero-add)
 
-pub no_subs_past : (p : Parts) (c : ℕ) → length (inputs_by_component p) ≤ c → subs_of (plan_of p) (origin.Component c) ≡ []
+pub no_subs_past : (p : FileParts) (c : ℕ) → length (inputs_by_component p) ≤ c → subs_of (plan_of p) (origin.Component c) ≡ []
 unfolding plan_of
 no_subs_past p c past =
     get_or_past (map (λ (numbered : ℕ × List Input). planned_subs p (origin.Component numbered.0)) (enumerate_from 0 (inputs_by_component p))) c []
     (omega (arith, length-map (enumerate_from 0 (inputs_by_component p)) (λ (numbered : ℕ × List Input). planned_subs p (origin.Component numbered.0)), length-enumerate_from 0 (inputs_by_component p)))
 
-pub planned_in_plan : (p : Parts) (from : Origin) (sub : Sub) → IsIn sub (subs_of (plan_of p) from) → IsPlanned p from sub
+pub planned_in_plan : (p : FileParts) (from : Origin) (sub : Sub) → IsIn sub (subs_of (plan_of p) from) → IsPlanned p from sub
 unfolding plan_of
 planned_in_plan p origin.Spout sub at = planned_in p origin.Spout sub at
 planned_in_plan p (origin.Component c) sub at =
@@ -160,24 +160,24 @@ planned_in_plan p (origin.Component c) sub at =
     ]
 
 -- the other way: an input makes a subscription to its source
-planned_from : (p : Parts) (from : Origin) (c : ℕ) (inputs : List Input) (input : Input) → slice_get (inputs_by_component p) c ≡ Some inputs → IsIn input inputs → source_of p input.from ≡ Some from
-    → IsIn (record { to = c; grouping = planned_grouping p from input.way }) (planned_subs p from)
+planned_from : (p : FileParts) (from : Origin) (c : ℕ) (inputs : List Input) (input : Input) → slice_get (inputs_by_component p) c ≡ Some inputs → IsIn input inputs → source_of p input.from ≡ Some from
+    → IsIn (record { to = c; grouping = planned_grouping p from input.grouping }) (planned_subs p from)
 planned_from p from c inputs input consumer listed is =
     let test : is_from p from input ≡ true = subst (λ (there : Option Origin). option_map_or (is_origin from) there false ≡ true) (sym is) (is_origin_itself from) in
-    to_flat_map (subs_of_component p from) (enumerate_from 0 (inputs_by_component p)) (c, inputs) (record { to = c; grouping = planned_grouping p from input.way })
+    to_flat_map (subs_of_component p from) (enumerate_from 0 (inputs_by_component p)) (c, inputs) (record { to = c; grouping = planned_grouping p from input.grouping })
     (subst (λ k. IsIn (k, inputs) (enumerate_from 0 (inputs_by_component p))) (zero-add c) (to_enumerated 0 (inputs_by_component p) c inputs consumer))
-    (to_map (λ (i : Input). record { to = c; grouping = planned_grouping p from i.way }) (filter (is_from p from) inputs) input (to_filter (is_from p from) inputs input listed test))
+    (to_map (λ (i : Input). record { to = c; grouping = planned_grouping p from i.grouping }) (filter (is_from p from) inputs) input (to_filter (is_from p from) inputs input listed test))
 
-pub planned_to_plan : (p : Parts) (from : Origin) (c : ℕ) (inputs : List Input) (input : Input) → slice_get (inputs_by_component p) c ≡ Some inputs → IsIn input inputs → source_of p input.from ≡ Some from
-    → IsIn (record { to = c; grouping = planned_grouping p from input.way }) (subs_of (plan_of p) from)
+pub planned_to_plan : (p : FileParts) (from : Origin) (c : ℕ) (inputs : List Input) (input : Input) → slice_get (inputs_by_component p) c ≡ Some inputs → IsIn input inputs → source_of p input.from ≡ Some from
+    → IsIn (record { to = c; grouping = planned_grouping p from input.grouping }) (subs_of (plan_of p) from)
 unfolding plan_of
 planned_to_plan p origin.Spout c inputs input consumer listed is = planned_from p origin.Spout c inputs input consumer listed is
 planned_to_plan p (origin.Component b) c inputs input consumer listed is =
     let within : b < length (inputs_by_component p) = omega (arith, source_within p input.from b is, length_inputs p) in
-    subst (IsIn (record { to = c; grouping = planned_grouping p (origin.Component b) input.way })) (sym (subs_of_plan p b within)) (planned_from p (origin.Component b) c inputs input consumer listed is)
+    subst (IsIn (record { to = c; grouping = planned_grouping p (origin.Component b) input.grouping })) (sym (subs_of_plan p b within)) (planned_from p (origin.Component b) c inputs input consumer listed is)
 
 -- the source of a subscription, if it is a bolt, feeds the consumer
-pub feeds_planned : (p : Parts) (c : ℕ) (sub : Sub) → IsPlanned p (origin.Component c) sub → feeds p c sub.to ≡ true
+pub feeds_planned : (p : FileParts) (c : ℕ) (sub : Sub) → IsPlanned p (origin.Component c) sub → feeds p c sub.to ≡ true
 feeds_planned p c sub planned =
     let inputs : inputs_at p sub.to ≡ planned.inputs = get_or_from_slice_get (inputs_by_component p) sub.to planned.inputs [] planned.consumer in
     to_any (is_component c) (sources_at p sub.to) (origin.Component c)
@@ -186,13 +186,13 @@ feeds_planned p c sub planned =
 
 -- ---- the components
 
-pub length_components : (p : Parts) → length (plan_of p).components ≡ length p.bolts + length p.states
+pub length_components : (p : FileParts) → length (plan_of p).components ≡ length p.bolts + length p.states
 unfolding plan_of
 length_components p =
     omega
     (arith, length-append (map (planned_bolt p) (enumerate_from 0 p.bolts)) (map (planned_state p) (enumerate_from (length p.bolts) p.states)), length-map (enumerate_from 0 p.bolts) (planned_bolt p), length-map (enumerate_from (length p.bolts) p.states) (planned_state p), length-enumerate_from 0 p.bolts, length-enumerate_from (length p.bolts) p.states)
 
-length_sources : (p : Parts) → length (plan_of p).component_subs ≡ length (plan_of p).components
+length_sources : (p : FileParts) → length (plan_of p).component_subs ≡ length (plan_of p).components
 unfolding plan_of
 length_sources p =
     length-map (enumerate_from 0 (inputs_by_component p)) (λ (numbered : ℕ × List Input). planned_subs p (origin.Component numbered.0))
@@ -200,7 +200,7 @@ length_sources p =
 
 -- ---- what a plan keeps
 
-targets_planned : (p : Parts) (from : Origin) → All (IsTarget (plan_of p)) (subs_of (plan_of p) from)
+targets_planned : (p : FileParts) (from : Origin) → All (IsTarget (plan_of p)) (subs_of (plan_of p) from)
 targets_planned p from =
     All-from_in (IsTarget (plan_of p)) (subs_of (plan_of p) from)
     (λ sub at.
@@ -208,7 +208,7 @@ targets_planned p from =
     let within : sub.to < length (inputs_by_component p) = slice_get_within (inputs_by_component p) sub.to planned.inputs planned.consumer in
     omega (arith, length_inputs p, length_components p))
 
-ranked_planned : (p : Parts) → cycle_fault p ≡ None → IsRanked (plan_of p)
+ranked_planned : (p : FileParts) → cycle_fault p ≡ None → IsRanked (plan_of p)
 ranked_planned p none = record {
   rank = rank p;
   grows = λ c.
@@ -219,7 +219,7 @@ ranked_planned p none = record {
 }
 
 -- the numbers that a plan takes over as they are
-record HasNumbersOf (p : Parts) (t : Topology) : Type 0 where
+record HasNumbersOf (p : FileParts) (t : Topology) : Type 0 where
   spout_fields : t.spout_fields ≡ length p.spout.fields
   batch : t.batch ≡ p.spout.batch
   ackers : t.ackers ≡ p.ackers
@@ -227,11 +227,11 @@ record HasNumbersOf (p : Parts) (t : Topology) : Type 0 where
   buckets : t.buckets ≡ p.buckets
   attempts : t.attempts ≡ p.attempts
 
-numbers_planned : (p : Parts) → HasNumbersOf p (plan_of p)
+numbers_planned : (p : FileParts) → HasNumbersOf p (plan_of p)
 unfolding plan_of
 numbers_planned p = record { spout_fields = refl; batch = refl; ackers = refl; pending = refl; buckets = refl; attempts = refl }
 
-pub valid_plan : (p : Parts) → IsInRange p → meaning_fault p ≡ None → IsValid (plan_of p)
+pub valid_plan : (p : FileParts) → IsInRange p → meaning_fault p ≡ None → IsValid (plan_of p)
 valid_plan p range none =
     let faultless : HasNoFault p = no_fault p none in
     let numbers : HasNumbersOf p (plan_of p) = numbers_planned p in

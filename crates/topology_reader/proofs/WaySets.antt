@@ -12,11 +12,11 @@ use Rattle.std.specs.Option.{option_map_or}
 use Rattle.std.specs.Str.{bytes_eq}
 use Rattle.topology_plan.specs.declared.parts.Origin.{Origin}
 use Rattle.topology_plan.specs.declared.parts.Origin.TheVariants as origin
-use Rattle.topology_reader.specs.declared.parts.Input.{Input}
-use Rattle.topology_reader.specs.declared.parts.BoltPart.{BoltPart}
-use Rattle.topology_reader.specs.declared.parts.StatePart.{StatePart}
-use Rattle.topology_reader.specs.declared.parts.Parts.{Parts}
-use Rattle.topology_reader.specs.declared.parts.TopoFault.TheVariants.{Cycle}
+use Rattle.topology_form.specs.declared.parts.Input.{Input}
+use Rattle.topology_form.specs.declared.parts.BoltPart.{BoltPart}
+use Rattle.topology_form.specs.declared.parts.StatePart.{StatePart}
+use Rattle.topology_form.specs.declared.parts.FileParts.{FileParts}
+use Rattle.topology_form.specs.declared.fault.TopoFault.TheVariants.{Cycle}
 use Rattle.topology_reader.specs.Wiring.{bolt_names, name_at, source_of, place_of, is_component, reaches_over, reaches}
 use Rattle.topology_reader.specs.Meant.{cycle_fault}
 use Rattle.topology_reader.specs.Ways.{has, input_sources, AreWays}
@@ -116,7 +116,7 @@ module _ (n through : ℕ) (words : List ℕ) where
         ap (set sets i) (sym (cond-false (has word n) (bit_or word through) word fails)) ∙ sym (led-sets sets is)
 
 -- ways over one bolt more
-pub ways-more : (n : ℕ) (p : Parts) (sets new : List ℕ) → n < length p.bolts → AreWays n p sets → new ≡ map (led n (slice_index sets n)) sets → AreWays (n + 1) p new
+pub ways-more : (n : ℕ) (p : FileParts) (sets new : List ℕ) → n < length p.bolts → AreWays n p sets → new ≡ map (led n (slice_index sets n)) sets → AreWays (n + 1) p new
 ways-more n p sets new within ways is = record {
   counted = ap length is ∙ length-map sets (led n (slice_index sets n)) ∙ ways.counted;
   held = λ a b below.
@@ -134,7 +134,7 @@ source_by true place n a below is = cc
 source_by false None n a below is = absurd (none-some (origin.Component a) is)
 source_by false (Some k) n a below is = let same : k ≡ a = cc in omega (arith, below k refl)
 
-pub source_below : (p : Parts) (name : List ℕ) (a : ℕ) → source_of p name ≡ Some (origin.Component a) → a < length p.bolts
+pub source_below : (p : FileParts) (name : List ℕ) (a : ℕ) → source_of p name ≡ Some (origin.Component a) → a < length p.bolts
 source_below p name a is =
     source_by (bytes_eq p.spout.name name) (place_of (bolt_names p) name) (length p.bolts) a
     (λ k found. omega (arith, place_below (bolt_names p) name k found, length-map p.bolts (λ (b : BoltPart). b.name))) is
@@ -145,7 +145,7 @@ one_source a (Some origin.Spout) = refl
 one_source a (Some (origin.Component b)) = sym (or_false (a == b))
 
 -- one more input
-pub sources-more : (p : Parts) (inputs : List Input) (i a : ℕ) (input : Input) → i < length inputs → input ≡ get_or inputs i input
+pub sources-more : (p : FileParts) (inputs : List Input) (i a : ℕ) (input : Input) → i < length inputs → input ≡ get_or inputs i input
     → list_any (is_component a) (input_sources p (take (i + 1) inputs)) ≡ (list_any (is_component a) (input_sources p (take i inputs)) || option_map_or (is_component a) (source_of p input.from) false)
 sources-more p inputs i a input below is =
     let source = λ (x : Input). source_of p x.from in
@@ -179,7 +179,7 @@ range-same left right first (suc n) same =
 
 -- ---- cycles
 
-pub name_at-bolt : (p : Parts) (c : ℕ) (bolt : BoltPart) → slice_get p.bolts c ≡ Some bolt → name_at p c ≡ bolt.name
+pub name_at-bolt : (p : FileParts) (c : ℕ) (bolt : BoltPart) → slice_get p.bolts c ≡ Some bolt → name_at p c ≡ bolt.name
 name_at-bolt p c bolt is =
     let below : c < length p.bolts = slice_get_within p.bolts c bolt is in
     let named : c < length (bolt_names p) = omega (arith, length-map p.bolts (λ (b : BoltPart). b.name)) in
@@ -187,7 +187,7 @@ name_at-bolt p c bolt is =
     ∙ get_or-map (λ (b : BoltPart). b.name) p.bolts c bolt [] below
     ∙ ap (λ (b : BoltPart). b.name) (get_or_from_slice_get p.bolts c bolt bolt is)
 
-pub cycle_fault-ways : (p : Parts) (sets : List ℕ) → AreWays (length p.bolts) p sets → cycle_fault p ≡ option_map (λ c. Cycle (name_at p c)) (find (λ c. has (slice_index sets c) c) (range_with_len 0 (length sets)))
+pub cycle_fault-ways : (p : FileParts) (sets : List ℕ) → AreWays (length p.bolts) p sets → cycle_fault p ≡ option_map (λ c. Cycle (name_at p c)) (find (λ c. has (slice_index sets c) c) (range_with_len 0 (length sets)))
 unfolding reaches
 cycle_fault-ways p sets ways =
     ap (option_map (λ c. Cycle (name_at p c)))

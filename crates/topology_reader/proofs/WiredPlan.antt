@@ -15,21 +15,21 @@ use Rattle.topology_plan.specs.declared.parts.Kind.TheVariants.{Transactional, O
 use Rattle.topology_plan.specs.declared.parts.Origin.{Origin}
 use Rattle.topology_plan.specs.declared.parts.Origin.TheVariants as origin
 use Rattle.topology_plan.specs.declared.parts.Sub.{Sub}
-use Rattle.topology_reader.specs.declared.parts.TopoFault.TheVariants.{NotExactlyOnce}
-use Rattle.topology_reader.specs.declared.parts.Way.TheVariants as way
-use Rattle.topology_reader.specs.declared.parts.Input.{Input}
-use Rattle.topology_reader.specs.declared.parts.Operation.{Operation}
-use Rattle.topology_reader.specs.declared.parts.Operation.TheVariants.{Split, Project, Filter, Set, Len, Route, Flaky, Mute, Custom}
-use Rattle.topology_reader.specs.declared.parts.BoltPart.{BoltPart}
-use Rattle.topology_reader.specs.declared.parts.StatePart.{StatePart}
-use Rattle.topology_reader.specs.declared.parts.Parts.{Parts}
+use Rattle.topology_form.specs.declared.fault.TopoFault.TheVariants.{NotExactlyOnce}
+use Rattle.topology_form.specs.declared.parts.GroupingPart.TheVariants as said
+use Rattle.topology_form.specs.declared.parts.Input.{Input}
+use Rattle.topology_form.specs.declared.parts.Operation.{Operation}
+use Rattle.topology_form.specs.declared.parts.Operation.TheVariants.{Split, Project, Filter, Set, Len, Route, Flaky, Mute, Custom}
+use Rattle.topology_form.specs.declared.parts.BoltPart.{BoltPart}
+use Rattle.topology_form.specs.declared.parts.StatePart.{StatePart}
+use Rattle.topology_form.specs.declared.parts.FileParts.{FileParts}
 use Rattle.topology_plan.specs.Topology.{subs_of, origins, inputs_of}
 use Rattle.topology_plan.specs.Texts.{IsName}
 use Rattle.topology_plan.specs.Wired.{width_of, width_after, IsWithin, HasAmount, IsComponent, IsPlaced, IsLaidOut, MayFollowOpaque, IsWired}
 use Rattle.topology_reader.specs.Wiring.{component_names, inputs_by_component, sources_at, state_inputs, fields_after, fields_of, fields_to}
 use Rattle.topology_reader.specs.Planned.{number_of, numbers_of, planned_operation, planned_grouping, tasks_by_component, planned_bolt, planned_state, plan_of}
 use Rattle.topology_reader.specs.Meant.{key_of, projected, fields_read, twice_fault, is_transactional, replay_fault, meaning_fault}
-use Rattle.topology_reader.specs.Ranges.{HasAmount as SaysAmount, IsOperationInRange, IsBoltInRange, IsStateInRange, IsInRange}
+use Rattle.topology_form.specs.Ranges.{HasAmount as SaysAmount, IsOperationInRange, IsBoltInRange, IsStateInRange, IsInRange}
 use Rattle.topology_reader.proofs.Listed.{IsIn, All-from_in, All-at_in, in_map, to_map, in_flat_map, to_flat_map, in_filter, to_filter, in_append, in_enumerated, in_place, none_mapped, none_found, to_left, to_right, to_range}
 use Rattle.topology_reader.proofs.Distinct.{AreApart, AllPairs-from_apart}
 use Rattle.topology_reader.proofs.Numbered.{IsBoltAt, IsStateAt, cases_component, inputs_at_state, reads_at_bolt, reads_at_state, component_at_bolt, component_at_state, map_components}
@@ -39,7 +39,7 @@ use Rattle.topology_reader.proofs.SubFacts.{once_planned, number_within, numbers
 
 -- ---- names and tasks
 
-names_planned : (p : Parts) → twice_fault p ≡ None → AllPairs (λ (a b : Component). a.name ≢ b.name) (plan_of p).components
+names_planned : (p : FileParts) → twice_fault p ≡ None → AllPairs (λ (a b : Component). a.name ≢ b.name) (plan_of p).components
 names_planned p none =
     let names : map (λ (c : Component). c.name) (plan_of p).components ≡ component_names p =
     map_components (λ (c : Component). c.name) (λ (bolt : BoltPart). bolt.name) (λ (state : StatePart). state.name) p (λ c bolt. refl) (λ c state. refl)
@@ -47,7 +47,7 @@ names_planned p none =
     let apart : AreApart (p.spout.name ∷ component_names p) = lists_apart p (p.spout.name ∷ component_names p) none (inl refl) in
     AllPairs-from_apart (λ (c : Component). c.name) (plan_of p).components (subst AreApart (sym names) apart.1)
 
-pub tasks_planned : (p : Parts) → map (λ (c : Component). c.tasks) (plan_of p).components ≡ tasks_by_component p
+pub tasks_planned : (p : FileParts) → map (λ (c : Component). c.tasks) (plan_of p).components ≡ tasks_by_component p
 tasks_planned p =
     map_components (λ (c : Component). c.tasks) (λ (bolt : BoltPart). bolt.tasks) (λ (state : StatePart). state.parts) p (λ c bolt. refl) (λ c state. refl)
 
@@ -91,25 +91,25 @@ amount_planned fields Max amount said there = some_amount fields amount said the
 
 -- ---- what comes to a component
 
-input_planned : (p : Parts) (c : ℕ) (input : Origin × Sub) → IsIn input (inputs_of (plan_of p) c) → IsPlanned p input.0 input.1 × (input.1.to ≡ c)
+input_planned : (p : FileParts) (c : ℕ) (input : Origin × Sub) → IsIn input (inputs_of (plan_of p) c) → IsPlanned p input.0 input.1 × (input.1.to ≡ c)
 input_planned p c input at =
     let from = in_flat_map (λ from. map (λ sub. (from, sub)) (filter (λ (sub : Sub). sub.to == c) (subs_of (plan_of p) from))) (origins (plan_of p)) input at in
     let sub = in_map (λ (sub : Sub). (from.0, sub)) (filter (λ (sub : Sub). sub.to == c) (subs_of (plan_of p) from.0)) input from.2 in
     let kept = in_filter (λ (sub : Sub). sub.to == c) (subs_of (plan_of p) from.0) sub.0 sub.1 in
     subst (λ (i : Origin × Sub). IsPlanned p i.0 i.1 × (i.1.to ≡ c)) sub.2 (planned_in_plan p from.0 sub.0 kept.0, eqb-true sub.0.to c kept.1)
 
-planned_source : (p : Parts) (c : ℕ) (from : Origin) (sub : Sub) → IsPlanned p from sub → sub.to ≡ c → IsIn from (sources_at p c)
+planned_source : (p : FileParts) (c : ℕ) (from : Origin) (sub : Sub) → IsPlanned p from sub → sub.to ≡ c → IsIn from (sources_at p c)
 planned_source p c from sub planned to =
     subst (λ k. IsIn from (sources_at p k)) to (to_sources p sub.to planned.input from (in_inputs_at p sub.to planned.inputs planned.input planned.consumer planned.listed) planned.source)
 
-origin_there : (p : Parts) (from : Origin) → IsBoltOrSpout p from → IsIn from (origins (plan_of p))
+origin_there : (p : FileParts) (from : Origin) → IsBoltOrSpout p from → IsIn from (origins (plan_of p))
 origin_there p origin.Spout there = inl refl
 origin_there p (origin.Component c) there =
     inr (to_map origin.Component (range_with_len 0 (length (plan_of p).components)) c (to_range 0 (length (plan_of p).components) c (omega arith) (omega (arith, length_components p))))
 
-source_comes : (p : Parts) (c : ℕ) → HasSource p c → inputs_of (plan_of p) c ≢ []
+source_comes : (p : FileParts) (c : ℕ) → HasSource p c → inputs_of (plan_of p) c ≢ []
 source_comes p c source none =
-    let sub : Sub = record { to = c; grouping = planned_grouping p source.from source.input.way } in
+    let sub : Sub = record { to = c; grouping = planned_grouping p source.from source.input.grouping } in
     let listed : IsIn source.from (sources_at p c) = to_sources p c source.input source.from (in_inputs_at p c source.inputs source.input source.consumer source.listed) source.is in
     let there : IsBoltOrSpout p source.from = source_there p c source.from listed in
     let taken : IsIn sub (subs_of (plan_of p) source.from) = planned_to_plan p source.from c source.inputs source.input source.consumer source.listed source.is in
@@ -126,7 +126,7 @@ none_in [] none = refl
 none_in (x ∷ xs) none = absurd (none x (inl refl))
 
 -- no component takes the rows of a state
-no_subs_of_state : (p : Parts) (c : ℕ) → length p.bolts ≤ c → subs_of (plan_of p) (origin.Component c) ≡ []
+no_subs_of_state : (p : FileParts) (c : ℕ) → length p.bolts ≤ c → subs_of (plan_of p) (origin.Component c) ≡ []
 no_subs_of_state p c past =
     none_in (subs_of (plan_of p) (origin.Component c))
     (λ sub at.
@@ -136,7 +136,7 @@ no_subs_of_state p c past =
 
 -- ---- the components
 
-module _ (p : Parts) (range : IsInRange p) (faultless : HasNoFault p) where
+module _ (p : FileParts) (range : IsInRange p) (faultless : HasNoFault p) where
   widths : (c : ℕ) → c < length p.bolts + length p.states → All (λ input. width_of (plan_of p) input.0 ≡ length (fields_to p c)) (inputs_of (plan_of p) c)
   widths c within =
       All-from_in (λ input. width_of (plan_of p) input.0 ≡ length (fields_to p c)) (inputs_of (plan_of p) c)
@@ -149,7 +149,7 @@ module _ (p : Parts) (range : IsInRange p) (faultless : HasNoFault p) where
   projected_apart : (c : ℕ) (bolt : BoltPart) → IsBoltAt p c bolt → AreApart (projected bolt.operation)
   projected_apart c bolt is =
       bolt_list_apart p bolt (projected bolt.operation) faultless.twice (in_place p.bolts c bolt is)
-      (inr (to_right (map (λ (input : Input). key_of input.way) bolt.inputs) (projected bolt.operation ∷ []) (projected bolt.operation) (inl refl)))
+      (inr (to_right (map (λ (input : Input). key_of input.grouping) bolt.inputs) (projected bolt.operation ∷ []) (projected bolt.operation) (inl refl)))
 
   bolt_planned : (c : ℕ) (bolt : BoltPart) → IsBoltAt p c bolt → IsComponent (plan_of p) c (planned_bolt p (c, bolt))
   bolt_planned c bolt is =
@@ -184,9 +184,9 @@ module _ (p : Parts) (range : IsInRange p) (faultless : HasNoFault p) where
       let inputs : planned.0.inputs ≡ state_inputs state =
       same_Some planned.0.inputs (state_inputs state) (sym (subst (λ k. slice_get (inputs_by_component p) k ≡ Some planned.0.inputs) planned.1 planned.0.consumer) ∙ inputs_at_state p c state at)
       in
-      let made = in_map (λ from. record { from = from; way = way.Fields state.key }) state.inputs planned.0.input (subst (IsIn planned.0.input) inputs planned.0.listed) in
+      let made = in_map (λ from. record { from = from; grouping = said.Fields state.key }) state.inputs planned.0.input (subst (IsIn planned.0.input) inputs planned.0.listed) in
       planned.0.grouping
-      ∙ sym (ap (λ (i : Input). planned_grouping p input.0 i.way) made.2)
+      ∙ sym (ap (λ (i : Input). planned_grouping p input.0 i.grouping) made.2)
       ∙ ap (λ fields. grouping.Fields (numbers_of fields state.key)) (here.same input.0 source))
 
   state_planned : (c : ℕ) (state : StatePart) → IsStateAt p c state → IsComponent (plan_of p) c (planned_state p (c, state))
@@ -228,7 +228,7 @@ module _ (p : Parts) (range : IsInRange p) (faultless : HasNoFault p) where
 
 -- ---- bolts and then states
 
-placed_planned : (p : Parts) (c : ℕ) → IfSome (slice_get (plan_of p).components c) (λ component. IsPlaced (length p.bolts) c component.body)
+placed_planned : (p : FileParts) (c : ℕ) → IfSome (slice_get (plan_of p).components c) (λ component. IsPlaced (length p.bolts) c component.body)
 placed_planned p c =
     let placed = λ (component : Component). IsPlaced (length p.bolts) c component.body in
     elim (cases_lt c (length p.bolts + length p.states)) [
@@ -243,7 +243,7 @@ placed_planned p c =
           subst (λ there. IfSome there placed) (sym none) tt
     ]
 
-layout_planned : (p : Parts) → IsInRange p → IsLaidOut (plan_of p)
+layout_planned : (p : FileParts) → IsInRange p → IsLaidOut (plan_of p)
 layout_planned p range = record {
   bolts = length p.bolts;
   few = range.bolts;
@@ -257,7 +257,7 @@ pub opaque_kind : (kind : Kind) → is_transactional kind ≡ false → kind ≡
 opaque_kind Transactional other = absurd (false≢true (sym other))
 opaque_kind Opaque other = refl
 
-replays_planned : (p : Parts) → replay_fault p p.spout.kind ≡ None → (plan_of p).spout_kind ≡ Opaque → All (λ (component : Component). MayFollowOpaque component.body) (plan_of p).components
+replays_planned : (p : FileParts) → replay_fault p p.spout.kind ≡ None → (plan_of p).spout_kind ≡ Opaque → All (λ (component : Component). MayFollowOpaque component.body) (plan_of p).components
 unfolding plan_of
 replays_planned p none opaque =
     let searched : replay_fault p Opaque ≡ None = subst (λ kind. replay_fault p kind ≡ None) opaque none in
@@ -273,7 +273,7 @@ replays_planned p none opaque =
           subst (λ (made : Component). MayFollowOpaque made.body) state.2 (opaque_kind (state.0.1).kind other)
     ])
 
-pub wired_plan : (p : Parts) → IsInRange p → meaning_fault p ≡ None → IsWired (plan_of p)
+pub wired_plan : (p : FileParts) → IsInRange p → meaning_fault p ≡ None → IsWired (plan_of p)
 wired_plan p range none =
     let faultless : HasNoFault p = no_fault p none in
     record {

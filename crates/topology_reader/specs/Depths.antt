@@ -3,7 +3,7 @@ use Rattle.std.specs.Prelude.{ℕ, ◌+◌, ◌==◌, List, length, map, filter,
 use Rattle.std.specs.List.{range_with_len}
 use Rattle.topology_plan.specs.declared.parts.Origin.{Origin}
 use Rattle.topology_plan.specs.declared.parts.Origin.TheVariants as origin
-use Rattle.topology_reader.specs.declared.parts.Parts.{Parts}
+use Rattle.topology_form.specs.declared.parts.FileParts.{FileParts}
 use Rattle.topology_plan.specs.Topology.{greatest}
 use Rattle.topology_reader.specs.Wiring.{component_count, sources_at, depth_in, depth_at}
 
@@ -17,15 +17,15 @@ abbrev pub depth_over : List ℕ → List Origin → ℕ
 depth_over depths sources = 1 + greatest (map (depth_from depths) sources)
 
 -- of each component the depth over its sources
-abbrev pub depths_over : Parts → List ℕ → List ℕ
+abbrev pub depths_over : FileParts → List ℕ → List ℕ
 depths_over p depths = map (λ c. depth_over depths (sources_at p c)) (range_with_len 0 (component_count p))
 
 -- of each component its depth within n steps
-abbrev pub depths_in : ℕ → Parts → List ℕ
+abbrev pub depths_in : ℕ → FileParts → List ℕ
 depths_in n p = map (λ c. depth_in n p (origin.Component c)) (range_with_len 0 (component_count p))
 
 -- of each component its depth
-abbrev pub depths_of : Parts → List ℕ
+abbrev pub depths_of : FileParts → List ℕ
 depths_of p = map (depth_at p) (range_with_len 0 (component_count p))
 
 -- the components of a depth, by the depths of all

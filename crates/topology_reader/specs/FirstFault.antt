@@ -3,12 +3,12 @@ use Rattle.std.specs.Prelude.{◌≡◌, ℕ, List, [], ◌∷◌, length, nat_l
 use Rattle.serde_json.specs.Data.{Data}
 use Rattle.storm_values.specs.Json.{json_of}
 use Rattle.storm_values.specs.Lines.{first_some}
-use Rattle.topology_reader.specs.declared.parts.TopoFault.{TopoFault}
-use Rattle.topology_reader.specs.declared.parts.TopoFault.TheVariants.{TooLong, NotJson}
-use Rattle.topology_reader.specs.Format.{form_fault}
+use Rattle.topology_form.specs.declared.fault.TopoFault.{TopoFault}
+use Rattle.topology_form.specs.declared.fault.TopoFault.TheVariants.{TooLong, NotJson}
+use Rattle.topology_form.specs.File.{form_fault}
 use Rattle.topology_reader.specs.Meant.{meaning_fault}
 use Rattle.topology_reader.specs.Planned.{plan_of}
-use Rattle.topology_reader.specs.Said.{parts_said}
+use Rattle.topology_form.specs.File.{parts_said}
 use Rattle.topology_plan.specs.Topology.{Topology}
 
 -- a file longer than 65,536 bytes

@@ -1,6 +1,7 @@
-pub mod Forms
-pub mod Format
-pub mod Said
+pub use Rattle.topology_form.specs.declared.fault.TopoFault
+pub use Rattle.topology_form.specs.File
+pub use Rattle.topology_form.specs.Ranges
+pub use Rattle.topology_form.specs.Faults
 pub mod Wiring
 pub mod Planned
 pub mod Meant
@@ -12,12 +13,9 @@ pub mod Fields
 pub mod FieldFaults
 pub mod Wires
 pub mod Rounds
-pub mod Ranges
 pub mod PlanSteps
 pub mod Reach
 pub mod Subscribed
 pub mod Names
 pub mod Ways
-pub mod Progress
-pub mod Faults
 pub mod Made

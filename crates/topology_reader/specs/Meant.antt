@@ -1,5 +1,5 @@
 -- The faults of what a topology file says, in the order of the checks. This project's own.
-use Rattle.std.specs.Prelude.{ℕ, ◌+◌, pos, List, [], ◌∷◌, ◌++◌, length, map, Bool, true, false, not, nat_lt, if◌then◌else◌, Option, Some, None, option_map, option_and_then, slice_index_or, is_none, codes}
+use Rattle.std.specs.Prelude.{ℕ, ◌+◌, ◌&&◌, ℤ, pos, int_le, List, [], ◌∷◌, ◌++◌, length, map, Bool, true, false, not, nat_lt, if◌then◌else◌, Option, Some, None, option_map, option_and_then, slice_index_or, is_none, codes}
 use Rattle.std.specs.List.{list_any, find, range_with_len, flat_map}
 use Rattle.std.specs.Option.{option_map_or, option_to_list}
 use Rattle.std.specs.Cmp.Lexicographic.{pointwise}
@@ -8,20 +8,27 @@ use Rattle.storm_values.specs.Lines.{first_some}
 use Rattle.topology_plan.specs.declared.parts.Kind.{Kind}
 use Rattle.topology_plan.specs.declared.parts.Kind.TheVariants.{Transactional, Opaque}
 use Rattle.topology_plan.specs.declared.parts.Origin.TheVariants as origin
-use Rattle.topology_reader.specs.declared.parts.Way.{Way}
-use Rattle.topology_reader.specs.declared.parts.Way.TheVariants as way
-use Rattle.topology_reader.specs.declared.parts.Input.{Input}
-use Rattle.topology_reader.specs.declared.parts.Operation.{Operation}
-use Rattle.topology_reader.specs.declared.parts.Operation.TheVariants.{Split, Project, Filter, Set, Len, Route, Flaky, Mute, Custom}
-use Rattle.topology_reader.specs.declared.parts.BoltPart.{BoltPart}
-use Rattle.topology_reader.specs.declared.parts.StatePart.{StatePart}
-use Rattle.topology_reader.specs.declared.parts.Parts.{Parts}
-use Rattle.topology_reader.specs.declared.parts.TopoFault.{TopoFault}
-use Rattle.topology_reader.specs.declared.parts.TopoFault.TheVariants.{WrongKind, Twice, NoSource, Cycle, FieldsDiffer, NoField, NotExactlyOnce, Weight}
-use Rattle.topology_reader.specs.Forms.{is_among, range_fault}
+use Rattle.topology_form.specs.declared.parts.GroupingPart.{GroupingPart}
+use Rattle.topology_form.specs.declared.parts.GroupingPart.TheVariants as said
+use Rattle.topology_form.specs.declared.parts.Input.{Input}
+use Rattle.topology_form.specs.declared.parts.Operation.{Operation}
+use Rattle.topology_form.specs.declared.parts.Operation.TheVariants.{Split, Project, Filter, Set, Len, Route, Flaky, Mute, Custom}
+use Rattle.topology_form.specs.declared.parts.BoltPart.{BoltPart}
+use Rattle.topology_form.specs.declared.parts.StatePart.{StatePart}
+use Rattle.topology_form.specs.declared.parts.FileParts.{FileParts}
+use Rattle.topology_form.specs.declared.fault.TopoFault.{TopoFault}
+use Rattle.topology_form.specs.declared.fault.TopoFault.TheVariants.{WrongKind, OutOfRange, Twice, NoSource, Cycle, FieldsDiffer, NoField, NotExactlyOnce, Weight}
 use Rattle.topology_plan.specs.Topology.{tasks_in_all, weight_of}
 use Rattle.topology_reader.specs.Wiring.{component_names, name_at, source_of, inputs_by_component, inputs_at, sources_at, reaches, by_depth, fields_of, fields_to, operation_at}
 use Rattle.topology_reader.specs.Planned.{plan_of}
+
+-- the text is among these
+abbrev pub is_among : List (List ℕ) → List ℕ → Bool
+is_among texts text = list_any (bytes_eq text) texts
+
+-- a number or a length that is out of its range
+abbrev pub range_fault : List ℕ → ℤ → ℕ → ℕ → Option TopoFault
+range_fault name found least most = if int_le (pos least) found && int_le found (pos most) then None else Some (OutOfRange name found least most)
 
 -- ---- names that stand twice
 
@@ -30,13 +37,13 @@ abbrev pub first_again : List (List ℕ) → List (List ℕ) → Option (List �
 first_again before [] = None
 first_again before (name ∷ names) = if is_among before name then Some name else first_again (name ∷ before) names
 
--- the key that a way names
-abbrev pub key_of : Way → List (List ℕ)
-key_of way.Shuffle = []
-key_of (way.Fields key) = key
-key_of way.All = []
-key_of way.Global = []
-key_of way.Direct = []
+-- the key that a grouping names
+abbrev pub key_of : GroupingPart → List (List ℕ)
+key_of said.Shuffle = []
+key_of (said.Fields key) = key
+key_of said.All = []
+key_of said.Global = []
+key_of said.Direct = []
 
 -- the names that an operation puts in the place of the fields
 abbrev pub projected : Operation → List (List ℕ)
@@ -53,41 +60,41 @@ projected Custom = []
 -- the lists of a bolt in which no name is to stand twice: the sources, the key of each input, the projected fields
 abbrev pub bolt_lists : BoltPart → List (List (List ℕ))
 bolt_lists bolt =
-    map (λ (input : Input). input.from) bolt.inputs ∷ (map (λ (input : Input). key_of input.way) bolt.inputs ++ projected bolt.operation ∷ [])
+    map (λ (input : Input). input.from) bolt.inputs ∷ (map (λ (input : Input). key_of input.grouping) bolt.inputs ++ projected bolt.operation ∷ [])
 
 -- the lists of a state in which no name is to stand twice: the key, and the sources
 abbrev pub state_lists : StatePart → List (List (List ℕ))
 state_lists state = state.key ∷ state.inputs ∷ []
 
 -- all such lists, the names of the spout and the components first
-abbrev pub name_lists : Parts → List (List (List ℕ))
+abbrev pub name_lists : FileParts → List (List (List ℕ))
 name_lists p = (p.spout.name ∷ component_names p) ∷ p.spout.fields ∷ (flat_map bolt_lists p.bolts ++ flat_map state_lists p.states)
 
 -- the first name that stands twice in one of these lists
-abbrev pub twice_fault : Parts → Option TopoFault
+abbrev pub twice_fault : FileParts → Option TopoFault
 twice_fault p = option_map Twice (first_some (map (first_again []) (name_lists p)))
 
 -- ---- sources
 
 -- the first input that names neither the spout nor a bolt
-abbrev pub source_fault : Parts → Option TopoFault
+abbrev pub source_fault : FileParts → Option TopoFault
 source_fault p =
     let named = map (λ (input : Input). input.from) (flat_map (λ inputs. inputs) (inputs_by_component p)) in
     option_map NoSource (find (λ name. is_none (source_of p name)) named)
 
 -- the first bolt that can be reached from itself
-abbrev pub cycle_fault : Parts → Option TopoFault
+abbrev pub cycle_fault : FileParts → Option TopoFault
 cycle_fault p = option_map (λ c. Cycle (name_at p c)) (find (λ c. reaches p c c) (range_with_len 0 (length p.bolts)))
 
 -- ---- fields
 
 -- two of the sources have different fields
-abbrev pub differ_fault : Parts → ℕ → Option TopoFault
+abbrev pub differ_fault : FileParts → ℕ → Option TopoFault
 differ_fault p c =
     if list_any (λ from. not (pointwise bytes_eq (fields_of p from) (fields_to p c))) (sources_at p c) then Some (FieldsDiffer (name_at p c)) else None
 
 -- the first of some names that is no field of what comes to the component
-abbrev pub field_fault : Parts → ℕ → List (List ℕ) → Option TopoFault
+abbrev pub field_fault : FileParts → ℕ → List (List ℕ) → Option TopoFault
 field_fault p c names = option_map (NoField (name_at p c)) (find (λ name. not (is_among (fields_to p c) name)) names)
 
 -- the operation chooses the tasks of its rows
@@ -103,20 +110,20 @@ is_route (Mute below) = false
 is_route Custom = false
 
 -- the source chooses the task by a route
-abbrev pub chooses : Parts → Input → Bool
+abbrev pub chooses : FileParts → Input → Bool
 chooses p input = option_map_or is_route (option_and_then (operation_at p) (source_of p input.from)) false
 
 -- a direct grouping of a source that does not choose
-abbrev pub direct_fault : Parts → Input → Way → Option TopoFault
-direct_fault p input way.Shuffle = None
-direct_fault p input (way.Fields key) = None
-direct_fault p input way.All = None
-direct_fault p input way.Global = None
-direct_fault p input way.Direct = if chooses p input then None else Some (WrongKind (codes "grouping"))
+abbrev pub direct_fault : FileParts → Input → GroupingPart → Option TopoFault
+direct_fault p input said.Shuffle = None
+direct_fault p input (said.Fields key) = None
+direct_fault p input said.All = None
+direct_fault p input said.Global = None
+direct_fault p input said.Direct = if chooses p input then None else Some (WrongKind (codes "grouping"))
 
 -- first the names of the key, then the source of a direct grouping
-abbrev pub input_fault : Parts → ℕ → Input → Option TopoFault
-input_fault p c input = first_some (field_fault p c (key_of input.way) ∷ direct_fault p input input.way ∷ [])
+abbrev pub input_fault : FileParts → ℕ → Input → Option TopoFault
+input_fault p c input = first_some (field_fault p c (key_of input.grouping) ∷ direct_fault p input input.grouping ∷ [])
 
 -- the fields that an operation reads
 abbrev pub fields_read : Operation → List (List ℕ)
@@ -131,7 +138,7 @@ fields_read (Mute below) = []
 fields_read Custom = []
 
 -- the fields that a component reads: a bolt's operation, or a state's key and then its amount
-abbrev pub reads_at : Parts → ℕ → List (List ℕ)
+abbrev pub reads_at : FileParts → ℕ → List (List ℕ)
 reads_at p c =
     slice_index_or (map (λ (bolt : BoltPart). fields_read bolt.operation) p.bolts ++ map (λ (state : StatePart). state.key ++ option_to_list state.amount) p.states) c []
 
@@ -148,7 +155,7 @@ added_fault fields (Mute below) = None
 added_fault fields Custom = None
 
 -- the first fault of fields of one component: its sources, its inputs in order, what it reads, what it adds
-abbrev pub component_fault : Parts → ℕ → Option TopoFault
+abbrev pub component_fault : FileParts → ℕ → Option TopoFault
 component_fault p c =
     first_some
     ((differ_fault p c ∷ map (input_fault p c) (inputs_at p c))
@@ -157,7 +164,7 @@ component_fault p c =
     ∷ [])
 
 -- component by component, by depth, then in file order
-abbrev pub fields_fault : Parts → Option TopoFault
+abbrev pub fields_fault : FileParts → Option TopoFault
 fields_fault p = first_some (map (component_fault p) (by_depth p))
 
 -- ---- the whole
@@ -167,7 +174,7 @@ is_transactional Transactional = true
 is_transactional Opaque = false
 
 -- an opaque spout, and the first transactional state
-abbrev pub replay_fault : Parts → Kind → Option TopoFault
+abbrev pub replay_fault : FileParts → Kind → Option TopoFault
 replay_fault p Transactional = None
 replay_fault p Opaque = option_map (λ (state : StatePart). NotExactlyOnce state.name) (find (λ (state : StatePart). is_transactional state.kind) p.states)
 
@@ -176,7 +183,7 @@ abbrev pub weight_fault : ℕ → Option TopoFault
 weight_fault weight = if nat_lt 256 weight then Some (Weight weight) else None
 
 -- the first fault of what a file says, in the order of the checks
-unfoldable pub meaning_fault : Parts → Option TopoFault
+unfoldable pub meaning_fault : FileParts → Option TopoFault
 meaning_fault p =
     first_some
     (twice_fault p

@@ -11,14 +11,14 @@ use Rattle.topology_plan.specs.declared.parts.Op.TheVariants as op
 use Rattle.topology_plan.specs.declared.parts.Origin.{Origin}
 use Rattle.topology_plan.specs.declared.parts.Origin.TheVariants as origin
 use Rattle.topology_plan.specs.declared.parts.Sub.{Sub}
-use Rattle.topology_reader.specs.declared.parts.Way.{Way}
-use Rattle.topology_reader.specs.declared.parts.Way.TheVariants as way
-use Rattle.topology_reader.specs.declared.parts.Input.{Input}
-use Rattle.topology_reader.specs.declared.parts.Operation.{Operation}
-use Rattle.topology_reader.specs.declared.parts.Operation.TheVariants.{Split, Project, Filter, Set, Len, Route, Flaky, Mute, Custom}
-use Rattle.topology_reader.specs.declared.parts.BoltPart.{BoltPart}
-use Rattle.topology_reader.specs.declared.parts.StatePart.{StatePart}
-use Rattle.topology_reader.specs.declared.parts.Parts.{Parts}
+use Rattle.topology_form.specs.declared.parts.GroupingPart.{GroupingPart}
+use Rattle.topology_form.specs.declared.parts.GroupingPart.TheVariants as said
+use Rattle.topology_form.specs.declared.parts.Input.{Input}
+use Rattle.topology_form.specs.declared.parts.Operation.{Operation}
+use Rattle.topology_form.specs.declared.parts.Operation.TheVariants.{Split, Project, Filter, Set, Len, Route, Flaky, Mute, Custom}
+use Rattle.topology_form.specs.declared.parts.BoltPart.{BoltPart}
+use Rattle.topology_form.specs.declared.parts.StatePart.{StatePart}
+use Rattle.topology_form.specs.declared.parts.FileParts.{FileParts}
 use Rattle.topology_plan.specs.Topology.{Topology}
 use Rattle.topology_reader.specs.Wiring.{place_of, source_of, inputs_by_component, fields_of, fields_to, operation_at}
 
@@ -59,12 +59,12 @@ route_field fields (Mute below) = 0
 route_field fields Custom = 0
 
 -- the grouping of a subscription to a source, in the numbers of the source's fields
-abbrev pub planned_grouping : Parts → Origin → Way → Grouping
-planned_grouping p from way.Shuffle = grouping.Shuffle
-planned_grouping p from (way.Fields key) = grouping.Fields (numbers_of (fields_of p from) key)
-planned_grouping p from way.All = grouping.All
-planned_grouping p from way.Global = grouping.Global
-planned_grouping p from way.Direct = grouping.Direct (option_map_or (route_field (fields_of p from)) (operation_at p from) 0)
+abbrev pub planned_grouping : FileParts → Origin → GroupingPart → Grouping
+planned_grouping p from said.Shuffle = grouping.Shuffle
+planned_grouping p from (said.Fields key) = grouping.Fields (numbers_of (fields_of p from) key)
+planned_grouping p from said.All = grouping.All
+planned_grouping p from said.Global = grouping.Global
+planned_grouping p from said.Direct = grouping.Direct (option_map_or (route_field (fields_of p from)) (operation_at p from) 0)
 
 -- the two sources are one
 abbrev pub is_origin : Origin → Origin → Bool
@@ -74,30 +74,30 @@ is_origin (origin.Component c) origin.Spout = false
 is_origin (origin.Component c) (origin.Component d) = c == d
 
 -- the input is of this source
-abbrev pub is_from : Parts → Origin → Input → Bool
+abbrev pub is_from : FileParts → Origin → Input → Bool
 is_from p from input = option_map_or (is_origin from) (source_of p input.from) false
 
 -- the subscriptions of a component to a source
-abbrev pub subs_of_component : Parts → Origin → ℕ × List Input → List Sub
+abbrev pub subs_of_component : FileParts → Origin → ℕ × List Input → List Sub
 subs_of_component p from component =
-    map (λ (input : Input). record { to = component.0; grouping = planned_grouping p from input.way }) (filter (is_from p from) component.1)
+    map (λ (input : Input). record { to = component.0; grouping = planned_grouping p from input.grouping }) (filter (is_from p from) component.1)
 
 -- the subscriptions to a source, in the order of their consumers
-abbrev pub planned_subs : Parts → Origin → List Sub
+abbrev pub planned_subs : FileParts → Origin → List Sub
 planned_subs p from = flat_map (subs_of_component p from) (enumerate_from 0 (inputs_by_component p))
 
 -- ---- components
 
 -- tasks and parts of the components
-abbrev pub tasks_by_component : Parts → List ℕ
+abbrev pub tasks_by_component : FileParts → List ℕ
 tasks_by_component p = map (λ (bolt : BoltPart). bolt.tasks) p.bolts ++ map (λ (state : StatePart). state.parts) p.states
 
 -- tasks are numbered through the components
-abbrev pub first_task_of : Parts → ℕ → ℕ
+abbrev pub first_task_of : FileParts → ℕ → ℕ
 first_task_of p c = sum (take c (tasks_by_component p))
 
 -- the component of a bolt and its number
-abbrev pub planned_bolt : Parts → ℕ × BoltPart → Component
+abbrev pub planned_bolt : FileParts → ℕ × BoltPart → Component
 planned_bolt p numbered =
     let c = numbered.0 in
     let bolt = numbered.1 in
@@ -110,7 +110,7 @@ planned_bolt p numbered =
     }
 
 -- the component of a state and its number
-abbrev pub planned_state : Parts → ℕ × StatePart → Component
+abbrev pub planned_state : FileParts → ℕ × StatePart → Component
 planned_state p numbered =
     let c = numbered.0 in
     let state = numbered.1 in
@@ -128,7 +128,7 @@ planned_state p numbered =
     }
 
 -- the whole plan
-unfoldable pub plan_of : Parts → Topology
+unfoldable pub plan_of : FileParts → Topology
 plan_of p = record {
   spout_fields = length p.spout.fields;
   spout_kind = p.spout.kind;

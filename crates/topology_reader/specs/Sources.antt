@@ -5,22 +5,22 @@ use Rattle.std.specs.List.{filter_map}
 use Rattle.std.specs.Str.{bytes_eq}
 use Rattle.indexmap.specs.IndexMap.{IndexMap, get_by}
 use Rattle.topology_plan.specs.declared.parts.Origin.{Origin}
-use Rattle.topology_reader.specs.declared.parts.Input.{Input}
-use Rattle.topology_reader.specs.declared.parts.Parts.{Parts}
+use Rattle.topology_form.specs.declared.parts.Input.{Input}
+use Rattle.topology_form.specs.declared.parts.FileParts.{FileParts}
 use Rattle.topology_reader.specs.Wiring.{source_of, inputs_by_component}
 
 -- the sources of some inputs, in their order
-abbrev pub sources_among : Parts → List Input → List Origin
+abbrev pub sources_among : FileParts → List Input → List Origin
 sources_among p inputs = filter_map (λ (input : Input). source_of p input.from) inputs
 
 -- the sources of each component
-abbrev pub source_table : Parts → List (List Origin)
+abbrev pub source_table : FileParts → List (List Origin)
 source_table p = map (sources_among p) (inputs_by_component p)
 
 -- the bolts' numbers fit 32 bits
-abbrev pub IsNumbered : Parts → Type 0
+abbrev pub IsNumbered : FileParts → Type 0
 IsNumbered p = length p.bolts < 2 ^ 32
 
 -- a map from a name to the source of that name
-abbrev pub IsIndexOf : {S : Type 0} → Parts → IndexMap (Bor (List ℕ)) Origin S → Type 0
+abbrev pub IsIndexOf : {S : Type 0} → FileParts → IndexMap (Bor (List ℕ)) Origin S → Type 0
 IsIndexOf p m = (name : Bor (List ℕ)) → get_by (λ (key : Bor (List ℕ)). bytes_eq name.now key.now) m ≡ source_of p name.now

@@ -4,8 +4,8 @@ use Rattle.std.specs.Option.{option_map_or}
 use Rattle.topology_plan.specs.declared.parts.Origin.{Origin}
 use Rattle.topology_plan.specs.declared.parts.Origin.TheVariants as origin
 use Rattle.topology_plan.specs.declared.parts.Sub.{Sub}
-use Rattle.topology_reader.specs.declared.parts.Input.{Input}
-use Rattle.topology_reader.specs.declared.parts.Parts.{Parts}
+use Rattle.topology_form.specs.declared.parts.Input.{Input}
+use Rattle.topology_form.specs.declared.parts.FileParts.{FileParts}
 use Rattle.topology_reader.specs.Planned.{planned_grouping}
 use Rattle.topology_reader.specs.Wiring.{source_of}
 
@@ -23,12 +23,12 @@ with_sub table (origin.Component c) sub = record {
 }
 
 -- an input of a component, at its source
-abbrev pub with_input : Parts → ℕ → SubTable → Input → SubTable
+abbrev pub with_input : FileParts → ℕ → SubTable → Input → SubTable
 with_input p to table input =
-    option_map_or (λ from. with_sub table from (record { to = to; grouping = planned_grouping p from input.way })) (source_of p input.from) table
+    option_map_or (λ from. with_sub table from (record { to = to; grouping = planned_grouping p from input.grouping })) (source_of p input.from) table
 
 -- all inputs of a component
-abbrev pub with_inputs : Parts → SubTable → ℕ × List Input → SubTable
+abbrev pub with_inputs : FileParts → SubTable → ℕ × List Input → SubTable
 with_inputs p table component = fold (with_input p component.0) table component.1
 
 -- no subscription yet

@@ -7,17 +7,17 @@ use Rattle.topology_plan.specs.declared.parts.Origin.TheVariants as origin
 use Rattle.topology_plan.specs.Texts.{IsName}
 use Rattle.topology_plan.specs.Topology.{weight_of}
 use Rattle.topology_plan.specs.Valid.{IsBetween}
-use Rattle.topology_reader.specs.declared.parts.Way.TheVariants as way
-use Rattle.topology_reader.specs.declared.parts.Input.{Input}
-use Rattle.topology_reader.specs.declared.parts.Operation.{Operation}
-use Rattle.topology_reader.specs.declared.parts.Operation.TheVariants.{Route}
-use Rattle.topology_reader.specs.declared.parts.BoltPart.{BoltPart}
-use Rattle.topology_reader.specs.declared.parts.StatePart.{StatePart}
-use Rattle.topology_reader.specs.declared.parts.Parts.{Parts}
+use Rattle.topology_form.specs.declared.parts.GroupingPart.TheVariants as said
+use Rattle.topology_form.specs.declared.parts.Input.{Input}
+use Rattle.topology_form.specs.declared.parts.Operation.{Operation}
+use Rattle.topology_form.specs.declared.parts.Operation.TheVariants.{Route}
+use Rattle.topology_form.specs.declared.parts.BoltPart.{BoltPart}
+use Rattle.topology_form.specs.declared.parts.StatePart.{StatePart}
+use Rattle.topology_form.specs.declared.parts.FileParts.{FileParts}
 use Rattle.topology_reader.specs.Wiring.{component_names, component_count, source_of, inputs_at, fields_after, fields_of, fields_to}
 use Rattle.topology_reader.specs.Planned.{tasks_by_component, plan_of}
 use Rattle.topology_reader.specs.Meant.{key_of, reads_at}
-use Rattle.topology_reader.specs.Ranges.{IsInRange}
+use Rattle.topology_form.specs.Ranges.{IsInRange}
 
 -- no name stands twice
 abbrev pub AreDistinct : List (List ℕ) → Type 0
@@ -26,12 +26,12 @@ AreDistinct names = AllPairs (λ a b. a ≢ b) names
 -- ---- sources
 
 -- the source is the spout or a bolt
-abbrev pub IsSource : Parts → Origin → Type 0
+abbrev pub IsSource : FileParts → Origin → Type 0
 IsSource p origin.Spout = Unit {0}
 IsSource p (origin.Component b) = b < length p.bolts
 
 -- a source has 1 to 8 fields, which are names, none twice
-pub record HasFields (p : Parts) (from : Origin) : Type 0 where
+pub record HasFields (p : FileParts) (from : Origin) : Type 0 where
   pub count : IsBetween (length (fields_of p from)) 1 8
   pub named : All IsName (fields_of p from)
   pub distinct : AreDistinct (fields_of p from)
@@ -42,7 +42,7 @@ IsRoute (Route field) = Unit {0}
 IsRoute _ = ⊥
 
 -- the source is a bolt that chooses the tasks of its rows
-abbrev pub IsRouteAt : Parts → Origin → Type 0
+abbrev pub IsRouteAt : FileParts → Origin → Type 0
 IsRouteAt p origin.Spout = ⊥
 IsRouteAt p (origin.Component b) = (bolt : BoltPart) × (slice_get p.bolts b ≡ Some bolt) × IsRoute bolt.operation
 
@@ -50,17 +50,17 @@ IsRouteAt p (origin.Component b) = (bolt : BoltPart) × (slice_get p.bolts b ≡
 
 -- An input names a source that has these fields. The names of its key are among them, none twice, and it is grouped
 -- direct where its source is a route alone.
-pub record IsValidInput (p : Parts) (fields : List (List ℕ)) (input : Input) : Type 0 where
+pub record IsValidInput (p : FileParts) (fields : List (List ℕ)) (input : Input) : Type 0 where
   pub from : Origin
   pub named : source_of p input.from ≡ Some from
   pub source : IsSource p from
   pub comes : fields_of p from ≡ fields
-  pub key : AreDistinct (key_of input.way)
-  pub key_fields : All (Contains fields) (key_of input.way)
-  pub direct : input.way ≡ way.Direct → IsRouteAt p from
+  pub key : AreDistinct (key_of input.grouping)
+  pub key_fields : All (Contains fields) (key_of input.grouping)
+  pub direct : input.grouping ≡ said.Direct → IsRouteAt p from
 
 -- the inputs of component c name different sources, all with the same fields, and what it reads is among these
-pub record IsValidComponent (p : Parts) (c : ℕ) : Type 0 where
+pub record IsValidComponent (p : FileParts) (c : ℕ) : Type 0 where
   pub distinct : AllPairs (λ (a b : Input). a.from ≢ b.from) (inputs_at p c)
   pub inputs : All (IsValidInput p (fields_to p c)) (inputs_at p c)
   pub reads : All (Contains (fields_to p c)) (reads_at p c)
@@ -68,12 +68,12 @@ pub record IsValidComponent (p : Parts) (c : ℕ) : Type 0 where
 -- ---- the file
 
 -- components can be numbered so that each has a greater number than each bolt whose rows it takes
-pub record IsNumbered (p : Parts) : Type 0 where
+pub record IsNumbered (p : FileParts) : Type 0 where
   pub number : ℕ → ℕ
   pub grows : (b c : ℕ) → All (λ (input : Input). source_of p input.from ≡ Some (origin.Component b) → number b < number c) (inputs_at p c)
 
 -- names, sources, fields, kinds and numbers are such that the file has a plan
-pub record IsValidFile (p : Parts) : Type 0 where
+pub record IsValidFile (p : FileParts) : Type 0 where
   -- numbers, lengths of lists, and names by themselves
   pub range : IsInRange p
   pub names : AreDistinct (p.spout.name ∷ component_names p)

@@ -3,8 +3,8 @@ use Rattle.std.specs.Prelude.{◌≡◌, ℕ, ◌==◌, ◌<◌, Bool, List, len
 use Rattle.std.specs.Int.{bit_at}
 use Rattle.std.specs.List.{filter_map}
 use Rattle.topology_plan.specs.declared.parts.Origin.{Origin}
-use Rattle.topology_reader.specs.declared.parts.Input.{Input}
-use Rattle.topology_reader.specs.declared.parts.Parts.{Parts}
+use Rattle.topology_form.specs.declared.parts.Input.{Input}
+use Rattle.topology_form.specs.declared.parts.FileParts.{FileParts}
 use Rattle.topology_reader.specs.Wiring.{source_of, reaches_over}
 
 -- the set of the bits that are 1 has this number
@@ -12,10 +12,10 @@ abbrev pub has : ℕ → ℕ → Bool
 has set a = bit_at set a == 1
 
 -- the sources of some inputs
-abbrev pub input_sources : Parts → List Input → List Origin
+abbrev pub input_sources : FileParts → List Input → List Origin
 input_sources p inputs = filter_map (λ (input : Input). source_of p input.from) inputs
 
 -- the set of bolt b holds the bolts with a way to b on which the bolts in between are among the first n
-pub record AreWays (n : ℕ) (p : Parts) (sets : List ℕ) : Type 0 where
+pub record AreWays (n : ℕ) (p : FileParts) (sets : List ℕ) : Type 0 where
   pub counted : length sets ≡ length p.bolts
   pub held : (a b : ℕ) → b < length p.bolts → has (slice_index sets b) a ≡ reaches_over n p a b

@@ -3,23 +3,23 @@
 ghost use Rattle.std.specs.Prelude.{◌≡◌, ◌<◌, ◌^◌, [], ◌∷◌, pos, codes, sum_by, None, Some, IfOk, MatchResult};
 ghost use Rattle.storm_values.specs.Lines.{first_some};
 ghost use Rattle.topology_plan.specs.declared.parts.Component.{Component};
-ghost use Rattle.topology_reader.specs.Forms.{range_fault};
+ghost use Rattle.topology_reader.specs.Meant.{range_fault};
 ghost use Rattle.topology_reader.specs.Made.{IsMade};
 ghost use Rattle.topology_reader.specs.Meant.{weight_fault, meaning_fault};
 ghost use Rattle.topology_reader.specs.Planned.{plan_of};
 ghost use Rattle.topology_reader.specs.PlanSteps.{fault_before_size, size_fault};
-ghost use Rattle.topology_reader.specs.Ranges.{IsInRange};
+ghost use Rattle.topology_form.specs.Ranges.{IsInRange};
 
 use crate::cycles::{cycle_fault, replay_fault};
 use crate::fields::Wiring;
 use crate::fields_fault::fields_fault;
 use crate::names::{source_fault, twice_fault};
 use crate::numbers::{depth_from, weight_from};
-use crate::parts::{Parts, TopoFault};
 use crate::planned::planned_components;
 use crate::subscribed::Subs;
 use std::alloc::Global;
 use storm_values::{Memory, Txt};
+use topology_form::{FileParts, TopoFault};
 use topology_plan::{Component, Made, Plan};
 
 const MOST_TASKS: u32 = 256;
@@ -30,7 +30,7 @@ const MOST_WEIGHT: u64 = 256;
 ///
 /// The faults in their order: a name that stands twice, an input without a source, a cycle, fields, a transactional
 /// state under an opaque spout, the tasks in all, and the weight.
-pub fn plan_from(alloc: Global, parts: &Parts) -> Result<Result<Plan, TopoFault>, Memory>
+pub fn plan_from(alloc: Global, parts: &FileParts) -> Result<Result<Plan, TopoFault>, Memory>
     requires { IsInRange parts.now }
     ensures { IfOk result (λ read. MatchResult read
         (λ plan. (meaning_fault parts.now ≡ None) × (plan ≡ plan_of parts.now))

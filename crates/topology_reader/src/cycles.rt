@@ -8,9 +8,9 @@ ghost use Rattle.topology_reader.specs.Ways.{has, input_sources, AreWays};
 ghost use Rattle.topology_reader.specs.Wiring.{is_component, source_of};
 
 use crate::index::Index;
-use crate::parts::{Input, Parts, StatePart, TopoFault};
 use std::alloc::Global;
 use storm_values::{Memory, Txt};
+use topology_form::{FileParts, Input, StatePart, TopoFault};
 use topology_plan::{Kind, Origin};
 
 /// The first bolt that can be reached from itself.
@@ -114,7 +114,7 @@ fn has(set: u64, a: usize) -> bool
 /// The first transactional state, which an opaque spout does not keep exact.
 pub(crate) fn replay_fault(
     alloc: Global,
-    parts: &Parts,
+    parts: &FileParts,
     kind: Kind,
 ) -> Result<Option<TopoFault>, Memory>
     ensures { IfOk result (λ fault. fault ≡ replay_fault parts.now kind) }

@@ -5,11 +5,11 @@ ghost use Rattle.topology_reader.specs.Fields.{field_table};
 ghost use Rattle.topology_reader.specs.Wiring.{fields_after, first_fields, fields_in, fields_of, fields_to};
 ghost use Rattle.topology_reader.specs.Sources.{IsNumbered};
 
-use crate::parts::{Operation, Parts};
 use crate::sources::Sources;
 use std::alloc::Global;
 use std::marker::Model;
 use storm_values::{Memory, Names, Seq, Txt};
+use topology_form::{FileParts, Operation};
 use topology_plan::Origin;
 
 /// The sources of each component and the fields of each source, which contracts see as what the
@@ -22,9 +22,9 @@ pub(crate) struct Wiring<'p> {
 }
 
 impl<'p> Model for Wiring<'p> {
-    ghost use Rattle.topology_reader.specs.declared.parts.Parts.{Parts};
+    ghost use Rattle.topology_form.specs.declared.parts.FileParts.{FileParts};
 
-    ghost Value = { Parts };
+    ghost Value = { FileParts };
 
     ghost use Rattle.std.specs.Prelude.{◌≡◌};
     ghost use Rattle.topology_reader.specs.Fields.{field_table};
@@ -36,7 +36,7 @@ impl<'p> Model for Wiring<'p> {
 
 impl<'p> Wiring<'p> {
     /// Each bolt's fields are found in at most as many steps as there are bolts.
-    pub(crate) fn of(alloc: Global, parts: &'p Parts) -> Result<Self, Memory>
+    pub(crate) fn of(alloc: Global, parts: &'p FileParts) -> Result<Self, Memory>
         requires { IsNumbered parts.now }
         ensures { IfOk result (λ wiring. wiring ≡ parts.now) }
     {

@@ -6,17 +6,17 @@ ghost use Rattle.std.specs.Cmp.Lexicographic.{pointwise};
 ghost use Rattle.std.specs.Option.{option_copied, option_to_list};
 ghost use Rattle.std.specs.Str.{bytes_eq};
 ghost use Rattle.topology_reader.specs.FieldFaults.{inputs_fault, bolt_fault, state_fault};
-ghost use Rattle.topology_reader.specs.Forms.{is_among};
+ghost use Rattle.topology_reader.specs.Meant.{is_among};
 ghost use Rattle.topology_reader.specs.Meant.{differ_fault, field_fault, chooses, direct_fault, input_fault, fields_read, added_fault, component_fault, fields_fault};
 ghost use Rattle.topology_reader.specs.Wiring.{name_at, fields_of, fields_to, sources_at};
 
 use crate::depths::by_depth;
 use crate::fields::Wiring;
 use crate::names::key_of;
-use crate::parts::{BoltPart, Input, Operation, StatePart, TopoFault, Way};
 use std::alloc::Global;
 use std::slice::from_ref;
 use storm_values::{Memory, Txt};
+use topology_form::{BoltPart, GroupingPart, Input, Operation, StatePart, TopoFault};
 
 /// The first fault of the fields, each component after all of its sources.
 pub(crate) fn fields_fault(alloc: Global, wiring: &Wiring<'_>) -> Result<Option<TopoFault>, Memory>
@@ -186,7 +186,7 @@ fn input_fault(
 ) -> Result<Option<TopoFault>, Memory>
     ensures { IfOk result (λ fault. fault ≡ input_fault wiring.now c input.now) }
 {
-    match field_fault(alloc, wiring, c, key_of(&input.way))? {
+    match field_fault(alloc, wiring, c, key_of(&input.grouping))? {
         Some(fault) => Ok(Some(fault)),
         None => direct_fault(alloc, wiring, input),
     }
@@ -198,11 +198,14 @@ fn direct_fault(
     wiring: &Wiring<'_>,
     input: &Input,
 ) -> Result<Option<TopoFault>, Memory>
-    ensures { IfOk result (λ fault. fault ≡ direct_fault wiring.now input.now input.now.way) }
+    ensures { IfOk result (λ fault. fault ≡ direct_fault wiring.now input.now input.now.grouping) }
 {
-    match input.way {
-        Way::Shuffle | Way::Fields(_) | Way::All | Way::Global => Ok(None),
-        Way::Direct => {
+    match input.grouping {
+        GroupingPart::Shuffle
+        | GroupingPart::Fields(_)
+        | GroupingPart::All
+        | GroupingPart::Global => Ok(None),
+        GroupingPart::Direct => {
             if chooses(wiring, input) {
                 return Ok(None);
             }

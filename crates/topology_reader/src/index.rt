@@ -4,25 +4,25 @@ ghost use Rattle.std.specs.Prelude.{◌≡◌, length, IfOk};
 ghost use Rattle.topology_reader.specs.Sources.{IsIndexOf, IsNumbered};
 ghost use Rattle.topology_reader.specs.Wiring.{source_of};
 
-use crate::parts::Parts;
 use indexmap::IndexMap;
 use std::alloc::Global;
 use std::marker::Model;
 use storm_values::Memory;
+use topology_form::FileParts;
 use topology_plan::Origin;
 
 /// The spout and the bolts by their names, which contracts see as what the file says.
 #[derive(Drop)]
 pub(crate) struct Index<'p> {
-    parts: &'p Parts,
+    parts: &'p FileParts,
     /// The first one where a name stands twice.
     by_name: IndexMap<&'p str, Origin>,
 }
 
 impl<'p> Model for Index<'p> {
-    ghost use Rattle.topology_reader.specs.declared.parts.Parts.{Parts};
+    ghost use Rattle.topology_form.specs.declared.parts.FileParts.{FileParts};
 
-    ghost Value = { Parts };
+    ghost Value = { FileParts };
 
     ghost use Rattle.topology_reader.specs.Sources.{IsIndexOf, IsNumbered};
 
@@ -32,7 +32,7 @@ impl<'p> Model for Index<'p> {
 }
 
 impl<'p> Index<'p> {
-    pub(crate) fn of(alloc: Global, parts: &'p Parts) -> Result<Self, Memory>
+    pub(crate) fn of(alloc: Global, parts: &'p FileParts) -> Result<Self, Memory>
         requires { IsNumbered parts.now }
         ensures { IfOk result (λ index. index ≡ parts.now) }
     {
@@ -40,7 +40,7 @@ impl<'p> Index<'p> {
         Ok(Index { parts, by_name })
     }
 
-    pub(crate) fn parts(&self) -> &Parts
+    pub(crate) fn parts(&self) -> &FileParts
         ensures { result.now ≡ self.now }
     {
         self.parts
@@ -60,7 +60,7 @@ impl<'p> Index<'p> {
     }
 }
 
-fn sources_by_name(alloc: Global, parts: &Parts) -> Result<IndexMap<&str, Origin>, Memory>
+fn sources_by_name(alloc: Global, parts: &FileParts) -> Result<IndexMap<&str, Origin>, Memory>
     requires { IsNumbered parts.now }
     ensures { IfOk result (IsIndexOf parts.now) }
 {

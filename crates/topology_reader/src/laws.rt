@@ -4,15 +4,15 @@ ghost use Rattle.storm_values.specs.Json.{json_of};
 ghost use Rattle.topology_plan.specs.Topology.{Topology};
 ghost use Rattle.topology_plan.specs.Valid.{IsValid};
 ghost use Rattle.topology_reader.specs.FirstFault.{first_fault, IsFilePlan};
-ghost use Rattle.topology_reader.specs.Faults.{fault_text};
-ghost use Rattle.topology_reader.specs.Format.{form_fault};
-ghost use Rattle.topology_reader.specs.declared.parts.TopoFault.{TopoFault};
+ghost use Rattle.topology_form.specs.Faults.{fault_text};
+ghost use Rattle.topology_form.specs.File.{form_fault};
+ghost use Rattle.topology_form.specs.declared.fault.TopoFault.{TopoFault};
 ghost use Rattle.topology_plan.specs.Wired.{IsWired};
-ghost use Rattle.topology_reader.specs.Said.{parts_said};
+ghost use Rattle.topology_form.specs.File.{parts_said};
 ghost use Rattle.topology_reader.specs.ValidFile.{IsValidFile};
-ghost use Rattle.topology_reader.specs.declared.parts.Parts.{Parts};
+ghost use Rattle.topology_form.specs.declared.parts.FileParts.{FileParts};
 ghost use Rattle.topology_reader.specs.Meant.{cycle_fault, meaning_fault};
-ghost use Rattle.topology_reader.specs.Ranges.{IsInRange};
+ghost use Rattle.topology_form.specs.Ranges.{IsInRange};
 ghost use Rattle.topology_reader.specs.Reach.{IsWay};
 ghost use Rattle.topology_reader.specs.Wiring.{name_at, reaches};
 
@@ -25,15 +25,15 @@ pub fn plans_of_files_are_valid()
     ensures said { (bytes : List ℕ) (value : Data) → json_of bytes ≡ Some value → first_fault bytes ≡ None
         → IsValidFile (parts_said value) }
     ensures range { (value : Data) → form_fault value ≡ None → IsInRange (parts_said value) }
-    ensures exactly { (p : Parts) → IsInRange p → (meaning_fault p ≡ None) ↔ IsValidFile p }
+    ensures exactly { (p : FileParts) → IsInRange p → (meaning_fault p ≡ None) ↔ IsValidFile p }
 {}
 
 /// A law: a bolt reaches what it has a way to, each bolt on it feeding the next. A cycle is told exactly where a bolt has
 /// a way to itself, and it names the first such bolt.
 pub fn cycles_are_ways()
-    ensures reached { (p : Parts) (a b : ℕ) → (reaches p a b ≡ true) ↔ IsWay p a b }
-    ensures none { (p : Parts) → (cycle_fault p ≡ None) ↔ ((c : ℕ) → c < length p.bolts → IsWay p c c → ⊥) }
-    ensures first { (p : Parts) (fault : TopoFault) → cycle_fault p ≡ Some fault
+    ensures reached { (p : FileParts) (a b : ℕ) → (reaches p a b ≡ true) ↔ IsWay p a b }
+    ensures none { (p : FileParts) → (cycle_fault p ≡ None) ↔ ((c : ℕ) → c < length p.bolts → IsWay p c c → ⊥) }
+    ensures first { (p : FileParts) (fault : TopoFault) → cycle_fault p ≡ Some fault
         → (c : ℕ) × (c < length p.bolts) × (fault ≡ TopoFault.Cycle (name_at p c)) × IsWay p c c
         × ((b : ℕ) → b < c → IsWay p b b → ⊥) }
 {}

@@ -9,10 +9,10 @@ ghost use Rattle.topology_reader.specs.Names.{bolt_sources, state_sources, key_l
 ghost use Rattle.topology_reader.specs.Wiring.{component_names};
 
 use crate::index::Index;
-use crate::parts::{BoltPart, Input, Operation, Parts, StatePart, TopoFault, Way};
 use indexmap::IndexSet;
 use std::alloc::Global;
 use storm_values::{Memory, Txt};
+use topology_form::{BoltPart, FileParts, GroupingPart, Input, Operation, StatePart, TopoFault};
 
 /// What goes by a name.
 trait Named {
@@ -113,7 +113,7 @@ fn sourceless_in<'a, N: Named>(index: &Index<'_>, items: &'a [N]) -> Option<&'a 
 }
 
 /// A name that stands twice where it may not, the first in the order of the checks.
-pub(crate) fn twice_fault(alloc: Global, parts: &Parts) -> Result<Option<TopoFault>, Memory>
+pub(crate) fn twice_fault(alloc: Global, parts: &FileParts) -> Result<Option<TopoFault>, Memory>
     ensures { IfOk result (λ fault. fault ≡ twice_fault parts.now) }
 {
     let names = component_names(alloc, parts)?;
@@ -127,7 +127,7 @@ pub(crate) fn twice_fault(alloc: Global, parts: &Parts) -> Result<Option<TopoFau
 }
 
 /// The names of the spout and the components.
-fn component_names<'a>(alloc: Global, parts: &'a Parts) -> Result<Vec<&'a str>, Memory>
+fn component_names<'a>(alloc: Global, parts: &'a FileParts) -> Result<Vec<&'a str>, Memory>
     ensures { IfOk result (λ names. map (λ (name : Bor (List ℕ)). name.now) names.items
         ≡ parts.now.spout.name ∷ component_names parts.now) }
 {
@@ -144,7 +144,7 @@ fn component_names<'a>(alloc: Global, parts: &'a Parts) -> Result<Vec<&'a str>, 
 }
 
 /// A name that stands twice in a list of the parts, without that of the components' names.
-fn part_again(alloc: Global, parts: &Parts) -> Result<Option<&str>, Memory>
+fn part_again(alloc: Global, parts: &FileParts) -> Result<Option<&str>, Memory>
     ensures { IfOk result (λ again. option_copied again ≡ again_among (part_lists parts.now)) }
 {
     if let Some(name) = name_again(alloc, parts.spout.fields.as_slice())? {
@@ -189,7 +189,7 @@ fn keys_again(alloc: Global, inputs: &[Input]) -> Result<Option<&str>, Memory>
     ensures { IfOk result (λ again. option_copied again ≡ again_among (flat_map key_lists inputs.now)) }
 {
     for input in inputs {
-        if let Some(name) = name_again(alloc, key_of(&input.way))? {
+        if let Some(name) = name_again(alloc, key_of(&input.grouping))? {
             return Ok(Some(name));
         }
     }
@@ -217,11 +217,11 @@ fn state_again(alloc: Global, state: &StatePart) -> Result<Option<&str>, Memory>
 }
 
 /// The key that a grouping names.
-pub(crate) fn key_of(way: &Way) -> &[Txt]
-    ensures { result.now ≡ key_of way.now }
+pub(crate) fn key_of(said: &GroupingPart) -> &[Txt]
+    ensures { result.now ≡ key_of said.now }
 {
-    match way {
-        Way::Fields(key) => key.as_slice(),
+    match said {
+        GroupingPart::Fields(key) => key.as_slice(),
         _ => &[],
     }
 }

@@ -5,13 +5,13 @@ ghost use Rattle.std.specs.List.{enumerate_from};
 ghost use Rattle.std.specs.Option.{option_map_or};
 ghost use Rattle.topology_reader.specs.PlanSteps.{planned_components};
 ghost use Rattle.topology_reader.specs.Planned.{number_of, numbers_of, planned_operation, route_field, planned_grouping, planned_bolt, planned_state, first_task_of};
-ghost use Rattle.topology_reader.specs.Ranges.{IsInRange};
+ghost use Rattle.topology_form.specs.Ranges.{IsInRange};
 ghost use Rattle.topology_reader.specs.Wiring.{place_of, fields_of, fields_to, operation_at};
 
 use crate::fields::Wiring;
-use crate::parts::{BoltPart, Operation, StatePart, Way};
 use std::alloc::Global;
 use storm_values::{Duplicate, Indexes, Memory, Names, Txt};
+use topology_form::{BoltPart, GroupingPart, Operation, StatePart};
 use topology_plan::{Body, Component, Grouping, Op, Origin, StateSpec};
 
 fn place_of(fields: &[Txt], name: &Txt) -> Option<usize>
@@ -107,20 +107,20 @@ pub(crate) fn planned_grouping(
     alloc: Global,
     wiring: &Wiring<'_>,
     from: Origin,
-    way: &Way,
+    said: &GroupingPart,
 ) -> Result<Grouping, Memory>
     requires { IsInRange wiring.now }
-    ensures { IfOk result (λ grouping. grouping ≡ planned_grouping wiring.now from way.now) }
+    ensures { IfOk result (λ grouping. grouping ≡ planned_grouping wiring.now from said.now) }
 {
-    match way {
-        Way::Shuffle => Ok(Grouping::Shuffle),
-        Way::Fields(key) => {
+    match said {
+        GroupingPart::Shuffle => Ok(Grouping::Shuffle),
+        GroupingPart::Fields(key) => {
             let key = numbers_of(alloc, fields_of(wiring, from), key.as_slice())?;
             Ok(Grouping::Fields(key))
         }
-        Way::All => Ok(Grouping::All),
-        Way::Global => Ok(Grouping::Global),
-        Way::Direct => Ok(Grouping::Direct(chosen_field(wiring, from))),
+        GroupingPart::All => Ok(Grouping::All),
+        GroupingPart::Global => Ok(Grouping::Global),
+        GroupingPart::Direct => Ok(Grouping::Direct(chosen_field(wiring, from))),
     }
 }
 

@@ -1,21 +1,18 @@
 //! From the bytes of a topology file to its plan.
 
-ghost use Rattle.std.specs.Prelude.{◌≡◌, ◌≢◌, Some, None, IfOk, IfErr, MatchResult};
+ghost use Rattle.std.specs.Prelude.{◌≡◌, ◌≢◌, Some, None, IfOk, IfErr};
 ghost use Rattle.serde_json.specs.View.{view};
 ghost use Rattle.storm_values.specs.Json.{json_of};
 ghost use Rattle.topology_plan.specs.Valid.{IsValid};
 ghost use Rattle.topology_plan.specs.Wired.{IsWired};
 ghost use Rattle.topology_reader.specs.FirstFault.{first_fault, value_fault, IsFilePlan};
 ghost use Rattle.topology_reader.specs.Planned.{plan_of};
-ghost use Rattle.topology_reader.specs.Said.{parts_said};
+ghost use Rattle.topology_form.specs.File.{parts_said};
 
 use crate::assembly::plan_from;
-use crate::forms::form_fault;
-use crate::parts::TopoFault;
-use crate::said::parts_from;
 use serde_json::Value;
 use std::alloc::Global;
-use storm_values::Memory;
+use topology_form::{TopoFault, parts_from};
 use topology_plan::Plan;
 
 /// The most bytes of a topology file.
@@ -35,10 +32,7 @@ pub fn read_topology(alloc: Global, bytes: &[u8]) -> Result<Plan, TopoFault>
         return Err(TopoFault::TooLong(bytes.len()));
     }
     let value = parse(alloc, bytes)?;
-    match read_value(alloc, &value) {
-        Ok(read) => read,
-        Err(_) => Err(TopoFault::Memory),
-    }
+    read_value(alloc, value)
 }
 
 fn parse(alloc: Global, bytes: &[u8]) -> Result<Value, TopoFault>
@@ -57,14 +51,12 @@ fn parse(alloc: Global, bytes: &[u8]) -> Result<Value, TopoFault>
 }
 
 /// The plan of a file's value, or the value's first fault of form and then of what it says.
-fn read_value(alloc: Global, value: &Value) -> Result<Result<Plan, TopoFault>, Memory>
-    ensures { IfOk result (λ read. MatchResult read
-        (λ plan. (value_fault (Some (view value.now)) ≡ None) × (plan ≡ plan_of (parts_said (view value.now))))
-        (λ fault. value_fault (Some (view value.now)) ≡ Some fault)) }
+fn read_value(alloc: Global, value: Value) -> Result<Plan, TopoFault>
+    ensures plan { IfOk result (λ plan. (value_fault (Some (view value)) ≡ None)
+        × (plan ≡ plan_of (parts_said (view value)))) }
+    ensures fault { IfErr result (λ fault. fault ≢ TopoFault.Memory
+        → value_fault (Some (view value)) ≡ Some fault) }
 {
-    if let Some(fault) = form_fault(alloc, value)? {
-        return Ok(Err(fault));
-    }
     let parts = parts_from(alloc, value)?;
-    plan_from(alloc, &parts)
+    plan_from(alloc, &parts)?
 }

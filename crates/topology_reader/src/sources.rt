@@ -7,10 +7,10 @@ ghost use Rattle.topology_reader.specs.Sources.{IsNumbered, sources_among, sourc
 ghost use Rattle.topology_reader.specs.Wiring.{source_of, sources_at, component_count, operation_at, name_at};
 
 use crate::index::Index;
-use crate::parts::{BoltPart, Operation, Parts, StatePart};
 use std::alloc::Global;
 use std::marker::Model;
 use storm_values::{Memory, Seq, Txt};
+use topology_form::{BoltPart, FileParts, Operation, StatePart};
 use topology_plan::Origin;
 
 fn bolt_sources(alloc: Global, index: &Index<'_>, bolt: &BoltPart) -> Result<Vec<Origin>, Memory>
@@ -43,9 +43,9 @@ pub(crate) struct Sources<'p> {
 }
 
 impl<'p> Model for Sources<'p> {
-    ghost use Rattle.topology_reader.specs.declared.parts.Parts.{Parts};
+    ghost use Rattle.topology_form.specs.declared.parts.FileParts.{FileParts};
 
-    ghost Value = { Parts };
+    ghost Value = { FileParts };
 
     ghost use Rattle.std.specs.Prelude.{◌≡◌};
     ghost use Rattle.topology_reader.specs.Sources.{source_table};
@@ -56,7 +56,7 @@ impl<'p> Model for Sources<'p> {
 }
 
 impl<'p> Sources<'p> {
-    pub(crate) fn of(alloc: Global, parts: &'p Parts) -> Result<Self, Memory>
+    pub(crate) fn of(alloc: Global, parts: &'p FileParts) -> Result<Self, Memory>
         requires { IsNumbered parts.now }
         ensures { IfOk result (λ sources. sources ≡ parts.now) }
     {
@@ -71,7 +71,7 @@ impl<'p> Sources<'p> {
         &self.index
     }
 
-    pub(crate) fn parts(&self) -> &Parts
+    pub(crate) fn parts(&self) -> &FileParts
         ensures { result.now ≡ self.now }
     {
         self.index.parts()

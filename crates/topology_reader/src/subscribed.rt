@@ -4,19 +4,19 @@ ghost use Rattle.std.specs.Prelude.{◌≡◌, length, map, fold, IfOk, OnOk};
 ghost use Rattle.std.specs.List.{enumerate_from};
 ghost use Rattle.topology_reader.specs.PlanSteps.{planned_component_subs};
 ghost use Rattle.topology_reader.specs.Planned.{planned_subs};
-ghost use Rattle.topology_reader.specs.Ranges.{IsInRange};
+ghost use Rattle.topology_form.specs.Ranges.{IsInRange};
 ghost use Rattle.topology_reader.specs.Subscribed.{with_sub, with_input, with_inputs, no_subs};
 ghost use Rattle.topology_reader.specs.Wires.{items_by};
 ghost use Rattle.topology_reader.specs.Wiring.{state_inputs};
-ghost use Rattle.topology_reader.specs.declared.parts.BoltPart.{BoltPart};
+ghost use Rattle.topology_form.specs.declared.parts.BoltPart.{BoltPart};
 ghost use Rattle.topology_plan.specs.declared.parts.Origin.TheVariants as origin;
 
 use crate::fields::Wiring;
-use crate::parts::{BoltPart, StatePart, Way};
 use crate::planned::planned_grouping;
 use std::alloc::Global;
 use std::marker::Model;
 use storm_values::{Memory, Txt};
+use topology_form::{BoltPart, GroupingPart, StatePart};
 use topology_plan::{Origin, Sub};
 
 /// The subscriptions of each source.
@@ -121,14 +121,14 @@ impl Subs {
         wiring: &Wiring<'_>,
         to: u32,
         name: &Txt,
-        way: &Way,
+        said: &GroupingPart,
     ) -> Result<(), Memory>
         requires { IsInRange wiring.now }
         ensures { OnOk result (self.new
-            ≡ with_input wiring.now to self.old (record { from = name.now; way = way.now })) }
+            ≡ with_input wiring.now to self.old (record { from = name.now; grouping = said.now })) }
     {
         if let Some(from) = wiring.sources().of_name(name) {
-            let grouping = planned_grouping(alloc, wiring, from, way)?;
+            let grouping = planned_grouping(alloc, wiring, from, said)?;
             self.add(from, Sub { to, grouping })?;
         }
         Ok(())
@@ -145,7 +145,7 @@ impl Subs {
         ensures { OnOk result (self.new ≡ with_inputs wiring.now self.old (to, bolt.now.inputs)) }
     {
         for input in bolt.inputs.as_slice() {
-            self.add_input(alloc, wiring, to, &input.from, &input.way)?;
+            self.add_input(alloc, wiring, to, &input.from, &input.grouping)?;
         }
         Ok(())
     }
@@ -160,8 +160,8 @@ impl Subs {
         requires { IsInRange wiring.now }
         ensures { OnOk result (self.new ≡ with_inputs wiring.now self.old (to, state_inputs state.now)) }
     {
-        let way = Way::Fields(state.key.copy()?);
-        self.add_names(alloc, wiring, to, state.inputs.as_slice(), &way)
+        let said = GroupingPart::Fields(state.key.copy()?);
+        self.add_names(alloc, wiring, to, state.inputs.as_slice(), &said)
     }
 
     fn add_names(
@@ -170,14 +170,14 @@ impl Subs {
         wiring: &Wiring<'_>,
         to: u32,
         names: &[Txt],
-        way: &Way,
+        said: &GroupingPart,
     ) -> Result<(), Memory>
         requires { IsInRange wiring.now }
         ensures { OnOk result (self.new
-            ≡ fold (with_input wiring.now to) self.old (map (λ name. record { from = name; way = way.now }) names.now)) }
+            ≡ fold (with_input wiring.now to) self.old (map (λ name. record { from = name; grouping = said.now }) names.now)) }
     {
         for name in names {
-            self.add_input(alloc, wiring, to, name, way)?;
+            self.add_input(alloc, wiring, to, name, said)?;
         }
         Ok(())
     }

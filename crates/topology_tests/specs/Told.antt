@@ -1,6 +1,6 @@
 -- What a table of tests says of a file.
 use Rattle.std.specs.Prelude.{ℕ, List, Option, Some, None, codes}
-use Rattle.topology_reader.specs.declared.parts.TopoFault.{TopoFault}
+use Rattle.topology_reader.specs.TopoFault.{TopoFault}
 use Rattle.topology_reader.specs.Faults.{fault_text}
 
 -- the text of the first fault, or that there is none

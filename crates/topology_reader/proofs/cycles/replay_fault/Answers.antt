@@ -3,9 +3,9 @@ use Rattle.std.proofs.lemmas.Bool.{true≢false}
 use Rattle.std.specs.List.{find}
 use Rattle.topology_plan.specs.declared.parts.Kind.{Kind}
 use Rattle.topology_plan.specs.declared.parts.Kind.TheVariants.{Transactional, Opaque}
-use Rattle.topology_reader.specs.declared.parts.Parts.{Parts}
-use Rattle.topology_reader.specs.declared.parts.StatePart.{StatePart}
-use Rattle.topology_reader.specs.declared.parts.TopoFault.TheVariants.{NotExactlyOnce}
+use Rattle.topology_form.specs.declared.parts.FileParts.{FileParts}
+use Rattle.topology_form.specs.declared.parts.StatePart.{StatePart}
+use Rattle.topology_form.specs.declared.fault.TopoFault.TheVariants.{NotExactlyOnce}
 use Rattle.topology_reader.specs.Meant.{is_transactional, replay_fault}
 use Rattle.topology_reader.proofs.cycles.replay_fault.Goals as goal
 
@@ -13,7 +13,7 @@ named : (found : Option StatePart) → option_map NotExactlyOnce (option_map (λ
 named None = refl
 named (Some state) = refl
 
-opaque_fault : (p : Parts) (kind : Kind) → false ≡ is_transactional kind → option_map NotExactlyOnce (option_map (λ (state : StatePart). state.name) (find (λ (state : StatePart). is_transactional state.kind) p.states)) ≡ replay_fault p kind
+opaque_fault : (p : FileParts) (kind : Kind) → false ≡ is_transactional kind → option_map NotExactlyOnce (option_map (λ (state : StatePart). state.name) (find (λ (state : StatePart). is_transactional state.kind) p.states)) ≡ replay_fault p kind
 opaque_fault p Transactional is = absurd (true≢false (sym is))
 opaque_fault p Opaque is = named (find (λ (state : StatePart). is_transactional state.kind) p.states)
 

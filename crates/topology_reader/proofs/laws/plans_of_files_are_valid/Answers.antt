@@ -1,6 +1,6 @@
 use Rattle.topology_reader.proofs.FilePlans.{plan_is_valid, said_is_valid}
 use Rattle.topology_reader.proofs.NoFault.{none_exactly_valid}
-use Rattle.topology_reader.proofs.RangeLemmas.{in_range}
+use Rattle.topology_form.proofs.InRange.{in_range}
 use Rattle.topology_reader.proofs.laws.plans_of_files_are_valid.Goals as goal
 
 pub returns-clause-valid : goal.returns-clause-valid

@@ -18,22 +18,22 @@ returns-in_err-value-clause-fault c =
     let unread = c.in_err-value.ensures.fault other in
     of_value c.args.bytes.now short ∙ (ap value_fault unread.1 ∙ ap Some (sym unread.0)))
 
-pub returns-in-Ok-clause-plan : goal.returns-in-Ok-clause-plan
-returns-in-Ok-clause-plan c =
+pub returns-clause-plan : goal.returns-clause-plan
+returns-clause-plan c =
     let short : length c.args.bytes.now ≤ 65536 = omega arith in
-    plan_of_read c.args.bytes.now (view c.in_ok-value.value) c.in-Ok.read short c.in_ok-value.ensures.ok c.in-Ok.ensures
+    plan_of_read c.args.bytes.now (view c.in_ok-value.value) c.read_value.result short c.in_ok-value.ensures.ok c.read_value.ensures.plan
 
-pub returns-in-Ok-clause-fault : goal.returns-in-Ok-clause-fault
-returns-in-Ok-clause-fault c =
+pub returns-clause-fault : goal.returns-clause-fault
+returns-clause-fault c =
     let short : length c.args.bytes.now ≤ 65536 = omega arith in
-    fault_of_read c.args.bytes.now (view c.in_ok-value.value) c.in-Ok.read short c.in_ok-value.ensures.ok c.in-Ok.ensures
+    fault_of_read c.args.bytes.now (view c.in_ok-value.value) c.read_value.result short c.in_ok-value.ensures.ok c.read_value.ensures.fault
 
-pub returns-in-Ok-clause-valid : goal.returns-in-Ok-clause-valid
-returns-in-Ok-clause-valid c =
+pub returns-clause-valid : goal.returns-clause-valid
+returns-clause-valid c =
     let short : length c.args.bytes.now ≤ 65536 = omega arith in
-    IfOk-weaker c.in-Ok.read _ _ (λ plan is. (plan_is_valid c.args.bytes.now plan is).0) (plan_of_read c.args.bytes.now (view c.in_ok-value.value) c.in-Ok.read short c.in_ok-value.ensures.ok c.in-Ok.ensures)
+    IfOk-weaker c.read_value.result _ _ (λ plan is. (plan_is_valid c.args.bytes.now plan is).0) (plan_of_read c.args.bytes.now (view c.in_ok-value.value) c.read_value.result short c.in_ok-value.ensures.ok c.read_value.ensures.plan)
 
-pub returns-in-Ok-clause-wired : goal.returns-in-Ok-clause-wired
-returns-in-Ok-clause-wired c =
+pub returns-clause-wired : goal.returns-clause-wired
+returns-clause-wired c =
     let short : length c.args.bytes.now ≤ 65536 = omega arith in
-    IfOk-weaker c.in-Ok.read _ _ (λ plan is. (plan_is_valid c.args.bytes.now plan is).1) (plan_of_read c.args.bytes.now (view c.in_ok-value.value) c.in-Ok.read short c.in_ok-value.ensures.ok c.in-Ok.ensures)
+    IfOk-weaker c.read_value.result _ _ (λ plan is. (plan_is_valid c.args.bytes.now plan is).1) (plan_of_read c.args.bytes.now (view c.in_ok-value.value) c.read_value.result short c.in_ok-value.ensures.ok c.read_value.ensures.plan)

@@ -1,6 +1,6 @@
 use Rattle.std.proofs.Common.{◌≡◌, ◌++◌, map, take}
 use Rattle.std.specs.List.{filter_map}
-use Rattle.topology_reader.specs.declared.parts.StatePart.{StatePart}
+use Rattle.topology_form.specs.declared.parts.StatePart.{StatePart}
 use Rattle.topology_reader.specs.Wiring.{source_of}
 use Rattle.topology_reader.proofs.sources.add_states.Given as goal
 

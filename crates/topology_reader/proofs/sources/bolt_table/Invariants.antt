@@ -1,5 +1,5 @@
 use Rattle.std.proofs.Common.{◌≡◌, map, take}
-use Rattle.topology_reader.specs.declared.parts.BoltPart.{BoltPart}
+use Rattle.topology_form.specs.declared.parts.BoltPart.{BoltPart}
 use Rattle.topology_reader.specs.Sources.{sources_among}
 use Rattle.topology_reader.proofs.sources.bolt_table.Given as goal
 

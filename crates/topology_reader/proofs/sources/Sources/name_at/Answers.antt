@@ -1,6 +1,6 @@
 use Rattle.std.proofs.Common.{[], sym}
-use Rattle.topology_reader.specs.declared.parts.BoltPart.{BoltPart}
-use Rattle.topology_reader.specs.declared.parts.StatePart.{StatePart}
+use Rattle.topology_form.specs.declared.parts.BoltPart.{BoltPart}
+use Rattle.topology_form.specs.declared.parts.StatePart.{StatePart}
 use Rattle.topology_reader.proofs.PartLemmas.{at_neither}
 use Rattle.topology_reader.proofs.sources.Sources.name_at.Goals as goal
 

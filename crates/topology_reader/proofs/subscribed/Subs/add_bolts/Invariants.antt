@@ -1,6 +1,6 @@
 use Rattle.std.proofs.Common.{◌≡◌, fold, map, take}
 use Rattle.std.specs.List.{enumerate_from}
-use Rattle.topology_reader.specs.declared.parts.BoltPart.{BoltPart}
+use Rattle.topology_form.specs.declared.parts.BoltPart.{BoltPart}
 use Rattle.topology_reader.specs.Subscribed.{with_inputs}
 use Rattle.topology_reader.proofs.subscribed.Subs.add_bolts.Given as goal
 

@@ -4,4 +4,4 @@ use Rattle.topology_reader.proofs.subscribed.Subs.add_names.Given as goal
 
 abbrev pub invariant-loop-name : goal.invariant-loop-name
 invariant-loop-name l =
-    l.self ≡ fold (with_input l.wiring l.to) l.initial.self (map (λ name. record { from = name; way = l.way }) (take l.name-index l.names))
+    l.self ≡ fold (with_input l.wiring l.to) l.initial.self (map (λ name. record { from = name; grouping = l.said }) (take l.name-index l.names))

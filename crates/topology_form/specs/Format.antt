@@ -1,0 +1,142 @@
+-- What the objects of a topology file say. This project's own.
+use Rattle.std.specs.Prelude.{ℕ, List, [], ◌∷◌, Option, Some, None, Result, codes}
+use Rattle.serde_json.specs.Data.{Data, Members}
+use Rattle.topology_plan.specs.declared.parts.Kind.{Kind}
+use Rattle.topology_plan.specs.declared.parts.Kind.TheVariants.{Transactional, Opaque}
+use Rattle.topology_plan.specs.declared.parts.Fold.{Fold}
+use Rattle.topology_plan.specs.declared.parts.Fold.TheVariants.{Count, Sum, Last, Max}
+use Rattle.topology_plan.specs.declared.parts.Test.{Test}
+use Rattle.topology_plan.specs.declared.parts.Test.TheVariants.{Eq, Ne, Lt}
+use Rattle.topology_form.specs.declared.fault.TopoFault.{TopoFault}
+use Rattle.topology_form.specs.declared.parts.GroupingPart.{GroupingPart}
+use Rattle.topology_form.specs.declared.parts.GroupingPart.TheVariants as said
+use Rattle.topology_form.specs.declared.parts.Input.{Input}
+use Rattle.topology_form.specs.declared.parts.Operation.{Operation}
+use Rattle.topology_form.specs.declared.parts.Operation.TheVariants.{Split, Project, Filter, Set, Len, Route, Flaky, Mute, Custom}
+use Rattle.topology_form.specs.declared.parts.SpoutPart.{SpoutPart}
+use Rattle.topology_form.specs.declared.parts.BoltPart.{BoltPart}
+use Rattle.topology_form.specs.declared.parts.StatePart.{StatePart}
+use Rattle.topology_form.specs.declared.parts.FileParts.{FileParts}
+use Rattle.topology_form.specs.Reading.{Form, Reader, ◌>>=◌, done, ends, required, optional, chosen, a_number, a_text, a_name, a_word, some_names, a_constant, an_object, some_objects}
+
+abbrev pub kinds : List (List ℕ × Kind)
+kinds = (codes "transactional", Transactional) ∷ (codes "opaque", Opaque) ∷ []
+
+-- the spout
+unfoldable pub a_spout : Form SpoutPart
+a_spout = an_object (do
+  name ← required (codes "name") a_name
+  kind ← required (codes "kind") (a_word kinds)
+  fields ← required (codes "fields") (some_names 1 8)
+  batch ← required (codes "batch") (a_number 1 10000)
+  ends (record { name = name; kind = kind; fields = fields; batch = batch }))
+
+-- ---- bolts
+
+abbrev pub tests : List (List ℕ × Test)
+tests = (codes "eq", Eq) ∷ (codes "ne", Ne) ∷ (codes "lt", Lt) ∷ []
+
+-- each word of `do`, and the operation by the other members
+abbrev pub operations : List (List ℕ × (Members → Result Operation TopoFault))
+operations =
+    (codes "split", do field ← required (codes "field") a_name; into ← required (codes "as") a_name; ends (Split field into))
+    ∷ (codes "project", do fields ← required (codes "fields") (some_names 1 8); ends (Project fields))
+    ∷ (codes "filter", do field ← required (codes "field") a_name; test ← required (codes "test") (a_word tests); value ← required (codes "value") a_constant; ends (Filter field test value))
+    ∷ (codes "set", do field ← required (codes "field") a_name; value ← required (codes "value") a_constant; ends (Set field value))
+    ∷ (codes "len", do field ← required (codes "field") a_name; into ← required (codes "as") a_name; ends (Len field into))
+    ∷ (codes "route", do field ← required (codes "field") a_name; ends (Route field))
+    ∷ (codes "flaky", do below ← required (codes "below") (a_number 1 100); ends (Flaky below))
+    ∷ (codes "mute", do below ← required (codes "below") (a_number 1 100); ends (Mute below))
+    ∷ (codes "custom", ends Custom)
+    ∷ []
+
+unfoldable pub an_operation : Form Operation
+an_operation = an_object (do
+  word ← required (codes "do") a_text
+  chosen operations word)
+
+-- the key that grouping by fields has
+unfoldable pub key_of : Reader GroupingPart
+key_of = do
+  key ← required (codes "key") (some_names 1 8)
+  done (said.Fields key)
+
+-- each word of `grouping`, and what the file says of the grouping by the other members
+abbrev pub groupings : List (List ℕ × Reader GroupingPart)
+groupings =
+    (codes "shuffle", done said.Shuffle)
+    ∷ (codes "fields", key_of)
+    ∷ (codes "all", done said.All)
+    ∷ (codes "global", done said.Global)
+    ∷ (codes "direct", done said.Direct)
+    ∷ (codes "none", done said.Shuffle)
+    ∷ (codes "local_or_shuffle", done said.Shuffle)
+    ∷ []
+
+unfoldable pub grouping_of : Reader GroupingPart
+grouping_of = do
+  word ← required (codes "grouping") a_text
+  chosen groupings word
+
+-- an input of a bolt
+unfoldable pub an_input : Form Input
+an_input = an_object (do
+  from ← required (codes "from") a_name
+  grouping ← grouping_of
+  ends (record { from = from; grouping = grouping }))
+
+-- a bolt
+unfoldable pub a_bolt : Form BoltPart
+a_bolt = an_object (do
+  name ← required (codes "name") a_name
+  tasks ← required (codes "tasks") (a_number 1 64)
+  operation ← required (codes "op") an_operation
+  inputs ← required (codes "inputs") (some_objects 1 32 an_input)
+  ends (record { name = name; tasks = tasks; operation = operation; inputs = inputs }))
+
+-- ---- states
+
+abbrev pub folds : List (List ℕ × Fold)
+folds = (codes "count", Count) ∷ (codes "sum", Sum) ∷ (codes "last", Last) ∷ (codes "max", Max) ∷ []
+
+-- the amount that every fold but a count has
+unfoldable pub amount_of : Reader (Option (List ℕ))
+amount_of = do
+  amount ← required (codes "amount") a_name
+  done (Some amount)
+
+abbrev pub amount_for : Fold → Reader (Option (List ℕ))
+amount_for Count = done None
+amount_for Sum = amount_of
+amount_for Last = amount_of
+amount_for Max = amount_of
+
+-- a state
+unfoldable pub a_state : Form StatePart
+a_state = an_object (do
+  name ← required (codes "name") a_name
+  kind ← required (codes "kind") (a_word kinds)
+  parts ← required (codes "parts") (a_number 1 64)
+  key ← required (codes "key") (some_names 1 8)
+  fold ← required (codes "fold") (a_word folds)
+  amount ← amount_for fold
+  inputs ← required (codes "inputs") (some_names 1 33)
+  ends (record { name = name; kind = kind; parts = parts; key = key; fold = fold; amount = amount; inputs = inputs }))
+
+-- ---- the file
+
+unfoldable pub a_file : Form FileParts
+a_file = an_object (do
+  version ← required (codes "version") (a_number 1 1)
+  spout ← required (codes "spout") a_spout
+  bolts ← required (codes "bolts") (some_objects 0 32 a_bolt)
+  states ← required (codes "states") (some_objects 1 8 a_state)
+  ackers ← optional (codes "ackers") 1 (a_number 1 16)
+  pending ← optional (codes "pending") 1 (a_number 1 64)
+  buckets ← optional (codes "buckets") 3 (a_number 2 16)
+  attempts ← optional (codes "attempts") 10 (a_number 1 100)
+  ends (record { spout = spout; bolts = bolts; states = states; ackers = ackers; pending = pending; buckets = buckets; attempts = attempts }))
+
+-- what a file's value says, or its first fault of form
+abbrev pub file_of : Data → Result FileParts TopoFault
+file_of = a_file (codes "topology")

@@ -1,0 +1,6 @@
+pub mod File
+pub mod Ranges
+pub mod Faults
+pub mod Format
+pub mod Reading
+pub mod Left

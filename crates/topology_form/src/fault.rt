@@ -1,0 +1,112 @@
+//! What can be wrong with a topology file, and what is printed of it.
+
+ghost use Rattle.std.specs.Prelude.{◌≡◌, IfOk, string_bytes};
+ghost use Rattle.topology_form.specs.Faults.{fault_text, shown};
+
+use serde_json::Value;
+use std::alloc::Global;
+use storm_values::{Memory, Txt};
+
+/// Why a file has no plan: the first fault in the order of the checks.
+#[derive(Debug, Drop)]
+pub enum TopoFault {
+    /// How many bytes there are.
+    TooLong(usize),
+    NotJson,
+    /// The member that is not there.
+    Missing(Txt),
+    /// The member whose value, or an item of it, is not of its form.
+    WrongKind(Txt),
+    /// A text that is none of the words, or a member that no table has.
+    UnknownName(Txt),
+    /// The number or length that a member has, and the least and most that it may have.
+    OutOfRange(Txt, i64, u32, u32),
+    /// The name that stands twice.
+    Twice(Txt),
+    /// The name of an input that is neither the spout's nor a bolt's.
+    NoSource(Txt),
+    /// The first bolt that can be reached from itself.
+    Cycle(Txt),
+    /// The component whose sources have different fields.
+    FieldsDiffer(Txt),
+    /// A component and the field that it names.
+    NoField(Txt, Txt),
+    /// The transactional state under an opaque spout.
+    NotExactlyOnce(Txt),
+    /// The weight, which ends at 2^64 - 1.
+    Weight(u64),
+    Memory,
+}
+
+impl From<Memory> for TopoFault {
+    ghost use Rattle.std.specs.Prelude.{◌≡◌};
+    ghost use Rattle.topology_form.specs.declared.fault.TopoFault.TheVariants as fault;
+
+    ghost from_gives = { λ _ made. made ≡ fault.Memory };
+
+    fn from(_: Memory) -> TopoFault {
+        TopoFault::Memory
+    }
+}
+
+impl TopoFault {
+    /// What is printed of the fault. Texts from the file stand as compact JSON strings, which take memory, so it is no
+    /// `Display`.
+    pub fn text(&self, alloc: Global) -> Result<String, Memory>
+        ensures { IfOk result (λ text. string_bytes text ≡ fault_text self.now) }
+    {
+        match self {
+            TopoFault::TooLong(_) => String::from_str(alloc, "longer than 65536 bytes"),
+            TopoFault::NotJson => String::from_str(alloc, "no JSON"),
+            TopoFault::Missing(member) => format!(in alloc; "missing {}", shown(alloc, member)?),
+            TopoFault::WrongKind(member) => {
+                format!(in alloc; "wrong kind {}", shown(alloc, member)?)
+            }
+            TopoFault::UnknownName(text) => format!(in alloc; "unknown {}", shown(alloc, text)?),
+            TopoFault::OutOfRange(member, found, least, most) => {
+                out_of_range(alloc, member, *found, *least, *most)
+            }
+            TopoFault::Twice(text) => format!(in alloc; "{} twice", shown(alloc, text)?),
+            TopoFault::NoSource(name) => format!(in alloc; "no source {}", shown(alloc, name)?),
+            TopoFault::Cycle(bolt) => format!(in alloc; "cycle at {}", shown(alloc, bolt)?),
+            TopoFault::FieldsDiffer(component) => {
+                format!(in alloc; "fields differ at {}", shown(alloc, component)?)
+            }
+            TopoFault::NoField(component, field) => no_field(alloc, component, field),
+            TopoFault::NotExactlyOnce(state) => {
+                format!(in alloc; "not exactly once {}", shown(alloc, state)?)
+            }
+            TopoFault::Weight(found) => format!(in alloc; "weight {found}, most 256"),
+            TopoFault::Memory => String::from_str(alloc, "out of memory"),
+        }
+    }
+}
+
+/// A text as a compact JSON string.
+fn shown(alloc: Global, text: &Txt) -> Result<String, Memory>
+    ensures { IfOk result (λ made. string_bytes made ≡ shown text.now) }
+{
+    let value = Value::String(text.copy()?.into_string());
+    value.to_string(alloc)
+}
+
+fn out_of_range(
+    alloc: Global,
+    member: &Txt,
+    found: i64,
+    least: u32,
+    most: u32,
+) -> Result<String, Memory>
+    ensures { IfOk result (λ made. string_bytes made ≡ fault_text (TopoFault.OutOfRange member.now found least most)) }
+{
+    let member = shown(alloc, member)?;
+    format!(in alloc; "{member} is {found}, not from {least} to {most}")
+}
+
+fn no_field(alloc: Global, component: &Txt, field: &Txt) -> Result<String, Memory>
+    ensures { IfOk result (λ made. string_bytes made ≡ fault_text (TopoFault.NoField component.now field.now)) }
+{
+    let field = shown(alloc, field)?;
+    let component = shown(alloc, component)?;
+    format!(in alloc; "no field {field} at {component}")
+}

@@ -1,0 +1,213 @@
+//! One decoder an object: its members in the order of the format's lines, each taken out by its form, and then the first
+//! member that is left over.
+
+ghost use Rattle.topology_form.specs.Left.{left_in};
+ghost use Rattle.topology_form.specs.Reading.{Takes};
+ghost use Rattle.topology_form.specs.Format.{a_spout, an_operation, key_of, grouping_of, an_input, a_bolt, amount_for, a_state, a_file};
+
+use crate::fault::TopoFault;
+use crate::forms::Form;
+use crate::object::Object;
+use crate::parts::{BoltPart, FileParts, GroupingPart, Input, Operation, SpoutPart, StatePart};
+use serde_json::Value as Json;
+use std::alloc::Global;
+use storm_values::Txt;
+use topology_plan::{Fold, Kind, Test};
+
+const KINDS: [(&str, Kind); 2] = [
+    ("transactional", Kind::Transactional),
+    ("opaque", Kind::Opaque),
+];
+
+impl Form for SpoutPart {
+    ghost form = { a_spout };
+
+    #[tactic(auto, unfolding(crate::specs::Format::a_spout))]
+    fn from_value(alloc: Global, name: &str, value: Json) -> Result<SpoutPart, TopoFault> {
+        let mut object = Object::from_value(alloc, name, value)?;
+        let name = object.name("name")?;
+        let kind = object.word("kind", &KINDS)?;
+        let fields = object.names("fields", 1, 8)?;
+        let batch = object.number("batch", 1, 10_000)?;
+        object.end(SpoutPart {
+            name,
+            kind,
+            fields,
+            batch,
+        })
+    }
+}
+
+const TESTS: [(&str, Test); 3] = [("eq", Test::Eq), ("ne", Test::Ne), ("lt", Test::Lt)];
+
+impl Form for Operation {
+    ghost form = { an_operation };
+
+    #[tactic(auto, unfolding(crate::specs::Format::an_operation))]
+    fn from_value(alloc: Global, name: &str, value: Json) -> Result<Operation, TopoFault> {
+        let mut object = Object::from_value(alloc, name, value)?;
+        let word = object.text("do")?;
+        match word.as_str() {
+            "split" => {
+                let field = object.name("field")?;
+                let into = object.name("as")?;
+                object.end(Operation::Split { field, into })
+            }
+            "project" => {
+                let fields = object.names("fields", 1, 8)?;
+                object.end(Operation::Project(fields))
+            }
+            "filter" => {
+                let field = object.name("field")?;
+                let test = object.word("test", &TESTS)?;
+                let value = object.constant("value")?;
+                object.end(Operation::Filter { field, test, value })
+            }
+            "set" => {
+                let field = object.name("field")?;
+                let value = object.constant("value")?;
+                object.end(Operation::Set { field, value })
+            }
+            "len" => {
+                let field = object.name("field")?;
+                let into = object.name("as")?;
+                object.end(Operation::Len { field, into })
+            }
+            "route" => {
+                let field = object.name("field")?;
+                object.end(Operation::Route { field })
+            }
+            "flaky" => {
+                let below = object.number("below", 1, 100)?;
+                object.end(Operation::Flaky { below })
+            }
+            "mute" => {
+                let below = object.number("below", 1, 100)?;
+                object.end(Operation::Mute { below })
+            }
+            "custom" => object.end(Operation::Custom),
+            _ => Err(TopoFault::UnknownName(word)),
+        }
+    }
+}
+
+#[tactic(auto, unfolding(crate::specs::Format::key_of))]
+fn key_from(object: &mut Object) -> Result<GroupingPart, TopoFault>
+    ensures { Takes result (left_in object.new) (key_of (left_in object.old)) }
+{
+    Ok(GroupingPart::Fields(object.names("key", 1, 8)?))
+}
+
+#[tactic(auto, unfolding(crate::specs::Format::grouping_of))]
+fn grouping_from(object: &mut Object) -> Result<GroupingPart, TopoFault>
+    ensures { Takes result (left_in object.new) (grouping_of (left_in object.old)) }
+{
+    let word = object.text("grouping")?;
+    match word.as_str() {
+        "shuffle" | "none" | "local_or_shuffle" => Ok(GroupingPart::Shuffle),
+        "fields" => key_from(object),
+        "all" => Ok(GroupingPart::All),
+        "global" => Ok(GroupingPart::Global),
+        "direct" => Ok(GroupingPart::Direct),
+        _ => Err(TopoFault::UnknownName(word)),
+    }
+}
+
+impl Form for Input {
+    ghost form = { an_input };
+
+    #[tactic(auto, unfolding(crate::specs::Format::an_input))]
+    fn from_value(alloc: Global, name: &str, value: Json) -> Result<Input, TopoFault> {
+        let mut object = Object::from_value(alloc, name, value)?;
+        let from = object.name("from")?;
+        let grouping = grouping_from(&mut object)?;
+        object.end(Input { from, grouping })
+    }
+}
+
+impl Form for BoltPart {
+    ghost form = { a_bolt };
+
+    #[tactic(auto, unfolding(crate::specs::Format::a_bolt))]
+    fn from_value(alloc: Global, name: &str, value: Json) -> Result<BoltPart, TopoFault> {
+        let mut object = Object::from_value(alloc, name, value)?;
+        let name = object.name("name")?;
+        let tasks = object.number("tasks", 1, 64)?;
+        let operation = object.required("op")?;
+        let inputs = object.objects("inputs", 1, 32)?;
+        object.end(BoltPart {
+            name,
+            tasks,
+            operation,
+            inputs,
+        })
+    }
+}
+
+const FOLDS: [(&str, Fold); 4] = [
+    ("count", Fold::Count),
+    ("sum", Fold::Sum),
+    ("last", Fold::Last),
+    ("max", Fold::Max),
+];
+
+#[tactic(auto, unfolding(crate::specs::Format::amount_of))]
+fn amount_from(object: &mut Object, fold: Fold) -> Result<Option<Txt>, TopoFault>
+    ensures { Takes result (left_in object.new) (amount_for fold (left_in object.old)) }
+{
+    match fold {
+        Fold::Count => Ok(None),
+        Fold::Sum | Fold::Last | Fold::Max => Ok(Some(object.name("amount")?)),
+    }
+}
+
+impl Form for StatePart {
+    ghost form = { a_state };
+
+    #[tactic(auto, unfolding(crate::specs::Format::a_state))]
+    fn from_value(alloc: Global, name: &str, value: Json) -> Result<StatePart, TopoFault> {
+        let mut object = Object::from_value(alloc, name, value)?;
+        let name = object.name("name")?;
+        let kind = object.word("kind", &KINDS)?;
+        let parts = object.number("parts", 1, 64)?;
+        let key = object.names("key", 1, 8)?;
+        let fold = object.word("fold", &FOLDS)?;
+        let amount = amount_from(&mut object, fold)?;
+        let inputs = object.names("inputs", 1, 33)?;
+        object.end(StatePart {
+            name,
+            kind,
+            parts,
+            key,
+            fold,
+            amount,
+            inputs,
+        })
+    }
+}
+
+impl Form for FileParts {
+    ghost form = { a_file };
+
+    #[tactic(auto, unfolding(crate::specs::Format::a_file))]
+    fn from_value(alloc: Global, name: &str, value: Json) -> Result<FileParts, TopoFault> {
+        let mut object = Object::from_value(alloc, name, value)?;
+        object.number("version", 1, 1)?;
+        let spout = object.required("spout")?;
+        let bolts = object.objects("bolts", 0, 32)?;
+        let states = object.objects("states", 1, 8)?;
+        let ackers = object.number_or(1, "ackers", 1, 16)?;
+        let pending = object.number_or(1, "pending", 1, 64)?;
+        let buckets = object.number_or(3, "buckets", 2, 16)?;
+        let attempts = object.number_or(10, "attempts", 1, 100)?;
+        object.end(FileParts {
+            spout,
+            bolts,
+            states,
+            ackers,
+            pending,
+            buckets,
+            attempts,
+        })
+    }
+}

@@ -1,0 +1,16 @@
+//! The form of a topology file: what it says, or the first fault of its form. One decoder an object.
+#![tactic(auto)]
+
+mod fault;
+mod file;
+mod format;
+mod forms;
+mod object;
+mod parts;
+
+pub use fault::TopoFault;
+pub use file::{files_are_in_range, parts_from};
+pub use parts::{BoltPart, FileParts, GroupingPart, Input, Operation, SpoutPart, StatePart};
+
+#[cfg(test)]
+mod tests;

@@ -1,0 +1,92 @@
+//! What a topology file says, before its names are looked up.
+
+use storm_values::{Memory, Names, Seq, Txt, Value};
+use topology_plan::{Fold, Kind, Test};
+
+/// What a file says of a grouping. `none` and `local_or_shuffle` are `Shuffle` too.
+#[derive(Debug, Drop)]
+pub enum GroupingPart {
+    Shuffle,
+    Fields(Names),
+    All,
+    Global,
+    Direct,
+}
+
+#[derive(Debug, Drop)]
+pub struct Input {
+    pub from: Txt,
+    pub grouping: GroupingPart,
+}
+
+/// An operation, with fields by their names.
+#[derive(Debug, Drop)]
+pub enum Operation {
+    Split {
+        field: Txt,
+        into: Txt,
+    },
+    Project(Names),
+    Filter {
+        field: Txt,
+        test: Test,
+        value: Value,
+    },
+    Set {
+        field: Txt,
+        value: Value,
+    },
+    Len {
+        field: Txt,
+        into: Txt,
+    },
+    Route {
+        field: Txt,
+    },
+    Flaky {
+        below: u32,
+    },
+    Mute {
+        below: u32,
+    },
+    Custom,
+}
+
+#[derive(Debug, Drop)]
+pub struct SpoutPart {
+    pub name: Txt,
+    pub kind: Kind,
+    pub fields: Names,
+    pub batch: u32,
+}
+
+#[derive(Debug, Drop)]
+pub struct BoltPart {
+    pub name: Txt,
+    pub tasks: u32,
+    pub operation: Operation,
+    pub inputs: Seq<Input>,
+}
+
+#[derive(Debug, Drop)]
+pub struct StatePart {
+    pub name: Txt,
+    pub kind: Kind,
+    pub parts: u32,
+    pub key: Names,
+    pub fold: Fold,
+    pub amount: Option<Txt>,
+    pub inputs: Names,
+}
+
+/// All that a file says.
+#[derive(Debug, Drop)]
+pub struct FileParts {
+    pub spout: SpoutPart,
+    pub bolts: Seq<BoltPart>,
+    pub states: Seq<StatePart>,
+    pub ackers: u32,
+    pub pending: u32,
+    pub buckets: u32,
+    pub attempts: u32,
+}

@@ -1,7 +1,0 @@
-use Rattle.std.proofs.Common.{◌≡◌, map, take}
-use Rattle.serde_json.specs.View.{view}
-use Rattle.topology_reader.specs.Said.{object_of, input_said}
-use Rattle.topology_reader.proofs.said.inputs_from.Given as goal
-
-abbrev pub invariant-loop-item : goal.invariant-loop-item
-invariant-loop-item l = l.inputs ≡ map (λ item. input_said (object_of (view item))) (take l.item-index l.items)
