@@ -78,7 +78,7 @@ size_fault-plan p tasks weight all heavy =
     ∙ ap (λ n. first_some (range_fault (codes "tasks in all") (pos (tasks_in_all (plan_of p))) 1 256 ∷ weight_fault n ∷ [])) heavy
 
 -- the topology of these parts
-abbrev topology_with : ℕ → Kind → ℕ → List Component → List Sub → List (List Sub) → ℕ → ℕ → ℕ → ℕ → Topology
+abbrev topology_with : List (List ℕ) → Kind → ℕ → List Component → List Sub → List (List Sub) → ℕ → ℕ → ℕ → ℕ → Topology
 topology_with fields kind batch components spout_subs component_subs ackers pending buckets attempts = record {
   spout_fields = fields;
   spout_kind = kind;
@@ -92,8 +92,8 @@ topology_with fields kind batch components spout_subs component_subs ackers pend
   attempts = attempts;
 }
 
-pub topology-planned : (p : FileParts) (fields : ℕ) (kind : Kind) (batch : ℕ) (components : List Component) (from_spout : List Sub) (from_components : List (List Sub)) (ackers pending buckets attempts : ℕ)
-    → fields ≡ length p.spout.fields → kind ≡ p.spout.kind → batch ≡ p.spout.batch → components ≡ planned_components p → from_spout ≡ planned_subs p origin.Spout → from_components ≡ planned_component_subs p
+pub topology-planned : (p : FileParts) (fields : List (List ℕ)) (kind : Kind) (batch : ℕ) (components : List Component) (from_spout : List Sub) (from_components : List (List Sub)) (ackers pending buckets attempts : ℕ)
+    → fields ≡ p.spout.fields → kind ≡ p.spout.kind → batch ≡ p.spout.batch → components ≡ planned_components p → from_spout ≡ planned_subs p origin.Spout → from_components ≡ planned_component_subs p
     → ackers ≡ p.ackers → pending ≡ p.pending → buckets ≡ p.buckets → attempts ≡ p.attempts
     → topology_with fields kind batch components from_spout from_components ackers pending buckets attempts ≡ plan_of p
 unfolding plan_of

@@ -10,7 +10,7 @@ use Rattle.topology_plan.specs.declared.parts.Origin.{Origin}
 use Rattle.topology_plan.specs.declared.parts.Origin.TheVariants as origin
 use Rattle.topology_plan.specs.declared.parts.Sub.{Sub}
 use Rattle.topology_reader.specs.Rounds.{feeds_among, feeds_to, feeds_of, depth_by, depths_by, ways_over, ways_by}
-use Rattle.topology_plan.specs.Topology.{Topology, subs_of, copies_of, origins, inputs_of, greatest, ended_sum, most_weight, depth_within, ways_within, depth_of, weight_of}
+use Rattle.topology_plan.specs.Topology.{Topology, subs_of, copies_of, origins, inputs_of, greatest, ended_sum, weight_end, depth_within, tuples_within, depth_of, weight_of}
 
 -- ---- lists
 
@@ -42,11 +42,11 @@ map_next g f n old new item added so_far is =
 
 -- ---- sums that end
 
-pub ended_sum-most : (ns : List ℕ) → ended_sum ns ≤ most_weight
+pub ended_sum-most : (ns : List ℕ) → ended_sum ns ≤ weight_end
 ended_sum-most [] = omega arith
 ended_sum-most (n ∷ ns) = omega arith
 
-pub ended_sum_start : (ns : List ℕ) → min (0 + ended_sum ns) most_weight ≡ ended_sum ns
+pub ended_sum_start : (ns : List ℕ) → min (0 + ended_sum ns) weight_end ≡ ended_sum ns
 ended_sum_start ns = omega (arith, ended_sum-most ns)
 
 greatest-map-le : {X : Type 0} (f : X → ℕ) (most : ℕ) → ((x : X) → f x ≤ most) → (xs : List X) → greatest (map f xs) ≤ most
@@ -107,14 +107,14 @@ depth_within-le zero t (origin.Component c) = omega arith
 depth_within-le (suc n) t (origin.Component c) =
     omega (arith, greatest-map-le (λ (input : Origin × Sub). depth_within n t input.0) n (λ input. depth_within-le n t input.0) (inputs_of t c))
 
-depth_next : (n : ℕ) (t : Topology) (c : ℕ) → n < most_weight → depth_by (map (depth_within n t) (origins t)) (feeds_to t c) ≡ depth_within (suc n) t (origin.Component c)
+depth_next : (n : ℕ) (t : Topology) (c : ℕ) → n < weight_end → depth_by (map (depth_within n t) (origins t)) (feeds_to t c) ≡ depth_within (suc n) t (origin.Component c)
 unfolding seen_by_feed seen_by_input
 depth_next n t c below =
-    ap (λ ns. min (greatest ns + 1) most_weight) (seen (λ number copies. number) (depth_within n t) t c)
+    ap (λ ns. min (greatest ns + 1) weight_end) (seen (λ number copies. number) (depth_within n t) t c)
     ∙ omega (arith, greatest-map-le (λ (input : Origin × Sub). depth_within n t input.0) n (λ input. depth_within-le n t input.0) (inputs_of t c))
 
 -- a round goes one subscription further
-pub depths_next : (n : ℕ) (t : Topology) → n < most_weight → depths_by (map (depth_within n t) (origins t)) (feeds_of t) ≡ map (depth_within (n + 1) t) (origins t)
+pub depths_next : (n : ℕ) (t : Topology) → n < weight_end → depths_by (map (depth_within n t) (origins t)) (feeds_of t) ≡ map (depth_within (n + 1) t) (origins t)
 depths_next n t below =
     ap (λ ns. 0 ∷ ns)
     (map-map (depth_by (map (depth_within n t) (origins t))) (feeds_to t) (range_with_len 0 (length t.components))
@@ -142,34 +142,34 @@ depth_of-from t depths is = ap greatest is
 
 -- ---- weight
 
-ways_next_at : (n : ℕ) (t : Topology) (c : ℕ) → ended_sum (map (ways_over (map (ways_within n t) (origins t))) (feeds_to t c)) ≡ ways_within (suc n) t (origin.Component c)
+ways_next_at : (n : ℕ) (t : Topology) (c : ℕ) → ended_sum (map (ways_over (map (tuples_within n t) (origins t))) (feeds_to t c)) ≡ tuples_within (suc n) t (origin.Component c)
 unfolding seen_by_feed seen_by_input
-ways_next_at n t c = ap ended_sum (seen (λ number copies. min (number * copies) most_weight) (ways_within n t) t c)
+ways_next_at n t c = ap ended_sum (seen (λ number copies. min (number * copies) weight_end) (tuples_within n t) t c)
 
-pub ways_next : (n : ℕ) (t : Topology) → ways_by (map (ways_within n t) (origins t)) (feeds_of t) ≡ map (ways_within (n + 1) t) (origins t)
+pub ways_next : (n : ℕ) (t : Topology) → ways_by (map (tuples_within n t) (origins t)) (feeds_of t) ≡ map (tuples_within (n + 1) t) (origins t)
 ways_next n t =
     ap (λ ns. 1 ∷ ns)
-    (map-map (λ of_component. ended_sum (map (ways_over (map (ways_within n t) (origins t))) of_component)) (feeds_to t) (range_with_len 0 (length t.components))
-    ∙ map_same (λ c. ended_sum (map (ways_over (map (ways_within n t) (origins t))) (feeds_to t c))) (λ c. ways_within (suc n) t (origin.Component c)) (λ c. ways_next_at n t c) (range_with_len 0 (length t.components)))
-    ∙ sym (map-origins (ways_within (suc n) t) t)
-    ∙ ap (λ m. map (ways_within m t) (origins t)) (sym (add-one n))
+    (map-map (λ of_component. ended_sum (map (ways_over (map (tuples_within n t) (origins t))) of_component)) (feeds_to t) (range_with_len 0 (length t.components))
+    ∙ map_same (λ c. ended_sum (map (ways_over (map (tuples_within n t) (origins t))) (feeds_to t c))) (λ c. tuples_within (suc n) t (origin.Component c)) (λ c. ways_next_at n t c) (range_with_len 0 (length t.components)))
+    ∙ sym (map-origins (tuples_within (suc n) t) t)
+    ∙ ap (λ m. map (tuples_within m t) (origins t)) (sym (add-one n))
 
-pub ways_start : (t : Topology) → set (replicate (length t.components + 1) 0) 0 1 ≡ map (ways_within 0 t) (origins t)
+pub ways_start : (t : Topology) → set (replicate (length t.components + 1) 0) 0 1 ≡ map (tuples_within 0 t) (origins t)
 ways_start t =
     ap (λ n. set (replicate n 0) 0 1) (add-one (length t.components))
-    ∙ ap (λ ns. 1 ∷ ns) (zeros (ways_within 0 t) (λ c. refl) 0 (length t.components))
-    ∙ sym (map-origins (ways_within 0 t) t)
+    ∙ ap (λ ns. 1 ∷ ns) (zeros (tuples_within 0 t) (λ c. refl) 0 (length t.components))
+    ∙ sym (map-origins (tuples_within 0 t) t)
 
-pub weight_of-from : (t : Topology) (ways : List ℕ) → ways ≡ map (ways_within (length t.components) t) (origins t) → ended_sum (drop 1 ways) ≡ weight_of t
+pub weight_of-from : (t : Topology) (ways : List ℕ) → ways ≡ map (tuples_within (length t.components) t) (origins t) → ended_sum (drop 1 ways) ≡ weight_of t
 unfolding weight_of
-weight_of-from t ways is = ap (λ ns. ended_sum (drop 1 ns)) (is ∙ map-origins (ways_within (length t.components) t) t)
+weight_of-from t ways is = ap (λ ns. ended_sum (drop 1 ns)) (is ∙ map-origins (tuples_within (length t.components) t) t)
 
 -- ---- rounds as the loops take them
 
-pub depths_then : (n : ℕ) (t : Topology) (depths next : List ℕ) (feeds : List (List Feed)) → n < most_weight → next ≡ depths_by depths feeds → depths ≡ map (depth_within n t) (origins t) → feeds ≡ feeds_of t → next ≡ map (depth_within (n + 1) t) (origins t)
+pub depths_then : (n : ℕ) (t : Topology) (depths next : List ℕ) (feeds : List (List Feed)) → n < weight_end → next ≡ depths_by depths feeds → depths ≡ map (depth_within n t) (origins t) → feeds ≡ feeds_of t → next ≡ map (depth_within (n + 1) t) (origins t)
 depths_then n t depths next feeds below made so_far is =
     made ∙ ap (λ ns. depths_by ns feeds) so_far ∙ ap (depths_by (map (depth_within n t) (origins t))) is ∙ depths_next n t below
 
-pub ways_then : (n : ℕ) (t : Topology) (ways next : List ℕ) (feeds : List (List Feed)) → next ≡ ways_by ways feeds → ways ≡ map (ways_within n t) (origins t) → feeds ≡ feeds_of t → next ≡ map (ways_within (n + 1) t) (origins t)
+pub ways_then : (n : ℕ) (t : Topology) (ways next : List ℕ) (feeds : List (List Feed)) → next ≡ ways_by ways feeds → ways ≡ map (tuples_within n t) (origins t) → feeds ≡ feeds_of t → next ≡ map (tuples_within (n + 1) t) (origins t)
 ways_then n t ways next feeds made so_far is =
-    made ∙ ap (λ ns. ways_by ns feeds) so_far ∙ ap (ways_by (map (ways_within n t) (origins t))) is ∙ ways_next n t
+    made ∙ ap (λ ns. ways_by ns feeds) so_far ∙ ap (ways_by (map (tuples_within n t) (origins t))) is ∙ ways_next n t

@@ -23,7 +23,7 @@ use Rattle.topology_form.specs.declared.parts.BoltPart.{BoltPart}
 use Rattle.topology_form.specs.declared.parts.FileParts.{FileParts}
 use Rattle.topology_plan.specs.Topology.{subs_of}
 use Rattle.topology_plan.specs.Valid.{IsBetween}
-use Rattle.topology_plan.specs.Wired.{width_of, AreWithin, IsRouteOf, IsFrom}
+use Rattle.topology_plan.specs.Wired.{fields_of as plan_fields, width_of, AreWithin, IsRouteOf, IsFrom}
 use Rattle.topology_reader.specs.Wiring.{bolt_names, place_of, source_of, state_inputs, inputs_by_component, inputs_at, sources_at, fields_after, fields_of, fields_to, operation_at}
 use Rattle.topology_reader.specs.Planned.{number_of, numbers_of, planned_operation, route_field, planned_grouping, is_from, subs_of_component, planned_subs, planned_bolt, plan_of}
 use Rattle.topology_reader.specs.Meant.{key_of, projected, is_route, chooses, direct_fault, fields_read, twice_fault}
@@ -164,14 +164,17 @@ numbers_within fields names count apart there = (
   AllPairs-from_apart (λ (n : ℕ). n) (numbers_of fields names) (subst AreApart (sym (map-id (numbers_of fields names))) (numbers_apart fields names apart there)),
 )
 
--- ---- widths
+-- ---- fields of the plan
 
-pub width_planned : (p : FileParts) (from : Origin) → IsBoltOrSpout p from → width_of (plan_of p) from ≡ length (fields_of p from)
+pub fields_planned : (p : FileParts) (from : Origin) → IsBoltOrSpout p from → plan_fields (plan_of p) from ≡ fields_of p from
 unfolding plan_of
-width_planned p origin.Spout there = sym (ap (λ (fields : List (List ℕ)). length fields) (fields_of_spout p))
-width_planned p (origin.Component c) there =
+fields_planned p origin.Spout there = sym (fields_of_spout p)
+fields_planned p (origin.Component c) there =
     let bolt = some_there p.bolts c there in
-    ap (λ (component : Option Component). option_map_or (λ (c : Component). length c.fields) component 0) (component_at_bolt p c bolt.0 bolt.1)
+    ap (λ (component : Option Component). option_map_or (λ (c : Component). c.fields) component []) (component_at_bolt p c bolt.0 bolt.1)
+
+width_planned : (p : FileParts) (from : Origin) → IsBoltOrSpout p from → width_of (plan_of p) from ≡ length (fields_of p from)
+width_planned p from there = ap (λ (fields : List (List ℕ)). length fields) (fields_planned p from there)
 
 -- ---- routes
 

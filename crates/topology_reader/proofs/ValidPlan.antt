@@ -220,7 +220,7 @@ ranked_planned p none = record {
 
 -- the numbers that a plan takes over as they are
 record HasNumbersOf (p : FileParts) (t : Topology) : Type 0 where
-  spout_fields : t.spout_fields ≡ length p.spout.fields
+  spout_fields : t.spout_fields ≡ p.spout.fields
   batch : t.batch ≡ p.spout.batch
   ackers : t.ackers ≡ p.ackers
   pending : t.pending ≡ p.pending

@@ -1,6 +1,8 @@
 -- The plan of a file without a fault is wired: its components take rows with the fields that they name.
 use Rattle.std.specs.Prelude.{◌≡◌, ◌≢◌, ℕ, ◌+◌, ◌<◌, ◌≤◌, ◌==◌, List, [], ◌∷◌, ◌++◌, length, map, filter, All, AllPairs, false, Option, Some, None, IsSome, IfSome, option_map, option_to_list, slice_get, sum, take}
 use Rattle.std.specs.List.{enumerate_from, find, range_with_len}
+use Rattle.std.specs.Option.{option_map_or}
+use Rattle.topology_plan.specs.declared.parts.Body.TheVariants.{Bolt}
 use Rattle.std.proofs.Common.{inl, inr, refl, sym, ◌∙◌, ap, subst, arith}
 use Rattle.std.proofs.lemmas.Bool.{cases_lt, eqb-true, eq-eqb, false≢true}
 use Rattle.std.proofs.lemmas.List.{length-append, length-map, map-id}
@@ -23,9 +25,9 @@ use Rattle.topology_form.specs.declared.parts.Operation.TheVariants.{Split, Proj
 use Rattle.topology_form.specs.declared.parts.BoltPart.{BoltPart}
 use Rattle.topology_form.specs.declared.parts.StatePart.{StatePart}
 use Rattle.topology_form.specs.declared.parts.FileParts.{FileParts}
-use Rattle.topology_plan.specs.Topology.{subs_of, origins, inputs_of}
+use Rattle.topology_plan.specs.Topology.{Topology, subs_of, origins, inputs_of}
 use Rattle.topology_plan.specs.Texts.{IsName}
-use Rattle.topology_plan.specs.Wired.{width_of, width_after, IsWithin, HasAmount, IsComponent, IsPlaced, IsLaidOut, MayFollowOpaque, IsWired}
+use Rattle.topology_plan.specs.Wired.{fields_of as plan_fields, fields_to as plan_fields_to, width_to, IsFed, width_after, IsWithin, HasAmount, IsComponent, IsPlaced, IsLaidOut, MayFollowOpaque, IsWired}
 use Rattle.topology_reader.specs.Wiring.{component_names, inputs_by_component, sources_at, state_inputs, fields_after, fields_of, fields_to}
 use Rattle.topology_reader.specs.Planned.{number_of, numbers_of, planned_operation, planned_grouping, tasks_by_component, planned_bolt, planned_state, plan_of}
 use Rattle.topology_reader.specs.Meant.{key_of, projected, fields_read, twice_fault, is_transactional, replay_fault, meaning_fault}
@@ -35,7 +37,7 @@ use Rattle.topology_reader.proofs.Distinct.{AreApart, AllPairs-from_apart}
 use Rattle.topology_reader.proofs.Numbered.{IsBoltAt, IsStateAt, cases_component, inputs_at_state, reads_at_bolt, reads_at_state, component_at_bolt, component_at_state, map_components}
 use Rattle.topology_reader.proofs.ValidPlan.{HasNoFault, no_fault, source_within, IsPlanned, planned_to_plan, planned_in_plan, length_components}
 use Rattle.topology_reader.proofs.Columns.{to_sources, fields_of_bolt, HasNoFaultAt, lists_apart, bolt_list_apart, state_list_apart, HasSource, some_source, in_inputs_at, IsBoltOrSpout, source_there, AreFields, no_fault_here, fields_of_source}
-use Rattle.topology_reader.proofs.SubFacts.{once_planned, number_within, numbers_within, width_planned, groupings_planned}
+use Rattle.topology_reader.proofs.SubFacts.{once_planned, number_within, numbers_within, fields_planned, groupings_planned}
 
 -- ---- names and tasks
 
@@ -134,17 +136,33 @@ no_subs_of_state p c past =
     let bolt : c < length p.bolts = source_within p planned.input.from c planned.source in
     absurd (omega arith))
 
+of_first : (t : Topology) (fields : List (List ℕ)) (inputs : List (Origin × Sub)) → inputs ≢ [] → ((input : Origin × Sub) → IsIn input inputs → plan_fields t input.0 ≡ fields)
+    → option_map_or (λ (input : Origin × Sub). plan_fields t input.0) (slice_get inputs 0) [] ≡ fields
+of_first t fields [] some same = absurd (some refl)
+of_first t fields (input ∷ inputs) some same = same input (inl refl)
+
 -- ---- the components
 
 module _ (p : FileParts) (range : IsInRange p) (faultless : HasNoFault p) where
-  widths : (c : ℕ) → c < length p.bolts + length p.states → All (λ input. width_of (plan_of p) input.0 ≡ length (fields_to p c)) (inputs_of (plan_of p) c)
-  widths c within =
-      All-from_in (λ input. width_of (plan_of p) input.0 ≡ length (fields_to p c)) (inputs_of (plan_of p) c)
-      (λ input at.
+  -- the rows of each source have the fields that come to the component
+  fields_same : (c : ℕ) → c < length p.bolts + length p.states → (input : Origin × Sub) → IsIn input (inputs_of (plan_of p) c) → plan_fields (plan_of p) input.0 ≡ fields_to p c
+  fields_same c within input at =
       let planned = input_planned p c input at in
       let source : IsIn input.0 (sources_at p c) = planned_source p c input.0 input.1 planned.0 planned.1 in
       let here : HasNoFaultAt p c = no_fault_here p range faultless c within in
-      width_planned p input.0 (source_there p c input.0 source) ∙ ap (λ (fields : List (List ℕ)). length fields) (here.same input.0 source))
+      fields_planned p input.0 (source_there p c input.0 source) ∙ here.same input.0 source
+
+  fields_come : (c : ℕ) → c < length p.bolts + length p.states → plan_fields_to (plan_of p) c ≡ fields_to p c
+  fields_come c within =
+      of_first (plan_of p) (fields_to p c) (inputs_of (plan_of p) c) (source_comes p c (some_source p c range faultless.sources within)) (fields_same c within)
+
+  sources_same : (c : ℕ) → c < length p.bolts + length p.states → All (λ input. plan_fields (plan_of p) input.0 ≡ plan_fields_to (plan_of p) c) (inputs_of (plan_of p) c)
+  sources_same c within =
+      All-from_in (λ input. plan_fields (plan_of p) input.0 ≡ plan_fields_to (plan_of p) c) (inputs_of (plan_of p) c)
+      (λ input at. fields_same c within input at ∙ sym (fields_come c within))
+
+  width_comes : (c : ℕ) → c < length p.bolts + length p.states → length (fields_to p c) ≡ width_to (plan_of p) c
+  width_comes c within = ap (λ (fields : List (List ℕ)). length fields) (sym (fields_come c within))
 
   projected_apart : (c : ℕ) (bolt : BoltPart) → IsBoltAt p c bolt → AreApart (projected bolt.operation)
   projected_apart c bolt is =
@@ -160,14 +178,14 @@ module _ (p : FileParts) (range : IsInRange p) (faultless : HasNoFault p) where
       let left : fields_of p (origin.Component c) ≡ fields_after bolt.operation (fields_to p c) = fields_of_bolt p c bolt faultless.cycle is in
       record {
         name = limits.name;
-        width = length (fields_to p c);
-        sources = widths c (omega arith);
+        sources = sources_same c (omega arith);
         some_source = source_comes p c (some_source p c range faultless.sources (omega arith));
-        fed = (
-          operation_within (fields_to p c) bolt.operation limits.operation (projected_apart c bolt is) (λ name at. here.reads name (subst (IsIn name) (sym (reads_at_bolt p c bolt is)) at)),
-          ap (λ (names : List (List ℕ)). length names) left ∙ width_kept (fields_to p c) bolt.operation,
-          fields.count,
-        );
+        fed =
+            subst (λ n. IsFed (plan_of p) c n (Bolt (planned_operation (fields_to p c) bolt.operation)) (fields_of p (origin.Component c))) (width_comes c (omega arith)) (
+              operation_within (fields_to p c) bolt.operation limits.operation (projected_apart c bolt is) (λ name at. here.reads name (subst (IsIn name) (sym (reads_at_bolt p c bolt is)) at)),
+              ap (λ (names : List (List ℕ)). length names) left ∙ width_kept (fields_to p c) bolt.operation,
+              fields.count,
+            );
         fields = AllPairs-from_apart (λ (name : List ℕ). name) (fields_of p (origin.Component c)) (subst AreApart (sym (map-id (fields_of p (origin.Component c)))) fields.apart);
         field_names = fields.named;
         first_task = ap (λ tasks. sum (take c tasks)) (sym (tasks_planned p));
@@ -198,16 +216,16 @@ module _ (p : FileParts) (range : IsInRange p) (faultless : HasNoFault p) where
       let reads : (name : List ℕ) → IsIn name (state.key ++ option_to_list state.amount) → IsIn name (fields_to p c) = λ name read. here.reads name (subst (IsIn name) (sym (reads_at_state p c state at)) read) in
       record {
         name = limits.name;
-        width = length (fields_to p c);
-        sources = widths c within;
+        sources = sources_same c within;
         some_source = source_comes p c (some_source p c range faultless.sources within);
-        fed = (
-          refl,
-          no_subs_of_state p c (omega (arith, at.number)),
-          numbers_within (fields_to p c) state.key limits.key (state_list_apart p state state.key faultless.twice (in_place p.states at.place state at.is) (inl refl)) (λ name read. reads name (to_left state.key (option_to_list state.amount) name read)),
-          amount_planned (fields_to p c) state.fold state.amount limits.amount (λ name read. reads name (to_right state.key (option_to_list state.amount) name read)),
-          keyed c state at,
-        );
+        fed =
+            subst (λ n. IsFed (plan_of p) c n (planned_state p (c, state)).body []) (width_comes c within) (
+              refl,
+              no_subs_of_state p c (omega (arith, at.number)),
+              numbers_within (fields_to p c) state.key limits.key (state_list_apart p state state.key faultless.twice (in_place p.states at.place state at.is) (inl refl)) (λ name read. reads name (to_left state.key (option_to_list state.amount) name read)),
+              amount_planned (fields_to p c) state.fold state.amount limits.amount (λ name read. reads name (to_right state.key (option_to_list state.amount) name read)),
+              keyed c state at,
+            );
         fields = λ i j d before under. absurd (omega arith);
         field_names = All-nil IsName;
         first_task = ap (λ tasks. sum (take c tasks)) (sym (tasks_planned p));
@@ -273,11 +291,21 @@ replays_planned p none opaque =
           subst (λ (made : Component). MayFollowOpaque made.body) state.2 (opaque_kind (state.0.1).kind other)
     ])
 
+spout_fields_planned : (p : FileParts) → AreApart p.spout.fields → AllPairs (λ a b. a ≢ b) (plan_of p).spout_fields
+unfolding plan_of
+spout_fields_planned p apart = AllPairs-from_apart (λ (name : List ℕ). name) p.spout.fields (subst AreApart (sym (map-id p.spout.fields)) apart)
+
+spout_names_planned : (p : FileParts) → All IsName p.spout.fields → All IsName (plan_of p).spout_fields
+unfolding plan_of
+spout_names_planned p named = named
+
 pub wired_plan : (p : FileParts) → IsInRange p → meaning_fault p ≡ None → IsWired (plan_of p)
 wired_plan p range none =
     let faultless : HasNoFault p = no_fault p none in
     record {
       layout = layout_planned p range;
+      spout_fields = spout_fields_planned p (lists_apart p p.spout.fields faultless.twice (inr (inl refl)));
+      spout_field_names = spout_names_planned p range.spout.field_names;
       names = names_planned p faultless.twice;
       once = λ from. once_planned p from faultless.twice;
       groupings = groupings_planned p range faultless;

@@ -130,7 +130,7 @@ planned_state p numbered =
 -- the whole plan
 unfoldable pub plan_of : FileParts → Topology
 plan_of p = record {
-  spout_fields = length p.spout.fields;
+  spout_fields = p.spout.fields;
   spout_kind = p.spout.kind;
   batch = p.spout.batch;
   components = map (planned_bolt p) (enumerate_from 0 p.bolts) ++ map (planned_state p) (enumerate_from (length p.bolts) p.states);

@@ -5,7 +5,7 @@ use Rattle.std.specs.declared.alloc.Global.{Global}
 use Rattle.topology_reader.specs.declared.numbers.Feed.{Feed}
 use Rattle.topology_plan.specs.declared.parts.Origin.TheVariants as origin
 use Rattle.topology_plan.specs.declared.parts.Sub.{Sub}
-use Rattle.topology_plan.specs.Topology.{Topology, subs_of, copies_of, greatest, ended_sum, most_weight}
+use Rattle.topology_plan.specs.Topology.{Topology, subs_of, copies_of, greatest, ended_sum, weight_end}
 
 -- the subscriptions of a component among those to the source that has this place among the spout and the components
 abbrev pub feeds_among : Topology → ℕ → ℕ → List Sub → List Feed
@@ -34,7 +34,7 @@ depth_at depths feed = slice_index depths feed.from
 
 -- one more than the greatest
 abbrev pub depth_by : List ℕ → List Feed → ℕ
-depth_by depths feeds = min (greatest (map (depth_at depths) feeds) + 1) most_weight
+depth_by depths feeds = min (greatest (map (depth_at depths) feeds) + 1) weight_end
 
 -- the spout's depth and then the components'
 abbrev pub depths_by : List ℕ → List (List Feed) → List ℕ
@@ -42,7 +42,7 @@ depths_by depths feeds = 0 ∷ map (depth_by depths) feeds
 
 -- the ways of an input's source, for each copy
 abbrev pub ways_over : List ℕ → Feed → ℕ
-ways_over ways feed = min (slice_index ways feed.from * feed.copies) most_weight
+ways_over ways feed = min (slice_index ways feed.from * feed.copies) weight_end
 
 -- the spout's ways and then the components'
 abbrev pub ways_by : List ℕ → List (List Feed) → List ℕ

@@ -1,5 +1,5 @@
 -- Components and subscriptions, and the topologies that have them.
-use Rattle.std.specs.Prelude.{◌≡◌, List, map, Vec}
+use Rattle.std.specs.Prelude.{◌≡◌, List, [], map, Vec}
 use Rattle.std.specs.declared.alloc.Global.{Global}
 use Rattle.topology_plan.specs.declared.parts.Component.{Component}
 use Rattle.topology_plan.specs.declared.parts.Kind.TheVariants.{Transactional}
@@ -13,7 +13,7 @@ items_by vectors = map (λ (subs : Vec Sub Global). subs.items) vectors
 -- a topology of these components and subscriptions
 abbrev pub wired_by : List Component → List Sub → List (Vec Sub Global) → Topology
 wired_by components spout_subs component_subs = record {
-  spout_fields = 0;
+  spout_fields = [];
   spout_kind = Transactional;
   batch = 0;
   components = components;

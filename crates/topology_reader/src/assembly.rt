@@ -90,7 +90,7 @@ fn make(alloc: Global, wiring: &Wiring<'_>) -> Result<Made, Memory>
     let weight = weight_from(alloc, &components, &spout_subs, &component_subs)?;
     let parts = wiring.sources().parts();
     Ok(Made {
-        spout_fields: parts.spout.fields.len() as u32,
+        spout_fields: parts.spout.fields.copy()?,
         spout_kind: parts.spout.kind,
         batch: parts.spout.batch,
         components,

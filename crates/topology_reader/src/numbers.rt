@@ -3,7 +3,7 @@
 
 ghost use Rattle.std.specs.Prelude.{◌≡◌, ◌<◌, ◌+◌, ◌^◌, ◌++◌, map, length, slice_index, IfOk, OnOk};
 ghost use Rattle.topology_reader.specs.Rounds.{items_of, feeds_among, feeds_to, feeds_of, depth_at, depths_by, ways_over, ways_by};
-ghost use Rattle.topology_plan.specs.Topology.{Topology, copies_of, greatest, ended_sum, subs_of, origins, depth_within, ways_within, depth_of, weight_of};
+ghost use Rattle.topology_plan.specs.Topology.{Topology, copies_of, greatest, ended_sum, subs_of, origins, depth_within, tuples_within, depth_of, weight_of};
 ghost use Rattle.topology_reader.specs.Wires.{IsWiredBy};
 ghost use Rattle.topology_plan.specs.declared.parts.Origin.TheVariants as origin;
 
@@ -131,7 +131,7 @@ impl<'a> Wires<'a> {
     /// The ways to the spout and to each component.
     fn ways(&self, alloc: Global) -> Result<Vec<u64>, Memory>
         ensures { IfOk result (λ ways. ways.items
-            ≡ map (ways_within (length self.now.components) self.now) (origins self.now)) }
+            ≡ map (tuples_within (length self.now.components) self.now) (origins self.now)) }
     {
         let feeds = self.feeds(alloc)?;
         let count = self.component_count();

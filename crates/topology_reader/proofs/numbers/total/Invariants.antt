@@ -1,7 +1,7 @@
 use Rattle.std.proofs.Common.{◌≡◌, ◌≤◌, ◌+◌, drop, min}
-use Rattle.topology_plan.specs.Topology.{ended_sum, most_weight}
+use Rattle.topology_plan.specs.Topology.{ended_sum, weight_end}
 use Rattle.topology_reader.proofs.numbers.total.Given as goal
 
 abbrev pub invariant-loop-number : goal.invariant-loop-number
 invariant-loop-number l =
-    (l.total ≤ most_weight) × (min (l.total + ended_sum (drop l.number-index l.numbers)) most_weight ≡ ended_sum l.numbers)
+    (l.total ≤ weight_end) × (min (l.total + ended_sum (drop l.number-index l.numbers)) weight_end ≡ ended_sum l.numbers)
