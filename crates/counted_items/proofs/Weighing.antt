@@ -1,0 +1,120 @@
+-- Weights of lists.
+use Rattle.std.proofs.Common.{◌≡◌, ℕ, zero, suc, ◌+◌, ◌*◌, ◌≤◌, List, [], ◌∷◌, ◌++◌, map, length, replicate, flat_map, sym, refl, ap, ◌∙◌, arith}
+use Rattle.std.specs.List.{AllByRecursion}
+use Rattle.counted_items.specs.Weights.{weigh, Same, Within}
+
+module _ {X : Type 0} where
+  pub weigh-append : (f : X → ℕ) (xs ys : List X) → weigh f (xs ++ ys) ≡ weigh f xs + weigh f ys
+  weigh-append f [] ys = omega arith
+  weigh-append f (x ∷ xs) ys = omega (arith, weigh-append f xs ys)
+
+  pub weigh-push : (f : X → ℕ) (xs : List X) (x : X) → weigh f (xs ++ x ∷ []) ≡ weigh f xs + f x
+  weigh-push f xs x = omega (arith, weigh-append f xs (x ∷ []))
+
+  pub weigh-map : {Y : Type 0} (f : X → ℕ) (g : Y → X) (ys : List Y) → weigh f (map g ys) ≡ weigh (λ y. f (g y)) ys
+  weigh-map f g [] = refl
+  weigh-map f g (y ∷ ys) = ap (λ (n : ℕ). f (g y) + n) (weigh-map f g ys)
+
+  pub weigh-flat_map : {Y : Type 0} (f : X → ℕ) (g : Y → List X) (ys : List Y) → weigh f (flat_map g ys) ≡ weigh (λ y. weigh f (g y)) ys
+  weigh-flat_map f g [] = refl
+  weigh-flat_map f g (y ∷ ys) = weigh-append f (g y) (flat_map g ys) ∙ ap (λ (n : ℕ). weigh f (g y) + n) (weigh-flat_map f g ys)
+
+  pub weigh-replicate : (f : X → ℕ) (n : ℕ) (x : X) → weigh f (replicate n x) ≡ n * f x
+  weigh-replicate f zero x = omega arith
+  weigh-replicate f (suc n) x = omega (arith, weigh-replicate f n x)
+
+  pub weigh-zero : (f : X → ℕ) → ((x : X) → f x ≡ 0) → (xs : List X) → weigh f xs ≡ 0
+  weigh-zero f none [] = refl
+  weigh-zero f none (x ∷ xs) = let here = none x in let later = weigh-zero f none xs in omega arith
+
+  -- where g weighs nothing, f weighs nothing
+  pub weigh-none : (f g : X → ℕ) → ((x : X) → g x ≡ 0 → f x ≡ 0) → (xs : List X) → weigh g xs ≡ 0 → weigh f xs ≡ 0
+  weigh-none f g step [] none = refl
+  weigh-none f g step (x ∷ xs) none = let here = step x (omega arith) in let later = weigh-none f g step xs (omega arith) in omega arith
+
+  pub weigh-le : (f g : X → ℕ) → ((x : X) → f x ≤ g x) → (xs : List X) → weigh f xs ≤ weigh g xs
+  weigh-le f g step [] = omega arith
+  weigh-le f g step (x ∷ xs) = let here = step x in let later = weigh-le f g step xs in omega arith
+
+  pub weigh-same : (f g : X → ℕ) → ((x : X) → f x ≡ g x) → (xs : List X) → weigh f xs ≡ weigh g xs
+  weigh-same f g step [] = refl
+  weigh-same f g step (x ∷ xs) = let here = step x in let later = weigh-same f g step xs in omega arith
+
+  -- the same of the items that have a fact
+  pub weigh-le_each : (f g : X → ℕ) (P : X → Type 0) → ((x : X) → P x → f x ≤ g x) → (xs : List X) → AllByRecursion P xs → weigh f xs ≤ weigh g xs
+  weigh-le_each f g P step [] all = omega arith
+  weigh-le_each f g P step (x ∷ xs) all = let here = step x all.0 in let rest = weigh-le_each f g P step xs all.1 in omega arith
+
+  pub weigh-same_each : (f g : X → ℕ) (P : X → Type 0) → ((x : X) → P x → f x ≡ g x) → (xs : List X) → AllByRecursion P xs → weigh f xs ≡ weigh g xs
+  weigh-same_each f g P step [] all = refl
+  weigh-same_each f g P step (x ∷ xs) all = let here = step x all.0 in let rest = weigh-same_each f g P step xs all.1 in omega arith
+
+  pub weigh-plus : (f g : X → ℕ) (xs : List X) → weigh (λ x. f x + g x) xs ≡ weigh f xs + weigh g xs
+  weigh-plus f g [] = refl
+  weigh-plus f g (x ∷ xs) = let h = weigh-plus f g xs in omega arith
+
+  -- the order of two sums does not matter
+  pub weigh-swap : {Y : Type 0} (f : Y → X → ℕ) (ys : List Y) (xs : List X) → weigh (λ x. weigh (λ y. f y x) ys) xs ≡ weigh (λ y. weigh (f y) xs) ys
+  weigh-swap f [] xs = weigh-zero (λ x. 0) (λ x. refl) xs
+  weigh-swap f (y ∷ ys) xs = weigh-plus (f y) (λ x. weigh (λ z. f z x) ys) xs ∙ ap (λ (n : ℕ). weigh (f y) xs + n) (weigh-swap f ys xs)
+
+  -- as many as items, where each weighs 1
+  pub weigh-ones : (xs : List X) → weigh (λ x. 1) xs ≡ length xs
+  weigh-ones [] = refl
+  weigh-ones (x ∷ xs) = omega (arith, weigh-ones xs)
+
+  pub weigh-few : (f : X → ℕ) → ((x : X) → f x ≤ 1) → (xs : List X) → weigh f xs ≤ length xs
+  weigh-few f few xs = let l = weigh-le f (λ x. 1) few xs in let o = weigh-ones xs in omega arith
+
+  -- each item weighs at most what its list does
+  pub each-weighs : (xs : List X) → AllByRecursion (λ x. (f : X → ℕ) → f x ≤ weigh f xs) xs
+  each-weighs [] = tt
+  each-weighs (x ∷ xs) = ((λ f. omega arith), weaker xs (each-weighs xs))
+    where
+      weaker : (ys : List X) → AllByRecursion (λ y. (f : X → ℕ) → f y ≤ weigh f xs) ys → AllByRecursion (λ y. (f : X → ℕ) → f y ≤ f x + weigh f xs) ys
+      weaker [] all = tt
+      weaker (y ∷ ys) all = ((λ f. let h = all.0 f in omega arith), weaker ys all.1)
+
+  -- ---- lists with each item as often
+
+  pub same-refl : (xs : List X) → Same xs xs
+  same-refl xs f = refl
+
+  pub same-sym : (xs ys : List X) → Same xs ys → Same ys xs
+  same-sym xs ys same f = sym (same f)
+
+  pub same-trans : (xs ys zs : List X) → Same xs ys → Same ys zs → Same xs zs
+  same-trans xs ys zs first second f = first f ∙ second f
+
+  pub same-append : (xs ys us vs : List X) → Same xs us → Same ys vs → Same (xs ++ ys) (us ++ vs)
+  same-append xs ys us vs first second f = let a = weigh-append f xs ys in let b = weigh-append f us vs in let c = first f in let d = second f in omega arith
+
+  pub same-exchange : (xs ys : List X) → Same (xs ++ ys) (ys ++ xs)
+  same-exchange xs ys f = let a = weigh-append f xs ys in let b = weigh-append f ys xs in omega arith
+
+  pub within-same : (xs ys : List X) → Same xs ys → Within xs ys
+  within-same xs ys same f = let e = same f in omega arith
+
+  pub same-within : (xs ys : List X) → Within xs ys → Within ys xs → Same xs ys
+  same-within xs ys less more f = let a = less f in let b = more f in omega arith
+
+  pub within-trans : (xs ys zs : List X) → Within xs ys → Within ys zs → Within xs zs
+  within-trans xs ys zs first second f = let a = first f in let b = second f in omega arith
+
+  pub within-append : (xs ys us vs : List X) → Within xs us → Within ys vs → Within (xs ++ ys) (us ++ vs)
+  within-append xs ys us vs first second f = let a = weigh-append f xs ys in let b = weigh-append f us vs in let c = first f in let d = second f in omega arith
+
+  pub within-front : (xs ys : List X) → Within xs (xs ++ ys)
+  within-front xs ys f = let a = weigh-append f xs ys in omega arith
+
+  pub within-back : (xs ys : List X) → Within ys (xs ++ ys)
+  within-back xs ys f = let a = weigh-append f xs ys in omega arith
+
+  pub within-map : {Y : Type 0} (g : Y → X) (xs ys : List Y) → Within xs ys → Within (map g xs) (map g ys)
+  within-map g xs ys within f = let a = weigh-map f g xs in let b = weigh-map f g ys in let w = within (λ y. f (g y)) in omega arith
+
+  pub same-map : {Y : Type 0} (g : Y → X) (xs ys : List Y) → Same xs ys → Same (map g xs) (map g ys)
+  same-map g xs ys same f = weigh-map f g xs ∙ same (λ y. f (g y)) ∙ sym (weigh-map f g ys)
+
+  pub within-flat_map : {Y : Type 0} (g : Y → List X) (xs ys : List Y) → Within xs ys → Within (flat_map g xs) (flat_map g ys)
+  within-flat_map g xs ys within f = let a = weigh-flat_map f g xs in let b = weigh-flat_map f g ys in let w = within (λ y. weigh f (g y)) in omega arith
