@@ -1,6 +1,7 @@
 -- Weights of lists.
 use Rattle.std.proofs.Common.{◌≡◌, ℕ, zero, suc, ◌+◌, ◌*◌, ◌≤◌, List, [], ◌∷◌, ◌++◌, map, length, replicate, flat_map, sym, refl, ap, ◌∙◌, arith}
-use Rattle.std.specs.List.{AllByRecursion}
+use Rattle.std.proofs.lemmas.List.Elements.{All-contains, All-from_recursion}
+use Rattle.std.specs.List.{AllByRecursion, Contains}
 use Rattle.counted_items.specs.Weights.{weigh, Same, Within}
 
 module _ {X : Type 0} where
@@ -74,6 +75,13 @@ module _ {X : Type 0} where
       weaker : (ys : List X) → AllByRecursion (λ y. (f : X → ℕ) → f y ≤ weigh f xs) ys → AllByRecursion (λ y. (f : X → ℕ) → f y ≤ f x + weigh f xs) ys
       weaker [] all = tt
       weaker (y ∷ ys) all = ((λ f. let h = all.0 f in omega arith), weaker ys all.1)
+
+  pub item-weighs : (f : X → ℕ) (xs : List X) (x : X) → Contains xs x → f x ≤ weigh f xs
+  item-weighs f xs x there = All-contains (λ y. f y ≤ weigh f xs) xs x (All-from_recursion (λ y. f y ≤ weigh f xs) xs (few xs (each-weighs xs))) there
+    where
+      few : (ys : List X) → AllByRecursion (λ y. (h : X → ℕ) → h y ≤ weigh h xs) ys → AllByRecursion (λ y. f y ≤ weigh f xs) ys
+      few [] all = tt
+      few (y ∷ ys) all = (all.0 f, few ys all.1)
 
   -- ---- lists with each item as often
 

@@ -1,0 +1,22 @@
+-- Edges, how often they stand in a list, and the XOR of their ids.
+use Rattle.std.specs.Prelude.{ℕ, bit_xor, Bool, ◌==◌, ◌&&◌, if◌then◌else◌, List, [], ◌∷◌}
+use Rattle.counted_items.specs.Weights.{weigh}
+use Rattle.tuple_tickets.specs.declared.edge.Edge.{Edge}
+use Rattle.tuple_tickets.specs.Paths.{path_eq}
+
+-- whether two edges are one
+abbrev pub edge_eq : Edge → Edge → Bool
+edge_eq a b = path_eq a.path b.path && (a.id == b.id)
+
+-- the weight that is 1 at an edge
+abbrev pub is_edge : Edge → Edge → ℕ
+is_edge e x = if edge_eq x e then 1 else 0
+
+-- how often an edge stands in a list
+abbrev pub times : Edge → List Edge → ℕ
+times e edges = weigh (is_edge e) edges
+
+-- the XOR of the ids of a list's edges
+abbrev pub xor_ids : List Edge → ℕ
+xor_ids [] = 0
+xor_ids (e ∷ edges) = bit_xor e.id (xor_ids edges)
