@@ -1,0 +1,5 @@
+mod Weighed
+mod Keeping
+mod Whole
+mod Steps
+mod Splitting

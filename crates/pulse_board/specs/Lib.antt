@@ -1,0 +1,4 @@
+pub mod Books
+pub mod Rule
+pub mod Seats
+pub mod Steps
