@@ -1,0 +1,5 @@
+pub mod Books
+pub mod Rule
+pub mod Whole
+pub mod Steps
+pub mod Passes

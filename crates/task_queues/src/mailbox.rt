@@ -1,0 +1,130 @@
+//! The calls of a box. Each is one step on its queue.
+ghost use Rattle.std.specs.Prelude.{◌≡◌, ◌<◌, ◌≤◌, ◌+◌, ◌↔◌, ◌++◌, ◌∷◌, All, List, length};
+ghost use Rattle.std.specs.Prelude.{IfOk, IsOk, IsErr, IfErr, OnOk, OnErr, IsNone, IfSome, OnSome};
+ghost use Rattle.std.specs.Option.{IfNone};
+ghost use Rattle.crossbeam_queue.specs.Passes.{view, IsSamePass, ruled_capacity};
+ghost use Rattle.counted_items.specs.Weights.{Same};
+ghost use Rattle.pass_numbers.specs.Numbers.{IsWhole, Numbered};
+ghost use Rattle.task_queues.specs.declared.rule.Stamped.{Stamped};
+ghost use Rattle.task_queues.specs.declared.rule.View.{View};
+ghost use Rattle.task_queues.specs.Books.{blank, first_view, sent_to, took, kept_of, cut_of, both_of};
+ghost use Rattle.task_queues.specs.Books.{numbers_of, sent_of, taken_of};
+ghost use Rattle.task_queues.specs.Passes.{IsPassOf, HeldAt, view_of};
+
+use crate::pass::{Mailbox, Pass};
+use crate::rule::{Books, Cut, Joined, Named, Sends, Takes, Terms, Truth, View};
+use crossbeam_queue::RuledArrayQueue;
+use std::alloc::Global;
+use std::marker::Brand;
+use std::sync::Wait;
+use storm_values::Memory;
+use topology_plan::Plan;
+
+impl<M: Truth + Drop> Mailbox<M> {
+    /// An empty box of a capacity, and its one pass. It makes the room for all that can be left at the
+    /// end, so that no later call takes memory.
+    pub fn new(
+        alloc: Global,
+        plan: &Plan,
+        owner: u32,
+        capacity: u32,
+    ) -> Result<(Mailbox<M>, Pass<M>), Memory>
+        requires { (1 ≤ capacity) × (capacity ≤ 65536) }
+        ensures pass { IfOk result (λ made. IsPassOf made.0 made.1) }
+        ensures view { IfOk result (λ made. view_of made.1 ≡ first_view plan.now owner capacity) }
+        ensures whole { IfOk result (λ made. IsWhole (numbers_of (view_of made.1))) }
+    {
+        let room = Vec::with_capacity(alloc, capacity as usize)?;
+        let (queue, mut inner) = RuledArrayQueue::ruled(alloc, capacity as usize)?;
+        name::<M, Brand>(&queue, &mut inner, plan, owner, capacity);
+        Ok((Mailbox { queue, room }, Pass { inner, size: 0 }))
+    }
+
+    /// Puts a message at the end of the box, and notes it. The message comes back only if the box was
+    /// full at a moment of this call. It may wait for a step of another thread.
+    pub fn send<R: Wait>(&self, rt: &R, pass: &mut Pass<M>, m: M) -> Result<(), M>
+        requires pass { IsPassOf self.now pass.old }
+        requires is_true { M.is_true (view_of pass.old).plan (view_of pass.old).owner m }
+        ensures pass { IsPassOf self.now pass.new }
+        ensures sent { OnOk result (view_of pass.new ≡ sent_to (view_of pass.old) m) }
+        ensures back { IfErr result (λ message. message ≡ m) }
+        ensures same { OnErr result (view_of pass.new ≡ view_of pass.old) }
+        ensures full { OnErr result (HeldAt M.is_true pass.old (view_of pass.old).capacity) }
+
+        // A pass with all numbers knows: it comes back exactly where so many as the capacity are not taken.
+        ensures whole { IsWhole (numbers_of (view_of pass.old)) →
+            IsErr result ↔ (length (sent_of (view_of pass.old).books)
+            ≡ length (taken_of (view_of pass.old).books) + (view_of pass.old).capacity) }
+    {
+        self.queue.push_as::<Sends<M>, R>(rt, &mut pass.inner, m)
+    }
+
+    /// Takes the oldest message, and notes it. `None` comes only if the box was empty at a moment of
+    /// this call. It may wait for a step of another thread.
+    pub fn take<R: Wait>(&self, rt: &R, pass: &mut Pass<M>) -> Option<M>
+        requires { IsPassOf self.now pass.old }
+        ensures pass { IsPassOf self.now pass.new }
+        ensures is_true { IfSome result (M.is_true (view_of pass.old).plan (view_of pass.old).owner) }
+        ensures taken { IfSome result (λ m. (s : Stamped M)
+            × (s.item ≡ m) × (view_of pass.new ≡ took (view_of pass.old) s)) }
+        ensures same { IfNone result (view_of pass.new ≡ view_of pass.old) }
+        ensures empty { IfNone result (HeldAt M.is_true pass.old 0) }
+
+        // A pass with all numbers knows: there is none exactly where every sent stamp was taken.
+        ensures whole { IsWhole (numbers_of (view_of pass.old)) →
+            IsNone result
+            ↔ Same (sent_of (view_of pass.old).books) (taken_of (view_of pass.old).books) }
+    {
+        self.queue.pop_as::<Takes<M>, R>(rt, &mut pass.inner)
+    }
+
+    /// A second pass, with the next number. It takes no memory today.
+    pub fn split(&self, pass: &mut Pass<M>) -> Result<Pass<M>, Memory>
+        requires { IsPassOf self.now pass.old }
+        ensures ok { IsOk result }
+        ensures pass { IsPassOf self.now pass.new }
+        ensures new_pass { IfOk result (IsPassOf self.now) }
+        ensures view { view_of pass.new ≡ kept_of (view_of pass.old) }
+        ensures new_view { IfOk result (λ made. view_of made ≡ cut_of (view_of pass.old)) }
+
+        // Passes that had all numbers, each once, have them with the new one.
+        ensures numbered { IfOk result (λ made. (others : List (View M)) →
+            Numbered numbers_of (view_of pass.old ∷ others) →
+            Numbered numbers_of (view_of pass.new ∷ view_of made ∷ others)) }
+    {
+        let inner = self.queue.another::<Cut>(&mut pass.inner);
+        Ok(Pass { inner, size: 0 })
+    }
+
+    /// Puts the other's books behind those of `into`. The other's view is empty after that.
+    pub fn join(&self, into: &mut Pass<M>, other: Pass<M>)
+        requires pass { IsPassOf self.now into.old }
+        requires other { IsPassOf self.now other }
+        ensures pass { IsPassOf self.now into.new }
+        ensures view { view_of into.new ≡ both_of (view_of into.old) (view_of other) }
+
+        // Passes that had all numbers, each once, have them without the other.
+        ensures numbered { (others : List (View M)) →
+            Numbered numbers_of (view_of into.old ∷ view_of other ∷ others) →
+            Numbered numbers_of (view_of into.new ∷ others) }
+    {
+        self.queue.absorb::<Joined>(&mut into.inner, other.inner);
+    }
+}
+
+// Gives a box that is being made its terms.
+fn name<M: Truth, N: Terms>(
+    queue: &RuledArrayQueue<M, View<M>, Books<M>>,
+    pass: &mut crossbeam_queue::Pass<M, View<M>>,
+    _plan: &Plan,
+    _owner: u32,
+    _capacity: u32,
+)
+    requires terms { (_plan.now ≡ N.plan) × (_owner ≡ N.owner) × (_capacity ≡ N.capacity) }
+    requires queue { Rattle.crossbeam_queue.specs.Passes.IsPassOf queue.now pass.old }
+    requires blank { view pass.old ≡ blank }
+    ensures queue { IsSamePass pass.old pass.new }
+    ensures view { view pass.new ≡ first_view _plan.now _owner _capacity }
+{
+    let _ = queue.another::<Named<N>>(pass);
+}
