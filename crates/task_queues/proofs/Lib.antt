@@ -6,3 +6,6 @@ mod Splitting
 mod Whole
 mod Steps
 mod Exact
+mod Order
+mod Arriving
+mod Draining

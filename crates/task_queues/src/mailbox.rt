@@ -1,5 +1,5 @@
 //! The calls of a box. Each is one step on its queue.
-ghost use Rattle.std.specs.Prelude.{◌≡◌, ◌<◌, ◌≤◌, ◌+◌, ◌↔◌, ◌++◌, ◌∷◌, All, List, length};
+ghost use Rattle.std.specs.Prelude.{◌≡◌, ◌<◌, ◌≤◌, ◌+◌, ◌↔◌, ◌++◌, ◌∷◌, [], ◌≢◌, false, vec_capacity, List, length};
 ghost use Rattle.std.specs.Prelude.{IfOk, IsOk, IsErr, IfErr, OnOk, OnErr, IsNone, IfSome, OnSome};
 ghost use Rattle.std.specs.Option.{IfNone};
 ghost use Rattle.crossbeam_queue.specs.Passes.{view, IsSamePass, ruled_capacity};
@@ -10,8 +10,10 @@ ghost use Rattle.task_queues.specs.declared.rule.View.{View};
 ghost use Rattle.task_queues.specs.Books.{blank, first_view, sent_to, took, kept_of, cut_of, both_of};
 ghost use Rattle.task_queues.specs.Books.{numbers_of, sent_of, taken_of};
 ghost use Rattle.task_queues.specs.Passes.{IsPassOf, HeldAt, view_of};
+ghost use Rattle.task_queues.specs.Whole.{IsLeft};
+ghost use Rattle.std.specs.List.{AllByRecursion};
 
-use crate::pass::{Mailbox, Pass};
+use crate::pass::{Mailbox, Pass, Rest};
 use crate::rule::{Books, Cut, Joined, Named, Sends, Takes, Terms, Truth, View};
 use crossbeam_queue::RuledArrayQueue;
 use std::alloc::Global;
@@ -110,6 +112,44 @@ impl<M: Truth + Drop> Mailbox<M> {
     {
         self.queue.absorb::<Joined>(&mut into.inner, other.inner);
     }
+}
+
+impl<M: Truth + Drop> Mailbox<M> {
+    /// The end of a box: what is left in it, oldest first, taken one by one into the room that `new`
+    /// made.
+    pub fn drain_end<R: Wait>(self, rt: &R, pass: Pass<M>) -> Rest<M>
+        requires pass { IsPassOf self pass }
+        requires whole { IsWhole (numbers_of (view_of pass)) }
+        ensures left { IsLeft (view_of pass).books result }
+        ensures is_true { AllByRecursion (M.is_true (view_of pass).plan (view_of pass).owner) result }
+    {
+        let Mailbox { queue, room } = self;
+        Rest::from_vec(drain(rt, &queue, pass.inner, room))
+    }
+}
+
+// Takes all that is left.
+fn drain<M: Truth + Drop, R: Wait>(
+    rt: &R,
+    queue: &RuledArrayQueue<M, View<M>, Books<M>>,
+    mut pass: crossbeam_queue::Pass<M, View<M>>,
+    mut room: Vec<M>,
+) -> Vec<M>
+    requires queue { Rattle.crossbeam_queue.specs.Passes.IsPassOf queue.now pass }
+    requires named { (view pass).fresh ≡ false }
+    requires some_book { (view pass).books ≢ [] }
+    requires capacity { (view pass).capacity ≡ ruled_capacity queue.now }
+    requires whole { IsWhole (numbers_of (view pass)) }
+    requires room { ruled_capacity queue.now ≤ vec_capacity room }
+    requires empty { room.items ≡ [] }
+    ensures left { IsLeft (view pass).books result.items }
+    ensures is_true { AllByRecursion (M.is_true (view pass).plan (view pass).owner) result.items }
+{
+    queue.learn_as::<Takes<M>>(&mut pass);
+    while let Some(message) = queue.pop_as::<Takes<M>, R>(rt, &mut pass) {
+        room.push_reserved(message);
+    }
+    room
 }
 
 // Gives a box that is being made its terms.
