@@ -1,0 +1,3 @@
+pub mod CellMapLemmas
+mod TreeCells
+mod SlotLemmas

@@ -1,0 +1,6 @@
+pub mod CellMaps
+pub mod Faults
+pub mod Calls
+pub mod MemoryStore
+pub mod Counts
+pub mod MemoryMaker

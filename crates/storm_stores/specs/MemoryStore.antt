@@ -1,0 +1,41 @@
+-- A store in memory.
+use Rattle.std.specs.Prelude.{ℕ, ◌≡◌, List, map, Vec, Bool, true, false, Option, Some, None}
+use Rattle.storm_stores.specs.CellMaps.{CellMap, InKeyOrder, with_cell}
+use Rattle.storm_stores.specs.Calls.{CallLog, no_calls, failing_at}
+use Rattle.storm_stores.specs.declared.calls.CallKind.{CallKind}
+use Rattle.storm_stores.specs.declared.calls.CallKind.TheVariants.{Get, Put, Count, KeyAt}
+use Rattle.storm_stores.specs.declared.calls.Failing.{Failing}
+
+-- the map, the calls of each kind and how many have failed
+pub record StoreState : Type 0 where
+  pub cells : CellMap
+  pub gets : CallLog
+  pub puts : CallLog
+  pub counts : CallLog
+  pub keys : CallLog
+  pub faults : ℕ
+
+-- a store with these cells, whose calls do not fail
+abbrev pub store_of : CellMap → StoreState
+store_of cells = record { cells = cells; gets = no_calls; puts = no_calls; counts = no_calls; keys = no_calls; faults = 0 }
+
+-- a call of this kind fails too
+abbrev pub failing_of : CallKind → Failing → StoreState → StoreState
+failing_of Get call store = record store { gets = failing_at store.gets call }
+failing_of Put call store = record store { puts = failing_at store.puts call }
+failing_of Count call store = record store { counts = failing_at store.counts call }
+failing_of KeyAt call store = record store { keys = failing_at store.keys call }
+
+-- the cells, their keys in order
+abbrev pub Holds : StoreState → CellMap → Type 0
+Holds store cells = (cells ≡ store.cells) × InKeyOrder cells
+
+-- the map that the entries of a tree make
+abbrev pub cells_of : {A : Type 0} → List (Vec ℕ A × List ℕ) → CellMap
+cells_of {A} entries = map {B = List ℕ × List ℕ} (λ (entry : Vec ℕ A × List ℕ). (entry.0.items, entry.1)) entries
+
+-- what is there after a put that failed, which perhaps happened
+abbrev pub cells_after : Option Bool → CellMap → List ℕ → List ℕ → CellMap
+cells_after None cells key cell = cells
+cells_after (Some false) cells key cell = cells
+cells_after (Some true) cells key cell = with_cell cells key cell
