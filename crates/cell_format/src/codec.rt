@@ -1,0 +1,158 @@
+ghost use Rattle.std.specs.Prelude.{◌≡◌, ◌≢◌, ◌≤◌, ◌<◌, ◌+◌, ◌^◌, ◌↔◌, ◌++◌, ℕ, List, length, take, drop, slice_index_or, Ok, IsTrue, IfOk, IsErrOf};
+ghost use Rattle.cell_format.specs.Layout.{IsCell, IsWhole, bytes_of, flags_of, has_flag, kind_if, number_bytes, number_if, number_of, read_of, txid_bytes};
+ghost use Rattle.cell_format.specs.declared.cell.Cell.{Cell};
+
+use crate::cell::{Cell, CellFault};
+use topology_plan::Kind;
+
+/// How many bytes a cell has.
+pub const CELL_BYTES: usize = 42;
+
+const VERSION: u8 = 1;
+
+/// There is a value.
+const VALUE: u8 = 1;
+
+/// There is a value before.
+const PREV: u8 = 2;
+
+/// The cell is opaque.
+const OPAQUE: u8 = 4;
+
+/// The bytes of a cell. It takes no memory.
+pub fn encode_cell(cell: &Cell) -> [u8; CELL_BYTES]
+    requires { IsWhole cell.now.kind cell.now.value cell.now.prev }
+    ensures { result ≡ bytes_of cell.now }
+{
+    let mut bytes = [0; CELL_BYTES];
+    bytes[0] = VERSION;
+    bytes[1] = flags(cell);
+    place(&mut bytes, 2, &txid(cell.txid));
+    place(&mut bytes, 10, &number(cell.value));
+    place(&mut bytes, 26, &number(cell.prev));
+    bytes
+}
+
+/// Copies a piece to a place.
+fn place(bytes: &mut [u8], at: usize, piece: &[u8])
+    requires { at + length piece.now ≤ length bytes.old }
+    ensures { bytes.new ≡ take at bytes.old ++ (piece.now ++ drop (at + length piece.now) bytes.old) }
+{
+    bytes[at..at + piece.len()].copy_from_slice(piece);
+}
+
+fn txid(txid: u64) -> [u8; 8]
+    ensures { result ≡ txid_bytes txid }
+{
+    txid.to_be_bytes()
+}
+
+fn flags(cell: &Cell) -> u8
+    ensures { result ≡ flags_of cell.now }
+{
+    let value = if cell.value.is_some() { VALUE } else { 0 };
+    let prev = if cell.prev.is_some() { PREV } else { 0 };
+    let kind = match cell.kind {
+        Kind::Transactional => 0,
+        Kind::Opaque => OPAQUE,
+    };
+    value + prev + kind
+}
+
+fn number(number: Option<i128>) -> [u8; 16]
+    ensures { result ≡ number_bytes number }
+{
+    match number {
+        Some(number) => number.to_be_bytes(),
+        None => [0; 16],
+    }
+}
+
+/// The cell that the bytes are. It takes no memory.
+pub fn decode_cell(bytes: &[u8]) -> Result<Cell, CellFault>
+    ensures cell { IfOk result (λ cell. IsCell cell × (bytes.now ≡ bytes_of cell)) }
+    ensures read { (cell : Cell) → IsCell cell → bytes.now ≡ bytes_of cell → result ≡ Ok cell }
+    ensures length { IsErrOf result CellFault.Length ↔ (length bytes.now ≢ 42) }
+    ensures version { IsErrOf result CellFault.Version ↔
+        ((length bytes.now ≡ 42) × (slice_index_or bytes.now 0 0 ≢ 1)) }
+    ensures flag { IsErrOf result CellFault.Flag →
+        (length bytes.now ≡ 42) × (slice_index_or bytes.now 0 0 ≡ 1)
+        × ((cell : Cell) → IsCell cell → bytes.now ≢ bytes_of cell) }
+{
+    if bytes.len() != CELL_BYTES {
+        return Err(CellFault::Length);
+    }
+    if bytes[0] != VERSION {
+        return Err(CellFault::Version);
+    }
+    let cell = read_cell(bytes);
+    if has_bytes(&cell, bytes) {
+        Ok(cell)
+    } else {
+        Err(CellFault::Flag)
+    }
+}
+
+/// Whether these are the bytes of the cell.
+fn has_bytes(cell: &Cell, bytes: &[u8]) -> bool
+    ensures { IsTrue result ↔ (IsWhole cell.now.kind cell.now.value cell.now.prev × (bytes.now ≡ bytes_of cell.now)) }
+{
+    is_whole(cell) && encode_cell(cell).as_slice() == bytes
+}
+
+fn is_whole(cell: &Cell) -> bool
+    ensures { IsTrue result ↔ IsWhole cell.now.kind cell.now.value cell.now.prev }
+{
+    match cell.kind {
+        Kind::Transactional => cell.value.is_some() && cell.prev.is_none(),
+        Kind::Opaque => true,
+    }
+}
+
+/// What the places of 42 bytes say.
+fn read_cell(bytes: &[u8]) -> Cell
+    requires { length bytes.now ≡ 42 }
+    ensures { result ≡ read_of bytes.now }
+{
+    let flags = bytes[1];
+    Cell {
+        txid: read_number(&bytes[2..10]) as u64,
+        value: read_if(flags & VALUE != 0, &bytes[10..26]),
+        prev: read_if(flags & PREV != 0, &bytes[26..42]),
+        kind: read_kind(flags & OPAQUE != 0),
+    }
+}
+
+fn read_kind(is_opaque: bool) -> Kind
+    ensures { result ≡ kind_if is_opaque }
+{
+    if is_opaque {
+        Kind::Opaque
+    } else {
+        Kind::Transactional
+    }
+}
+
+fn read_if(is_there: bool, bytes: &[u8]) -> Option<i128>
+    requires { length bytes.now ≡ 16 }
+    ensures { result ≡ number_if is_there bytes.now }
+{
+    if is_there {
+        Some(read_number(bytes).cast_signed())
+    } else {
+        None
+    }
+}
+
+/// The number whose bytes these are, the highest first.
+fn read_number(bytes: &[u8]) -> u128
+    requires { length bytes.now ≤ 16 }
+    ensures number { result ≡ number_of bytes.now }
+    ensures small { result < 256 ^ length bytes.now }
+{
+    let mut number = 0;
+    for byte in bytes {
+        number = number * 256 + u128::from(*byte);
+    }
+    number
+}
