@@ -70,3 +70,7 @@ IsDone Opaque by txid amounts old new = Commits Opaque by txid amounts old new
 -- what a commit that was broken off leaves at a key
 abbrev pub IsPerhapsDone : Kind → Fold → ℕ → List ℤ → Option (List ℕ) → Option (List ℕ) → Type 0
 IsPerhapsDone kind by txid amounts old new = (new ≡ old) ⊎ Commits kind by txid amounts old new
+
+-- no cell that a part of this kind takes has these bytes
+abbrev pub IsRefused : Kind → List ℕ → Type 0
+IsRefused kind bytes = (cell : Cell) → IsCellOf kind cell → bytes ≡ bytes_of cell → ⊥
