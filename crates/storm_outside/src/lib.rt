@@ -5,6 +5,7 @@ mod calls;
 mod failed;
 mod memory_shelf;
 mod memory_sink;
+mod pieces;
 mod shelf;
 mod sink;
 mod system;

@@ -3,9 +3,9 @@ ghost use Rattle.std.specs.Prelude.{◌≡◌, IsSome, None};
 
 use crate::calls::count_fault;
 use crate::failed::Failed;
+use crate::pieces::{read_piece, write_piece};
 use crate::shelf::Shelf;
 use crate::sink::Sink;
-use std::io::{Read, Write};
 use std::rt::Files;
 use std::{fs, io};
 
@@ -73,10 +73,7 @@ impl<R: Files> Shelf for FileShelf<R> {
     }
 
     fn read(&mut self, buf: &mut [u8]) -> Result<usize, Failed> {
-        match self.current.as_mut().unwrap().read(buf) {
-            Ok(count) => Ok(count),
-            Err(_) => Err(count_fault(&mut self.faults)),
-        }
+        read_piece(self.current.as_mut().unwrap(), buf, &mut self.faults)
     }
 }
 
@@ -101,9 +98,6 @@ impl<R: Print> Sink for OutSink<R> {
     ghost faults = { λ s. s.faults };
 
     fn write(&mut self, bytes: &[u8]) -> Result<usize, Failed> {
-        match io::writer(&self.rt).write(bytes) {
-            Ok(count) if count > 0 => Ok(count),
-            _ => Err(count_fault(&mut self.faults)),
-        }
+        write_piece(&mut io::writer(&self.rt), bytes, &mut self.faults)
     }
 }

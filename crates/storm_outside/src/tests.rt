@@ -1,3 +1,6 @@
+ghost use Rattle.std.specs.Prelude.{◌<◌, ◌-◌, ◌^◌};
+
+use crate::pieces::write_piece;
 use crate::{
     Failed, FileShelf, InFault, MemShelf, MemSink, OutSink, Shelf, Sink, read_all, write_all,
 };
@@ -99,5 +102,85 @@ fn a_file_is_read_and_printed(rt: HostRuntime) -> Result<(), Fail> {
     let mut sink = OutSink::new(&rt);
     write_all(&mut sink, bytes.as_slice())?;
     assert_eq!(rt; sink.faults(), 0);
+    Ok(())
+}
+
+// The file of a name is fetched and read.
+fn read_file(alloc: Global, shelf: &mut impl Shelf, name: &str, most: u64) -> Result<Bytes, Fail>
+    requires { most < 2 ^ 64 - 1 }
+{
+    shelf.fetch(name)?;
+    Ok(read_all(alloc, shelf, most)?)
+}
+
+#[test]
+fn a_file_is_longer_than_one_read(rt: HostRuntime) -> Result<(), Fail> {
+    let alloc = rt.alloc();
+    let path = "storm_outside_long.txt";
+    let line = "a line of 23 characters";
+    let long = line.repeat(alloc, 1_000)?;
+    fs::write(&rt, path, long.as_str())?;
+    let mut shelf = FileShelf::new(&rt);
+    let whole = read_file(alloc, &mut shelf, path, 30_000)?;
+    let front = read_file(alloc, &mut shelf, path, 11_499)?;
+    fs::remove_file(&rt, path)?;
+    assert!(rt; whole.as_slice() == long.as_bytes());
+    assert!(rt; front.as_slice() == line.repeat(alloc, 500)?.as_bytes());
+    Ok(())
+}
+
+#[test]
+fn files_are_fetched_in_turn(rt: HostRuntime) -> Result<(), Fail> {
+    let alloc = rt.alloc();
+    let names = ["storm_outside_one.txt", "storm_outside_two.txt"];
+    for name in names {
+        fs::write(&rt, name, name)?;
+    }
+    let mut shelf = FileShelf::new(&rt);
+    for name in [names[0], names[1], names[1], names[0]] {
+        let bytes = read_file(alloc, &mut shelf, name, 100)?;
+        assert_eq!(rt; bytes.as_slice(), name.as_bytes());
+    }
+    // a fetch begins anew in the middle of a file, and fails over another one that is there
+    shelf.fetch(names[1])?;
+    assert_eq!(rt; shelf.read(&mut [0; 5])?, 5);
+    assert_eq!(rt;
+        read_file(alloc, &mut shelf, names[0], 100)?.as_slice(),
+        names[0].as_bytes()
+    );
+    for name in names {
+        fs::remove_file(&rt, name)?;
+        assert_eq!(rt; shelf.fetch(name), Err(Failed));
+    }
+    assert_eq!(rt; shelf.faults(), 2);
+    Ok(())
+}
+
+#[test]
+fn a_folder_is_no_file(rt: HostRuntime) -> Result<(), Fail> {
+    let path = "storm_outside_folder";
+    fs::create_dir(&rt, path)?;
+    let mut shelf = FileShelf::new(&rt);
+    // the system opens a folder, and lets no byte of it be read
+    shelf.fetch(path)?;
+    let got = read_all(rt.alloc(), &mut shelf, 100);
+    fs::remove_dir(&rt, path)?;
+    assert_eq!(rt; got.err(), Some(InFault::Failed));
+    assert_eq!(rt; shelf.faults(), 1);
+    Ok(())
+}
+
+#[test]
+fn a_write_of_nothing_is_a_fault(rt: HostRuntime) -> Result<(), Fail> {
+    let mut buf = [0; 3];
+    let mut room = buf.as_mut_slice();
+    let mut faults = 0;
+    assert_eq!(rt; write_piece(&mut room, TEXT.as_bytes(), &mut faults), Ok(3));
+    assert_eq!(rt; faults, 0);
+    assert_eq!(rt;
+        write_piece(&mut room, TEXT.as_bytes(), &mut faults),
+        Err(Failed)
+    );
+    assert_eq!(rt; faults, 1);
     Ok(())
 }
