@@ -7,28 +7,15 @@ ghost use Rattle.storm_outside.specs.Counts.{Rose};
 ghost use Rattle.storm_program.specs.Words.{built, check_of, run_of, usage};
 ghost use Rattle.storm_program.specs.Answers.{IsReportOfFiles, IsTopologyLine, IsTopologyStop, IsInputLineOfFiles, IsValidLine, Took};
 
+mod arguments;
+
+use crate::arguments::words;
 use std::alloc::Global;
 use std::process::ExitCode;
 use std::sync::Wait;
 use std::thread::Threads;
-use std::{env, io};
 use storm_outside::{FileShelf, OutSink, Shelf, Sink};
 use storm_program::{Fates, Status, storm};
-
-/// The words after the program's name. Words that are no text are none, which is no command.
-fn words(rt: &(impl std::rt::Env + AllocGlobal), alloc: Global) -> io::Result<Vec<String>> {
-    let mut words = Vec::new(alloc);
-    match env::args(rt) {
-        Ok(args) => {
-            for word in args.skip(1) {
-                words.push(word)?;
-            }
-        }
-        Err(error) if error.kind() == io::ErrorKind::OutOfMemory => return Err(error),
-        Err(_) => {}
-    }
-    Ok(words)
-}
 
 /// Carries out the words over some files and an output, and gives the exit status.
 fn exit_status<R: Threads + Wait + Sync, H: Shelf, K: Sink>(
