@@ -1,134 +1,129 @@
--- Which answers the files of a shelf that tells them rule out.
-use Rattle.std.proofs.Common.{◌≡◌, ◌≢◌, ◌⊎◌, ℕ, ◌+◌, ◌%◌, ◌^◌, List, Option, Some, None, true, false, refl, sym, ap, subst, ◌∙◌, inl, inr, IfNone, arith}
+-- Files that a shelf tells rule out every answer but the one that they call for.
+use Rattle.std.proofs.Common.{◌≡◌, ◌⊎◌, ℕ, List, [], Some, None, true, false, refl, sym, ap, subst, ◌∙◌, inl, inr}
 use Rattle.std.proofs.lemmas.Bool.{false≢true}
-use Rattle.storm_values.specs.declared.lines.InputFault.{InputFault}
+use Rattle.std.proofs.lemmas.Option.{none-some}
+use Rattle.storm_values.specs.declared.value.Value.{Value}
 use Rattle.storm_values.specs.Lines.{input_fault}
-use Rattle.topology_reader.specs.TopoFault.{TopoFault}
-use Rattle.topology_reader.proofs.FilePlans.{one_plan, plan_or_fault}
 use Rattle.topology_plan.specs.Topology.{Topology}
+use Rattle.topology_reader.proofs.FilePlans.{one_plan, plan_or_fault}
 use Rattle.topology_reader.specs.FirstFault.{first_fault, IsFilePlan}
 use Rattle.storm_program.specs.declared.fates.Attempt.{Attempt}
 use Rattle.storm_program.specs.declared.status.Status.{Status}
 use Rattle.storm_program.specs.declared.status.Status.TheVariants as status
-use Rattle.storm_program.specs.Outside.{AreBytesOf, Counts, FetchedTimes, HasRisen, Appends, AppendsFront}
-use Rattle.storm_program.specs.Answers.{IsAccepted, IsRunnable, IsTopologyLine, IsNotYetLine, IsTopologyStop, ComesTo, ChecksTo, TookFront}
+use Rattle.storm_program.specs.Check.{CheckComes, CheckCalls}
+use Rattle.storm_program.specs.Ends.{HasText, Ends, TakesThePlace, IsAnswered}
+use Rattle.storm_program.specs.Files.{IsAccepted, IsRunnable, AreRecords, IsTopologyLine, IsNotYetLine, IsInputLine, IsReadFaultLine, of_topology, of_input, TellsPlan, TellsTopologyFault, TellsInput, TellsInputFault}
 use Rattle.storm_program.specs.NotYet.{is_not_yet}
+use Rattle.storm_program.specs.Outside.{ShelfUse, SinkUse, ShelfFailed, AreBytesOf}
+use Rattle.storm_program.specs.Run.{RunComes, RunCalls}
+use Rattle.storm_program.proofs.EndLemmas.{answered_by_ends}
 
-module _ (holds : List ℕ → List ℕ → Type 0) (topology input : List ℕ) (t : List ℕ) (told : holds topology t) where
-  -- a topology that was accepted is that of the file
-  pub plan_of_file : (plan : Topology) → IsAccepted holds topology plan → IsFilePlan t plan
-  plan_of_file plan accepted = subst (λ b. IsFilePlan b plan) (sym (accepted.were_read t told)) accepted.is_plan
+module _ (holds : List ℕ → List ℕ → Type 0) (name : List ℕ) where
+  -- ---- a topology
 
-  never_accepted : (plan : Topology) (fault : TopoFault) → first_fault t ≡ Some fault → IsAccepted holds topology plan → ⊥
-  never_accepted plan fault refused accepted = plan_or_fault t plan fault (plan_of_file plan accepted) refused
+  -- the plan that was accepted is the told one
+  same_plan : (plan other : Topology) → TellsPlan holds name plan → IsAccepted holds name other → other ≡ plan
+  same_plan plan other tells accepted =
+      one_plan tells.bytes other plan (subst (λ b. IsFilePlan b other) (sym (accepted.were_read tells.bytes tells.told)) accepted.is_plan) tells.is_plan
 
-  never_refused : (plan : Topology) (text : List ℕ) → IsFilePlan t plan → IsTopologyLine holds topology text → ⊥
-  never_refused plan text is_plan line = plan_or_fault t plan line.fault is_plan (subst (λ b. first_fault b ≡ Some line.fault) (sym (line.were_read t told)) line.is_refused)
+  -- a file with a fault is not accepted, and a file with a plan not refused
+  never_accepted : (plan : Topology) → TellsTopologyFault holds name → IsAccepted holds name plan → ⊥
+  never_accepted plan tells accepted =
+      plan_or_fault tells.bytes plan tells.fault (subst (λ b. IsFilePlan b plan) (sym (accepted.were_read tells.bytes tells.told)) accepted.is_plan) tells.is_refused
 
-  -- a plan that is not run yet is not run
-  never_run : (plan other : Topology) → IsFilePlan t plan → is_not_yet plan ≡ true → IsRunnable holds topology other → ⊥
-  never_run plan other is_plan late (accepted, runs) =
-      false≢true (sym runs ∙ (ap is_not_yet (one_plan t other plan (plan_of_file other accepted) is_plan) ∙ late))
+  never_refused : (plan : Topology) (text : List ℕ) → TellsPlan holds name plan → IsTopologyLine holds name text → ⊥
+  never_refused plan text tells line =
+      plan_or_fault tells.bytes plan line.fault tells.is_plan (subst (λ b. first_fault b ≡ Some line.fault) (sym (line.were_read tells.bytes tells.told)) line.is_refused)
 
-  never_late : (plan : Topology) (text : List ℕ) → IsFilePlan t plan → is_not_yet plan ≡ false → IsNotYetLine holds topology text → ⊥
-  never_late plan text is_plan runs (other, accepted, late, line) =
-      false≢true (sym runs ∙ (ap is_not_yet (one_plan t plan other is_plan (plan_of_file other accepted)) ∙ late))
+  -- a plan that is not run yet is not run, and one that is run not put off
+  never_run : (plan other : Topology) → TellsPlan holds name plan → is_not_yet plan ≡ true → IsRunnable holds name other → ⊥
+  never_run plan other tells late runnable =
+      false≢true (sym runnable.runs ∙ (ap is_not_yet (same_plan plan other tells runnable.accepted) ∙ late))
 
-  never_stopped : (plan : Topology) (text : List ℕ) → IsFilePlan t plan → is_not_yet plan ≡ false → IsTopologyStop holds topology text → ⊥
-  never_stopped plan text is_plan runs (inl line) = never_refused plan text is_plan line
-  never_stopped plan text is_plan runs (inr line) = never_late plan text is_plan runs line
+  never_late : (plan : Topology) (text : List ℕ) → TellsPlan holds name plan → is_not_yet plan ≡ false → IsNotYetLine holds name text → ⊥
+  never_late plan text tells runs line =
+      false≢true (sym runs ∙ (ap is_not_yet (sym (same_plan plan line.plan tells line.accepted)) ∙ line.late))
 
-  module _ (counts : Counts) (text : List ℕ) where
-    -- a check of a refused topology does not accept it
-    pub check_stops : (fault : TopoFault) (s : Status) → first_fault t ≡ Some fault → ChecksTo holds topology counts s text → s ≢ status.Done
-    check_stops fault s refused comes is =
-        let done : ChecksTo holds topology counts status.Done text = subst (λ u. ChecksTo holds topology counts u text) is comes in
-        never_accepted done.1.0 fault refused done.1.1
+  never_stopped : (plan : Topology) (text : List ℕ) → TellsPlan holds name plan → is_not_yet plan ≡ false → IsTopologyLine holds name text ⊎ IsNotYetLine holds name text → ⊥
+  never_stopped plan text tells runs (inl line) = never_refused plan text tells line
+  never_stopped plan text tells runs (inr line) = never_late plan text tells runs line
 
-    -- with a file that is accepted and no fault of the shelf, a check comes to its line
-    pub check_comes_to_done : (plan : Topology) (s : Status) → IsFilePlan t plan → s ≢ status.ReadFault → ChecksTo holds topology counts s text → s ≡ status.Done
-    check_comes_to_done plan status.Done is_plan read comes = refl
-    check_comes_to_done plan status.Topology is_plan read comes = absurd (never_refused plan text is_plan comes.1)
-    check_comes_to_done plan status.ReadFault is_plan read comes = absurd (read refl)
-    check_comes_to_done plan status.Input is_plan read comes = absurd comes
-    check_comes_to_done plan status.Memory is_plan read comes = absurd comes
-    check_comes_to_done plan status.Words is_plan read comes = absurd comes
-    check_comes_to_done plan status.WriteFault is_plan read comes = absurd comes
+  -- what calls for a refusal of the topology
+  never_runnable : (plan : Topology) → TellsTopologyFault holds name ⊎ ((late : Topology) × TellsPlan holds name late × (is_not_yet late ≡ true)) → IsRunnable holds name plan → ⊥
+  never_runnable plan (inl fault) runnable = never_accepted plan fault runnable.accepted
+  never_runnable plan (inr (late, tells, is)) runnable = never_run late plan tells is runnable
 
-  module _ (counts : Counts) (text : List ℕ) (fates : List Attempt) where
-    -- a run over a topology that is not run yet does not go on
-    pub stops_not_yet : (plan : Topology) (s : Status) → IsFilePlan t plan → is_not_yet plan ≡ true → ComesTo holds topology input counts s text fates → (s ≢ status.Done) × (s ≢ status.Input)
-    stops_not_yet plan s is_plan late comes = (
-      λ is. let done : ComesTo holds topology input counts status.Done text fates = subst (λ u. ComesTo holds topology input counts u text fates) is comes in never_run plan done.1.0 is_plan late done.1.1,
-      λ is. let line : ComesTo holds topology input counts status.Input text fates = subst (λ u. ComesTo holds topology input counts u text fates) is comes in never_run plan line.1.0 is_plan late line.1.1,
-    )
+module _ (holds : List ℕ → List ℕ → Type 0) (topology input : List ℕ) (plan other : Topology) (tells : TellsPlan holds topology plan) (runnable : IsRunnable holds topology other) where
+  -- ---- an input of the told topology
 
-    -- a run over a refused topology does not go on
-    pub stops_at_topology : (fault : TopoFault) (s : Status) → first_fault t ≡ Some fault → ComesTo holds topology input counts s text fates → (s ≢ status.Done) × (s ≢ status.Input)
-    stops_at_topology fault s refused comes = (
-      λ is. let done : ComesTo holds topology input counts status.Done text fates = subst (λ u. ComesTo holds topology input counts u text fates) is comes in never_accepted done.1.0 fault refused done.1.1.0,
-      λ is. let line : ComesTo holds topology input counts status.Input text fates = subst (λ u. ComesTo holds topology input counts u text fates) is comes in never_accepted line.1.0 fault refused line.1.1.0,
-    )
+  fault_of : (told bytes : List ℕ) → told ≡ bytes → input_fault told plan.spout_fields ≡ input_fault bytes other.spout_fields
+  fault_of told bytes same =
+      ap (λ b. input_fault b plan.spout_fields) same ∙ ap (λ (p : Topology). input_fault bytes p.spout_fields) (sym (same_plan holds topology plan other tells runnable.accepted))
 
-    module _ (i : List ℕ) (told_input : holds input i) (plan : Topology) (is_plan : IsFilePlan t plan) (runs : is_not_yet plan ≡ false) where
-      -- the plan of the file is the one that was run
-      same_plan : (other : Topology) → IsAccepted holds topology other → other ≡ plan
-      same_plan other accepted = one_plan t other plan (plan_of_file other accepted) is_plan
+  never_bad : (text : List ℕ) → TellsInput holds plan input → IsInputLine holds other input text → ⊥
+  never_bad text good line =
+      none-some line.fault (sym good.is_accepted ∙ (fault_of good.bytes line.bytes (line.were_read good.bytes good.told) ∙ line.is_refused))
 
-      fault_of_input : (other : Topology) (bytes : List ℕ) → IsAccepted holds topology other → AreBytesOf holds input bytes → input_fault i plan.spout_fields ≡ input_fault bytes other.spout_fields
-      fault_of_input other bytes accepted read =
-          ap (λ b. input_fault b plan.spout_fields) (read i told_input) ∙ ap (λ (p : Topology). input_fault bytes p.spout_fields) (sym (same_plan other accepted))
+  never_good : (records : List (List Value)) → TellsInputFault holds plan input → AreRecords holds other input records → ⊥
+  never_good records bad are =
+      none-some bad.fault (sym are.is_accepted ∙ (sym (fault_of bad.bytes are.bytes (are.were_read bad.bytes bad.told)) ∙ bad.is_refused))
 
-      -- a run over a refused input does not go on, and its topology was not refused
-      pub stops_at_input : (fault : InputFault) (s : Status) → input_fault i plan.spout_fields ≡ Some fault → ComesTo holds topology input counts s text fates → (s ≢ status.Done) × (s ≢ status.Topology)
-      stops_at_input fault s refused comes = (
-        λ is.
-            let done : ComesTo holds topology input counts status.Done text fates = subst (λ u. ComesTo holds topology input counts u text fates) is comes in
-            let none : Some fault ≡ None = sym refused ∙ (fault_of_input done.1.0 done.1.2.bytes done.1.1.0 done.1.2.were_read ∙ done.1.2.is_accepted) in
-            cc,
-        λ is. let line : ComesTo holds topology input counts status.Topology text fates = subst (λ u. ComesTo holds topology input counts u text fates) is comes in never_stopped plan text is_plan runs line.1,
-      )
+-- ---- the commands
 
-      -- with files that are accepted and no fault of the shelf, a run comes to its report
-      pub comes_to_done : (s : Status) → input_fault i plan.spout_fields ≡ None → s ≢ status.ReadFault → ComesTo holds topology input counts s text fates → s ≡ status.Done
-      comes_to_done status.Done good read comes = refl
-      comes_to_done status.Topology good read comes = absurd (never_stopped plan text is_plan runs comes.1)
-      comes_to_done status.Input good read comes =
-          let some : None ≡ Some comes.1.2.fault = sym good ∙ (fault_of_input comes.1.0 comes.1.2.bytes comes.1.1.0 comes.1.2.were_read ∙ comes.1.2.is_refused) in
-          cc
-      comes_to_done status.ReadFault good read comes = absurd (read refl)
-      comes_to_done status.Memory good read comes = absurd comes
-      comes_to_done status.Words good read comes = absurd comes
-      comes_to_done status.WriteFault good read comes = absurd comes
+check_agrees : (shelf : ShelfUse) (sink : SinkUse) (topology : List ℕ) (s called : Status) (text : List ℕ) → HasText s → CheckComes shelf topology s text → CheckCalls shelf.holds topology called → (s ≡ called) ⊎ TakesThePlace shelf sink s
+check_agrees shelf sink topology status.ReadFault called text has comes calls = inr comes.1.rose
+check_agrees shelf sink topology status.Done status.Done text has comes calls = inl refl
+check_agrees shelf sink topology status.Done status.Topology text has comes calls = absurd (never_accepted shelf.holds topology comes.1.plan calls comes.1.accepted)
+check_agrees shelf sink topology status.Topology status.Topology text has comes calls = inl refl
+check_agrees shelf sink topology status.Topology status.Done text has comes calls = absurd (never_refused shelf.holds topology calls.0 text calls.1 comes.1)
+check_agrees shelf sink topology status.Memory called text has comes calls = absurd has
+check_agrees shelf sink topology status.WriteFault called text has comes calls = absurd has
+check_agrees shelf sink topology status.Words called text has comes calls = absurd comes
+check_agrees shelf sink topology status.Input called text has comes calls = absurd comes
+check_agrees shelf sink topology status.Done status.Memory text has comes calls = absurd calls
+check_agrees shelf sink topology status.Done status.Words text has comes calls = absurd calls
+check_agrees shelf sink topology status.Done status.Input text has comes calls = absurd calls
+check_agrees shelf sink topology status.Done status.ReadFault text has comes calls = absurd calls
+check_agrees shelf sink topology status.Done status.WriteFault text has comes calls = absurd calls
+check_agrees shelf sink topology status.Topology status.Memory text has comes calls = absurd calls
+check_agrees shelf sink topology status.Topology status.Words text has comes calls = absurd calls
+check_agrees shelf sink topology status.Topology status.Input text has comes calls = absurd calls
+check_agrees shelf sink topology status.Topology status.ReadFault text has comes calls = absurd calls
+check_agrees shelf sink topology status.Topology status.WriteFault text has comes calls = absurd calls
 
--- no fault of the shelf comes of a shelf that is ready, or whose count did not rise
-pub no_read_fault : (holds : List ℕ → List ℕ → Type 0) (topology input : List ℕ) (counts : Counts) (s : Status) (text : List ℕ) (fates : List Attempt) (ready : Type 0) → (ready → s ≢ status.ReadFault) → ready ⊎ ¬ (HasRisen counts) → ComesTo holds topology input counts s text fates → s ≢ status.ReadFault
-no_read_fault holds topology input counts s text fates ready never (inl is_ready) comes = never is_ready
-no_read_fault holds topology input counts s text fates ready never (inr still) comes = λ is. let fault : ComesTo holds topology input counts status.ReadFault text fates = subst (λ u. ComesTo holds topology input counts u text fates) is comes in still fault.0
+pub check_answered : (shelf : ShelfUse) (sink : SinkUse) (topology : List ℕ) (s : Status) → Ends (CheckComes shelf topology) sink s → IsAnswered (CheckCalls shelf.holds topology) shelf sink s
+check_answered shelf sink topology s = answered_by_ends (CheckComes shelf topology) (CheckCalls shelf.holds topology) shelf sink s (check_agrees shelf sink topology)
 
-pub no_read_fault_of_check : (holds : List ℕ → List ℕ → Type 0) (topology : List ℕ) (counts : Counts) (s : Status) (text : List ℕ) (ready : Type 0) → (ready → s ≢ status.ReadFault) → ready ⊎ ¬ (HasRisen counts) → ChecksTo holds topology counts s text → s ≢ status.ReadFault
-no_read_fault_of_check holds topology counts s text ready never (inl is_ready) comes = never is_ready
-no_read_fault_of_check holds topology counts s text ready never (inr still) comes = λ is. let fault : ChecksTo holds topology counts status.ReadFault text = subst (λ u. ChecksTo holds topology counts u text) is comes in still fault.0
+read_fault_rose : (shelf : ShelfUse) (topology input text : List ℕ) → IsReadFaultLine shelf topology input text → ShelfFailed shelf
+read_fault_rose shelf topology input text (of_topology once unread line) = unread.rose
+read_fault_rose shelf topology input text (of_input twice unread plan runnable line) = unread.rose
 
--- with no fault of the sink the status of a text that is written is the run's
-pub written : (before after : Option (List ℕ)) (text : List ℕ) (s r : Status) (rose : Type 0) → s ≡ status.Done → (r ≢ status.WriteFault → (r ≡ s) × Appends before after text) → (r ≡ status.WriteFault → s ≢ status.WriteFault → rose × AppendsFront before after text) → ¬ rose → r ≡ status.Done
-written before after text s r rose done whole front still =
-    let other : s ≢ status.WriteFault = λ e. let clash : status.Done ≡ status.WriteFault = sym done ∙ e in cc in
-    (whole (λ cut. still (front cut other).0)).0 ∙ done
+run_agrees : (shelf : ShelfUse) (sink : SinkUse) (topology input : List ℕ) (fates : List Attempt) (s called : Status) (text : List ℕ) → HasText s → RunComes shelf topology input fates s text → RunCalls shelf.holds topology input called → (s ≡ called) ⊎ TakesThePlace shelf sink s
+run_agrees shelf sink topology input fates status.ReadFault called text has comes calls = inr (read_fault_rose shelf topology input text comes.0)
+run_agrees shelf sink topology input fates status.Done status.Done text has comes calls = inl refl
+run_agrees shelf sink topology input fates status.Done status.Topology text has comes calls = absurd (never_runnable shelf.holds topology comes.1.plan calls comes.1.accepted.topology_file)
+run_agrees shelf sink topology input fates status.Done status.Input text has comes calls = absurd (never_good shelf.holds topology input calls.0 comes.1.plan calls.1 comes.1.accepted.topology_file comes.1.records calls.3 comes.1.accepted.input_file)
+run_agrees shelf sink topology input fates status.Topology status.Topology text has comes calls = inl refl
+run_agrees shelf sink topology input fates status.Topology status.Done text has comes calls = absurd (never_stopped shelf.holds topology calls.0 text calls.1 calls.2 comes.0.1)
+run_agrees shelf sink topology input fates status.Topology status.Input text has comes calls = absurd (never_stopped shelf.holds topology calls.0 text calls.1 calls.2 comes.0.1)
+run_agrees shelf sink topology input fates status.Input status.Input text has comes calls = inl refl
+run_agrees shelf sink topology input fates status.Input status.Done text has comes calls = absurd (never_bad shelf.holds topology input calls.0 comes.0.1.0 calls.1 comes.0.1.1 text calls.3 comes.0.1.2)
+run_agrees shelf sink topology input fates status.Input status.Topology text has comes calls = absurd (never_runnable shelf.holds topology comes.0.1.0 calls comes.0.1.1)
+run_agrees shelf sink topology input fates status.Memory called text has comes calls = absurd has
+run_agrees shelf sink topology input fates status.WriteFault called text has comes calls = absurd has
+run_agrees shelf sink topology input fates status.Words called text has comes calls = absurd comes
+run_agrees shelf sink topology input fates status.Done status.Memory text has comes calls = absurd calls
+run_agrees shelf sink topology input fates status.Done status.Words text has comes calls = absurd calls
+run_agrees shelf sink topology input fates status.Done status.ReadFault text has comes calls = absurd calls
+run_agrees shelf sink topology input fates status.Done status.WriteFault text has comes calls = absurd calls
+run_agrees shelf sink topology input fates status.Topology status.Memory text has comes calls = absurd calls
+run_agrees shelf sink topology input fates status.Topology status.Words text has comes calls = absurd calls
+run_agrees shelf sink topology input fates status.Topology status.ReadFault text has comes calls = absurd calls
+run_agrees shelf sink topology input fates status.Topology status.WriteFault text has comes calls = absurd calls
+run_agrees shelf sink topology input fates status.Input status.Memory text has comes calls = absurd calls
+run_agrees shelf sink topology input fates status.Input status.Words text has comes calls = absurd calls
+run_agrees shelf sink topology input fates status.Input status.ReadFault text has comes calls = absurd calls
+run_agrees shelf sink topology input fates status.Input status.WriteFault text has comes calls = absurd calls
 
--- the line that refuses the words was cut short by a fault of the sink
-pub words_cut : {T : Type 0} (names : Option T) (before after : Option (List ℕ)) (text line : List ℕ) (r : Status) (rose : Type 0) → text ≡ line → (r ≡ status.WriteFault → status.Words ≢ status.WriteFault → rose × AppendsFront before after text) → IfNone names (r ≡ status.WriteFault → rose × TookFront before after (λ t. t ≡ line))
-words_cut None before after text line r rose same front = λ cut. let part = front cut (λ e. cc) in (part.0, (text, same, part.1))
-words_cut (Some x) before after text line r rose same front = tt
-
-module _ (holds : List ℕ → List ℕ → Type 0) (topology input : List ℕ) (counts : Counts) (t : List ℕ) (told : holds topology t) where
-  -- a read fault after two fetches is one of the input of an accepted topology
-  pub reads_topology : (text : List ℕ) (fates : List Attempt) (s : Status) → s ≡ status.ReadFault → FetchedTimes 2 counts → ComesTo holds topology input counts s text fates → (plan : Topology) × IsFilePlan t plan × (is_not_yet plan ≡ false)
-  reads_topology text fates s is twice comes = of_fault (subst (λ u. ComesTo holds topology input counts u text fates) is comes)
-    where
-      never_both : (before after : ℕ) → after ≡ (before + 1) % 2 ^ 64 → after ≡ (before + 2) % 2 ^ 64 → ⊥
-      never_both before after one two = omega (arith, one, two)
-
-      of_fault : ComesTo holds topology input counts status.ReadFault text fates → (plan : Topology) × IsFilePlan t plan × (is_not_yet plan ≡ false)
-      of_fault (rose, inl (once, line), none) = absurd (never_both counts.fetches_before counts.fetches_after once twice)
-      of_fault (rose, inr (times, line, (plan, (accepted, runs))), none) = (plan, plan_of_file holds topology input t told plan accepted, runs)
+pub run_answered : (shelf : ShelfUse) (sink : SinkUse) (topology input : List ℕ) (fates : List Attempt) (s : Status) → Ends (RunComes shelf topology input fates) sink s → IsAnswered (RunCalls shelf.holds topology input) shelf sink s
+run_answered shelf sink topology input fates s = answered_by_ends (RunComes shelf topology input fates) (RunCalls shelf.holds topology input) shelf sink s (run_agrees shelf sink topology input fates)

@@ -1,7 +1,9 @@
-mod AnswerLemmas
 mod CauseLemmas
+mod EndLemmas
 mod EngineLemmas
 mod FateLemmas
+mod FileLemmas
 mod NotYetLemmas
-mod WordLemmas
 mod RecordLemmas
+mod RunLemmas
+mod WordLemmas

@@ -1,43 +1,72 @@
--- What was read from a shelf, and what a sink took.
+-- The outside before and after a call, one record for each object.
 use Rattle.std.specs.Prelude.{◌≡◌, ◌≤◌, ℕ, ◌+◌, ◌%◌, ◌^◌, List, ◌++◌, length, take, Option, Some, IfSome}
 use Rattle.storm_outside.specs.Counts.{Rose}
+
+-- ---- files
+
+-- A shelf before and after a call. What it tells of its files no call changes.
+pub record ShelfUse : Type 1 where
+  -- it tells that the file of this name has these bytes
+  pub holds : List ℕ → List ℕ → Type 0
+  -- it told before the call that neither a fetch of a name that it holds nor a read fails
+  pub ready : Type 0
+  -- the number of fetches, modulo 2^64
+  pub fetches_before : ℕ
+  pub fetches_after : ℕ
+  -- how often the outside has failed; the count ends at 2^64 - 1
+  pub faults_before : ℕ
+  pub faults_after : ℕ
+
+-- the record of a shelf, from what its trait tells of it
+abbrev pub shelf_use : {S : Type 0} → (S → List ℕ → List ℕ → Type 0) → (S → Type 0) → (S → ℕ) → (S → ℕ) → S → S → ShelfUse
+shelf_use holds ready fetches faults old new = record {
+  holds = holds old;
+  ready = ready old;
+  fetches_before = fetches old;
+  fetches_after = fetches new;
+  faults_before = faults old;
+  faults_after = faults new;
+}
+
+-- so many files were fetched
+abbrev pub Fetched : ℕ → ShelfUse → Type 0
+Fetched times shelf = shelf.fetches_after ≡ (shelf.fetches_before + times) % 2 ^ 64
+
+-- the outside failed on the side of the files
+abbrev pub ShelfFailed : ShelfUse → Type 0
+ShelfFailed shelf = Rose shelf.faults_before shelf.faults_after
 
 -- these are the bytes of the file of that name, where the shelf tells them
 abbrev pub AreBytesOf : (List ℕ → List ℕ → Type 0) → List ℕ → List ℕ → Type 0
 AreBytesOf holds name bytes = (told : List ℕ) → holds name told → told ≡ bytes
 
--- at most so many bytes of the file of that name were read
-pub record WasRead (holds : List ℕ → List ℕ → Type 0) (name : List ℕ) (most : ℕ) (front : List ℕ) : Type 0 where
-  pub bytes : List ℕ
-  pub are_of : AreBytesOf holds name bytes
-  pub is_front : front ≡ take most bytes
+-- ---- the output
 
--- The counts of a shelf around some calls: its fetches, modulo 2^64, and its faults.
-pub record Counts : Type 0 where
-  pub fetches_before : ℕ
-  pub fetches_after : ℕ
+-- A sink before and after a call: the bytes that it took, where it tells them, and how often the outside has failed.
+pub record SinkUse : Type 0 where
+  pub taken_before : Option (List ℕ)
+  pub taken_after : Option (List ℕ)
   pub faults_before : ℕ
   pub faults_after : ℕ
 
--- the counts of fetches before and after, and of faults before and after
-abbrev pub around : ℕ → ℕ → ℕ → ℕ → Counts
-around fetched fetches failed faults =
-    record { fetches_before = fetched; fetches_after = fetches; faults_before = failed; faults_after = faults }
+-- the record of a sink, from what its trait tells of it
+abbrev pub sink_use : {S : Type 0} → (S → Option (List ℕ)) → (S → ℕ) → S → S → SinkUse
+sink_use taken faults old new = record {
+  taken_before = taken old;
+  taken_after = taken new;
+  faults_before = faults old;
+  faults_after = faults new;
+}
 
--- so many fetches between two counts of them
-abbrev pub Fetched : ℕ → ℕ → ℕ → Type 0
-Fetched times before after = after ≡ (before + times) % 2 ^ 64
+-- the outside failed on the side of the output
+abbrev pub SinkFailed : SinkUse → Type 0
+SinkFailed sink = Rose sink.faults_before sink.faults_after
 
-abbrev pub FetchedTimes : ℕ → Counts → Type 0
-FetchedTimes times counts = Fetched times counts.fetches_before counts.fetches_after
+-- the sink took the text and nothing else, where it tells what it took
+abbrev pub TookText : SinkUse → List ℕ → Type 0
+TookText sink text = IfSome sink.taken_before (λ taken. sink.taken_after ≡ Some (taken ++ text))
 
-abbrev pub HasRisen : Counts → Type 0
-HasRisen counts = Rose counts.faults_before counts.faults_after
-
--- the text and nothing else, where the sink tells what it took
-abbrev pub Appends : Option (List ℕ) → Option (List ℕ) → List ℕ → Type 0
-Appends before after text = IfSome before (λ taken. after ≡ Some (taken ++ text))
-
--- a front of the text and nothing else
-abbrev pub AppendsFront : Option (List ℕ) → Option (List ℕ) → List ℕ → Type 0
-AppendsFront before after text = IfSome before (λ taken. (k : ℕ) × (k ≤ length text) × (after ≡ Some (taken ++ take k text)))
+-- the sink took a front of the text and nothing else
+abbrev pub TookFront : SinkUse → List ℕ → Type 0
+TookFront sink text =
+    IfSome sink.taken_before (λ taken. (k : ℕ) × (k ≤ length text) × (sink.taken_after ≡ Some (taken ++ take k text)))

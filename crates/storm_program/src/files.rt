@@ -1,14 +1,117 @@
-ghost use Rattle.std.specs.Prelude.{◌≡◌, ◌≢◌, ◌≤◌, ◌<◌, ◌+◌, ◌-◌, ◌%◌, ◌^◌, ℕ, List, IfOk, IsErrOf};
+ghost use Rattle.std.specs.Prelude.{◌≡◌, ◌≤◌, ◌<◌, ◌+◌, ◌-◌, ◌%◌, ◌^◌, ℕ, List, IfOk, IfErr, OnOk, IsErrOf};
 ghost use Rattle.storm_outside.specs.Counts.{Rose};
-ghost use Rattle.storm_program.specs.Outside.{WasRead, Appends, AppendsFront};
+ghost use Rattle.storm_program.specs.Files.{IsAccepted, AreRecords, AreAccepted, TopologyComes, FilesCome};
+ghost use Rattle.storm_program.specs.Outside.{shelf_use, Fetched};
+ghost use Rattle.storm_program.specs.steps.Reading.{WasRead, NotReadComes, InputComes};
+ghost use Rattle.storm_program.specs.steps.Stops.{Stops};
 
+use crate::not_yet::is_not_yet;
 use crate::status::Status;
+use crate::stop::{Stop, refused_input, refused_topology, told};
 use std::alloc::Global;
-use storm_outside::{InFault, Shelf, Sink, read_all, write_all};
-use storm_values::Bytes;
+use storm_outside::{InFault, Shelf, read_all};
+use storm_values::{Bytes, Rows, read_input};
+use topology_plan::Plan;
+use topology_reader::{MOST_TOPOLOGY_BYTES, read_topology};
 
-/// The file of a name, or its first `most + 1` bytes where it is longer.
-pub fn read_file<H: Shelf>(
+/// The most bytes of a topology file.
+const MOST_TOPOLOGY: u64 = MOST_TOPOLOGY_BYTES as u64;
+
+/// The most bytes of an input.
+const MOST_INPUT: u64 = 67_108_864;
+
+/// An accepted topology and the records of its input.
+#[derive(Drop)]
+pub struct Accepted {
+    pub plan: Plan,
+    pub rows: Rows,
+}
+
+/// Reads a topology and an input, and refuses them in this order.
+pub fn read_files<H: Shelf>(
+    alloc: Global,
+    topology: &str,
+    input: &str,
+    shelf: &mut H,
+) -> Result<Accepted, Stop>
+    ensures accepted { IfOk result (λ files.
+        AreAccepted (H.holds shelf.old) topology.now input.now files.plan files.rows) }
+    ensures fetches { OnOk result
+        (Fetched 2 (shelf_use H.holds H.ready H.fetches H.faults shelf.old shelf.new)) }
+    ensures stop { IfErr result (Stops (FilesCome
+        (shelf_use H.holds H.ready H.fetches H.faults shelf.old shelf.new) topology.now input.now)) }
+    ensures never_falls { H.faults shelf.old ≤ H.faults shelf.new }
+{
+    let plan = read_plan(alloc, topology, shelf)?;
+    if is_not_yet(&plan) {
+        return Err(told(alloc, Status::Topology, "topology: not yet\n"));
+    }
+    let rows = read_records(alloc, input, &plan, shelf)?;
+    Ok(Accepted { plan, rows })
+}
+
+/// Reads a topology, or refuses it.
+pub fn read_plan<H: Shelf>(alloc: Global, name: &str, shelf: &mut H) -> Result<Plan, Stop>
+    ensures plan { IfOk result (IsAccepted (H.holds shelf.old) name.now) }
+    ensures stop { IfErr result (Stops (TopologyComes
+        (shelf_use H.holds H.ready H.fetches H.faults shelf.old shelf.new) name.now)) }
+    ensures fetches { H.fetches shelf.new ≡ (H.fetches shelf.old + 1) % 2 ^ 64 }
+    ensures files { (n bytes : List ℕ) → H.holds shelf.old n bytes → H.holds shelf.new n bytes }
+    ensures stays_ready { H.ready shelf.old → H.ready shelf.new }
+    ensures never_falls { H.faults shelf.old ≤ H.faults shelf.new }
+{
+    let bytes = read_file(alloc, name, MOST_TOPOLOGY, "read fault topology\n", shelf)?;
+    match read_topology(alloc, bytes.as_slice()) {
+        Ok(plan) => Ok(plan),
+        Err(fault) => Err(refused_topology(alloc, &fault)),
+    }
+}
+
+/// Reads the input of a plan, or refuses it.
+fn read_records<H: Shelf>(
+    alloc: Global,
+    name: &str,
+    plan: &Plan,
+    shelf: &mut H,
+) -> Result<Rows, Stop>
+    ensures records { IfOk result (AreRecords (H.holds shelf.old) plan.now name.now) }
+    ensures stop { IfErr result (Stops (InputComes
+        (shelf_use H.holds H.ready H.fetches H.faults shelf.old shelf.new) plan.now name.now)) }
+    ensures fetches { H.fetches shelf.new ≡ (H.fetches shelf.old + 1) % 2 ^ 64 }
+    ensures never_falls { H.faults shelf.old ≤ H.faults shelf.new }
+{
+    let bytes = read_file(alloc, name, MOST_INPUT, "read fault input\n", shelf)?;
+    match read_input(alloc, bytes.as_slice(), plan.spout_fields()) {
+        Ok(rows) => Ok(rows),
+        Err(fault) => Err(refused_input(alloc, &fault)),
+    }
+}
+
+/// The file of a name, or its first `most + 1` bytes where it is longer. A file that was not read has the line.
+fn read_file<H: Shelf>(
+    alloc: Global,
+    name: &str,
+    most: u64,
+    line: &str,
+    shelf: &mut H,
+) -> Result<Bytes, Stop>
+    requires { most < 2 ^ 64 - 1 }
+    ensures bytes { IfOk result (WasRead (H.holds shelf.old) name.now (most + 1)) }
+    ensures stop { IfErr result (Stops (NotReadComes
+        (shelf_use H.holds H.ready H.fetches H.faults shelf.old shelf.new) name.now line.now)) }
+    ensures fetches { H.fetches shelf.new ≡ (H.fetches shelf.old + 1) % 2 ^ 64 }
+    ensures files { (n bytes : List ℕ) → H.holds shelf.old n bytes → H.holds shelf.new n bytes }
+    ensures stays_ready { H.ready shelf.old → H.ready shelf.new }
+    ensures never_falls { H.faults shelf.old ≤ H.faults shelf.new }
+{
+    match fetch_file(alloc, name, most, shelf) {
+        Ok(bytes) => Ok(bytes),
+        Err(InFault::Failed) => Err(told(alloc, Status::ReadFault, line)),
+        Err(InFault::Memory) => Err(Stop::Memory),
+    }
+}
+
+fn fetch_file<H: Shelf>(
     alloc: Global,
     name: &str,
     most: u64,
@@ -20,22 +123,10 @@ pub fn read_file<H: Shelf>(
     ensures never_falls { H.faults shelf.old ≤ H.faults shelf.new }
     ensures fetches { H.fetches shelf.new ≡ (H.fetches shelf.old + 1) % 2 ^ 64 }
     ensures files { (n bytes : List ℕ) → H.holds shelf.old n bytes → H.holds shelf.new n bytes }
-    ensures ready { H.ready shelf.old → (bytes : List ℕ) → H.holds shelf.old name.now bytes → ¬ IsErrOf result InFault.Failed }
+    ensures ready { H.ready shelf.old →
+        (bytes : List ℕ) → H.holds shelf.old name.now bytes → ¬ IsErrOf result InFault.Failed }
     ensures stays_ready { H.ready shelf.old → H.ready shelf.new }
 {
     shelf.fetch(name)?;
     read_all(alloc, shelf, most)
-}
-
-/// Writes the text of a command that ended with a status, and answers how it ended then.
-pub fn write_text<K: Sink>(status: Status, text: &[u8], out: &mut K) -> Status
-    ensures whole { result ≢ Status.WriteFault → (result ≡ status) × Appends (K.taken out.old) (K.taken out.new) text.now }
-    ensures front { result ≡ Status.WriteFault → status ≢ Status.WriteFault
-        → Rose (K.faults out.old) (K.faults out.new) × AppendsFront (K.taken out.old) (K.taken out.new) text.now }
-    ensures never_falls { K.faults out.old ≤ K.faults out.new }
-{
-    match write_all(out, text) {
-        Ok(()) => status,
-        Err(_) => Status::WriteFault,
-    }
 }

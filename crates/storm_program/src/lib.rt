@@ -9,11 +9,12 @@ mod fates;
 mod files;
 mod laws;
 mod not_yet;
-mod outcome;
+mod output;
 mod program;
 mod report;
 mod run;
 mod status;
+mod stop;
 mod words;
 
 pub use fates::{Attempt, End, Fates};

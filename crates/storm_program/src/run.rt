@@ -1,25 +1,19 @@
-ghost use Rattle.std.specs.Prelude.{◌≡◌, ◌≢◌, ◌≤◌, ℕ, List, [], IfOk, OnErr, string_bytes};
-ghost use Rattle.storm_program.specs.Outside.{around, FetchedTimes};
-ghost use Rattle.storm_program.specs.Fates.{IsOnceOfSome};
-ghost use Rattle.storm_program.specs.Answers.{IsReport, ComesTo, ComesToOf, ComesToWith};
+ghost use Rattle.std.specs.Prelude.{◌≡◌, ◌≤◌, [], length, IfOk, IfErr, OnErr, string_bytes};
+ghost use Rattle.storm_program.specs.declared.status.Status.{Status};
+ghost use Rattle.storm_program.specs.Fates.{IsOnce};
+ghost use Rattle.storm_program.specs.Outside.{shelf_use};
+ghost use Rattle.storm_program.specs.Run.{IsReport, RunComes};
+ghost use Rattle.storm_program.specs.steps.Stops.{Stops};
 
 use crate::batches::Batches;
-use crate::check::MOST_TOPOLOGY;
 use crate::engine::run_batches;
 use crate::fates::Fates;
-use crate::files::read_file;
-use crate::not_yet::is_not_yet;
-use crate::outcome::{Outcome, refuse_input, refuse_topology, with_line};
+use crate::files::{Accepted, read_files};
 use crate::report::report_text;
-use crate::status::Status;
-use std::alloc::{AllocError, Global};
-use storm_outside::{InFault, Shelf};
-use storm_values::{Memory, Rows, read_input};
-use topology_plan::Plan;
-use topology_reader::read_topology;
-
-/// The most bytes of an input.
-const MOST_INPUT: u64 = 67_108_864;
+use crate::stop::Stop;
+use std::alloc::Global;
+use storm_outside::Shelf;
+use storm_values::Memory;
 
 /// Reads a topology and an input, and runs the one over the other.
 pub fn run_files<H: Shelf>(
@@ -28,97 +22,36 @@ pub fn run_files<H: Shelf>(
     input: &str,
     shelf: &mut H,
     fates: &mut Fates,
-) -> Result<Outcome, Memory>
+) -> Result<String, Stop>
     requires { fates.old ≡ [] }
-    ensures comes { IfOk result (λ outcome. ComesTo (H.holds shelf.old) topology.now input.now
-        (around (H.fetches shelf.old) (H.fetches shelf.new) (H.faults shelf.old) (H.faults shelf.new)) outcome.status (string_bytes outcome.text) fates.new) }
-    ensures ready { IfOk result (λ outcome. H.ready shelf.old → (t i : List ℕ) → H.holds shelf.old topology.now t
-        → H.holds shelf.old input.now i → outcome.status ≢ Status.ReadFault) }
-    ensures ready_topology { IfOk result (λ outcome. H.ready shelf.old → (t : List ℕ) → H.holds shelf.old topology.now t
-        → outcome.status ≡ Status.ReadFault
-        → FetchedTimes 2 (around (H.fetches shelf.old) (H.fetches shelf.new) (H.faults shelf.old) (H.faults shelf.new))) }
-    ensures fates { OnErr result (IsOnceOfSome fates.new) }
+    ensures done { IfOk result (λ text. RunComes
+        (shelf_use H.holds H.ready H.fetches H.faults shelf.old shelf.new) topology.now input.now
+        fates.new Status.Done (string_bytes text)) }
+    ensures stop { IfErr result (Stops (RunComes
+        (shelf_use H.holds H.ready H.fetches H.faults shelf.old shelf.new) topology.now input.now
+        fates.new)) }
     ensures never_falls { H.faults shelf.old ≤ H.faults shelf.new }
 {
-    let bytes = match read_file(alloc, topology, MOST_TOPOLOGY, shelf) {
-        Ok(bytes) => bytes,
-        Err(InFault::Failed) => return with_line(alloc, Status::ReadFault, "read fault topology\n"),
-        Err(InFault::Memory) => return Err(AllocError),
-    };
-    match read_topology(alloc, bytes.as_slice()) {
-        Ok(plan) => run_accepted(alloc, &plan, input, shelf, fates),
-        Err(fault) => refuse_topology(alloc, &fault),
-    }
+    let files = read_files(alloc, topology, input, shelf)?;
+    let report = run_accepted(alloc, files, fates)?;
+    Ok(report)
 }
 
-/// Runs an accepted plan, or puts it off where it has a part that is not run yet.
-fn run_accepted<H: Shelf>(
-    alloc: Global,
-    plan: &Plan,
-    input: &str,
-    shelf: &mut H,
-    fates: &mut Fates,
-) -> Result<Outcome, Memory>
+/// Runs a plan over the records of its input, and makes the report.
+fn run_accepted(alloc: Global, files: Accepted, fates: &mut Fates) -> Result<String, Memory>
     requires { fates.old ≡ [] }
-    ensures comes { IfOk result (λ outcome. ComesToOf (H.holds shelf.old) plan.now input.now
-        (around (H.fetches shelf.old) (H.fetches shelf.new) (H.faults shelf.old) (H.faults shelf.new)) outcome.status (string_bytes outcome.text) fates.new) }
-    ensures ready { IfOk result (λ outcome. H.ready shelf.old → (i : List ℕ) → H.holds shelf.old input.now i
-        → outcome.status ≢ Status.ReadFault) }
-    ensures fates { OnErr result (IsOnceOfSome fates.new) }
-    ensures never_falls { H.faults shelf.old ≤ H.faults shelf.new }
+    ensures report { IfOk result (λ text. IsReport files.plan files.rows fates.new (string_bytes text)) }
+    ensures once { OnErr result (IsOnce (length files.rows) files.plan.batch fates.new) }
 {
-    if is_not_yet(plan) {
-        return with_line(alloc, Status::Topology, "topology: not yet\n");
-    }
-    run_plan(alloc, plan, input, shelf, fates)
-}
-
-/// Reads an input, and runs a plan over it.
-fn run_plan<H: Shelf>(
-    alloc: Global,
-    plan: &Plan,
-    input: &str,
-    shelf: &mut H,
-    fates: &mut Fates,
-) -> Result<Outcome, Memory>
-    requires { fates.old ≡ [] }
-    ensures comes { IfOk result (λ outcome. ComesToWith (H.holds shelf.old) plan.now input.now
-        (around (H.fetches shelf.old) (H.fetches shelf.new) (H.faults shelf.old) (H.faults shelf.new)) outcome.status (string_bytes outcome.text) fates.new) }
-    ensures ready { IfOk result (λ outcome. H.ready shelf.old → (i : List ℕ) → H.holds shelf.old input.now i
-        → outcome.status ≢ Status.ReadFault) }
-    ensures fates { OnErr result (IsOnceOfSome fates.new) }
-    ensures never_falls { H.faults shelf.old ≤ H.faults shelf.new }
-{
-    let bytes = match read_file(alloc, input, MOST_INPUT, shelf) {
-        Ok(bytes) => bytes,
-        Err(InFault::Failed) => return with_line(alloc, Status::ReadFault, "read fault input\n"),
-        Err(InFault::Memory) => return Err(AllocError),
-    };
-    match read_input(alloc, bytes.as_slice(), plan.spout_fields()) {
-        Ok(rows) => run_rows(alloc, plan, rows, fates),
-        Err(fault) => refuse_input(alloc, fault),
-    }
-}
-
-/// Runs a plan over rows, and makes the report.
-fn run_rows(alloc: Global, plan: &Plan, rows: Rows, fates: &mut Fates) -> Result<Outcome, Memory>
-    requires { fates.old ≡ [] }
-    ensures status { IfOk result (λ outcome. outcome.status ≡ Status.Done) }
-    ensures report { IfOk result (λ outcome. IsReport plan.now rows fates.new (string_bytes outcome.text)) }
-    ensures fates { OnErr result (IsOnceOfSome fates.new) }
-{
+    let Accepted { plan, rows } = files;
     let batches = Batches::cut(rows, plan.batch());
-    let tables = run_batches(alloc, plan, &batches, fates)?;
+    let tables = run_batches(alloc, &plan, &batches, fates)?;
     let records = batches.rows().len() as u64;
-    let text = report_text(
+    report_text(
         alloc,
         fates.as_slice(),
         tables.as_slice(),
         records,
         batches.count(),
-    )?;
-    Ok(Outcome {
-        status: Status::Done,
-        text,
-    })
+    )
 }

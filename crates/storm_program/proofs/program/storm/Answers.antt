@@ -1,18 +1,14 @@
-use Rattle.std.proofs.Common.{option_map, sym, ap, ◌∙◌}
+use Rattle.std.proofs.Common.{option_map, sym, ap, ◌∙◌, refl}
 use Rattle.storm_program.specs.Commands.{command_of_words}
-use Rattle.storm_program.proofs.CauseLemmas.{words_cut}
-use Rattle.storm_program.proofs.FateLemmas.{once_of_none}
+use Rattle.storm_program.specs.Outside.{shelf_use, sink_use}
+use Rattle.storm_program.proofs.RunLemmas.{ends_words}
 use Rattle.storm_program.proofs.program.storm.Goals as goal
 
-pub returns-in-None-clause-no_command_cut : goal.returns-in-None-clause-no_command_cut
-returns-in-None-clause-no_command_cut g c = words_cut _ _ _ _ _ _ _ c.as_bytes.ensures.value c.write_text.ensures.front
-
-pub returns-in-None-clause-words : goal.returns-in-None-clause-words
-returns-in-None-clause-words g c =
-    λ is. (
-      sym c.read_words.ensures.command ∙ ap (option_map command_of_words) c.in-None.is,
-      (c.as_bytes.result.now, c.as_bytes.ensures.value, (c.write_text.ensures.whole (λ cut. cc)).1),
-    )
-
-pub returns-in-Some-Check-clause-memory_fates : goal.returns-in-Some-Check-clause-memory_fates
-returns-in-Some-Check-clause-memory_fates g c = λ _. once_of_none _ c.requires
+pub returns-in-None-clause-ends : goal.returns-in-None-clause-ends
+returns-in-None-clause-ends g c =
+    ends_words
+    (shelf_use g.H.Shelf.holds g.H.Shelf.ready g.H.Shelf.fetches g.H.Shelf.faults c.args.shelf.now c.args.shelf.now)
+    (sink_use g.K.Sink.taken g.K.Sink.faults c.args.out.now c.write_text.new.out)
+    _ _ _ c.write_text.result
+    (sym c.read_words.ensures.command ∙ ap (option_map command_of_words) c.in-None.is)
+    c.requires refl c.as_bytes.ensures.value c.write_text.ensures.written

@@ -1,0 +1,43 @@
+-- The command `check`.
+use Rattle.std.specs.Prelude.{◌≡◌, ℕ, List, []}
+use Rattle.topology_plan.specs.Topology.{Topology}
+use Rattle.storm_program.specs.declared.fates.Attempt.{Attempt}
+use Rattle.storm_program.specs.declared.status.Status.{Status}
+use Rattle.storm_program.specs.declared.status.Status.TheVariants as status
+use Rattle.storm_program.specs.Ends.{Promise}
+use Rattle.storm_program.specs.Files.{IsAccepted, IsTopologyLine, IsNotRead, TellsPlan, TellsTopologyFault}
+use Rattle.storm_program.specs.Outside.{ShelfUse, Fetched}
+use Rattle.storm_program.specs.Texts.{valid_line, topology_not_read}
+
+-- the line of an accepted topology
+pub record IsValidLine (holds : List ℕ → List ℕ → Type 0) (name text : List ℕ) : Type 0 where
+  pub plan : Topology
+  pub accepted : IsAccepted holds name plan
+  pub printed : text ≡ valid_line plan
+
+-- What a check comes to, by its status. No check comes to the other statuses.
+abbrev pub CheckComes : ShelfUse → List ℕ → Status → List ℕ → Type 0
+CheckComes shelf topology status.Done text = Fetched 1 shelf × IsValidLine shelf.holds topology text
+CheckComes shelf topology status.Memory text = Fetched 1 shelf
+CheckComes shelf topology status.Words text = ⊥
+CheckComes shelf topology status.Topology text = Fetched 1 shelf × IsTopologyLine shelf.holds topology text
+CheckComes shelf topology status.Input text = ⊥
+CheckComes shelf topology status.ReadFault text = Fetched 1 shelf × IsNotRead shelf topology × (text ≡ topology_not_read)
+CheckComes shelf topology status.WriteFault text = ⊥
+
+-- Which status the told topology calls for.
+abbrev pub CheckCalls : (List ℕ → List ℕ → Type 0) → List ℕ → Status → Type 0
+CheckCalls holds topology status.Done = (plan : Topology) × TellsPlan holds topology plan
+CheckCalls holds topology status.Memory = ⊥
+CheckCalls holds topology status.Words = ⊥
+CheckCalls holds topology status.Topology = TellsTopologyFault holds topology
+CheckCalls holds topology status.Input = ⊥
+CheckCalls holds topology status.ReadFault = ⊥
+CheckCalls holds topology status.WriteFault = ⊥
+
+-- a check as a command among others: it leaves the fates empty
+abbrev pub check_promise : ShelfUse → List Attempt → List ℕ → Promise
+check_promise shelf fates topology = record {
+  comes = λ ending text. CheckComes shelf topology ending text × (fates ≡ []);
+  calls = CheckCalls shelf.holds topology;
+}

@@ -1,0 +1,73 @@
+-- The command `run`.
+use Rattle.std.specs.Prelude.{◌≡◌, ◌⊎◌, ◌≤◌, ℕ, List, [], length}
+use Rattle.storm_values.specs.declared.value.Value.{Value}
+use Rattle.topology_plan.specs.Topology.{Topology}
+use Rattle.tree_model.specs.declared.write.Table.{Table}
+use Rattle.tree_model.specs.Trees.{writes}
+use Rattle.tree_model.specs.Tables.{AreTables}
+use Rattle.storm_program.specs.declared.fates.Attempt.{Attempt}
+use Rattle.storm_program.specs.declared.status.Status.{Status}
+use Rattle.storm_program.specs.declared.status.Status.TheVariants as status
+use Rattle.storm_program.specs.Batches.{batch_count}
+use Rattle.storm_program.specs.Cells.{cells_of}
+use Rattle.storm_program.specs.Custom.{as_it_is}
+use Rattle.storm_program.specs.Ends.{Promise}
+use Rattle.storm_program.specs.Fated.{attempt_lines}
+use Rattle.storm_program.specs.Fates.{IsOnce, IsWhole}
+use Rattle.storm_program.specs.Files.{AreAccepted, FilesCome, FilesCall}
+use Rattle.storm_program.specs.Outside.{ShelfUse, Fetched}
+use Rattle.storm_program.specs.Report.{ok, report_text}
+
+-- The report of a plan and the records of an input. The tables are those of one machine that takes all records in order,
+-- and each record stands in exactly one committed batch.
+pub record IsReport (plan : Topology) (records : List (List Value)) (fates : List Attempt) (text : List ℕ) : Type 0 where
+  pub tables : List Table
+  pub once : IsWhole (length records) plan.batch fates
+  pub of_all_records : AreTables plan (writes plan as_it_is records) tables
+  pub printed : text ≡ report_text (record {
+    attempts = attempt_lines fates;
+    cells = cells_of tables;
+    tail = ok (length records) (batch_count (length records) plan.batch);
+  })
+
+-- the report of the files of these names
+pub record IsReportOfFiles (holds : List ℕ → List ℕ → Type 0) (topology input : List ℕ) (fates : List Attempt) (text : List ℕ) : Type 0 where
+  pub plan : Topology
+  pub records : List (List Value)
+  pub accepted : AreAccepted holds topology input plan records
+  pub report : IsReport plan records fates text
+
+-- the fates of a run that was broken off: of the records of the files no batch was committed twice
+pub record AreOnceOfFiles (holds : List ℕ → List ℕ → Type 0) (topology input : List ℕ) (fates : List Attempt) : Type 0 where
+  pub plan : Topology
+  pub records : List (List Value)
+  pub accepted : AreAccepted holds topology input plan records
+  pub once : IsOnce (length records) plan.batch fates
+
+-- A run that ended for want of memory: before its first batch, or among the batches of accepted files.
+abbrev pub IsShortRun : ShelfUse → List ℕ → List ℕ → List Attempt → Type 0
+IsShortRun shelf topology input fates =
+    (FilesCome shelf topology input status.Memory [] × (fates ≡ []))
+    ⊎ (Fetched 2 shelf × AreOnceOfFiles shelf.holds topology input fates)
+
+-- What a run comes to, by its status. No run comes to the other statuses.
+abbrev pub RunComes : ShelfUse → List ℕ → List ℕ → List Attempt → Status → List ℕ → Type 0
+RunComes shelf topology input fates status.Done text =
+    Fetched 2 shelf × IsReportOfFiles shelf.holds topology input fates text
+RunComes shelf topology input fates status.Memory text = IsShortRun shelf topology input fates
+RunComes shelf topology input fates status.Words text = ⊥
+RunComes shelf topology input fates status.Topology text = FilesCome shelf topology input status.Topology text × (fates ≡ [])
+RunComes shelf topology input fates status.Input text = FilesCome shelf topology input status.Input text × (fates ≡ [])
+RunComes shelf topology input fates status.ReadFault text = FilesCome shelf topology input status.ReadFault text × (fates ≡ [])
+RunComes shelf topology input fates status.WriteFault text = ⊥
+
+-- Which status the told files call for.
+abbrev pub RunCalls : (List ℕ → List ℕ → Type 0) → List ℕ → List ℕ → Status → Type 0
+RunCalls = FilesCall
+
+-- a run as a command among others
+abbrev pub run_promise : ShelfUse → List Attempt → List ℕ → List ℕ → Promise
+run_promise shelf fates topology input = record {
+  comes = RunComes shelf topology input fates;
+  calls = RunCalls shelf.holds topology input;
+}

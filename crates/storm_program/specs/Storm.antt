@@ -1,0 +1,48 @@
+-- What a call of the program promises, by the command that its words give.
+use Rattle.std.specs.Prelude.{◌≡◌, ℕ, List, [], Option, Some, None}
+use Rattle.storm_program.specs.declared.fates.Attempt.{Attempt}
+use Rattle.storm_program.specs.declared.status.Status.{Status}
+use Rattle.storm_program.specs.declared.status.Status.TheVariants as status
+use Rattle.storm_program.specs.Check.{check_promise}
+use Rattle.storm_program.specs.Ends.{Promise, Ends, IsAnswered, Counts}
+use Rattle.storm_program.specs.Outside.{ShelfUse, SinkUse}
+use Rattle.storm_program.specs.Run.{run_promise}
+use Rattle.storm_program.specs.Statuses.{code_of}
+use Rattle.storm_program.specs.Texts.{usage}
+use Rattle.storm_program.specs.Words.{Command, check, run, built}
+
+-- Words that are no command come to the usage line: no file is fetched, and nothing is run.
+abbrev pub WordsCome : ShelfUse → List Attempt → Status → List ℕ → Type 0
+WordsCome shelf fates status.Done text = ⊥
+WordsCome shelf fates status.Memory text = ⊥
+WordsCome shelf fates status.Words text = (shelf.fetches_after ≡ shelf.fetches_before) × (text ≡ usage) × (fates ≡ [])
+WordsCome shelf fates status.Topology text = ⊥
+WordsCome shelf fates status.Input text = ⊥
+WordsCome shelf fates status.ReadFault text = ⊥
+WordsCome shelf fates status.WriteFault text = ⊥
+
+-- and they call for it
+abbrev pub words_promise : ShelfUse → List Attempt → Promise
+words_promise shelf fates = record {
+  comes = WordsCome shelf fates;
+  calls = λ ending. ending ≡ status.Words;
+}
+
+-- One line a command. The commands that the program does not have yet are none.
+abbrev pub promise : ShelfUse → List Attempt → Option Command → Promise
+promise shelf fates (Some (check topology)) = check_promise shelf fates topology
+promise shelf fates (Some (run topology input workers)) = run_promise shelf fates topology input
+promise shelf fates _ = words_promise shelf fates
+
+-- a call over a shelf and a sink ended with a status, and left these fates
+pub record Calls (words : List (List ℕ)) (shelf : ShelfUse) (sink : SinkUse) (fates : List Attempt) (ending : Status) : Type 0 where
+  pub ends : Ends (promise shelf fates (built words)).comes sink ending
+  pub answered : IsAnswered (promise shelf fates (built words)).calls shelf sink ending
+  pub counts : Counts shelf sink
+
+-- the program ended with an exit status, that of a call
+pub record Exits (words : List (List ℕ)) (shelf : ShelfUse) (sink : SinkUse) (code : ℕ) : Type 0 where
+  pub ending : Status
+  pub fates : List Attempt
+  pub is_code : code ≡ code_of ending
+  pub call : Calls words shelf sink fates ending

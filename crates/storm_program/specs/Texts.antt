@@ -1,0 +1,42 @@
+-- The lines that a command writes. This project's own.
+use Rattle.std.specs.Prelude.{ℕ, List, ◌++◌, length, codes, decimal}
+use Rattle.storm_values.specs.declared.lines.InputFault.{InputFault}
+use Rattle.storm_values.specs.Faults.{input_fault_text}
+use Rattle.topology_plan.specs.Topology.{Topology, tasks_in_all, depth_of, weight_of}
+use Rattle.topology_reader.specs.TopoFault.{TopoFault}
+use Rattle.topology_reader.specs.Faults.{fault_text}
+
+-- the line that refuses the words
+abbrev pub usage : List ℕ
+usage = codes "usage: storm check T | plain T I | replay T I S | run T I [W] | load N SEED\n"
+
+-- the lines that refuse a topology and an input
+abbrev pub topology_line : TopoFault → List ℕ
+topology_line fault = codes "topology: " ++ fault_text fault ++ codes "\n"
+
+abbrev pub input_line : InputFault → List ℕ
+input_line fault = codes "input: " ++ input_fault_text fault ++ codes "\n"
+
+-- the line of a valid plan that is not run yet
+abbrev pub not_yet_line : List ℕ
+not_yet_line = codes "topology: not yet\n"
+
+-- the lines of a topology and an input that were not read
+abbrev pub topology_not_read : List ℕ
+topology_not_read = codes "read fault topology\n"
+
+abbrev pub input_not_read : List ℕ
+input_not_read = codes "read fault input\n"
+
+-- the line of these numbers of components and tasks, this weight and this depth
+unfoldable pub size_line : ℕ → ℕ → ℕ → ℕ → List ℕ
+size_line components tasks weight depth =
+    codes "valid components " ++ decimal components
+    ++ codes " tasks " ++ decimal tasks
+    ++ codes " weight " ++ decimal weight
+    ++ codes " depth " ++ decimal depth
+    ++ codes "\n"
+
+-- the line of a valid plan
+abbrev pub valid_line : Topology → List ℕ
+valid_line plan = size_line (length plan.components) (tasks_in_all plan) (weight_of plan) (depth_of plan)

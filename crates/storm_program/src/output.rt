@@ -1,0 +1,33 @@
+ghost use Rattle.std.specs.Prelude.{◌≡◌, ◌≤◌, IfOk, IfErr, string_bytes};
+ghost use Rattle.storm_program.specs.Outside.{sink_use};
+ghost use Rattle.storm_program.specs.steps.Stops.{IsWritten, IsStopWritten};
+
+use crate::status::Status;
+use crate::stop::Stop;
+use storm_outside::{Sink, write_all};
+
+/// Writes what a command came to: the text of its own work, or why it stopped. Answers how it ended then.
+pub fn write_answer<K: Sink>(came: Result<String, Stop>, out: &mut K) -> Status
+    ensures done { IfOk came (λ text. IsWritten Status.Done (string_bytes text)
+        (sink_use K.taken K.faults out.old out.new) result) }
+    ensures stop { IfErr came (λ stop. IsStopWritten stop
+        (sink_use K.taken K.faults out.old out.new) result) }
+    ensures never_falls { K.faults out.old ≤ K.faults out.new }
+{
+    match came {
+        Ok(text) => write_text(Status::Done, text.as_bytes(), out),
+        Err(Stop::Told(status, line)) => write_text(status, line.as_bytes(), out),
+        Err(Stop::Memory) => Status::Memory,
+    }
+}
+
+/// Writes the text of a command that ended with a status, and answers how it ended then.
+pub fn write_text<K: Sink>(status: Status, text: &[u8], out: &mut K) -> Status
+    ensures written { IsWritten status text.now (sink_use K.taken K.faults out.old out.new) result }
+    ensures never_falls { K.faults out.old ≤ K.faults out.new }
+{
+    match write_all(out, text) {
+        Ok(()) => status,
+        Err(_) => Status::WriteFault,
+    }
+}

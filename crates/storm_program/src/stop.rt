@@ -1,0 +1,78 @@
+ghost use Rattle.std.specs.Prelude.{◌≡◌, ◌≢◌, IfOk, string_bytes};
+ghost use Rattle.storm_program.specs.Texts.{topology_line, input_line};
+ghost use Rattle.storm_program.specs.steps.Stops.{IfTold};
+
+use crate::status::Status;
+use std::alloc::Global;
+use storm_values::{InputFault, Memory};
+use topology_reader::TopoFault;
+
+/// Why a command ends before its work is done.
+#[derive(Drop)]
+pub enum Stop {
+    Memory,
+    /// A status with its line.
+    Told(Status, String),
+}
+
+impl From<Memory> for Stop {
+    ghost use Rattle.std.specs.Prelude.{◌≡◌};
+    ghost use Rattle.storm_program.specs.declared.stop.Stop.TheVariants as stop;
+
+    ghost from_gives = { λ _ made. made ≡ stop.Memory };
+
+    fn from(_: Memory) -> Self {
+        Stop::Memory
+    }
+}
+
+/// A status with its line.
+pub fn told(alloc: Global, status: Status, line: &str) -> Stop
+    ensures { IfTold result (λ ending text. (ending ≡ status) × (text ≡ line.now)) }
+{
+    match String::from_str(alloc, line) {
+        Ok(line) => Stop::Told(status, line),
+        Err(_) => Stop::Memory,
+    }
+}
+
+/// The refusal of a topology.
+pub fn refused_topology(alloc: Global, fault: &TopoFault) -> Stop
+    ensures { IfTold result (λ ending text.
+        (fault.now ≢ TopoFault.Memory) × (ending ≡ Status.Topology) × (text ≡ topology_line fault.now)) }
+{
+    if matches!(fault, TopoFault::Memory) {
+        return Stop::Memory;
+    }
+    match topology_line(alloc, fault) {
+        Ok(line) => Stop::Told(Status::Topology, line),
+        Err(_) => Stop::Memory,
+    }
+}
+
+fn topology_line(alloc: Global, fault: &TopoFault) -> Result<String, Memory>
+    ensures { IfOk result (λ line. string_bytes line ≡ topology_line fault.now) }
+{
+    let told = fault.text(alloc)?;
+    format!(in alloc; "topology: {told}\n")
+}
+
+/// The refusal of an input.
+pub fn refused_input(alloc: Global, fault: &InputFault) -> Stop
+    ensures { IfTold result (λ ending text.
+        (fault.now ≢ InputFault.Memory) × (ending ≡ Status.Input) × (text ≡ input_line fault.now)) }
+{
+    if matches!(fault, InputFault::Memory) {
+        return Stop::Memory;
+    }
+    match input_line(alloc, fault) {
+        Ok(line) => Stop::Told(Status::Input, line),
+        Err(_) => Stop::Memory,
+    }
+}
+
+fn input_line(alloc: Global, fault: &InputFault) -> Result<String, Memory>
+    ensures { IfOk result (λ line. string_bytes line ≡ input_line fault.now) }
+{
+    format!(in alloc; "input: {fault}\n")
+}
