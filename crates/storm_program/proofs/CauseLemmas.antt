@@ -1,5 +1,5 @@
 -- Files that a shelf tells rule out every answer but the one that they call for.
-use Rattle.std.proofs.Common.{◌≡◌, ◌⊎◌, ℕ, List, [], Some, None, true, false, refl, sym, ap, subst, ◌∙◌, inl, inr}
+use Rattle.std.proofs.Common.{◌≡◌, ◌⊎◌, ℕ, List, Some, true, false, refl, sym, ap, subst, ◌∙◌, inl, inr}
 use Rattle.std.proofs.lemmas.Bool.{false≢true}
 use Rattle.std.proofs.lemmas.Option.{none-some}
 use Rattle.storm_values.specs.declared.value.Value.{Value}
@@ -14,7 +14,7 @@ use Rattle.storm_program.specs.Check.{CheckComes, CheckCalls}
 use Rattle.storm_program.specs.Ends.{HasText, Ends, TakesThePlace, IsAnswered}
 use Rattle.storm_program.specs.Files.{IsAccepted, IsRunnable, AreRecords, IsTopologyLine, IsNotYetLine, IsInputLine, IsReadFaultLine, of_topology, of_input, TellsPlan, TellsTopologyFault, TellsInput, TellsInputFault}
 use Rattle.storm_program.specs.NotYet.{is_not_yet}
-use Rattle.storm_program.specs.Outside.{ShelfUse, SinkUse, ShelfFailed, AreBytesOf}
+use Rattle.storm_program.specs.Outside.{ShelfUse, SinkUse, ShelfFailed}
 use Rattle.storm_program.specs.Run.{RunComes, RunCalls}
 use Rattle.storm_program.proofs.EndLemmas.{answered_by_ends}
 

@@ -1,11 +1,11 @@
 -- How a command ends, from what it came to and what was written.
-use Rattle.std.proofs.Common.{◌≡◌, ◌≢◌, ◌⊎◌, ℕ, List, [], Result, Ok, Err, IfOk, IfErr, IsErrAnd, refl, sym, subst, ◌∙◌, inl, inr, String, string_bytes}
+use Rattle.std.proofs.Common.{◌≡◌, ◌⊎◌, ℕ, List, [], Result, Ok, Err, IfOk, IfErr, IsErrAnd, refl, sym, subst, inl, inr, String, string_bytes}
 use Rattle.storm_program.specs.declared.status.Status.{Status}
 use Rattle.storm_program.specs.declared.status.Status.TheVariants as status
 use Rattle.storm_program.specs.declared.stop.Stop.{Stop}
 use Rattle.storm_program.specs.declared.stop.Stop.TheVariants.{Memory, Told}
 use Rattle.storm_program.specs.Ends.{HasText, IsCut, Ends, TakesThePlace, IsAnswered}
-use Rattle.storm_program.specs.Outside.{ShelfUse, SinkUse, SinkFailed, TookText, TookFront}
+use Rattle.storm_program.specs.Outside.{ShelfUse, SinkUse, TookText}
 use Rattle.storm_program.specs.steps.Stops.{Stops, IsWritten, IsStopWritten}
 
 -- ---- stops

@@ -1,6 +1,5 @@
 -- Batches one after another are all records.
-use Rattle.std.proofs.Common.{◌≡◌, ℕ, ◌+◌, ◌-◌, ◌*◌, ◌<◌, List, [], ◌∷◌, ◌++◌, take, sym, ap, subst, ◌∙◌, arith}
-use Rattle.std.proofs.lemmas.List.FromFn.{map-range_with_len_more}
+use Rattle.std.proofs.Common.{◌≡◌, ℕ, ◌+◌, ◌-◌, ◌*◌, ◌<◌, List, [], ◌++◌, take, sym, ap, subst, ◌∙◌, arith}
 use Rattle.std.proofs.Math.Seq.{take-add}
 use Rattle.storm_values.specs.declared.value.Value.{Value}
 use Rattle.topology_plan.specs.Topology.{Topology}
@@ -9,9 +8,7 @@ use Rattle.tree_model.specs.declared.write.Pair.{Pair}
 use Rattle.tree_model.specs.Tables.{IsTallyOf}
 use Rattle.tree_model.specs.Trees.{writes}
 use Rattle.tree_model.proofs.Walks.{writes-append, writes-nil}
-use Rattle.storm_program.specs.Batches.{batch_of}
-use Rattle.storm_program.specs.Fates.{first_attempt}
-use Rattle.storm_program.proofs.FateLemmas.{first_attempts}
+use Rattle.storm_program.specs.steps.Cutting.{batch_of}
 
 -- the records of the batches so far, and those of one more
 records_joined : {R : Type 0} (size txid : ℕ) (records : List R) → 0 < txid → take (txid * size) records ≡ take ((txid - 1) * size) records ++ batch_of size txid records
@@ -28,10 +25,6 @@ records_joined size txid records some =
 pub writes_joined : (t : Topology) (custom : List Value → List (List Value)) (size txid : ℕ) (records : List (List Value)) → 0 < txid → writes t custom (take ((txid - 1) * size) records) ++ writes t custom (batch_of size txid records) ≡ writes t custom (take (txid * size) records)
 writes_joined t custom size txid records some =
     sym (ap (writes t custom) (records_joined size txid records some) ∙ writes-append t custom _ _)
-
--- one attempt more
-pub attempts_joined : (n size k : ℕ) → first_attempts n size k ++ first_attempt n size (k + 1) ∷ [] ≡ first_attempts n size (k + 1)
-attempts_joined n size k = sym (map-range_with_len_more (first_attempt n size) 1 k (k + 1) (omega arith))
 
 -- a tally of the batches so far goes on to that of one more
 pub tally_joined : (t : Topology) (custom : List Value → List (List Value)) (size txid : ℕ) (records batch : List (List Value)) (made : List Write) (old new : List (List Pair)) → 0 < txid → batch ≡ batch_of size txid records → made ≡ writes t custom batch → ((before : List Write) → IsTallyOf t before old → IsTallyOf t (before ++ made) new) → IsTallyOf t (writes t custom (take ((txid - 1) * size) records)) old → IsTallyOf t (writes t custom (take (txid * size) records)) new

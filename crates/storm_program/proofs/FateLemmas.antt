@@ -1,12 +1,17 @@
 -- The fates of a run in which each batch is committed at its first attempt.
-use Rattle.std.proofs.Common.{◌≡◌, ℕ, ◌+◌, ◌<◌, ◌≤◌, zero, suc, Bool, true, false, eqb, List, [], ◌∷◌, length, map, get_or, sym, refl, ap, ◌∙◌, subst, arith, Result, Ok, Err, OnErr}
-use Rattle.std.specs.List.{range_with_len}
+use Rattle.std.proofs.Common.{◌≡◌, ℕ, ◌+◌, ◌-◌, ◌*◌, ◌<◌, ◌≤◌, min, zero, suc, Bool, true, false, eqb, List, [], ◌∷◌, ◌++◌, length, map, get_or, append-nil, sym, refl, ap, ap₂, ◌∙◌, subst, arith, Result, Ok, Err, OnErr}
+use Rattle.std.specs.List.{range_with_len, flat_map}
+use Rattle.std.proofs.Math.Nat.{mul-le-mul_right}
 use Rattle.std.proofs.lemmas.Bool.Decides.{nat_tests}
+use Rattle.std.proofs.lemmas.Grind.{div_ceil_times, flat_map-append}
 use Rattle.std.proofs.lemmas.List.{length-map}
-use Rattle.std.proofs.lemmas.List.FromFn.{length-range_with_len, get_or-map-range_with_len}
+use Rattle.std.proofs.lemmas.List.Elements.{filter-append}
+use Rattle.std.proofs.lemmas.List.FromFn.{length-range_with_len, get_or-map-range_with_len, map-range_with_len_more}
 use Rattle.storm_program.specs.declared.fates.Attempt.{Attempt}
 use Rattle.storm_program.specs.Batches.{batch_count}
-use Rattle.storm_program.specs.Fates.{first_attempt, committed_txids, attempt_numbers, IsOfBatch, IsOnce, IsOnceOfSome, IsWhole}
+use Rattle.storm_program.specs.Fates.{record_numbers, is_committed, committed, committed_numbers, committed_txids, attempt_numbers, IsOfBatch, IsOnce, IsWhole}
+use Rattle.storm_program.specs.steps.Cutting.{first_attempt}
+use Rattle.storm_program.proofs.RangeLemmas.{range-append}
 
 -- those of the batches 1 to k
 abbrev pub first_attempts : ℕ → ℕ → ℕ → List Attempt
@@ -58,34 +63,74 @@ no_ticks n size txids i j d order below =
     let many : length (map (λ (a : Attempt). a.finish) (map (first_attempt n size) txids)) ≡ length txids = length-map (map (first_attempt n size) txids) (λ (a : Attempt). a.finish) ∙ length-map txids (first_attempt n size) in
     omega (arith, none i (omega arith), none j (omega arith))
 
+-- one attempt more
+pub attempts_joined : (n size k : ℕ) → first_attempts n size k ++ first_attempt n size (k + 1) ∷ [] ≡ first_attempts n size (k + 1)
+attempts_joined n size k = sym (map-range_with_len_more (first_attempt n size) 1 k (k + 1) (omega arith))
+
+-- the records of one committed attempt more
+numbers_more : (fates : List Attempt) (n size txid : ℕ) → committed_numbers (fates ++ first_attempt n size txid ∷ []) ≡ committed_numbers fates ++ record_numbers (first_attempt n size txid)
+numbers_more fates n size txid =
+    ap (flat_map record_numbers) (filter-append (λ (a : Attempt). is_committed a.end) fates (first_attempt n size txid ∷ []))
+    ∙ (flat_map-append record_numbers (committed fates) (first_attempt n size txid ∷ [])
+    ∙ ap (λ numbers. committed_numbers fates ++ numbers) (append-nil (record_numbers (first_attempt n size txid))))
+
+-- the records up to the end of a batch, and those of the next one
+next_range : (n before next : ℕ) → before ≤ n → before ≤ next → range_with_len 1 (min before n) ++ range_with_len (before + 1) (min next n + 1 - (before + 1)) ≡ range_with_len 1 (min next n)
+next_range n before next there order =
+    let all : min before n ≡ before = omega arith in
+    let start : before + 1 ≡ 1 + before = omega arith in
+    let more : before + (min next n + 1 - (1 + before)) ≡ min next n = omega arith in
+    rw (all, start) (range-append 1 before (min next n + 1 - (1 + before)) ∙ ap (range_with_len 1) more)
+
+-- the records of the batches so far are the first ones
+pub numbers_so_far : (n size k : ℕ) → 0 < size → k ≤ batch_count n size → committed_numbers (first_attempts n size k) ≡ range_with_len 1 (min (k * size) n)
+numbers_so_far n size zero some there =
+    let none : min (0 * size) n ≡ 0 = omega arith in
+    rw none refl
+numbers_so_far n size (suc k) some there =
+    let less : (k + 1) * size ≤ batch_count n size * size = mul-le-mul_right size (omega arith) in
+    let each : (k + 1) * size ≡ k * size + size = times_more k size in
+    let short : batch_count n size * size < n + size = (div_ceil_times n size some).1 in
+    let before : k + 1 - 1 ≡ k = omega arith in
+    let next : record_numbers (first_attempt n size (k + 1)) ≡ range_with_len (k * size + 1) (min ((k + 1) * size) n + 1 - (k * size + 1)) =
+    ap (λ (q : ℕ). range_with_len (q * size + 1) (min ((k + 1) * size) n + 1 - (q * size + 1))) before in
+    let so_far : committed_numbers (first_attempts n size k) ≡ range_with_len 1 (min (k * size) n) = numbers_so_far n size k some (omega arith) in
+    let more : committed_numbers (first_attempts n size (k + 1)) ≡ range_with_len 1 (min ((k + 1) * size) n) =
+    ap committed_numbers (sym (attempts_joined n size k))
+    ∙ (numbers_more (first_attempts n size k) n size (k + 1)
+    ∙ (ap₂ (λ xs ys. xs ++ ys) so_far next ∙ next_range n (k * size) ((k + 1) * size) (omega arith) (omega arith))) in
+    let suc_is : k + 1 ≡ suc k = omega arith in
+    subst (λ m. committed_numbers (first_attempts n size m) ≡ range_with_len 1 (min (m * size) n)) suc_is more
+  where
+    times_more : (j m : ℕ) → (j + 1) * m ≡ j * m + m
+    times_more j m = omega arith
+
 -- the first attempts of some batches, each committed at once
-pub first_attempts_once : (n size k : ℕ) → k ≤ batch_count n size → IsOnce n size (first_attempts n size k)
-first_attempts_once n size k there = record {
+pub first_attempts_once : (n size k : ℕ) → 0 < size → k ≤ batch_count n size → IsOnce n size 0 (first_attempts n size k)
+first_attempts_once n size k some there = record {
   in_order = rw (committed_all n size (range_with_len 1 k), length-range_with_len 1 k) refl;
+  records_in_order = rw (numbers_so_far n size k some there, length-range_with_len 1 (min (k * size) n)) refl;
   numbered = λ txid. one_attempt n size 1 k txid;
   last_committed = λ i j d order below. λ _ same. apart n size k i j d order below same;
   of_batch = λ i d below. subst (IsOfBatch n size) (sym (attempt_at n size k i d below)) (record { is_there = (omega arith, omega (arith, count_of n size k)); first = refl; last = refl });
   spans = λ i d below. subst (λ (a : Attempt). a.start ≤ a.finish) (sym (attempt_at n size k i d below)) (omega arith);
   finishes = λ i j d order below. no_ticks n size (range_with_len 1 k) i j d order below;
+  handed_out = λ i d below. subst (λ (a : Attempt). a.finish ≤ 0) (sym (attempt_at n size k i d below)) (omega arith);
 }
 
-pub first_attempts_whole : (n size : ℕ) → IsWhole n size (first_attempts n size (batch_count n size))
-first_attempts_whole n size = record {
-  once = first_attempts_once n size (batch_count n size) (omega arith);
+pub first_attempts_whole : (n size : ℕ) → 0 < size → IsWhole n size 0 (first_attempts n size (batch_count n size))
+first_attempts_whole n size some = record {
+  once = first_attempts_once n size (batch_count n size) some (omega arith);
   all_committed = committed_all n size (range_with_len 1 (batch_count n size));
+  all_records =
+      let enough : n ≤ batch_count n size * size = (div_ceil_times n size some).0 in
+      let all : min (batch_count n size * size) n ≡ n = omega arith in
+      numbers_so_far n size (batch_count n size) some (omega arith) ∙ ap (range_with_len 1) all;
 }
-
--- no attempt at all
-pub once_nothing : (n size : ℕ) → IsOnce n size []
-once_nothing n size = first_attempts_once n size 0 (omega arith)
-
--- no attempts are of no batch twice
-pub once_of_none : (fates : List Attempt) → fates ≡ [] → IsOnceOfSome fates
-once_of_none fates none = subst IsOnceOfSome (sym none) (0, 1, once_nothing 0 1)
 
 -- the attempts of the batches so far
-pub once_so_far : (n size k : ℕ) (fates : List Attempt) → fates ≡ first_attempts n size k → k ≤ batch_count n size → IsOnce n size fates
-once_so_far n size k fates are there = subst (IsOnce n size) (sym are) (first_attempts_once n size k there)
+pub once_so_far : (n size k : ℕ) (fates : List Attempt) → 0 < size → fates ≡ first_attempts n size k → k ≤ batch_count n size → IsOnce n size 0 fates
+once_so_far n size k fates some are there = subst (IsOnce n size 0) (sym are) (first_attempts_once n size k some there)
 
 -- what holds whatever comes holds of an error
 pub OnErr-always : {T E : Type 0} (r : Result T E) (P : Type 0) → P → OnErr r P

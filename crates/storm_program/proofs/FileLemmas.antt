@@ -1,5 +1,5 @@
 -- What the two files come to, from what reading them gave.
-use Rattle.std.proofs.Common.{◌≡◌, ◌≢◌, ◌⊎◌, ℕ, ◌+◌, ◌%◌, ◌^◌, ◌≤◌, List, [], ◌++◌, true, false, codes, Some, None, sym, ap, subst, ◌∙◌, inl, inr, arith, string_bytes}
+use Rattle.std.proofs.Common.{◌≡◌, ◌≢◌, ℕ, ◌+◌, ◌%◌, ◌^◌, ◌≤◌, List, ◌++◌, true, false, codes, Some, None, sym, ap, subst, ◌∙◌, inl, inr, arith, string_bytes}
 use Rattle.std.proofs.Math.Nat.{mod-add-mod}
 use Rattle.storm_values.specs.declared.value.Value.{Value}
 use Rattle.storm_values.specs.declared.lines.InputFault.{InputFault}
@@ -17,7 +17,8 @@ use Rattle.storm_program.specs.declared.status.Status.TheVariants as status
 use Rattle.storm_program.specs.declared.stop.Stop.{Stop}
 use Rattle.storm_program.specs.declared.stop.Stop.TheVariants.{Memory, Told}
 use Rattle.storm_program.specs.Ends.{HasText}
-use Rattle.storm_program.specs.Files.{IsAccepted, IsRunnable, AreRecords, AreAccepted, IsTopologyLine, IsNotYetLine, IsInputLine, IsNotRead, of_topology, of_input, TopologyComes, FilesCome}
+use Rattle.storm_program.specs.Files.{IsAccepted, IsRunnable, AreRecords, IsTopologyLine, IsNotYetLine, IsInputLine, IsNotRead, of_topology, of_input, FilesCome}
+use Rattle.storm_program.specs.steps.Reading.{TopologyComes}
 use Rattle.storm_program.specs.NotYet.{is_not_yet}
 use Rattle.storm_program.specs.Outside.{ShelfUse, AreBytesOf, Fetched}
 use Rattle.storm_program.specs.steps.Reading.{WasRead, NotReadComes, InputComes}

@@ -4,6 +4,7 @@ mod EngineLemmas
 mod FateLemmas
 mod FileLemmas
 mod NotYetLemmas
+mod RangeLemmas
 mod RecordLemmas
 mod RunLemmas
 mod WordLemmas

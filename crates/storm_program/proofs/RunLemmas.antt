@@ -4,7 +4,8 @@ use Rattle.storm_program.specs.declared.fates.Attempt.{Attempt}
 use Rattle.storm_program.specs.declared.status.Status.{Status}
 use Rattle.storm_program.specs.declared.status.Status.TheVariants as status
 use Rattle.storm_program.specs.Check.{CheckComes}
-use Rattle.storm_program.specs.Files.{TopologyComes, FilesCome}
+use Rattle.storm_program.specs.Files.{FilesCome}
+use Rattle.storm_program.specs.steps.Reading.{TopologyComes}
 use Rattle.storm_program.specs.Ends.{Ends}
 use Rattle.storm_program.specs.Outside.{ShelfUse, SinkUse}
 use Rattle.storm_program.specs.Run.{RunComes}

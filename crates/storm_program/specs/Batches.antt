@@ -1,7 +1,6 @@
 -- How the records of an input are cut into batches. Transactions and records are counted from 1. This project's own.
-use Rattle.std.specs.Prelude.{ℕ, ◌+◌, ◌-◌, ◌*◌, List, take, drop, min}
+use Rattle.std.specs.Prelude.{ℕ, ◌+◌, ◌-◌, ◌*◌, min}
 use Rattle.std.specs.Int.{div_ceil}
-use Rattle.storm_values.specs.declared.value.Value.{Value}
 
 -- the least number of batches of a size that holds n records
 abbrev pub batch_count : ℕ → ℕ → ℕ
@@ -13,12 +12,3 @@ first_of size txid = (txid - 1) * size + 1
 
 abbrev pub last_of : ℕ → ℕ → ℕ → ℕ
 last_of n size txid = min (txid * size) n
-
--- the records of a batch
-abbrev pub batch_of : {R : Type 0} → ℕ → ℕ → List R → List R
-batch_of size txid records = take size (drop ((txid - 1) * size) records)
-
--- records that are cut into batches of a size
-pub record Cut : Type 0 where
-  pub records : List (List Value)
-  pub size : ℕ

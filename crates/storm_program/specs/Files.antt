@@ -72,16 +72,6 @@ pub data IsReadFaultLine (shelf : ShelfUse) (topology input text : List ℕ) : T
   of_topology : Fetched 1 shelf → IsNotRead shelf topology → text ≡ topology_not_read → IsReadFaultLine shelf topology input text
   of_input : Fetched 2 shelf → IsNotRead shelf input → (plan : Topology) → IsRunnable shelf.holds topology plan → text ≡ input_not_read → IsReadFaultLine shelf topology input text
 
--- What a topology alone comes to where it is not accepted.
-abbrev pub TopologyComes : ShelfUse → List ℕ → Status → List ℕ → Type 0
-TopologyComes shelf topology status.Done text = ⊥
-TopologyComes shelf topology status.Memory text = Fetched 1 shelf
-TopologyComes shelf topology status.Words text = ⊥
-TopologyComes shelf topology status.Topology text = Fetched 1 shelf × IsTopologyLine shelf.holds topology text
-TopologyComes shelf topology status.Input text = ⊥
-TopologyComes shelf topology status.ReadFault text = Fetched 1 shelf × IsNotRead shelf topology × (text ≡ topology_not_read)
-TopologyComes shelf topology status.WriteFault text = ⊥
-
 -- What a topology and an input come to where they are not both accepted.
 abbrev pub FilesCome : ShelfUse → List ℕ → List ℕ → Status → List ℕ → Type 0
 FilesCome shelf topology input status.Done text = ⊥

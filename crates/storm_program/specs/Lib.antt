@@ -1,7 +1,6 @@
 pub mod Batches
 pub mod Cells
 pub mod Check
-pub mod Commands
 pub mod Custom
 pub mod Ends
 pub mod Fated

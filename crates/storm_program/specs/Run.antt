@@ -1,5 +1,5 @@
 -- The command `run`.
-use Rattle.std.specs.Prelude.{◌≡◌, ◌⊎◌, ◌≤◌, ℕ, List, [], length}
+use Rattle.std.specs.Prelude.{◌≡◌, ◌⊎◌, ℕ, List, [], length}
 use Rattle.storm_values.specs.declared.value.Value.{Value}
 use Rattle.topology_plan.specs.Topology.{Topology}
 use Rattle.tree_model.specs.declared.write.Table.{Table}
@@ -13,17 +13,17 @@ use Rattle.storm_program.specs.Cells.{cells_of}
 use Rattle.storm_program.specs.Custom.{as_it_is}
 use Rattle.storm_program.specs.Ends.{Promise}
 use Rattle.storm_program.specs.Fated.{attempt_lines}
-use Rattle.storm_program.specs.Fates.{IsOnce, IsWhole}
+use Rattle.storm_program.specs.Fates.{ticks_handed_out, committed_records, IsOnce, IsWhole}
 use Rattle.storm_program.specs.Files.{AreAccepted, FilesCome, FilesCall}
 use Rattle.storm_program.specs.Outside.{ShelfUse, Fetched}
 use Rattle.storm_program.specs.Report.{ok, report_text}
 
--- The report of a plan and the records of an input. The tables are those of one machine that takes all records in order,
--- and each record stands in exactly one committed batch.
+-- The report of a plan and the records of an input. The tables are those of one machine that takes the records of the
+-- committed attempts in the order of the commits, and these are all records, each in exactly one committed attempt.
 pub record IsReport (plan : Topology) (records : List (List Value)) (fates : List Attempt) (text : List ℕ) : Type 0 where
   pub tables : List Table
-  pub once : IsWhole (length records) plan.batch fates
-  pub of_all_records : AreTables plan (writes plan as_it_is records) tables
+  pub whole : IsWhole (length records) plan.batch ticks_handed_out fates
+  pub of_commits : AreTables plan (writes plan as_it_is (committed_records records fates)) tables
   pub printed : text ≡ report_text (record {
     attempts = attempt_lines fates;
     cells = cells_of tables;
@@ -42,7 +42,7 @@ pub record AreOnceOfFiles (holds : List ℕ → List ℕ → Type 0) (topology i
   pub plan : Topology
   pub records : List (List Value)
   pub accepted : AreAccepted holds topology input plan records
-  pub once : IsOnce (length records) plan.batch fates
+  pub once : IsOnce (length records) plan.batch ticks_handed_out fates
 
 -- A run that ended for want of memory: before its first batch, or among the batches of accepted files.
 abbrev pub IsShortRun : ShelfUse → List ℕ → List ℕ → List Attempt → Type 0

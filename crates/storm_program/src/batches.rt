@@ -1,5 +1,6 @@
 ghost use Rattle.std.specs.Prelude.{◌≡◌, ◌<◌, ◌*◌, ◌≤◌, ◌⊎◌, ◌↔◌, length, IsNone, IfSome};
-ghost use Rattle.storm_program.specs.Batches.{batch_count, batch_of};
+ghost use Rattle.storm_program.specs.Batches.{batch_count};
+ghost use Rattle.storm_program.specs.steps.Cutting.{batch_of};
 
 use std::marker::Model;
 use storm_values::{Row, Rows};
@@ -13,7 +14,7 @@ pub struct Batches {
 
 impl Model for Batches {
     ghost use Rattle.std.specs.Prelude.{◌<◌};
-    ghost use Rattle.storm_program.specs.Batches.{Cut};
+    ghost use Rattle.storm_program.specs.steps.Cutting.{Cut};
 
     ghost Value = { Cut };
 
@@ -36,6 +37,7 @@ impl Batches {
     pub fn count(&self) -> u64
         ensures value { result ≡ batch_count (length self.now.records) self.now.size }
         ensures enough { length self.now.records ≤ result * self.now.size }
+        ensures sized { 0 < self.now.size }
     {
         (self.rows.len() as u64).div_ceil(u64::from(self.size))
     }

@@ -3,7 +3,8 @@ ghost use Rattle.tree_model.specs.Trees.{writes};
 ghost use Rattle.tree_model.specs.Tables.{AreTables, IsTallyOf};
 ghost use Rattle.storm_program.specs.Batches.{batch_count};
 ghost use Rattle.storm_program.specs.Custom.{as_it_is};
-ghost use Rattle.storm_program.specs.Fates.{first_attempt, IsOnce, IsWhole};
+ghost use Rattle.storm_program.specs.Fates.{ticks_handed_out, committed_records, IsOnce, IsWhole};
+ghost use Rattle.storm_program.specs.steps.Cutting.{first_attempt};
 
 use crate::batches::Batches;
 use crate::custom::AsItIs;
@@ -21,9 +22,12 @@ pub fn run_batches(
     fates: &mut Fates,
 ) -> Result<Tables, Memory>
     requires { fates.old ≡ [] }
-    ensures tables { IfOk result (AreTables plan.now (writes plan.now as_it_is batches.now.records)) }
-    ensures fates { OnOk result (IsWhole (length batches.now.records) batches.now.size fates.new) }
-    ensures once { OnErr result (IsOnce (length batches.now.records) batches.now.size fates.new) }
+    ensures tables { IfOk result (AreTables plan.now
+        (writes plan.now as_it_is (committed_records batches.now.records fates.new))) }
+    ensures fates { OnOk result (IsWhole (length batches.now.records) batches.now.size
+        ticks_handed_out fates.new) }
+    ensures once { OnErr result (IsOnce (length batches.now.records) batches.now.size
+        ticks_handed_out fates.new) }
 {
     let mut tally = Tally::new(alloc, plan)?;
     for number in 0..batches.count() {

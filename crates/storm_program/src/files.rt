@@ -1,6 +1,7 @@
 ghost use Rattle.std.specs.Prelude.{◌≡◌, ◌≤◌, ◌<◌, ◌+◌, ◌-◌, ◌%◌, ◌^◌, ℕ, List, IfOk, IfErr, OnOk, IsErrOf};
 ghost use Rattle.storm_outside.specs.Counts.{Rose};
-ghost use Rattle.storm_program.specs.Files.{IsAccepted, AreRecords, AreAccepted, TopologyComes, FilesCome};
+ghost use Rattle.storm_program.specs.Files.{IsAccepted, AreRecords, AreAccepted, FilesCome};
+ghost use Rattle.storm_program.specs.steps.Reading.{TopologyComes};
 ghost use Rattle.storm_program.specs.Outside.{shelf_use, Fetched};
 ghost use Rattle.storm_program.specs.steps.Reading.{WasRead, NotReadComes, InputComes};
 ghost use Rattle.storm_program.specs.steps.Stops.{Stops};

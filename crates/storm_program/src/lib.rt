@@ -18,6 +18,6 @@ mod stop;
 mod words;
 
 pub use fates::{Attempt, End, Fates};
-pub use laws::each_record_is_committed_once;
+pub use laws::{committed_records_are_all, each_record_is_committed_once};
 pub use program::{storm, storm_check, storm_run};
 pub use status::Status;

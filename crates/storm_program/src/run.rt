@@ -1,6 +1,6 @@
 ghost use Rattle.std.specs.Prelude.{◌≡◌, ◌≤◌, [], length, IfOk, IfErr, OnErr, string_bytes};
 ghost use Rattle.storm_program.specs.declared.status.Status.{Status};
-ghost use Rattle.storm_program.specs.Fates.{IsOnce};
+ghost use Rattle.storm_program.specs.Fates.{ticks_handed_out, IsOnce};
 ghost use Rattle.storm_program.specs.Outside.{shelf_use};
 ghost use Rattle.storm_program.specs.Run.{IsReport, RunComes};
 ghost use Rattle.storm_program.specs.steps.Stops.{Stops};
@@ -41,7 +41,7 @@ pub fn run_files<H: Shelf>(
 fn run_accepted(alloc: Global, files: Accepted, fates: &mut Fates) -> Result<String, Memory>
     requires { fates.old ≡ [] }
     ensures report { IfOk result (λ text. IsReport files.plan files.rows fates.new (string_bytes text)) }
-    ensures once { OnErr result (IsOnce (length files.rows) files.plan.batch fates.new) }
+    ensures once { OnErr result (IsOnce (length files.rows) files.plan.batch ticks_handed_out fates.new) }
 {
     let Accepted { plan, rows } = files;
     let batches = Batches::cut(rows, plan.batch());

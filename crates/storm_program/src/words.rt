@@ -1,7 +1,7 @@
 ghost use Rattle.std.specs.Prelude.{◌≡◌, ◌≤◌, map, string_bytes, option_map, [], ◌∷◌, length, true, IfSome};
 ghost use Rattle.std.specs.List.{list_all};
 ghost use Rattle.std.specs.Char.{is_ascii_digit};
-ghost use Rattle.storm_program.specs.Commands.{command_of_words, HasWorkers};
+ghost use Rattle.storm_program.specs.steps.Commands.{command_of_words, HasWorkers};
 ghost use Rattle.storm_program.specs.Words.{is_word, digits_value, number_word, built};
 
 /// The line that refuses words.

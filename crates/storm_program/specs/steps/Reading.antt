@@ -2,9 +2,9 @@
 use Rattle.std.specs.Prelude.{◌≡◌, ℕ, List, take}
 use Rattle.storm_program.specs.declared.status.Status.{Status}
 use Rattle.storm_program.specs.declared.status.Status.TheVariants as status
-use Rattle.storm_program.specs.Files.{IsNotRead, IsInputLine}
-use Rattle.storm_program.specs.Outside.{ShelfUse, AreBytesOf}
-use Rattle.storm_program.specs.Texts.{input_not_read}
+use Rattle.storm_program.specs.Files.{IsNotRead, IsTopologyLine, IsInputLine}
+use Rattle.storm_program.specs.Outside.{ShelfUse, Fetched, AreBytesOf}
+use Rattle.storm_program.specs.Texts.{topology_not_read, input_not_read}
 use Rattle.topology_plan.specs.Topology.{Topology}
 
 -- at most so many bytes of the file of that name were read
@@ -22,6 +22,16 @@ NotReadComes shelf name line status.Topology text = ⊥
 NotReadComes shelf name line status.Input text = ⊥
 NotReadComes shelf name line status.ReadFault text = IsNotRead shelf name × (text ≡ line)
 NotReadComes shelf name line status.WriteFault text = ⊥
+
+-- what a topology alone comes to where it is not accepted.
+abbrev pub TopologyComes : ShelfUse → List ℕ → Status → List ℕ → Type 0
+TopologyComes shelf topology status.Done text = ⊥
+TopologyComes shelf topology status.Memory text = Fetched 1 shelf
+TopologyComes shelf topology status.Words text = ⊥
+TopologyComes shelf topology status.Topology text = Fetched 1 shelf × IsTopologyLine shelf.holds topology text
+TopologyComes shelf topology status.Input text = ⊥
+TopologyComes shelf topology status.ReadFault text = Fetched 1 shelf × IsNotRead shelf topology × (text ≡ topology_not_read)
+TopologyComes shelf topology status.WriteFault text = ⊥
 
 -- what the input of a plan comes to where it is not accepted
 abbrev pub InputComes : ShelfUse → Topology → List ℕ → Status → List ℕ → Type 0

@@ -1,11 +1,13 @@
 use Rattle.std.proofs.Common.{◌≡◌, ℕ, ◌+◌, ◌-◌, ◌*◌, ◌≤◌, ◌∷◌, [], ◌++◌, length, take, sym, ap, ◌∙◌, subst, arith}
+use Rattle.std.proofs.lemmas.List.{take_all}
 use Rattle.std.proofs.lemmas.Result.{IfOk-weaker}
 use Rattle.tree_model.specs.Trees.{writes}
 use Rattle.tree_model.specs.Tables.{IsTallyOf}
 use Rattle.storm_program.specs.Custom.{as_it_is}
-use Rattle.storm_program.specs.Fates.{IsWhole}
-use Rattle.storm_program.proofs.EngineLemmas.{attempts_joined, tally_empty}
-use Rattle.storm_program.proofs.FateLemmas.{first_attempts, first_attempts_whole, once_so_far, OnErr-always}
+use Rattle.storm_program.specs.Fates.{committed_records, IsWhole}
+use Rattle.storm_program.proofs.EngineLemmas.{tally_empty}
+use Rattle.storm_program.proofs.FateLemmas.{attempts_joined, first_attempts, first_attempts_whole, once_so_far, OnErr-always}
+use Rattle.storm_program.proofs.RecordLemmas.{records_are_all}
 use Rattle.storm_program.proofs.engine.run_batches.Goals as goal
 
 -- the number before the next one
@@ -27,25 +29,37 @@ loop-number-preserved c =
       fates = c.in_ok-push.ensures.ok ∙ (ap (λ fates. fates ++ c.committed.result ∷ []) c.loop-number.invariant.fates ∙ (ap (λ a. first_attempts n size k ++ a ∷ []) c.committed.ensures ∙ attempts_joined n size k));
     }
 
+pub returns-clause-tables : goal.returns-clause-tables
+returns-clause-tables c =
+    let records = c.args.batches.now.records in
+    let size = c.args.batches.now.size in
+    let last : c.loop-number.number ≡ c.count-number-end.result = omega arith in
+    let fates = c.loop-number.invariant.fates ∙ ap (first_attempts (length records) size) (last ∙ c.count-number-end.ensures.value) in
+    let whole : IsWhole (length records) size 0 c.loop-number.fates = subst (IsWhole (length records) size 0) (sym fates) (first_attempts_whole (length records) size c.count-number-end.ensures.sized) in
+    let enough : length records ≤ c.loop-number.number * size = subst (λ m. length records ≤ m * size) (sym last) c.count-number-end.ensures.enough in
+    let all : take (c.loop-number.number * size) records ≡ committed_records records c.loop-number.fates = take_all (c.loop-number.number * size) records enough ∙ sym (records_are_all records size 0 c.loop-number.fates whole) in
+    let tally = subst (λ rs. IsTallyOf c.args.plan.now (writes c.args.plan.now as_it_is rs) c.loop-number.tally) all c.loop-number.invariant.tally in
+    IfOk-weaker c.tables.result _ _ (λ _ are. are _ tally) c.tables.ensures
+
 pub returns-clause-fates : goal.returns-clause-fates
 returns-clause-fates c =
     let n = length c.args.batches.now.records in
     let size = c.args.batches.now.size in
     let last : c.loop-number.number ≡ c.count-number-end.result = omega arith in
     let fates = c.loop-number.invariant.fates ∙ ap (first_attempts n size) (last ∙ c.count-number-end.ensures.value) in
-    IfOk-weaker c.tables.result _ _ (λ _ _. subst (IsWhole n size) (sym fates) (first_attempts_whole n size)) c.tables.ensures
+    IfOk-weaker c.tables.result _ _ (λ _ _. subst (IsWhole n size 0) (sym fates) (first_attempts_whole n size c.count-number-end.ensures.sized)) c.tables.ensures
 
 pub returns-in_err-run_batch-clause-once : goal.returns-in_err-run_batch-clause-once
 returns-in_err-run_batch-clause-once c =
     let last : c.loop-number.number ≤ c.count-number-end.result = omega arith in
-    OnErr-always c.from_residual-in_err-run_batch.result _ (once_so_far _ _ c.loop-number.number _ c.loop-number.invariant.fates (subst (λ m. c.loop-number.number ≤ m) c.count-number-end.ensures.value last))
+    OnErr-always c.from_residual-in_err-run_batch.result _ (once_so_far _ _ c.loop-number.number _ c.count-number-end.ensures.sized c.loop-number.invariant.fates (subst (λ m. c.loop-number.number ≤ m) c.count-number-end.ensures.value last))
 
 pub returns-in_err-push-clause-once : goal.returns-in_err-push-clause-once
 returns-in_err-push-clause-once c =
     let last : c.loop-number.number ≤ c.count-number-end.result = omega arith in
-    OnErr-always c.from_residual-in_err-push.result _ (once_so_far _ _ c.loop-number.number _ (c.in_err-push.ensures.err ∙ c.loop-number.invariant.fates) (subst (λ m. c.loop-number.number ≤ m) c.count-number-end.ensures.value last))
+    OnErr-always c.from_residual-in_err-push.result _ (once_so_far _ _ c.loop-number.number _ c.count-number-end.ensures.sized (c.in_err-push.ensures.err ∙ c.loop-number.invariant.fates) (subst (λ m. c.loop-number.number ≤ m) c.count-number-end.ensures.value last))
 
 pub returns-clause-once : goal.returns-clause-once
 returns-clause-once c =
     let last : c.loop-number.number ≤ c.count-number-end.result = omega arith in
-    OnErr-always c.tables.result _ (once_so_far _ _ c.loop-number.number _ c.loop-number.invariant.fates (subst (λ m. c.loop-number.number ≤ m) c.count-number-end.ensures.value last))
+    OnErr-always c.tables.result _ (once_so_far _ _ c.loop-number.number _ c.count-number-end.ensures.sized c.loop-number.invariant.fates (subst (λ m. c.loop-number.number ≤ m) c.count-number-end.ensures.value last))

@@ -1,5 +1,5 @@
 use Rattle.std.proofs.Common.{option_map, sym, ap, ◌∙◌, refl}
-use Rattle.storm_program.specs.Commands.{command_of_words}
+use Rattle.storm_program.specs.steps.Commands.{command_of_words}
 use Rattle.storm_program.specs.Outside.{shelf_use, sink_use}
 use Rattle.storm_program.proofs.RunLemmas.{ends_words}
 use Rattle.storm_program.proofs.program.storm.Goals as goal
