@@ -1,4 +1,5 @@
-ghost use Rattle.std.specs.Prelude.{◌≡◌, ◌<◌, ◌≤◌, All, length, slice_get, Some, sum_by, ◌^◌};
+ghost use Rattle.std.specs.Prelude.{◌≡◌, ◌+◌, ◌<◌, ◌≤◌, All, length, slice_get, Some, sum_by, ◌^◌};
+ghost use Rattle.storm_values.specs.Limits.{most_tasks_in_all};
 ghost use Rattle.topology_plan.specs.Inside.{topology_of, IsSound};
 ghost use Rattle.topology_plan.specs.Topology.{component_from, component_of, subs_of, tasks_in_all, depth_of, weight_of};
 ghost use Rattle.topology_plan.specs.Valid.{IsTarget, IsValid};
@@ -78,6 +79,8 @@ impl Plan {
         requires { c < length self.now.components }
         ensures value { slice_get self.now.components c ≡ Some result.now }
         ensures fits { IsComponent self.now c result.now }
+        ensures last { result.now.first_task + result.now.tasks ≤ tasks_in_all self.now }
+        ensures few { tasks_in_all self.now ≤ most_tasks_in_all }
     {
         &self.made.components[c as usize]
     }

@@ -1,0 +1,2 @@
+mod Even
+mod Choices
