@@ -2,6 +2,7 @@
 #![tactic(auto)]
 
 mod laws;
+mod messages;
 mod plain;
 mod running;
 mod tree;
@@ -12,6 +13,8 @@ pub use laws::{
     rows_of_nodes_are_within_limits, tables_are_one, writes_of_joined_rows,
     writes_stand_in_path_order,
 };
+pub use messages::{AckMsg, Done, Draw, FailNote, Init, Notes, Parcel, Parcels, Tuple};
 pub use plain::{count_nodes, plain_tables};
 pub use running::RunningTables;
+pub use tuple_tickets::{Edge, Edges};
 pub use write::{Pair, Pairs, Table, Tables, Write, Writes, writes_of};
