@@ -1,5 +1,6 @@
 pub mod Codes
 pub mod Covering
+pub mod EdgeOrder
 pub mod Few
 pub mod Odd
 pub mod Once

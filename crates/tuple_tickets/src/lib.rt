@@ -9,7 +9,7 @@ mod laws;
 #[cfg(test)]
 mod tests;
 
-pub use edge::{Edge, Edges};
+pub use edge::{Edge, Edges, edge_order_is_total};
 pub use laws::{
     closed_lists_cover, complete_lists_cover, covering_lists_are_closed, issued_lists_are_sound,
     lists_of_all_notes_cover, roots_have_few_tickets, tickets_grow_along_trees,

@@ -1,14 +1,31 @@
 use crate::Edge;
+use std::alloc::Global;
+use std::cmp::Ordering;
 use std::test::Fail;
-use storm_values::{Duplicate, Path};
+use storm_values::{Duplicate, Memory, Path};
 
 #[test]
 fn a_copy_has_the_path_and_the_id(rt: HostRuntime) -> Result<(), Fail> {
-    let mut path = Path::new(rt.alloc());
-    path.push(2)?;
-    path.push(0)?;
-    let made = Edge { path, id: 7 }.copy()?;
+    let made = edge(rt.alloc(), &[2, 0], 7)?.copy()?;
     assert!(rt; made.path.as_slice() == [2, 0].as_slice());
     assert_eq!(rt; made.id, 7);
     Ok(())
+}
+
+#[test]
+fn edges_stand_by_path_and_then_by_id(rt: HostRuntime) -> Result<(), Fail> {
+    let alloc = rt.alloc();
+    let long = edge(alloc, &[2, 0], 1)?;
+    assert!(rt; edge(alloc, &[2], 9)?.compare(&long) == Ordering::Less);
+    assert!(rt; edge(alloc, &[2, 0], 0)?.compare(&long) == Ordering::Less);
+    assert!(rt; edge(alloc, &[3], 0)?.compare(&long) == Ordering::Greater);
+    assert!(rt; long.copy()?.compare(&long) == Ordering::Equal);
+    Ok(())
+}
+
+fn edge(alloc: Global, path: &[u32], id: u64) -> Result<Edge, Memory> {
+    Ok(Edge {
+        path: Path::from_slice(alloc, path)?,
+        id,
+    })
 }
