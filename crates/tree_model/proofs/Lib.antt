@@ -1,8 +1,10 @@
 mod Depth
 mod Folding
+pub mod ListLaws
 mod Lists
 mod Loops
 mod Maps
+pub mod Reading
 mod Single
 mod TablesSoFar
 pub mod Walks

@@ -1,6 +1,7 @@
 pub mod Codes
 pub mod Covering
 pub mod EdgeOrder
+mod Examples
 pub mod Few
 pub mod Odd
 pub mod Once

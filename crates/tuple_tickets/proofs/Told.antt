@@ -50,7 +50,7 @@ within-said_about r ns ms are_of within f = let w = within (of_root r f) in let 
 
 module _ {N : Type 0} where
   -- the paths of tickets below a path
-  paths_of_tickets : (root : Root) (path : List ℕ) (j : ℕ) (ns : List N) (ids : List ℕ) → length ids ≡ length ns → paths_of (edges_of (tickets_from root path j ns ids)) ≡ paths_below path j (length ns)
+  pub paths_of_tickets : (root : Root) (path : List ℕ) (j : ℕ) (ns : List N) (ids : List ℕ) → length ids ≡ length ns → paths_of (edges_of (tickets_from root path j ns ids)) ≡ paths_below path j (length ns)
   paths_of_tickets root path j [] ids same = refl
   paths_of_tickets root path j (n ∷ ns) [] same = absurd (omega arith)
   paths_of_tickets root path j (n ∷ ns) (id ∷ ids) same = ap (λ ps. (path ++ j ∷ []) ∷ ps) (paths_of_tickets root path (suc j) ns ids (omega arith))

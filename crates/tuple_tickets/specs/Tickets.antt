@@ -33,6 +33,12 @@ pub record Account (N : Type 0) : Type 0 where
 abbrev pub is_begun : Root → Begun → ℕ
 is_begun root b = if root_eq b.root root then 1 else 0
 
+-- the children of a node that goes on, and else none
+abbrev pub made_by : {X : Type 0} → Course → List X → List X
+made_by goes children = children
+made_by fails children = []
+made_by mute children = []
+
 module _ {N : Type 0} where
   -- tickets of nodes, with an id for each, at the places from j on below a path
   abbrev pub tickets_from : Root → List ℕ → ℕ → List N → List ℕ → List (Ticket N)
@@ -55,12 +61,7 @@ module _ {N : Type 0} where
   abbrev pub first_tickets : Growth N → Begun → List (Ticket N)
   first_tickets g b = tickets_from b.root [] 0 (g.firsts b.root) b.ids
 
-  -- the tickets that a used one makes, where its node goes on
-  abbrev pub made_by : Course → List (Ticket N) → List (Ticket N)
-  made_by goes children = children
-  made_by fails children = []
-  made_by mute children = []
-
+  -- the tickets that a used one makes
   abbrev pub made_of : Growth N → Run N → List (Ticket N)
   made_of g u =
       made_by (g.course u.ticket.root u.ticket.node) (tickets_from u.ticket.root u.ticket.edge.path 0 (g.kids u.ticket.node) u.ids)
