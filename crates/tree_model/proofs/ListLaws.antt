@@ -1,6 +1,7 @@
 -- The laws of lists of what messages say, read off for lists of messages.
-use Rattle.std.proofs.Common.{◌≡◌, ◌≢◌, ◌↔◌, ℕ, ◌%◌, ◌≤◌, List, [], map, Contains, Some, sym, refl, ap, subst, ◌∙◌, arith}
+use Rattle.std.proofs.Common.{◌≡◌, ◌↔◌, ℕ, ◌%◌, List, [], map, Contains, Some, sym, ap, ◌∙◌, arith}
 use Rattle.counted_items.specs.Weights.{weigh}
+use Rattle.bolt_ops.specs.RowOp.{Custom}
 use Rattle.storm_values.specs.declared.value.Root.{Root}
 use Rattle.storm_values.specs.declared.value.Value.{Value}
 use Rattle.topology_plan.specs.Topology.{Topology}
@@ -46,7 +47,7 @@ none_coincides list none coincides = none coincides.edges (λ e. let o = coincid
 
 -- ---- lists that are true of a tree
 
-module _ (t : Topology) (custom : List Value → List (List Value)) (rows : List (List Value)) (root : Root) (list : List AckMsg) (all_true : AreTrueOf t custom rows root list) where
+module _ (t : Topology) (custom : Custom) (rows : List (List Value)) (root : Root) (list : List AckMsg) (all_true : AreTrueOf t custom rows root list) where
   pub closed_covers : IsClosed list → weigh is_init list ≡ 1 → Covers t custom rows list
   closed_covers closed one_init =
       covers_read t custom rows root list (covered_if_closed (growth t custom rows root) root (map said list) (all_true_said t custom rows root list all_true) (inits_said list ∙ one_init) (closed_said list closed))

@@ -1,9 +1,10 @@
 -- Lists of messages read as lists of what they say, and the trees of a topology as trees that grow.
-use Rattle.std.proofs.Common.{◌≡◌, ◌≢◌, ◌↔◌, ℕ, ◌%◌, ◌≤◌, List, [], ◌∷◌, ◌++◌, map, Option, None, Some, slice_get, option_and_then, sym, refl, ap, subst, ◌∙◌, arith}
+use Rattle.std.proofs.Common.{◌≡◌, ℕ, ◌%◌, ◌≤◌, List, [], ◌∷◌, ◌++◌, map, None, Some, slice_get, option_and_then, sym, refl, ap, subst, ◌∙◌}
 use Rattle.std.specs.List.{AllByRecursion}
 use Rattle.counted_items.specs.Weights.{weigh}
 use Rattle.counted_items.proofs.Each.{each-to_map, each-weaker}
 use Rattle.counted_items.proofs.Weighing.{weigh-map}
+use Rattle.bolt_ops.specs.RowOp.{Custom}
 use Rattle.storm_values.specs.declared.value.Root.{Root}
 use Rattle.storm_values.specs.declared.value.Value.{Value}
 use Rattle.topology_plan.specs.declared.parts.Origin.TheVariants as origin
@@ -21,7 +22,7 @@ use Rattle.tree_model.specs.Trees.{Node, kids, kids_of, node_from, node_at}
 
 -- ---- trees
 
-module _ (t : Topology) (custom : List Value → List (List Value)) (rows_of : Root → List (List Value)) where
+module _ (t : Topology) (custom : Custom) (rows_of : Root → List (List Value)) where
   read_from : (node : Node) (path : List ℕ) → trees.node_from (growth_of t custom rows_of) node path ≡ node_from t custom node path
   read_from node [] = refl
   read_from node (i ∷ path) =
@@ -110,7 +111,7 @@ module _ (list : List AckMsg) where
 
 -- ---- what is true
 
-module _ (t : Topology) (custom : List Value → List (List Value)) (rows : List (List Value)) (root : Root) where
+module _ (t : Topology) (custom : Custom) (rows : List (List Value)) (root : Root) where
   -- how the trees of these rows grow
   abbrev pub growth : Growth Node
   growth = growth_of t custom (λ r. rows)

@@ -3,6 +3,7 @@ use Rattle.std.specs.Prelude.{◌≡◌, ◌≢◌, ◌≤◌, ℕ, ◌%◌, Lis
 use Rattle.std.specs.List.{flat_map, AllByRecursion}
 use Rattle.std.specs.Option.{option_to_list}
 use Rattle.counted_items.specs.Weights.{weigh}
+use Rattle.bolt_ops.specs.RowOp.{Custom}
 use Rattle.storm_values.specs.declared.value.Root.{Root}
 use Rattle.storm_values.specs.declared.value.Value.{Value}
 use Rattle.topology_plan.specs.declared.parts.Origin.TheVariants as origin
@@ -70,7 +71,7 @@ is_failed m = tickets.is_failed (said m)
 abbrev pub consumes : List ℕ → AckMsg → ℕ
 consumes path m = tickets.consumes path (said m)
 
-module _ (t : Topology) (custom : List Value → List (List Value)) (rows : List (List Value)) (root : Root) where
+module _ (t : Topology) (custom : Custom) (rows : List (List Value)) (root : Root) where
   -- A message says what is so in the tree of the root's rows: an init has exactly the paths of one number, each once
   -- and in order; a done consumes a node that goes on at this attempt, produces exactly its children in order, and
   -- carries exactly its writes; a failure names a node that fails at this attempt.
@@ -92,7 +93,7 @@ module _ (t : Topology) (custom : List Value → List (List Value)) (rows : List
   AreTrueOf list = AllByRecursion IsTrueOf list
 
 -- there is an init, and each path of the tree is consumed
-pub record Covers (t : Topology) (custom : List Value → List (List Value)) (rows : List (List Value)) (list : List AckMsg) : Type 0 where
+pub record Covers (t : Topology) (custom : Custom) (rows : List (List Value)) (list : List AckMsg) : Type 0 where
   pub begins : 1 ≤ weigh is_init list
   pub consumed : (path : List ℕ) (node : Node) → node_at t custom rows path ≡ Some node → 1 ≤ weigh (consumes path) list
 
