@@ -19,15 +19,15 @@ use Rattle.topology_plan.specs.declared.plan.Made.{Made}
 use Rattle.topology_plan.specs.Inside.{IsSound}
 use Rattle.topology_plan.specs.Valid.{IsValid}
 use Rattle.topology_plan.specs.Wired.{IsWired}
-use Rattle.topology_reader.specs.Made.{IsMade}
+use Rattle.topology_reader.specs.steps.Made.{IsMade}
 use Rattle.topology_reader.specs.Meant.{weight_fault, meaning_fault}
 use Rattle.topology_reader.proofs.ValidPlan.{valid_plan}
 use Rattle.topology_reader.proofs.WiredPlan.{wired_plan}
-use Rattle.topology_reader.specs.PlanSteps.{planned_components, planned_component_subs, size_fault}
+use Rattle.topology_reader.specs.steps.PlanSteps.{planned_components, planned_component_subs, size_fault}
 use Rattle.topology_reader.specs.Planned.{planned_bolt, planned_state, planned_subs, tasks_by_component, plan_of}
 use Rattle.topology_form.specs.Ranges.{IsInRange}
 use Rattle.topology_plan.specs.Topology.{Topology, tasks_in_all, depth_of, weight_of}
-use Rattle.topology_reader.specs.Wires.{items_by, IsWiredBy}
+use Rattle.topology_reader.specs.steps.Wires.{items_by, IsWiredBy}
 use Rattle.topology_reader.proofs.TaskLemmas.{tasks_in_all-le}
 
 -- ---- how many tasks and components there are

@@ -78,11 +78,11 @@ count_below f first (suc n) c from to fails =
     at_most_one true = omega arith
     at_most_one false = omega arith
 
-rank_of_bolt : (p : FileParts) (c : ℕ) → cycle_fault p ≡ None → c < length p.bolts → rank p c < length p.bolts
+pub rank_of_bolt : (p : FileParts) (c : ℕ) → cycle_fault p ≡ None → c < length p.bolts → rank p c < length p.bolts
 unfolding rank
 rank_of_bolt p c none within = count_below (λ a. reaches p a c) 0 (length p.bolts) c (omega arith) (omega arith) (no_cycle p c none within)
 
-abbrev IsRankBelow : FileParts → ℕ → Origin → Type 0
+abbrev pub IsRankBelow : FileParts → ℕ → Origin → Type 0
 IsRankBelow p n origin.Spout = Unit {0}
 IsRankBelow p n (origin.Component c) = rank p c < n
 
@@ -90,7 +90,7 @@ source_below : (p : FileParts) (n c : ℕ) (from : Origin) → cycle_fault p ≡
 source_below p n c origin.Spout none at below = tt
 source_below p n c (origin.Component b) none at below = omega (arith, rank_grows p b c none (bolt_source p c b at) (feeds_from_source p c b at))
 
-fields_stable : (p : FileParts) (n m : ℕ) (from : Origin) → cycle_fault p ≡ None → IsRankBelow p n from → IsRankBelow p m from → fields_in n p from ≡ fields_in m p from
+pub fields_stable : (p : FileParts) (n m : ℕ) (from : Origin) → cycle_fault p ≡ None → IsRankBelow p n from → IsRankBelow p m from → fields_in n p from ≡ fields_in m p from
 fields_stable p n m origin.Spout none below under = refl
 fields_stable p zero m (origin.Component c) none below under = absurd (omega arith)
 fields_stable p (suc n) zero (origin.Component c) none below under = absurd (omega arith)
@@ -168,7 +168,7 @@ greatest_le : (most : ℕ) (ns : List ℕ) → ((n : ℕ) → IsIn n ns → n �
 greatest_le most [] each = omega arith
 greatest_le most (n ∷ ns) each = omega (arith, each n (inl refl), greatest_le most ns (λ m at. each m (inr at)))
 
-depth_in_le : (n : ℕ) (p : FileParts) (from : Origin) → depth_in n p from ≤ n
+pub depth_in_le : (n : ℕ) (p : FileParts) (from : Origin) → depth_in n p from ≤ n
 depth_in_le n p origin.Spout = omega arith
 depth_in_le zero p (origin.Component c) = omega arith
 depth_in_le (suc n) p (origin.Component c) =

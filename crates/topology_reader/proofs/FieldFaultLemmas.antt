@@ -1,5 +1,6 @@
 -- The fault of a component, for a bolt and for a state.
-use Rattle.std.proofs.Common.{◌≡◌, ℕ, ◌-◌, not, List, [], ◌∷◌, ◌++◌, find, length, map, Option, Some, None, option_map, option_and_then, cond, refl, ap, ◌∙◌}
+use Rattle.std.proofs.Common.{◌≡◌, ℕ, ◌-◌, ◌||◌, Bool, true, false, not, List, [], ◌∷◌, ◌++◌, find, length, map, Option, Some, None, option_map, option_and_then, cond, refl, ap, sym, ◌∙◌}
+use Rattle.std.proofs.lemmas.Bool.{cond-true, cond-false}
 use Rattle.std.proofs.lemmas.List.Folds.{find-append}
 use Rattle.std.specs.List.{list_any, slice_get}
 use Rattle.std.specs.Cmp.Lexicographic.{pointwise}
@@ -14,12 +15,17 @@ use Rattle.topology_form.specs.declared.parts.Operation.{Operation}
 use Rattle.topology_form.specs.declared.parts.FileParts.{FileParts}
 use Rattle.topology_form.specs.declared.parts.StatePart.{StatePart}
 use Rattle.topology_form.specs.declared.parts.GroupingPart.TheVariants as said
+use Rattle.topology_plan.specs.declared.parts.Origin.{Origin}
 use Rattle.topology_plan.specs.declared.parts.Origin.TheVariants as origin
-use Rattle.topology_reader.specs.FieldFaults.{inputs_fault, bolt_fault, state_fault}
+use Rattle.topology_graph.specs.declared.values.Feed.{Feed}
+use Rattle.topology_graph.specs.Graph.{feeds_at}
+use Rattle.topology_reader.specs.steps.Graph.{graph_of}
+use Rattle.topology_reader.proofs.SourceLemmas.{froms, froms_at}
+use Rattle.topology_reader.specs.steps.FieldFaults.{inputs_fault, bolt_fault, state_fault}
 use Rattle.topology_reader.specs.Meant.{is_among}
 use Rattle.topology_reader.specs.Meant.{differ_fault, field_fault, input_fault, fields_read, reads_at, added_fault, component_fault}
-use Rattle.topology_reader.specs.Sources.{sources_among}
-use Rattle.topology_reader.specs.Wiring.{name_at, state_inputs, inputs_at, fields_of, fields_to, operation_at}
+use Rattle.topology_reader.specs.steps.Sources.{sources_among}
+use Rattle.topology_reader.specs.Wiring.{name_at, state_inputs, sources_at, inputs_at, fields_of, fields_to, operation_at}
 use Rattle.topology_reader.proofs.PartLemmas.{at_first, at_second, at_neither}
 
 -- the faults of a component, by what stands there
@@ -103,3 +109,23 @@ component_fault-neither p c none is =
     let same : component_fault p c ≡ faults_of p c [] [] None = rw (inputs, reads, operation) refl in
     let alone : differ_fault p c ≡ None = ap (λ inputs. cond (list_any (λ from. not (pointwise bytes_eq (fields_of p from) (fields_to p c))) (sources_among p inputs)) (Some (FieldsDiffer (name_at p c))) None) inputs in
     same ∙ ap (λ fault. first_some (fault ∷ None ∷ None ∷ [])) alone
+
+-- ---- sources with other fields
+
+any_from : (test : Origin → Bool) (feeds : List Feed) → list_any (λ (feed : Feed). test feed.from) feeds ≡ list_any test (froms feeds)
+any_from test [] = refl
+any_from test (feed ∷ feeds) = ap (λ b. test feed.from || b) (any_from test feeds)
+
+abbrev differs : FileParts → ℕ → Origin → Bool
+differs p c from = not (pointwise bytes_eq (fields_of p from) (fields_to p c))
+
+differs_at : (p : FileParts) (c : ℕ) → list_any (λ (feed : Feed). differs p c feed.from) (feeds_at (graph_of p) c) ≡ list_any (differs p c) (sources_at p c)
+differs_at p c = any_from (differs p c) (feeds_at (graph_of p) c) ∙ ap (list_any (differs p c)) (froms_at p c)
+
+pub differ_told : (p : FileParts) (c : ℕ) (found : Bool) → found ≡ list_any (λ (feed : Feed). not (pointwise bytes_eq (fields_of p feed.from) (fields_to p c))) (feeds_at (graph_of p) c)
+    → found ≡ true → differ_fault p c ≡ Some (FieldsDiffer (name_at p c))
+differ_told p c found is told = cond-true (list_any (differs p c) (sources_at p c)) (Some (FieldsDiffer (name_at p c))) None (sym (differs_at p c) ∙ (sym is ∙ told))
+
+pub differ_none : (p : FileParts) (c : ℕ) (found : Bool) → found ≡ list_any (λ (feed : Feed). not (pointwise bytes_eq (fields_of p feed.from) (fields_to p c))) (feeds_at (graph_of p) c)
+    → found ≡ false → differ_fault p c ≡ None
+differ_none p c found is none = cond-false (list_any (differs p c) (sources_at p c)) (Some (FieldsDiffer (name_at p c))) None (sym (differs_at p c) ∙ (sym is ∙ none))

@@ -1,38 +1,40 @@
--- The fields of the bolts in their table.
-use Rattle.std.proofs.Common.{◌≡◌, ℕ, zero, suc, ◌+◌, [], ◌∷◌, ◌++◌, length, map, None, slice_index_or, refl, sym, ap, ⊎_elim, ◌∙◌, arith}
+-- The fields of the components in their table.
+use Rattle.std.proofs.Common.{◌≡◌, ℕ, zero, suc, ◌+◌, ◌<◌, ◌≤◌, [], ◌∷◌, length, map, Some, None, slice_index_or, refl, sym, ap, ⊎_elim, ◌∙◌, arith, length-append}
 use Rattle.std.proofs.lemmas.Bool.{cases_lt}
-use Rattle.std.proofs.lemmas.List.{get_or_past}
-use Rattle.std.proofs.lemmas.List.FromFn.{get_or-map-range_with_len, length-map-range_with_len, map-range_with_len_more}
+use Rattle.std.proofs.lemmas.List.{get_or_past, length-map}
+use Rattle.std.proofs.lemmas.List.FromFn.{get_or-map-range_with_len, length-map-range_with_len}
 use Rattle.std.proofs.lemmas.Option.{slice_get_past}
+use Rattle.std.specs.Prelude.{unwrap_or}
 use Rattle.std.specs.List.{range_with_len, slice_get}
 use Rattle.std.specs.Option.{option_map_or}
 use Rattle.topology_form.specs.declared.parts.BoltPart.{BoltPart}
+use Rattle.topology_form.specs.declared.parts.StatePart.{StatePart}
 use Rattle.topology_form.specs.declared.parts.FileParts.{FileParts}
 use Rattle.topology_plan.specs.declared.parts.Origin.TheVariants as origin
-use Rattle.topology_reader.specs.Wiring.{sources_at, fields_after, first_fields, fields_in, fields_of}
-use Rattle.topology_reader.specs.Fields.{field_table}
+use Rattle.topology_reader.specs.Wiring.{component_count, bolt_names, sources_at, fields_after, first_fields, fields_in, fields_of}
+use Rattle.topology_reader.specs.steps.Fields.{field_table}
 
 pub fields_of-Spout : (p : FileParts) → fields_of p origin.Spout ≡ p.spout.fields
 unfolding fields_of
 fields_of-Spout p = refl
 
-pub fields_of-Component : (p : FileParts) (c : ℕ) → fields_of p (origin.Component c) ≡ fields_in (length p.bolts) p (origin.Component c)
-unfolding fields_of
-fields_of-Component p c = refl
-
--- one bolt more
-pub field_table_more : (p : FileParts) (c : ℕ) → map (λ d. fields_of p (origin.Component d)) (range_with_len 0 (c + 1)) ≡ map (λ d. fields_of p (origin.Component d)) (range_with_len 0 c) ++ fields_in (length p.bolts) p (origin.Component c) ∷ []
-field_table_more p c =
-    map-range_with_len_more (λ d. fields_of p (origin.Component d)) 0 c c (omega arith) ∙ ap (λ fields. map (λ d. fields_of p (origin.Component d)) (range_with_len 0 c) ++ fields ∷ []) (fields_of-Component p c)
-
 -- what is no bolt has no fields
-fields_in_past : (n : ℕ) (p : FileParts) (c : ℕ) → slice_get p.bolts c ≡ None → fields_in n p (origin.Component c) ≡ []
+pub fields_in_past : (n : ℕ) (p : FileParts) (c : ℕ) → slice_get p.bolts c ≡ None → fields_in n p (origin.Component c) ≡ []
 fields_in_past zero p c none = refl
 fields_in_past (suc n) p c none = ap (λ bolt. option_map_or (λ (b : BoltPart). fields_after b.operation (first_fields (fields_in n p) (sources_at p c))) bolt []) none
 
-pub fields_of-table : (p : FileParts) (c : ℕ) → slice_index_or (field_table p) c [] ≡ fields_of p (origin.Component c)
+fields_of-past : (p : FileParts) (c : ℕ) → length p.bolts ≤ c → fields_of p (origin.Component c) ≡ []
+unfolding fields_of
+fields_of-past p c past = fields_in_past (length p.bolts) p c (slice_get_past p.bolts c past)
+
+pub bolts-le : (p : FileParts) → length p.bolts ≤ component_count p
+bolts-le p = omega (arith, length-append (bolt_names p) (map (λ (state : StatePart). state.name) p.states), length-map p.bolts (λ (bolt : BoltPart). bolt.name))
+
+pub fields_of-table : (p : FileParts) (c : ℕ) → unwrap_or (slice_index_or (field_table p) c None) [] ≡ fields_of p (origin.Component c)
 fields_of-table p c =
     ⊎_elim
-    (λ within. get_or-map-range_with_len (λ d. fields_of p (origin.Component d)) 0 (length p.bolts) c c [] within (omega arith))
-    (λ past. get_or_past (field_table p) c [] (omega (arith, length-map-range_with_len (λ d. fields_of p (origin.Component d)) 0 (length p.bolts))) ∙ sym (fields_of-Component p c ∙ fields_in_past (length p.bolts) p c (slice_get_past p.bolts c past)))
-    (cases_lt c (length p.bolts))
+    (λ within. ap (λ found. unwrap_or found []) (get_or-map-range_with_len (λ d. Some (fields_of p (origin.Component d))) 0 (component_count p) c c None within (omega arith)))
+    (λ past.
+    ap (λ found. unwrap_or found []) (get_or_past (field_table p) c None (omega (arith, length-map-range_with_len (λ d. Some (fields_of p (origin.Component d))) 0 (component_count p))))
+    ∙ sym (fields_of-past p c (omega (arith, bolts-le p))))
+    (cases_lt c (component_count p))

@@ -1,5 +1,4 @@
 mod SourceLemmas
-mod DepthLemmas
 mod PartLemmas
 mod FieldLemmas
 mod FieldFaultLemmas
@@ -9,7 +8,7 @@ mod PlannedLemmas
 mod TaskLemmas
 mod NameLists
 mod Sourceless
-mod WaySets
+mod ReachedSets
 mod SubLemmas
 pub mod FilePlans
 mod Listed
@@ -20,7 +19,7 @@ mod SubFacts
 mod ValidPlan
 mod WiredPlan
 mod ValidFile
-mod CycleWays
+mod CyclePaths
 mod NoFault
 mod AssemblyLemmas
 mod Texts
@@ -28,3 +27,4 @@ mod MeaningLemmas
 mod FileFaults
 mod IndexLemmas
 mod Ranks
+mod GraphLemmas

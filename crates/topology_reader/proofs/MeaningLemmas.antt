@@ -7,7 +7,7 @@ use Rattle.topology_form.specs.declared.parts.FileParts.{FileParts}
 use Rattle.topology_reader.specs.Meant.{range_fault}
 use Rattle.topology_reader.specs.Planned.{plan_of}
 use Rattle.topology_reader.specs.Meant.{twice_fault, source_fault, cycle_fault, fields_fault, replay_fault, weight_fault, meaning_fault}
-use Rattle.topology_reader.specs.PlanSteps.{fault_before_size, size_fault}
+use Rattle.topology_reader.specs.steps.PlanSteps.{fault_before_size, size_fault}
 use Rattle.topology_reader.proofs.FileFaults.{next_alone}
 
 -- the first of five faults and then of two is the first of the seven
@@ -32,10 +32,29 @@ fault_before p fault is = meaning_in_two p ∙ ap (λ first. first_some (first �
 pub fault_of_size : (p : FileParts) (found : Option TopoFault) → fault_before_size p ≡ None → size_fault p ≡ found → meaning_fault p ≡ found
 fault_of_size p found none is = meaning_in_two p ∙ (ap (λ first. first_some (first ∷ size_fault p ∷ [])) none ∙ (ap (λ size. first_some (None ∷ size ∷ [])) is ∙ next_alone found))
 
--- the plan of parts without a fault, or their first fault
-abbrev pub IsPlanOrFault : FileParts → Result Topology TopoFault → Type 0
-IsPlanOrFault p read = MatchResult read (λ plan. (meaning_fault p ≡ None) × (plan ≡ plan_of p)) (λ fault. meaning_fault p ≡ Some fault)
+-- ---- the faults before the size, one after the other
 
-pub plan_or_fault : (p : FileParts) (read : Result Topology TopoFault) → fault_before_size p ≡ None → MatchResult read (λ plan. (size_fault p ≡ None) × (plan ≡ plan_of p)) (λ fault. size_fault p ≡ Some fault) → IsPlanOrFault p read
-plan_or_fault p (Ok plan) none (size, is) = (fault_of_size p None none size, is)
-plan_or_fault p (Err fault) none size = fault_of_size p (Some fault) none size
+module _ (p : FileParts) (fault : TopoFault) where
+  pub told_twice : twice_fault p ≡ Some fault → fault_before_size p ≡ Some fault
+  told_twice is = ap (λ o. first_some (o ∷ source_fault p ∷ cycle_fault p ∷ fields_fault p ∷ replay_fault p p.spout.kind ∷ [])) is
+
+  pub told_source : twice_fault p ≡ None → source_fault p ≡ Some fault → fault_before_size p ≡ Some fault
+  told_source twice is =
+      ap (λ o. first_some (o ∷ source_fault p ∷ cycle_fault p ∷ fields_fault p ∷ replay_fault p p.spout.kind ∷ [])) twice
+      ∙ ap (λ o. first_some (o ∷ cycle_fault p ∷ fields_fault p ∷ replay_fault p p.spout.kind ∷ [])) is
+
+  pub told_cycle : twice_fault p ≡ None → source_fault p ≡ None → cycle_fault p ≡ Some fault → fault_before_size p ≡ Some fault
+  told_cycle twice source is =
+      ap (λ o. first_some (o ∷ source_fault p ∷ cycle_fault p ∷ fields_fault p ∷ replay_fault p p.spout.kind ∷ [])) twice
+      ∙ ap (λ o. first_some (o ∷ cycle_fault p ∷ fields_fault p ∷ replay_fault p p.spout.kind ∷ [])) source
+      ∙ ap (λ o. first_some (o ∷ fields_fault p ∷ replay_fault p p.spout.kind ∷ [])) is
+
+-- where there is none of the first three, the fields come, and then the kinds
+pub later_fault : (p : FileParts) → twice_fault p ≡ None → source_fault p ≡ None → cycle_fault p ≡ None → fault_before_size p ≡ first_some (fields_fault p ∷ replay_fault p p.spout.kind ∷ [])
+later_fault p twice source cycle =
+    ap (λ o. first_some (o ∷ source_fault p ∷ cycle_fault p ∷ fields_fault p ∷ replay_fault p p.spout.kind ∷ [])) twice
+    ∙ ap (λ o. first_some (o ∷ cycle_fault p ∷ fields_fault p ∷ replay_fault p p.spout.kind ∷ [])) source
+    ∙ ap (λ o. first_some (o ∷ fields_fault p ∷ replay_fault p p.spout.kind ∷ [])) cycle
+
+pub first_of_two : (a b : Option TopoFault) (found : Option TopoFault) → a ≡ None → b ≡ found → first_some (a ∷ b ∷ []) ≡ found
+first_of_two a b found none is = ap (λ o. first_some (o ∷ b ∷ [])) none ∙ (ap (λ o. first_some (o ∷ [])) is ∙ next_alone found)

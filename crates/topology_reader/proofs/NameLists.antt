@@ -17,7 +17,7 @@ use Rattle.topology_form.specs.declared.parts.BoltPart.{BoltPart}
 use Rattle.topology_form.specs.declared.parts.FileParts.{FileParts}
 use Rattle.topology_reader.specs.Meant.{first_again, key_of, projected, bolt_lists, state_lists}
 use Rattle.topology_reader.specs.Wiring.{place_of}
-use Rattle.topology_reader.specs.Names.{again_among, key_lists, part_lists}
+use Rattle.topology_reader.specs.steps.Names.{again_among, key_lists, part_lists}
 
 -- ---- again
 

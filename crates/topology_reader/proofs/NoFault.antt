@@ -30,7 +30,7 @@ use Rattle.topology_reader.specs.Wiring.{component_names, component_count, name_
 use Rattle.topology_reader.specs.Planned.{plan_of}
 use Rattle.topology_reader.specs.Meant.{first_again, key_of, projected, bolt_lists, state_lists, name_lists, twice_fault, source_fault, cycle_fault, differ_fault, field_fault, is_route, chooses, direct_fault, input_fault, reads_at, added_fault, component_fault, fields_fault, is_transactional, replay_fault, weight_fault, meaning_fault}
 use Rattle.topology_form.specs.Ranges.{IsStateInRange, IsInRange}
-use Rattle.topology_reader.specs.Reach.{IsWayThrough}
+use Rattle.topology_reader.specs.Reach.{IsPathThrough}
 use Rattle.topology_reader.specs.ValidFile.{AreDistinct, HasFields, IsRoute, IsRouteAt, IsValidInput, IsValidComponent, IsValidFile}
 use Rattle.topology_reader.proofs.Listed.{IsIn, All-at_in, in_map, to_map, in_append, in_flat_map, in_filter, in_place, in_range, in_any}
 use Rattle.topology_reader.proofs.Distinct.{bytes_same, bytes_itself, among_in, in_among, AreApart}
@@ -38,7 +38,7 @@ use Rattle.topology_reader.proofs.Numbered.{IsBoltAt, IsStateAt, map_twice, case
 use Rattle.topology_reader.proofs.ValidPlan.{length_inputs}
 use Rattle.topology_reader.proofs.Columns.{in_sources, length_names}
 use Rattle.topology_reader.proofs.ValidFile.{contains_from_in, sum_of_tasks, valid_file}
-use Rattle.topology_reader.proofs.CycleWays.{no_cycle_by_ways}
+use Rattle.topology_reader.proofs.CyclePaths.{no_cycle_by_paths}
 
 -- ---- lists
 
@@ -97,7 +97,7 @@ none_again before (first ∷ names) apart new =
       | inr earlier ↦ new name (inr at) earlier
     ])
 
--- ---- ways
+-- ---- paths
 
 is_component_same : (c : ℕ) (from : Origin) → is_component c from ≡ true → from ≡ origin.Component c
 is_component_same c origin.Spout is = absurd (false≢true is)
@@ -111,12 +111,12 @@ module _ (p : FileParts) (valid : IsValidFile p) where
       All-at_in (λ (i : Input). source_of p i.from ≡ Some (origin.Component a) → (valid.numbered).number a < (valid.numbered).number b) (inputs_at p b) ((valid.numbered).grows a b) input.0 input.1
       (input.2 ∙ ap Some (is_component_same a from.0 from.2))
 
-  way_above : (a b : ℕ) (bolts : List ℕ) → IsWayThrough p a bolts b → (valid.numbered).number a < (valid.numbered).number b
-  way_above a b [] fed = fed_above a b fed
-  way_above a b (next ∷ bolts) through = omega (arith, fed_above a next through.1, way_above next b bolts through.2)
+  path_above : (a b : ℕ) (bolts : List ℕ) → IsPathThrough p a bolts b → (valid.numbered).number a < (valid.numbered).number b
+  path_above a b [] fed = fed_above a b fed
+  path_above a b (next ∷ bolts) through = omega (arith, fed_above a next through.1, path_above next b bolts through.2)
 
   cycle_none : cycle_fault p ≡ None
-  cycle_none = (no_cycle_by_ways p).1 (λ c below way. let above : (valid.numbered).number c < (valid.numbered).number c = way_above c c way.0 way.1 in absurd (omega arith))
+  cycle_none = (no_cycle_by_paths p).1 (λ c below path. let above : (valid.numbered).number c < (valid.numbered).number c = path_above c c path.0 path.1 in absurd (omega arith))
 
   -- ---- the inputs of a component
 

@@ -1,4 +1,4 @@
--- What is reached is that to which there is a way, and without cycles the bolts before a component grow in number along it.
+-- What is reached is that to which there is a path, and without cycles the bolts before a component grow in number along it.
 use Rattle.std.specs.Prelude.{◌≡◌, ◌↔◌, ℕ, zero, suc, ◌+◌, ◌<◌, ◌≤◌, Bool, true, false, ◌&&◌, cond, List, [], ◌∷◌, ◌++◌, length, Option, Some, None}
 use Rattle.std.specs.List.{find, count_by, range_with_len}
 use Rattle.std.specs.Option.{option_map}
@@ -11,42 +11,42 @@ use Rattle.topology_form.specs.declared.parts.FileParts.{FileParts}
 use Rattle.topology_form.specs.declared.fault.TopoFault.TheVariants.{Cycle}
 use Rattle.topology_reader.specs.Wiring.{name_at, feeds, reaches_over, reaches}
 use Rattle.topology_reader.specs.Meant.{cycle_fault}
-use Rattle.topology_reader.specs.Reach.{IsWayThrough, IsWay}
+use Rattle.topology_reader.specs.Reach.{IsPathThrough, IsPath}
 
--- how many bolts there are before a component, on any way to it
+-- how many bolts there are before a component, on any path to it
 unfoldable pub rank : FileParts → ℕ → ℕ
 rank p c = count_by (λ a. reaches p a c) (range_with_len 0 (length p.bolts))
 
--- ---- ways over the first bolts
+-- ---- paths over the first bolts
 
--- what a way over the first n + 1 bolts is: one over the first n, or two of them that meet at n
+-- what a path over the first n + 1 bolts is: one over the first n, or two of them that meet at n
 over_more : (n : ℕ) (p : FileParts) (a b : ℕ) → reaches_over (suc n) p a b ≡ true → (reaches_over n p a b ≡ true) ⊎ ((reaches_over n p a n ≡ true) × (reaches_over n p n b ≡ true))
-over_more n p a b way =
-    elim (or_cases (reaches_over n p a b) (reaches_over n p a n && reaches_over n p n b) way) [
+over_more n p a b path =
+    elim (or_cases (reaches_over n p a b) (reaches_over n p a n && reaches_over n p n b) path) [
       | inl direct ↦ inl direct
       | inr through ↦ inr (and_parts (reaches_over n p a n) (reaches_over n p n b) through)
     ]
 
 over_same : (n : ℕ) (p : FileParts) (a b : ℕ) → reaches_over n p a b ≡ true → reaches_over (suc n) p a b ≡ true
-over_same n p a b way = or_left (reaches_over n p a b) (reaches_over n p a n && reaches_over n p n b) way
+over_same n p a b path = or_left (reaches_over n p a b) (reaches_over n p a n && reaches_over n p n b) path
 
 over_meeting : (n : ℕ) (p : FileParts) (a b : ℕ) → reaches_over n p a n ≡ true → reaches_over n p n b ≡ true → reaches_over (suc n) p a b ≡ true
 over_meeting n p a b first second =
     or_right (reaches_over n p a b) (reaches_over n p a n && reaches_over n p n b) (and_from (reaches_over n p a n) (reaches_over n p n b) first second)
 
--- a way to the new bolt, and one from it, needs it in between no more
+-- a path to the new bolt, and one from it, needs it in between no more
 over_to_last : (n : ℕ) (p : FileParts) (a : ℕ) → reaches_over (suc n) p a n ≡ true → reaches_over n p a n ≡ true
-over_to_last n p a way = elim (over_more n p a n way) [ inl direct ↦ direct | inr through ↦ through.0 ]
+over_to_last n p a path = elim (over_more n p a n path) [ inl direct ↦ direct | inr through ↦ through.0 ]
 
 over_from_last : (n : ℕ) (p : FileParts) (b : ℕ) → reaches_over (suc n) p n b ≡ true → reaches_over n p n b ≡ true
-over_from_last n p b way = elim (over_more n p n b way) [ inl direct ↦ direct | inr through ↦ through.1 ]
+over_from_last n p b path = elim (over_more n p n b path) [ inl direct ↦ direct | inr through ↦ through.1 ]
 
--- one subscription is a way
+-- one subscription is a path
 pub over_from_feeds : (n : ℕ) (p : FileParts) (a b : ℕ) → feeds p a b ≡ true → reaches_over n p a b ≡ true
 over_from_feeds zero p a b grouping = grouping
-over_from_feeds (suc n) p a b way = over_same n p a b (over_from_feeds n p a b way)
+over_from_feeds (suc n) p a b path = over_same n p a b (over_from_feeds n p a b path)
 
--- two ways that meet at one of the first n bolts are a way over these
+-- two paths that meet at one of the first n bolts are a path over these
 pub over_joined : (n : ℕ) (p : FileParts) (a m b : ℕ) → m < n → reaches_over n p a m ≡ true → reaches_over n p m b ≡ true → reaches_over n p a b ≡ true
 over_joined zero p a m b below first second = absurd (omega arith)
 over_joined (suc n) p a m b below first second =
@@ -68,48 +68,48 @@ over_joined (suc n) p a m b below first second =
           ]
     ]
 
--- ---- any ways
+-- ---- any paths
 
 pub reaches_from_feeds : (p : FileParts) (a b : ℕ) → feeds p a b ≡ true → reaches p a b ≡ true
 unfolding reaches
-reaches_from_feeds p a b way = over_from_feeds (length p.bolts) p a b way
+reaches_from_feeds p a b path = over_from_feeds (length p.bolts) p a b path
 
 pub reaches_joined : (p : FileParts) (a m b : ℕ) → m < length p.bolts → reaches p a m ≡ true → reaches p m b ≡ true → reaches p a b ≡ true
 unfolding reaches
 reaches_joined p a m b below first second = over_joined (length p.bolts) p a m b below first second
 
--- a way goes on along a feeding
+-- a path goes on along a feeding
 pub reaches_on : (p : FileParts) (a b c : ℕ) → b < length p.bolts → reaches p a b ≡ true → feeds p b c ≡ true → reaches p a c ≡ true
-reaches_on p a b c below way fed = reaches_joined p a b c below way (reaches_from_feeds p b c fed)
+reaches_on p a b c below path fed = reaches_joined p a b c below path (reaches_from_feeds p b c fed)
 
--- ---- ways, bolt by bolt
+-- ---- paths, bolt by bolt
 
-through_both : (p : FileParts) (a m b : ℕ) (first second : List ℕ) → m < length p.bolts → IsWayThrough p a first m → IsWayThrough p m second b → IsWayThrough p a (first ++ m ∷ second) b
+through_both : (p : FileParts) (a m b : ℕ) (first second : List ℕ) → m < length p.bolts → IsPathThrough p a first m → IsPathThrough p m second b → IsPathThrough p a (first ++ m ∷ second) b
 through_both p a m b [] second below to on = (below, to, on)
 through_both p a m b (next ∷ first) second below to on = (to.0, to.1, through_both p next m b first second below to.2 on)
 
-way_from_over : (n : ℕ) (p : FileParts) (a b : ℕ) → n ≤ length p.bolts → reaches_over n p a b ≡ true → IsWay p a b
-way_from_over zero p a b below way = ([], way)
-way_from_over (suc n) p a b below way =
-    elim (over_more n p a b way) [
-      | inl direct ↦ way_from_over n p a b (omega arith) direct
+path_from_over : (n : ℕ) (p : FileParts) (a b : ℕ) → n ≤ length p.bolts → reaches_over n p a b ≡ true → IsPath p a b
+path_from_over zero p a b below path = ([], path)
+path_from_over (suc n) p a b below path =
+    elim (over_more n p a b path) [
+      | inl direct ↦ path_from_over n p a b (omega arith) direct
       | inr through ↦
-          let to = way_from_over n p a n (omega arith) through.0 in
-          let on = way_from_over n p n b (omega arith) through.1 in
+          let to = path_from_over n p a n (omega arith) through.0 in
+          let on = path_from_over n p n b (omega arith) through.1 in
           (to.0 ++ n ∷ on.0, through_both p a n b to.0 on.0 (omega arith) to.1 on.1)
     ]
 
-reaches_through : (p : FileParts) (a b : ℕ) (bolts : List ℕ) → IsWayThrough p a bolts b → reaches p a b ≡ true
+reaches_through : (p : FileParts) (a b : ℕ) (bolts : List ℕ) → IsPathThrough p a bolts b → reaches p a b ≡ true
 reaches_through p a b [] fed = reaches_from_feeds p a b fed
 reaches_through p a b (next ∷ bolts) through = reaches_joined p a next b through.0 (reaches_from_feeds p a next through.1) (reaches_through p next b bolts through.2)
 
-way_from_reaches : (p : FileParts) (a b : ℕ) → reaches p a b ≡ true → IsWay p a b
+path_from_reaches : (p : FileParts) (a b : ℕ) → reaches p a b ≡ true → IsPath p a b
 unfolding reaches
-way_from_reaches p a b way = way_from_over (length p.bolts) p a b (omega arith) way
+path_from_reaches p a b path = path_from_over (length p.bolts) p a b (omega arith) path
 
--- what is reached is that to which there is a way
-pub reaches_by_way : (p : FileParts) (a b : ℕ) → (reaches p a b ≡ true) ↔ IsWay p a b
-reaches_by_way p a b = (way_from_reaches p a b, λ way. reaches_through p a b way.0 way.1)
+-- what is reached is that to which there is a path
+pub reaches_by_path : (p : FileParts) (a b : ℕ) → (reaches p a b ≡ true) ↔ IsPath p a b
+reaches_by_path p a b = (path_from_reaches p a b, λ path. reaches_through p a b path.0 path.1)
 
 -- ---- counting
 
@@ -175,5 +175,5 @@ pub rank_grows : (p : FileParts) (c d : ℕ) → cycle_fault p ≡ None → c < 
 unfolding rank
 rank_grows p c d none below fed =
     count_lt (λ a. reaches p a c) (λ a. reaches p a d) 0 (length p.bolts) c
-    (λ a under way. reaches_on p a c d below way fed)
+    (λ a under path. reaches_on p a c d below path fed)
     (omega arith) (omega arith) (no_cycle p c none below) (reaches_from_feeds p c d fed)

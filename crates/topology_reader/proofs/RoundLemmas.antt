@@ -9,7 +9,7 @@ use Rattle.topology_reader.specs.declared.numbers.Feed.{Feed}
 use Rattle.topology_plan.specs.declared.parts.Origin.{Origin}
 use Rattle.topology_plan.specs.declared.parts.Origin.TheVariants as origin
 use Rattle.topology_plan.specs.declared.parts.Sub.{Sub}
-use Rattle.topology_reader.specs.Rounds.{feeds_among, feeds_to, feeds_of, depth_by, depths_by, ways_over, ways_by}
+use Rattle.topology_reader.specs.steps.Rounds.{feeds_among, feeds_to, feeds_of, depth_by, depths_by, ways_over, ways_by}
 use Rattle.topology_plan.specs.Topology.{Topology, subs_of, copies_of, origins, inputs_of, greatest, ended_sum, weight_end, depth_within, tuples_within, depth_of, weight_of}
 
 -- ---- lists

@@ -13,7 +13,7 @@ use Rattle.topology_form.specs.declared.parts.FileParts.{FileParts}
 use Rattle.topology_form.specs.declared.fault.TopoFault.TheVariants.{NoSource}
 use Rattle.topology_reader.specs.Wiring.{source_of, state_inputs}
 use Rattle.topology_reader.specs.Meant.{source_fault}
-use Rattle.topology_reader.specs.Names.{bolt_sources, state_sources, sourceless_in, sourceless}
+use Rattle.topology_reader.specs.steps.Names.{bolt_sources, state_sources, sourceless_in, sourceless}
 
 -- the names of all inputs of some lists of inputs
 abbrev names_of_all : List (List Input) → List (List ℕ)

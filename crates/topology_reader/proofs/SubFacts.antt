@@ -220,8 +220,8 @@ chosen_by_route p input from source none =
 
 -- ---- groupings
 
-way_in_range : (p : FileParts) (inputs : List Input) (input : Input) → IsInRange p → IsIn inputs (inputs_by_component p) → IsIn input inputs → IsGroupingInRange input.grouping
-way_in_range p inputs input range at listed =
+said_in_range : (p : FileParts) (inputs : List Input) (input : Input) → IsInRange p → IsIn inputs (inputs_by_component p) → IsIn input inputs → IsGroupingInRange input.grouping
+said_in_range p inputs input range at listed =
     elim (in_append (map (λ (bolt : BoltPart). bolt.inputs) p.bolts) (map state_inputs p.states) inputs at) [
       | inl left ↦
           let bolt = in_map (λ (bolt : BoltPart). bolt.inputs) p.bolts inputs left in
@@ -269,15 +269,15 @@ module _ (p : FileParts) (range : IsInRange p) (faultless : HasNoFault p) where
             (subst (λ (names : List (List ℕ)). route_field (fields_to p c) bolt.0.operation < length names) (sym fields) (route_within (fields_to p c) bolt.0.operation route reads)),
       )
 
-  way_planned : (from : Origin) (by : GroupingPart) → IsBoltOrSpout p from → IsGroupingInRange by → AreApart (key_of by) → ((name : List ℕ) → IsIn name (key_of by) → IsIn name (fields_of p from))
+  said_planned : (from : Origin) (by : GroupingPart) → IsBoltOrSpout p from → IsGroupingInRange by → AreApart (key_of by) → ((name : List ℕ) → IsIn name (key_of by) → IsIn name (fields_of p from))
       → (by ≡ said.Direct → option_map_or is_route (operation_at p from) false ≡ true) → IsFrom (plan_of p) from (planned_grouping p from by)
-  way_planned from said.Shuffle there limits apart keys direct = tt
-  way_planned from (said.Fields key) there limits apart keys direct =
+  said_planned from said.Shuffle there limits apart keys direct = tt
+  said_planned from (said.Fields key) there limits apart keys direct =
       subst (AreWithin (numbers_of (fields_of p from) key)) (sym (width_planned p from there)) (numbers_within (fields_of p from) key limits apart keys)
-  way_planned from said.All there limits apart keys direct = tt
-  way_planned from said.Global there limits apart keys direct = tt
-  way_planned origin.Spout said.Direct there limits apart keys direct = absurd (false≢true (direct refl))
-  way_planned (origin.Component c) said.Direct there limits apart keys direct = direct_planned c there (direct refl)
+  said_planned from said.All there limits apart keys direct = tt
+  said_planned from said.Global there limits apart keys direct = tt
+  said_planned origin.Spout said.Direct there limits apart keys direct = absurd (false≢true (direct refl))
+  said_planned (origin.Component c) said.Direct there limits apart keys direct = direct_planned c there (direct refl)
 
   pub grouping_planned : (from : Origin) (sub : Sub) → IsPlanned p from sub → IsFrom (plan_of p) from sub.grouping
   grouping_planned from sub planned =
@@ -287,8 +287,8 @@ module _ (p : FileParts) (range : IsInRange p) (faultless : HasNoFault p) where
       let source : IsIn from (sources_at p sub.to) = to_sources p sub.to planned.input from listed planned.source in
       let same : fields_of p from ≡ fields_to p sub.to = here.same from source in
       subst (IsFrom (plan_of p) from) (sym planned.grouping)
-      (way_planned from planned.input.grouping (source_there p sub.to from source)
-      (way_in_range p planned.inputs planned.input range (in_place (inputs_by_component p) sub.to planned.inputs planned.consumer) planned.listed)
+      (said_planned from planned.input.grouping (source_there p sub.to from source)
+      (said_in_range p planned.inputs planned.input range (in_place (inputs_by_component p) sub.to planned.inputs planned.consumer) planned.listed)
       (key_apart p planned.inputs planned.input faultless.twice (in_place (inputs_by_component p) sub.to planned.inputs planned.consumer) planned.listed)
       (λ name at. subst (IsIn name) (sym same) (here.keys planned.input listed name at))
       (λ direct. chosen_by_route p planned.input from planned.source (subst (λ (by : GroupingPart). direct_fault p planned.input by ≡ None) direct (here.direct planned.input listed))))

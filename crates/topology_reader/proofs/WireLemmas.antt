@@ -8,7 +8,7 @@ use Rattle.topology_plan.specs.declared.parts.Origin.{Origin}
 use Rattle.topology_plan.specs.declared.parts.Origin.TheVariants as origin
 use Rattle.topology_plan.specs.declared.parts.Sub.{Sub}
 use Rattle.topology_plan.specs.Topology.{Topology, copies_of, origins, inputs_of, greatest, ended_sum, weight_end, depth_within, tuples_within, depth_of, weight_of}
-use Rattle.topology_reader.specs.Wires.{IsWiredBy, wired_by}
+use Rattle.topology_reader.specs.steps.Wires.{IsWiredBy, wired_by}
 use Rattle.topology_reader.proofs.RoundLemmas.{map_same}
 
 -- the topology with nothing else

@@ -7,15 +7,5 @@ pub mod Planned
 pub mod Meant
 pub mod FirstFault
 pub mod ValidFile
-pub mod Sources
-pub mod Depths
-pub mod Fields
-pub mod FieldFaults
-pub mod Wires
-pub mod Rounds
-pub mod PlanSteps
 pub mod Reach
-pub mod Subscribed
-pub mod Names
-pub mod Ways
-pub mod Made
+pub mod steps

@@ -59,7 +59,7 @@ inputs_at p c = slice_index_or (inputs_by_component p) c []
 abbrev pub sources_at : FileParts → ℕ → List Origin
 sources_at p c = filter_map (λ (input : Input). source_of p input.from) (inputs_at p c)
 
--- ---- ways
+-- ---- paths
 
 -- the source is the bolt of this number
 abbrev pub is_component : ℕ → Origin → Bool
@@ -70,18 +70,18 @@ is_component c (origin.Component d) = c == d
 abbrev pub feeds : FileParts → ℕ → ℕ → Bool
 feeds p a b = list_any (is_component a) (sources_at p b)
 
--- There is a way from bolt a to component b, of one subscription or more, on which the bolts in between are among the
--- first n. With all bolts it is any way.
+-- There is a path from bolt a to component b, of one subscription or more, on which the bolts in between are among the
+-- first n. With all bolts it is any path.
 abbrev pub reaches_over : ℕ → FileParts → ℕ → ℕ → Bool
 reaches_over zero p a b = feeds p a b
 reaches_over (suc n) p a b = reaches_over n p a b || (reaches_over n p a n && reaches_over n p n b)
 
--- there is a way from bolt a to component b
+-- there is a path from bolt a to component b
 unfoldable pub reaches : FileParts → ℕ → ℕ → Bool
 reaches p a b = reaches_over (length p.bolts) p a b
 
 -- The depth of the spout is 0, that of a component 1 more than the greatest of its sources. Where there is no cycle, a
--- way from the spout goes through each component at most once, so as many steps as there are components reach everything.
+-- path from the spout goes through each component at most once, so as many steps as there are components reach everything.
 abbrev pub depth_in : ℕ → FileParts → Origin → ℕ
 depth_in n p origin.Spout = 0
 depth_in zero p (origin.Component c) = 0
@@ -123,7 +123,7 @@ fields_in zero p (origin.Component c) = []
 fields_in (suc n) p (origin.Component c) =
     option_map_or (λ (bolt : BoltPart). fields_after bolt.operation (first_fields (fields_in n p) (sources_at p c))) (slice_get p.bolts c) []
 
--- the fields of a source, where there is no cycle: a way back from it goes through each bolt at most once then
+-- the fields of a source, where there is no cycle: a path back from it goes through each bolt at most once then
 unfoldable pub fields_of : FileParts → Origin → List (List ℕ)
 fields_of p from = fields_in (length p.bolts) p from
 

@@ -1,21 +1,22 @@
 //! The plan of a file's parts, where nothing is wrong with what the file says.
 
-ghost use Rattle.std.specs.Prelude.{◌≡◌, ◌<◌, ◌^◌, [], ◌∷◌, pos, codes, sum_by, None, Some, IfOk, MatchResult};
+ghost use Rattle.std.specs.Prelude.{◌≡◌, ◌≢◌, ◌<◌, ◌^◌, [], ◌∷◌, pos, codes, sum_by, None, Some, IfOk, IfErr};
 ghost use Rattle.storm_values.specs.Lines.{first_some};
-ghost use Rattle.topology_plan.specs.declared.parts.Component.{Component};
-ghost use Rattle.topology_reader.specs.Meant.{range_fault};
-ghost use Rattle.topology_reader.specs.Made.{IsMade};
-ghost use Rattle.topology_reader.specs.Meant.{weight_fault, meaning_fault};
-ghost use Rattle.topology_reader.specs.Planned.{plan_of};
-ghost use Rattle.topology_reader.specs.PlanSteps.{fault_before_size, size_fault};
 ghost use Rattle.topology_form.specs.Ranges.{IsInRange};
+ghost use Rattle.topology_plan.specs.declared.parts.Component.{Component};
+ghost use Rattle.topology_reader.specs.Meant.{range_fault, weight_fault, meaning_fault};
+ghost use Rattle.topology_reader.specs.Planned.{plan_of};
+ghost use Rattle.topology_reader.specs.steps.Checks.{Checks};
+ghost use Rattle.topology_reader.specs.steps.Made.{IsMade};
+ghost use Rattle.topology_reader.specs.steps.PlanSteps.{fault_before_size};
 
-use crate::cycles::{cycle_fault, replay_fault};
+use crate::cycles::{check_cycles, check_replays};
 use crate::fields::Wiring;
-use crate::fields_fault::fields_fault;
-use crate::names::{source_fault, twice_fault};
+use crate::fields_fault::check_fields;
+use crate::names::{check_sources, check_twice};
 use crate::numbers::{depth_from, weight_from};
 use crate::planned::planned_components;
+use crate::sources::Sources;
 use crate::subscribed::Subs;
 use std::alloc::Global;
 use storm_values::{Memory, Txt};
@@ -30,53 +31,31 @@ const MOST_WEIGHT: u64 = 256;
 ///
 /// The faults in their order: a name that stands twice, an input without a source, a cycle, fields, a transactional
 /// state under an opaque spout, the tasks in all, and the weight.
-pub fn plan_from(alloc: Global, parts: &FileParts) -> Result<Result<Plan, TopoFault>, Memory>
+pub fn plan_from(alloc: Global, parts: &FileParts) -> Result<Plan, TopoFault>
     requires { IsInRange parts.now }
-    ensures { IfOk result (λ read. MatchResult read
-        (λ plan. (meaning_fault parts.now ≡ None) × (plan ≡ plan_of parts.now))
-        (λ fault. meaning_fault parts.now ≡ Some fault)) }
+    ensures plan { IfOk result (λ plan. (meaning_fault parts.now ≡ None) × (plan ≡ plan_of parts.now)) }
+    ensures fault { IfErr result (λ fault. fault ≢ TopoFault.Memory → meaning_fault parts.now ≡ Some fault) }
 {
-    let wiring = Wiring::of(alloc, parts)?;
-    match fault_before_size(alloc, &wiring)? {
-        Some(fault) => Ok(Err(fault)),
-        None => plan_in_size(alloc, &wiring),
-    }
+    let wiring = checked_wiring(alloc, parts)?;
+    let made = make(alloc, &wiring)?;
+    check_size(alloc, made.tasks, made.weight)?;
+    Ok(Plan::of(made))
 }
 
-/// The plan, or what is wrong with its size.
-fn plan_in_size(alloc: Global, wiring: &Wiring<'_>) -> Result<Result<Plan, TopoFault>, Memory>
-    requires range { IsInRange wiring.now }
-    requires faultless { fault_before_size wiring.now ≡ None }
-    ensures { IfOk result (λ read. MatchResult read
-        (λ plan. (size_fault wiring.now ≡ None) × (plan ≡ plan_of wiring.now))
-        (λ fault. size_fault wiring.now ≡ Some fault)) }
+/// The wiring of a file that has no fault but maybe of its size.
+fn checked_wiring<'p>(alloc: Global, parts: &'p FileParts) -> Result<Wiring<'p>, TopoFault>
+    requires { IsInRange parts.now }
+    ensures wiring { IfOk result (λ wiring. (fault_before_size parts.now ≡ None) × (wiring ≡ parts.now)) }
+    ensures fault { IfErr result (λ fault. fault ≢ TopoFault.Memory → fault_before_size parts.now ≡ Some fault) }
 {
-    let made = make(alloc, wiring)?;
-    match size_fault(alloc, made.tasks, made.weight)? {
-        Some(fault) => Ok(Err(fault)),
-        None => Ok(Ok(Plan::of(made))),
-    }
-}
-
-fn fault_before_size(alloc: Global, wiring: &Wiring<'_>) -> Result<Option<TopoFault>, Memory>
-    requires { IsInRange wiring.now }
-    ensures { IfOk result (λ fault. fault ≡ fault_before_size wiring.now) }
-{
-    let index = wiring.sources().index();
-    let parts = index.parts();
-    if let Some(fault) = twice_fault(alloc, parts)? {
-        return Ok(Some(fault));
-    }
-    if let Some(fault) = source_fault(alloc, index)? {
-        return Ok(Some(fault));
-    }
-    if let Some(fault) = cycle_fault(alloc, index)? {
-        return Ok(Some(fault));
-    }
-    if let Some(fault) = fields_fault(alloc, wiring)? {
-        return Ok(Some(fault));
-    }
-    replay_fault(alloc, parts, parts.spout.kind)
+    check_twice(alloc, parts)?;
+    let sources = Sources::of(alloc, parts)?;
+    check_sources(alloc, &sources)?;
+    check_cycles(alloc, &sources)?;
+    let wiring = Wiring::of(alloc, sources)?;
+    check_fields(&wiring)?;
+    check_replays(alloc, parts)?;
+    Ok(wiring)
 }
 
 fn make(alloc: Global, wiring: &Wiring<'_>) -> Result<Made, Memory>
@@ -113,16 +92,16 @@ fn tasks_in_all(components: &[Component]) -> u32
     components.iter().map(|component| component.tasks).sum()
 }
 
-fn size_fault(alloc: Global, tasks: u32, weight: u64) -> Result<Option<TopoFault>, Memory>
-    ensures { IfOk result (λ fault. fault
-        ≡ first_some (range_fault (codes "tasks in all") (pos tasks) 1 256 ∷ weight_fault weight ∷ [])) }
+fn check_size(alloc: Global, tasks: u32, weight: u64) -> Result<(), TopoFault>
+    ensures { Checks result
+        (first_some (range_fault (codes "tasks in all") (pos tasks) 1 256 ∷ weight_fault weight ∷ [])) }
 {
     if tasks < 1 || tasks > MOST_TASKS {
         let name = Txt::from_str(alloc, "tasks in all")?;
-        return Ok(Some(TopoFault::OutOfRange(name, i64::from(tasks), 1, MOST_TASKS)));
+        return Err(TopoFault::OutOfRange(name, i64::from(tasks), 1, MOST_TASKS));
     }
     if weight > MOST_WEIGHT {
-        return Ok(Some(TopoFault::Weight(weight)));
+        return Err(TopoFault::Weight(weight));
     }
-    Ok(None)
+    Ok(())
 }

@@ -4,27 +4,30 @@ ghost use Rattle.std.specs.Prelude.{◌≡◌, ◌≤◌, ◌<◌, ℕ, if◌the
 ghost use Rattle.std.specs.List.{find, list_any, range_with_len};
 ghost use Rattle.std.specs.Option.{option_copied, option_map_or};
 ghost use Rattle.topology_reader.specs.Meant.{cycle_fault, is_transactional, replay_fault};
-ghost use Rattle.topology_reader.specs.Ways.{has, input_sources, AreWays};
+ghost use Rattle.topology_reader.specs.steps.Checks.{Checks};
+ghost use Rattle.topology_reader.specs.steps.Reached.{has, input_sources, AreReached};
 ghost use Rattle.topology_reader.specs.Wiring.{is_component, source_of};
 
 use crate::index::Index;
+use crate::sources::Sources;
 use std::alloc::Global;
 use storm_values::{Memory, Txt};
 use topology_form::{FileParts, Input, StatePart, TopoFault};
 use topology_plan::{Kind, Origin};
 
-/// The first bolt that can be reached from itself.
-pub(crate) fn cycle_fault(alloc: Global, index: &Index<'_>) -> Result<Option<TopoFault>, Memory>
-    requires few { length index.now.bolts ≤ 32 }
-    ensures { IfOk result (λ fault. fault ≡ cycle_fault index.now) }
+/// That no bolt can be reached from itself.
+pub(crate) fn check_cycles(alloc: Global, sources: &Sources<'_>) -> Result<(), TopoFault>
+    requires few { length sources.now.bolts ≤ 32 }
+    ensures { Checks result (cycle_fault sources.now) }
 {
-    let sets = ways(alloc, index)?;
+    let index = sources.index();
+    let sets = reach_sets(alloc, index)?;
     match own_member(sets.as_slice()) {
         Some(c) => {
             let name = index.parts().bolts.at(c).name.as_str();
-            Ok(Some(TopoFault::Cycle(Txt::from_str(alloc, name)?)))
+            Err(TopoFault::Cycle(Txt::from_str(alloc, name)?))
         }
-        None => Ok(None),
+        None => Ok(()),
     }
 }
 
@@ -41,11 +44,11 @@ fn own_member(sets: &[u64]) -> Option<usize>
     None
 }
 
-/// For each bolt the set of the bolts from which there is a way to it. After the look-up of each input
+/// For each bolt the set of the bolts from which it can be reached. After the look-up of each input
 /// it takes as many steps as the square of the number of bolts.
-fn ways(alloc: Global, index: &Index<'_>) -> Result<Vec<u64>, Memory>
+fn reach_sets(alloc: Global, index: &Index<'_>) -> Result<Vec<u64>, Memory>
     requires few { length index.now.bolts ≤ 32 }
-    ensures { IfOk result (λ sets. AreWays (length index.now.bolts) index.now sets.items) }
+    ensures { IfOk result (λ sets. AreReached (length index.now.bolts) index.now sets.items) }
 {
     let mut sets = direct_sources(alloc, index)?;
     for n in 0..sets.len() {
@@ -54,7 +57,7 @@ fn ways(alloc: Global, index: &Index<'_>) -> Result<Vec<u64>, Memory>
     Ok(sets)
 }
 
-/// Lets ways go through bolt n.
+/// Lets paths go through bolt n.
 fn lead_through(sets: &mut [u64], n: usize)
     requires within { n < length sets.old }
     requires few { length sets.old ≤ 64 }
@@ -71,7 +74,7 @@ fn lead_through(sets: &mut [u64], n: usize)
 /// For each bolt the set of the bolts that feed it.
 fn direct_sources(alloc: Global, index: &Index<'_>) -> Result<Vec<u64>, Memory>
     requires few { length index.now.bolts ≤ 32 }
-    ensures { IfOk result (λ sets. AreWays 0 index.now sets.items) }
+    ensures { IfOk result (λ sets. AreReached 0 index.now sets.items) }
 {
     let bolts = index.parts().bolts.as_slice();
     let mut sets = Vec::with_capacity(alloc, bolts.len())?;
@@ -111,20 +114,16 @@ fn has(set: u64, a: usize) -> bool
     (set >> a) & 1 == 1
 }
 
-/// The first transactional state, which an opaque spout does not keep exact.
-pub(crate) fn replay_fault(
-    alloc: Global,
-    parts: &FileParts,
-    kind: Kind,
-) -> Result<Option<TopoFault>, Memory>
-    ensures { IfOk result (λ fault. fault ≡ replay_fault parts.now kind) }
+/// That an opaque spout has no transactional state, which it would not keep exact.
+pub(crate) fn check_replays(alloc: Global, parts: &FileParts) -> Result<(), TopoFault>
+    ensures { Checks result (replay_fault parts.now parts.now.spout.kind) }
 {
-    if is_transactional(kind) {
-        return Ok(None);
+    if is_transactional(parts.spout.kind) {
+        return Ok(());
     }
     match transactional_name(parts.states.as_slice()) {
-        Some(name) => Ok(Some(TopoFault::NotExactlyOnce(Txt::from_str(alloc, name)?))),
-        None => Ok(None),
+        Some(name) => Err(TopoFault::NotExactlyOnce(Txt::from_str(alloc, name)?)),
+        None => Ok(()),
     }
 }
 

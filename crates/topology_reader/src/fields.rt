@@ -1,24 +1,74 @@
 //! Which fields the rows of a source have.
 
-ghost use Rattle.std.specs.Prelude.{◌≡◌, [], ◌∷◌, IfOk};
-ghost use Rattle.topology_reader.specs.Fields.{field_table};
-ghost use Rattle.topology_reader.specs.Wiring.{fields_after, first_fields, fields_in, fields_of, fields_to};
-ghost use Rattle.topology_reader.specs.Sources.{IsNumbered};
+ghost use Rattle.std.specs.Prelude.{◌≡◌, [], ◌∷◌, IfOk, None};
+ghost use Rattle.topology_form.specs.Ranges.{IsInRange};
+ghost use Rattle.topology_graph.specs.Found.{read, fed_by};
+ghost use Rattle.topology_reader.specs.Meant.{cycle_fault};
+ghost use Rattle.topology_reader.specs.Wiring.{name_at, by_depth, fields_after, fields_of, fields_to};
+ghost use Rattle.topology_reader.specs.steps.Graph.{first_of, fields_rule};
 
 use crate::sources::Sources;
 use std::alloc::Global;
 use std::marker::Model;
-use storm_values::{Memory, Names, Seq, Txt};
+use storm_values::{Memory, Names, Txt};
 use topology_form::{FileParts, Operation};
+use topology_graph::{Along, Feed, by_depth, values_along};
 use topology_plan::Origin;
 
-/// The sources of each component and the fields of each source, which contracts see as what the
-/// file says.
+/// What a bolt's operation leaves of the fields of its first source.
+#[derive(Drop)]
+struct FieldsLeft<'p> {
+    alloc: Global,
+    parts: &'p FileParts,
+}
+
+impl<'p> FieldsLeft<'p> {
+    fn of_source(&self, from: Origin, known: &[Option<Names>]) -> Result<Names, Memory>
+        ensures { IfOk result (λ fields. fields ≡ read self.now.parts.now.spout.fields [] known.now from) }
+    {
+        match from {
+            Origin::Spout => self.parts.spout.fields.copy(),
+            Origin::Component(c) => match known.get(c as usize) {
+                Some(Some(fields)) => fields.copy(),
+                _ => Ok(Names::new(self.alloc)),
+            },
+        }
+    }
+
+    fn of_first(&self, feeds: &[Feed], known: &[Option<Names>]) -> Result<Names, Memory>
+        ensures { IfOk result (λ fields. fields
+            ≡ first_of (fed_by (fields_rule self.now.parts.now) known.now feeds.now)) }
+    {
+        match feeds.first() {
+            Some(feed) => self.of_source(feed.from, known),
+            None => Ok(Names::new(self.alloc)),
+        }
+    }
+}
+
+impl<'p> Along<Names> for FieldsLeft<'p> {
+    ghost rule = { λ s. fields_rule s.parts.now };
+
+    fn over(&self, c: usize, feeds: &[Feed], known: &[Option<Names>]) -> Result<Names, Memory> {
+        match self.parts.bolts.as_slice().get(c) {
+            Some(bolt) => {
+                let come = self.of_first(feeds, known)?;
+                fields_after(self.alloc, &bolt.operation, come)
+            }
+            None => Ok(Names::new(self.alloc)),
+        }
+    }
+}
+
+/// The graph of a file without a cycle with the fields of each source and the order in which fields are checked.
+/// Contracts see it as what the file says.
 #[derive(Drop)]
 pub(crate) struct Wiring<'p> {
+    alloc: Global,
     sources: Sources<'p>,
-    /// Of each bolt.
-    fields: Seq<Names>,
+    /// Of each component.
+    fields: Vec<Option<Names>>,
+    order: Vec<usize>,
 }
 
 impl<'p> Model for Wiring<'p> {
@@ -27,22 +77,37 @@ impl<'p> Model for Wiring<'p> {
     ghost Value = { FileParts };
 
     ghost use Rattle.std.specs.Prelude.{◌≡◌};
-    ghost use Rattle.topology_reader.specs.Fields.{field_table};
+    ghost use Rattle.topology_reader.specs.Wiring.{by_depth};
+    ghost use Rattle.topology_reader.specs.steps.Fields.{field_table};
 
     ghost view = { λ w. w.sources };
 
-    ghost invariant = { λ w. w.fields ≡ field_table w.sources };
+    ghost invariant = { λ w. (w.fields.items ≡ field_table w.sources) × (w.order.items ≡ by_depth w.sources) };
 }
 
 impl<'p> Wiring<'p> {
-    /// Each bolt's fields are found in at most as many steps as there are bolts.
-    pub(crate) fn of(alloc: Global, parts: &'p FileParts) -> Result<Self, Memory>
-        requires { IsNumbered parts.now }
-        ensures { IfOk result (λ wiring. wiring ≡ parts.now) }
+    /// Each component and each subscription is looked at once for the fields, and once for the depths.
+    pub(crate) fn of(alloc: Global, sources: Sources<'p>) -> Result<Self, Memory>
+        requires range { IsInRange sources }
+        requires acyclic { cycle_fault sources ≡ None }
+        ensures { IfOk result (λ wiring. wiring ≡ sources.entry) }
     {
-        let sources = Sources::of(alloc, parts)?;
-        let fields = field_table(alloc, &sources)?;
-        Ok(Wiring { sources, fields })
+        let rule = FieldsLeft {
+            alloc,
+            parts: sources.parts(),
+        };
+        let fields = values_along(alloc, &rule, sources.graph())?;
+        let order = by_depth(alloc, sources.graph())?;
+        Ok(Wiring {
+            alloc,
+            sources,
+            fields,
+            order,
+        })
+    }
+
+    pub(crate) fn alloc(&self) -> Global {
+        self.alloc
     }
 
     pub(crate) fn sources(&self) -> &Sources<'p>
@@ -51,15 +116,29 @@ impl<'p> Wiring<'p> {
         &self.sources
     }
 
+    /// The components by their depth.
+    pub(crate) fn order(&self) -> &[usize]
+        ensures { result.now ≡ by_depth self.now }
+    {
+        self.order.as_slice()
+    }
+
+    /// The name of a component.
+    pub(crate) fn name_of(&self, c: usize) -> Result<Txt, Memory>
+        ensures { IfOk result (λ name. name ≡ name_at self.now c) }
+    {
+        Txt::from_str(self.alloc, self.sources.name_at(c))
+    }
+
     /// The fields of a source.
     pub(crate) fn fields_of(&self, from: Origin) -> &[Txt]
         ensures { result.now ≡ fields_of self.now from }
     {
         match from {
             Origin::Spout => self.sources.parts().spout.fields.as_slice(),
-            Origin::Component(c) => match self.fields.as_slice().get(c as usize) {
-                Some(fields) => fields.as_slice(),
-                None => &[],
+            Origin::Component(c) => match self.fields.get(c as usize) {
+                Some(Some(fields)) => fields.as_slice(),
+                _ => &[],
             },
         }
     }
@@ -69,47 +148,10 @@ impl<'p> Wiring<'p> {
         ensures { result.now ≡ fields_to self.now c }
     {
         match self.sources.at(c).first() {
-            Some(from) => self.fields_of(*from),
+            Some(feed) => self.fields_of(feed.from),
             None => &[],
         }
     }
-}
-
-fn field_table(alloc: Global, sources: &Sources<'_>) -> Result<Seq<Names>, Memory>
-    ensures { IfOk result (λ table. table ≡ field_table sources.now) }
-{
-    let count = sources.bolt_count();
-    let mut table = Vec::with_capacity(alloc, count as usize)?;
-    for c in 0..count {
-        table.push(fields_in(alloc, sources, count, Origin::Component(c))?)?;
-    }
-    Ok(Seq::from_vec(table))
-}
-
-/// The fields of a source, of which as many steps back are looked at.
-fn fields_in(
-    alloc: Global,
-    sources: &Sources<'_>,
-    steps: u32,
-    from: Origin,
-) -> Result<Names, Memory>
-    ensures { IfOk result (λ fields. fields ≡ fields_in steps sources.now from) }
-{
-    let c = match from {
-        Origin::Spout => return sources.parts().spout.fields.copy(),
-        Origin::Component(c) => c as usize,
-    };
-    if steps == 0 {
-        return Ok(Names::new(alloc));
-    }
-    let Some(bolt) = sources.bolt_at(c) else {
-        return Ok(Names::new(alloc));
-    };
-    let before = match sources.at(c).first() {
-        Some(first) => fields_in(alloc, sources, steps - 1, *first)?,
-        None => Names::new(alloc),
-    };
-    fields_after(alloc, &bolt.operation, before)
 }
 
 /// The fields that an operation leaves.

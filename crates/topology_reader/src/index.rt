@@ -1,7 +1,7 @@
 //! The sources of names, found by the names' hashes.
 
 ghost use Rattle.std.specs.Prelude.{◌≡◌, length, IfOk};
-ghost use Rattle.topology_reader.specs.Sources.{IsIndexOf, IsNumbered};
+ghost use Rattle.topology_reader.specs.steps.Sources.{IsIndexOf, IsNumbered};
 ghost use Rattle.topology_reader.specs.Wiring.{source_of};
 
 use indexmap::IndexMap;
@@ -24,7 +24,7 @@ impl<'p> Model for Index<'p> {
 
     ghost Value = { FileParts };
 
-    ghost use Rattle.topology_reader.specs.Sources.{IsIndexOf, IsNumbered};
+    ghost use Rattle.topology_reader.specs.steps.Sources.{IsIndexOf, IsNumbered};
 
     ghost view = { λ i. i.parts.now };
 

@@ -13,7 +13,7 @@ ghost use Rattle.topology_reader.specs.ValidFile.{IsValidFile};
 ghost use Rattle.topology_form.specs.declared.parts.FileParts.{FileParts};
 ghost use Rattle.topology_reader.specs.Meant.{cycle_fault, meaning_fault};
 ghost use Rattle.topology_form.specs.Ranges.{IsInRange};
-ghost use Rattle.topology_reader.specs.Reach.{IsWay};
+ghost use Rattle.topology_reader.specs.Reach.{IsPath};
 ghost use Rattle.topology_reader.specs.Wiring.{name_at, reaches};
 
 /// A law: the plan of a file without a fault is valid, and its subscriptions, groupings and fields fit together. What
@@ -28,14 +28,14 @@ pub fn plans_of_files_are_valid()
     ensures exactly { (p : FileParts) → IsInRange p → (meaning_fault p ≡ None) ↔ IsValidFile p }
 {}
 
-/// A law: a bolt reaches what it has a way to, each bolt on it feeding the next. A cycle is told exactly where a bolt has
-/// a way to itself, and it names the first such bolt.
-pub fn cycles_are_ways()
-    ensures reached { (p : FileParts) (a b : ℕ) → (reaches p a b ≡ true) ↔ IsWay p a b }
-    ensures none { (p : FileParts) → (cycle_fault p ≡ None) ↔ ((c : ℕ) → c < length p.bolts → IsWay p c c → ⊥) }
+/// A law: a bolt reaches what it has a path to, each bolt on it feeding the next. A cycle is told exactly where a bolt has
+/// a path to itself, and it names the first such bolt.
+pub fn cycles_are_paths()
+    ensures reached { (p : FileParts) (a b : ℕ) → (reaches p a b ≡ true) ↔ IsPath p a b }
+    ensures none { (p : FileParts) → (cycle_fault p ≡ None) ↔ ((c : ℕ) → c < length p.bolts → IsPath p c c → ⊥) }
     ensures first { (p : FileParts) (fault : TopoFault) → cycle_fault p ≡ Some fault
-        → (c : ℕ) × (c < length p.bolts) × (fault ≡ TopoFault.Cycle (name_at p c)) × IsWay p c c
-        × ((b : ℕ) → b < c → IsWay p b b → ⊥) }
+        → (c : ℕ) × (c < length p.bolts) × (fault ≡ TopoFault.Cycle (name_at p c)) × IsPath p c c
+        × ((b : ℕ) → b < c → IsPath p b b → ⊥) }
 {}
 
 /// A law: the first 65,537 bytes of a file decide in which words it is refused, or which plan it has.

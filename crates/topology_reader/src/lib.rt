@@ -3,7 +3,6 @@
 
 mod assembly;
 mod cycles;
-mod depths;
 mod fields;
 mod fields_fault;
 mod index;
@@ -15,6 +14,6 @@ mod read;
 mod sources;
 mod subscribed;
 
-pub use laws::{cycles_are_ways, first_bytes_decide, plans_of_files_are_valid};
+pub use laws::{cycles_are_paths, first_bytes_decide, plans_of_files_are_valid};
 pub use read::{MOST_TOPOLOGY_BYTES, read_topology};
 pub use topology_form::TopoFault;

@@ -5,10 +5,12 @@ ghost use Rattle.std.specs.Borrow.{Bor};
 ghost use Rattle.std.specs.List.{flat_map};
 ghost use Rattle.std.specs.Option.{option_copied};
 ghost use Rattle.topology_reader.specs.Meant.{first_again, key_of, projected, bolt_lists, state_lists, source_fault, twice_fault};
-ghost use Rattle.topology_reader.specs.Names.{bolt_sources, state_sources, key_lists, part_lists, again_among, sourceless_in, sourceless};
+ghost use Rattle.topology_reader.specs.steps.Checks.{Checks};
+ghost use Rattle.topology_reader.specs.steps.Names.{bolt_sources, state_sources, key_lists, part_lists, again_among, sourceless_in, sourceless};
 ghost use Rattle.topology_reader.specs.Wiring.{component_names};
 
 use crate::index::Index;
+use crate::sources::Sources;
 use indexmap::IndexSet;
 use std::alloc::Global;
 use storm_values::{Memory, Txt};
@@ -59,13 +61,13 @@ fn first_again<'a, N: Named>(alloc: Global, items: &'a [N]) -> Result<Option<&'a
     Ok(None)
 }
 
-/// The first input that names no source.
-pub(crate) fn source_fault(alloc: Global, index: &Index<'_>) -> Result<Option<TopoFault>, Memory>
-    ensures { IfOk result (λ fault. fault ≡ source_fault index.now) }
+/// That each input names a source.
+pub(crate) fn check_sources(alloc: Global, sources: &Sources<'_>) -> Result<(), TopoFault>
+    ensures { Checks result (source_fault sources.now) }
 {
-    match sourceless(index) {
-        Some(name) => Ok(Some(TopoFault::NoSource(Txt::from_str(alloc, name)?))),
-        None => Ok(None),
+    match sourceless(sources.index()) {
+        Some(name) => Err(TopoFault::NoSource(Txt::from_str(alloc, name)?)),
+        None => Ok(()),
     }
 }
 
@@ -112,17 +114,17 @@ fn sourceless_in<'a, N: Named>(index: &Index<'_>, items: &'a [N]) -> Option<&'a 
     None
 }
 
-/// A name that stands twice where it may not, the first in the order of the checks.
-pub(crate) fn twice_fault(alloc: Global, parts: &FileParts) -> Result<Option<TopoFault>, Memory>
-    ensures { IfOk result (λ fault. fault ≡ twice_fault parts.now) }
+/// That no name stands twice where it may not.
+pub(crate) fn check_twice(alloc: Global, parts: &FileParts) -> Result<(), TopoFault>
+    ensures { Checks result (twice_fault parts.now) }
 {
     let names = component_names(alloc, parts)?;
     if let Some(name) = first_again(alloc, names.as_slice())? {
-        return Ok(Some(TopoFault::Twice(Txt::from_str(alloc, name)?)));
+        return Err(TopoFault::Twice(Txt::from_str(alloc, name)?));
     }
     match part_again(alloc, parts)? {
-        Some(name) => Ok(Some(TopoFault::Twice(Txt::from_str(alloc, name)?))),
-        None => Ok(None),
+        Some(name) => Err(TopoFault::Twice(Txt::from_str(alloc, name)?)),
+        None => Ok(()),
     }
 }
 

@@ -2,9 +2,9 @@
 //! where each round reads every subscription once.
 
 ghost use Rattle.std.specs.Prelude.{◌≡◌, ◌<◌, ◌+◌, ◌^◌, ◌++◌, map, length, slice_index, IfOk, OnOk};
-ghost use Rattle.topology_reader.specs.Rounds.{items_of, feeds_among, feeds_to, feeds_of, depth_at, depths_by, ways_over, ways_by};
+ghost use Rattle.topology_reader.specs.steps.Rounds.{items_of, feeds_among, feeds_to, feeds_of, depth_at, depths_by, ways_over, ways_by};
 ghost use Rattle.topology_plan.specs.Topology.{Topology, copies_of, greatest, ended_sum, subs_of, origins, depth_within, tuples_within, depth_of, weight_of};
-ghost use Rattle.topology_reader.specs.Wires.{IsWiredBy};
+ghost use Rattle.topology_reader.specs.steps.Wires.{IsWiredBy};
 ghost use Rattle.topology_plan.specs.declared.parts.Origin.TheVariants as origin;
 
 use std::alloc::Global;
@@ -34,7 +34,7 @@ impl<'a> Model for Wires<'a> {
 
     ghost Value = { Topology };
 
-    ghost use Rattle.topology_reader.specs.Wires.{wired_by};
+    ghost use Rattle.topology_reader.specs.steps.Wires.{wired_by};
 
     ghost view = { λ w. wired_by w.components.now w.spout_subs.now w.component_subs.now };
 }

@@ -3,7 +3,7 @@
 ghost use Rattle.std.specs.Prelude.{◌≡◌, ◌<◌, ◌^◌, ◌++◌, length, map, option_map, IfOk, OnOk, IfSome};
 ghost use Rattle.std.specs.List.{enumerate_from};
 ghost use Rattle.std.specs.Option.{option_map_or};
-ghost use Rattle.topology_reader.specs.PlanSteps.{planned_components};
+ghost use Rattle.topology_reader.specs.steps.PlanSteps.{planned_components};
 ghost use Rattle.topology_reader.specs.Planned.{number_of, numbers_of, planned_operation, route_field, planned_grouping, planned_bolt, planned_state, first_task_of};
 ghost use Rattle.topology_form.specs.Ranges.{IsInRange};
 ghost use Rattle.topology_reader.specs.Wiring.{place_of, fields_of, fields_to, operation_at};

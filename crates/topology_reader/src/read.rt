@@ -58,5 +58,5 @@ fn read_value(alloc: Global, value: Value) -> Result<Plan, TopoFault>
         → value_fault (Some (view value)) ≡ Some fault) }
 {
     let parts = parts_from(alloc, value)?;
-    plan_from(alloc, &parts)?
+    plan_from(alloc, &parts)
 }

@@ -3,43 +3,66 @@
 ghost use Rattle.std.specs.Prelude.{◌≡◌, ◌-◌, ◌++◌, length, map, IfOk, OnOk};
 ghost use Rattle.std.specs.List.{filter_map, slice_get};
 ghost use Rattle.std.specs.Option.{option_copied};
-ghost use Rattle.topology_reader.specs.Sources.{IsNumbered, sources_among, source_table};
-ghost use Rattle.topology_reader.specs.Wiring.{source_of, sources_at, component_count, operation_at, name_at};
+ghost use Rattle.topology_form.specs.declared.parts.BoltPart.{BoltPart};
+ghost use Rattle.topology_form.specs.declared.parts.StatePart.{StatePart};
+ghost use Rattle.topology_graph.specs.Graph.{feeds_at};
+ghost use Rattle.topology_reader.specs.steps.Graph.{copies_said, feed_of, feeds_of, graph_of};
+ghost use Rattle.topology_reader.specs.steps.Sources.{IsNumbered};
+ghost use Rattle.topology_reader.specs.Wiring.{source_of, component_count, operation_at, name_at};
 
 use crate::index::Index;
 use std::alloc::Global;
 use std::marker::Model;
 use storm_values::{Memory, Seq, Txt};
-use topology_form::{BoltPart, FileParts, Operation, StatePart};
+use topology_form::{BoltPart, FileParts, GroupingPart, Operation, StatePart};
+use topology_graph::{Feed, Graph};
 use topology_plan::Origin;
 
-fn bolt_sources(alloc: Global, index: &Index<'_>, bolt: &BoltPart) -> Result<Vec<Origin>, Memory>
-    ensures { IfOk result (λ sources. sources.items ≡ sources_among index.now bolt.now.inputs) }
+/// How many copies of a tuple a consumer with these tasks gets.
+fn copies_said(said: &GroupingPart, tasks: u32) -> u32
+    ensures { result ≡ copies_said said.now tasks }
 {
+    match said {
+        GroupingPart::All => tasks,
+        _ => 1,
+    }
+}
+
+/// The subscription to a source of this name.
+fn feed_of(index: &Index<'_>, name: &Txt, copies: u32) -> Option<Feed>
+    ensures { result ≡ feed_of index.now name.now copies }
+{
+    let from = index.source_of(name.as_str())?;
+    let copies = u64::from(copies);
+    Some(Feed { from, copies })
+}
+
+fn bolt_feeds(alloc: Global, index: &Index<'_>, bolt: &BoltPart) -> Result<Vec<Feed>, Memory>
+    ensures { IfOk result (λ feeds. feeds.items ≡ feeds_of index.now bolt.now.tasks bolt.now.inputs) }
+{
+    let tasks = bolt.tasks;
     bolt.inputs
         .as_slice()
         .iter()
-        .filter_map(|input| index.source_of(input.from.as_str()))
+        .filter_map(|input| feed_of(index, &input.from, copies_said(&input.grouping, tasks)))
         .collect(alloc)
 }
 
-fn state_sources(alloc: Global, index: &Index<'_>, state: &StatePart) -> Result<Vec<Origin>, Memory>
-    ensures { IfOk result
-        (λ sources. sources.items ≡ filter_map (source_of index.now) state.now.inputs) }
+fn state_feeds(alloc: Global, index: &Index<'_>, state: &StatePart) -> Result<Vec<Feed>, Memory>
+    ensures { IfOk result (λ feeds. feeds.items ≡ filter_map (λ name. feed_of index.now name 1) state.now.inputs) }
 {
-    state
-        .inputs
-        .as_slice()
+    let inputs = state.inputs.as_slice();
+    inputs
         .iter()
-        .filter_map(|name| index.source_of(name.as_str()))
+        .filter_map(|name| feed_of(index, name, 1))
         .collect(alloc)
 }
 
-/// The sources of each component, which contracts see as what the file says.
+/// The names and the graph of a file, which contracts see as what the file says.
 #[derive(Drop)]
 pub(crate) struct Sources<'p> {
     index: Index<'p>,
-    table: Seq<Seq<Origin>>,
+    graph: Graph,
 }
 
 impl<'p> Model for Sources<'p> {
@@ -48,11 +71,11 @@ impl<'p> Model for Sources<'p> {
     ghost Value = { FileParts };
 
     ghost use Rattle.std.specs.Prelude.{◌≡◌};
-    ghost use Rattle.topology_reader.specs.Sources.{source_table};
+    ghost use Rattle.topology_reader.specs.steps.Graph.{graph_of};
 
     ghost view = { λ s. s.index };
 
-    ghost invariant = { λ s. s.table ≡ source_table s.index };
+    ghost invariant = { λ s. s.graph ≡ graph_of s.index };
 }
 
 impl<'p> Sources<'p> {
@@ -61,8 +84,8 @@ impl<'p> Sources<'p> {
         ensures { IfOk result (λ sources. sources ≡ parts.now) }
     {
         let index = Index::of(alloc, parts)?;
-        let table = source_table(alloc, &index)?;
-        Ok(Sources { index, table })
+        let graph = graph_of(alloc, &index)?;
+        Ok(Sources { index, graph })
     }
 
     pub(crate) fn index(&self) -> &Index<'p>
@@ -87,7 +110,7 @@ impl<'p> Sources<'p> {
     pub(crate) fn count(&self) -> usize
         ensures { result ≡ component_count self.now }
     {
-        self.table.len()
+        self.graph.len()
     }
 
     /// The source of a name.
@@ -97,12 +120,18 @@ impl<'p> Sources<'p> {
         self.index.source_of(name.as_str())
     }
 
-    /// The sources of a component, in the order of its inputs.
-    pub(crate) fn at(&self, c: usize) -> &[Origin]
-        ensures { result.now ≡ sources_at self.now c }
+    pub(crate) fn graph(&self) -> &Graph
+        ensures { result.now ≡ graph_of self.now }
     {
-        match self.table.as_slice().get(c) {
-            Some(sources) => sources.as_slice(),
+        &self.graph
+    }
+
+    /// The subscriptions of a component, in the order of its inputs.
+    pub(crate) fn at(&self, c: usize) -> &[Feed]
+        ensures { result.now ≡ feeds_at (graph_of self.now) c }
+    {
+        match self.graph.as_slice().get(c) {
+            Some(feeds) => feeds.as_slice(),
             None => &[],
         }
     }
@@ -149,35 +178,33 @@ impl<'p> Sources<'p> {
     }
 }
 
-fn source_table(alloc: Global, index: &Index<'_>) -> Result<Seq<Seq<Origin>>, Memory>
-    ensures { IfOk result (λ table. table ≡ source_table index.now) }
+fn graph_of(alloc: Global, index: &Index<'_>) -> Result<Graph, Memory>
+    ensures { IfOk result (λ graph. graph ≡ graph_of index.now) }
 {
-    let mut table = bolt_table(alloc, index)?;
-    add_states(alloc, index, &mut table)?;
-    Ok(Seq::from_vec(table))
+    let mut feeds = feeds_of_bolts(alloc, index)?;
+    add_states(alloc, index, &mut feeds)?;
+    Ok(Seq::from_vec(feeds))
 }
 
-fn bolt_table(alloc: Global, index: &Index<'_>) -> Result<Vec<Seq<Origin>>, Memory>
-    ensures { IfOk result
-        (λ table. table.items
-        ≡ map (λ bolt. sources_among index.now bolt.inputs) index.now.bolts) }
+fn feeds_of_bolts(alloc: Global, index: &Index<'_>) -> Result<Vec<Seq<Feed>>, Memory>
+    ensures { IfOk result (λ feeds. feeds.items
+        ≡ map (λ (bolt : BoltPart). feeds_of index.now bolt.tasks bolt.inputs) index.now.bolts) }
 {
     let bolts = index.parts().bolts.as_slice();
-    let mut table = Vec::with_capacity(alloc, bolts.len())?;
+    let mut feeds = Vec::with_capacity(alloc, bolts.len())?;
     for bolt in bolts {
-        table.push(Seq::from_vec(bolt_sources(alloc, index, bolt)?))?;
+        feeds.push(Seq::from_vec(bolt_feeds(alloc, index, bolt)?))?;
     }
-    Ok(table)
+    Ok(feeds)
 }
 
-fn add_states(alloc: Global, index: &Index<'_>, table: &mut Vec<Seq<Origin>>) -> Result<(), Memory>
-    ensures { OnOk result
-        (table.new.items
-        ≡ table.old.items
-        ++ map (λ state. filter_map (source_of index.now) state.inputs) index.now.states) }
+fn add_states(alloc: Global, index: &Index<'_>, feeds: &mut Vec<Seq<Feed>>) -> Result<(), Memory>
+    ensures { OnOk result (feeds.new.items
+        ≡ feeds.old.items
+        ++ map (λ (state : StatePart). filter_map (λ name. feed_of index.now name 1) state.inputs) index.now.states) }
 {
     for state in index.parts().states.as_slice() {
-        table.push(Seq::from_vec(state_sources(alloc, index, state)?))?;
+        feeds.push(Seq::from_vec(state_feeds(alloc, index, state)?))?;
     }
     Ok(())
 }

@@ -2,11 +2,11 @@
 
 ghost use Rattle.std.specs.Prelude.{◌≡◌, length, map, fold, IfOk, OnOk};
 ghost use Rattle.std.specs.List.{enumerate_from};
-ghost use Rattle.topology_reader.specs.PlanSteps.{planned_component_subs};
+ghost use Rattle.topology_reader.specs.steps.PlanSteps.{planned_component_subs};
 ghost use Rattle.topology_reader.specs.Planned.{planned_subs};
 ghost use Rattle.topology_form.specs.Ranges.{IsInRange};
-ghost use Rattle.topology_reader.specs.Subscribed.{with_sub, with_input, with_inputs, no_subs};
-ghost use Rattle.topology_reader.specs.Wires.{items_by};
+ghost use Rattle.topology_reader.specs.steps.Subscribed.{with_sub, with_input, with_inputs, no_subs};
+ghost use Rattle.topology_reader.specs.steps.Wires.{items_by};
 ghost use Rattle.topology_reader.specs.Wiring.{state_inputs};
 ghost use Rattle.topology_form.specs.declared.parts.BoltPart.{BoltPart};
 ghost use Rattle.topology_plan.specs.declared.parts.Origin.TheVariants as origin;
@@ -27,11 +27,11 @@ pub(crate) struct Subs {
 }
 
 impl Model for Subs {
-    ghost use Rattle.topology_reader.specs.Subscribed.{SubTable};
+    ghost use Rattle.topology_reader.specs.steps.Subscribed.{SubTable};
 
     ghost Value = { SubTable };
 
-    ghost use Rattle.topology_reader.specs.Wires.{items_by};
+    ghost use Rattle.topology_reader.specs.steps.Wires.{items_by};
 
     ghost view = { λ subs. record {
       from_spout = subs.from_spout.items;

@@ -1,7 +1,7 @@
 use Rattle.std.proofs.Common.{rules, ◌∙◌, ap, length, sum_by, arith}
 use Rattle.topology_plan.specs.declared.parts.Component.{Component}
 use Rattle.topology_reader.specs.Planned.{plan_of}
-use Rattle.topology_reader.specs.Wires.{items_by}
+use Rattle.topology_reader.specs.steps.Wires.{items_by}
 use Rattle.topology_reader.proofs.AssemblyLemmas.{sum_by-planned-le, length-planned-le, wired-plan, tasks-plan, topology-planned}
 use Rattle.topology_reader.proofs.assembly.make.Goals as goal
 

@@ -1,5 +1,5 @@
 use Rattle.std.proofs.Common.{sym, ◌∙◌, arith}
-use Rattle.topology_reader.proofs.WaySets.{sources-more, has-or}
+use Rattle.topology_reader.proofs.ReachedSets.{sources-more, has-or}
 use Rattle.topology_reader.proofs.cycles.bolt_sources.Goals as goal
 
 pub loop-input-preserved : goal.loop-input-preserved

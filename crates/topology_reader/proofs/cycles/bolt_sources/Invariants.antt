@@ -1,6 +1,6 @@
 use Rattle.std.proofs.Common.{◌≡◌, ℕ, take}
 use Rattle.std.specs.List.{list_any}
-use Rattle.topology_reader.specs.Ways.{has, input_sources}
+use Rattle.topology_reader.specs.steps.Reached.{has, input_sources}
 use Rattle.topology_reader.specs.Wiring.{is_component}
 use Rattle.topology_reader.proofs.cycles.bolt_sources.Given as goal
 

@@ -1,5 +1,5 @@
 use Rattle.std.proofs.Common.{sym, ◌∙◌, arith}
-use Rattle.topology_reader.proofs.WaySets.{led-yes, led-no}
+use Rattle.topology_reader.proofs.ReachedSets.{led-yes, led-no}
 use Rattle.topology_reader.proofs.cycles.lead_through.Goals as goal
 use Rattle.topology_reader.proofs.cycles.lead_through.Goals.{then-has, else-has}
 

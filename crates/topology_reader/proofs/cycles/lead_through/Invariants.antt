@@ -1,5 +1,5 @@
 use Rattle.std.proofs.Common.{◌≡◌}
-use Rattle.topology_reader.proofs.WaySets.{led_so_far}
+use Rattle.topology_reader.proofs.ReachedSets.{led_so_far}
 use Rattle.topology_reader.proofs.cycles.lead_through.Given as goal
 
 abbrev pub invariant-loop-set : goal.invariant-loop-set

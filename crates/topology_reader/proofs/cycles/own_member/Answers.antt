@@ -1,6 +1,6 @@
 use Rattle.std.proofs.Common.{slice_index, length, sym, ◌∙◌, arith}
-use Rattle.topology_reader.specs.Ways.{has}
-use Rattle.topology_reader.proofs.WaySets.{range-past}
+use Rattle.topology_reader.specs.steps.Reached.{has}
+use Rattle.topology_reader.proofs.ReachedSets.{range-past}
 use Rattle.topology_reader.proofs.cycles.own_member.Goals as goal
 
 pub loop-c-preserved : goal.loop-c-preserved

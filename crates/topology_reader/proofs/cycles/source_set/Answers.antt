@@ -2,7 +2,7 @@ use Rattle.std.proofs.Common.{◌≡◌, ◌<◌, length, false, Some, sym, ◌�
 use Rattle.std.specs.Option.{option_map_or}
 use Rattle.topology_plan.specs.declared.parts.Origin.TheVariants.{Component}
 use Rattle.topology_reader.specs.Wiring.{is_component, source_of}
-use Rattle.topology_reader.proofs.WaySets.{source_below, has-one}
+use Rattle.topology_reader.proofs.ReachedSets.{source_below, has-one}
 use Rattle.topology_reader.proofs.cycles.source_set.Goals as goal
 
 pub overflow_shl-result : goal.overflow_shl-result

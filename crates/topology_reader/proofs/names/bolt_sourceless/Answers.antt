@@ -1,6 +1,6 @@
 use Rattle.std.proofs.Common.{arith}
 use Rattle.std.proofs.lemmas.Grind.{common_steps}
-use Rattle.topology_reader.specs.Names.{bolt_sources, sourceless_in}
+use Rattle.topology_reader.specs.steps.Names.{bolt_sources, sourceless_in}
 use Rattle.topology_reader.proofs.NameLists.{first_or_rest}
 use Rattle.topology_reader.proofs.Sourceless.{sourceless_in-append}
 use Rattle.topology_reader.proofs.names.bolt_sourceless.Goals as goal

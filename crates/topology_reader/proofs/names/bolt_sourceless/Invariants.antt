@@ -1,6 +1,6 @@
 use Rattle.std.proofs.Common.{◌≡◌, drop}
 use Rattle.std.specs.List.{flat_map}
-use Rattle.topology_reader.specs.Names.{bolt_sources, sourceless_in}
+use Rattle.topology_reader.specs.steps.Names.{bolt_sources, sourceless_in}
 use Rattle.topology_reader.proofs.names.bolt_sourceless.Given as goal
 
 abbrev pub invariant-loop-bolt : goal.invariant-loop-bolt

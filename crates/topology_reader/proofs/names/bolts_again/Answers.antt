@@ -1,7 +1,7 @@
 use Rattle.std.proofs.Common.{arith}
 use Rattle.std.proofs.lemmas.Grind.{common_steps}
 use Rattle.topology_reader.specs.Meant.{bolt_lists}
-use Rattle.topology_reader.specs.Names.{again_among}
+use Rattle.topology_reader.specs.steps.Names.{again_among}
 use Rattle.topology_reader.proofs.NameLists.{again_among-append, first_or_rest}
 use Rattle.topology_reader.proofs.names.bolts_again.Goals as goal
 

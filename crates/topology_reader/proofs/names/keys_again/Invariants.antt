@@ -1,6 +1,6 @@
 use Rattle.std.proofs.Common.{◌≡◌, drop}
 use Rattle.std.specs.List.{flat_map}
-use Rattle.topology_reader.specs.Names.{again_among, key_lists}
+use Rattle.topology_reader.specs.steps.Names.{again_among, key_lists}
 use Rattle.topology_reader.proofs.names.keys_again.Given as goal
 
 abbrev pub invariant-loop-input : goal.invariant-loop-input

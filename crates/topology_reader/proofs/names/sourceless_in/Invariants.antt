@@ -1,5 +1,5 @@
 use Rattle.std.proofs.Common.{◌≡◌, map, drop}
-use Rattle.topology_reader.specs.Names.{sourceless_in}
+use Rattle.topology_reader.specs.steps.Names.{sourceless_in}
 use Rattle.topology_reader.proofs.names.sourceless_in.Given as goal
 
 abbrev pub invariant-loop-item : goal.invariant-loop-item

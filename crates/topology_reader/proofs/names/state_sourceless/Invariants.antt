@@ -1,6 +1,6 @@
 use Rattle.std.proofs.Common.{◌≡◌, drop}
 use Rattle.std.specs.List.{flat_map}
-use Rattle.topology_reader.specs.Names.{state_sources, sourceless_in}
+use Rattle.topology_reader.specs.steps.Names.{state_sources, sourceless_in}
 use Rattle.topology_reader.proofs.names.state_sourceless.Given as goal
 
 abbrev pub invariant-loop-state : goal.invariant-loop-state

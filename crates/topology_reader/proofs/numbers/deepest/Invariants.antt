@@ -1,6 +1,6 @@
 use Rattle.std.proofs.Common.{◌≡◌, map, drop, max}
 use Rattle.topology_plan.specs.Topology.{greatest}
-use Rattle.topology_reader.specs.Rounds.{depth_at}
+use Rattle.topology_reader.specs.steps.Rounds.{depth_at}
 use Rattle.topology_reader.proofs.numbers.deepest.Given as goal
 
 abbrev pub invariant-loop-feed : goal.invariant-loop-feed

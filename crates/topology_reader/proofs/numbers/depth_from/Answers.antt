@@ -1,7 +1,7 @@
 use Rattle.std.proofs.Common.{◌≡◌, ◌∙◌, ℕ}
 use Rattle.std.proofs.lemmas.Result.{IfOk-weaker}
 use Rattle.topology_plan.specs.Topology.{Topology, depth_of}
-use Rattle.topology_reader.specs.Wires.{IsWiredBy, wired_by}
+use Rattle.topology_reader.specs.steps.Wires.{IsWiredBy, wired_by}
 use Rattle.topology_reader.proofs.WireLemmas.{depth_of-wired}
 use Rattle.topology_reader.proofs.numbers.depth_from.Goals as goal
 

@@ -1,5 +1,5 @@
 use Rattle.std.proofs.Common.{◌≡◌, take}
-use Rattle.topology_reader.specs.Rounds.{items_of, ways_by}
+use Rattle.topology_reader.specs.steps.Rounds.{items_of, ways_by}
 use Rattle.topology_reader.proofs.numbers.next_ways.Given as goal
 
 abbrev pub invariant-loop-of_component : goal.invariant-loop-of_component

@@ -1,5 +1,5 @@
 use Rattle.std.proofs.Common.{arith, map}
-use Rattle.topology_reader.specs.Rounds.{ways_over}
+use Rattle.topology_reader.specs.steps.Rounds.{ways_over}
 use Rattle.topology_reader.proofs.RoundLemmas.{ended_sum_start}
 use Rattle.topology_reader.proofs.numbers.ways_over.Goals as goal
 

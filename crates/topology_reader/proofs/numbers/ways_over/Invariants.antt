@@ -1,6 +1,6 @@
 use Rattle.std.proofs.Common.{◌≡◌, ◌≤◌, ◌+◌, map, drop, min}
 use Rattle.topology_plan.specs.Topology.{ended_sum, weight_end}
-use Rattle.topology_reader.specs.Rounds.{ways_over}
+use Rattle.topology_reader.specs.steps.Rounds.{ways_over}
 use Rattle.topology_reader.proofs.numbers.ways_over.Given as goal
 
 abbrev pub invariant-loop-feed : goal.invariant-loop-feed

@@ -1,5 +1,5 @@
 use Rattle.std.proofs.Common.{◌≡◌, ◌++◌, take}
-use Rattle.topology_reader.specs.Rounds.{feeds_among}
+use Rattle.topology_reader.specs.steps.Rounds.{feeds_among}
 use Rattle.topology_reader.proofs.numbers.Wires.add_feeds.Given as goal
 
 abbrev pub invariant-loop-sub : goal.invariant-loop-sub

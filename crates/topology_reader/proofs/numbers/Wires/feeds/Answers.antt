@@ -1,7 +1,7 @@
 use Rattle.std.proofs.Common.{Vec}
 use Rattle.std.specs.declared.alloc.Global.{Global}
 use Rattle.topology_reader.specs.declared.numbers.Feed.{Feed}
-use Rattle.topology_reader.specs.Rounds.{feeds_to}
+use Rattle.topology_reader.specs.steps.Rounds.{feeds_to}
 use Rattle.topology_reader.proofs.RoundLemmas.{map_next}
 use Rattle.topology_reader.proofs.numbers.Wires.feeds.Goals as goal
 

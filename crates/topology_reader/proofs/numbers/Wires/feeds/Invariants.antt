@@ -1,6 +1,6 @@
 use Rattle.std.proofs.Common.{◌≡◌, map}
 use Rattle.std.specs.List.{range_with_len}
-use Rattle.topology_reader.specs.Rounds.{items_of, feeds_to}
+use Rattle.topology_reader.specs.steps.Rounds.{items_of, feeds_to}
 use Rattle.topology_reader.proofs.numbers.Wires.feeds.Given as goal
 
 abbrev pub invariant-loop-c : goal.invariant-loop-c

@@ -1,7 +1,7 @@
 use Rattle.std.proofs.Common.{◌+◌, ap}
 use Rattle.topology_plan.specs.declared.parts.Origin.TheVariants as origin
 use Rattle.topology_plan.specs.Topology.{subs_of}
-use Rattle.topology_reader.specs.Rounds.{feeds_among}
+use Rattle.topology_reader.specs.steps.Rounds.{feeds_among}
 use Rattle.topology_reader.proofs.RoundLemmas.{flat_map_next}
 use Rattle.topology_reader.proofs.numbers.Wires.feeds_to.Goals as goal
 

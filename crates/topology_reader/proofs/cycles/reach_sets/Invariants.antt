@@ -1,0 +1,5 @@
+use Rattle.topology_reader.specs.steps.Reached.{AreReached}
+use Rattle.topology_reader.proofs.cycles.reach_sets.Given as goal
+
+abbrev pub invariant-loop-n : goal.invariant-loop-n
+invariant-loop-n l = AreReached l.n l.index l.sets.items

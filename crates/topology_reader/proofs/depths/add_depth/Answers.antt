@@ -1,8 +1,0 @@
-use Rattle.std.proofs.Common.{arith}
-use Rattle.std.proofs.lemmas.Grind.{common_steps}
-use Rattle.std.proofs.lemmas.List.Elements.{filter-append}
-use Rattle.topology_reader.proofs.DepthLemmas.{range_more}
-use Rattle.topology_reader.proofs.depths.add_depth.Goals as goal
-
-pub loop-c-preserved : goal.loop-c-preserved
-loop-c-preserved c = grind (arith, common_steps, range_more, filter-append)

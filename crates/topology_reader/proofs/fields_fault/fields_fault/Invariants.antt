@@ -1,7 +1,0 @@
-use Rattle.std.proofs.Common.{◌≡◌, map, drop}
-use Rattle.storm_values.specs.Lines.{first_some}
-use Rattle.topology_reader.specs.Meant.{component_fault, fields_fault}
-use Rattle.topology_reader.proofs.fields_fault.fields_fault.Given as goal
-
-abbrev pub invariant-loop-c : goal.invariant-loop-c
-invariant-loop-c l = first_some (map (component_fault l.wiring) (drop l.c-index l.c-items)) ≡ fields_fault l.wiring
