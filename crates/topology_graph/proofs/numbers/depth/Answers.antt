@@ -1,5 +1,5 @@
 use Rattle.std.proofs.Common.{ap, ◌∙◌}
-use Rattle.topology_plan.specs.Topology.{greatest, ended_sum}
+use Rattle.topology_plan.specs.Topology.{greatest}
 use Rattle.topology_graph.specs.Numbers.{depth_of}
 use Rattle.topology_graph.proofs.numbers.depth.Goals as goal
 
