@@ -1,5 +1,5 @@
 -- Files that a shelf tells rule out every answer but the one that they call for.
-use Rattle.std.proofs.Common.{◌≡◌, ◌⊎◌, ℕ, List, Some, true, false, refl, sym, ap, subst, ◌∙◌, inl, inr}
+use Rattle.std.proofs.Common.{◌≡◌, ◌⊎◌, ℕ, List, length, Some, true, false, refl, sym, ap, subst, ◌∙◌, inl, inr}
 use Rattle.std.proofs.lemmas.Bool.{false≢true}
 use Rattle.std.proofs.lemmas.Option.{none-some}
 use Rattle.storm_values.specs.declared.value.Value.{Value}
@@ -56,9 +56,9 @@ module _ (holds : List ℕ → List ℕ → Type 0) (name : List ℕ) where
 module _ (holds : List ℕ → List ℕ → Type 0) (topology input : List ℕ) (plan other : Topology) (tells : TellsPlan holds topology plan) (runnable : IsRunnable holds topology other) where
   -- ---- an input of the told topology
 
-  fault_of : (told bytes : List ℕ) → told ≡ bytes → input_fault told plan.spout_fields ≡ input_fault bytes other.spout_fields
+  fault_of : (told bytes : List ℕ) → told ≡ bytes → input_fault told (length plan.spout_fields) ≡ input_fault bytes (length other.spout_fields)
   fault_of told bytes same =
-      ap (λ b. input_fault b plan.spout_fields) same ∙ ap (λ (p : Topology). input_fault bytes p.spout_fields) (sym (same_plan holds topology plan other tells runnable.accepted))
+      ap (λ b. input_fault b (length plan.spout_fields)) same ∙ ap (λ (p : Topology). input_fault bytes (length p.spout_fields)) (sym (same_plan holds topology plan other tells runnable.accepted))
 
   never_bad : (text : List ℕ) → TellsInput holds plan input → IsInputLine holds other input text → ⊥
   never_bad text good line =

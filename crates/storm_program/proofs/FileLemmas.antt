@@ -1,5 +1,5 @@
 -- What the two files come to, from what reading them gave.
-use Rattle.std.proofs.Common.{◌≡◌, ◌≢◌, ℕ, ◌+◌, ◌%◌, ◌^◌, ◌≤◌, List, ◌++◌, true, false, codes, Some, None, sym, ap, subst, ◌∙◌, inl, inr, arith, string_bytes}
+use Rattle.std.proofs.Common.{◌≡◌, ◌≢◌, ℕ, ◌+◌, ◌%◌, ◌^◌, ◌≤◌, List, length, ◌++◌, true, false, codes, Some, None, sym, ap, subst, ◌∙◌, inl, inr, arith, string_bytes}
 use Rattle.std.proofs.Math.Nat.{mod-add-mod}
 use Rattle.storm_values.specs.declared.value.Value.{Value}
 use Rattle.storm_values.specs.declared.lines.InputFault.{InputFault}
@@ -9,7 +9,7 @@ use Rattle.storm_values.proofs.InputLemmas.{input_fault-take, records_of-take}
 use Rattle.storm_outside.specs.Counts.{Rose}
 use Rattle.topology_plan.specs.Topology.{Topology}
 use Rattle.topology_reader.specs.TopoFault.{TopoFault}
-use Rattle.topology_reader.specs.declared.parts.TopoFault.TheVariants as topology_fault
+use Rattle.topology_reader.specs.TopoFault.TheVariants as topology_fault
 use Rattle.topology_reader.specs.FirstFault.{first_fault, IsFilePlan}
 use Rattle.topology_reader.proofs.FilePlans.{plan_of_front, IsRefusedAlike, refused_by_front}
 use Rattle.storm_program.specs.declared.status.Status.{Status}
@@ -48,7 +48,7 @@ refused_line holds name front slice fault text read sliced refused line =
     }
 
 -- the records of an input that was read and accepted
-pub records_by_front : (holds : List ℕ → List ℕ → Type 0) (plan : Topology) (name front slice : List ℕ) (want : ℕ) (records : List (List Value)) → WasRead holds name 67108865 front → slice ≡ front → want ≡ plan.spout_fields → (input_fault slice want ≡ None) × (records ≡ records_of slice) → AreRecords holds plan name records
+pub records_by_front : (holds : List ℕ → List ℕ → Type 0) (plan : Topology) (name front slice : List ℕ) (want : ℕ) (records : List (List Value)) → WasRead holds name 67108865 front → slice ≡ front → want ≡ length plan.spout_fields → (input_fault slice want ≡ None) × (records ≡ records_of slice) → AreRecords holds plan name records
 records_by_front holds plan name front slice want records read sliced wants good =
     let same : input_fault read.bytes want ≡ None = sym (input_fault-take read.bytes want) ∙ (ap (λ f. input_fault f want) (sym (sliced ∙ read.is_front)) ∙ good.0) in
     record {
@@ -59,7 +59,7 @@ records_by_front holds plan name front slice want records read sliced wants good
     }
 
 -- the line that refuses an input
-pub refused_input_line : (holds : List ℕ → List ℕ → Type 0) (plan : Topology) (name front slice : List ℕ) (want : ℕ) (fault : InputFault) (text : List ℕ) → WasRead holds name 67108865 front → slice ≡ front → want ≡ plan.spout_fields → input_fault slice want ≡ Some fault → text ≡ input_line fault → IsInputLine holds plan name text
+pub refused_input_line : (holds : List ℕ → List ℕ → Type 0) (plan : Topology) (name front slice : List ℕ) (want : ℕ) (fault : InputFault) (text : List ℕ) → WasRead holds name 67108865 front → slice ≡ front → want ≡ length plan.spout_fields → input_fault slice want ≡ Some fault → text ≡ input_line fault → IsInputLine holds plan name text
 refused_input_line holds plan name front slice want fault text read sliced wants refused line =
     let same : input_fault read.bytes want ≡ Some fault = sym (input_fault-take read.bytes want) ∙ (ap (λ f. input_fault f want) (sym (sliced ∙ read.is_front)) ∙ refused) in
     record {
@@ -77,7 +77,7 @@ topology_refused shelf name front slice fault (Told s line) read sliced refused 
     subst (λ t. HasText t × TopologyComes shelf name t (string_bytes line)) (sym is) (tt, (once, refused_line shelf.holds name front slice fault (string_bytes line) read sliced (refused tells) printed))
 
 -- an input that was refused
-pub input_refused : (shelf : ShelfUse) (plan : Topology) (name front slice : List ℕ) (want : ℕ) (fault : InputFault) (stop : Stop) → WasRead shelf.holds name 67108865 front → slice ≡ front → want ≡ plan.spout_fields → (fault ≢ input_fault_is.Memory → input_fault slice want ≡ Some fault) → IfTold stop (λ ending text. (fault ≢ input_fault_is.Memory) × (ending ≡ status.Input) × (text ≡ input_line fault)) → Stops (InputComes shelf plan name) stop
+pub input_refused : (shelf : ShelfUse) (plan : Topology) (name front slice : List ℕ) (want : ℕ) (fault : InputFault) (stop : Stop) → WasRead shelf.holds name 67108865 front → slice ≡ front → want ≡ length plan.spout_fields → (fault ≢ input_fault_is.Memory → input_fault slice want ≡ Some fault) → IfTold stop (λ ending text. (fault ≢ input_fault_is.Memory) × (ending ≡ status.Input) × (text ≡ input_line fault)) → Stops (InputComes shelf plan name) stop
 input_refused shelf plan name front slice want fault Memory read sliced wants refused told = tt
 input_refused shelf plan name front slice want fault (Told s line) read sliced wants refused (tells, is, printed) =
     subst (λ t. HasText t × InputComes shelf plan name t (string_bytes line)) (sym is) (tt, refused_input_line shelf.holds plan name front slice want fault (string_bytes line) read sliced wants (refused tells) printed)

@@ -1,5 +1,5 @@
 -- What every command on a topology and an input does before its own work: it reads and refuses the two files, in order.
-use Rattle.std.specs.Prelude.{◌≡◌, ◌⊎◌, ℕ, List, Some, None, true, false}
+use Rattle.std.specs.Prelude.{◌≡◌, ◌⊎◌, ℕ, List, length, Some, None, true, false}
 use Rattle.storm_values.specs.declared.value.Value.{Value}
 use Rattle.storm_values.specs.declared.lines.InputFault.{InputFault}
 use Rattle.storm_values.specs.Lines.{input_fault, records_of}
@@ -29,7 +29,7 @@ pub record IsRunnable (holds : List ℕ → List ℕ → Type 0) (name : List �
 pub record AreRecords (holds : List ℕ → List ℕ → Type 0) (plan : Topology) (name : List ℕ) (records : List (List Value)) : Type 0 where
   pub bytes : List ℕ
   pub were_read : AreBytesOf holds name bytes
-  pub is_accepted : input_fault bytes plan.spout_fields ≡ None
+  pub is_accepted : input_fault bytes (length plan.spout_fields) ≡ None
   pub are : records ≡ records_of bytes
 
 -- both files were read and accepted: this is their plan, and these are their records
@@ -59,7 +59,7 @@ pub record IsInputLine (holds : List ℕ → List ℕ → Type 0) (plan : Topolo
   pub bytes : List ℕ
   pub were_read : AreBytesOf holds name bytes
   pub fault : InputFault
-  pub is_refused : input_fault bytes plan.spout_fields ≡ Some fault
+  pub is_refused : input_fault bytes (length plan.spout_fields) ≡ Some fault
   pub printed : text ≡ input_line fault
 
 -- The file of a name was not read: the shelf's count of faults rose, and it is no file that a ready shelf holds.
@@ -103,14 +103,14 @@ pub record TellsTopologyFault (holds : List ℕ → List ℕ → Type 0) (name :
 pub record TellsInput (holds : List ℕ → List ℕ → Type 0) (plan : Topology) (name : List ℕ) : Type 0 where
   pub bytes : List ℕ
   pub told : holds name bytes
-  pub is_accepted : input_fault bytes plan.spout_fields ≡ None
+  pub is_accepted : input_fault bytes (length plan.spout_fields) ≡ None
 
 -- the shelf tells an input with a fault
 pub record TellsInputFault (holds : List ℕ → List ℕ → Type 0) (plan : Topology) (name : List ℕ) : Type 0 where
   pub bytes : List ℕ
   pub told : holds name bytes
   pub fault : InputFault
-  pub is_refused : input_fault bytes plan.spout_fields ≡ Some fault
+  pub is_refused : input_fault bytes (length plan.spout_fields) ≡ Some fault
 
 -- Which status the told topology and input call for. That of `Done` stands for a command that does its own work.
 abbrev pub FilesCall : (List ℕ → List ℕ → Type 0) → List ℕ → List ℕ → Status → Type 0

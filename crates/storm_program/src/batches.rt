@@ -58,8 +58,10 @@ impl Batches {
 
     /// The records of a batch, the first of which has the number 1.
     pub fn batch(&self, txid: u64) -> Option<&[Row]>
-        ensures none { IsNone result ↔ (txid ≡ 0) ⊎ (batch_count (length self.now.records) self.now.size < txid) }
-        ensures records { IfSome result (λ batch. batch.now ≡ batch_of self.now.size txid self.now.records) }
+        ensures none { IsNone result
+            ↔ (txid ≡ 0) ⊎ (batch_count (length self.now.records) self.now.size < txid) }
+        ensures records { IfSome result (λ batch.
+            batch.now ≡ batch_of self.now.size txid self.now.records) }
     {
         let rows = self.rows.as_slice();
         if txid == 0 || txid > self.count() {

@@ -1,6 +1,7 @@
-ghost use Rattle.std.specs.Prelude.{◌≡◌, ◌≤◌, ◌<◌, ◌-◌, ◌*◌, [], length, take, IfOk, OnOk, OnErr};
+ghost use Rattle.std.specs.Prelude.{◌≡◌, ◌≤◌, ◌<◌, ◌-◌, ◌*◌, [], length, take, All, IfOk, OnOk, OnErr};
+ghost use Rattle.storm_values.specs.Rows.{IsRow};
 ghost use Rattle.tree_model.specs.Trees.{writes};
-ghost use Rattle.tree_model.specs.Tables.{AreTables, IsTallyOf};
+ghost use Rattle.tree_model.specs.Tables.{AreTables, AreRunningTables};
 ghost use Rattle.storm_program.specs.Batches.{batch_count};
 ghost use Rattle.storm_program.specs.Custom.{as_it_is};
 ghost use Rattle.storm_program.specs.Fates.{ticks_handed_out, committed_records, IsOnce, IsWhole};
@@ -12,7 +13,7 @@ use crate::fates::{Attempt, End, Fates};
 use std::alloc::Global;
 use storm_values::{Memory, Root};
 use topology_plan::Plan;
-use tree_model::{Tables, Tally, writes_of};
+use tree_model::{RunningTables, Tables, writes_of};
 
 /// Runs a plan over its batches, one after another, and commits each at its first attempt.
 pub fn run_batches(
@@ -21,7 +22,8 @@ pub fn run_batches(
     batches: &Batches,
     fates: &mut Fates,
 ) -> Result<Tables, Memory>
-    requires { fates.old ≡ [] }
+    requires fates { fates.old ≡ [] }
+    requires rows { All (IsRow (length plan.now.spout_fields)) batches.now.records }
     ensures tables { IfOk result (AreTables plan.now
         (writes plan.now as_it_is (committed_records batches.now.records fates.new))) }
     ensures fates { OnOk result (IsWhole (length batches.now.records) batches.now.size
@@ -29,13 +31,13 @@ pub fn run_batches(
     ensures once { OnErr result (IsOnce (length batches.now.records) batches.now.size
         ticks_handed_out fates.new) }
 {
-    let mut tally = Tally::new(alloc, plan)?;
+    let mut running = RunningTables::new(alloc, plan)?;
     for number in 0..batches.count() {
         let txid = number + 1;
-        run_batch(alloc, plan, batches, txid, &mut tally)?;
+        run_batch(alloc, plan, batches, txid, &mut running)?;
         fates.push(committed(batches, txid))?;
     }
-    tally.tables(alloc, plan)
+    running.tables(alloc, plan)
 }
 
 /// Executes the nodes of a batch in path order, and adds its writes to the tables.
@@ -44,19 +46,24 @@ fn run_batch(
     plan: &Plan,
     batches: &Batches,
     txid: u64,
-    tally: &mut Tally,
+    running: &mut RunningTables,
 ) -> Result<(), Memory>
     requires first { 0 < txid }
     requires last { txid ≤ batch_count (length batches.now.records) batches.now.size }
+    requires rows { All (IsRow (length plan.now.spout_fields)) batches.now.records }
     ensures { OnOk result (
-        IsTallyOf plan.now (writes plan.now as_it_is (take ((txid - 1) * batches.now.size) batches.now.records)) tally.old
-        → IsTallyOf plan.now (writes plan.now as_it_is (take (txid * batches.now.size) batches.now.records)) tally.new) }
+        AreRunningTables plan.now
+        (writes plan.now as_it_is (take ((txid - 1) * batches.now.size) batches.now.records))
+        running.old
+        → AreRunningTables plan.now
+        (writes plan.now as_it_is (take (txid * batches.now.size) batches.now.records))
+        running.new) }
 {
     let Some(batch) = batches.batch(txid) else {
         unreachable!()
     };
     let writes = writes_of(alloc, plan, batch, &AsItIs)?;
-    tally.add(plan, writes)
+    running.add(plan, writes)
 }
 
 /// The first attempt of a batch, which was committed before any tick.

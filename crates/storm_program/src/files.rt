@@ -1,4 +1,5 @@
-ghost use Rattle.std.specs.Prelude.{◌≡◌, ◌≤◌, ◌<◌, ◌+◌, ◌-◌, ◌%◌, ◌^◌, ℕ, List, IfOk, IfErr, OnOk, IsErrOf};
+ghost use Rattle.std.specs.Prelude.{◌≡◌, ◌≤◌, ◌<◌, ◌+◌, ◌-◌, ◌%◌, ◌^◌, ℕ, List, length, All, IfOk, IfErr, OnOk, IsErrOf};
+ghost use Rattle.storm_values.specs.Rows.{IsRow};
 ghost use Rattle.storm_outside.specs.Counts.{Rose};
 ghost use Rattle.storm_program.specs.Files.{IsAccepted, AreRecords, AreAccepted, FilesCome};
 ghost use Rattle.storm_program.specs.steps.Reading.{TopologyComes};
@@ -11,7 +12,7 @@ use crate::status::Status;
 use crate::stop::{Stop, refused_input, refused_topology, told};
 use std::alloc::Global;
 use storm_outside::{InFault, Shelf, read_all};
-use storm_values::{Bytes, Rows, read_input};
+use storm_values::{Bytes, MOST_INPUT_BYTES, Rows, read_input};
 use topology_plan::Plan;
 use topology_reader::{MOST_TOPOLOGY_BYTES, read_topology};
 
@@ -19,7 +20,7 @@ use topology_reader::{MOST_TOPOLOGY_BYTES, read_topology};
 const MOST_TOPOLOGY: u64 = MOST_TOPOLOGY_BYTES as u64;
 
 /// The most bytes of an input.
-const MOST_INPUT: u64 = 67_108_864;
+const MOST_INPUT: u64 = MOST_INPUT_BYTES as u64;
 
 /// An accepted topology and the records of its input.
 #[derive(Drop)]
@@ -37,10 +38,13 @@ pub fn read_files<H: Shelf>(
 ) -> Result<Accepted, Stop>
     ensures accepted { IfOk result (λ files.
         AreAccepted (H.holds shelf.old) topology.now input.now files.plan files.rows) }
+    ensures rows { IfOk result (λ files.
+        All (IsRow (length files.plan.spout_fields)) files.rows) }
     ensures fetches { OnOk result
         (Fetched 2 (shelf_use H.holds H.ready H.fetches H.faults shelf.old shelf.new)) }
     ensures stop { IfErr result (Stops (FilesCome
-        (shelf_use H.holds H.ready H.fetches H.faults shelf.old shelf.new) topology.now input.now)) }
+        (shelf_use H.holds H.ready H.fetches H.faults shelf.old shelf.new)
+        topology.now input.now)) }
     ensures never_falls { H.faults shelf.old ≤ H.faults shelf.new }
 {
     let plan = read_plan(alloc, topology, shelf)?;
@@ -76,6 +80,7 @@ fn read_records<H: Shelf>(
     shelf: &mut H,
 ) -> Result<Rows, Stop>
     ensures records { IfOk result (AreRecords (H.holds shelf.old) plan.now name.now) }
+    ensures rows { IfOk result (All (IsRow (length plan.now.spout_fields))) }
     ensures stop { IfErr result (Stops (InputComes
         (shelf_use H.holds H.ready H.fetches H.faults shelf.old shelf.new) plan.now name.now)) }
     ensures fetches { H.fetches shelf.new ≡ (H.fetches shelf.old + 1) % 2 ^ 64 }
@@ -120,7 +125,8 @@ fn fetch_file<H: Shelf>(
 ) -> Result<Bytes, InFault>
     requires { most < 2 ^ 64 - 1 }
     ensures bytes { IfOk result (WasRead (H.holds shelf.old) name.now (most + 1)) }
-    ensures failed { IsErrOf result InFault.Failed → Rose (H.faults shelf.old) (H.faults shelf.new) }
+    ensures failed { IsErrOf result InFault.Failed →
+        Rose (H.faults shelf.old) (H.faults shelf.new) }
     ensures never_falls { H.faults shelf.old ≤ H.faults shelf.new }
     ensures fetches { H.fetches shelf.new ≡ (H.fetches shelf.old + 1) % 2 ^ 64 }
     ensures files { (n bytes : List ℕ) → H.holds shelf.old n bytes → H.holds shelf.new n bytes }

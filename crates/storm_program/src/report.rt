@@ -33,7 +33,8 @@ pub fn report_text(
 }
 
 fn push_attempts(text: &mut String, fates: &[Attempt]) -> Result<(), Memory>
-    ensures { OnOk result (string_bytes text.new ≡ string_bytes text.old ++ flat_map attempt_text (attempt_lines fates.now)) }
+    ensures { OnOk result (string_bytes text.new
+        ≡ string_bytes text.old ++ flat_map attempt_text (attempt_lines fates.now)) }
 {
     for attempt in fates {
         write!(text, "{attempt}")?;
@@ -42,7 +43,8 @@ fn push_attempts(text: &mut String, fates: &[Attempt]) -> Result<(), Memory>
 }
 
 fn push_cells(text: &mut String, tables: &[Table]) -> Result<(), Memory>
-    ensures { OnOk result (string_bytes text.new ≡ string_bytes text.old ++ flat_map cell_text (cells_of tables.now)) }
+    ensures { OnOk result (string_bytes text.new
+        ≡ string_bytes text.old ++ flat_map cell_text (cells_of tables.now)) }
 {
     for table in tables {
         push_table(text, table.name.as_str(), table.pairs.as_slice())?;
@@ -51,7 +53,8 @@ fn push_cells(text: &mut String, tables: &[Table]) -> Result<(), Memory>
 }
 
 fn push_table(text: &mut String, name: &str, pairs: &[Pair]) -> Result<(), Memory>
-    ensures { OnOk result (string_bytes text.new ≡ string_bytes text.old ++ flat_map cell_text (map (cell_of name.now) pairs.now)) }
+    ensures { OnOk result (string_bytes text.new
+        ≡ string_bytes text.old ++ flat_map cell_text (map (cell_of name.now) pairs.now)) }
 {
     for pair in pairs {
         let key = pair.key.as_str();

@@ -1,4 +1,5 @@
-ghost use Rattle.std.specs.Prelude.{◌≡◌, ◌≤◌, [], length, IfOk, IfErr, OnErr, string_bytes};
+ghost use Rattle.std.specs.Prelude.{◌≡◌, ◌≤◌, [], length, All, IfOk, IfErr, OnErr, string_bytes};
+ghost use Rattle.storm_values.specs.Rows.{IsRow};
 ghost use Rattle.storm_program.specs.declared.status.Status.{Status};
 ghost use Rattle.storm_program.specs.Fates.{ticks_handed_out, IsOnce};
 ghost use Rattle.storm_program.specs.Outside.{shelf_use};
@@ -39,9 +40,12 @@ pub fn run_files<H: Shelf>(
 
 /// Runs a plan over the records of its input, and makes the report.
 fn run_accepted(alloc: Global, files: Accepted, fates: &mut Fates) -> Result<String, Memory>
-    requires { fates.old ≡ [] }
-    ensures report { IfOk result (λ text. IsReport files.plan files.rows fates.new (string_bytes text)) }
-    ensures once { OnErr result (IsOnce (length files.rows) files.plan.batch ticks_handed_out fates.new) }
+    requires fates { fates.old ≡ [] }
+    requires rows { All (IsRow (length files.plan.spout_fields)) files.rows }
+    ensures report { IfOk result (λ text.
+        IsReport files.plan files.rows fates.new (string_bytes text)) }
+    ensures once { OnErr result
+        (IsOnce (length files.rows) files.plan.batch ticks_handed_out fates.new) }
 {
     let Accepted { plan, rows } = files;
     let batches = Batches::cut(rows, plan.batch());

@@ -39,7 +39,8 @@ pub fn told(alloc: Global, status: Status, line: &str) -> Stop
 /// The refusal of a topology.
 pub fn refused_topology(alloc: Global, fault: &TopoFault) -> Stop
     ensures { IfTold result (λ ending text.
-        (fault.now ≢ TopoFault.Memory) × (ending ≡ Status.Topology) × (text ≡ topology_line fault.now)) }
+        (fault.now ≢ TopoFault.Memory)
+        × (ending ≡ Status.Topology) × (text ≡ topology_line fault.now)) }
 {
     if matches!(fault, TopoFault::Memory) {
         return Stop::Memory;

@@ -56,7 +56,8 @@ fn check_of<'a>(verb: &str, topology: &'a str) -> Option<Command<'a>>
 }
 
 fn run_of<'a>(verb: &str, topology: &'a str, input: &'a str) -> Option<Command<'a>>
-    ensures command { option_map command_of_words result ≡ built (verb.now ∷ topology.now ∷ input.now ∷ []) }
+    ensures command { option_map command_of_words result
+        ≡ built (verb.now ∷ topology.now ∷ input.now ∷ []) }
     ensures workers { IfSome result HasWorkers }
 {
     if verb != "run" {
@@ -77,7 +78,8 @@ fn run_of<'a>(verb: &str, topology: &'a str, input: &'a str) -> Option<Command<'
 
 /// A run with a number of workers from 1 to 64.
 fn run_with<'a>(verb: &str, topology: &'a str, input: &'a str, workers: &str) -> Option<Command<'a>>
-    ensures command { option_map command_of_words result ≡ built (verb.now ∷ topology.now ∷ input.now ∷ workers.now ∷ []) }
+    ensures command { option_map command_of_words result
+        ≡ built (verb.now ∷ topology.now ∷ input.now ∷ workers.now ∷ []) }
     ensures workers { IfSome result HasWorkers }
 {
     if verb != "run" {

@@ -2,10 +2,10 @@ use Rattle.std.proofs.Common.{◌≡◌, ℕ, ◌+◌, ◌-◌, ◌*◌, ◌≤�
 use Rattle.std.proofs.lemmas.List.{take_all}
 use Rattle.std.proofs.lemmas.Result.{IfOk-weaker}
 use Rattle.tree_model.specs.Trees.{writes}
-use Rattle.tree_model.specs.Tables.{IsTallyOf}
+use Rattle.tree_model.specs.Tables.{AreRunningTables}
 use Rattle.storm_program.specs.Custom.{as_it_is}
 use Rattle.storm_program.specs.Fates.{committed_records, IsWhole}
-use Rattle.storm_program.proofs.EngineLemmas.{tally_empty}
+use Rattle.storm_program.proofs.EngineLemmas.{running_empty}
 use Rattle.storm_program.proofs.FateLemmas.{attempts_joined, first_attempts, first_attempts_whole, once_so_far, OnErr-always}
 use Rattle.storm_program.proofs.RecordLemmas.{records_are_all}
 use Rattle.storm_program.proofs.engine.run_batches.Goals as goal
@@ -16,8 +16,8 @@ next_before n = omega arith
 
 pub loop-number-init : goal.loop-number-init
 loop-number-init c = record {
-  tally = tally_empty _ as_it_is c.args.batches.now.size c.args.batches.now.records _ c.in_ok-tally.ensures;
-  fates = c.requires;
+  running = running_empty _ as_it_is c.args.batches.now.size c.args.batches.now.records _ c.in_ok-running.ensures;
+  fates = c.requires.fates;
 }
 
 pub loop-number-preserved : goal.loop-number-preserved
@@ -25,7 +25,7 @@ loop-number-preserved c =
     let n = length c.args.batches.now.records in
     let size = c.args.batches.now.size in
     let k = c.loop-number.number in record {
-      tally = c.in_ok-run_batch.ensures (subst (λ m. IsTallyOf c.args.plan.now (writes c.args.plan.now as_it_is (take (m * size) c.args.batches.now.records)) c.loop-number.tally) (next_before k) c.loop-number.invariant.tally);
+      running = c.in_ok-run_batch.ensures (subst (λ m. AreRunningTables c.args.plan.now (writes c.args.plan.now as_it_is (take (m * size) c.args.batches.now.records)) c.loop-number.running) (next_before k) c.loop-number.invariant.running);
       fates = c.in_ok-push.ensures.ok ∙ (ap (λ fates. fates ++ c.committed.result ∷ []) c.loop-number.invariant.fates ∙ (ap (λ a. first_attempts n size k ++ a ∷ []) c.committed.ensures ∙ attempts_joined n size k));
     }
 
@@ -38,8 +38,8 @@ returns-clause-tables c =
     let whole : IsWhole (length records) size 0 c.loop-number.fates = subst (IsWhole (length records) size 0) (sym fates) (first_attempts_whole (length records) size c.count-number-end.ensures.sized) in
     let enough : length records ≤ c.loop-number.number * size = subst (λ m. length records ≤ m * size) (sym last) c.count-number-end.ensures.enough in
     let all : take (c.loop-number.number * size) records ≡ committed_records records c.loop-number.fates = take_all (c.loop-number.number * size) records enough ∙ sym (records_are_all records size 0 c.loop-number.fates whole) in
-    let tally = subst (λ rs. IsTallyOf c.args.plan.now (writes c.args.plan.now as_it_is rs) c.loop-number.tally) all c.loop-number.invariant.tally in
-    IfOk-weaker c.tables.result _ _ (λ _ are. are _ tally) c.tables.ensures
+    let running = subst (λ rs. AreRunningTables c.args.plan.now (writes c.args.plan.now as_it_is rs) c.loop-number.running) all c.loop-number.invariant.running in
+    IfOk-weaker c.tables.result _ _ (λ _ are. are _ running) c.tables.ensures
 
 pub returns-clause-fates : goal.returns-clause-fates
 returns-clause-fates c =
