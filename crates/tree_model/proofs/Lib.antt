@@ -11,3 +11,4 @@ pub mod Walks
 pub mod TreePaths
 mod Within
 mod Counts
+pub mod Ways

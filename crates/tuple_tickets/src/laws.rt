@@ -23,7 +23,8 @@ pub fn tickets_grow_along_trees<N>()
 pub fn roots_have_few_tickets<N>()
     ensures { (coded : Coded N) (g : Growth N) (a : Account N) → IsAccount g a
         → (root : Root) (paths : List (List ℕ))
-        → ((path : List ℕ) (node : N) → node_at g root path ≡ Some node → Contains paths path)
+        → ((path : List ℕ) (node : N) → node_at g root path ≡ Some node
+            → Contains paths path)
         → weigh (is_of root) (issued g a) ≤ length paths }
 {}
 

@@ -1,0 +1,8 @@
+use Rattle.tuple_runs.proofs.Sound.{once, nodes}
+use Rattle.tuple_runs.proofs.laws.tuples_grow_along_trees.Goals as goal
+
+pub returns-clause-once : goal.returns-clause-once
+returns-clause-once c = once
+
+pub returns-clause-nodes : goal.returns-clause-nodes
+returns-clause-nodes c = nodes
