@@ -1,7 +1,6 @@
 -- The laws of tickets, read off for tuples.
-use Rattle.std.proofs.Common.{◌≡◌, ◌≢◌, ℕ, ◌+◌, ◌≤◌, Bool, true, false, cond, List, [], ◌∷◌, ◌++◌, length, map, flat_map, Some, IsSome, sym, refl, ap, subst, ◌∙◌, arith}
+use Rattle.std.proofs.Common.{◌≡◌, ◌≢◌, ℕ, ◌≤◌, Bool, true, false, cond, List, [], ◌∷◌, length, map, flat_map, Some, IsSome, sym, refl, ap, subst, ◌∙◌, arith}
 use Rattle.std.specs.List.{AllByRecursion}
-use Rattle.std.specs.Option.{option_to_list}
 use Rattle.counted_items.specs.Weights.{weigh, Within}
 use Rattle.counted_items.proofs.Each.{each-append, each-flat_map, each-map, each-to_map, each-weaker, each-both}
 use Rattle.counted_items.proofs.Equality.{each-within}
@@ -12,7 +11,6 @@ use Rattle.topology_plan.specs.declared.parts.Origin.TheVariants as origin
 use Rattle.topology_plan.specs.Topology.{Topology}
 use Rattle.topology_plan.specs.Valid.{IsValid}
 use Rattle.tuple_tickets.specs.Lists.{paths_of}
-use Rattle.tuple_tickets.specs.Lists as said_lists
 use Rattle.tuple_tickets.specs.Notes as notes
 use Rattle.tuple_tickets.specs.Paths.{paths_below}
 use Rattle.tuple_tickets.specs.Roots.{root_eq}
@@ -28,11 +26,11 @@ use Rattle.tuple_tickets.proofs.Told.{paths_of_tickets, list_single, list_steady
 use Rattle.tree_model.specs.declared.messages.AckMsg.{AckMsg}
 use Rattle.tree_model.specs.declared.messages.Tuple.{Tuple}
 use Rattle.tree_model.specs.Lists.{root_of, said, is_failed, IsTrueOf, AreTrueOf, IsSingle, IsSteady, Covers}
-use Rattle.tree_model.specs.Trees.{Node, kids, kids_of, node_at, node_count}
+use Rattle.tree_model.specs.Trees.{Node, kids, kids_of, node_count}
 use Rattle.tree_model.proofs.Reading.{read_at, inits_said, failures_said, consumed_said, single_read, steady_read}
 use Rattle.tree_model.proofs.Ways.{paths, paths_are, as_many_paths}
 use Rattle.tuple_runs.specs.Accounts.{Account, is_begun, is_of, is_at, notes_about, issued, issued_notes, IsBegun, IsRun, IsAccount, IsNode}
-use Rattle.tuple_runs.specs.Issued.{Begun, Run, node_of, tuples_from, edges_of, first_tuples, init_of, course_of_run, children_of, notes_by, notes_of}
+use Rattle.tuple_runs.specs.Issued.{Begun, Run, node_of, tuples_from, edges_of, init_of, course_of_run, notes_by, notes_of}
 use Rattle.tuple_runs.proofs.Codes.{node_code, msg_code}
 use Rattle.tuple_runs.proofs.Reading.{ticket_of, begun_read, run_read, account_read, tuples_read, edges_read, grows, issued_read, within_read, has_all_read, account_is}
 
