@@ -1,6 +1,6 @@
 -- Passes and seats stand for numbers; a number is a list of whole numbers. The first holder has the
--- number with no digits; the k-th split of a number p gives p followed by k, from 0. A join gives one
--- holder the numbers of two. This project's own.
+-- number with no digits; the k-th split of a number p gives p followed by k, from 0. A join gives
+-- one holder the numbers of two. This project's own.
 use Rattle.std.specs.Prelude.{◌≡◌, ℕ, ◌+◌, nat_lt, if◌then◌else◌, List, [], ◌∷◌, ◌++◌}
 use Rattle.std.specs.Str.{bytes_eq}
 use Rattle.counted_items.specs.Weights.{weigh}

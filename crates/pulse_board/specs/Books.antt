@@ -82,8 +82,8 @@ both_of b c =
 
 -- ---- what a seat with all numbers knows
 
--- A marked book drew at least 2^64 - 1 numbers. A book that is not marked drew the numbers from 1 to
--- some T, each once, and has seen at most T.
+-- A marked book drew at least 2^64 - 1 numbers. A book that is not marked drew the numbers from 1
+-- to some T, each once, and has seen at most T.
 pub record Tells (b : Book) : Type 0 where
   pub marked : b.wrapped ≡ true → top ≤ length b.drawn
   pub drawn : b.wrapped ≡ false → Same b.drawn (one_to (length b.drawn))

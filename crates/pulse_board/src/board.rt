@@ -22,8 +22,8 @@ impl Board {
         Ok((Board { table }, BoardSeat { inner, size: 0 }))
     }
 
-    /// The number of this tick, counted from 1 modulo 2^64. A tick that finds the count at 2^64 - 1, or
-    /// below what the seat has seen, marks the seat's book as wrapped and draws no number.
+    /// The number of this tick, counted from 1 modulo 2^64. A tick that finds the count at 2^64 -
+    /// 1, or below what the seat has seen, marks the seat's book as wrapped and draws no number.
     pub fn tick(&self, seat: &mut BoardSeat) -> u64
         requires { IsSeatOf self.now seat.old }
         ensures seat { IsSeatOf self.now seat.new }

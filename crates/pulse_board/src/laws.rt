@@ -6,8 +6,8 @@ ghost use Rattle.pulse_board.specs.declared.rule.Book.{Book};
 ghost use Rattle.pulse_board.specs.Books.{one_to};
 ghost use Rattle.pulse_board.specs.Rule.{Kept, drawn_of, makers, halted_books};
 
-/// A law: where no book is marked, the numbers in all books are 1 to some t, each in one book, and no
-/// seat has seen more than t.
+/// A law: where no book is marked, the numbers in all books are 1 to some t, each in one book, and
+/// no seat has seen more than t.
 pub fn unmarked_books_count_all()
     ensures { (words : List ℕ) (books : List Book)
         → Kept words books → AllByRecursion (λ (b : Book). b.wrapped ≡ false) books

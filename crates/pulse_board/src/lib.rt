@@ -1,5 +1,5 @@
-//! A board that threads share. It counts ticks and remembers a halt, and each seat keeps a book of what
-//! it saw, drew and did there. No call waits for another thread, and only `new` takes memory.
+//! A board that threads share. It counts ticks and remembers a halt, and each seat keeps a book of
+//! what it saw, drew and did there. No call waits for another thread, and only `new` takes memory.
 #![tactic(auto)]
 
 mod board;

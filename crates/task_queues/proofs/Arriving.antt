@@ -1,14 +1,12 @@
 -- With one taker, what arrives of each sender is what it sent, in its order, whole and once.
-use Rattle.std.proofs.Common.{◌≡◌, ℕ, zero, suc, ◌+◌, ◌<◌, ◌≤◌, nat_lt, Bool, true, false, cond, List, [], ◌∷◌, ◌++◌, length, get_or, sym, refl, ap, subst, ◌∙◌, arith}
-use Rattle.std.specs.Prelude.{Any}
+use Rattle.std.proofs.Common.{◌≡◌, ℕ, zero, suc, ◌<◌, ◌≤◌, List, [], ◌∷◌, ◌++◌, length, get_or, sym, refl, ap, subst, arith}
 use Rattle.std.specs.List.{AllByRecursion}
 use Rattle.std.specs.Coded.{Coded}
-use Rattle.std.specs.Str.{bytes_eq}
 use mathlib.Core.Option.{some, some-injective, some-ne-none}
 use lib.ListN.{get_elem?}
 use Rattle.counted_items.specs.Weights.{weigh, Same}
 use Rattle.counted_items.proofs.Weighing.{weigh-none, weigh-map}
-use Rattle.pass_numbers.specs.Numbers.{has, IsWhole, Numbered}
+use Rattle.pass_numbers.specs.Numbers.{has, IsWhole}
 use Rattle.pass_numbers.proofs.Weights.{weigh-at}
 use Rattle.pass_numbers.proofs.Numbering.{has-le, has_self, has-none, one_numbered}
 use Rattle.task_queues.specs.declared.rule.Book.{Book}
@@ -17,7 +15,7 @@ use Rattle.task_queues.specs.Books.{stamped, sent_of, taken_of, numbers_in}
 use Rattle.task_queues.specs.Rule.{Rises}
 use Rattle.task_queues.specs.Whole.{stamps_under, Arrives, HasOneTaker}
 use Rattle.task_queues.proofs.Weighed.{sent_weight, sent-is}
-use Rattle.task_queues.proofs.Order.{IsUnder, under, weigh-under, Rises-under, under-are, sent-rises, sent-are, sent-under, sent-other, rising_same}
+use Rattle.task_queues.proofs.Order.{under, weigh-under, Rises-under, under-are, sent-rises, sent-are, sent-under, sent-other, rising_same}
 
 module _ {X : Type 0} where
   -- where g counts one item at most, and f weighs nothing where g counts nothing, f weighs what that item weighs

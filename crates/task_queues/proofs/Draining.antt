@@ -12,7 +12,7 @@ use Rattle.task_queues.specs.declared.rule.Book.{Book}
 use Rattle.task_queues.specs.declared.rule.Stamped.{Stamped}
 use Rattle.task_queues.specs.declared.rule.View.{View}
 use Rattle.task_queues.specs.Books.{sent_of, taken_of, taken_first, took, with_books, numbers_in, numbers_of}
-use Rattle.task_queues.specs.Rule.{items_of, Rises, IsKept, Kept, Stood}
+use Rattle.task_queues.specs.Rule.{items_of, Rises, IsKept, Stood}
 use Rattle.task_queues.specs.Steps.{TakesOne}
 use Rattle.task_queues.specs.Whole.{IsLeft}
 use Rattle.task_queues.proofs.Stamps.{Rises-back}

@@ -1,5 +1,5 @@
 -- What send and take answer to a pass with all numbers, and the passes that a caller holds.
-use Rattle.std.proofs.Common.{◌≡◌, ◌≢◌, ℕ, ◌+◌, ◌<◌, ◌≤◌, ◌↔◌, true, false, true≢false, List, [], ◌∷◌, ◌++◌, length, length-append, append-nil, sym, refl, ap, subst, ◌∙◌, arith}
+use Rattle.std.proofs.Common.{◌≡◌, ◌≢◌, ℕ, ◌+◌, ◌↔◌, true≢false, List, [], ◌∷◌, ◌++◌, length, length-append, sym, refl, ap, subst, ◌∙◌, arith}
 use Rattle.std.specs.Prelude.{Option, Some, None, Result, Ok, Err, IsErr, IsNone, IfSome, MatchResult, MatchOption}
 use Rattle.crossbeam_queue.specs.Fifo.{Held}
 use Rattle.counted_items.specs.Weights.{Same}

@@ -1,5 +1,5 @@
 -- A push keeps the rule.
-use Rattle.std.proofs.Common.{◌≡◌, ℕ, ◌+◌, ◌<◌, ◌≤◌, false, List, [], ◌∷◌, ◌++◌, set, length, sym, refl, ap, subst, ◌∙◌, append_assoc, length-append, arith}
+use Rattle.std.proofs.Common.{◌≡◌, ℕ, ◌+◌, ◌<◌, false, List, [], ◌∷◌, ◌++◌, set, length, refl, ap, subst, ◌∙◌, append_assoc, length-append, arith}
 use Rattle.std.specs.List.{AllByRecursion}
 use mathlib.Core.Option.{some}
 use lib.ListN.{get_elem?}
@@ -14,7 +14,7 @@ use Rattle.task_queues.specs.declared.rule.Book.{Book}
 use Rattle.task_queues.specs.declared.rule.Stamped.{Stamped}
 use Rattle.task_queues.specs.declared.rule.View.{View}
 use Rattle.task_queues.specs.Books.{viewed, stamp, stamped_from, numbers_of}
-use Rattle.task_queues.specs.Rule.{items_of, Below, Rises, IsKept, Kept}
+use Rattle.task_queues.specs.Rule.{Below, Rises, IsKept, Kept}
 use Rattle.task_queues.proofs.Weighed.{sent_weight, taken_weight, in_view, books-set, balanced_in, balanced_out}
 use Rattle.task_queues.proofs.Stamps.{stamped-more, late, all-below, early, Rises-more}
 

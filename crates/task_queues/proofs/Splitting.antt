@@ -1,5 +1,5 @@
 -- A split and a join keep the rule, and a box gets its terms.
-use Rattle.std.proofs.Common.{◌≡◌, ◌≢◌, ◌⊎◌, ℕ, zero, suc, ◌+◌, ◌≤◌, Bool, true, false, true≢false, List, [], ◌∷◌, ◌++◌, set, map, inl, inr, ⊎_elim, sym, refl, ap, subst, ◌∙◌, arith}
+use Rattle.std.proofs.Common.{◌≡◌, ℕ, zero, suc, ◌+◌, false, true≢false, List, [], ◌∷◌, ◌++◌, set, inr, ⊎_elim, sym, refl, ap, ◌∙◌, arith}
 use Rattle.std.specs.List.{AllByRecursion}
 use mathlib.Core.Option.{some, some-injective, some-ne-none}
 use lib.ListN.{get_elem?}
@@ -7,15 +7,15 @@ use Rattle.counted_items.specs.Weights.{weigh}
 use Rattle.counted_items.proofs.Each.{each-append, each-weaker}
 use Rattle.counted_items.proofs.Weighing.{weigh-append}
 use Rattle.pass_numbers.specs.declared.Number.{Number}
-use Rattle.pass_numbers.specs.Numbers.{first_numbers, over, Numbered}
+use Rattle.pass_numbers.specs.Numbers.{over}
 use Rattle.pass_numbers.proofs.Lists.{each-set, each-at, map-append}
 use Rattle.pass_numbers.proofs.Weights.{weigh-set}
 use Rattle.pass_numbers.proofs.Numbering.{first_whole, one_numbered, numbered_as, split_numbered}
 use Rattle.topology_plan.specs.Topology.{Topology}
 use Rattle.task_queues.specs.declared.rule.Book.{Book}
 use Rattle.task_queues.specs.declared.rule.View.{View}
-use Rattle.task_queues.specs.Books.{no_plan, viewed, no_view, blank, first_view, numbers_in, numbers_of, kept_first, cut_first}
-use Rattle.task_queues.specs.Rule.{Rises, IsKept, Kept, Ruled}
+use Rattle.task_queues.specs.Books.{viewed, no_view, blank, first_view, numbers_in, numbers_of, kept_first, cut_first}
+use Rattle.task_queues.specs.Rule.{IsKept, Kept, Ruled}
 use Rattle.task_queues.proofs.Weighed.{sent_weight, taken_weight, in_view, over_books, books-set, books-set-append, balanced_in, balanced_out}
 use Rattle.task_queues.proofs.Sending.{with_view}
 

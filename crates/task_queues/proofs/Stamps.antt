@@ -1,5 +1,5 @@
 -- Stamps of a number below a place, and rising stamps.
-use Rattle.std.proofs.Common.{◌≡◌, ◌≢◌, ℕ, zero, suc, ◌+◌, ◌<◌, ◌≤◌, nat_le, Bool, true, false, cond, List, [], ◌∷◌, ◌++◌, length, sym, refl, ap, ◌∙◌, arith}
+use Rattle.std.proofs.Common.{◌≡◌, ℕ, suc, ◌+◌, ◌<◌, ◌≤◌, nat_le, Bool, true, false, cond, List, [], ◌∷◌, ◌++◌, length, refl, ap, arith}
 use Rattle.std.proofs.lemmas.Slice.Eq.{bytes_eq-Decides}
 use Rattle.std.proofs.lemmas.Bool.Decides.{nat_tests}
 use Rattle.std.specs.Str.{bytes_eq}
@@ -7,8 +7,8 @@ use Rattle.std.specs.List.{AllByRecursion}
 use mathlib.Core.Option.{some}
 use lib.ListN.{get_elem?}
 use Rattle.counted_items.specs.Weights.{weigh}
-use Rattle.counted_items.proofs.Each.{each-append, each-weaker, each-back}
-use Rattle.pass_numbers.specs.Numbers.{has, Numbered}
+use Rattle.counted_items.proofs.Each.{each-append, each-weaker}
+use Rattle.pass_numbers.specs.Numbers.{Numbered}
 use Rattle.pass_numbers.proofs.Lists.{each-split-middle}
 use Rattle.pass_numbers.proofs.Weights.{each-none}
 use Rattle.pass_numbers.proofs.Numbering.{same_digits, has-none}

@@ -1,5 +1,5 @@
 -- Each kind of step keeps the rule, and tells what it tells.
-use Rattle.std.proofs.Common.{◌≡◌, ◌≢◌, ℕ, ◌+◌, ◌<◌, ◌≤◌, false, List, [], ◌∷◌, ◌++◌, set, length, inl, inr, sym, refl, ap, subst, ◌∙◌, arith}
+use Rattle.std.proofs.Common.{◌≡◌, ◌≢◌, ℕ, false, List, [], ◌∷◌, ◌++◌, set, inr, sym, refl, ap, subst, ◌∙◌, arith}
 use mathlib.Core.Option.{some}
 use lib.ListN.{get_elem?}
 use Rattle.crossbeam_queue.specs.Fifo.{Pushes, Pops, Forks, Merges, Learns}
@@ -9,7 +9,7 @@ use Rattle.topology_plan.specs.Topology.{Topology}
 use Rattle.task_queues.specs.declared.rule.Book.{Book}
 use Rattle.task_queues.specs.declared.rule.Stamped.{Stamped}
 use Rattle.task_queues.specs.declared.rule.View.{View}
-use Rattle.task_queues.specs.Books.{viewed, no_view, blank, first_view, sent_of, taken_of, sent_first, taken_first, kept_first, cut_first, sent_to, took, kept_of, cut_of, both_of, numbers_of}
+use Rattle.task_queues.specs.Books.{viewed, no_view, blank, first_view, sent_of, taken_of, sent_first, taken_first, kept_first, cut_first, sent_to, took, kept_of, cut_of, both_of}
 use Rattle.task_queues.specs.Rule.{Kept, Ruled, Stood}
 use Rattle.task_queues.specs.Steps.{SendsOne, TakesOne}
 use Rattle.task_queues.proofs.Sending.{push_kept}

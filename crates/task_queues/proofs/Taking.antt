@@ -1,9 +1,8 @@
 -- A pop keeps the rule.
-use Rattle.std.proofs.Common.{◌≡◌, ℕ, ◌+◌, ◌≤◌, false, List, [], ◌∷◌, ◌++◌, set, length, sym, refl, subst, ◌∙◌, append_assoc, arith}
+use Rattle.std.proofs.Common.{◌≡◌, ℕ, ◌+◌, false, List, [], ◌∷◌, ◌++◌, set, sym, refl, subst, append_assoc, arith}
 use Rattle.std.specs.List.{AllByRecursion}
 use mathlib.Core.Option.{some}
 use lib.ListN.{get_elem?}
-use Rattle.counted_items.specs.Weights.{weigh}
 use Rattle.counted_items.proofs.Each.{each-weaker}
 use Rattle.counted_items.proofs.Weighing.{weigh-append}
 use Rattle.pass_numbers.proofs.Lists.{each-set, each-at}

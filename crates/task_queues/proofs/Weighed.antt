@@ -1,12 +1,11 @@
 -- What the stamps in all books weigh.
-use Rattle.std.proofs.Common.{◌≡◌, ℕ, ◌+◌, List, [], ◌∷◌, ◌++◌, set, map, sym, refl, ap, ◌∙◌, arith}
+use Rattle.std.proofs.Common.{◌≡◌, ℕ, ◌+◌, List, [], ◌∷◌, ◌++◌, set, sym, refl, ap, ◌∙◌, arith}
 use Rattle.std.specs.List.{flat_map}
 use mathlib.Core.Option.{some}
 use lib.ListN.{get_elem?}
 use Rattle.counted_items.specs.Weights.{weigh}
 use Rattle.counted_items.proofs.Weighing.{weigh-append, weigh-flat_map, weigh-map, weigh-none, weigh-same}
-use Rattle.pass_numbers.specs.declared.Number.{Number}
-use Rattle.pass_numbers.specs.Numbers.{has, over, Numbered}
+use Rattle.pass_numbers.specs.Numbers.{has, Numbered}
 use Rattle.pass_numbers.proofs.Weights.{weigh-set, weigh-set-append}
 use Rattle.pass_numbers.proofs.Numbering.{alone}
 use Rattle.task_queues.specs.declared.rule.Book.{Book}

@@ -1,5 +1,5 @@
 -- What a pass with all numbers knows of the box.
-use Rattle.std.proofs.Common.{◌≡◌, ℕ, ◌+◌, ◌<◌, ◌≤◌, List, [], ◌∷◌, ◌++◌, length, map, length-append, sym, refl, ap, subst, ◌∙◌, arith}
+use Rattle.std.proofs.Common.{◌≡◌, ℕ, ◌+◌, List, [], ◌∷◌, ◌++◌, length, length-append, sym, refl, ap, ◌∙◌, arith}
 use Rattle.std.specs.List.{AllByRecursion}
 use Rattle.std.proofs.lemmas.List.{length-map}
 use mathlib.Core.Option.{some}
@@ -15,7 +15,7 @@ use Rattle.task_queues.specs.declared.rule.Book.{Book}
 use Rattle.task_queues.specs.declared.rule.Stamped.{Stamped}
 use Rattle.task_queues.specs.declared.rule.View.{View}
 use Rattle.task_queues.specs.Books.{no_view, sent_of, taken_of, numbers_in, numbers_of}
-use Rattle.task_queues.specs.Rule.{items_of, Rises, IsKept, Kept, Stood}
+use Rattle.task_queues.specs.Rule.{Rises, IsKept, Kept}
 use Rattle.task_queues.proofs.Weighed.{sent_weight, taken_weight, in_view, over_books, sent-is, taken-is, balanced_in}
 
 no_book : {M : Type 0} (bs : List (Book M)) → numbers_in bs ≡ [] → bs ≡ []

@@ -1,9 +1,9 @@
--- What the passes of a box know: the terms of the box, and a book for each number of what was sent and
--- taken under it. This project's own.
-use Rattle.std.specs.Prelude.{ℕ, suc, ◌+◌, Bool, true, false, List, [], ◌∷◌, ◌++◌, map}
+-- What the passes of a box know: the terms of the box, and a book for each number of what was sent
+-- and taken under it. This project's own.
+use Rattle.std.specs.Prelude.{ℕ, suc, ◌+◌, true, false, List, [], ◌∷◌, ◌++◌, map}
 use Rattle.std.specs.List.{flat_map}
 use Rattle.pass_numbers.specs.declared.Number.{Number}
-use Rattle.pass_numbers.specs.Numbers.{fresh, kept_numbers, cut_numbers}
+use Rattle.pass_numbers.specs.Numbers.{fresh}
 use Rattle.topology_plan.specs.Topology.{Topology}
 use Rattle.topology_plan.specs.declared.parts.Kind.TheVariants.{Transactional}
 use Rattle.task_queues.specs.declared.rule.Book.{Book}

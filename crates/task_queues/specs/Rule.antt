@@ -1,5 +1,5 @@
--- The rule of a box: what holds of what it holds, oldest first, and of what all passes know, between any
--- two steps. This project's own.
+-- The rule of a box: what holds of what it holds, oldest first, and of what all passes know,
+-- between any two steps. This project's own.
 use Rattle.std.specs.Prelude.{◌≡◌, ◌⊎◌, ℕ, ◌<◌, ◌≤◌, false, List, [], ◌∷◌, ◌++◌, length, map}
 use Rattle.std.specs.List.{AllByRecursion, flat_map}
 use mathlib.Core.Option.{some}
@@ -26,17 +26,18 @@ module _ {M : Type 0} where
   Rises [] = Unit {0}
   Rises (s ∷ stamps) = AllByRecursion (Below s) stamps × Rises stamps
 
-  -- Each sent stamp stands once, in the box or in one taken list, with the message that was sent. No
-  -- other stamp stands.
+  -- Each sent stamp stands once, in the box or in one taken list, with the message that was sent.
+  -- No other stamp stands.
   abbrev pub Balanced : List (Stamped M) → List (View M) → Type 0
   Balanced held views =
       Same (flat_map (λ (v : View M). sent_of v.books) views)
       (flat_map (λ (v : View M). taken_of v.books) views ++ held)
 
 module _ {M : Type 0} (is_true : Topology → ℕ → M → Type 0) where
-  -- A book of a view: the view names the terms of the box, what was sent is true, and the stamps of what
-  -- was taken rise, those in the box above them.
-  pub record IsKept (plan : Topology) (owner capacity : ℕ) (held : List (Stamped M)) (v : View M) (b : Book M) : Type 0 where
+  -- A book of a view: the view names the terms of the box, what was sent is true, and the stamps of
+  -- what was taken rise, those in the box above them.
+  pub record IsKept (plan : Topology) (owner capacity : ℕ) (held : List (Stamped M)) (v : View M)
+      (b : Book M) : Type 0 where
     pub plan_is : v.plan ≡ plan
     pub owner_is : v.owner ≡ owner
     pub capacity_is : v.capacity ≡ capacity

@@ -1,5 +1,6 @@
--- What each kind of step tells the pass that makes it: of what it knew, the message, and what it knows.
-use Rattle.std.specs.Prelude.{◌≡◌, ℕ, ◌+◌, ◌<◌, List, [], ◌∷◌, ◌++◌, length}
+-- What each kind of step tells the pass that makes it: of what it knew, the message, and what it
+-- knows.
+use Rattle.std.specs.Prelude.{◌≡◌, ℕ, ◌+◌, ◌<◌, List, ◌∷◌, ◌++◌, length}
 use Rattle.counted_items.specs.Weights.{Same}
 use Rattle.pass_numbers.specs.Numbers.{IsWhole}
 use Rattle.topology_plan.specs.Topology.{Topology}

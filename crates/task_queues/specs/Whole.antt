@@ -23,9 +23,9 @@ module _ {M : Type 0} where
   abbrev pub HasOneTaker : List (Book M) → Type 0
   HasOneTaker books = Any (λ (b : Book M). taken_of books ≡ b.taken) books
 
-  -- These are the messages that are left: with what was taken they are all that was sent, each once;
-  -- of each number they are in order, above what was taken. With one taker, what it took and then these
-  -- are, of each sender, what it sent in its order.
+  -- These are the messages that are left: with what was taken they are all that was sent, each
+  -- once; of each number they are in order, above what was taken. With one taker, what it took and
+  -- then these are, of each sender, what it sent in its order.
   pub record IsLeft (books : List (Book M)) (items : List M) : Type 0 where
     pub held : List (Stamped M)
     pub held_are : items_of held ≡ items

@@ -1,5 +1,5 @@
-//! Bounded boxes that threads share. What is true of every message stays true of what is taken, and each
-//! pass keeps books of what it sent and took, under a rule that holds between any two steps.
+//! Bounded boxes that threads share. What is true of every message stays true of what is taken, and
+//! each pass keeps books of what it sent and took, under a rule that holds between any two steps.
 #![tactic(auto)]
 
 mod mailbox;

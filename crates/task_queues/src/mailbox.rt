@@ -23,8 +23,8 @@ use storm_values::Memory;
 use topology_plan::Plan;
 
 impl<M: Truth + Drop> Mailbox<M> {
-    /// An empty box of a capacity, and its one pass. It makes the room for all that can be left at the
-    /// end, so that no later call takes memory.
+    /// An empty box of a capacity, and its one pass. It makes the room for all that can be left at
+    /// the end, so that no later call takes memory.
     pub fn new(
         alloc: Global,
         plan: &Plan,
@@ -42,8 +42,8 @@ impl<M: Truth + Drop> Mailbox<M> {
         Ok((Mailbox { queue, room }, Pass { inner, size: 0 }))
     }
 
-    /// Puts a message at the end of the box, and notes it. The message comes back only if the box was
-    /// full at a moment of this call. It may wait for a step of another thread.
+    /// Puts a message at the end of the box, and notes it. The message comes back only if the box
+    /// was full at a moment of this call. It may wait for a step of another thread.
     pub fn send<R: Wait>(&self, rt: &R, pass: &mut Pass<M>, m: M) -> Result<(), M>
         requires pass { IsPassOf self.now pass.old }
         requires is_true { M.is_true (view_of pass.old).plan (view_of pass.old).owner m }
@@ -53,7 +53,8 @@ impl<M: Truth + Drop> Mailbox<M> {
         ensures same { OnErr result (view_of pass.new ≡ view_of pass.old) }
         ensures full { OnErr result (HeldAt M.is_true pass.old (view_of pass.old).capacity) }
 
-        // A pass with all numbers knows: it comes back exactly where so many as the capacity are not taken.
+        // A pass with all numbers knows: it comes back exactly where so many as the capacity are
+        // not taken.
         ensures whole { IsWhole (numbers_of (view_of pass.old)) →
             IsErr result ↔ (length (sent_of (view_of pass.old).books)
             ≡ length (taken_of (view_of pass.old).books) + (view_of pass.old).capacity) }
@@ -61,18 +62,19 @@ impl<M: Truth + Drop> Mailbox<M> {
         self.queue.push_as::<Sends<M>, R>(rt, &mut pass.inner, m)
     }
 
-    /// Takes the oldest message, and notes it. `None` comes only if the box was empty at a moment of
-    /// this call. It may wait for a step of another thread.
+    /// Takes the oldest message, and notes it. `None` comes only if the box was empty at a moment
+    /// of this call. It may wait for a step of another thread.
     pub fn take<R: Wait>(&self, rt: &R, pass: &mut Pass<M>) -> Option<M>
         requires { IsPassOf self.now pass.old }
         ensures pass { IsPassOf self.now pass.new }
-        ensures is_true { IfSome result (M.is_true (view_of pass.old).plan (view_of pass.old).owner) }
+        ensures is_true { IfSome result
+            (M.is_true (view_of pass.old).plan (view_of pass.old).owner) }
         ensures taken { IfSome result (λ m. (s : Stamped M)
             × (s.item ≡ m) × (view_of pass.new ≡ took (view_of pass.old) s)) }
         ensures same { IfNone result (view_of pass.new ≡ view_of pass.old) }
         ensures empty { IfNone result (HeldAt M.is_true pass.old 0) }
 
-        // A pass with all numbers knows: there is none exactly where every sent stamp was taken.
+        // To a pass with all numbers there is none exactly where every sent stamp was taken.
         ensures whole { IsWhole (numbers_of (view_of pass.old)) →
             IsNone result
             ↔ Same (sent_of (view_of pass.old).books) (taken_of (view_of pass.old).books) }
@@ -115,13 +117,14 @@ impl<M: Truth + Drop> Mailbox<M> {
 }
 
 impl<M: Truth + Drop> Mailbox<M> {
-    /// The end of a box: what is left in it, oldest first, taken one by one into the room that `new`
-    /// made.
+    /// The end of a box: what is left in it, oldest first, taken one by one into the room that
+    /// `new` made.
     pub fn drain_end<R: Wait>(self, rt: &R, pass: Pass<M>) -> Rest<M>
         requires pass { IsPassOf self pass }
         requires whole { IsWhole (numbers_of (view_of pass)) }
         ensures left { IsLeft (view_of pass).books result }
-        ensures is_true { AllByRecursion (M.is_true (view_of pass).plan (view_of pass).owner) result }
+        ensures is_true { AllByRecursion
+            (M.is_true (view_of pass).plan (view_of pass).owner) result }
     {
         let Mailbox { queue, room } = self;
         Rest::from_vec(drain(rt, &queue, pass.inner, room))

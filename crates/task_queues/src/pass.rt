@@ -19,8 +19,8 @@ pub struct Mailbox<M: Truth + Drop> {
     ghost no_message: { vec_len room ≡ 0 },
 }
 
-/// The right to use a box, with what it knows: the plan, the owner, the capacity, and the books of what
-/// it sent and took.
+/// The right to use a box, with what it knows: the plan, the owner, the capacity, and the books of
+/// what it sent and took.
 #[derive(Drop)]
 pub struct Pass<M> {
     pub(crate) inner: crossbeam_queue::Pass<M, View<M>>,

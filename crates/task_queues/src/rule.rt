@@ -14,8 +14,8 @@ pub trait Truth {
     ghost is_true: { Topology → ℕ → Self → Type 0 };
 }
 
-/// A message as it was sent: under which number, and at which place of that number's sent messages. No
-/// value of it is made.
+/// A message as it was sent: under which number, and at which place of that number's sent messages.
+/// No value of it is made.
 pub struct Stamped<M> {
     pub digits: LinkedList<u64>,
     pub place: u64,

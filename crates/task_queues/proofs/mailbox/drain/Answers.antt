@@ -1,6 +1,5 @@
-use Rattle.std.proofs.Common.{rules, ◌≡◌, ◌<◌, ◌≤◌, length, vec_len, vec_capacity, sym, ◌∙◌, arith}
+use Rattle.std.proofs.Common.{rules, ◌≡◌, length, vec_len, ◌∙◌, arith}
 use Rattle.crossbeam_queue.specs.Passes.{view}
-use Rattle.task_queues.specs.Books.{numbers_of}
 use Rattle.task_queues.proofs.Steps.{takes, stands}
 use Rattle.task_queues.proofs.Draining.{drain_begins, named_now, some_now, drain_fits, drain_more, drain_nears, drain_ends}
 use Rattle.task_queues.proofs.mailbox.drain.Goals as goal
