@@ -12,3 +12,6 @@ pub use fault::StoreFault;
 pub use memory_maker::MemMaker;
 pub use memory_store::MemStore;
 pub use store::{CellStore, StoreMaker, puts_change_one_key};
+
+#[cfg(test)]
+mod tests;

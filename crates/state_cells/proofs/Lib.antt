@@ -1,0 +1,7 @@
+mod KeyLemmas
+mod JobLemmas
+mod OnErr
+mod GroupLemmas
+mod ScanLemmas
+mod RestoreLemmas
+mod PlanLemmas

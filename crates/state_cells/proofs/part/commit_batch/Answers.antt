@@ -1,0 +1,15 @@
+use Rattle.std.proofs.lemmas.Result.{on_ok_weaker, on_err_weaker}
+use Rattle.state_cells.proofs.PlanLemmas.{plan_broken, plan_done}
+use Rattle.state_cells.proofs.part.commit_batch.Goals as goal
+
+pub returns-clause-ok : goal.returns-clause-ok
+returns-clause-ok g c = on_ok_weaker c.commit_jobs.result
+    (λ works. plan_done g.C.CellStore.tells c.args.batch.kind c.args.batch.by c.args.batch.txid c.args.writes.now c.deref.result.now
+    c.args.store.now c.plan.new.store c.commit_jobs.new.store (λ cells told. rw c.deref.ensures.value (c.in-Ok.ensures.plan cells told)) c.in-Ok.ensures.same works)
+    c.commit_jobs.ensures.ok
+
+pub returns-clause-err : goal.returns-clause-err
+returns-clause-err g c = on_err_weaker c.commit_jobs.result
+    (λ works. plan_broken g.C.CellStore.tells c.args.batch.kind c.args.batch.by c.args.batch.txid c.args.writes.now c.deref.result.now
+    c.args.store.now c.plan.new.store c.commit_jobs.new.store (λ cells told. rw c.deref.ensures.value (c.in-Ok.ensures.plan cells told)) c.in-Ok.ensures.same works)
+    c.commit_jobs.ensures.err

@@ -1,0 +1,6 @@
+pub mod Faults
+pub mod Turns
+pub mod Groups
+pub mod Scans
+pub mod Plans
+pub mod PartStates

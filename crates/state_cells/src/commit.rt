@@ -1,0 +1,134 @@
+ghost use Rattle.std.specs.Prelude.{◌≡◌, ◌≤◌, ◌⊎◌, ℕ, List, Option, IfOk, IfSome, OnOk, OnErr, IsErrOf};
+ghost use Rattle.storm_outside.specs.Counts.{Rose};
+ghost use Rattle.storm_stores.specs.CellMaps.{CellMap, cell_at, with_cell};
+ghost use Rattle.cell_format.specs.Commits.{Commits, Holds, IsCellOf, IsPerhapsDone};
+ghost use Rattle.cell_format.specs.Layout.{IsWhole, bytes_of};
+ghost use Rattle.state_cells.specs.Turns.{AreApart, IsBad, IsPerhapsWorked, IsWorked, OnlyAt, Turns, job_at};
+
+use crate::fault::PartFault;
+use crate::group::Job;
+use cell_format::{Cell, cell_for, change, encode_cell};
+use std::alloc::Global;
+use storm_stores::{CellStore, StoreFault};
+use storm_values::Bytes;
+use topology_plan::{Fold, Kind};
+
+/// What a commit is of.
+#[derive(Clone, Copy, Debug)]
+pub(crate) struct Batch {
+    pub kind: Kind,
+    pub by: Fold,
+    pub txid: u64,
+}
+
+/// Tells that a key has a cell that the part does not take.
+pub(crate) fn bad_cell(alloc: Global, key: &[u8]) -> PartFault
+    ensures bad { (k : List ℕ) → result ≡ PartFault.BadCell k → k ≡ key.now }
+    ensures no_store { result ≡ PartFault.Store → ⊥ }
+{
+    match key.to_vec(alloc) {
+        Ok(bytes) => PartFault::BadCell(Bytes::from_vec(bytes)),
+        Err(_) => PartFault::Memory,
+    }
+}
+
+/// The cell of a key, with one get.
+pub(crate) fn find_cell<C: CellStore>(
+    alloc: Global,
+    store: &mut C,
+    kind: Kind,
+    key: &[u8],
+) -> Result<Option<Cell>, PartFault>
+    ensures found { IfOk result (λ cell. (cells : CellMap) → C.tells store.old cells →
+        Holds kind (cell_at cells key.now) cell) }
+    ensures good { IfOk result (λ cell. IfSome cell (IsCellOf kind)) }
+    ensures same { (cells : CellMap) → C.tells store.old cells → C.tells store.new cells }
+    ensures failed { IsErrOf result PartFault.Store →
+        Rose (C.fault_count store.old) (C.fault_count store.new) }
+    ensures bad { (k : List ℕ) → IsErrOf result (PartFault.BadCell k) →
+        (cells : CellMap) → C.tells store.old cells → IsBad kind (cell_at cells k) }
+    ensures never_falls { C.fault_count store.old ≤ C.fault_count store.new }
+{
+    let Some(bytes) = store.get(key)? else {
+        return Ok(None);
+    };
+    match cell_for(kind, bytes.as_slice()) {
+        Some(cell) => Ok(Some(cell)),
+        None => Err(bad_cell(alloc, key)),
+    }
+}
+
+fn put_cell<C: CellStore>(store: &mut C, key: &[u8], cell: &Cell) -> Result<(), PartFault>
+    requires { IsWhole cell.now.kind cell.now.value cell.now.prev }
+    ensures done { OnOk result ((cells : CellMap) → C.tells store.old cells →
+        C.tells store.new (with_cell cells key.now (bytes_of cell.now))) }
+    ensures broken { OnErr result ((cells : CellMap) → C.tells store.old cells →
+        C.tells store.new cells ⊎ C.tells store.new (with_cell cells key.now (bytes_of cell.now))) }
+    ensures failed { IsErrOf result PartFault.Store →
+        Rose (C.fault_count store.old) (C.fault_count store.new) }
+    ensures not_bad { (k : List ℕ) → IsErrOf result (PartFault.BadCell k) → ⊥ }
+    ensures never_falls { C.fault_count store.old ≤ C.fault_count store.new }
+{
+    match store.put(key, &encode_cell(cell)) {
+        Ok(()) => Ok(()),
+        Err(StoreFault::Failed) => Err(PartFault::Store),
+        Err(StoreFault::Memory) => Err(PartFault::Memory),
+    }
+}
+
+/// Commits a key's amounts, with one get and one put at most.
+fn commit_key<C: CellStore>(
+    alloc: Global,
+    store: &mut C,
+    batch: Batch,
+    key: &[u8],
+    amounts: &[i64],
+) -> Result<(), PartFault>
+    ensures ok { OnOk result (Turns C.tells (OnlyAt key.now
+        (Commits batch.kind batch.by batch.txid amounts.now)) store.old store.new) }
+    ensures err { OnErr result (Turns C.tells (OnlyAt key.now
+        (IsPerhapsDone batch.kind batch.by batch.txid amounts.now)) store.old store.new) }
+    ensures failed { IsErrOf result PartFault.Store →
+        Rose (C.fault_count store.old) (C.fault_count store.new) }
+    ensures bad { (k : List ℕ) → IsErrOf result (PartFault.BadCell k) →
+        (cells : CellMap) → C.tells store.old cells → IsBad batch.kind (cell_at cells k) }
+    ensures never_falls { C.fault_count store.old ≤ C.fault_count store.new }
+{
+    let cell = match find_cell(alloc, store, batch.kind, key) {
+        Ok(cell) => cell,
+        Err(fault) => return Err(fault),
+    };
+    match change(batch.kind, batch.by, batch.txid, amounts, cell) {
+        None => Ok(()),
+        Some(new) => put_cell(store, key, &new),
+    }
+}
+
+/// Does the jobs of a commit, in order.
+pub(crate) fn commit_jobs<C: CellStore>(
+    alloc: Global,
+    store: &mut C,
+    batch: Batch,
+    jobs: &[Job],
+) -> Result<(), PartFault>
+    ensures ok { OnOk result (AreApart jobs.now → Turns C.tells (λ key.
+        IsWorked batch.kind batch.by batch.txid (job_at jobs.now key)) store.old store.new) }
+    ensures err { OnErr result (AreApart jobs.now → Turns C.tells (λ key.
+        IsPerhapsWorked batch.kind batch.by batch.txid (job_at jobs.now key)) store.old store.new) }
+    ensures failed { IsErrOf result PartFault.Store →
+        Rose (C.fault_count store.old) (C.fault_count store.new) }
+    ensures bad { (k : List ℕ) → IsErrOf result (PartFault.BadCell k) → AreApart jobs.now →
+        (cells : CellMap) → C.tells store.old cells → IsBad batch.kind (cell_at cells k) }
+    ensures never_falls { C.fault_count store.old ≤ C.fault_count store.new }
+{
+    for job in jobs {
+        commit_key(
+            alloc,
+            store,
+            batch,
+            job.key.as_slice(),
+            job.amounts.as_slice(),
+        )?;
+    }
+    Ok(())
+}

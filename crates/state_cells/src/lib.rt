@@ -1,0 +1,13 @@
+//! A part of a state over a store that may refuse: commits of batches, and the table of its values.
+#![tactic(auto)]
+
+mod commit;
+mod fault;
+mod group;
+mod part;
+mod plan;
+mod scan;
+
+pub use cell_format::{Cell, CellFault, decode_cell, encode_cell};
+pub use fault::PartFault;
+pub use part::Part;

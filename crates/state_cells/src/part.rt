@@ -1,0 +1,107 @@
+ghost use Rattle.std.specs.Prelude.{◌≡◌, ◌≤◌, ℕ, List, OnOk, OnErr, IsErrOf};
+ghost use Rattle.storm_outside.specs.Counts.{Rose};
+ghost use Rattle.storm_stores.specs.CellMaps.{CellMap, cell_at};
+ghost use Rattle.cell_format.specs.Commits.{IsDone, IsPerhapsDone, amounts_at};
+ghost use Rattle.state_cells.specs.PartStates.{part_of};
+ghost use Rattle.state_cells.specs.Turns.{IsBad, Turns};
+
+use crate::commit::{Batch, commit_jobs};
+use crate::fault::PartFault;
+use crate::plan::plan;
+use std::alloc::Global;
+use std::marker::Model;
+use storm_stores::CellStore;
+use topology_plan::{Fold, Kind};
+use tree_model::Writes;
+
+/// A part of a state: its cells lie in a store that may refuse.
+#[derive(Drop)]
+pub struct Part<C: CellStore> {
+    store: C,
+    kind: Kind,
+    by: Fold,
+    alloc: Global,
+}
+
+impl<C: CellStore> Model for Part<C> {
+    ghost use Rattle.state_cells.specs.PartStates.{PartState};
+
+    ghost Value = { PartState C };
+
+    ghost view = { λ p. record { store = p.store; kind = p.kind; by = p.by } };
+}
+
+impl<C: CellStore> Part<C> {
+    /// A part over a store, which takes no memory.
+    pub fn new(alloc: Global, store: C, kind: Kind, fold: Fold) -> Self
+        ensures { result ≡ part_of store kind fold }
+    {
+        Part {
+            store,
+            kind,
+            by: fold,
+            alloc,
+        }
+    }
+
+    /// The part's store, which takes no memory.
+    pub fn into_store(self) -> C
+        ensures { result ≡ self.store }
+    {
+        self.store
+    }
+
+    /// How often the store has failed.
+    pub fn faults(&self) -> u64
+        ensures { result ≡ C.fault_count self.now.store }
+    {
+        self.store.faults()
+    }
+
+    /// Commits the part's writes of a batch. A transactional part takes a get and a put at most for
+    /// each key that is written; an opaque one looks at each of its keys first. After a fault some
+    /// keys may be done and the others are as before.
+    pub fn commit(&mut self, txid: u64, writes: &Writes) -> Result<(), PartFault>
+        ensures ok { OnOk result (Turns C.tells (λ key. IsDone self.old.kind self.old.by txid
+            (amounts_at writes.now key)) self.old.store self.new.store) }
+        ensures err { OnErr result (Turns C.tells (λ key. IsPerhapsDone self.old.kind self.old.by txid
+            (amounts_at writes.now key)) self.old.store self.new.store) }
+        ensures failed { IsErrOf result PartFault.Store →
+            Rose (C.fault_count self.old.store) (C.fault_count self.new.store) }
+        ensures bad { (k : List ℕ) → IsErrOf result (PartFault.BadCell k) → (cells : CellMap) →
+            C.tells self.old.store cells → IsBad self.old.kind (cell_at cells k) }
+        ensures never_falls { C.fault_count self.old.store ≤ C.fault_count self.new.store }
+        ensures kind { self.new.kind ≡ self.old.kind }
+        ensures fold { self.new.by ≡ self.old.by }
+    {
+        let batch = Batch {
+            kind: self.kind,
+            by: self.by,
+            txid,
+        };
+        commit_batch(self.alloc, &mut self.store, batch, writes)
+    }
+}
+
+fn commit_batch<C: CellStore>(
+    alloc: Global,
+    store: &mut C,
+    batch: Batch,
+    writes: &Writes,
+) -> Result<(), PartFault>
+    ensures ok { OnOk result (Turns C.tells (λ key. IsDone batch.kind batch.by batch.txid
+        (amounts_at writes.now key)) store.old store.new) }
+    ensures err { OnErr result (Turns C.tells (λ key. IsPerhapsDone batch.kind batch.by batch.txid
+        (amounts_at writes.now key)) store.old store.new) }
+    ensures failed { IsErrOf result PartFault.Store →
+        Rose (C.fault_count store.old) (C.fault_count store.new) }
+    ensures bad { (k : List ℕ) → IsErrOf result (PartFault.BadCell k) → (cells : CellMap) →
+        C.tells store.old cells → IsBad batch.kind (cell_at cells k) }
+    ensures never_falls { C.fault_count store.old ≤ C.fault_count store.new }
+{
+    let jobs = match plan(alloc, store, batch, writes) {
+        Ok(jobs) => jobs,
+        Err(fault) => return Err(fault),
+    };
+    commit_jobs(alloc, store, batch, &jobs)
+}
