@@ -41,7 +41,7 @@ pub type Rows = Seq<Row>;
 pub type Names = Seq<Txt>;
 
 /// One attempt of one batch.
-#[derive(Clone, Copy, Debug, PartialEq, Eq)]
+#[derive(Clone, Copy, Debug, PartialEq, Eq, Hash)]
 pub struct Root {
     pub txid: u64,
     pub attempt: u32,

@@ -1,0 +1,12 @@
+//! Sources of edge ids and what makes them: scripts for tests and traces, and ChaCha20.
+#![tactic(auto)]
+
+mod chacha;
+mod ids;
+mod script;
+#[cfg(test)]
+mod tests;
+
+pub use chacha::{ChaChaIds, ChaChaMaker};
+pub use ids::{IdMaker, Ids, Words};
+pub use script::{ScriptIds, ScriptSource};
