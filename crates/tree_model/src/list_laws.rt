@@ -1,4 +1,5 @@
 ghost use Rattle.std.specs.Prelude.{◌≡◌, ◌↔◌, ℕ, ◌%◌, List, [], Contains, Some};
+ghost use Rattle.bolt_ops.specs.RowOp.{Custom};
 ghost use Rattle.storm_values.specs.declared.value.Root.{Root};
 ghost use Rattle.storm_values.specs.declared.value.Value.{Value};
 ghost use Rattle.topology_plan.specs.Topology.{Topology};
@@ -24,11 +25,11 @@ pub fn words_are_of_open_edges()
 /// A law: a true, closed list with one init covers the tree and consumes each of its paths an odd number of times,
 /// whatever is repeated and whatever the ids.
 pub fn closed_lists_cover()
-    ensures covers { (t : Topology) (custom : List Value → List (List Value))
+    ensures covers { (t : Topology) (custom : Custom)
         → (rows : List (List Value)) (root : Root) (list : List AckMsg)
         → AreTrueOf t custom rows root list
         → IsClosed list → weigh is_init list ≡ 1 → Covers t custom rows list }
-    ensures odd { (t : Topology) (custom : List Value → List (List Value))
+    ensures odd { (t : Topology) (custom : Custom)
         → (rows : List (List Value)) (root : Root) (list : List AckMsg)
         → AreTrueOf t custom rows root list
         → IsClosed list → weigh is_init list ≡ 1
@@ -38,11 +39,11 @@ pub fn closed_lists_cover()
 
 /// A law: a true, single, steady list that covers the tree is closed and has no failure.
 pub fn covering_lists_are_closed()
-    ensures closed { (t : Topology) (custom : List Value → List (List Value))
+    ensures closed { (t : Topology) (custom : Custom)
         → (rows : List (List Value)) (root : Root) (list : List AckMsg)
         → AreTrueOf t custom rows root list
         → IsSingle list → IsSteady list → Covers t custom rows list → IsClosed list }
-    ensures none_failed { (t : Topology) (custom : List Value → List (List Value))
+    ensures none_failed { (t : Topology) (custom : Custom)
         → (rows : List (List Value)) (root : Root) (list : List AckMsg)
         → AreTrueOf t custom rows root list
         → IsSingle list → IsSteady list → Covers t custom rows list → weigh is_failed list ≡ 0 }
@@ -56,7 +57,7 @@ pub fn what_does_not_cancel_does_not_coincide()
 /// A law: a true, single, steady list without a coincidence has the word 0, an init and no failure exactly where it
 /// covers the tree.
 pub fn complete_lists_cover()
-    ensures { (t : Topology) (custom : List Value → List (List Value))
+    ensures { (t : Topology) (custom : Custom)
         → (rows : List (List Value)) (root : Root) (list : List AckMsg)
         → AreTrueOf t custom rows root list
         → IsSingle list → IsSteady list → (Coincides list → ⊥)

@@ -1,6 +1,7 @@
 -- Tuples read as tickets, and their account as one of tickets.
 use Rattle.std.proofs.Common.{◌≡◌, ℕ, suc, ◌+◌, Bool, true, false, cond, List, [], ◌∷◌, ◌++◌, length, map, flat_map, sym, refl, ap, ◌∙◌, arith}
 use Rattle.std.specs.List.{AllByRecursion}
+use Rattle.bolt_ops.specs.RowOp.{Custom}
 use Rattle.counted_items.specs.Weights.{weigh, Within}
 use Rattle.counted_items.proofs.Each.{each-to_map, each-weaker}
 use Rattle.counted_items.proofs.Weighing.{weigh-append, weigh-map, weigh-flat_map, weigh-same, weigh-same_each}
@@ -66,7 +67,7 @@ weigh-notes_about r h (m ∷ ms) = cases (root_eq (root_of m) r) (weigh-notes_ab
     cases true later = omega arith
     cases false later = omega arith
 
-module _ (t : Topology) (custom : List Value → List (List Value)) (rows_of : Root → List (List Value)) where
+module _ (t : Topology) (custom : Custom) (rows_of : Root → List (List Value)) where
   abbrev pub grows : Growth Node
   grows = growth_of t custom rows_of
 

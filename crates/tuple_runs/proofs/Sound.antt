@@ -1,6 +1,7 @@
 -- The laws of tickets, read off for tuples.
 use Rattle.std.proofs.Common.{◌≡◌, ◌≢◌, ℕ, ◌≤◌, Bool, true, false, cond, List, [], ◌∷◌, length, map, flat_map, Some, IsSome, sym, refl, ap, subst, ◌∙◌, arith}
 use Rattle.std.specs.List.{AllByRecursion}
+use Rattle.bolt_ops.specs.RowOp.{Custom}
 use Rattle.counted_items.specs.Weights.{weigh, Within}
 use Rattle.counted_items.proofs.Each.{each-append, each-flat_map, each-map, each-to_map, each-weaker, each-both}
 use Rattle.counted_items.proofs.Equality.{each-within}
@@ -49,7 +50,7 @@ paths_of_tuples root path nodes ids same =
     ap paths_of (sym (edges_read (tuples_from root path 0 nodes ids)) ∙ ap notes.edges_of (tuples_read root path 0 nodes ids))
     ∙ paths_of_tickets root path 0 nodes ids same
 
-module _ (t : Topology) (custom : List Value → List (List Value)) (rows_of : Root → List (List Value)) where
+module _ (t : Topology) (custom : Custom) (rows_of : Root → List (List Value)) where
   -- a message is true of its root
   abbrev IsTrueNote : AckMsg → Type 0
   IsTrueNote m = IsTrueOf t custom (rows_of (root_of m)) (root_of m) m

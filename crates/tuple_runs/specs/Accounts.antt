@@ -1,6 +1,7 @@
 -- An account of tuples: what was issued was executed or waits.
 use Rattle.std.specs.Prelude.{◌≡◌, ◌≤◌, ℕ, ◌+◌, ◌&&◌, if◌then◌else◌, List, [], ◌∷◌, ◌++◌, length, map, Some}
 use Rattle.std.specs.List.{flat_map, AllByRecursion}
+use Rattle.bolt_ops.specs.RowOp.{Custom}
 use Rattle.counted_items.specs.Weights.{weigh}
 use Rattle.storm_values.specs.declared.value.Root.{Root}
 use Rattle.storm_values.specs.declared.value.Value.{Value}
@@ -38,7 +39,7 @@ abbrev pub notes_about : Root → List AckMsg → List AckMsg
 notes_about root [] = []
 notes_about root (m ∷ notes) = if root_eq (root_of m) root then m ∷ notes_about root notes else notes_about root notes
 
-module _ (t : Topology) (custom : List Value → List (List Value)) where
+module _ (t : Topology) (custom : Custom) where
   -- all tuples that were issued
   abbrev pub issued : Account → List Tuple
   issued a = flat_map (first_tuples t) a.begun ++ flat_map (children_of t custom) a.runs

@@ -1,6 +1,7 @@
 -- What a root issues when it begins, and a tuple when it is executed, with given ids.
 use Rattle.std.specs.Prelude.{ℕ, suc, ◌-◌, ◌^◌, min, List, [], ◌∷◌, ◌++◌, map}
 use Rattle.std.specs.Option.{option_to_list}
+use Rattle.bolt_ops.specs.RowOp.{Custom}
 use Rattle.storm_values.specs.declared.value.Root.{Root}
 use Rattle.storm_values.specs.declared.value.Value.{Value}
 use Rattle.topology_plan.specs.declared.parts.Origin.TheVariants as origin
@@ -60,15 +61,15 @@ init_of t b = msg.Init (record { root = b.root; edges = edges_of (first_tuples t
 -- ---- a tuple is executed
 
 -- what the execution comes to at the attempt of its root
-abbrev pub course_of_run : Topology → (List Value → List (List Value)) → Run → Course
+abbrev pub course_of_run : Topology → Custom → Run → Course
 course_of_run t custom u = course_at t custom u.tuple.root.attempt (node_of u.tuple)
 
 -- the tuples of its node's children, where the node goes on
-abbrev pub children_of : Topology → (List Value → List (List Value)) → Run → List Tuple
+abbrev pub children_of : Topology → Custom → Run → List Tuple
 children_of t custom u = made_by (course_of_run t custom u) (tuples_from u.tuple.root u.tuple.edge.path 0 (kids_of t custom (node_of u.tuple)) u.ids)
 
 -- done, with the node's writes, where it goes on; failed where it fails; and else nothing
-abbrev pub notes_by : Topology → (List Value → List (List Value)) → Run → Course → List AckMsg
+abbrev pub notes_by : Topology → Custom → Run → Course → List AckMsg
 notes_by t custom u goes = msg.Done (record {
   root = u.tuple.root;
   consumed = u.tuple.edge;
@@ -79,5 +80,5 @@ notes_by t custom u goes = msg.Done (record {
 notes_by t custom u fails = msg.Failed (record { root = u.tuple.root; path = u.tuple.edge.path }) ∷ []
 notes_by t custom u mute = []
 
-abbrev pub notes_of : Topology → (List Value → List (List Value)) → Run → List AckMsg
+abbrev pub notes_of : Topology → Custom → Run → List AckMsg
 notes_of t custom u = notes_by t custom u (course_of_run t custom u)

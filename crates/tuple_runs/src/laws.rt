@@ -1,5 +1,6 @@
 ghost use Rattle.std.specs.Prelude.{◌≡◌, ◌≢◌, ◌≤◌, ℕ, List};
 ghost use Rattle.std.specs.List.{AllByRecursion};
+ghost use Rattle.bolt_ops.specs.RowOp.{Custom};
 ghost use Rattle.counted_items.specs.Weights.{weigh, Within};
 ghost use Rattle.storm_values.specs.declared.value.Root.{Root};
 ghost use Rattle.storm_values.specs.declared.value.Value.{Value};
@@ -16,17 +17,17 @@ ghost use Rattle.tuple_runs.specs.Issued.{Run, course_of_run};
 /// A law: where each issued tuple was executed or waits, a root and a path have one tuple at most, and each tuple has
 /// the node of its path.
 pub fn tuples_grow_along_trees()
-    ensures once { (t : Topology) (custom : List Value → List (List Value))
+    ensures once { (t : Topology) (custom : Custom)
         → (rows_of : Root → List (List Value)) → (a : Account) → IsAccount t custom rows_of a
         → (root : Root) (path : List ℕ) → weigh (is_at root path) (issued t custom a) ≤ 1 }
-    ensures nodes { (t : Topology) (custom : List Value → List (List Value))
+    ensures nodes { (t : Topology) (custom : Custom)
         → (rows_of : Root → List (List Value)) → (a : Account) → IsAccount t custom rows_of a
         → AllByRecursion (IsNode t custom rows_of) (issued t custom a) }
 {}
 
 /// A law: a root has no more tuples than its rows' tree has nodes.
 pub fn roots_have_few_tuples()
-    ensures { (t : Topology) (custom : List Value → List (List Value))
+    ensures { (t : Topology) (custom : Custom)
         → (rows_of : Root → List (List Value)) → IsValid t
         → (a : Account) → IsAccount t custom rows_of a
         → (root : Root)
@@ -35,17 +36,17 @@ pub fn roots_have_few_tuples()
 
 /// A law: a list that is within the issued notes of a root is true, single and steady.
 pub fn issued_lists_are_sound()
-    ensures are_true { (t : Topology) (custom : List Value → List (List Value))
+    ensures are_true { (t : Topology) (custom : Custom)
         → (rows_of : Root → List (List Value)) → (a : Account) → IsAccount t custom rows_of a
         → (root : Root) (list : List AckMsg)
         → Within list (notes_about root (issued_notes t custom a))
         → AreTrueOf t custom (rows_of root) root list }
-    ensures are_single { (t : Topology) (custom : List Value → List (List Value))
+    ensures are_single { (t : Topology) (custom : Custom)
         → (rows_of : Root → List (List Value)) → (a : Account) → IsAccount t custom rows_of a
         → (root : Root) (list : List AckMsg)
         → Within list (notes_about root (issued_notes t custom a))
         → IsSingle list }
-    ensures are_steady { (t : Topology) (custom : List Value → List (List Value))
+    ensures are_steady { (t : Topology) (custom : Custom)
         → (rows_of : Root → List (List Value)) → (a : Account) → IsAccount t custom rows_of a
         → (root : Root) (list : List AckMsg)
         → Within list (notes_about root (issued_notes t custom a))
@@ -55,7 +56,7 @@ pub fn issued_lists_are_sound()
 /// A law: where no tuple waits and no executed one stayed mute, a list of a begun root with all of its issued notes,
 /// and no failure, covers the tree.
 pub fn lists_of_all_notes_cover()
-    ensures { (t : Topology) (custom : List Value → List (List Value))
+    ensures { (t : Topology) (custom : Custom)
         → (rows_of : Root → List (List Value)) → (a : Account) → IsAccount t custom rows_of a
         → ((f : Tuple → ℕ) → a.waiting f ≡ 0)
         → AllByRecursion (λ (u : Run). course_of_run t custom u ≢ mute) a.runs
