@@ -1,0 +1,5 @@
+pub mod Held
+pub mod Slots
+pub mod Lent
+pub mod Lending
+pub mod Told
