@@ -87,19 +87,39 @@ fn an_entry_goes_at_the_third_tick_of_three_buckets(rt: HostRuntime) -> Result<(
     Ok(())
 }
 
+// Puts a value of a root that is not held.
+fn put_new(held: &mut Rotating<u64>, txid: u64, value: u64) -> Result<(), u64> {
+    let root = Root { txid, attempt: 1 };
+    match held.get(root) {
+        Some(_) => Err(value),
+        None => held.put(root, value),
+    }
+}
+
+// Writes the value of a root that is held.
+fn write(held: &mut Rotating<u64>, txid: u64, value: u64) -> bool {
+    match held.get(Root { txid, attempt: 1 }) {
+        Some(place) => {
+            *place = value;
+            true
+        }
+        None => false,
+    }
+}
+
 #[test]
 fn values_are_dropped_in_the_order_of_their_puts(rt: HostRuntime) -> Result<(), Fail> {
     let alloc = rt.alloc();
     let mut held = Rotating::new(alloc, 2)?;
     for txid in [4, 2, 9] {
-        assert_eq!(rt; held.put(Root { txid, attempt: 1 }, 10 * txid), Ok(()));
+        put_new(&mut held, txid, txid)?;
     }
     assert_eq!(rt;
         held.take(Root {
             txid: 2,
             attempt: 1
         }),
-        Some(20)
+        Some(2)
     );
     assert_eq!(rt;
         held.take(Root {
@@ -108,37 +128,15 @@ fn values_are_dropped_in_the_order_of_their_puts(rt: HostRuntime) -> Result<(), 
         }),
         None
     );
-    assert_eq!(rt;
-        held.put(
-            Root {
-                txid: 2,
-                attempt: 1
-            },
-            21
-        ),
-        Ok(())
-    );
-    assert_eq!(rt; values(alloc, held.rotate())?.as_slice(), [].as_slice());
-    assert_eq!(rt;
-        held.put(
-            Root {
-                txid: 1,
-                attempt: 1
-            },
-            10
-        ),
-        Ok(())
-    );
-    match held.get(Root {
-        txid: 9,
-        attempt: 1,
-    }) {
-        Some(value) => *value = 91,
-        None => assert!(rt; false),
-    }
+    put_new(&mut held, 2, 21)?;
+    assert_eq!(rt; put_new(&mut held, 2, 22), Err(22));
+    let none: [(u64, u64); 0] = [];
+    assert_eq!(rt; values(alloc, held.rotate())?.as_slice(), none.as_slice());
+    put_new(&mut held, 1, 10)?;
+    assert!(rt; write(&mut held, 9, 91));
     assert_eq!(rt;
         values(alloc, held.rotate())?.as_slice(),
-        [(4, 40), (9, 91), (2, 21)].as_slice()
+        [(4, 4), (9, 91), (2, 21)].as_slice()
     );
     assert_eq!(rt;
         values(alloc, held.rotate())?.as_slice(),
