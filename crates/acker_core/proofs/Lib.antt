@@ -1,0 +1,4 @@
+pub mod Stack
+pub mod StateLemmas
+pub mod TellLemmas
+pub mod StepLemmas

@@ -1,0 +1,119 @@
+ghost use Rattle.std.specs.Prelude.{◌≡◌, ◌≤◌, [], IfOk, OnOk, OnErr, option_and_then};
+ghost use Rattle.rotating_ledger.specs.Held.{value_of, without, entered, rotated};
+ghost use Rattle.rotating_ledger.specs.Told.{told};
+ghost use Rattle.acker_core.specs.Entries.{AreSilent, appended, met, tell, told_of};
+ghost use Rattle.acker_core.specs.States.{state_of};
+
+use crate::entry::{Entry, root_in};
+use crate::verdict::Verdict;
+use rotating_ledger::{Rotating, Told};
+use std::alloc::{AllocError, Global};
+use std::marker::Model;
+use storm_values::{Memory, Root};
+use tree_model::AckMsg;
+
+/// Keeps the messages of each root until they tell something, in buckets that rotate: an entry stays
+/// in the bucket of its first message. Contracts see the entries as lists of messages, in the order in
+/// which they began, with their ages.
+#[derive(Debug, Drop)]
+pub struct Acker {
+    alloc: Global,
+    entries: Rotating<Entry>,
+}
+
+impl Model for Acker {
+    ghost use Rattle.std.specs.Prelude.{List};
+    ghost use Rattle.rotating_ledger.specs.Held.{Rotation, rotation_code};
+    ghost use Rattle.tree_model.specs.declared.messages.AckMsg.{AckMsg};
+    ghost use Rattle.acker_core.specs.Entries.{AreSilent};
+
+    ghost Value = { Rotation (List AckMsg) };
+
+    ghost view = { λ a. a.entries };
+
+    ghost invariant = { λ a. AreSilent a.entries.held };
+}
+
+impl Acker {
+    /// No entries, in so many buckets.
+    pub fn new(alloc: Global, buckets: u32) -> Result<Self, Memory>
+        requires least { 2 ≤ buckets }
+        requires most { buckets ≤ 16 }
+        ensures { IfOk result (λ made. made ≡ record { buckets = buckets; held = [] }) }
+    {
+        Ok(Acker {
+            alloc,
+            entries: Rotating::new(alloc, buckets)?,
+        })
+    }
+
+    /// Meets a message, and tells what its root comes to. A complete verdict has the entry's messages,
+    /// which are moved; a fail has the path of the first failure. Without memory all stays.
+    pub fn step(&mut self, message: AckMsg) -> Result<Option<Verdict>, Memory>
+        ensures told { IfOk result (λ told. told ≡ told_of message self.old.held) }
+        ensures met { OnOk result (self.new ≡ record self.old { held = met message self.old.held }) }
+        ensures err { OnErr result (self.new ≡ self.old) }
+    {
+        let root = root_in(&message);
+        let told = add_message(self.alloc, &mut self.entries, root, message)?;
+        if told.tells() {
+            let verdict = take_verdict(&mut self.entries, root);
+            return Ok(verdict);
+        }
+        Ok(None)
+    }
+
+    /// Drops the entries of the oldest bucket. It takes no memory.
+    pub fn tick(&mut self)
+        ensures { self.new ≡ record self.old { held = rotated self.old.buckets self.old.held } }
+    {
+        let _ = self.entries.rotate();
+    }
+
+    /// No entry tells anything: what tells is gone at once.
+    pub fn tells_nothing(&self)
+        ensures { AreSilent self.now.held }
+    {
+        let _ = &self.entries;
+    }
+}
+
+// Adds a message to a root's entry, which begins with it where there is none.
+fn add_message(
+    alloc: Global,
+    entries: &mut Rotating<Entry>,
+    root: Root,
+    message: AckMsg,
+) -> Result<Told, Memory>
+    ensures told { IfOk result (λ told_is.
+        told_is ≡ told (state_of (appended (value_of root entries.old.held) message))) }
+    ensures entered { OnOk result (let before = value_of root entries.old.held in
+        entries.new ≡ record entries.old { held = entered root before (appended before message) entries.old.held }) }
+    ensures err { OnErr result (entries.new ≡ entries.old) }
+{
+    match entries.get(root) {
+        Some(entry) => {
+            entry.add(message)?;
+            Ok(entry.told())
+        }
+        None => {
+            let entry = Entry::new(alloc, message)?;
+            let told = entry.told();
+            match entries.put(root, entry) {
+                Ok(()) => Ok(told),
+                Err(_) => Err(AllocError),
+            }
+        }
+    }
+}
+
+// Takes out what a root's entry tells.
+fn take_verdict(entries: &mut Rotating<Entry>, root: Root) -> Option<Verdict>
+    ensures told { result ≡ option_and_then (tell root) (value_of root entries.old.held) }
+    ensures others { entries.new ≡ record entries.old { held = without root entries.old.held } }
+{
+    match entries.take(root) {
+        Some(entry) => entry.into_verdict(root),
+        None => None,
+    }
+}

@@ -1,0 +1,121 @@
+ghost use Rattle.std.specs.Prelude.{◌≡◌, ◌∷◌, ◌++◌, [], bit_xor, IfOk, OnOk, OnErr};
+ghost use Rattle.rotating_ledger.specs.Told.{told};
+ghost use Rattle.tuple_tickets.specs.Edges.{xor_ids};
+ghost use Rattle.tree_model.specs.Lists.{root_of};
+ghost use Rattle.acker_core.specs.Entries.{first_failed, tell};
+ghost use Rattle.acker_core.specs.States.{state_of, state_in};
+
+use crate::verdict::Verdict;
+use rotating_ledger::{AckState, Told};
+use std::alloc::Global;
+use std::marker::Model;
+use storm_values::{Memory, Path, Root};
+use tree_model::{AckMsg, Notes};
+use tuple_tickets::Edges;
+
+/// The messages of a root since its entry began, with what they come to.
+#[derive(Debug, Drop)]
+pub struct Entry {
+    state: AckState,
+    list: Notes,
+}
+
+impl Model for Entry {
+    ghost use Rattle.std.specs.Prelude.{◌≡◌, List};
+    ghost use Rattle.tree_model.specs.declared.messages.AckMsg.{AckMsg};
+    ghost use Rattle.acker_core.specs.States.{state_of};
+
+    ghost Value = { List AckMsg };
+
+    ghost view = { λ e. e.list };
+
+    ghost invariant = { λ e. e.state ≡ state_of e.list };
+}
+
+/// The root of a message.
+pub fn root_in(message: &AckMsg) -> Root
+    ensures { result ≡ root_of message.now }
+{
+    match message {
+        AckMsg::Init(init) => init.root,
+        AckMsg::Done(done) => done.root,
+        AckMsg::Failed(note) => note.root,
+    }
+}
+
+// The XOR of ids.
+fn xor_of(edges: &Edges) -> u64
+    ensures { result ≡ xor_ids edges.now }
+{
+    let mut word = 0;
+    for edge in edges.as_slice() {
+        word ^= edge.id;
+    }
+    word
+}
+
+fn message_state(message: &AckMsg) -> AckState
+    ensures { result ≡ state_in message.now }
+{
+    match message {
+        AckMsg::Init(init) => AckState::init(xor_of(&init.edges)),
+        AckMsg::Done(done) => AckState::ack(done.consumed.id ^ xor_of(&done.produced)),
+        AckMsg::Failed(_) => AckState::fail(),
+    }
+}
+
+// The path of the first failure.
+fn first_path(list: Notes) -> Option<Path>
+    ensures { result ≡ first_failed list }
+{
+    for message in list.into_vec() {
+        if let AckMsg::Failed(note) = message {
+            return Some(note.path);
+        }
+    }
+    None
+}
+
+impl Entry {
+    /// An entry of one message.
+    pub fn new(alloc: Global, message: AckMsg) -> Result<Self, Memory>
+        ensures { IfOk result (λ entry. entry ≡ message ∷ []) }
+    {
+        let state = message_state(&message);
+        let mut list = Notes::new(alloc);
+        list.push(message)?;
+        Ok(Entry { state, list })
+    }
+
+    /// Adds a message at the end.
+    pub fn add(&mut self, message: AckMsg) -> Result<(), Memory>
+        ensures ok { OnOk result (self.new ≡ self.old ++ message ∷ []) }
+        ensures err { OnErr result (self.new ≡ self.old) }
+    {
+        let state = message_state(&message);
+        self.list.push(message)?;
+        self.state.merge(state);
+        Ok(())
+    }
+
+    pub fn told(&self) -> Told
+        ensures { result ≡ told (state_of self.now) }
+    {
+        self.state.told()
+    }
+
+    /// What the entry tells of its root. The list is moved.
+    pub fn into_verdict(self, root: Root) -> Option<Verdict>
+        ensures { result ≡ tell root self }
+    {
+        let Entry { state, list } = self;
+        match state.told() {
+            Told::Nothing => None,
+            Told::Complete => Some(Verdict::Complete { root, list }),
+            Told::Fails => match first_path(list) {
+                Some(path) => Some(Verdict::Fails { root, path }),
+                None => None,
+            },
+        }
+    }
+}

@@ -1,0 +1,13 @@
+//! The acker of tuple trees, and the check of a list of messages.
+#![tactic(auto)]
+
+mod acker;
+mod check;
+mod entry;
+mod laws;
+mod verdict;
+
+pub use acker::Acker;
+pub use check::{Check, check_list};
+pub use laws::complete_verdicts_cover;
+pub use verdict::Verdict;
