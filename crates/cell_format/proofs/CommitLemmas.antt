@@ -171,8 +171,10 @@ module _ (kind : Kind) (by : Fold) (parts part t : ℕ) (done next : List Write)
       let moves : (key : List ℕ) → KeyMoved kind by t (value_after by (amounts_at done key) None) (amounts_at next key) (amounts_at more key) (new key) =
       λ key. key_moves kind by t _ (amounts_at next key) (amounts_at more key) (old key) (new key) (stands.keys key) (each key) in
       let base : (key : List ℕ) → value_after by (amounts_at (done ++ next) key) None ≡ value_after by (amounts_at next key) (value_after by (amounts_at done key) None) =
-      λ key. ap (λ amounts. value_after by amounts None) (amounts_at-append done next key) ∙ value_after-append by (amounts_at done key) (amounts_at next key) None in
-      (record {
-        keys = λ key. subst (λ (b : Option ℤ). KeyStands kind by (t + 1) b (amounts_at more key) (new key)) (sym (base key)) ((moves key).0);
-        own = λ key some. key_own (IsKeyOf parts part key) kind by (t + 1) (amounts_at next key) (old key) (new key) (stands.own key) (own key) (perhaps_if_done kind by (t + 1) (amounts_at next key) (old key) (new key) (each key)) some;
-      }, λ key cell holds. (moves key).1 cell holds)
+      λ key. ap (λ amounts. value_after by amounts None) (amounts_at-append done next key) ∙ value_after-append by (amounts_at done key) (amounts_at next key) None in (
+        record {
+          keys = λ key. subst (λ (b : Option ℤ). KeyStands kind by (t + 1) b (amounts_at more key) (new key)) (sym (base key)) ((moves key).0);
+          own = λ key some. key_own (IsKeyOf parts part key) kind by (t + 1) (amounts_at next key) (old key) (new key) (stands.own key) (own key) (perhaps_if_done kind by (t + 1) (amounts_at next key) (old key) (new key) (each key)) some;
+        },
+        λ key cell holds. (moves key).1 cell holds,
+      )

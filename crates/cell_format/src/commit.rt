@@ -29,13 +29,7 @@ fn is_same(a: Kind, b: Kind) -> bool
 
 /// What a commit puts at a key that has this cell, or none: `None` where the key stays as it is. The
 /// amounts are those that are written for the key, in order.
-pub fn change(
-    kind: Kind,
-    by: Fold,
-    txid: u64,
-    amounts: &[i64],
-    cell: Option<Cell>,
-) -> Option<Cell>
+pub fn change(kind: Kind, by: Fold, txid: u64, amounts: &[i64], cell: Option<Cell>) -> Option<Cell>
     requires { IfSome cell (IsCellOf kind) }
     ensures made { MatchOption result (after kind by txid amounts.now cell ≡ cell)
         (λ new. after kind by txid amounts.now cell ≡ Some new) }
@@ -64,13 +58,7 @@ fn change_again(kind: Kind, by: Fold, amounts: &[i64], cell: Cell) -> Option<Cel
     }
 }
 
-fn change_anew(
-    kind: Kind,
-    by: Fold,
-    txid: u64,
-    amounts: &[i64],
-    cell: Option<Cell>,
-) -> Option<Cell>
+fn change_anew(kind: Kind, by: Fold, txid: u64, amounts: &[i64], cell: Option<Cell>) -> Option<Cell>
     ensures made { MatchOption result (anew kind by txid amounts.now cell ≡ cell)
         (λ new. anew kind by txid amounts.now cell ≡ Some new) }
     ensures good { IfSome result (IsCellOf kind) }

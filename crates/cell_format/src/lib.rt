@@ -8,6 +8,6 @@ mod commit;
 mod laws;
 
 pub use cell::{Cell, CellFault};
-pub use commit::{cell_for, change};
 pub use codec::{CELL_BYTES, decode_cell, encode_cell};
+pub use commit::{cell_for, change};
 pub use laws::{bytes_tell_cells_apart, commits_move_parts_on};

@@ -5,3 +5,4 @@ mod GroupLemmas
 mod ScanLemmas
 mod RestoreLemmas
 mod PlanLemmas
+mod RowLemmas

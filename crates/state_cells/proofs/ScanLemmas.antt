@@ -23,7 +23,7 @@ pub carrier_is : (kind : Kind) (txid : ℕ) (held : Option (List ℕ)) (cell : O
 carrier_is kind txid held None is = rw is.bytes refl
 carrier_is kind txid held (Some c) is = rw (is.bytes, read_of-bytes_of c is.good.is) refl
 
-taken_more : (xs : List (List ℕ)) (i : ℕ) (x : List ℕ) → slice_get xs i ≡ Some x → take (suc i) xs ≡ take i xs ++ x ∷ []
+pub taken_more : (xs : List (List ℕ)) (i : ℕ) (x : List ℕ) → slice_get xs i ≡ Some x → take (suc i) xs ≡ take i xs ++ x ∷ []
 taken_more [] i x at = absurd (let e : ◌≡◌ {A = Option (List ℕ)} None (Some x) = at in cc)
 taken_more (y ∷ ys) zero x at = let same : y ≡ x = cc in rw same refl
 taken_more (y ∷ ys) (suc i) x at = ap (λ zs. y ∷ zs) (taken_more ys i x at)

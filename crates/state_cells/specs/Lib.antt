@@ -4,3 +4,4 @@ pub mod Groups
 pub mod Scans
 pub mod Plans
 pub mod PartStates
+pub mod Rows

@@ -7,6 +7,7 @@ mod group;
 mod part;
 mod plan;
 mod scan;
+mod table;
 
 pub use cell_format::{Cell, CellFault, decode_cell, encode_cell};
 pub use fault::PartFault;

@@ -1,18 +1,21 @@
-ghost use Rattle.std.specs.Prelude.{◌≡◌, ◌≤◌, ℕ, List, OnOk, OnErr, IsErrOf};
+ghost use Rattle.std.specs.Prelude.{◌≡◌, ◌≤◌, ℕ, List, IfOk, OnOk, OnErr, IsErrOf};
 ghost use Rattle.storm_outside.specs.Counts.{Rose};
 ghost use Rattle.storm_stores.specs.CellMaps.{CellMap, cell_at};
 ghost use Rattle.cell_format.specs.Commits.{IsDone, IsPerhapsDone, amounts_at};
 ghost use Rattle.state_cells.specs.PartStates.{part_of};
+ghost use Rattle.state_cells.specs.Rows.{IsBadRow, rows_of};
+ghost use Rattle.state_cells.specs.Scans.{AreGood};
 ghost use Rattle.state_cells.specs.Turns.{IsBad, Turns};
 
 use crate::commit::{Batch, commit_jobs};
 use crate::fault::PartFault;
 use crate::plan::plan;
+use crate::table::table;
 use std::alloc::Global;
 use std::marker::Model;
 use storm_stores::CellStore;
 use topology_plan::{Fold, Kind};
-use tree_model::Writes;
+use tree_model::{Pairs, Writes};
 
 /// A part of a state: its cells lie in a store that may refuse.
 #[derive(Drop)]
@@ -80,6 +83,25 @@ impl<C: CellStore> Part<C> {
             txid,
         };
         commit_batch(self.alloc, &mut self.store, batch, writes)
+    }
+
+    /// The keys with a value, in order, with one look at each key.
+    pub fn table(&mut self) -> Result<Pairs, PartFault>
+        ensures rows { IfOk result (λ pairs. (cells : CellMap) → C.tells self.old.store cells →
+            pairs ≡ rows_of cells) }
+        ensures good { OnOk result ((cells : CellMap) → C.tells self.old.store cells →
+            AreGood self.old.kind cells) }
+        ensures same { (cells : CellMap) → C.tells self.old.store cells →
+            C.tells self.new.store cells }
+        ensures failed { IsErrOf result PartFault.Store →
+            Rose (C.fault_count self.old.store) (C.fault_count self.new.store) }
+        ensures bad { (k : List ℕ) → IsErrOf result (PartFault.BadCell k) → (cells : CellMap) →
+            C.tells self.old.store cells → IsBadRow self.old.kind k (cell_at cells k) }
+        ensures never_falls { C.fault_count self.old.store ≤ C.fault_count self.new.store }
+        ensures kind { self.new.kind ≡ self.old.kind }
+        ensures fold { self.new.by ≡ self.old.by }
+    {
+        table(self.alloc, &mut self.store, self.kind)
     }
 }
 

@@ -7,7 +7,7 @@ pub returns : goal.returns
 unfolding bytes_of
 returns c =
     let whole = laid 1 c.flags.result c.txid.result c.number.result c.number-2.result (replicate 40 0)
-      (ap length c.txid.ensures ∙ length-txid_bytes c.args.cell.now.txid) (ap length c.number.ensures ∙ length-number_bytes c.args.cell.now.value)
-      (ap length c.number-2.ensures ∙ length-number_bytes c.args.cell.now.prev) refl
-      c.place.new.bytes c.place-2.new.bytes c.place-3.new.bytes c.place.ensures c.place-2.ensures c.place-3.ensures in
+    (ap length c.txid.ensures ∙ length-txid_bytes c.args.cell.now.txid) (ap length c.number.ensures ∙ length-number_bytes c.args.cell.now.value)
+    (ap length c.number-2.ensures ∙ length-number_bytes c.args.cell.now.prev) refl
+    c.place.new.bytes c.place-2.new.bytes c.place-3.new.bytes c.place.ensures c.place-2.ensures c.place-3.ensures in
     rw (whole, c.flags.ensures, c.txid.ensures, c.number.ensures, c.number-2.ensures) refl
