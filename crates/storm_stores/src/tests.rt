@@ -67,7 +67,7 @@ fn a_put_fails_after_it_happened(rt: HostRuntime) -> Result<(), Fail> {
     })?;
     assert_eq!(rt; store.put(b"c", b"4").err(), Some(StoreFault::Failed));
     match store.get(b"c")? {
-        Some(cell) => assert_eq!(rt; cell.as_slice(), b"4"),
+        Some(cell) => assert_eq!(rt; cell.as_slice(), b"4".as_slice()),
         None => assert!(rt; false),
     }
     assert_eq!(rt; store.faults(), 1);
