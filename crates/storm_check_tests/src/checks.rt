@@ -1,0 +1,195 @@
+// What a check of a topology prints, and which topologies a run puts off.
+use std::alloc::Global;
+use storm_program::{Status, storm_check};
+use storm_test_kit::{
+    CALM, CHECK, COPIES_TO_ALL, LAST_VALUE, PAIRS, RUN, SENTENCES, Scene, WORD_COUNT,
+    check_refusal, run_of, shelf, sink, taken,
+};
+use test_kit::{Mismatch, changed, compare};
+
+// A bolt of 64 tasks that each get a copy, and one of 4 tasks that each get one of those.
+const TOO_HEAVY: &str = r#"{"version":1,
+ "spout":{"name":"lines","kind":"transactional","fields":["word"],"batch":1},
+ "bolts":[{"name":"wide","tasks":64,"op":{"do":"route","field":"word"},
+   "inputs":[{"from":"lines","grouping":"all"}]},
+  {"name":"wider","tasks":4,"op":{"do":"route","field":"word"},
+   "inputs":[{"from":"wide","grouping":"all"}]}],
+ "states":[{"name":"counts","kind":"transactional","parts":1,"key":["word"],
+   "fold":"count","inputs":["wider"]}]}"#;
+
+// Topologies, the status of their check, and its line.
+const CHECKS: [(&str, u8, &str); 8] = [
+    (
+        WORD_COUNT,
+        0,
+        "valid components 2 tasks 4 weight 2 depth 2\n",
+    ),
+    (
+        LAST_VALUE,
+        0,
+        "valid components 1 tasks 1 weight 1 depth 1\n",
+    ),
+    (
+        COPIES_TO_ALL,
+        0,
+        "valid components 3 tasks 6 weight 9 depth 3\n",
+    ),
+    (PAIRS, 0, "valid components 6 tasks 11 weight 6 depth 4\n"),
+    (TOO_HEAVY, 3, "topology: weight 576, most 256\n"),
+    (r#"{"version":1"#, 3, "topology: no JSON\n"),
+    ("[]", 3, "topology: wrong kind \"topology\"\n"),
+    (
+        r#"{"version":2}"#,
+        3,
+        "topology: \"version\" is 2, not from 1 to 1\n",
+    ),
+];
+
+// What stands in the word count in the place of something else, with the status and the line of a check.
+const CHANGED: [(&str, &str, u8, &str); 4] = [
+    (
+        r#"{"do":"split","field":"sentence","as":"word"}"#,
+        r#"{"do":"flaky","below":2}"#,
+        3,
+        "topology: no field \"word\" at \"counts\"\n",
+    ),
+    (
+        r#""lines","kind":"transactional""#,
+        r#""lines","kind":"opaque""#,
+        3,
+        "topology: not exactly once \"counts\"\n",
+    ),
+    (
+        r#""counts","kind":"transactional""#,
+        r#""counts","kind":"opaque""#,
+        0,
+        "valid components 2 tasks 4 weight 2 depth 2\n",
+    ),
+    (
+        r#""shuffle""#,
+        r#""direct""#,
+        3,
+        "topology: wrong kind \"grouping\"\n",
+    ),
+];
+
+// The word count filled up with spaces to so many bytes, with the status and the line of a check.
+const LENGTHS: [(usize, u8, &str); 3] = [
+    (65_536, 0, "valid components 2 tasks 4 weight 2 depth 2\n"),
+    (65_537, 3, "topology: longer than 65536 bytes\n"),
+    (200_000, 3, "topology: longer than 65536 bytes\n"),
+];
+
+// A spout, one bolt with this operation, and one state.
+const ONE_BOLT: &str = r#"{"version":1,
+ "spout":{"name":"words","kind":"SPOUT","fields":["word"],"batch":1},
+ "bolts":[{"name":"bolt","tasks":1,"op":OP,
+   "inputs":[{"from":"words","grouping":"shuffle"}]}],
+ "states":[{"name":"counts","kind":"STATE","parts":1,"key":["word"],
+   "fold":"count","inputs":["bolt"]}]}"#;
+
+// Kinds of the spout and the state, and the operation, of plans that are valid and not run yet.
+const NOT_YET: [(&str, &str, &str); 5] = [
+    (
+        "transactional",
+        "transactional",
+        r#"{"do":"flaky","below":2}"#,
+    ),
+    (
+        "transactional",
+        "transactional",
+        r#"{"do":"mute","below":1}"#,
+    ),
+    ("transactional", "transactional", r#"{"do":"custom"}"#),
+    (
+        "transactional",
+        "opaque",
+        r#"{"do":"route","field":"word"}"#,
+    ),
+    ("opaque", "opaque", r#"{"do":"route","field":"word"}"#),
+];
+
+// A check of one topology.
+fn check_of(topology: &str) -> Scene<'_> {
+    Scene {
+        words: &CHECK,
+        topology: Some(topology),
+        input: None,
+    }
+}
+
+#[test]
+fn checks_of_topologies(rt: HostRuntime) -> Result<(), Mismatch> {
+    for (topology, code, want) in CHECKS {
+        check_refusal(&rt, rt.alloc(), check_of(topology), CALM, code, want)?;
+    }
+    Ok(())
+}
+
+#[test]
+fn checks_of_changed_topologies(rt: HostRuntime) -> Result<(), Mismatch> {
+    let alloc = rt.alloc();
+    for (part, other, code, want) in CHANGED {
+        let topology = changed(alloc, WORD_COUNT, part, other)?;
+        check_refusal(&rt, alloc, check_of(topology.as_str()), CALM, code, want)?;
+    }
+    Ok(())
+}
+
+// The word count with spaces behind it, so many bytes in all.
+fn filled_up(alloc: Global, bytes: usize) -> Result<String, Mismatch> {
+    let mut text = String::from_str(alloc, WORD_COUNT)?;
+    let spaces = " ".repeat(alloc, bytes.saturating_sub(WORD_COUNT.len()))?;
+    text.push_str(spaces.as_str())?;
+    Ok(text)
+}
+
+#[test]
+fn a_file_of_65537_bytes(rt: HostRuntime) -> Result<(), Mismatch> {
+    let alloc = rt.alloc();
+    for (bytes, code, want) in LENGTHS {
+        let topology = filled_up(alloc, bytes)?;
+        assert!(rt; topology.len() == bytes);
+        check_refusal(&rt, alloc, check_of(topology.as_str()), CALM, code, want)?;
+    }
+    Ok(())
+}
+
+#[test]
+fn a_check_without_words(rt: HostRuntime) -> Result<(), Mismatch> {
+    let alloc = rt.alloc();
+    let mut shelf = shelf(alloc, run_of(LAST_VALUE, ""), CALM)?;
+    let mut sink = sink(alloc, CALM)?;
+    let status = storm_check(alloc, "t", &mut shelf, &mut sink);
+    assert!(rt; status == Status::Done);
+    let text = taken(alloc, &sink)?;
+    let want = "valid components 1 tasks 1 weight 1 depth 1\n";
+    compare(alloc, "a check", text.as_str(), want)
+}
+
+// The topology with kinds of its spout and its state, and the operation of its bolt.
+fn one_bolt(alloc: Global, spout: &str, state: &str, op: &str) -> Result<String, Mismatch> {
+    let with_spout = changed(alloc, ONE_BOLT, "SPOUT", spout)?;
+    let with_state = changed(alloc, with_spout.as_str(), "STATE", state)?;
+    changed(alloc, with_state.as_str(), "OP", op)
+}
+
+#[test]
+fn plans_that_are_not_run_yet(rt: HostRuntime) -> Result<(), Mismatch> {
+    let alloc = rt.alloc();
+    for (spout, state, op) in NOT_YET {
+        let topology = one_bolt(alloc, spout, state, op)?;
+        let valid = "valid components 2 tasks 2 weight 2 depth 2\n";
+        check_refusal(&rt, alloc, check_of(topology.as_str()), CALM, 0, valid)?;
+        // the line comes before the input is fetched
+        for input in [None, Some(SENTENCES)] {
+            let run = Scene {
+                words: &RUN,
+                topology: Some(topology.as_str()),
+                input,
+            };
+            check_refusal(&rt, alloc, run, CALM, 3, "topology: not yet\n")?;
+        }
+    }
+    Ok(())
+}

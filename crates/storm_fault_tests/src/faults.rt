@@ -1,0 +1,274 @@
+// What a call answers and writes where one call to the outside fails, or gives and takes little.
+ghost use Rattle.std.specs.Prelude.{◌<◌};
+
+use std::alloc::Global;
+use std::sync::Wait;
+use std::thread::Threads;
+use storm_test_kit::{
+    CALM, CHECK, COUNTED_SENTENCES, Outside, RUN, SENTENCES, Scene, Told, WORD_COUNT, call,
+    check_call, check_refusal, reads_of, run_over,
+};
+use test_kit::{Mismatch, compare};
+
+// A report, each refusal, and the line of a read fault.
+const SCENES: [Scene<'static>; 7] = [
+    Scene {
+        words: &RUN,
+        topology: Some(WORD_COUNT),
+        input: Some(SENTENCES),
+    },
+    Scene {
+        words: &RUN,
+        topology: Some(WORD_COUNT),
+        input: Some("[\"a\"]\n[1.5]"),
+    },
+    Scene {
+        words: &RUN,
+        topology: Some("{}"),
+        input: Some(SENTENCES),
+    },
+    Scene {
+        words: &RUN,
+        topology: Some(WORD_COUNT),
+        input: None,
+    },
+    Scene {
+        words: &CHECK,
+        topology: Some(WORD_COUNT),
+        input: None,
+    },
+    Scene {
+        words: &CHECK,
+        topology: Some("{}"),
+        input: None,
+    },
+    Scene {
+        words: &["run"],
+        topology: Some(WORD_COUNT),
+        input: Some(SENTENCES),
+    },
+];
+
+fn bad_case(alloc: Global, case: &str) -> Result<(), Mismatch> {
+    Err(Mismatch::Case(String::from_str(alloc, case)?))
+}
+
+// The call answered, wrote and told as one where nothing fails.
+fn same(alloc: Global, told: &Told, whole: &Told) -> Result<(), Mismatch> {
+    compare(alloc, "a call", told.text.as_str(), whole.text.as_str())?;
+    if told.status == whole.status && told.fates.as_slice() == whole.fates.as_slice() {
+        return Ok(());
+    }
+    bad_case(alloc, "another status, or other fates")
+}
+
+// The sink failed when it had taken so many bytes.
+fn cut(alloc: Global, told: &Told, whole: &Told, taken: usize) -> Result<(), Mismatch> {
+    if told.status.code() != 6 || told.text.len() != taken {
+        return bad_case(alloc, "another status, or another number of bytes");
+    }
+    if !whole.text.as_bytes().starts_with(told.text.as_bytes()) {
+        return bad_case(alloc, "other bytes");
+    }
+    if told.fates.as_slice() == whole.fates.as_slice() {
+        return Ok(());
+    }
+    bad_case(alloc, "other fates")
+}
+
+// The status and the text of a run over the sentences, a read of which fails.
+fn with_read_fault(longest: usize, number: u64) -> (u8, &'static str)
+    requires { 0 < longest }
+{
+    let of_topology = reads_of(WORD_COUNT, longest);
+    if number <= of_topology {
+        return (5, "read fault topology\n");
+    }
+    if number - of_topology <= reads_of(SENTENCES, longest) {
+        return (5, "read fault input\n");
+    }
+    (0, COUNTED_SENTENCES)
+}
+
+// Lets one read of a run over the sentences fail. The answer is whether there is no such read.
+fn fail_read<R: Threads + Wait + Sync>(
+    rt: &R,
+    alloc: Global,
+    longest: usize,
+    number: u64,
+) -> Result<bool, Mismatch>
+    requires { 0 < longest }
+{
+    let outside = Outside {
+        read: longest,
+        failing_read: number,
+        ..CALM
+    };
+    let (code, text) = with_read_fault(longest, number);
+    if code == 0 {
+        check_call(rt, alloc, run_over(SENTENCES), outside, code, text)?;
+        return Ok(true);
+    }
+    check_refusal(rt, alloc, run_over(SENTENCES), outside, code, text)?;
+    Ok(false)
+}
+
+#[test]
+fn each_read_fails(rt: HostRuntime) -> Result<(), Mismatch> {
+    for longest in 1..8 {
+        for number in 1..1_000 {
+            if fail_read(&rt, rt.alloc(), longest, number)? {
+                break;
+            }
+        }
+    }
+    Ok(())
+}
+
+// The fetch that fails, the status, and the text.
+const FETCHES: [(u64, u8, &str); 3] = [
+    (1, 5, "read fault topology\n"),
+    (2, 5, "read fault input\n"),
+    (3, 0, COUNTED_SENTENCES),
+];
+
+#[test]
+fn each_fetch_fails(rt: HostRuntime) -> Result<(), Mismatch> {
+    for (failing_fetch, code, text) in FETCHES {
+        let outside = Outside {
+            failing_fetch,
+            ..CALM
+        };
+        check_call(&rt, rt.alloc(), run_over(SENTENCES), outside, code, text)?;
+    }
+    Ok(())
+}
+
+const VALID: &str = "valid components 2 tasks 4 weight 2 depth 2\n";
+
+// Of a check the fetch and the read that fail, the status, and the text.
+const CHECKS: [(u64, u64, u8, &str); 5] = [
+    (1, 0, 5, "read fault topology\n"),
+    (2, 0, 0, VALID),
+    (0, 1, 5, "read fault topology\n"),
+    (0, 2, 5, "read fault topology\n"),
+    (0, 3, 0, VALID),
+];
+
+#[test]
+fn a_check_fetches_and_reads_once(rt: HostRuntime) -> Result<(), Mismatch> {
+    let scene = Scene {
+        words: &CHECK,
+        topology: Some(WORD_COUNT),
+        input: None,
+    };
+    for (failing_fetch, failing_read, code, text) in CHECKS {
+        let outside = Outside {
+            failing_fetch,
+            failing_read,
+            ..CALM
+        };
+        check_refusal(&rt, rt.alloc(), scene, outside, code, text)?;
+    }
+    Ok(())
+}
+
+// Lets the write fail before which so many bytes are taken.
+fn fail_write<R: Threads + Wait + Sync>(
+    rt: &R,
+    alloc: Global,
+    scene: Scene<'_>,
+    longest: usize,
+    taken: usize,
+) -> Result<Told, Mismatch>
+    requires { 0 < longest }
+{
+    let outside = Outside {
+        write: longest,
+        failing_write: (taken.div_ceil(longest) as u64).saturating_add(1),
+        ..CALM
+    };
+    call(rt, alloc, scene, outside)
+}
+
+// Lets each write of so many bytes fail in turn, and one more than there are.
+fn fail_writes<R: Threads + Wait + Sync>(
+    rt: &R,
+    alloc: Global,
+    scene: Scene<'_>,
+    longest: usize,
+) -> Result<(), Mismatch>
+    requires { 0 < longest }
+{
+    let whole = call(rt, alloc, scene, CALM)?;
+    for taken in 0..whole.text.len() {
+        if taken % longest == 0 {
+            let told = fail_write(rt, alloc, scene, longest, taken)?;
+            cut(alloc, &told, &whole, taken)?;
+        }
+    }
+    let told = fail_write(rt, alloc, scene, longest, whole.text.len())?;
+    same(alloc, &told, &whole)
+}
+
+#[test]
+fn each_write_fails(rt: HostRuntime) -> Result<(), Mismatch> {
+    for scene in SCENES {
+        for longest in [1, 3, 64] {
+            fail_writes(&rt, rt.alloc(), scene, longest)?;
+        }
+    }
+    Ok(())
+}
+
+// Gives the sink room for each number of bytes that is too small.
+fn narrow<R: Threads + Wait + Sync>(
+    rt: &R,
+    alloc: Global,
+    scene: Scene<'_>,
+) -> Result<(), Mismatch> {
+    let whole = call(rt, alloc, scene, CALM)?;
+    for room in 0..whole.text.len() {
+        let outside = Outside {
+            write: 50,
+            room,
+            ..CALM
+        };
+        cut(alloc, &call(rt, alloc, scene, outside)?, &whole, room)?;
+    }
+    Ok(())
+}
+
+#[test]
+fn a_sink_has_too_little_room(rt: HostRuntime) -> Result<(), Mismatch> {
+    for scene in SCENES {
+        narrow(&rt, rt.alloc(), scene)?;
+    }
+    Ok(())
+}
+
+// Reads and writes few bytes at a time.
+fn shorten<R: Threads + Wait + Sync>(
+    rt: &R,
+    alloc: Global,
+    scene: Scene<'_>,
+) -> Result<(), Mismatch> {
+    let whole = call(rt, alloc, scene, CALM)?;
+    for longest in 1..8 {
+        let outside = Outside {
+            read: longest,
+            write: longest,
+            ..CALM
+        };
+        same(alloc, &call(rt, alloc, scene, outside)?, &whole)?;
+    }
+    Ok(())
+}
+
+#[test]
+fn short_reads_and_writes_change_nothing(rt: HostRuntime) -> Result<(), Mismatch> {
+    for scene in SCENES {
+        shorten(&rt, rt.alloc(), scene)?;
+    }
+    Ok(())
+}

@@ -1,0 +1,54 @@
+ghost use Rattle.std.specs.Prelude.{◌≡◌, ◌<◌, ◌+◌, ℕ, List, length, map, string_bytes, IfOk};
+ghost use Rattle.std.specs.Borrow.{Bor};
+ghost use Rattle.std.specs.Int.{div_ceil};
+
+use crate::topologies::WORD_COUNT;
+use std::alloc::Global;
+use storm_values::Memory;
+
+/// The words of a run.
+pub const RUN: [&str; 3] = ["run", "t", "i"];
+
+/// The words of a check.
+pub const CHECK: [&str; 2] = ["check", "t"];
+
+/// The words of a call, and the files `t` and `i`, where they are there.
+#[derive(Clone, Copy)]
+pub struct Scene<'a> {
+    pub words: &'a [&'a str],
+    pub topology: Option<&'a str>,
+    pub input: Option<&'a str>,
+}
+
+/// The scene of a run.
+pub fn run_of<'a>(topology: &'a str, input: &'a str) -> Scene<'a> {
+    Scene {
+        words: &RUN,
+        topology: Some(topology),
+        input: Some(input),
+    }
+}
+
+/// The scene of a run of the word count.
+pub fn run_over<'a>(input: &'a str) -> Scene<'a> {
+    run_of(WORD_COUNT, input)
+}
+
+/// The words of a table as texts of their own.
+pub fn owned(alloc: Global, words: &[&str]) -> Result<Vec<String>, Memory>
+    ensures { IfOk result (λ made. map string_bytes made.items ≡ map (λ (word : Bor (List ℕ)). word.now) words.now) }
+{
+    let mut made = Vec::new(alloc);
+    for word in words {
+        made.push(String::from_str(alloc, word)?)?;
+    }
+    Ok(made)
+}
+
+/// How many reads reach the end of a text, the last of which gives nothing.
+pub fn reads_of(text: &str, longest: usize) -> u64
+    requires { 0 < longest }
+    ensures { result ≡ div_ceil (length text.now) longest + 1 }
+{
+    text.len().div_ceil(longest) as u64 + 1
+}

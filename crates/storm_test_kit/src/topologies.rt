@@ -1,0 +1,77 @@
+// Topologies, and records with their report.
+
+/// The topology of the word count, in batches of two records.
+pub const WORD_COUNT: &str = "{\"version\":1,
+ \"spout\":{\"name\":\"lines\",\"kind\":\"transactional\",\"fields\":[\"sentence\"],\"batch\":2},
+ \"bolts\":[{\"name\":\"split\",\"tasks\":2,
+   \"op\":{\"do\":\"split\",\"field\":\"sentence\",\"as\":\"word\"},
+   \"inputs\":[{\"from\":\"lines\",\"grouping\":\"shuffle\"}]}],
+ \"states\":[{\"name\":\"counts\",\"kind\":\"transactional\",\"parts\":2,\"key\":[\"word\"],
+   \"fold\":\"count\",\"inputs\":[\"split\"]}],
+ \"ackers\":2,\"pending\":4,\"buckets\":3,\"attempts\":4}
+";
+
+/// Three records.
+pub const SENTENCES: &str = "[\"the cow jumped over the moon\"]
+[\"the man went to the store\"]
+[\"four score and seven years ago\"]
+";
+
+/// The report of the word count over them.
+pub const COUNTED_SENTENCES: &str = "attempt 1.1 records 1-2 ticks 0-0 committed
+attempt 2.1 records 3-3 ticks 0-0 committed
+cell counts [\"ago\"] 1
+cell counts [\"and\"] 1
+cell counts [\"cow\"] 1
+cell counts [\"four\"] 1
+cell counts [\"jumped\"] 1
+cell counts [\"man\"] 1
+cell counts [\"moon\"] 1
+cell counts [\"over\"] 1
+cell counts [\"score\"] 1
+cell counts [\"seven\"] 1
+cell counts [\"store\"] 1
+cell counts [\"the\"] 4
+cell counts [\"to\"] 1
+cell counts [\"went\"] 1
+cell counts [\"years\"] 1
+ok 3 records 2 batches
+";
+
+/// The last value of each key.
+pub const LAST_VALUE: &str = r#"{"version":1,
+ "spout":{"name":"pairs","kind":"transactional","fields":["k","v"],"batch":1},
+ "bolts":[],
+ "states":[{"name":"last","kind":"transactional","parts":1,"key":["k"],
+   "fold":"last","amount":"v","inputs":["pairs"]}],
+ "ackers":2,"pending":2}"#;
+
+/// The words of three copies of each sentence.
+pub const COPIES_TO_ALL: &str = r#"{"version":1,
+ "spout":{"name":"lines","kind":"transactional","fields":["sentence"],"batch":1},
+ "bolts":[{"name":"copy","tasks":3,
+   "op":{"do":"project","fields":["sentence"]},
+   "inputs":[{"from":"lines","grouping":"all"}]},
+  {"name":"split","tasks":2,
+   "op":{"do":"split","field":"sentence","as":"word"},
+   "inputs":[{"from":"copy","grouping":"global"}]}],
+ "states":[{"name":"counts","kind":"transactional","parts":1,"key":["word"],
+   "fold":"count","inputs":["split"]}]}"#;
+
+/// Every fold but one, and operations that choose, drop and add.
+pub const PAIRS: &str = r#"{"version":1,
+ "spout":{"name":"pairs","kind":"transactional","fields":["k","v"],"batch":2},
+ "bolts":[
+  {"name":"small","tasks":2,"op":{"do":"filter","field":"v","test":"lt","value":10},
+   "inputs":[{"from":"pairs","grouping":"fields","key":["k"]}]},
+  {"name":"chosen","tasks":3,"op":{"do":"route","field":"v"},
+   "inputs":[{"from":"small","grouping":"shuffle"}]},
+  {"name":"sized","tasks":2,"op":{"do":"len","field":"k","as":"n"},
+   "inputs":[{"from":"chosen","grouping":"direct"}]}],
+ "states":[
+  {"name":"sums","kind":"transactional","parts":2,"key":["k"],
+   "fold":"sum","amount":"v","inputs":["sized"]},
+  {"name":"most","kind":"transactional","parts":1,"key":["n"],
+   "fold":"max","amount":"v","inputs":["sized"]},
+  {"name":"all","kind":"transactional","parts":1,"key":["k","v"],
+   "fold":"count","inputs":["pairs"]}]}"#;

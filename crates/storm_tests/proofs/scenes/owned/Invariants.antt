@@ -1,6 +1,0 @@
-use Rattle.std.proofs.Common.{◌≡◌, ℕ, List, map, string_bytes, take}
-use Rattle.std.specs.Borrow.{Bor}
-use Rattle.storm_tests.proofs.scenes.owned.Given as goal
-
-abbrev pub invariant-loop-word : goal.invariant-loop-word
-invariant-loop-word l = map string_bytes l.made.items ≡ map (λ (word : Bor (List ℕ)). word.now) (take l.word-index l.words)
