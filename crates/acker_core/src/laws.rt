@@ -1,4 +1,5 @@
 ghost use Rattle.std.specs.Prelude.{◌≡◌, ◌↔◌, List, Some};
+ghost use Rattle.bolt_ops.specs.RowOp.{Custom};
 ghost use Rattle.storm_values.specs.declared.value.Root.{Root};
 ghost use Rattle.storm_values.specs.declared.value.Value.{Value};
 ghost use Rattle.topology_plan.specs.Topology.{Topology};
@@ -10,7 +11,7 @@ ghost use Rattle.acker_core.specs.declared.verdict.Verdict.TheVariants.{Complete
 /// A law: of a true, single, steady list whose ids do not coincide, complete is told exactly where the
 /// list covers the tuple tree.
 pub fn complete_verdicts_cover()
-    ensures { (t : Topology) (custom : List Value → List (List Value)) (rows : List (List Value))
+    ensures { (t : Topology) (custom : Custom) (rows : List (List Value))
         (root : Root) (list : List AckMsg)
         → AreTrueOf t custom rows root list → IsSingle list → IsSteady list → (Coincides list → ⊥)
         → (tell root list ≡ Some (Complete root list)) ↔ Covers t custom rows list }
