@@ -31,7 +31,7 @@ fn sentences(alloc: Global) -> Result<String, Memory> {
 fn tables(alloc: Global, topology: &str, input: &str) -> Result<Tables, Fail> {
     let plan = read_topology(alloc, topology.as_bytes())?;
     let rows = read_input(alloc, input.as_bytes(), plan.spout_fields())?;
-    Ok(plain_tables(alloc, &plan, rows.as_slice(), &Reversed)?)
+    Ok(plain_tables(alloc, &plan, &rows, &Reversed)?)
 }
 
 fn report(alloc: Global, tables: &[Table]) -> Result<String, Memory> {

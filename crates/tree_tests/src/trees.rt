@@ -38,7 +38,7 @@ fn counts_nodes(rt: HostRuntime) -> Result<(), Fail> {
     let alloc = rt.alloc();
     let plan = read_topology(alloc, WORD_COUNT.as_bytes())?;
     let rows = read_input(alloc, THREE, plan.spout_fields())?;
-    assert!(rt; count_nodes(alloc, &plan, rows.as_slice(), &Reversed)? == 8);
+    assert!(rt; count_nodes(alloc, &plan, &rows, &Reversed)? == 8);
     Ok(())
 }
 
@@ -47,7 +47,7 @@ fn counts_words(rt: HostRuntime) -> Result<(), Fail> {
     let alloc = rt.alloc();
     let plan = read_topology(alloc, WORD_COUNT.as_bytes())?;
     let rows = read_input(alloc, THREE, plan.spout_fields())?;
-    let tables = plain_tables(alloc, &plan, rows.as_slice(), &Reversed)?;
+    let tables = plain_tables(alloc, &plan, &rows, &Reversed)?;
     assert!(rt; tables.len() == 1);
     let table = tables.at(0);
     assert!(rt; table.name.as_str() == "counts");
