@@ -5,6 +5,8 @@ mod acker;
 mod check;
 mod entry;
 mod laws;
+#[cfg(test)]
+mod tests;
 mod verdict;
 
 pub use acker::Acker;
