@@ -11,4 +11,3 @@ pub mod Walks
 pub mod TreePaths
 mod Within
 mod Counts
-pub mod Ways
