@@ -36,7 +36,12 @@ fn keys_stand_in_the_order_of_bytes(rt: HostRuntime) -> Result<(), Fail> {
 fn each_call_fails_once(rt: HostRuntime) -> Result<(), Fail> {
     let alloc = rt.alloc();
     let mut store = store(alloc)?;
-    for kind in [CallKind::Get, CallKind::Put, CallKind::Count, CallKind::KeyAt] {
+    for kind in [
+        CallKind::Get,
+        CallKind::Put,
+        CallKind::Count,
+        CallKind::KeyAt,
+    ] {
         store.fail(FailAt {
             kind,
             number: 2,
@@ -79,11 +84,15 @@ fn a_store_comes_back_to_its_part(rt: HostRuntime) -> Result<(), Fail> {
     let alloc = rt.alloc();
     let mut maker = MemMaker::new(alloc);
     maker.set(3, 1, bytes(alloc, b"a")?, bytes(alloc, b"1")?)?;
-    maker.fail(3, 1, FailAt {
-        kind: CallKind::Get,
-        number: 1,
-        happened: false,
-    })?;
+    maker.fail(
+        3,
+        1,
+        FailAt {
+            kind: CallKind::Get,
+            number: 1,
+            happened: false,
+        },
+    )?;
     let mut store = maker.make(3, 1)?;
     assert!(rt; store.get(b"a").is_err());
     store.put(b"b", b"2")?;

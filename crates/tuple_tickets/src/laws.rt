@@ -24,7 +24,7 @@ pub fn roots_have_few_tickets<N>()
     ensures { (coded : Coded N) (g : Growth N) (a : Account N) → IsAccount g a
         → (root : Root) (paths : List (List ℕ))
         → ((path : List ℕ) (node : N) → node_at g root path ≡ Some node
-            → Contains paths path)
+        → Contains paths path)
         → weigh (is_of root) (issued g a) ≤ length paths }
 {}
 

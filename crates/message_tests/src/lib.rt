@@ -1,0 +1,5 @@
+//! Tests of the messages that follow tuples.
+#![tactic(auto)]
+
+#[cfg(test)]
+mod copies;
