@@ -9,7 +9,7 @@ pub const MOST_INPUT_BYTES: usize = 67_108_864;
 
 pub const MOST_LINES: usize = 100_000;
 
-pub const MOST_FIELDS: usize = 8;
+pub const MOST_FIELDS: u32 = 8;
 
 pub const MOST_TEXT_BYTES: usize = 4096;
 
@@ -19,15 +19,15 @@ pub const MOST_TOPOLOGY_BYTES: usize = 65_536;
 
 pub const MOST_NAME_BYTES: usize = 32;
 
-pub const MOST_CONSTANT_BYTES: usize = 256;
+pub const MOST_CONSTANT_BYTES: u32 = 256;
 
-pub const MOST_BOLTS: usize = 32;
+pub const MOST_BOLTS: u32 = 32;
 
-pub const MOST_STATES: usize = 8;
+pub const MOST_STATES: u32 = 8;
 
-pub const MOST_BOLT_INPUTS: usize = 32;
+pub const MOST_BOLT_INPUTS: u32 = 32;
 
-pub const MOST_STATE_INPUTS: usize = 33;
+pub const MOST_STATE_INPUTS: u32 = 33;
 
 pub const MOST_TASKS: u32 = 64;
 

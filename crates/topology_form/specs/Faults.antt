@@ -3,6 +3,7 @@ use Rattle.std.specs.Prelude.{ℕ, List, ◌++◌, codes, decimal}
 use Rattle.std.specs.Fmt.{signed_decimal}
 use Rattle.serde_json.specs.Data.{string}
 use Rattle.serde_json.specs.Written.{compact_text}
+use Rattle.storm_values.specs.Limits.{most_topology_bytes, most_weight}
 use Rattle.topology_form.specs.declared.fault.TopoFault.{TopoFault}
 use Rattle.topology_form.specs.declared.fault.TopoFault.TheVariants as file
 
@@ -12,7 +13,7 @@ shown text = compact_text (string text)
 
 -- the words that tell a fault
 abbrev pub fault_text : TopoFault → List ℕ
-fault_text (file.TooLong found) = codes "longer than 65536 bytes"
+fault_text (file.TooLong found) = codes "longer than " ++ decimal most_topology_bytes ++ codes " bytes"
 fault_text file.NotJson = codes "no JSON"
 fault_text (file.Missing member) = codes "missing " ++ shown member
 fault_text (file.WrongKind member) = codes "wrong kind " ++ shown member
@@ -24,5 +25,5 @@ fault_text (file.Cycle bolt) = codes "cycle at " ++ shown bolt
 fault_text (file.FieldsDiffer component) = codes "fields differ at " ++ shown component
 fault_text (file.NoField component field) = codes "no field " ++ shown field ++ codes " at " ++ shown component
 fault_text (file.NotExactlyOnce state) = codes "not exactly once " ++ shown state
-fault_text (file.Weight found) = codes "weight " ++ decimal found ++ codes ", most 256"
+fault_text (file.Weight found) = codes "weight " ++ decimal found ++ codes ", most " ++ decimal most_weight
 fault_text file.Memory = codes "out of memory"

@@ -1,6 +1,7 @@
 -- What the objects of a topology file say. This project's own.
 use Rattle.std.specs.Prelude.{ℕ, List, [], ◌∷◌, Option, Some, None, Result, codes}
 use Rattle.serde_json.specs.Data.{Data, Members}
+use Rattle.storm_values.specs.Limits.{most_fields, most_batch, most_below, most_tasks, most_bolt_inputs, most_state_inputs, most_bolts, most_states, most_ackers, most_pending, least_buckets, most_buckets, most_attempts}
 use Rattle.topology_plan.specs.declared.parts.Kind.{Kind}
 use Rattle.topology_plan.specs.declared.parts.Kind.TheVariants.{Transactional, Opaque}
 use Rattle.topology_plan.specs.declared.parts.Fold.{Fold}
@@ -27,8 +28,8 @@ unfoldable pub a_spout : Form SpoutPart
 a_spout = an_object (do
   name ← required (codes "name") a_name
   kind ← required (codes "kind") (a_word kinds)
-  fields ← required (codes "fields") (some_names 1 8)
-  batch ← required (codes "batch") (a_number 1 10000)
+  fields ← required (codes "fields") (some_names 1 most_fields)
+  batch ← required (codes "batch") (a_number 1 most_batch)
   ends (record { name = name; kind = kind; fields = fields; batch = batch }))
 
 -- ---- bolts
@@ -40,13 +41,13 @@ tests = (codes "eq", Eq) ∷ (codes "ne", Ne) ∷ (codes "lt", Lt) ∷ []
 abbrev pub operations : List (List ℕ × (Members → Result Operation TopoFault))
 operations =
     (codes "split", do field ← required (codes "field") a_name; into ← required (codes "as") a_name; ends (Split field into))
-    ∷ (codes "project", do fields ← required (codes "fields") (some_names 1 8); ends (Project fields))
+    ∷ (codes "project", do fields ← required (codes "fields") (some_names 1 most_fields); ends (Project fields))
     ∷ (codes "filter", do field ← required (codes "field") a_name; test ← required (codes "test") (a_word tests); value ← required (codes "value") a_constant; ends (Filter field test value))
     ∷ (codes "set", do field ← required (codes "field") a_name; value ← required (codes "value") a_constant; ends (Set field value))
     ∷ (codes "len", do field ← required (codes "field") a_name; into ← required (codes "as") a_name; ends (Len field into))
     ∷ (codes "route", do field ← required (codes "field") a_name; ends (Route field))
-    ∷ (codes "flaky", do below ← required (codes "below") (a_number 1 100); ends (Flaky below))
-    ∷ (codes "mute", do below ← required (codes "below") (a_number 1 100); ends (Mute below))
+    ∷ (codes "flaky", do below ← required (codes "below") (a_number 1 most_below); ends (Flaky below))
+    ∷ (codes "mute", do below ← required (codes "below") (a_number 1 most_below); ends (Mute below))
     ∷ (codes "custom", ends Custom)
     ∷ []
 
@@ -58,7 +59,7 @@ an_operation = an_object (do
 -- the key that grouping by fields has
 unfoldable pub key_of : Reader GroupingPart
 key_of = do
-  key ← required (codes "key") (some_names 1 8)
+  key ← required (codes "key") (some_names 1 most_fields)
   done (said.Fields key)
 
 -- each word of `grouping`, and what the file says of the grouping by the other members
@@ -89,9 +90,9 @@ an_input = an_object (do
 unfoldable pub a_bolt : Form BoltPart
 a_bolt = an_object (do
   name ← required (codes "name") a_name
-  tasks ← required (codes "tasks") (a_number 1 64)
+  tasks ← required (codes "tasks") (a_number 1 most_tasks)
   operation ← required (codes "op") an_operation
-  inputs ← required (codes "inputs") (some_objects 1 32 an_input)
+  inputs ← required (codes "inputs") (some_objects 1 most_bolt_inputs an_input)
   ends (record { name = name; tasks = tasks; operation = operation; inputs = inputs }))
 
 -- ---- states
@@ -116,11 +117,11 @@ unfoldable pub a_state : Form StatePart
 a_state = an_object (do
   name ← required (codes "name") a_name
   kind ← required (codes "kind") (a_word kinds)
-  parts ← required (codes "parts") (a_number 1 64)
-  key ← required (codes "key") (some_names 1 8)
+  parts ← required (codes "parts") (a_number 1 most_tasks)
+  key ← required (codes "key") (some_names 1 most_fields)
   fold ← required (codes "fold") (a_word folds)
   amount ← amount_for fold
-  inputs ← required (codes "inputs") (some_names 1 33)
+  inputs ← required (codes "inputs") (some_names 1 most_state_inputs)
   ends (record { name = name; kind = kind; parts = parts; key = key; fold = fold; amount = amount; inputs = inputs }))
 
 -- ---- the file
@@ -129,12 +130,12 @@ unfoldable pub a_file : Form FileParts
 a_file = an_object (do
   version ← required (codes "version") (a_number 1 1)
   spout ← required (codes "spout") a_spout
-  bolts ← required (codes "bolts") (some_objects 0 32 a_bolt)
-  states ← required (codes "states") (some_objects 1 8 a_state)
-  ackers ← optional (codes "ackers") 1 (a_number 1 16)
-  pending ← optional (codes "pending") 1 (a_number 1 64)
-  buckets ← optional (codes "buckets") 3 (a_number 2 16)
-  attempts ← optional (codes "attempts") 10 (a_number 1 100)
+  bolts ← required (codes "bolts") (some_objects 0 most_bolts a_bolt)
+  states ← required (codes "states") (some_objects 1 most_states a_state)
+  ackers ← optional (codes "ackers") 1 (a_number 1 most_ackers)
+  pending ← optional (codes "pending") 1 (a_number 1 most_pending)
+  buckets ← optional (codes "buckets") 3 (a_number least_buckets most_buckets)
+  attempts ← optional (codes "attempts") 10 (a_number 1 most_attempts)
   ends (record { spout = spout; bolts = bolts; states = states; ackers = ackers; pending = pending; buckets = buckets; attempts = attempts }))
 
 -- what a file's value says, or its first fault of form

@@ -1,11 +1,11 @@
 //! What can be wrong with a topology file, and what is printed of it.
 
-ghost use Rattle.std.specs.Prelude.{◌≡◌, IfOk, string_bytes};
+ghost use Rattle.std.specs.Prelude.{◌≡◌, ◌++◌, codes, decimal, IfOk, string_bytes};
 ghost use Rattle.topology_form.specs.Faults.{fault_text, shown};
 
 use serde_json::Value;
 use std::alloc::Global;
-use storm_values::{Memory, Txt};
+use storm_values::{MOST_TOPOLOGY_BYTES, MOST_WEIGHT, Memory, Txt};
 
 /// Why a file has no plan: the first fault in the order of the checks.
 #[derive(Debug, Drop)]
@@ -56,7 +56,7 @@ impl TopoFault {
         ensures { IfOk result (λ text. string_bytes text ≡ fault_text self.now) }
     {
         match self {
-            TopoFault::TooLong(_) => String::from_str(alloc, "longer than 65536 bytes"),
+            TopoFault::TooLong(_) => format!(in alloc; "longer than {MOST_TOPOLOGY_BYTES} bytes"),
             TopoFault::NotJson => String::from_str(alloc, "no JSON"),
             TopoFault::Missing(member) => format!(in alloc; "missing {}", shown(alloc, member)?),
             TopoFault::WrongKind(member) => {
@@ -76,7 +76,7 @@ impl TopoFault {
             TopoFault::NotExactlyOnce(state) => {
                 format!(in alloc; "not exactly once {}", shown(alloc, state)?)
             }
-            TopoFault::Weight(found) => format!(in alloc; "weight {found}, most 256"),
+            TopoFault::Weight(found) => too_heavy(alloc, *found, MOST_WEIGHT),
             TopoFault::Memory => String::from_str(alloc, "out of memory"),
         }
     }
@@ -109,4 +109,11 @@ fn no_field(alloc: Global, component: &Txt, field: &Txt) -> Result<String, Memor
     let field = shown(alloc, field)?;
     let component = shown(alloc, component)?;
     format!(in alloc; "no field {field} at {component}")
+}
+
+fn too_heavy(alloc: Global, weight: u64, most: u64) -> Result<String, Memory>
+    ensures { IfOk result (λ made. string_bytes made
+        ≡ codes "weight " ++ decimal weight ++ codes ", most " ++ decimal most) }
+{
+    format!(in alloc; "weight {weight}, most {most}")
 }

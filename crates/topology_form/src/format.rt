@@ -11,7 +11,11 @@ use crate::object::Object;
 use crate::parts::{BoltPart, FileParts, GroupingPart, Input, Operation, SpoutPart, StatePart};
 use serde_json::Value as Json;
 use std::alloc::Global;
-use storm_values::Txt;
+use storm_values::{
+    LEAST_BUCKETS, MOST_ACKERS, MOST_ATTEMPTS, MOST_BATCH, MOST_BELOW, MOST_BOLT_INPUTS,
+    MOST_BOLTS, MOST_BUCKETS, MOST_FIELDS, MOST_PENDING, MOST_STATE_INPUTS, MOST_STATES,
+    MOST_TASKS, Txt,
+};
 use topology_plan::{Fold, Kind, Test};
 
 const KINDS: [(&str, Kind); 2] = [
@@ -27,8 +31,8 @@ impl Form for SpoutPart {
         let mut object = Object::from_value(alloc, name, value)?;
         let name = object.name("name")?;
         let kind = object.word("kind", &KINDS)?;
-        let fields = object.names("fields", 1, 8)?;
-        let batch = object.number("batch", 1, 10_000)?;
+        let fields = object.names("fields", 1, MOST_FIELDS)?;
+        let batch = object.number("batch", 1, MOST_BATCH)?;
         object.end(SpoutPart {
             name,
             kind,
@@ -54,7 +58,7 @@ impl Form for Operation {
                 object.end(Operation::Split { field, into })
             }
             "project" => {
-                let fields = object.names("fields", 1, 8)?;
+                let fields = object.names("fields", 1, MOST_FIELDS)?;
                 object.end(Operation::Project(fields))
             }
             "filter" => {
@@ -78,11 +82,11 @@ impl Form for Operation {
                 object.end(Operation::Route { field })
             }
             "flaky" => {
-                let below = object.number("below", 1, 100)?;
+                let below = object.number("below", 1, MOST_BELOW)?;
                 object.end(Operation::Flaky { below })
             }
             "mute" => {
-                let below = object.number("below", 1, 100)?;
+                let below = object.number("below", 1, MOST_BELOW)?;
                 object.end(Operation::Mute { below })
             }
             "custom" => object.end(Operation::Custom),
@@ -95,7 +99,7 @@ impl Form for Operation {
 fn key_from(object: &mut Object) -> Result<GroupingPart, TopoFault>
     ensures { Takes result (left_in object.new) (key_of (left_in object.old)) }
 {
-    Ok(GroupingPart::Fields(object.names("key", 1, 8)?))
+    Ok(GroupingPart::Fields(object.names("key", 1, MOST_FIELDS)?))
 }
 
 #[tactic(auto, unfolding(crate::specs::Format::grouping_of))]
@@ -132,9 +136,9 @@ impl Form for BoltPart {
     fn from_value(alloc: Global, name: &str, value: Json) -> Result<BoltPart, TopoFault> {
         let mut object = Object::from_value(alloc, name, value)?;
         let name = object.name("name")?;
-        let tasks = object.number("tasks", 1, 64)?;
+        let tasks = object.number("tasks", 1, MOST_TASKS)?;
         let operation = object.required("op")?;
-        let inputs = object.objects("inputs", 1, 32)?;
+        let inputs = object.objects("inputs", 1, MOST_BOLT_INPUTS)?;
         object.end(BoltPart {
             name,
             tasks,
@@ -169,11 +173,11 @@ impl Form for StatePart {
         let mut object = Object::from_value(alloc, name, value)?;
         let name = object.name("name")?;
         let kind = object.word("kind", &KINDS)?;
-        let parts = object.number("parts", 1, 64)?;
-        let key = object.names("key", 1, 8)?;
+        let parts = object.number("parts", 1, MOST_TASKS)?;
+        let key = object.names("key", 1, MOST_FIELDS)?;
         let fold = object.word("fold", &FOLDS)?;
         let amount = amount_from(&mut object, fold)?;
-        let inputs = object.names("inputs", 1, 33)?;
+        let inputs = object.names("inputs", 1, MOST_STATE_INPUTS)?;
         object.end(StatePart {
             name,
             kind,
@@ -194,12 +198,12 @@ impl Form for FileParts {
         let mut object = Object::from_value(alloc, name, value)?;
         object.number("version", 1, 1)?;
         let spout = object.required("spout")?;
-        let bolts = object.objects("bolts", 0, 32)?;
-        let states = object.objects("states", 1, 8)?;
-        let ackers = object.number_or(1, "ackers", 1, 16)?;
-        let pending = object.number_or(1, "pending", 1, 64)?;
-        let buckets = object.number_or(3, "buckets", 2, 16)?;
-        let attempts = object.number_or(10, "attempts", 1, 100)?;
+        let bolts = object.objects("bolts", 0, MOST_BOLTS)?;
+        let states = object.objects("states", 1, MOST_STATES)?;
+        let ackers = object.number_or(1, "ackers", 1, MOST_ACKERS)?;
+        let pending = object.number_or(1, "pending", 1, MOST_PENDING)?;
+        let buckets = object.number_or(3, "buckets", LEAST_BUCKETS, MOST_BUCKETS)?;
+        let attempts = object.number_or(10, "attempts", 1, MOST_ATTEMPTS)?;
         object.end(FileParts {
             spout,
             bolts,

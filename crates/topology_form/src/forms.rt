@@ -14,7 +14,7 @@ ghost use Rattle.topology_form.specs.Reading.{Gives, a_number, a_text, a_name, a
 use crate::fault::TopoFault;
 use serde_json::Value as Json;
 use std::alloc::Global;
-use storm_values::{Names, Seq, Txt, Value};
+use storm_values::{MOST_CONSTANT_BYTES, MOST_NAME_BYTES, Names, Seq, Txt, Value};
 
 /// What is read from a member's value.
 pub trait Form: Drop {
@@ -101,7 +101,9 @@ fn begins_with_letter(bytes: &[u8]) -> bool
 fn is_name(bytes: &[u8]) -> bool
     ensures { result ≡ is_name bytes.now }
 {
-    (1..=32).contains(&bytes.len()) && begins_with_letter(bytes) && all_name_bytes(bytes)
+    (1..=MOST_NAME_BYTES).contains(&bytes.len())
+        && begins_with_letter(bytes)
+        && all_name_bytes(bytes)
 }
 
 fn all_name_bytes(bytes: &[u8]) -> bool
@@ -190,7 +192,7 @@ pub(crate) fn constant_from(alloc: Global, name: &str, value: Json) -> Result<Va
             None => Err(wrong_kind(alloc, name)),
         },
         Json::String(text) => {
-            within(alloc, name, text.len() as i64, 0, 256)?;
+            within(alloc, name, text.len() as i64, 0, MOST_CONSTANT_BYTES)?;
             Ok(Value::Text(Txt::from_string(text)))
         }
         _ => Err(wrong_kind(alloc, name)),
