@@ -13,7 +13,7 @@ use Rattle.task_queues.specs.declared.rule.View.{View}
 -- stands for the plan of a box that is being made
 abbrev pub no_plan : Topology
 no_plan = record {
-  spout_fields = 0;
+  spout_fields = [];
   spout_kind = Transactional;
   batch = 0;
   components = [];
