@@ -3,6 +3,7 @@ use Rattle.std.specs.Prelude.{ℕ, ◌+◌, ◌*◌, ◌-◌, List, [], ◌∷�
 use Rattle.std.specs.List.{list_all}
 use Rattle.std.specs.Str.{bytes_eq}
 use Rattle.std.specs.Char.{is_ascii_digit}
+use Rattle.storm_values.specs.Limits.{most_workers}
 
 -- the five commands, with their files and numbers
 pub data Command : Type 0 where
@@ -36,7 +37,7 @@ command_of (verb ∷ a ∷ b ∷ []) =
     else None))
 command_of (verb ∷ a ∷ b ∷ c ∷ []) =
     if bytes_eq verb (codes "replay") then Some (replay a b c)
-    else (if bytes_eq verb (codes "run") then option_and_then (λ w. Some (run a b w)) (number_word 1 64 c)
+    else (if bytes_eq verb (codes "run") then option_and_then (λ w. Some (run a b w)) (number_word 1 most_workers c)
     else None)
 command_of _ = None
 

@@ -12,9 +12,9 @@ use crate::status::Status;
 use crate::stop::{Stop, refused_input, refused_topology, told};
 use std::alloc::Global;
 use storm_outside::{InFault, Shelf, read_all};
-use storm_values::{Bytes, MOST_INPUT_BYTES, Rows, read_input};
+use storm_values::{Bytes, MOST_INPUT_BYTES, MOST_TOPOLOGY_BYTES, Rows, read_input};
 use topology_plan::Plan;
-use topology_reader::{MOST_TOPOLOGY_BYTES, read_topology};
+use topology_reader::read_topology;
 
 /// The most bytes of a topology file.
 const MOST_TOPOLOGY: u64 = MOST_TOPOLOGY_BYTES as u64;

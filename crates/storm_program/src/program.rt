@@ -1,4 +1,5 @@
 ghost use Rattle.std.specs.Prelude.{◌≡◌, ◌≤◌, [], map, string_bytes};
+ghost use Rattle.storm_values.specs.Limits.{most_workers};
 ghost use Rattle.storm_program.specs.Check.{CheckComes, CheckCalls};
 ghost use Rattle.storm_program.specs.Ends.{Ends, IsAnswered, Counts};
 ghost use Rattle.storm_program.specs.Outside.{shelf_use, sink_use};
@@ -98,7 +99,7 @@ pub fn storm_run<R: Threads + Wait + Sync, H: Shelf, K: Sink>(
     out: &mut K,
     fates: &mut Fates,
 ) -> Status
-    requires workers { (1 ≤ workers) × (workers ≤ 64) }
+    requires workers { (1 ≤ workers) × (workers ≤ most_workers) }
     requires no_fates { fates.old ≡ [] }
 
     // With status 0 the output took exactly the report. Its tables are those of one machine that takes all records in

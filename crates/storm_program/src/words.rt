@@ -4,6 +4,8 @@ ghost use Rattle.std.specs.Char.{is_ascii_digit};
 ghost use Rattle.storm_program.specs.steps.Commands.{command_of_words, HasWorkers};
 ghost use Rattle.storm_program.specs.Words.{is_word, digits_value, number_word, built};
 
+use storm_values::MOST_WORKERS;
+
 /// The line that refuses words.
 pub const USAGE: &str =
     "usage: storm check T | plain T I | replay T I S | run T I [W] | load N SEED\n";
@@ -76,7 +78,7 @@ fn run_of<'a>(verb: &str, topology: &'a str, input: &'a str) -> Option<Command<'
     })
 }
 
-/// A run with a number of workers from 1 to 64.
+/// A run with a number of workers.
 fn run_with<'a>(verb: &str, topology: &'a str, input: &'a str, workers: &str) -> Option<Command<'a>>
     ensures command { option_map command_of_words result
         ≡ built (verb.now ∷ topology.now ∷ input.now ∷ workers.now ∷ []) }
@@ -91,7 +93,7 @@ fn run_with<'a>(verb: &str, topology: &'a str, input: &'a str, workers: &str) ->
     if !is_word(input) {
         return None;
     }
-    match number_word(workers, 1, 64) {
+    match number_word(workers, 1, MOST_WORKERS) {
         Some(workers) => Some(Command::Run {
             topology,
             input,

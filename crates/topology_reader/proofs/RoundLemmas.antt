@@ -9,7 +9,7 @@ use Rattle.topology_reader.specs.declared.numbers.Feed.{Feed}
 use Rattle.topology_plan.specs.declared.parts.Origin.{Origin}
 use Rattle.topology_plan.specs.declared.parts.Origin.TheVariants as origin
 use Rattle.topology_plan.specs.declared.parts.Sub.{Sub}
-use Rattle.topology_reader.specs.steps.Rounds.{feeds_among, feeds_to, feeds_of, depth_by, depths_by, ways_over, ways_by}
+use Rattle.topology_reader.specs.steps.Rounds.{feeds_among, feeds_to, feeds_of, depth_by, depths_by, tuples_over, tuples_by}
 use Rattle.topology_plan.specs.Topology.{Topology, subs_of, copies_of, origins, inputs_of, greatest, ended_sum, weight_end, depth_within, tuples_within, depth_of, weight_of}
 
 -- ---- lists
@@ -142,27 +142,27 @@ depth_of-from t depths is = ap greatest is
 
 -- ---- weight
 
-ways_next_at : (n : ℕ) (t : Topology) (c : ℕ) → ended_sum (map (ways_over (map (tuples_within n t) (origins t))) (feeds_to t c)) ≡ tuples_within (suc n) t (origin.Component c)
+tuples_next_at : (n : ℕ) (t : Topology) (c : ℕ) → ended_sum (map (tuples_over (map (tuples_within n t) (origins t))) (feeds_to t c)) ≡ tuples_within (suc n) t (origin.Component c)
 unfolding seen_by_feed seen_by_input
-ways_next_at n t c = ap ended_sum (seen (λ number copies. min (number * copies) weight_end) (tuples_within n t) t c)
+tuples_next_at n t c = ap ended_sum (seen (λ number copies. min (number * copies) weight_end) (tuples_within n t) t c)
 
-pub ways_next : (n : ℕ) (t : Topology) → ways_by (map (tuples_within n t) (origins t)) (feeds_of t) ≡ map (tuples_within (n + 1) t) (origins t)
-ways_next n t =
+pub tuples_next : (n : ℕ) (t : Topology) → tuples_by (map (tuples_within n t) (origins t)) (feeds_of t) ≡ map (tuples_within (n + 1) t) (origins t)
+tuples_next n t =
     ap (λ ns. 1 ∷ ns)
-    (map-map (λ of_component. ended_sum (map (ways_over (map (tuples_within n t) (origins t))) of_component)) (feeds_to t) (range_with_len 0 (length t.components))
-    ∙ map_same (λ c. ended_sum (map (ways_over (map (tuples_within n t) (origins t))) (feeds_to t c))) (λ c. tuples_within (suc n) t (origin.Component c)) (λ c. ways_next_at n t c) (range_with_len 0 (length t.components)))
+    (map-map (λ of_component. ended_sum (map (tuples_over (map (tuples_within n t) (origins t))) of_component)) (feeds_to t) (range_with_len 0 (length t.components))
+    ∙ map_same (λ c. ended_sum (map (tuples_over (map (tuples_within n t) (origins t))) (feeds_to t c))) (λ c. tuples_within (suc n) t (origin.Component c)) (λ c. tuples_next_at n t c) (range_with_len 0 (length t.components)))
     ∙ sym (map-origins (tuples_within (suc n) t) t)
     ∙ ap (λ m. map (tuples_within m t) (origins t)) (sym (add-one n))
 
-pub ways_start : (t : Topology) → set (replicate (length t.components + 1) 0) 0 1 ≡ map (tuples_within 0 t) (origins t)
-ways_start t =
+pub tuples_start : (t : Topology) → set (replicate (length t.components + 1) 0) 0 1 ≡ map (tuples_within 0 t) (origins t)
+tuples_start t =
     ap (λ n. set (replicate n 0) 0 1) (add-one (length t.components))
     ∙ ap (λ ns. 1 ∷ ns) (zeros (tuples_within 0 t) (λ c. refl) 0 (length t.components))
     ∙ sym (map-origins (tuples_within 0 t) t)
 
-pub weight_of-from : (t : Topology) (ways : List ℕ) → ways ≡ map (tuples_within (length t.components) t) (origins t) → ended_sum (drop 1 ways) ≡ weight_of t
+pub weight_of-from : (t : Topology) (tuples : List ℕ) → tuples ≡ map (tuples_within (length t.components) t) (origins t) → ended_sum (drop 1 tuples) ≡ weight_of t
 unfolding weight_of
-weight_of-from t ways is = ap (λ ns. ended_sum (drop 1 ns)) (is ∙ map-origins (tuples_within (length t.components) t) t)
+weight_of-from t tuples is = ap (λ ns. ended_sum (drop 1 ns)) (is ∙ map-origins (tuples_within (length t.components) t) t)
 
 -- ---- rounds as the loops take them
 
@@ -170,6 +170,6 @@ pub depths_then : (n : ℕ) (t : Topology) (depths next : List ℕ) (feeds : Lis
 depths_then n t depths next feeds below made so_far is =
     made ∙ ap (λ ns. depths_by ns feeds) so_far ∙ ap (depths_by (map (depth_within n t) (origins t))) is ∙ depths_next n t below
 
-pub ways_then : (n : ℕ) (t : Topology) (ways next : List ℕ) (feeds : List (List Feed)) → next ≡ ways_by ways feeds → ways ≡ map (tuples_within n t) (origins t) → feeds ≡ feeds_of t → next ≡ map (tuples_within (n + 1) t) (origins t)
-ways_then n t ways next feeds made so_far is =
-    made ∙ ap (λ ns. ways_by ns feeds) so_far ∙ ap (ways_by (map (tuples_within n t) (origins t))) is ∙ ways_next n t
+pub tuples_then : (n : ℕ) (t : Topology) (tuples next : List ℕ) (feeds : List (List Feed)) → next ≡ tuples_by tuples feeds → tuples ≡ map (tuples_within n t) (origins t) → feeds ≡ feeds_of t → next ≡ map (tuples_within (n + 1) t) (origins t)
+tuples_then n t tuples next feeds made so_far is =
+    made ∙ ap (λ ns. tuples_by ns feeds) so_far ∙ ap (tuples_by (map (tuples_within n t) (origins t))) is ∙ tuples_next n t

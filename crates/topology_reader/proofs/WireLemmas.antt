@@ -43,7 +43,7 @@ unfolding bare
 bare_tuples_within n t origin.Spout = refl
 bare_tuples_within zero t (origin.Component c) = refl
 bare_tuples_within (suc n) t (origin.Component c) =
-    ap ended_sum (map_same (λ (input : Origin × Sub). min (tuples_within n (bare t) input.0 * copies_of t input.1) weight_end) (λ input. min (tuples_within n t input.0 * copies_of t input.1) weight_end) (λ input. ap (λ ways. min (ways * copies_of t input.1) weight_end) (bare_tuples_within n t input.0)) (inputs_of t c))
+    ap ended_sum (map_same (λ (input : Origin × Sub). min (tuples_within n (bare t) input.0 * copies_of t input.1) weight_end) (λ input. min (tuples_within n t input.0 * copies_of t input.1) weight_end) (λ input. ap (λ tuples. min (tuples * copies_of t input.1) weight_end) (bare_tuples_within n t input.0)) (inputs_of t c))
 
 bare_weight_of : (t : Topology) → weight_of (bare t) ≡ weight_of t
 unfolding bare weight_of

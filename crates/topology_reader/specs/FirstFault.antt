@@ -3,6 +3,7 @@ use Rattle.std.specs.Prelude.{◌≡◌, ℕ, List, [], ◌∷◌, length, nat_l
 use Rattle.serde_json.specs.Data.{Data}
 use Rattle.storm_values.specs.Json.{json_of}
 use Rattle.storm_values.specs.Lines.{first_some}
+use Rattle.storm_values.specs.Limits.{most_topology_bytes}
 use Rattle.topology_form.specs.declared.fault.TopoFault.{TopoFault}
 use Rattle.topology_form.specs.declared.fault.TopoFault.TheVariants.{TooLong, NotJson}
 use Rattle.topology_form.specs.File.{form_fault}
@@ -11,9 +12,9 @@ use Rattle.topology_reader.specs.Planned.{plan_of}
 use Rattle.topology_form.specs.File.{parts_said}
 use Rattle.topology_plan.specs.Topology.{Topology}
 
--- a file longer than 65,536 bytes
+-- a file longer than the most bytes
 abbrev pub length_fault : List ℕ → Option TopoFault
-length_fault bytes = if nat_lt 65536 (length bytes) then Some (TooLong (length bytes)) else None
+length_fault bytes = if nat_lt most_topology_bytes (length bytes) then Some (TooLong (length bytes)) else None
 
 -- of a file's value first its form, then what it says
 abbrev pub value_fault : Option Data → Option TopoFault

@@ -5,6 +5,7 @@ use Rattle.std.specs.Option.{option_map_or, option_to_list}
 use Rattle.std.specs.Cmp.Lexicographic.{pointwise}
 use Rattle.std.specs.Str.{bytes_eq}
 use Rattle.storm_values.specs.Lines.{first_some}
+use Rattle.storm_values.specs.Limits.{most_tasks_in_all, most_weight}
 use Rattle.topology_plan.specs.declared.parts.Kind.{Kind}
 use Rattle.topology_plan.specs.declared.parts.Kind.TheVariants.{Transactional, Opaque}
 use Rattle.topology_plan.specs.declared.parts.Origin.TheVariants as origin
@@ -178,9 +179,9 @@ abbrev pub replay_fault : FileParts → Kind → Option TopoFault
 replay_fault p Transactional = None
 replay_fault p Opaque = option_map (λ (state : StatePart). NotExactlyOnce state.name) (find (λ (state : StatePart). is_transactional state.kind) p.states)
 
--- a weight above 256
+-- a weight above the most
 abbrev pub weight_fault : ℕ → Option TopoFault
-weight_fault weight = if nat_lt 256 weight then Some (Weight weight) else None
+weight_fault weight = if nat_lt most_weight weight then Some (Weight weight) else None
 
 -- the first fault of what a file says, in the order of the checks
 unfoldable pub meaning_fault : FileParts → Option TopoFault
@@ -191,6 +192,6 @@ meaning_fault p =
     ∷ cycle_fault p
     ∷ fields_fault p
     ∷ replay_fault p p.spout.kind
-    ∷ range_fault (codes "tasks in all") (pos (tasks_in_all (plan_of p))) 1 256
+    ∷ range_fault (codes "tasks in all") (pos (tasks_in_all (plan_of p))) 1 most_tasks_in_all
     ∷ weight_fault (weight_of (plan_of p))
     ∷ [])

@@ -1,6 +1,7 @@
 -- What a file says that has no fault, in its own names. Components are the bolts and then the states, each in file order. This project's own.
 use Rattle.std.specs.Prelude.{◌≡◌, ◌≢◌, ◌<◌, ◌≤◌, ℕ, List, ◌∷◌, length, All, AllPairs, Some, IfSome, slice_get, sum}
 use Rattle.std.specs.List.{Contains}
+use Rattle.storm_values.specs.Limits.{most_tasks_in_all, most_weight}
 use Rattle.topology_plan.specs.declared.parts.Kind.TheVariants.{Opaque}
 use Rattle.topology_plan.specs.declared.parts.Origin.{Origin}
 use Rattle.topology_plan.specs.declared.parts.Origin.TheVariants as origin
@@ -86,5 +87,5 @@ pub record IsValidFile (p : FileParts) : Type 0 where
   -- an opaque spout has no transactional state
   pub replays : p.spout.kind ≡ Opaque → All (λ (state : StatePart). state.kind ≡ Opaque) p.states
   -- tasks and parts of all components
-  pub tasks : IsBetween (sum (tasks_by_component p)) 1 256
-  pub weight : weight_of (plan_of p) ≤ 256
+  pub tasks : IsBetween (sum (tasks_by_component p)) 1 most_tasks_in_all
+  pub weight : weight_of (plan_of p) ≤ most_weight

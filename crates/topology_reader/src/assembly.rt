@@ -1,6 +1,7 @@
 //! The plan of a file's parts, where nothing is wrong with what the file says.
 
 ghost use Rattle.std.specs.Prelude.{◌≡◌, ◌≢◌, ◌<◌, ◌^◌, [], ◌∷◌, pos, codes, sum_by, None, Some, IfOk, IfErr};
+ghost use Rattle.storm_values.specs.Limits.{most_tasks_in_all};
 ghost use Rattle.storm_values.specs.Lines.{first_some};
 ghost use Rattle.topology_form.specs.Ranges.{IsInRange};
 ghost use Rattle.topology_plan.specs.declared.parts.Component.{Component};
@@ -19,13 +20,9 @@ use crate::planned::planned_components;
 use crate::sources::Sources;
 use crate::subscribed::Subs;
 use std::alloc::Global;
-use storm_values::{Memory, Txt};
+use storm_values::{MOST_TASKS_IN_ALL, MOST_WEIGHT, Memory, Txt};
 use topology_form::{FileParts, TopoFault};
 use topology_plan::{Component, Made, Plan};
-
-const MOST_TASKS: u32 = 256;
-
-const MOST_WEIGHT: u64 = 256;
 
 /// The plan of a file's parts, or the first fault of what they say.
 ///
@@ -94,11 +91,12 @@ fn tasks_in_all(components: &[Component]) -> u32
 
 fn check_size(alloc: Global, tasks: u32, weight: u64) -> Result<(), TopoFault>
     ensures { Checks result
-        (first_some (range_fault (codes "tasks in all") (pos tasks) 1 256 ∷ weight_fault weight ∷ [])) }
+        (first_some (range_fault (codes "tasks in all") (pos tasks) 1 most_tasks_in_all
+        ∷ weight_fault weight ∷ [])) }
 {
-    if tasks < 1 || tasks > MOST_TASKS {
+    if tasks < 1 || tasks > MOST_TASKS_IN_ALL {
         let name = Txt::from_str(alloc, "tasks in all")?;
-        return Err(TopoFault::OutOfRange(name, i64::from(tasks), 1, MOST_TASKS));
+        return Err(TopoFault::OutOfRange(name, i64::from(tasks), 1, MOST_TASKS_IN_ALL));
     }
     if weight > MOST_WEIGHT {
         return Err(TopoFault::Weight(weight));

@@ -1,6 +1,7 @@
-ghost use Rattle.std.specs.Prelude.{◌≡◌, ◌↔◌, ◌<◌, ℕ, List, length, true, Some, None, take};
+ghost use Rattle.std.specs.Prelude.{◌≡◌, ◌↔◌, ◌<◌, ◌+◌, ℕ, List, length, true, Some, None, take};
 ghost use Rattle.serde_json.specs.Data.{Data};
 ghost use Rattle.storm_values.specs.Json.{json_of};
+ghost use Rattle.storm_values.specs.Limits.{most_topology_bytes};
 ghost use Rattle.topology_plan.specs.Topology.{Topology};
 ghost use Rattle.topology_plan.specs.Valid.{IsValid};
 ghost use Rattle.topology_reader.specs.FirstFault.{first_fault, IsFilePlan};
@@ -38,11 +39,11 @@ pub fn cycles_are_paths()
         × ((b : ℕ) → b < c → IsPath p b b → ⊥) }
 {}
 
-/// A law: the first 65,537 bytes of a file decide in which words it is refused, or which plan it has.
+/// A law: the most bytes of a file and one more decide in which words it is refused, or which plan it has.
 pub fn first_bytes_decide()
-    ensures plan { (bytes : List ℕ) (t : Topology) → IsFilePlan (take 65537 bytes) t ↔ IsFilePlan bytes t }
-    ensures fault { (bytes : List ℕ) (fault : TopoFault) → first_fault (take 65537 bytes) ≡ Some fault
+    ensures plan { (bytes : List ℕ) (t : Topology) → IsFilePlan (take (most_topology_bytes + 1) bytes) t ↔ IsFilePlan bytes t }
+    ensures fault { (bytes : List ℕ) (fault : TopoFault) → first_fault (take (most_topology_bytes + 1) bytes) ≡ Some fault
         → (told : TopoFault) × (first_fault bytes ≡ Some told) × (fault_text fault ≡ fault_text told) }
     ensures fault_of_whole { (bytes : List ℕ) (fault : TopoFault) → first_fault bytes ≡ Some fault
-        → (told : TopoFault) × (first_fault (take 65537 bytes) ≡ Some told) × (fault_text told ≡ fault_text fault) }
+        → (told : TopoFault) × (first_fault (take (most_topology_bytes + 1) bytes) ≡ Some told) × (fault_text told ≡ fault_text fault) }
 {}

@@ -15,5 +15,5 @@ mod sources;
 mod subscribed;
 
 pub use laws::{cycles_are_paths, first_bytes_decide, plans_of_files_are_valid};
-pub use read::{MOST_TOPOLOGY_BYTES, read_topology};
+pub use read::read_topology;
 pub use topology_form::TopoFault;

@@ -2,7 +2,7 @@
 //! where each round reads every subscription once.
 
 ghost use Rattle.std.specs.Prelude.{◌≡◌, ◌<◌, ◌+◌, ◌^◌, ◌++◌, map, length, slice_index, IfOk, OnOk};
-ghost use Rattle.topology_reader.specs.steps.Rounds.{items_of, feeds_among, feeds_to, feeds_of, depth_at, depths_by, ways_over, ways_by};
+ghost use Rattle.topology_reader.specs.steps.Rounds.{items_of, feeds_among, feeds_to, feeds_of, depth_at, depths_by, tuples_over, tuples_by};
 ghost use Rattle.topology_plan.specs.Topology.{Topology, copies_of, greatest, ended_sum, subs_of, origins, depth_within, tuples_within, depth_of, weight_of};
 ghost use Rattle.topology_reader.specs.steps.Wires.{IsWiredBy};
 ghost use Rattle.topology_plan.specs.declared.parts.Origin.TheVariants as origin;
@@ -128,19 +128,19 @@ impl<'a> Wires<'a> {
         Ok(depths)
     }
 
-    /// The ways to the spout and to each component.
-    fn ways(&self, alloc: Global) -> Result<Vec<u64>, Memory>
-        ensures { IfOk result (λ ways. ways.items
+    /// The tuples to the spout and to each component.
+    fn tuples(&self, alloc: Global) -> Result<Vec<u64>, Memory>
+        ensures { IfOk result (λ tuples. tuples.items
             ≡ map (tuples_within (length self.now.components) self.now) (origins self.now)) }
     {
         let feeds = self.feeds(alloc)?;
         let count = self.component_count();
-        let mut ways = vec![in alloc; 0; count + 1]?;
-        ways[0] = 1;
+        let mut tuples = vec![in alloc; 0; count + 1]?;
+        tuples[0] = 1;
         for _round in 0..count {
-            ways = next_ways(alloc, &ways, &feeds)?;
+            tuples = next_tuples(alloc, &tuples, &feeds)?;
         }
-        Ok(ways)
+        Ok(tuples)
     }
 
     fn depth(&self, alloc: Global) -> Result<u32, Memory>
@@ -154,8 +154,8 @@ impl<'a> Wires<'a> {
     fn weight(&self, alloc: Global) -> Result<u64, Memory>
         ensures { IfOk result (λ weight. weight ≡ weight_of self.now) }
     {
-        let ways = self.ways(alloc)?;
-        Ok(total(&ways[1..]))
+        let tuples = self.tuples(alloc)?;
+        Ok(total(&tuples[1..]))
     }
 }
 
@@ -170,13 +170,13 @@ fn deepest(depths: &[u64], feeds: &[Feed]) -> u64
     deepest
 }
 
-/// The ways over all of the sources.
-fn ways_over(ways: &[u64], feeds: &[Feed]) -> u64
-    ensures { result ≡ ended_sum (map (ways_over ways.now) feeds.now) }
+/// The tuples over all of the sources.
+fn tuples_over(tuples: &[u64], feeds: &[Feed]) -> u64
+    ensures { result ≡ ended_sum (map (tuples_over tuples.now) feeds.now) }
 {
     let mut total = 0u64;
     for feed in feeds {
-        let over = number_at(ways, feed.from).saturating_mul(feed.copies);
+        let over = number_at(tuples, feed.from).saturating_mul(feed.copies);
         total = total.saturating_add(over);
     }
     total
@@ -220,14 +220,14 @@ fn next_depths(alloc: Global, depths: &[u64], feeds: &[Vec<Feed>]) -> Result<Vec
     Ok(next)
 }
 
-/// The ways of a round from those of the one before.
-fn next_ways(alloc: Global, ways: &[u64], feeds: &[Vec<Feed>]) -> Result<Vec<u64>, Memory>
-    ensures { IfOk result (λ next. next.items ≡ ways_by ways.now (items_of feeds.now)) }
+/// The tuples of a round from those of the one before.
+fn next_tuples(alloc: Global, tuples: &[u64], feeds: &[Vec<Feed>]) -> Result<Vec<u64>, Memory>
+    ensures { IfOk result (λ next. next.items ≡ tuples_by tuples.now (items_of feeds.now)) }
 {
-    let mut next = Vec::with_capacity(alloc, ways.len())?;
+    let mut next = Vec::with_capacity(alloc, tuples.len())?;
     next.push(1)?;
     for of_component in feeds {
-        next.push(ways_over(ways, of_component))?;
+        next.push(tuples_over(tuples, of_component))?;
     }
     Ok(next)
 }

@@ -12,11 +12,9 @@ ghost use Rattle.topology_form.specs.File.{parts_said};
 use crate::assembly::plan_from;
 use serde_json::Value;
 use std::alloc::Global;
+use storm_values::MOST_TOPOLOGY_BYTES;
 use topology_form::{TopoFault, parts_from};
 use topology_plan::Plan;
-
-/// The most bytes of a topology file.
-pub const MOST_TOPOLOGY_BYTES: usize = 65_536;
 
 /// The plan of a topology file, or the file's first fault: its length, JSON, its form, and then what it says.
 ///

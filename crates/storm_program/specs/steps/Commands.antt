@@ -1,5 +1,6 @@
 -- The command that the program has read, in the definitions' words.
 use Rattle.std.specs.Prelude.{◌≤◌}
+use Rattle.storm_values.specs.Limits.{most_workers}
 use Rattle.storm_program.specs.declared.words.Command.{Command}
 use Rattle.storm_program.specs.declared.words.Command.TheVariants as read
 use Rattle.storm_program.specs.Words.{Command as Said, check, run}
@@ -9,7 +10,7 @@ abbrev pub command_of_words : Command → Said
 command_of_words (read.Check topology) = check topology.now
 command_of_words (read.Run topology input workers) = run topology.now input.now workers
 
--- a run has 1 to 64 workers
+-- a run has a worker, and not more than the most
 abbrev pub HasWorkers : Command → Type 0
 HasWorkers (read.Check topology) = Unit {0}
-HasWorkers (read.Run topology input workers) = (1 ≤ workers) × (workers ≤ 64)
+HasWorkers (read.Run topology input workers) = (1 ≤ workers) × (workers ≤ most_workers)

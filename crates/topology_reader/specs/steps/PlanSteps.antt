@@ -7,6 +7,7 @@ use Rattle.topology_form.specs.declared.parts.Input.{Input}
 use Rattle.topology_plan.specs.declared.parts.Origin.TheVariants as origin
 use Rattle.topology_plan.specs.declared.parts.Sub.{Sub}
 use Rattle.storm_values.specs.Lines.{first_some}
+use Rattle.storm_values.specs.Limits.{most_tasks_in_all}
 use Rattle.topology_form.specs.declared.fault.TopoFault.{TopoFault}
 use Rattle.topology_reader.specs.Meant.{range_fault}
 use Rattle.topology_reader.specs.Meant.{twice_fault, source_fault, cycle_fault, fields_fault, replay_fault, weight_fault}
@@ -27,7 +28,10 @@ planned_component_subs p =
 -- the tasks in all, and then the weight
 unfoldable pub size_fault : FileParts → Option TopoFault
 size_fault p =
-    first_some (range_fault (codes "tasks in all") (pos (tasks_in_all (plan_of p))) 1 256 ∷ weight_fault (weight_of (plan_of p)) ∷ [])
+    first_some
+    (range_fault (codes "tasks in all") (pos (tasks_in_all (plan_of p))) 1 most_tasks_in_all
+    ∷ weight_fault (weight_of (plan_of p))
+    ∷ [])
 
 -- the faults that do not ask for the plan's size
 abbrev pub fault_before_size : FileParts → Option TopoFault

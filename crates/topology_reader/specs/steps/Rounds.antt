@@ -40,10 +40,10 @@ depth_by depths feeds = min (greatest (map (depth_at depths) feeds) + 1) weight_
 abbrev pub depths_by : List ℕ → List (List Feed) → List ℕ
 depths_by depths feeds = 0 ∷ map (depth_by depths) feeds
 
--- the ways of an input's source, for each copy
-abbrev pub ways_over : List ℕ → Feed → ℕ
-ways_over ways feed = min (slice_index ways feed.from * feed.copies) weight_end
+-- the tuples of an input's source, for each copy
+abbrev pub tuples_over : List ℕ → Feed → ℕ
+tuples_over tuples feed = min (slice_index tuples feed.from * feed.copies) weight_end
 
--- the spout's ways and then the components'
-abbrev pub ways_by : List ℕ → List (List Feed) → List ℕ
-ways_by ways feeds = 1 ∷ map (λ of_component. ended_sum (map (ways_over ways) of_component)) feeds
+-- the spout's tuples and then the components'
+abbrev pub tuples_by : List ℕ → List (List Feed) → List ℕ
+tuples_by tuples feeds = 1 ∷ map (λ of_component. ended_sum (map (tuples_over tuples) of_component)) feeds

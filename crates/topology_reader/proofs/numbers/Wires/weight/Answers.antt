@@ -6,4 +6,4 @@ use Rattle.topology_reader.proofs.numbers.Wires.weight.Goals as goal
 
 pub returns : goal.returns
 returns c =
-    c.total.ensures ∙ ap ended_sum (take_rest c.deref.result.now 1 ∙ ap (drop 1) c.deref.ensures.value) ∙ weight_of-from c.args.self.now _ c.in_ok-ways.ensures
+    c.total.ensures ∙ ap ended_sum (take_rest c.deref.result.now 1 ∙ ap (drop 1) c.deref.ensures.value) ∙ weight_of-from c.args.self.now _ c.in_ok-tuples.ensures
