@@ -29,7 +29,7 @@ use Rattle.tree_model.specs.declared.messages.Tuple.{Tuple}
 use Rattle.tree_model.specs.Lists.{root_of, said, is_failed, IsTrueOf, AreTrueOf, IsSingle, IsSteady, Covers}
 use Rattle.tree_model.specs.Trees.{Node, kids, kids_of, node_count}
 use Rattle.tree_model.proofs.Reading.{read_at, inits_said, failures_said, consumed_said, single_read, steady_read}
-use Rattle.tree_model.proofs.Ways.{paths, paths_are, as_many_paths}
+use Rattle.tree_model.proofs.TreePaths.{paths, paths_are, as_many_paths}
 use Rattle.tuple_runs.specs.Accounts.{Account, is_begun, is_of, is_at, notes_about, issued, issued_notes, IsBegun, IsRun, IsAccount, IsNode}
 use Rattle.tuple_runs.specs.Issued.{Begun, Run, node_of, tuples_from, edges_of, init_of, course_of_run, notes_by, notes_of}
 use Rattle.tuple_runs.proofs.Codes.{node_code, msg_code}
