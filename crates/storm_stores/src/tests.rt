@@ -32,56 +32,63 @@ fn keys_stand_in_the_order_of_bytes(rt: HostRuntime) -> Result<(), Fail> {
     Ok(())
 }
 
-#[test]
-fn each_call_fails_once(rt: HostRuntime) -> Result<(), Fail> {
-    let alloc = rt.alloc();
+// The store with two keys, of which one call of a kind fails.
+fn failing(alloc: Global, kind: CallKind, number: u64, happened: bool) -> Result<MemStore, Memory> {
     let mut store = store(alloc)?;
-    for kind in [
-        CallKind::Get,
-        CallKind::Put,
-        CallKind::Count,
-        CallKind::KeyAt,
-    ] {
-        store.fail(FailAt {
-            kind,
-            number: 2,
-            happened: false,
-        })?;
-    }
-    assert!(rt; store.get(b"b")?.is_some());
-    assert_eq!(rt; store.get(b"b").err(), Some(StoreFault::Failed));
-    assert_eq!(rt; store.count()?, 2);
-    assert_eq!(rt; store.count().err(), Some(StoreFault::Failed));
-    assert!(rt; store.key_at(0)?.is_some());
-    assert_eq!(rt; store.key_at(0).err(), Some(StoreFault::Failed));
-    store.put(b"a", b"1")?;
-    assert_eq!(rt; store.put(b"c", b"1").err(), Some(StoreFault::Failed));
-    assert!(rt; store.get(b"c")?.is_none());
-    assert_eq!(rt; store.faults(), 4);
-    Ok(())
+    store.fail(FailAt {
+        kind,
+        number,
+        happened,
+    })?;
+    Ok(store)
 }
 
 #[test]
-fn a_put_fails_after_it_happened(rt: HostRuntime) -> Result<(), Fail> {
-    let alloc = rt.alloc();
-    let mut store = store(alloc)?;
-    store.fail(FailAt {
-        kind: CallKind::Put,
-        number: 1,
-        happened: true,
-    })?;
-    assert_eq!(rt; store.put(b"c", b"4").err(), Some(StoreFault::Failed));
-    match store.get(b"c")? {
-        Some(cell) => assert_eq!(rt; cell.as_slice(), b"4".as_slice()),
-        None => assert!(rt; false),
-    }
+fn the_second_get_fails(rt: HostRuntime) -> Result<(), Fail> {
+    let mut store = failing(rt.alloc(), CallKind::Get, 2, false)?;
+    assert!(rt; store.get(b"b")?.is_some());
+    assert_eq!(rt; store.get(b"b").err(), Some(StoreFault::Failed));
     assert_eq!(rt; store.faults(), 1);
     Ok(())
 }
 
 #[test]
-fn a_store_comes_back_to_its_part(rt: HostRuntime) -> Result<(), Fail> {
-    let alloc = rt.alloc();
+fn the_second_count_fails(rt: HostRuntime) -> Result<(), Fail> {
+    let mut store = failing(rt.alloc(), CallKind::Count, 2, false)?;
+    assert_eq!(rt; store.count()?, 2);
+    assert_eq!(rt; store.count().err(), Some(StoreFault::Failed));
+    Ok(())
+}
+
+#[test]
+fn the_second_look_at_a_key_fails(rt: HostRuntime) -> Result<(), Fail> {
+    let mut store = failing(rt.alloc(), CallKind::KeyAt, 2, false)?;
+    assert!(rt; store.key_at(0)?.is_some());
+    assert_eq!(rt; store.key_at(0).err(), Some(StoreFault::Failed));
+    Ok(())
+}
+
+#[test]
+fn a_put_fails_and_nothing_happens(rt: HostRuntime) -> Result<(), Fail> {
+    let mut store = failing(rt.alloc(), CallKind::Put, 1, false)?;
+    assert_eq!(rt; store.put(b"c", b"1").err(), Some(StoreFault::Failed));
+    assert!(rt; store.get(b"c")?.is_none());
+    Ok(())
+}
+
+#[test]
+fn a_put_fails_after_it_happened(rt: HostRuntime) -> Result<(), Fail> {
+    let mut store = failing(rt.alloc(), CallKind::Put, 1, true)?;
+    assert_eq!(rt; store.put(b"c", b"4").err(), Some(StoreFault::Failed));
+    match store.get(b"c")? {
+        Some(cell) => assert_eq!(rt; cell.as_slice(), b"4".as_slice()),
+        None => assert!(rt; false),
+    }
+    Ok(())
+}
+
+// A maker with one key in part 1 of state 3, whose first get fails.
+fn maker(alloc: Global) -> Result<MemMaker, Memory> {
     let mut maker = MemMaker::new(alloc);
     maker.set(3, 1, bytes(alloc, b"a")?, bytes(alloc, b"1")?)?;
     maker.fail(
@@ -93,15 +100,33 @@ fn a_store_comes_back_to_its_part(rt: HostRuntime) -> Result<(), Fail> {
             happened: false,
         },
     )?;
+    Ok(maker)
+}
+
+// The maker after its store was used, with a fault and a put, and given back.
+fn used(alloc: Global) -> Result<MemMaker, StoreFault> {
+    let mut maker = maker(alloc)?;
     let mut store = maker.make(3, 1)?;
-    assert!(rt; store.get(b"a").is_err());
+    let _ = store.get(b"a");
     store.put(b"b", b"2")?;
     maker.give(3, 1, store);
+    Ok(maker)
+}
+
+#[test]
+fn a_store_comes_back_to_its_part(rt: HostRuntime) -> Result<(), Fail> {
+    let mut maker = used(rt.alloc())?;
     assert_eq!(rt; maker.faults(), 1);
-    let mut other = maker.make(3, 0)?;
-    assert_eq!(rt; other.count()?, 0);
     let mut again = maker.make(3, 1)?;
     assert_eq!(rt; again.count()?, 2);
     assert_eq!(rt; again.faults(), 0);
+    Ok(())
+}
+
+#[test]
+fn another_part_has_a_store_of_its_own(rt: HostRuntime) -> Result<(), Fail> {
+    let mut maker = used(rt.alloc())?;
+    let mut other = maker.make(3, 0)?;
+    assert_eq!(rt; other.count()?, 0);
     Ok(())
 }
