@@ -1,6 +1,6 @@
--- The entries of an acker: the messages of each root since its entry began, what they come to, and when an entry goes.
--- After Storm's acker; that a fail goes before completion and that an entry stays in the bucket of its first message
--- is this project's own.
+-- The entries of an acker: the messages of each root since its entry began, what they come to, and
+-- when an entry goes. After Storm's acker; that a fail goes before completion and that an entry
+-- stays in the bucket of its first message is this project's own.
 use Rattle.std.specs.Prelude.{◌≡◌, ℕ, ◌==◌, Bool, true, false, Option, None, Some, is_some, List, [], ◌∷◌, ◌++◌, fold}
 use Rattle.std.specs.List.{AllByRecursion}
 use Rattle.storm_values.specs.declared.value.Root.{Root}
@@ -31,8 +31,8 @@ tell_by root list true (Some path) zero_word = Some (Fails root path)
 tell_by root list true None true = Some (Complete root list)
 tell_by root list true None false = None
 
--- What the list of a root comes to: with the init and a failure it fails, at the first failed path; with the init, no
--- failure and the word 0 it is complete; else nothing is told.
+-- What the list of a root comes to: with the init and a failure it fails, at the first failed path;
+-- with the init, no failure and the word 0 it is complete; else nothing is told.
 abbrev pub tell : Root → List AckMsg → Option Verdict
 tell root list = tell_by root list (has_init list) (first_failed list) (word list == 0)
 
@@ -51,10 +51,12 @@ list_with m entries = appended (value_of (root_of m) entries) m
 abbrev pub told_of : AckMsg → List (Held (List AckMsg)) → Option Verdict
 told_of m entries = tell (root_of m) (list_with m entries)
 
--- the entries after a message: its root's has one more message, or begins with it, and is gone where something is told
+-- the entries after a message: its root's has one more message, or begins with it, and is gone
+-- where something is told
 abbrev pub met : AckMsg → List (Held (List AckMsg)) → List (Held (List AckMsg))
 met m entries =
-    settled (root_of m) (value_of (root_of m) entries) (list_with m entries) entries (is_some (told_of m entries))
+    settled (root_of m) (value_of (root_of m) entries) (list_with m entries) entries
+    (is_some (told_of m entries))
 
 -- what an acker meets
 pub data Met : Type 0 where

@@ -10,7 +10,8 @@ use Rattle.acker_core.specs.Entries.{has_init, first_failed}
 
 -- the state of a list
 abbrev pub state_of : List AckMsg → AckState
-state_of list = record { word = word list; init = has_init list; failed = is_some (first_failed list) }
+state_of list =
+    record { word = word list; init = has_init list; failed = is_some (first_failed list) }
 
 -- the state that one message makes
 abbrev pub state_in : AckMsg → AckState

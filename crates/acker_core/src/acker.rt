@@ -12,9 +12,9 @@ use std::marker::Model;
 use storm_values::{Memory, Root};
 use tree_model::AckMsg;
 
-/// Keeps the messages of each root until they tell something, in buckets that rotate: an entry stays
-/// in the bucket of its first message. Contracts see the entries as lists of messages, in the order in
-/// which they began, with their ages.
+/// Keeps the messages of each root until they tell something, in buckets that rotate: an entry
+/// stays in the bucket of its first message. Contracts see the entries as lists of messages, in the
+/// order in which they began, with their ages.
 #[derive(Debug, Drop)]
 pub struct Acker {
     alloc: Global,
@@ -47,11 +47,13 @@ impl Acker {
         })
     }
 
-    /// Meets a message, and tells what its root comes to. A complete verdict has the entry's messages,
-    /// which are moved; a fail has the path of the first failure. Without memory all stays.
+    /// Meets a message, and tells what its root comes to. A complete verdict has the
+    /// entry's messages, which are moved; a fail has the path of the first failure.
+    /// Without memory all stays.
     pub fn step(&mut self, message: AckMsg) -> Result<Option<Verdict>, Memory>
         ensures told { IfOk result (λ told. told ≡ told_of message self.old.held) }
-        ensures met { OnOk result (self.new ≡ record self.old { held = met message self.old.held }) }
+        ensures met { OnOk result
+            (self.new ≡ record self.old { held = met message self.old.held }) }
         ensures err { OnErr result (self.new ≡ self.old) }
     {
         let root = root_in(&message);
@@ -88,7 +90,9 @@ fn add_message(
     ensures told { IfOk result (λ told_is.
         told_is ≡ told (state_of (appended (value_of root entries.old.held) message))) }
     ensures entered { OnOk result (let before = value_of root entries.old.held in
-        entries.new ≡ record entries.old { held = entered root before (appended before message) entries.old.held }) }
+        entries.new
+        ≡ record entries.old
+        { held = entered root before (appended before message) entries.old.held }) }
     ensures err { OnErr result (entries.new ≡ entries.old) }
 {
     match entries.get(root) {

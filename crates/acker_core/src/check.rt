@@ -18,8 +18,8 @@ pub enum Check {
     Left(Edges),
 }
 
-/// Whether each edge occurs an even number of times among the edges of the inits and the consumed and
-/// produced edges of the dones. It takes time in proportion to n log n for n edges.
+/// Whether each edge occurs an even number of times among the edges of the inits and the consumed
+/// and produced edges of the dones. It takes time in proportion to n log n for n edges.
 pub fn check_list(alloc: Global, list: &Notes) -> Result<Check, Memory>
     ensures { IfOk result (IsCheckOf list.now) }
 {

@@ -8,8 +8,8 @@ ghost use Rattle.tree_model.specs.Lists.{AreTrueOf, IsSingle, IsSteady, Covers, 
 ghost use Rattle.acker_core.specs.Entries.{tell};
 ghost use Rattle.acker_core.specs.declared.verdict.Verdict.TheVariants.{Complete};
 
-/// A law: of a true, single, steady list whose ids do not coincide, complete is told exactly where the
-/// list covers the tuple tree.
+/// A law: of a true, single, steady list whose ids do not coincide, complete is told exactly where
+/// the list covers the tuple tree.
 pub fn complete_verdicts_cover()
     ensures { (t : Topology) (custom : Custom) (rows : List (List Value))
         (root : Root) (list : List AckMsg)

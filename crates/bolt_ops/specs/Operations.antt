@@ -29,7 +29,8 @@ bytes_of (Text bytes) = bytes
 abbrev pub text_at : List Value → ℕ → List ℕ
 text_at row field = option_map_or bytes_of (value_at row field) []
 
--- the pieces of a text between the bytes that are `byte`; two of them side by side have an empty piece between them
+-- the pieces of a text between the bytes that are `byte`; two of them side by side have an
+-- empty piece between them
 abbrev pub pieces : ℕ → List ℕ → List (List ℕ)
 pieces byte text = slice_split (λ b. b == byte) text
 
@@ -45,7 +46,8 @@ passes Lt order = is_lt order
 
 -- whether a filter keeps the row; one without the field it does not
 abbrev pub keeps : ℕ → Test → Value → List Value → Bool
-keeps field test value row = option_map_or (λ found. passes test (value_cmp found value)) (value_at row field) false
+keeps field test value row =
+    option_map_or (λ found. passes test (value_cmp found value)) (value_at row field) false
 
 -- the rows that an operation makes of a row; `custom` is what the user's own operation means
 abbrev pub out : Custom → Op → List Value → List (List Value)
@@ -72,4 +74,6 @@ is_mute_at _ attempt = false
 -- what an attempt at a row comes to
 abbrev pub exec_of : Custom → Op → List Value → ℕ → Outcome
 exec_of custom operation row attempt =
-    if fails_at operation attempt then outcome.Fail else (if is_mute_at operation attempt then outcome.Mute else outcome.Rows (out custom operation row))
+    if fails_at operation attempt then outcome.Fail
+    else (if is_mute_at operation attempt then outcome.Mute
+    else outcome.Rows (out custom operation row))

@@ -14,7 +14,8 @@ pub record Custom : Type 0 where
 -- Of a row within limits it makes at most 16 rows, each within limits and with as many values.
 pub record IsCustom (custom : Custom) : Type 0 where
   pub few : (row : List Value) → All IsShort row → length (custom.rows row) ≤ most_custom_rows
-  pub widths : (row : List Value) → All IsShort row → All (λ (made : List Value). length made ≡ length row) (custom.rows row)
+  pub widths : (row : List Value) → All IsShort row
+      → All (λ (made : List Value). length made ≡ length row) (custom.rows row)
   pub short : (row : List Value) → All IsShort row → All (All IsShort) (custom.rows row)
 
 -- one row, of the values in reverse order
@@ -23,15 +24,26 @@ reversed = record { rows = λ row. reverse row ∷ [] }
 
 All-reverse_short : (row : List Value) → All IsShort row → All IsShort (reverse row)
 All-reverse_short row short =
-    λ k d below. subst IsShort (sym (get_or-reverse row k d (omega (arith, length-reverse row)))) (short (length row - 1 - k) d (omega (arith, length-reverse row)))
+    λ k d below.
+    subst IsShort (sym (get_or-reverse row k d (omega (arith, length-reverse row))))
+    (short (length row - 1 - k) d (omega (arith, length-reverse row)))
 
-reversed_widths : (row : List Value) → All (λ (made : List Value). length made ≡ length row) (reverse row ∷ [])
+reversed_widths : (row : List Value)
+    → All (λ (made : List Value). length made ≡ length row) (reverse row ∷ [])
 reversed_widths row =
-    let P : List Value → Type 0 = λ made. length made ≡ length row in All-cons P (reverse row) [] (length-reverse row) (All-nil P)
+    let P : List Value → Type 0 =
+    λ made. length made ≡ length row
+    in All-cons P (reverse row) [] (length-reverse row) (All-nil P)
 
 reversed_short : (row : List Value) → All IsShort row → All (All IsShort) (reverse row ∷ [])
 reversed_short row short =
-    let P : List Value → Type 0 = All IsShort in All-cons P (reverse row) [] (All-reverse_short row short) (All-nil P)
+    let P : List Value → Type 0 =
+    All IsShort in All-cons P (reverse row) [] (All-reverse_short row short) (All-nil P)
 
 pub IsCustom-reversed : IsCustom reversed
-IsCustom-reversed = record { few = λ row short. lit≤ tt; widths = λ row short. reversed_widths row; short = reversed_short }
+IsCustom-reversed =
+    record {
+      few = λ row short. lit≤ tt;
+      widths = λ row short. reversed_widths row;
+      short = reversed_short;
+    }

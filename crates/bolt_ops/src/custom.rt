@@ -5,7 +5,8 @@ ghost use Rattle.bolt_ops.specs.RowOp.{Custom, IsCustom, IsCustom-reversed, reve
 use std::alloc::Global;
 use storm_values::{Duplicate, Memory, Row, Rows};
 
-/// An operation of the user's own, for rows within limits. What it makes depends on the operation and the row alone.
+/// An operation of the user's own, for rows within limits. What it makes depends on the
+/// operation and the row alone.
 pub trait RowOp {
     ghost meaning: { Self → Custom };
 

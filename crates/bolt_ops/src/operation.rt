@@ -20,8 +20,8 @@ pub enum Outcome {
     Mute,
 }
 
-/// What an attempt at a row comes to. Attempts are counted from 1. A failed or mute attempt costs nothing, another
-/// what [`output_rows`] costs.
+/// What an attempt at a row comes to. Attempts are counted from 1. A failed or mute attempt costs
+/// nothing, another what [`output_rows`] costs.
 pub fn exec<O: RowOp>(
     alloc: Global,
     op: &Op,
@@ -41,8 +41,8 @@ pub fn exec<O: RowOp>(
     }
 }
 
-/// The rows that an operation makes of a row, whatever the attempt, in a time that grows with the bytes of the row
-/// and of the rows made.
+/// The rows that an operation makes of a row, whatever the attempt, in a time that grows with the
+/// bytes of the row and of the rows made.
 pub fn output_rows<O: RowOp>(alloc: Global, op: &Op, row: &Row, custom: &O) -> Result<Rows, Memory>
     requires short { All IsShort row.now }
     requires op { IsWithin op.now (length row.now) }

@@ -11,7 +11,9 @@ use Rattle.cell_format.specs.Layout.{IsCell, bytes_of}
 
 -- the amounts that are written for a key, in order
 abbrev pub amounts_at : List Write → List ℕ → List ℤ
-amounts_at writes key = map (λ (write : Write). write.amount) (filter (λ (write : Write). bytes_eq key write.key) writes)
+amounts_at writes key =
+    map (λ (write : Write). write.amount)
+    (filter (λ (write : Write). bytes_eq key write.key) writes)
 
 -- a value after these amounts, from the value before, if there was one
 abbrev pub value_after : Fold → List ℤ → Option ℤ → Option ℤ
@@ -36,12 +38,19 @@ kept_by Opaque value = value
 abbrev pub anew : Kind → Fold → ℕ → List ℤ → Option Cell → Option Cell
 anew kind by txid [] cell = cell
 anew kind by txid (amount ∷ amounts) cell =
-    Some (record { txid = txid; value = value_after by (amount ∷ amounts) (value_of cell); prev = kept_by kind (value_of cell); kind = kind })
+    Some (record {
+      txid = txid;
+      value = value_after by (amount ∷ amounts) (value_of cell);
+      prev = kept_by kind (value_of cell);
+      kind = kind;
+    })
 
 -- the cell of a key after a commit of these amounts of the key
 abbrev pub after : Kind → Fold → ℕ → List ℤ → Option Cell → Option Cell
 after kind by txid amounts None = anew kind by txid amounts None
-after kind by txid amounts (Some cell) = if cell.txid == txid then Some (again kind by amounts cell) else anew kind by txid amounts (Some cell)
+after kind by txid amounts (Some cell) =
+    if cell.txid == txid then Some (again kind by amounts cell)
+    else anew kind by txid amounts (Some cell)
 
 -- ---- the same of what a store has at a key
 
@@ -56,7 +65,8 @@ pub record Holds (kind : Kind) (held : Option (List ℕ)) (cell : Option Cell) :
   pub good : IfSome cell (IsCellOf kind)
 
 -- a commit of these amounts of a key made the new bytes of the old
-pub record Commits (kind : Kind) (by : Fold) (txid : ℕ) (amounts : List ℤ) (old new : Option (List ℕ)) : Type 0 where
+pub record Commits (kind : Kind) (by : Fold) (txid : ℕ) (amounts : List ℤ)
+    (old new : Option (List ℕ)) : Type 0 where
   pub cell : Option Cell
   pub was : Holds kind old cell
   pub is : Holds kind new (after kind by txid amounts cell)
@@ -64,7 +74,8 @@ pub record Commits (kind : Kind) (by : Fold) (txid : ℕ) (amounts : List ℤ) (
 -- what a whole commit leaves at a key; a transactional one does not look at a key that has no write
 abbrev pub IsDone : Kind → Fold → ℕ → List ℤ → Option (List ℕ) → Option (List ℕ) → Type 0
 IsDone Transactional by txid [] old new = new ≡ old
-IsDone Transactional by txid (amount ∷ amounts) old new = Commits Transactional by txid (amount ∷ amounts) old new
+IsDone Transactional by txid (amount ∷ amounts) old new =
+    Commits Transactional by txid (amount ∷ amounts) old new
 IsDone Opaque by txid amounts old new = Commits Opaque by txid amounts old new
 
 -- what a commit that was broken off leaves at a key

@@ -29,7 +29,9 @@ txid_bytes txid = to_be_bytes w64 txid
 
 -- the version, the flags, the transaction, the value and the value before
 unfoldable pub bytes_of : Cell → List ℕ
-bytes_of cell = 1 ∷ flags_of cell ∷ (txid_bytes cell.txid ++ (number_bytes cell.value ++ number_bytes cell.prev))
+bytes_of cell =
+    1 ∷ flags_of cell
+    ∷ (txid_bytes cell.txid ++ (number_bytes cell.value ++ number_bytes cell.prev))
 
 -- a transactional cell has a value, and none before
 abbrev pub IsWhole : Kind → Option ℤ → Option ℤ → Type 0

@@ -16,13 +16,16 @@ abbrev pub IsNext : Kind → Fold → Option ℤ → List ℤ → Cell → Type 
 IsNext Transactional by base next cell = cell.value ≡ value_after by next base
 IsNext Opaque by base next cell = cell.prev ≡ base
 
--- A key whose value after t transactions is the base stands at t. Its cell may have the next transaction already.
+-- A key whose value after t transactions is the base stands at t. Its cell may have the
+-- next transaction already.
 abbrev pub CellStands : Kind → Fold → ℕ → Option ℤ → List ℤ → Option Cell → Type 0
 CellStands kind by t base next None = base ≡ None
-CellStands kind by t base next (Some cell) = ((cell.txid ≤ t) × (cell.value ≡ base)) ⊎ ((cell.txid ≡ t + 1) × IsNext kind by base next cell)
+CellStands kind by t base next (Some cell) =
+    ((cell.txid ≤ t) × (cell.value ≡ base)) ⊎ ((cell.txid ≡ t + 1) × IsNext kind by base next cell)
 
 -- the same of what a store has at the key
-pub record KeyStands (kind : Kind) (by : Fold) (t : ℕ) (base : Option ℤ) (next : List ℤ) (held : Option (List ℕ)) : Type 0 where
+pub record KeyStands (kind : Kind) (by : Fold) (t : ℕ) (base : Option ℤ) (next : List ℤ)
+    (held : Option (List ℕ)) : Type 0 where
   pub cell : Option Cell
   pub is : Holds kind held cell
   pub stands : CellStands kind by t base next cell
@@ -39,11 +42,16 @@ pub record IsKeyOf (parts part : ℕ) (key : List ℕ) : Type 0 where
 abbrev pub AreOwn : ℕ → ℕ → List Write → Type 0
 AreOwn parts part writes = (key : List ℕ) → amounts_at writes key ≢ [] → IsKeyOf parts part key
 
--- The map of a part stands at t, where `done` are the part's writes of the batches 1 to t and `next` those of batch t + 1.
-pub record Stands (kind : Kind) (by : Fold) (parts part t : ℕ) (done next : List Write) (held : List ℕ → Option (List ℕ)) : Type 0 where
-  pub keys : (key : List ℕ) → KeyStands kind by t (value_after by (amounts_at done key) None) (amounts_at next key) (held key)
+-- The map of a part stands at t, where `done` are the part's writes of the batches 1 to t and
+-- `next` those of batch t + 1.
+pub record Stands (kind : Kind) (by : Fold) (parts part t : ℕ) (done next : List Write)
+    (held : List ℕ → Option (List ℕ)) : Type 0 where
+  pub keys : (key : List ℕ)
+      → KeyStands kind by t (value_after by (amounts_at done key) None) (amounts_at next key)
+      (held key)
   pub own : (key : List ℕ) → IsSome (held key) → IsKeyOf parts part key
 
 -- no cell has a larger transaction than t
 abbrev pub IsWithin : Kind → ℕ → (List ℕ → Option (List ℕ)) → Type 0
-IsWithin kind t held = (key : List ℕ) (cell : Cell) → Holds kind (held key) (Some cell) → cell.txid ≤ t
+IsWithin kind t held =
+    (key : List ℕ) (cell : Cell) → Holds kind (held key) (Some cell) → cell.txid ≤ t

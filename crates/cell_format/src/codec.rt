@@ -36,7 +36,8 @@ pub fn encode_cell(cell: &Cell) -> [u8; CELL_BYTES]
 /// Copies a piece to a place.
 fn place(bytes: &mut [u8], at: usize, piece: &[u8])
     requires { at + length piece.now ≤ length bytes.old }
-    ensures { bytes.new ≡ take at bytes.old ++ (piece.now ++ drop (at + length piece.now) bytes.old) }
+    ensures { bytes.new
+        ≡ take at bytes.old ++ (piece.now ++ drop (at + length piece.now) bytes.old) }
 {
     bytes[at..at + piece.len()].copy_from_slice(piece);
 }
@@ -95,7 +96,8 @@ pub fn decode_cell(bytes: &[u8]) -> Result<Cell, CellFault>
 
 /// Whether these are the bytes of the cell.
 fn has_bytes(cell: &Cell, bytes: &[u8]) -> bool
-    ensures { IsTrue result ↔ (IsWhole cell.now.kind cell.now.value cell.now.prev × (bytes.now ≡ bytes_of cell.now)) }
+    ensures { IsTrue result
+        ↔ (IsWhole cell.now.kind cell.now.value cell.now.prev × (bytes.now ≡ bytes_of cell.now)) }
 {
     is_whole(cell) && encode_cell(cell).as_slice() == bytes
 }

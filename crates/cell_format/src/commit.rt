@@ -27,8 +27,8 @@ fn is_same(a: Kind, b: Kind) -> bool
     }
 }
 
-/// What a commit puts at a key that has this cell, or none: `None` where the key stays as it is. The
-/// amounts are those that are written for the key, in order.
+/// What a commit puts at a key that has this cell, or none: `None` where the key stays as it is.
+/// The amounts are those that are written for the key, in order.
 pub fn change(kind: Kind, by: Fold, txid: u64, amounts: &[i64], cell: Option<Cell>) -> Option<Cell>
     requires { IfSome cell (IsCellOf kind) }
     ensures made { MatchOption result (after kind by txid amounts.now cell ≡ cell)

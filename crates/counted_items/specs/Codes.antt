@@ -1,4 +1,5 @@
--- Items with a code, a tree of numbers that is another for each item, so that their equality can be decided.
+-- Items with a code, a tree of numbers that is another for each item, so that their
+-- equality can be decided.
 use Rattle.std.specs.Prelude.{ℕ, Bool, true, false, ◌==◌, ◌&&◌, if◌then◌else◌, List}
 use Rattle.std.specs.Coded.{Coded}
 use base.Stored.{Gv, gnil, gnum, gcons}

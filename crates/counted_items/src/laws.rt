@@ -24,8 +24,9 @@ pub fn items_within_are_there<X>()
         → Within xs ys → Contains xs x → Contains ys x }
 {}
 
-/// A law: of items whose equality can be decided, a list is within another exactly where it has each item at most as
-/// often, and the two have the same weights exactly where they have each item as often.
+/// A law: of items whose equality can be decided, a list is within another exactly where it
+/// has each item at most as often, and the two have the same weights exactly where they
+/// have each item as often.
 pub fn counts_decide<X>()
     ensures within { (coded : Coded X) (xs ys : List X)
         → Within xs ys ↔ ((x : X) → times coded x xs ≤ times coded x ys) }

@@ -33,7 +33,8 @@ MayGo (grouping.Direct field) row n task = task ≡ chosen (slice_get row field)
 
 -- the task is one of the lane's, and its grouping allows it
 abbrev pub IsAllowed : Lane → List Value → ℕ → Type 0
-IsAllowed lane row task = (k : ℕ) × (task ≡ lane.first + k) × (k < lane.tasks) × MayGo lane.by row lane.tasks k
+IsAllowed lane row task =
+    (k : ℕ) × (task ≡ lane.first + k) × (k < lane.tasks) × MayGo lane.by row lane.tasks k
 
 -- the targets of some rows one after another along a lane
 abbrev pub routed : Lane → List (List Value) → List Targets
@@ -42,4 +43,6 @@ routed lane (row ∷ rows) = targets lane row ∷ routed (moved lane) rows
 
 -- the numbers of tuples that any two of the consumer's tasks were given differ by at most one
 abbrev pub IsEven : ℕ → ℕ → List ℕ → Type 0
-IsEven first n given = (a b : ℕ) → a < n → b < n → count_by (λ task. task == first + a) given ≤ count_by (λ task. task == first + b) given + 1
+IsEven first n given =
+    (a b : ℕ) → a < n → b < n
+    → count_by (λ task. task == first + a) given ≤ count_by (λ task. task == first + b) given + 1

@@ -1,5 +1,6 @@
--- Which tasks a row goes to, subscription by subscription. Groupings after Storm's documentation, "Concepts"; that shuffle goes
--- round the tasks from a start word, and that the hash is FNV-1a, is this project's own.
+-- Which tasks a row goes to, subscription by subscription. Groupings after Storm's
+-- documentation, "Concepts"; that shuffle goes round the tasks from a start word, and that the
+-- hash is FNV-1a, is this project's own.
 use Rattle.std.specs.Prelude.{ℕ, ◌+◌, ◌-◌, ◌%◌, List, [], ◌∷◌, Option, Some, None, pos, negsuc, slice_get}
 use Rattle.std.specs.Option.{option_map_or}
 use Rattle.storm_values.specs.declared.value.Value.{Value}
@@ -17,7 +18,8 @@ use Rattle.groupings.specs.declared.lane.Targets.TheVariants.{One, All}
 
 -- the first task of a component
 abbrev pub first_task_of : Topology → ℕ → ℕ
-first_task_of t c = option_map_or (λ (component : Component). component.first_task) (slice_get t.components c) 0
+first_task_of t c =
+    option_map_or (λ (component : Component). component.first_task) (slice_get t.components c) 0
 
 -- the lane of a subscription, whose first turn is told by a start word
 abbrev pub lane_of : Topology → Sub → ℕ → Lane
@@ -34,7 +36,8 @@ lanes_of t [] starts = []
 lanes_of t (sub ∷ subs) [] = []
 lanes_of t (sub ∷ subs) (start ∷ starts) = lane_of t sub start ∷ lanes_of t subs starts
 
--- The task among n that a value chooses, counted from 0: a number by its Euclidean remainder, a text by its hash.
+-- The task among n that a value chooses, counted from 0: a number by its Euclidean
+-- remainder, a text by its hash.
 abbrev pub chosen : Option Value → ℕ → ℕ
 chosen None n = 0
 chosen (Some (Int (pos a))) n = a % n
@@ -44,10 +47,12 @@ chosen (Some (Text bytes)) n = hash_of (Text bytes ∷ []) % n
 -- the tasks that a row goes to along a lane
 abbrev pub targets_by : ℕ → ℕ → ℕ → Grouping → List Value → Targets
 targets_by first tasks turn grouping.Shuffle row = One (first + turn)
-targets_by first tasks turn (grouping.Fields key) row = One (first + hash_of (values_in row key) % tasks)
+targets_by first tasks turn (grouping.Fields key) row =
+    One (first + hash_of (values_in row key) % tasks)
 targets_by first tasks turn grouping.All row = All first tasks
 targets_by first tasks turn grouping.Global row = One first
-targets_by first tasks turn (grouping.Direct field) row = One (first + chosen (slice_get row field) tasks)
+targets_by first tasks turn (grouping.Direct field) row =
+    One (first + chosen (slice_get row field) tasks)
 
 abbrev pub targets : Lane → List Value → Targets
 targets lane row = targets_by lane.first lane.tasks lane.turn lane.by row

@@ -12,8 +12,8 @@ pub fn targets_are_allowed()
         → All (IsAllowed lane row) (told (targets lane row)) }
 {}
 
-/// A law: over any number of calls on one shuffle subscription, any two tasks are given numbers of tuples that differ by
-/// at most one.
+/// A law: over any number of calls on one shuffle subscription, any two tasks are given numbers of
+/// tuples that differ by at most one.
 pub fn shuffles_are_even()
     ensures { (lane : Lane) (rows : List (List Value)) → IsLane lane → lane.by ≡ grouping.Shuffle
         → IsEven lane.first lane.tasks (flat_map told (routed lane rows)) }

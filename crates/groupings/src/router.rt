@@ -11,7 +11,8 @@ use std::marker::Model;
 use storm_values::{Memory, Row};
 use topology_plan::{Origin, Plan, Sub};
 
-/// The router of one source's rows, which contracts see as the lanes of its subscriptions, in their order.
+/// The router of one source's rows, which contracts see as the lanes of its
+/// subscriptions, in their order.
 #[derive(Debug, Drop)]
 pub struct Router {
     lanes: Vec<Lane>,
@@ -44,10 +45,12 @@ impl Router {
         Ok(Router { lanes })
     }
 
-    /// Where a row goes along the subscription of a number. It takes no memory, and searches nothing.
+    /// Where a row goes along the subscription of a number. It takes no memory, and searches
+    /// nothing.
     pub fn route(&mut self, sub: u32, row: &Row) -> Targets
         requires { sub < length self.old }
-        ensures target { (lane : Lane) → slice_get self.old sub ≡ Some lane → result ≡ targets lane row.now }
+        ensures target { (lane : Lane) → slice_get self.old sub ≡ Some lane
+            → result ≡ targets lane row.now }
         ensures moved { (lane : Lane) → slice_get self.old sub ≡ Some lane
             → self.new ≡ slice_set self.old sub (moved lane) }
     {

@@ -1,4 +1,5 @@
--- Values of roots, as contracts see them: one list in the order in which they were put. After Storm's `RotatingMap`.
+-- Values of roots, as contracts see them: one list in the order in which they were put.
+-- After Storm's `RotatingMap`.
 use Rattle.std.specs.Prelude.{◌≡◌, ℕ, ◌+◌, ◌<◌, ◌==◌, ◌&&◌, nat_lt, Bool, true, false, if◌then◌else◌, Option, None, Some, List, [], ◌∷◌, ◌++◌, refl}
 use Rattle.std.specs.Coded.{Coded, code_by, coded×, coded_ℕ, coded_list}
 use Rattle.storm_values.specs.declared.value.Root.{Root}
@@ -16,7 +17,9 @@ pub record Rotation (V : Type 0) : Type 0 where
 
 -- a value is stored as the tuple of its fields, and all of them with the number of buckets
 abbrev pub root_code : Coded Root
-root_code = code_by (ℕ × ℕ) (coded× coded_ℕ coded_ℕ) (λ r. (r.txid, r.attempt)) (λ p. record { txid = p.0; attempt = p.1 }) (λ _. refl)
+root_code =
+    code_by (ℕ × ℕ) (coded× coded_ℕ coded_ℕ) (λ r. (r.txid, r.attempt))
+    (λ p. record { txid = p.0; attempt = p.1 }) (λ _. refl)
 
 abbrev pub held_code : {V : Type 0} → Coded V → Coded (Held V)
 held_code {V} code =
@@ -60,16 +63,20 @@ module _ {V : Type 0} where
   with_value root (h ∷ hs) value =
       if root_eq root h.root then record h { value = value } ∷ hs else h ∷ with_value root hs value
 
-  -- after one more rotation: those that were there for as many rotations as there are buckets are gone
+  -- after one more rotation: those that were there for as many rotations as there are buckets are
+  -- gone
   abbrev pub rotated : ℕ → List (Held V) → List (Held V)
   rotated buckets [] = []
   rotated buckets (h ∷ hs) =
-      if nat_lt (h.age + 1) buckets then record h { age = h.age + 1 } ∷ rotated buckets hs else rotated buckets hs
+      if nat_lt (h.age + 1) buckets then record h { age = h.age + 1 } ∷ rotated buckets hs
+      else rotated buckets hs
 
   -- the roots and values that go at one more rotation, in the order in which they were put
   abbrev pub dropped : ℕ → List (Held V) → List (Root × V)
   dropped buckets [] = []
-  dropped buckets (h ∷ hs) = if nat_lt (h.age + 1) buckets then dropped buckets hs else (h.root, h.value) ∷ dropped buckets hs
+  dropped buckets (h ∷ hs) =
+      if nat_lt (h.age + 1) buckets then dropped buckets hs
+      else (h.root, h.value) ∷ dropped buckets hs
 
   -- a root's value changes, and keeps its age, where it has one, and else it is put
   abbrev pub entered : Root → Option V → V → List (Held V) → List (Held V)

@@ -1,4 +1,5 @@
--- What a bucket ends as, where a `&mut` to a value in it is returned. No public clause cites this module.
+-- What a bucket ends as, where a `&mut` to a value in it is returned. No public
+-- clause cites this module.
 use Rattle.std.specs.Prelude.{ℕ, slice_index_or}
 use Rattle.std.specs.Vec.{with_item}
 use Rattle.rotating_ledger.specs.Slots.{refilled}

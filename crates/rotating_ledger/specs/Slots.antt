@@ -34,7 +34,8 @@ module _ {V : Type 0} where
   abbrev pub held_in : ℕ → List (Slot V) → List (Held V)
   held_in age [] = []
   held_in age (Empty ∷ ss) = held_in age ss
-  held_in age (Full root value ∷ ss) = record { root = root; age = age; value = value } ∷ held_in age ss
+  held_in age (Full root value ∷ ss) =
+      record { root = root; age = age; value = value } ∷ held_in age ss
 
   -- the roots and values of slots
   abbrev pub pairs_in : List (Slot V) → List (Root × V)

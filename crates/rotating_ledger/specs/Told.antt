@@ -1,4 +1,5 @@
--- What the messages of a root come to. After Storm's acker; that a fail goes before completion is this project's own.
+-- What the messages of a root come to. After Storm's acker; that a fail goes before
+-- completion is this project's own.
 use Rattle.std.specs.Prelude.{◌≡◌, ℕ, ◌==◌, ◌||◌, Bool, true, false, if◌then◌else◌, bit_xor, Option, None, Some, List, refl}
 use Rattle.std.specs.Coded.{Coded, code_by, coded×, coded_ℕ, coded_bool}
 use Rattle.storm_values.specs.declared.value.Root.{Root}
@@ -36,9 +37,13 @@ merged state message = record {
   failed = state.failed || message.failed;
 }
 
--- nothing without the init; with it a fail before all else, and complete exactly where the word is 0
+-- nothing without the init; with it a fail before all else, and complete exactly where the word is
+-- 0
 abbrev pub told : AckState → Told
-told state = if state.init then (if state.failed then Fails else (if state.word == 0 then Complete else Nothing)) else Nothing
+told state =
+    if state.init
+    then (if state.failed then Fails else (if state.word == 0 then Complete else Nothing))
+    else Nothing
 
 abbrev pub tells : Told → Bool
 tells Nothing = false
@@ -59,4 +64,5 @@ told_of root message entries = told (state_with (value_of root entries) message)
 -- the entries after a message: the root's changes, or begins, and is gone where something is told
 abbrev pub met : Root → AckState → List (Held AckState) → List (Held AckState)
 met root message entries =
-    settled root (value_of root entries) (state_with (value_of root entries) message) entries (tells (told_of root message entries))
+    settled root (value_of root entries) (state_with (value_of root entries) message) entries
+    (tells (told_of root message entries))

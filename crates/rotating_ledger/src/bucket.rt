@@ -47,7 +47,8 @@ impl<V: Drop> Bucket<V> {
     pub fn put(&mut self, root: Root, value: V) -> Result<(), V>
         requires found { AreFound self.old.places self.old.slots.items }
         requires absent { slot_at self.old.places root ≡ None }
-        ensures ok { OnOk result (self.new.slots.items ≡ self.old.slots.items ++ Slot.Full root value ∷ []) }
+        ensures ok { OnOk result
+            (self.new.slots.items ≡ self.old.slots.items ++ Slot.Full root value ∷ []) }
         ensures err { OnErr result (self.new.slots.items ≡ self.old.slots.items) }
         ensures value_returned { IfErr result (λ v. v ≡ value) }
         ensures found { AreFound self.new.places self.new.slots.items }
@@ -73,8 +74,10 @@ impl<V: Drop> Bucket<V> {
     /// The value in a slot.
     pub fn value_mut(&mut self, slot: usize) -> &mut V
         requires { IsSome (value_in (slice_index_or self.old.slots.items slot Slot.Empty)) }
-        ensures* lends { sem 𝓛 (Lends (the_row V.row) V.row self.entry result (with_slot self.old slot)) }
-        ensures value { value_in (slice_index_or self.old.slots.items slot Slot.Empty) ≡ Some result.now }
+        ensures* lends { sem 𝓛
+            (Lends (the_row V.row) V.row self.entry result (with_slot self.old slot)) }
+        ensures value { value_in (slice_index_or self.old.slots.items slot Slot.Empty)
+            ≡ Some result.now }
     {
         self.slots[slot].value_mut()
     }
@@ -84,7 +87,8 @@ impl<V: Drop> Bucket<V> {
         requires found { AreFound self.old.places self.old.slots.items }
         requires here { slot_at self.old.places root ≡ Some slot }
         ensures value { slice_get self.old.slots.items slot ≡ Some (Slot.Full root result) }
-        ensures slots { Trims (slice_set self.old.slots.items slot Slot.Empty) self.new.slots.items }
+        ensures slots { Trims (slice_set self.old.slots.items slot Slot.Empty)
+            self.new.slots.items }
         ensures found { AreFound self.new.places self.new.slots.items }
     {
         let key = Key {

@@ -8,9 +8,9 @@ use std::alloc::{AllocError, Global};
 use std::marker::Model;
 use storm_values::{Memory, Root};
 
-/// The XOR word of each root, whether its init came and whether a fail came, in buckets that rotate.
-/// An entry stays in the bucket of its first message. A message of a root that has an entry takes no
-/// memory.
+/// The XOR word of each root, whether its init came and whether a fail came, in buckets that
+/// rotate. An entry stays in the bucket of its first message. A message of a root that has
+/// an entry takes no memory.
 #[derive(Debug, Drop)]
 pub struct Ledger {
     states: Rotating<AckState>,
@@ -43,7 +43,8 @@ impl Ledger {
     /// A root began; the word is the XOR of its first ids.
     pub fn init(&mut self, root: Root, word: u64) -> Result<Told, Memory>
         ensures told { IfOk result (λ told. told ≡ told_of root (init_of word) self.old.held) }
-        ensures met { OnOk result (self.new ≡ record self.old { held = met root (init_of word) self.old.held }) }
+        ensures met { OnOk result
+            (self.new ≡ record self.old { held = met root (init_of word) self.old.held }) }
         ensures err { OnErr result (self.new ≡ self.old) }
         ensures err_absent { OnErr result (value_of root self.old.held ≡ None) }
     {
@@ -53,7 +54,8 @@ impl Ledger {
     /// A tuple was acked; the word is the XOR of its id and of the ids anchored to it.
     pub fn ack(&mut self, root: Root, word: u64) -> Result<Told, Memory>
         ensures told { IfOk result (λ told. told ≡ told_of root (ack_of word) self.old.held) }
-        ensures met { OnOk result (self.new ≡ record self.old { held = met root (ack_of word) self.old.held }) }
+        ensures met { OnOk result
+            (self.new ≡ record self.old { held = met root (ack_of word) self.old.held }) }
         ensures err { OnErr result (self.new ≡ self.old) }
         ensures err_absent { OnErr result (value_of root self.old.held ≡ None) }
     {
@@ -63,7 +65,8 @@ impl Ledger {
     /// A tuple failed.
     pub fn fail(&mut self, root: Root) -> Result<Told, Memory>
         ensures told { IfOk result (λ told. told ≡ told_of root fail_note self.old.held) }
-        ensures met { OnOk result (self.new ≡ record self.old { held = met root fail_note self.old.held }) }
+        ensures met { OnOk result
+            (self.new ≡ record self.old { held = met root fail_note self.old.held }) }
         ensures err { OnErr result (self.new ≡ self.old) }
         ensures err_absent { OnErr result (value_of root self.old.held ≡ None) }
     {
@@ -80,7 +83,8 @@ impl Ledger {
     // A message of a root.
     fn meet(&mut self, root: Root, message: AckState) -> Result<Told, Memory>
         ensures told { IfOk result (λ told. told ≡ told_of root message self.old.held) }
-        ensures met { OnOk result (self.new ≡ record self.old { held = met root message self.old.held }) }
+        ensures met { OnOk result
+            (self.new ≡ record self.old { held = met root message self.old.held }) }
         ensures err { OnErr result (self.new ≡ self.old) }
         ensures err_absent { OnErr result (value_of root self.old.held ≡ None) }
     {
@@ -120,8 +124,10 @@ fn begin(states: &mut Rotating<AckState>, root: Root, message: AckState) -> Resu
 fn merge_in(states: &mut Rotating<AckState>, root: Root, message: AckState) -> Option<Told>
     ensures absent { IfNone result (value_of root states.old.held ≡ None) }
     ensures same { IfNone result (states.new ≡ states.old) }
-    ensures present { OnSome result ((state : AckState) × (value_of root states.old.held ≡ Some state)
-        × (states.new ≡ record states.old { held = with_value root states.old.held (merged state message) })
+    ensures present { OnSome result
+        ((state : AckState) × (value_of root states.old.held ≡ Some state)
+        × (states.new
+        ≡ record states.old { held = with_value root states.old.held (merged state message) })
         × (result ≡ Some (told (merged state message)))) }
 {
     match states.get(root) {

@@ -34,7 +34,8 @@ impl<V> Model for Rotating<V> {
       held = held_of r.buckets.items;
     } };
 
-    ghost invariant = { λ r. (2 ≤ vec_len r.buckets) × (vec_len r.buckets ≤ 16) × AllFound r.buckets.items };
+    ghost invariant = { λ r.
+        (2 ≤ vec_len r.buckets) × (vec_len r.buckets ≤ 16) × AllFound r.buckets.items };
 }
 
 // The first bucket that has a root, and its slot there.
@@ -69,7 +70,8 @@ impl<V: Drop> Rotating<V> {
     /// Puts a value into the newest bucket. It comes back for want of memory alone.
     pub fn put(&mut self, root: Root, value: V) -> Result<(), V>
         requires { value_of root self.old.held ≡ None }
-        ensures ok { OnOk result (self.new ≡ record self.old { held = self.old.held ++ held_at 0 root value ∷ [] }) }
+        ensures ok { OnOk result
+            (self.new ≡ record self.old { held = self.old.held ++ held_at 0 root value ∷ [] }) }
         ensures err { OnErr result (self.new ≡ self.old) }
         ensures value_returned { IfErr result (λ v. v ≡ value) }
     {
@@ -110,7 +112,8 @@ impl<V: Drop> Rotating<V> {
     /// memory and no time for what stays.
     pub fn rotate(&mut self) -> Dropped<V>
         ensures dropped { result ≡ dropped self.old.buckets self.old.held }
-        ensures kept { self.new ≡ record self.old { held = rotated self.old.buckets self.old.held } }
+        ensures kept { self.new
+            ≡ record self.old { held = rotated self.old.buckets self.old.held } }
     {
         let empty = Bucket::new(*self.buckets.allocator());
         let oldest = mem::replace(&mut self.buckets[0], empty);

@@ -10,7 +10,8 @@ use Rattle.std.specs.declared.alloc.Global.{Global}
 
 -- the amounts of a key
 abbrev pub amounts_in : BTreeMap (String Global) (Vec ℤ Global) → List ℕ → List ℤ
-amounts_in groups key = option_map_or (λ (amounts : Vec ℤ Global). amounts.items) (get_by_text groups key) []
+amounts_in groups key =
+    option_map_or (λ (amounts : Vec ℤ Global). amounts.items) (get_by_text groups key) []
 
 -- an entry as a job
 abbrev pub job_of : String Global × Vec ℤ Global → Job
@@ -21,10 +22,13 @@ abbrev pub jobs_in : BTreeMap (String Global) (Vec ℤ Global) → List Job
 jobs_in groups = map job_of groups.entries
 
 -- the job of one of these keys for which nothing is written
-abbrev pub restore_at : BTreeMap (String Global) (Vec ℤ Global) → List (List ℕ) → List ℕ → Option (List ℤ)
-restore_at groups keys key = if list_any (bytes_eq key) keys && not (is_some (get_by_text groups key)) then Some [] else None
+abbrev pub restore_at : BTreeMap (String Global) (Vec ℤ Global) → List (List ℕ) → List ℕ
+    → Option (List ℤ)
+restore_at groups keys key =
+    if list_any (bytes_eq key) keys && not (is_some (get_by_text groups key)) then Some [] else None
 
 -- a key gets a job without amounts, unless it is written
 pub record Restores (written : Bool) (key : List ℕ) (old new : List Job) : Type 0 where
   pub kept : written ≡ true → new ≡ old
-  pub added : written ≡ false → (job : Job) × (new ≡ old ++ job ∷ []) × (job.key ≡ key) × (job.amounts.items ≡ [])
+  pub added : written ≡ false
+      → (job : Job) × (new ≡ old ++ job ∷ []) × (job.key ≡ key) × (job.amounts.items ≡ [])

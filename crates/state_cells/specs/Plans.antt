@@ -10,12 +10,18 @@ use Rattle.state_cells.specs.Scans.{carries_of}
 use Rattle.state_cells.specs.Turns.{AreApart, job_at}
 use Rattle.state_cells.specs.declared.group.Job.{Job}
 
--- a key that the commit may leave alone: nothing is written for it, and in an opaque part its cell is not of the transaction
+-- a key that the commit may leave alone: nothing is written for it, and in an opaque part its cell
+-- is not of the transaction
 abbrev pub IsLeft : Kind → ℕ → List ℤ → Option (List ℕ) → Type 0
 IsLeft Transactional txid amounts held = amounts ≡ []
-IsLeft Opaque txid amounts held = (amounts ≡ []) × (cell : Option Cell) × Holds Opaque held cell × (carries_of txid cell ≡ false)
+IsLeft Opaque txid amounts held =
+    (amounts ≡ []) × (cell : Option Cell) × Holds Opaque held cell × (carries_of txid cell ≡ false)
 
--- one job at most for a key, with what is written for it, and none only where the commit may leave the key alone
-pub record IsPlan (kind : Kind) (txid : ℕ) (writes : List Write) (cells : CellMap) (jobs : List Job) : Type 0 where
+-- one job at most for a key, with what is written for it, and none only where the commit
+-- may leave the key alone
+pub record IsPlan (kind : Kind) (txid : ℕ) (writes : List Write) (cells : CellMap)
+    (jobs : List Job) : Type 0 where
   pub apart : AreApart jobs
-  pub at : (key : List ℕ) → MatchOption (job_at jobs key) (IsLeft kind txid (amounts_at writes key) (cell_at cells key)) (λ amounts. amounts ≡ amounts_at writes key)
+  pub at : (key : List ℕ)
+      → MatchOption (job_at jobs key) (IsLeft kind txid (amounts_at writes key) (cell_at cells key))
+      (λ amounts. amounts ≡ amounts_at writes key)

@@ -26,7 +26,8 @@ abbrev pub AreGood : Kind → CellMap → Type 0
 AreGood kind cells = (key : List ℕ) → (cell : Option Cell) × Holds kind (cell_at cells key) cell
 
 -- the key of a number was looked at, and noted where its cell is of this transaction
-pub record Scans (kind : Kind) (txid : ℕ) (cells : CellMap) (i : ℕ) (old new : List (List ℕ)) : Type 0 where
+pub record Scans (kind : Kind) (txid : ℕ) (cells : CellMap) (i : ℕ)
+    (old new : List (List ℕ)) : Type 0 where
   pub key : List ℕ
   pub at : slice_get (keys_of cells) i ≡ Some key
   pub cell : Option Cell

@@ -9,16 +9,21 @@ use Rattle.cell_format.specs.Commits.{Commits, Holds, IsPerhapsDone, IsRefused}
 use Rattle.cell_format.specs.declared.cell.Cell.{Cell}
 use Rattle.state_cells.specs.declared.group.Job.{Job}
 
--- The store told a map before, and tells one now, where each key's cell has become what the relation says.
-pub record Turns {S : Type 0} (tells : S → CellMap → Type 0) (R : List ℕ → Option (List ℕ) → Option (List ℕ) → Type 0) (old new : S) : Type 0 where
-  pub to : (cells : CellMap) → tells old cells → (after : CellMap) × tells new after × ((key : List ℕ) → R key (cell_at cells key) (cell_at after key))
+-- The store told a map before, and tells one now, where each key's cell has become
+-- what the relation says.
+pub record Turns {S : Type 0} (tells : S → CellMap → Type 0)
+    (R : List ℕ → Option (List ℕ) → Option (List ℕ) → Type 0) (old new : S) : Type 0 where
+  pub to : (cells : CellMap) → tells old cells
+      → (after : CellMap) × tells new after
+      × ((key : List ℕ) → R key (cell_at cells key) (cell_at after key))
 
 -- every key has what it had
 abbrev pub Stays : List ℕ → Option (List ℕ) → Option (List ℕ) → Type 0
 Stays key old new = new ≡ old
 
 -- this key has become what the relation says, and every other key has what it had
-abbrev pub OnlyAt : List ℕ → (Option (List ℕ) → Option (List ℕ) → Type 0) → List ℕ → Option (List ℕ) → Option (List ℕ) → Type 0
+abbrev pub OnlyAt : List ℕ → (Option (List ℕ) → Option (List ℕ) → Type 0) → List ℕ → Option (List ℕ)
+    → Option (List ℕ) → Type 0
 OnlyAt at R key old new = (key ≡ at → R old new) × (key ≢ at → new ≡ old)
 
 -- what a key has is a cell that a part of this kind does not take
@@ -30,7 +35,8 @@ IsBad kind (Some bytes) = IsRefused kind bytes
 
 -- the amounts that a job has for a key, if there is one for it
 abbrev pub job_at : List Job → List ℕ → Option (List ℤ)
-job_at jobs key = option_map (λ (job : Job). job.amounts.items) (find (λ (job : Job). bytes_eq key job.key) jobs)
+job_at jobs key =
+    option_map (λ (job : Job). job.amounts.items) (find (λ (job : Job). bytes_eq key job.key) jobs)
 
 -- no two jobs are for one key
 abbrev pub AreApart : List Job → Type 0
@@ -43,7 +49,8 @@ IsWorked kind by txid None old new = new ≡ old
 IsWorked kind by txid (Some amounts) old new = Commits kind by txid amounts old new
 
 -- the same where the work was broken off
-abbrev pub IsPerhapsWorked : Kind → Fold → ℕ → Option (List ℤ) → Option (List ℕ) → Option (List ℕ) → Type 0
+abbrev pub IsPerhapsWorked : Kind → Fold → ℕ → Option (List ℤ) → Option (List ℕ) → Option (List ℕ)
+    → Type 0
 IsPerhapsWorked kind by txid None old new = new ≡ old
 IsPerhapsWorked kind by txid (Some amounts) old new = IsPerhapsDone kind by txid amounts old new
 
@@ -58,11 +65,13 @@ AreOnce [] = Unit {0}
 AreOnce (key ∷ keys) = (IsListed keys key → ⊥) × AreOnce keys
 
 -- a key's cell is one that the part takes, and where it carries the transaction the key is listed
-pub record IsSeen (kind : Kind) (txid : ℕ) (keys : List (List ℕ)) (key bytes : List ℕ) : Type 0 where
+pub record IsSeen (kind : Kind) (txid : ℕ) (keys : List (List ℕ))
+    (key bytes : List ℕ) : Type 0 where
   pub cell : Cell
   pub is : Holds kind (Some bytes) (Some cell)
   pub listed : cell.txid ≡ txid → IsListed keys key
 
 -- of every key
 abbrev pub AreSeen : Kind → ℕ → List (List ℕ) → CellMap → Type 0
-AreSeen kind txid keys cells = (key bytes : List ℕ) → cell_at cells key ≡ Some bytes → IsSeen kind txid keys key bytes
+AreSeen kind txid keys cells =
+    (key bytes : List ℕ) → cell_at cells key ≡ Some bytes → IsSeen kind txid keys key bytes

@@ -23,7 +23,8 @@ pub(crate) type Groups = BTreeMap<String, Vec<i64>>;
 
 /// Brings the writes of each key together, in their order.
 pub(crate) fn group(alloc: Global, writes: &Writes) -> Result<Groups, Memory>
-    ensures { IfOk result (λ groups. (key : List ℕ) → amounts_in groups key ≡ amounts_at writes.now key) }
+    ensures { IfOk result
+        (λ groups. (key : List ℕ) → amounts_in groups key ≡ amounts_at writes.now key) }
 {
     let mut groups: Groups = BTreeMap::new(alloc);
     for write in writes.as_slice() {

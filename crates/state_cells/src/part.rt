@@ -67,7 +67,8 @@ impl<C: CellStore> Part<C> {
     pub fn commit(&mut self, txid: u64, writes: &Writes) -> Result<(), PartFault>
         ensures ok { OnOk result (Turns C.tells (λ key. IsDone self.old.kind self.old.by txid
             (amounts_at writes.now key)) self.old.store self.new.store) }
-        ensures err { OnErr result (Turns C.tells (λ key. IsPerhapsDone self.old.kind self.old.by txid
+        ensures err { OnErr result
+            (Turns C.tells (λ key. IsPerhapsDone self.old.kind self.old.by txid
             (amounts_at writes.now key)) self.old.store self.new.store) }
         ensures failed { IsErrOf result PartFault.Store →
             Rose (C.fault_count self.old.store) (C.fault_count self.new.store) }

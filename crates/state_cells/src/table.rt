@@ -53,7 +53,8 @@ fn read_key<C: CellStore>(
 fn add_row(alloc: Global, pairs: &mut Pairs, key: Bytes, value: i128) -> Result<(), PartFault>
     ensures ok { OnOk result (pairs.new ≡ pairs.old ++ record { key = key; value = value } ∷ []) }
     ensures not_store { IsErrOf result PartFault.Store → ⊥ }
-    ensures bad { (k : List ℕ) → IsErrOf result (PartFault.BadCell k) → (k ≡ key) × (¬ (IsUtf8 key)) }
+    ensures bad { (k : List ℕ) → IsErrOf result (PartFault.BadCell k)
+        → (k ≡ key) × (¬ (IsUtf8 key)) }
 {
     match str::from_utf8(key.as_slice()) {
         Ok(text) => {

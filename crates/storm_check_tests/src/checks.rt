@@ -45,7 +45,8 @@ const CHECKS: [(&str, u8, &str); 8] = [
     ),
 ];
 
-// What stands in the word count in the place of something else, with the status and the line of a check.
+// What stands in the word count in the place of something else, with the status
+// and the line of a check.
 const CHANGED: [(&str, &str, u8, &str); 4] = [
     (
         r#"{"do":"split","field":"sentence","as":"word"}"#,

@@ -4,7 +4,8 @@ use Rattle.std.specs.Prelude.{◌≡◌, ℕ, ◌+◌, ◌-◌, ◌*◌, ◌%◌
 -- the k-th word of a source: its list's, and after the list numbers that go on by one, wrapping
 abbrev pub script_word : ℕ → List ℕ → ℕ → ℕ
 script_word source list k =
-    if nat_lt k (length list) then slice_index list k else (2 ^ 32 * (source + 1) + (k - length list)) % 2 ^ 64
+    if nat_lt k (length list) then slice_index list k
+    else (2 ^ 32 * (source + 1) + (k - length list)) % 2 ^ 64
 
 -- the list that a source was given, if it was given one
 abbrev pub list_of : ℕ → List (ℕ × List ℕ) → Option (List ℕ)

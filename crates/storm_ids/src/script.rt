@@ -7,7 +7,8 @@ use std::alloc::Global;
 use std::marker::Model;
 use storm_values::Memory;
 
-/// A list of words, and then numbers that go on by one from `2^32 * (source + 1)`, wrapping at 2^64.
+/// A list of words, and then numbers that go on by one from `2^32 * (source + 1)`, wrapping at
+/// 2^64.
 #[derive(Debug, Drop)]
 pub struct ScriptSource {
     source: u32,

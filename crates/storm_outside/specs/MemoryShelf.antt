@@ -13,7 +13,15 @@ pub record ShelfState : Type 0 where
   pub faults : ℕ
 
 abbrev pub empty_shelf : ℕ → ShelfState
-empty_shelf longest = record { files = []; rest = None; longest = longest; fetches = no_calls; reads = no_calls; faults = 0 }
+empty_shelf longest =
+    record {
+      files = [];
+      rest = None;
+      longest = longest;
+      fetches = no_calls;
+      reads = no_calls;
+      faults = 0;
+    }
 
 -- the next fetch of this name fails: it is one that was to fail, or no file has the name
 abbrev pub FetchFails : ShelfState → List ℕ → Type 0

@@ -11,7 +11,8 @@ pub record SinkState : Type 0 where
   pub faults : ℕ
 
 abbrev pub empty_sink : ℕ → ℕ → SinkState
-empty_sink longest room = record { taken = []; longest = longest; room = room; writes = no_calls; faults = 0 }
+empty_sink longest room =
+    record { taken = []; longest = longest; room = room; writes = no_calls; faults = 0 }
 
 -- how many bytes there is still room for
 abbrev pub free : SinkState → ℕ

@@ -1,7 +1,8 @@
 -- What one call reads or writes of a longer text, and what many calls did.
 use Rattle.std.specs.Prelude.{ℕ, ◌≡◌, ◌≤◌, List, [], ◌++◌, length, take, drop, Option, Some}
 
--- A read gave the first k bytes of what was left, at the front of the buffer. It gives none only at the end.
+-- A read gave the first k bytes of what was left, at the front of the buffer. It
+-- gives none only at the end.
 pub record GivesFirst (k : ℕ) (left buf : List ℕ) (after : Option (List ℕ)) : Type 0 where
   pub within : k ≤ length left
   pub given : take k buf ≡ take k left

@@ -8,7 +8,8 @@ bytes_at files file = (slice_index_or files file ([], [])).1
 
 -- what is left of the current file
 abbrev pub rest_at : List (List ℕ × List ℕ) → Option Place → Option (List ℕ)
-rest_at files current = option_map (λ (place : Place). drop place.at (bytes_at files place.file)) current
+rest_at files current =
+    option_map (λ (place : Place). drop place.at (bytes_at files place.file)) current
 
 -- the place is in one of the files
 pub record IsIn (files : List (List ℕ × List ℕ)) (place : Place) : Type 0 where

@@ -105,7 +105,8 @@ impl MemShelf {
         ensures held { OnOk result (⟦<MemShelf as Shelf>⟧.holds self.new name bytes) }
         ensures kept { (n b : List ℕ) →
             ⟦<MemShelf as Shelf>⟧.holds self.old n b → ⟦<MemShelf as Shelf>⟧.holds self.new n b }
-        ensures stays_ready { ⟦<MemShelf as Shelf>⟧.ready self.old → ⟦<MemShelf as Shelf>⟧.ready self.new }
+        ensures stays_ready { ⟦<MemShelf as Shelf>⟧.ready self.old
+            → ⟦<MemShelf as Shelf>⟧.ready self.new }
     {
         self.files.push((name, bytes))?;
         Ok(())

@@ -7,7 +7,8 @@ use crate::calls::count_fault;
 use crate::failed::Failed;
 use std::io::{Read, Write};
 
-/// Reads the first bytes of what is left of a source into the front of the buffer, and answers how many. 0 is the end.
+/// Reads the first bytes of what is left of a source into the front of the buffer, and answers
+/// how many. 0 is the end.
 pub(crate) fn read_piece<S: Read>(
     source: &mut S,
     buf: &mut [u8],

@@ -112,8 +112,8 @@ impl From<Memory> for InFault {
 /// The most bytes that one read asks for.
 const PIECE: usize = 8192;
 
-/// Reads the rest of the current file, or its first `most + 1` bytes where it is longer. The time is
-/// in proportion to the bytes read.
+/// Reads the rest of the current file, or its first `most + 1` bytes where it is longer. The time
+/// is in proportion to the bytes read.
 pub fn read_all<H: Shelf>(alloc: Global, shelf: &mut H, most: u64) -> Result<Bytes, InFault>
     requires limit { most < 2 ^ 64 - 1 }
     requires fetched { H.has_file shelf.old }
@@ -131,9 +131,11 @@ pub fn read_all<H: Shelf>(alloc: Global, shelf: &mut H, most: u64) -> Result<Byt
     ensures keeps_file { H.has_file shelf.new }
     ensures fetches { H.fetches shelf.new ≡ H.fetches shelf.old }
     ensures files { (n bytes : List ℕ) → H.holds shelf.old n bytes → H.holds shelf.new n bytes }
-    ensures files_back { (n bytes : List ℕ) → H.holds shelf.new n bytes → H.holds shelf.old n bytes }
+    ensures files_back { (n bytes : List ℕ) → H.holds shelf.new n bytes
+        → H.holds shelf.old n bytes }
 
-    ensures failed { IsErrOf result InFault.Failed → Rose (H.faults shelf.old) (H.faults shelf.new) }
+    ensures failed { IsErrOf result InFault.Failed
+        → Rose (H.faults shelf.old) (H.faults shelf.new) }
     ensures never_falls { H.faults shelf.old ≤ H.faults shelf.new }
     ensures ready { H.ready shelf.old → IsErrOf result InFault.Failed → ⊥ }
     ensures stays_ready { H.ready shelf.old → H.ready shelf.new }

@@ -1,4 +1,5 @@
--- How the records of an input are cut into batches. Transactions and records are counted from 1. This project's own.
+-- How the records of an input are cut into batches. Transactions and records are counted
+-- from 1. This project's own.
 use Rattle.std.specs.Prelude.{ℕ, ◌+◌, ◌-◌, ◌*◌, min}
 use Rattle.std.specs.Int.{div_ceil}
 

@@ -20,9 +20,11 @@ abbrev pub CheckComes : ShelfUse → List ℕ → Status → List ℕ → Type 0
 CheckComes shelf topology status.Done text = Fetched 1 shelf × IsValidLine shelf.holds topology text
 CheckComes shelf topology status.Memory text = Fetched 1 shelf
 CheckComes shelf topology status.Words text = ⊥
-CheckComes shelf topology status.Topology text = Fetched 1 shelf × IsTopologyLine shelf.holds topology text
+CheckComes shelf topology status.Topology text =
+    Fetched 1 shelf × IsTopologyLine shelf.holds topology text
 CheckComes shelf topology status.Input text = ⊥
-CheckComes shelf topology status.ReadFault text = Fetched 1 shelf × IsNotRead shelf topology × (text ≡ topology_not_read)
+CheckComes shelf topology status.ReadFault text =
+    Fetched 1 shelf × IsNotRead shelf topology × (text ≡ topology_not_read)
 CheckComes shelf topology status.WriteFault text = ⊥
 
 -- Which status the told topology calls for.

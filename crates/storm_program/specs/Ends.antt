@@ -14,8 +14,8 @@ HasText status.Input = Unit {0}
 HasText status.ReadFault = Unit {0}
 HasText status.WriteFault = ⊥
 
--- The output was cut short: the count of the sink's faults rose, and the sink took a front of the text of the status
--- that a write fault took the place of.
+-- The output was cut short: the count of the sink's faults rose, and the sink took a front of the
+-- text of the status that a write fault took the place of.
 pub record IsCut (Comes : Status → List ℕ → Type 0) (sink : SinkUse) : Type 0 where
   pub rose : SinkFailed sink
   pub replaced : Status
@@ -24,17 +24,19 @@ pub record IsCut (Comes : Status → List ℕ → Type 0) (sink : SinkUse) : Typ
   pub comes : Comes replaced text
   pub front : TookFront sink text
 
--- A command ended with a status, where `Comes` says what each status comes to, by its text. With want of memory the text
--- is empty.
+-- A command ended with a status, where `Comes` says what each status comes to, by its text. With
+-- want of memory the text is empty.
 pub record Ends (Comes : Status → List ℕ → Type 0) (sink : SinkUse) (ending : Status) : Type 0 where
   -- the sink took exactly the status's text
   pub whole : HasText ending → (text : List ℕ) × Comes ending text × TookText sink text
   -- a write fault
   pub cut : ending ≡ status.WriteFault → IsCut Comes sink
   -- want of memory: the sink took nothing
-  pub memory : ending ≡ status.Memory → Comes status.Memory [] × (sink.taken_after ≡ sink.taken_before)
+  pub memory : ending ≡ status.Memory
+      → Comes status.Memory [] × (sink.taken_after ≡ sink.taken_before)
 
--- what takes the place of an answer that the files call for: a fault of reading or writing with its count, or want of memory
+-- what takes the place of an answer that the files call for: a fault of reading or writing with its
+-- count, or want of memory
 abbrev pub TakesThePlace : ShelfUse → SinkUse → Status → Type 0
 TakesThePlace shelf sink status.Done = ⊥
 TakesThePlace shelf sink status.Memory = Unit {0}
@@ -46,7 +48,8 @@ TakesThePlace shelf sink status.WriteFault = SinkFailed sink
 
 -- A status that the words and the told files call for is answered, or something takes its place.
 abbrev pub IsAnswered : (Status → Type 0) → ShelfUse → SinkUse → Status → Type 0
-IsAnswered Calls shelf sink ending = (called : Status) → Calls called → (ending ≡ called) ⊎ TakesThePlace shelf sink ending
+IsAnswered Calls shelf sink ending =
+    (called : Status) → Calls called → (ending ≡ called) ⊎ TakesThePlace shelf sink ending
 
 -- what a command promises: what each status comes to, and which status is called for
 pub record Promise : Type 1 where

@@ -44,7 +44,8 @@ committed_txids fates = map (λ (a : Attempt). a.root.txid) (committed fates)
 
 -- the numbers of the attempts of one transaction, in the order of their ends
 abbrev pub attempt_numbers : ℕ → List Attempt → List ℕ
-attempt_numbers txid fates = map (λ (a : Attempt). a.root.attempt) (filter (λ (a : Attempt). a.root.txid == txid) fates)
+attempt_numbers txid fates =
+    map (λ (a : Attempt). a.root.attempt) (filter (λ (a : Attempt). a.root.txid == txid) fates)
 
 -- the attempt is of a batch that is there, and of its records
 pub record IsOfBatch (n size : ℕ) (a : Attempt) : Type 0 where
@@ -54,17 +55,20 @@ pub record IsOfBatch (n size : ℕ) (a : Attempt) : Type 0 where
 
 -- where one attempt was committed, the other is none of the same transaction
 abbrev pub IsNoneAfterCommit : Attempt → Attempt → Type 0
-IsNoneAfterCommit earlier later = IsTrue (is_committed earlier.end) → later.root.txid ≢ earlier.root.txid
+IsNoneAfterCommit earlier later =
+    IsTrue (is_committed earlier.end) → later.root.txid ≢ earlier.root.txid
 
--- Of n records in batches of a size, each batch was committed once at most, and in order, where so many ticks were handed
--- out.
+-- Of n records in batches of a size, each batch was committed once at most, and in order, where so
+-- many ticks were handed out.
 pub record IsOnce (n size ticks : ℕ) (fates : List Attempt) : Type 0 where
   -- the commits are of the transactions 1, 2 and on
   pub in_order : committed_txids fates ≡ range_with_len 1 (length (committed_txids fates))
   -- the records of the commits are those of the numbers 1, 2 and on
-  pub records_in_order : committed_numbers fates ≡ range_with_len 1 (length (committed_numbers fates))
+  pub records_in_order : committed_numbers fates
+      ≡ range_with_len 1 (length (committed_numbers fates))
   -- the attempts of one transaction have the numbers 1, 2 and on
-  pub numbered : (txid : ℕ) → attempt_numbers txid fates ≡ range_with_len 1 (length (attempt_numbers txid fates))
+  pub numbered : (txid : ℕ)
+      → attempt_numbers txid fates ≡ range_with_len 1 (length (attempt_numbers txid fates))
   -- none ends after the committed one
   pub last_committed : AllPairs IsNoneAfterCommit fates
   pub of_batch : All (IsOfBatch n size) fates
@@ -73,8 +77,8 @@ pub record IsOnce (n size ticks : ℕ) (fates : List Attempt) : Type 0 where
   pub finishes : IsNonDecreasing (map (λ (a : Attempt). a.finish) fates)
   pub handed_out : All (λ (a : Attempt). a.finish ≤ ticks) fates
 
--- Moreover every batch was committed, and the records of the committed attempts are all records: each record stands in
--- exactly one committed attempt.
+-- Moreover every batch was committed, and the records of the committed attempts are all records:
+-- each record stands in exactly one committed attempt.
 pub record IsWhole (n size ticks : ℕ) (fates : List Attempt) : Type 0 where
   pub once : IsOnce n size ticks fates
   pub all_committed : committed_txids fates ≡ range_with_len 1 (batch_count n size)

@@ -1,4 +1,5 @@
--- What every command on a topology and an input does before its own work: it reads and refuses the two files, in order.
+-- What every command on a topology and an input does before its own work: it reads and refuses
+-- the two files, in order.
 use Rattle.std.specs.Prelude.{◌≡◌, ◌⊎◌, ℕ, List, length, Some, None, true, false}
 use Rattle.storm_values.specs.declared.value.Value.{Value}
 use Rattle.storm_values.specs.declared.lines.InputFault.{InputFault}
@@ -15,25 +16,29 @@ use Rattle.storm_program.specs.Texts.{topology_line, input_line, not_yet_line, t
 -- ---- what was read
 
 -- the topology file was read and accepted
-pub record IsAccepted (holds : List ℕ → List ℕ → Type 0) (name : List ℕ) (plan : Topology) : Type 0 where
+pub record IsAccepted (holds : List ℕ → List ℕ → Type 0) (name : List ℕ)
+    (plan : Topology) : Type 0 where
   pub bytes : List ℕ
   pub were_read : AreBytesOf holds name bytes
   pub is_plan : IsFilePlan bytes plan
 
 -- the topology file was read and accepted, and its plan is one that is run
-pub record IsRunnable (holds : List ℕ → List ℕ → Type 0) (name : List ℕ) (plan : Topology) : Type 0 where
+pub record IsRunnable (holds : List ℕ → List ℕ → Type 0) (name : List ℕ)
+    (plan : Topology) : Type 0 where
   pub accepted : IsAccepted holds name plan
   pub runs : is_not_yet plan ≡ false
 
 -- the input of a plan was read and accepted, and has these records
-pub record AreRecords (holds : List ℕ → List ℕ → Type 0) (plan : Topology) (name : List ℕ) (records : List (List Value)) : Type 0 where
+pub record AreRecords (holds : List ℕ → List ℕ → Type 0) (plan : Topology) (name : List ℕ)
+    (records : List (List Value)) : Type 0 where
   pub bytes : List ℕ
   pub were_read : AreBytesOf holds name bytes
   pub is_accepted : input_fault bytes (length plan.spout_fields) ≡ None
   pub are : records ≡ records_of bytes
 
 -- both files were read and accepted: this is their plan, and these are their records
-pub record AreAccepted (holds : List ℕ → List ℕ → Type 0) (topology input : List ℕ) (plan : Topology) (records : List (List Value)) : Type 0 where
+pub record AreAccepted (holds : List ℕ → List ℕ → Type 0) (topology input : List ℕ)
+    (plan : Topology) (records : List (List Value)) : Type 0 where
   pub topology_file : IsRunnable holds topology plan
   pub input_file : AreRecords holds plan input records
 
@@ -55,22 +60,27 @@ pub record IsNotYetLine (holds : List ℕ → List ℕ → Type 0) (name text : 
   pub printed : text ≡ not_yet_line
 
 -- the line that refuses the input of a plan
-pub record IsInputLine (holds : List ℕ → List ℕ → Type 0) (plan : Topology) (name text : List ℕ) : Type 0 where
+pub record IsInputLine (holds : List ℕ → List ℕ → Type 0) (plan : Topology)
+    (name text : List ℕ) : Type 0 where
   pub bytes : List ℕ
   pub were_read : AreBytesOf holds name bytes
   pub fault : InputFault
   pub is_refused : input_fault bytes (length plan.spout_fields) ≡ Some fault
   pub printed : text ≡ input_line fault
 
--- The file of a name was not read: the shelf's count of faults rose, and it is no file that a ready shelf holds.
+-- The file of a name was not read: the shelf's count of faults rose, and it is no file
+-- that a ready shelf holds.
 pub record IsNotRead (shelf : ShelfUse) (name : List ℕ) : Type 0 where
   pub rose : ShelfFailed shelf
   pub never_ready : shelf.ready → (bytes : List ℕ) → shelf.holds name bytes → ⊥
 
 -- the line of a file that was not read: the topology, or the input of an accepted topology
 pub data IsReadFaultLine (shelf : ShelfUse) (topology input text : List ℕ) : Type 0 where
-  of_topology : Fetched 1 shelf → IsNotRead shelf topology → text ≡ topology_not_read → IsReadFaultLine shelf topology input text
-  of_input : Fetched 2 shelf → IsNotRead shelf input → (plan : Topology) → IsRunnable shelf.holds topology plan → text ≡ input_not_read → IsReadFaultLine shelf topology input text
+  of_topology : Fetched 1 shelf → IsNotRead shelf topology → text ≡ topology_not_read
+      → IsReadFaultLine shelf topology input text
+  of_input : Fetched 2 shelf → IsNotRead shelf input → (plan : Topology)
+      → IsRunnable shelf.holds topology plan → text ≡ input_not_read
+      → IsReadFaultLine shelf topology input text
 
 -- What a topology and an input come to where they are not both accepted.
 abbrev pub FilesCome : ShelfUse → List ℕ → List ℕ → Status → List ℕ → Type 0
@@ -78,16 +88,20 @@ FilesCome shelf topology input status.Done text = ⊥
 FilesCome shelf topology input status.Memory text = Fetched 1 shelf ⊎ Fetched 2 shelf
 FilesCome shelf topology input status.Words text = ⊥
 FilesCome shelf topology input status.Topology text =
-    Fetched 1 shelf × (IsTopologyLine shelf.holds topology text ⊎ IsNotYetLine shelf.holds topology text)
+    Fetched 1 shelf
+    × (IsTopologyLine shelf.holds topology text ⊎ IsNotYetLine shelf.holds topology text)
 FilesCome shelf topology input status.Input text =
-    Fetched 2 shelf × ((plan : Topology) × IsRunnable shelf.holds topology plan × IsInputLine shelf.holds plan input text)
+    Fetched 2 shelf
+    × ((plan : Topology) × IsRunnable shelf.holds topology plan
+    × IsInputLine shelf.holds plan input text)
 FilesCome shelf topology input status.ReadFault text = IsReadFaultLine shelf topology input text
 FilesCome shelf topology input status.WriteFault text = ⊥
 
 -- ---- what the told files call for
 
 -- the shelf tells a topology without a fault, and this is its plan
-pub record TellsPlan (holds : List ℕ → List ℕ → Type 0) (name : List ℕ) (plan : Topology) : Type 0 where
+pub record TellsPlan (holds : List ℕ → List ℕ → Type 0) (name : List ℕ)
+    (plan : Topology) : Type 0 where
   pub bytes : List ℕ
   pub told : holds name bytes
   pub is_plan : IsFilePlan bytes plan
@@ -100,27 +114,33 @@ pub record TellsTopologyFault (holds : List ℕ → List ℕ → Type 0) (name :
   pub is_refused : first_fault bytes ≡ Some fault
 
 -- the shelf tells an input without a fault
-pub record TellsInput (holds : List ℕ → List ℕ → Type 0) (plan : Topology) (name : List ℕ) : Type 0 where
+pub record TellsInput (holds : List ℕ → List ℕ → Type 0) (plan : Topology)
+    (name : List ℕ) : Type 0 where
   pub bytes : List ℕ
   pub told : holds name bytes
   pub is_accepted : input_fault bytes (length plan.spout_fields) ≡ None
 
 -- the shelf tells an input with a fault
-pub record TellsInputFault (holds : List ℕ → List ℕ → Type 0) (plan : Topology) (name : List ℕ) : Type 0 where
+pub record TellsInputFault (holds : List ℕ → List ℕ → Type 0) (plan : Topology)
+    (name : List ℕ) : Type 0 where
   pub bytes : List ℕ
   pub told : holds name bytes
   pub fault : InputFault
   pub is_refused : input_fault bytes (length plan.spout_fields) ≡ Some fault
 
--- Which status the told topology and input call for. That of `Done` stands for a command that does its own work.
+-- Which status the told topology and input call for. That of `Done` stands for a command
+-- that does its own work.
 abbrev pub FilesCall : (List ℕ → List ℕ → Type 0) → List ℕ → List ℕ → Status → Type 0
 FilesCall holds topology input status.Done =
-    (plan : Topology) × TellsPlan holds topology plan × (is_not_yet plan ≡ false) × TellsInput holds plan input
+    (plan : Topology) × TellsPlan holds topology plan × (is_not_yet plan ≡ false)
+    × TellsInput holds plan input
 FilesCall holds topology input status.Memory = ⊥
 FilesCall holds topology input status.Words = ⊥
 FilesCall holds topology input status.Topology =
-    TellsTopologyFault holds topology ⊎ ((plan : Topology) × TellsPlan holds topology plan × (is_not_yet plan ≡ true))
+    TellsTopologyFault holds topology
+    ⊎ ((plan : Topology) × TellsPlan holds topology plan × (is_not_yet plan ≡ true))
 FilesCall holds topology input status.Input =
-    (plan : Topology) × TellsPlan holds topology plan × (is_not_yet plan ≡ false) × TellsInputFault holds plan input
+    (plan : Topology) × TellsPlan holds topology plan × (is_not_yet plan ≡ false)
+    × TellsInputFault holds plan input
 FilesCall holds topology input status.ReadFault = ⊥
 FilesCall holds topology input status.WriteFault = ⊥

@@ -34,4 +34,6 @@ is_body_not_yet (State spec) = is_opaque spec.kind
 
 -- The spout or a state is opaque, or a bolt has an operation that is not run yet.
 unfoldable pub is_not_yet : Topology → Bool
-is_not_yet t = is_opaque t.spout_kind || list_any (λ (component : Component). is_body_not_yet component.body) t.components
+is_not_yet t =
+    is_opaque t.spout_kind
+    || list_any (λ (component : Component). is_body_not_yet component.body) t.components

@@ -18,7 +18,8 @@ pub record ShelfUse : Type 1 where
   pub faults_after : ℕ
 
 -- the record of a shelf, from what its trait tells of it
-abbrev pub shelf_use : {S : Type 0} → (S → List ℕ → List ℕ → Type 0) → (S → Type 0) → (S → ℕ) → (S → ℕ) → S → S → ShelfUse
+abbrev pub shelf_use : {S : Type 0} → (S → List ℕ → List ℕ → Type 0) → (S → Type 0) → (S → ℕ)
+    → (S → ℕ) → S → S → ShelfUse
 shelf_use holds ready fetches faults old new = record {
   holds = holds old;
   ready = ready old;
@@ -42,7 +43,8 @@ AreBytesOf holds name bytes = (told : List ℕ) → holds name told → told ≡
 
 -- ---- the output
 
--- A sink before and after a call: the bytes that it took, where it tells them, and how often the outside has failed.
+-- A sink before and after a call: the bytes that it took, where it tells them, and how often
+-- the outside has failed.
 pub record SinkUse : Type 0 where
   pub taken_before : Option (List ℕ)
   pub taken_after : Option (List ℕ)
@@ -69,4 +71,5 @@ TookText sink text = IfSome sink.taken_before (λ taken. sink.taken_after ≡ So
 -- the sink took a front of the text and nothing else
 abbrev pub TookFront : SinkUse → List ℕ → Type 0
 TookFront sink text =
-    IfSome sink.taken_before (λ taken. (k : ℕ) × (k ≤ length text) × (sink.taken_after ≡ Some (taken ++ take k text)))
+    IfSome sink.taken_before
+    (λ taken. (k : ℕ) × (k ≤ length text) × (sink.taken_after ≡ Some (taken ++ take k text)))

@@ -82,13 +82,19 @@ attempt_text a =
 
 -- cell STATE KEY VALUE
 abbrev pub cell_text : CellText → List ℕ
-cell_text cell = codes "cell " ++ cell.state ++ codes " " ++ cell.key ++ codes " " ++ signed_decimal cell.value ++ codes "\n"
+cell_text cell =
+    codes "cell " ++ cell.state ++ codes " " ++ cell.key ++ codes " " ++ signed_decimal cell.value
+    ++ codes "\n"
 
 abbrev pub tail_text : TailText → List ℕ
-tail_text (ok records batches) = codes "ok " ++ decimal records ++ codes " records " ++ decimal batches ++ codes " batches\n"
+tail_text (ok records batches) =
+    codes "ok " ++ decimal records ++ codes " records " ++ decimal batches ++ codes " batches\n"
 tail_text (exhausted txid) = codes "exhausted " ++ decimal txid ++ codes "\n"
-tail_text (unfinished committed_count) = codes "unfinished " ++ decimal committed_count ++ codes "\n"
+tail_text (unfinished committed_count) =
+    codes "unfinished " ++ decimal committed_count ++ codes "\n"
 
 -- each line ends with byte 10: the attempts in the order of their ends, the cells, and the tail
 unfoldable pub report_text : Report → List ℕ
-report_text report = flat_map attempt_text report.attempts ++ flat_map cell_text report.cells ++ tail_text report.tail
+report_text report =
+    flat_map attempt_text report.attempts ++ flat_map cell_text report.cells
+    ++ tail_text report.tail

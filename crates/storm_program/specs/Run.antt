@@ -18,9 +18,11 @@ use Rattle.storm_program.specs.Files.{AreAccepted, FilesCome, FilesCall}
 use Rattle.storm_program.specs.Outside.{ShelfUse, Fetched}
 use Rattle.storm_program.specs.Report.{ok, report_text}
 
--- The report of a plan and the records of an input. The tables are those of one machine that takes the records of the
--- committed attempts in the order of the commits, and these are all records, each in exactly one committed attempt.
-pub record IsReport (plan : Topology) (records : List (List Value)) (fates : List Attempt) (text : List ℕ) : Type 0 where
+-- The report of a plan and the records of an input. The tables are those of one machine that takes
+-- the records of the committed attempts in the order of the commits, and these are all records,
+-- each in exactly one committed attempt.
+pub record IsReport (plan : Topology) (records : List (List Value)) (fates : List Attempt)
+    (text : List ℕ) : Type 0 where
   pub tables : List Table
   pub whole : IsWhole (length records) plan.batch ticks_handed_out fates
   pub of_commits : AreTables plan (writes plan as_it_is (committed_records records fates)) tables
@@ -31,20 +33,23 @@ pub record IsReport (plan : Topology) (records : List (List Value)) (fates : Lis
   })
 
 -- the report of the files of these names
-pub record IsReportOfFiles (holds : List ℕ → List ℕ → Type 0) (topology input : List ℕ) (fates : List Attempt) (text : List ℕ) : Type 0 where
+pub record IsReportOfFiles (holds : List ℕ → List ℕ → Type 0) (topology input : List ℕ)
+    (fates : List Attempt) (text : List ℕ) : Type 0 where
   pub plan : Topology
   pub records : List (List Value)
   pub accepted : AreAccepted holds topology input plan records
   pub report : IsReport plan records fates text
 
 -- the fates of a run that was broken off: of the records of the files no batch was committed twice
-pub record AreOnceOfFiles (holds : List ℕ → List ℕ → Type 0) (topology input : List ℕ) (fates : List Attempt) : Type 0 where
+pub record AreOnceOfFiles (holds : List ℕ → List ℕ → Type 0) (topology input : List ℕ)
+    (fates : List Attempt) : Type 0 where
   pub plan : Topology
   pub records : List (List Value)
   pub accepted : AreAccepted holds topology input plan records
   pub once : IsOnce (length records) plan.batch ticks_handed_out fates
 
--- A run that ended for want of memory: before its first batch, or among the batches of accepted files.
+-- A run that ended for want of memory: before its first batch, or among the
+-- batches of accepted files.
 abbrev pub IsShortRun : ShelfUse → List ℕ → List ℕ → List Attempt → Type 0
 IsShortRun shelf topology input fates =
     (FilesCome shelf topology input status.Memory [] × (fates ≡ []))
@@ -56,9 +61,12 @@ RunComes shelf topology input fates status.Done text =
     Fetched 2 shelf × IsReportOfFiles shelf.holds topology input fates text
 RunComes shelf topology input fates status.Memory text = IsShortRun shelf topology input fates
 RunComes shelf topology input fates status.Words text = ⊥
-RunComes shelf topology input fates status.Topology text = FilesCome shelf topology input status.Topology text × (fates ≡ [])
-RunComes shelf topology input fates status.Input text = FilesCome shelf topology input status.Input text × (fates ≡ [])
-RunComes shelf topology input fates status.ReadFault text = FilesCome shelf topology input status.ReadFault text × (fates ≡ [])
+RunComes shelf topology input fates status.Topology text =
+    FilesCome shelf topology input status.Topology text × (fates ≡ [])
+RunComes shelf topology input fates status.Input text =
+    FilesCome shelf topology input status.Input text × (fates ≡ [])
+RunComes shelf topology input fates status.ReadFault text =
+    FilesCome shelf topology input status.ReadFault text × (fates ≡ [])
 RunComes shelf topology input fates status.WriteFault text = ⊥
 
 -- Which status the told files call for.

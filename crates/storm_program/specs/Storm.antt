@@ -15,7 +15,8 @@ use Rattle.storm_program.specs.Words.{Command, check, run, built}
 abbrev pub WordsCome : ShelfUse → List Attempt → Status → List ℕ → Type 0
 WordsCome shelf fates status.Done text = ⊥
 WordsCome shelf fates status.Memory text = ⊥
-WordsCome shelf fates status.Words text = (shelf.fetches_after ≡ shelf.fetches_before) × (text ≡ usage) × (fates ≡ [])
+WordsCome shelf fates status.Words text =
+    (shelf.fetches_after ≡ shelf.fetches_before) × (text ≡ usage) × (fates ≡ [])
 WordsCome shelf fates status.Topology text = ⊥
 WordsCome shelf fates status.Input text = ⊥
 WordsCome shelf fates status.ReadFault text = ⊥
@@ -35,13 +36,15 @@ promise shelf fates (Some (run topology input workers)) = run_promise shelf fate
 promise shelf fates _ = words_promise shelf fates
 
 -- a call over a shelf and a sink ended with a status, and left these fates
-pub record Calls (words : List (List ℕ)) (shelf : ShelfUse) (sink : SinkUse) (fates : List Attempt) (ending : Status) : Type 0 where
+pub record Calls (words : List (List ℕ)) (shelf : ShelfUse) (sink : SinkUse) (fates : List Attempt)
+    (ending : Status) : Type 0 where
   pub ends : Ends (promise shelf fates (built words)).comes sink ending
   pub answered : IsAnswered (promise shelf fates (built words)).calls shelf sink ending
   pub counts : Counts shelf sink
 
 -- the program ended with an exit status, that of a call
-pub record Exits (words : List (List ℕ)) (shelf : ShelfUse) (sink : SinkUse) (code : ℕ) : Type 0 where
+pub record Exits (words : List (List ℕ)) (shelf : ShelfUse) (sink : SinkUse)
+    (code : ℕ) : Type 0 where
   pub ending : Status
   pub fates : List Attempt
   pub is_code : code ≡ code_of ending

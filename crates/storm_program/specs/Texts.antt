@@ -39,4 +39,5 @@ size_line components tasks weight depth =
 
 -- the line of a valid plan
 abbrev pub valid_line : Topology → List ℕ
-valid_line plan = size_line (length plan.components) (tasks_in_all plan) (weight_of plan) (depth_of plan)
+valid_line plan =
+    size_line (length plan.components) (tasks_in_all plan) (weight_of plan) (depth_of plan)

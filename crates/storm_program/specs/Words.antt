@@ -25,7 +25,8 @@ digits_value digits = fold (λ n digit. 10 * n + (digit - 48)) 0 digits
 -- a number of one to five decimal digits from least to most; zeros may lead
 abbrev pub number_word : ℕ → ℕ → List ℕ → Option ℕ
 number_word least most word =
-    if nat_lt 0 (length word) && nat_le (length word) 5 && list_all is_ascii_digit word && nat_le least (digits_value word) && nat_le (digits_value word) most
+    if nat_lt 0 (length word) && nat_le (length word) 5 && list_all is_ascii_digit word
+    && nat_le least (digits_value word) && nat_le (digits_value word) most
     then Some (digits_value word) else None
 
 abbrev pub command_of : List (List ℕ) → Option Command
@@ -33,11 +34,15 @@ command_of (verb ∷ t ∷ []) = if bytes_eq verb (codes "check") then Some (che
 command_of (verb ∷ a ∷ b ∷ []) =
     if bytes_eq verb (codes "plain") then Some (plain a b)
     else (if bytes_eq verb (codes "run") then Some (run a b 4)
-    else (if bytes_eq verb (codes "load") then option_and_then (λ n. option_and_then (λ seed. Some (load n seed)) (number_word 0 65535 b)) (number_word 1 10000 a)
+    else (if bytes_eq verb (codes "load")
+    then option_and_then
+    (λ n. option_and_then (λ seed. Some (load n seed)) (number_word 0 65535 b))
+    (number_word 1 10000 a)
     else None))
 command_of (verb ∷ a ∷ b ∷ c ∷ []) =
     if bytes_eq verb (codes "replay") then Some (replay a b c)
-    else (if bytes_eq verb (codes "run") then option_and_then (λ w. Some (run a b w)) (number_word 1 most_workers c)
+    else (if bytes_eq verb (codes "run")
+    then option_and_then (λ w. Some (run a b w)) (number_word 1 most_workers c)
     else None)
 command_of _ = None
 

@@ -93,7 +93,8 @@ fn read_records<H: Shelf>(
     }
 }
 
-/// The file of a name, or its first `most + 1` bytes where it is longer. A file that was not read has the line.
+/// The file of a name, or its first `most + 1` bytes where it is longer. A file that
+/// was not read has the line.
 fn read_file<H: Shelf>(
     alloc: Global,
     name: &str,

@@ -3,14 +3,15 @@ ghost use Rattle.storm_values.specs.declared.value.Value.{Value};
 ghost use Rattle.storm_program.specs.declared.fates.Attempt.{Attempt};
 ghost use Rattle.storm_program.specs.Fates.{IsWhole, commits_of, committed_records};
 
-/// A law: where fates are committed once and whole, each record stands in exactly one committed attempt.
+/// A law: where fates are committed once and whole, each record stands in exactly one committed
+/// attempt.
 pub fn each_record_is_committed_once()
     ensures { (n size ticks : ℕ) (fates : List Attempt) → IsWhole n size ticks fates
         → (number : ℕ) → 1 ≤ number → number ≤ n → length (commits_of number fates) ≡ 1 }
 {}
 
-/// A law: where fates are committed once and whole, the records of the committed attempts, in the order of the commits,
-/// are all records.
+/// A law: where fates are committed once and whole, the records of the committed attempts, in the
+/// order of the commits, are all records.
 pub fn committed_records_are_all()
     ensures { (records : List (List Value)) (size ticks : ℕ) (fates : List Attempt)
         → IsWhole (length records) size ticks fates → committed_records records fates ≡ records }

@@ -6,7 +6,8 @@ use crate::status::Status;
 use crate::stop::Stop;
 use storm_outside::{Sink, write_all};
 
-/// Writes what a command came to: the text of its own work, or why it stopped. Answers how it ended then.
+/// Writes what a command came to: the text of its own work, or why it stopped.
+/// Answers how it ended then.
 pub fn write_answer<K: Sink>(came: Result<String, Stop>, out: &mut K) -> Status
     ensures done { IfOk came (λ text. IsWritten Status.Done (string_bytes text)
         (sink_use K.taken K.faults out.old out.new) result) }

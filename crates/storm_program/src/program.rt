@@ -86,9 +86,10 @@ pub fn storm_check<H: Shelf, K: Sink>(
 
 /// Runs the topology of one file over the records of another, and writes the report.
 ///
-/// With one thread so far, whatever the number of workers. It reads both files before it begins, and builds the whole
-/// text before it writes. Memory is proportional to the input and to the writes of one batch. Time is proportional to
-/// the number of tuples, and each write of a state costs the logarithm of its keys besides.
+/// With one thread so far, whatever the number of workers. It reads both files before it begins,
+/// and builds the whole text before it writes. Memory is proportional to the input and to the
+/// writes of one batch. Time is proportional to the number of tuples, and each write of a state
+/// costs the logarithm of its keys besides.
 pub fn storm_run<R: Threads + Wait + Sync, H: Shelf, K: Sink>(
     rt: &R,
     alloc: Global,
@@ -102,8 +103,8 @@ pub fn storm_run<R: Threads + Wait + Sync, H: Shelf, K: Sink>(
     requires workers { (1 ≤ workers) × (workers ≤ most_workers) }
     requires no_fates { fates.old ≡ [] }
 
-    // With status 0 the output took exactly the report. Its tables are those of one machine that takes all records in
-    // order, and every record stands in exactly one committed batch.
+    // With status 0 the output took exactly the report. Its tables are those of one machine that
+    // takes all records in order, and every record stands in exactly one committed batch.
     ensures ends { Ends
         (RunComes (shelf_use H.holds H.ready H.fetches H.faults shelf.old shelf.new)
         topology.now input.now fates.new)

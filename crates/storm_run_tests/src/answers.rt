@@ -26,7 +26,8 @@ cell counts [\"b\"] 1
 ok 2 records 1 batches
 ",
     ),
-    // a word twice in a batch, keys in the order of their texts' bytes, and a number, which has no word
+    // a word twice in a batch, keys in the order of their texts' bytes, and a
+    // number, which has no word
     (
         "[\" b  a a! a\"]\n[7]\n",
         "attempt 1.1 records 1-2 ticks 0-0 committed

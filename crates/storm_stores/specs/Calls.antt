@@ -21,7 +21,9 @@ counted calls = record calls { made = (calls.made + 1) % 2 ^ 64 }
 
 -- whether the call of a number happens, where it is one that fails
 abbrev pub fate_in : List Failing → ℕ → Option Bool
-fate_in failing number = option_map (λ (call : Failing). call.happened) (find (λ (call : Failing). call.number == number) failing)
+fate_in failing number =
+    option_map (λ (call : Failing). call.happened)
+    (find (λ (call : Failing). call.number == number) failing)
 
 -- the same of the next call
 abbrev pub next_fate : CallLog → Option Bool

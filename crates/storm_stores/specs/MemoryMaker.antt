@@ -39,7 +39,8 @@ made_at slots component part = made_in (slot_of slots component part)
 
 -- the cells that are held for a part, their keys in order
 abbrev pub HoldsFor : MakerState → ℕ → ℕ → CellMap → Type 0
-HoldsFor maker component part cells = (cells ≡ (store_at maker.slots component part).cells) × InKeyOrder cells
+HoldsFor maker component part cells =
+    (cells ≡ (store_at maker.slots component part).cells) × InKeyOrder cells
 
 abbrev pub HasMade : MakerState → ℕ → ℕ → Type 0
 HasMade maker component part = made_at maker.slots component part ≡ true
@@ -54,7 +55,8 @@ pub record SameParts (old new : List Slot) : Type 0 where
   pub made : (c p : ℕ) → made_at new c p ≡ made_at old c p
 
 -- one part has this store now, every other part what it had
-pub record ChangesPart (old new : List Slot) (component part : ℕ) (store : StoreState) (made : Bool) : Type 0 where
+pub record ChangesPart (old new : List Slot) (component part : ℕ) (store : StoreState)
+    (made : Bool) : Type 0 where
   pub store_is : store_at new component part ≡ store
   pub made_is : made_at new component part ≡ made
   pub other_stores : (c p : ℕ) → IsOther component part c p → store_at new c p ≡ store_at old c p

@@ -17,7 +17,15 @@ pub record StoreState : Type 0 where
 
 -- a store with these cells, whose calls do not fail
 abbrev pub store_of : CellMap → StoreState
-store_of cells = record { cells = cells; gets = no_calls; puts = no_calls; counts = no_calls; keys = no_calls; faults = 0 }
+store_of cells =
+    record {
+      cells = cells;
+      gets = no_calls;
+      puts = no_calls;
+      counts = no_calls;
+      keys = no_calls;
+      faults = 0;
+    }
 
 -- a call of this kind fails too
 abbrev pub failing_of : CallKind → Failing → StoreState → StoreState
@@ -32,7 +40,8 @@ Holds store cells = (cells ≡ store.cells) × InKeyOrder cells
 
 -- the map that the entries of a tree make
 abbrev pub cells_of : {A : Type 0} → List (Vec ℕ A × List ℕ) → CellMap
-cells_of {A} entries = map {B = List ℕ × List ℕ} (λ (entry : Vec ℕ A × List ℕ). (entry.0.items, entry.1)) entries
+cells_of {A} entries =
+    map {B = List ℕ × List ℕ} (λ (entry : Vec ℕ A × List ℕ). (entry.0.items, entry.1)) entries
 
 -- what is there after a put that failed, which perhaps happened
 abbrev pub cells_after : Option Bool → CellMap → List ℕ → List ℕ → CellMap

@@ -60,7 +60,8 @@ fn search_slot(slots: &[Slot], component: u32, part: u32) -> Option<usize>
 /// The number of the place of a part, which is added where there is none.
 fn place(alloc: Global, slots: &mut Vec<Slot>, component: u32, part: u32) -> Result<usize, Memory>
     ensures same { SameParts slots.old.items slots.new.items }
-    ensures place { IfOk result (λ i. i ≡ position_or_len (is_slot component part) slots.new.items) }
+    ensures place { IfOk result
+        (λ i. i ≡ position_or_len (is_slot component part) slots.new.items) }
     ensures within { IfOk result (λ i. i < length slots.new.items) }
 {
     let i = find_slot(slots, component, part);
@@ -144,8 +145,10 @@ impl StoreMaker for MemMaker {
     ghost one_map = { λ m c p a b is_a is_b. is_a.0 ∙ sym is_b.0 };
 
     fn make(&mut self, component: u32, part: u32) -> Result<MemStore, Memory>
-        ensures store { IfOk result (λ store. store ≡ record (store_at self.old.slots component part) { faults = 0 }) }
-        ensures ok { OnOk result (ChangesPart self.old.slots self.new.slots component part (store_of []) true) }
+        ensures store { IfOk result
+            (λ store. store ≡ record (store_at self.old.slots component part) { faults = 0 }) }
+        ensures ok { OnOk result
+            (ChangesPart self.old.slots self.new.slots component part (store_of []) true) }
         ensures err { OnErr result (SameParts self.old.slots self.new.slots) }
         ensures faults { self.new.faults ≡ self.old.faults }
     {

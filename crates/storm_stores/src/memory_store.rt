@@ -47,7 +47,8 @@ impl Model for MemStore {
       faults = s.faults;
     } };
 
-    ghost invariant = { λ s. IfSome s.order (λ order. order.items ≡ keys_of (cells_of s.cells.entries)) };
+    ghost invariant = { λ s.
+        IfSome s.order (λ order. order.items ≡ keys_of (cells_of s.cells.entries)) };
 }
 
 /// The cell of a key.
@@ -62,8 +63,11 @@ fn find_cell(cells: &Cells, key: &[u8]) -> Result<Option<Bytes>, Memory>
 
 /// Gives a key a cell, and tells whether the key is new.
 fn put_cell(alloc: Global, cells: &mut Cells, key: &[u8], cell: &[u8]) -> Result<bool, Memory>
-    ensures ok { OnOk result (cells_of cells.new.entries ≡ with_cell (cells_of cells.old.entries) key.now cell.now) }
-    ensures known { IfOk result (λ new. new ≡ false → keys_of (cells_of cells.new.entries) ≡ keys_of (cells_of cells.old.entries)) }
+    ensures ok { OnOk result
+        (cells_of cells.new.entries ≡ with_cell (cells_of cells.old.entries) key.now cell.now) }
+    ensures known { IfOk result
+        (λ new. new ≡ false
+        → keys_of (cells_of cells.new.entries) ≡ keys_of (cells_of cells.old.entries)) }
     ensures ordered { OnOk result (InKeyOrder (cells_of cells.new.entries)) }
     ensures err { OnErr result (cells_of cells.new.entries ≡ cells_of cells.old.entries) }
 {
@@ -114,7 +118,9 @@ impl MemStore {
 
     /// Lets a call fail.
     pub fn fail(&mut self, at: FailAt) -> Result<(), Memory>
-        ensures ok { OnOk result (self.new ≡ failing_of at.kind (record { number = at.number; happened = at.happened }) self.old) }
+        ensures ok { OnOk result
+            (self.new
+            ≡ failing_of at.kind (record { number = at.number; happened = at.happened }) self.old) }
         ensures err { OnErr result (self.new ≡ self.old) }
     {
         let call = Failing {

@@ -80,8 +80,8 @@ pub trait StoreMaker {
     /// How often the outside has failed. The count ends at 2^64 - 1.
     ghost fault_count: { Self → ℕ };
 
-    /// Makes the store of a part, with the map that the maker holds for it. What the maker holds for
-    /// the part until the store comes back is left open.
+    /// Makes the store of a part, with the map that the maker holds for it. What the maker holds
+    /// for the part until the store comes back is left open.
     fn make(&mut self, component: u32, part: u32) -> Result<Self::C, Memory>
         ensures map { IfOk result (λ store. (cells : CellMap) →
             holds self.old component part cells → Self.C.tells store cells) }
@@ -94,7 +94,8 @@ pub trait StoreMaker {
         ensures stays_made { (c p : ℕ) → has_made self.old c p → has_made self.new c p }
         ensures made_before { (c p : ℕ) → ((c ≡ component) × (p ≡ part) → ⊥) →
             has_made self.new c p → has_made self.old c p }
-        ensures none_made { OnErr result ((c p : ℕ) → has_made self.new c p → has_made self.old c p) }
+        ensures none_made { OnErr result
+            ((c p : ℕ) → has_made self.new c p → has_made self.old c p) }
         ensures same_count { fault_count self.new ≡ fault_count self.old };
 
     /// Takes a store back, and then holds its map for the part. It takes no memory.

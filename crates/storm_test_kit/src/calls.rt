@@ -8,7 +8,8 @@ use storm_program::{Fates, Status, storm};
 use storm_values::{Bytes, Txt};
 use test_kit::{Mismatch, compare};
 
-/// The most bytes of one read and of one write, and the numbers of the calls that fail, from 1. None has the number 0.
+/// The most bytes of one read and of one write, and the numbers of the calls that fail, from
+/// 1. None has the number 0.
 #[derive(Clone, Copy, Debug)]
 pub struct Outside {
     pub read: usize,

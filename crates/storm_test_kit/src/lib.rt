@@ -1,4 +1,5 @@
-//! What the tests of whole calls share: files and an output in memory, calls of `storm`, and what they answer.
+//! What the tests of whole calls share: files and an output in memory, calls of
+//! `storm`, and what they answer.
 #![tactic(auto)]
 
 mod calls;

@@ -36,7 +36,8 @@ pub fn run_over<'a>(input: &'a str) -> Scene<'a> {
 
 /// The words of a table as texts of their own.
 pub fn owned(alloc: Global, words: &[&str]) -> Result<Vec<String>, Memory>
-    ensures { IfOk result (λ made. map string_bytes made.items ≡ map (λ (word : Bor (List ℕ)). word.now) words.now) }
+    ensures { IfOk result
+        (λ made. map string_bytes made.items ≡ map (λ (word : Bor (List ℕ)). word.now) words.now) }
 {
     let mut made = Vec::new(alloc);
     for word in words {

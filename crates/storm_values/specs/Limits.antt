@@ -1,5 +1,5 @@
--- The limits of what is read and run, each by a name of its own. `src/limits.rt` has the same numbers, and the law
--- `limits_have_these_values` ties the two. This project's own.
+-- The limits of what is read and run, each by a name of its own. `src/limits.rt` has the same
+-- numbers, and the law `limits_have_these_values` ties the two. This project's own.
 use Rattle.std.specs.Prelude.{ℕ}
 
 -- ---- an input

@@ -15,6 +15,7 @@ pub record IsRow (n : ℕ) (row : List Value) : Type 0 where
   pub width : length row ≡ n
   pub short : All IsShort row
 
--- the values in some fields of a row, in the order of the fields; one that the row does not have is left out
+-- the values in some fields of a row, in the order of the fields; one that the row
+-- does not have is left out
 abbrev pub values_in : List Value → List ℕ → List Value
 values_in row fields = filter_map (slice_get row) fields

@@ -57,7 +57,8 @@ fn value_at(row: &[Value], field: u32) -> Option<&Value>
     row.get(field as usize)
 }
 
-/// The hash with the value at a place of the key, which the byte between two values parts from the one before.
+/// The hash with the value at a place of the key, which the byte between two values
+/// parts from the one before.
 fn mix_next(hash: u64, place: usize, value: &Value) -> u64
     ensures { result ≡ hash_more hash place value.now }
 {
@@ -115,7 +116,8 @@ pub fn key_text_in(alloc: Global, row: &[Value], fields: &[u32]) -> Result<Txt, 
 
 fn put_value(writer: &mut Writer, value: &Value) -> Result<(), Memory>
     ensures before { writer.new.before ≡ writer.old.before }
-    ensures tokens { OnOk result (writer.new.tokens ≡ writer.old.tokens ++ token_of value.now ∷ []) }
+    ensures tokens { OnOk result
+        (writer.new.tokens ≡ writer.old.tokens ++ token_of value.now ∷ []) }
 {
     match value {
         Value::Int(number) => writer.i64(*number),

@@ -157,7 +157,8 @@ fn value_from_item(item: Json) -> Option<Value>
     }
 }
 
-/// The records of an input whose lines are to have `want` values each, in time linear in its length.
+/// The records of an input whose lines are to have `want` values each, in time linear in its
+/// length.
 pub fn read_input(alloc: Global, bytes: &[u8], want: u32) -> Result<Rows, InputFault>
     ensures good { IfOk result
         (λ rows. (input_fault bytes.now want ≡ None) × (rows ≡ records_of bytes.now)) }

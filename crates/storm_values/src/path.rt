@@ -8,8 +8,8 @@ use std::alloc::Global;
 use std::cmp::Ordering;
 use std::marker::Model;
 
-/// The place of a node in a tuple tree: at each level the number of the child, from 0. Contracts see the list of these
-/// numbers. Up to six of them take no memory.
+/// The place of a node in a tuple tree: at each level the number of the child, from 0. Contracts
+/// see the list of these numbers. Up to six of them take no memory.
 #[derive(Debug, Drop)]
 pub struct Path {
     numbers: SmallVec<u32, 6>,
@@ -92,7 +92,8 @@ impl Path {
         Path::from_slice(*self.numbers.allocator(), self.numbers.as_slice())
     }
 
-    /// Which of the two stands first: a path before those that it begins, and else by the first numbers that differ.
+    /// Which of the two stands first: a path before those that it begins, and else by the
+    /// first numbers that differ.
     pub fn compare(&self, other: &Path) -> Ordering
         ensures { result ≡ path_cmp self.now other.now }
     {

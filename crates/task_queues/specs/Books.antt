@@ -61,12 +61,14 @@ module _ {M : Type 0} where
   -- one more message was sent under the first number
   abbrev pub sent_first : List (Book M) → M → List (Book M)
   sent_first [] x = []
-  sent_first (b ∷ bs) x = record { number = b.number; sent = b.sent ++ x ∷ []; taken = b.taken } ∷ bs
+  sent_first (b ∷ bs) x =
+      record { number = b.number; sent = b.sent ++ x ∷ []; taken = b.taken } ∷ bs
 
   -- one more was taken under the first number
   abbrev pub taken_first : List (Book M) → Stamped M → List (Book M)
   taken_first [] s = []
-  taken_first (b ∷ bs) s = record { number = b.number; sent = b.sent; taken = b.taken ++ s ∷ [] } ∷ bs
+  taken_first (b ∷ bs) s =
+      record { number = b.number; sent = b.sent; taken = b.taken ++ s ∷ [] } ∷ bs
 
   -- a split goes by the first number
   abbrev pub kept_first : List (Book M) → List (Book M)
@@ -103,7 +105,13 @@ module _ {M : Type 0} where
   -- the same terms with other books
   abbrev pub with_books : View M → List (Book M) → View M
   with_books v books =
-      record { fresh = v.fresh; plan = v.plan; owner = v.owner; capacity = v.capacity; books = books }
+      record {
+        fresh = v.fresh;
+        plan = v.plan;
+        owner = v.owner;
+        capacity = v.capacity;
+        books = books;
+      }
 
   abbrev pub sent_to : View M → M → View M
   sent_to v x = with_books v (sent_first v.books x)

@@ -1,4 +1,5 @@
-//! What tests of several crates share: why a test fails, a comparison, a text with a part changed, and a table's columns.
+//! What tests of several crates share: why a test fails, a comparison, a text with a part
+//! changed, and a table's columns.
 #![tactic(auto)]
 
 mod mismatch;

@@ -12,7 +12,8 @@ pub enum Mismatch {
         told: String,
         want: String,
     },
-    /// What else is wrong with a case: a line or a part of it that has not the form that is needed, or what differs.
+    /// What else is wrong with a case: a line or a part of it that has not the form that is
+    /// needed, or what differs.
     Case(String),
     Memory,
 }
@@ -25,7 +26,8 @@ impl From<AllocError> for Mismatch {
     }
 }
 
-/// Whether what was told of a case is what was to be told. Want of memory comes in the place of a mismatch alone.
+/// Whether what was told of a case is what was to be told. Want of memory comes in the
+/// place of a mismatch alone.
 pub fn compare(alloc: Global, of: &str, told: &str, want: &str) -> Result<(), Mismatch>
     ensures { IsOk result ↔ (told.now ≡ want.now) }
 {

@@ -39,15 +39,59 @@ tests = (codes "eq", Eq) ∷ (codes "ne", Ne) ∷ (codes "lt", Lt) ∷ []
 
 -- each word of `do`, and the operation by the other members
 abbrev pub operations : List (List ℕ × (Members → Result Operation TopoFault))
-operations =
-    (codes "split", do field ← required (codes "field") a_name; into ← required (codes "as") a_name; ends (Split field into))
-    ∷ (codes "project", do fields ← required (codes "fields") (some_names 1 most_fields); ends (Project fields))
-    ∷ (codes "filter", do field ← required (codes "field") a_name; test ← required (codes "test") (a_word tests); value ← required (codes "value") a_constant; ends (Filter field test value))
-    ∷ (codes "set", do field ← required (codes "field") a_name; value ← required (codes "value") a_constant; ends (Set field value))
-    ∷ (codes "len", do field ← required (codes "field") a_name; into ← required (codes "as") a_name; ends (Len field into))
-    ∷ (codes "route", do field ← required (codes "field") a_name; ends (Route field))
-    ∷ (codes "flaky", do below ← required (codes "below") (a_number 1 most_below); ends (Flaky below))
-    ∷ (codes "mute", do below ← required (codes "below") (a_number 1 most_below); ends (Mute below))
+operations = (
+  codes "split",
+  do
+    field ← required (codes "field") a_name
+    into ← required (codes "as") a_name
+    ends (Split field into),
+)
+    ∷ (
+      codes "project",
+      do
+        fields ← required (codes "fields") (some_names 1 most_fields)
+        ends (Project fields),
+    )
+    ∷ (
+      codes "filter",
+      do
+        field ← required (codes "field") a_name
+        test ← required (codes "test") (a_word tests)
+        value ← required (codes "value") a_constant
+        ends (Filter field test value),
+    )
+    ∷ (
+      codes "set",
+      do
+        field ← required (codes "field") a_name
+        value ← required (codes "value") a_constant
+        ends (Set field value),
+    )
+    ∷ (
+      codes "len",
+      do
+        field ← required (codes "field") a_name
+        into ← required (codes "as") a_name
+        ends (Len field into),
+    )
+    ∷ (
+      codes "route",
+      do
+        field ← required (codes "field") a_name
+        ends (Route field),
+    )
+    ∷ (
+      codes "flaky",
+      do
+        below ← required (codes "below") (a_number 1 most_below)
+        ends (Flaky below),
+    )
+    ∷ (
+      codes "mute",
+      do
+        below ← required (codes "below") (a_number 1 most_below)
+        ends (Mute below),
+    )
     ∷ (codes "custom", ends Custom)
     ∷ []
 
@@ -122,7 +166,15 @@ a_state = an_object (do
   fold ← required (codes "fold") (a_word folds)
   amount ← amount_for fold
   inputs ← required (codes "inputs") (some_names 1 most_state_inputs)
-  ends (record { name = name; kind = kind; parts = parts; key = key; fold = fold; amount = amount; inputs = inputs }))
+  ends (record {
+    name = name;
+    kind = kind;
+    parts = parts;
+    key = key;
+    fold = fold;
+    amount = amount;
+    inputs = inputs;
+  }))
 
 -- ---- the file
 
@@ -136,7 +188,15 @@ a_file = an_object (do
   pending ← optional (codes "pending") 1 (a_number 1 most_pending)
   buckets ← optional (codes "buckets") 3 (a_number least_buckets most_buckets)
   attempts ← optional (codes "attempts") 10 (a_number 1 most_attempts)
-  ends (record { spout = spout; bolts = bolts; states = states; ackers = ackers; pending = pending; buckets = buckets; attempts = attempts }))
+  ends (record {
+    spout = spout;
+    bolts = bolts;
+    states = states;
+    ackers = ackers;
+    pending = pending;
+    buckets = buckets;
+    attempts = attempts;
+  }))
 
 -- what a file's value says, or its first fault of form
 abbrev pub file_of : Data → Result FileParts TopoFault

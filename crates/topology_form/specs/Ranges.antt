@@ -1,4 +1,5 @@
--- How large the numbers and the lists are of what a file says, and what its names are, where it has no fault of form. This project's own.
+-- How large the numbers and the lists are of what a file says, and what its names are, where it has
+-- no fault of form. This project's own.
 use Rattle.std.specs.Prelude.{◌≡◌, ◌≤◌, ℕ, List, length, Option, None, IsSome, All}
 use Rattle.storm_values.specs.Limits.{most_fields, most_batch, most_below, most_tasks, most_bolt_inputs, most_state_inputs, most_bolts, most_states, most_ackers, most_pending, least_buckets, most_buckets, most_attempts}
 use Rattle.topology_plan.specs.declared.parts.Fold.{Fold}

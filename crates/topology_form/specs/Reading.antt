@@ -1,4 +1,5 @@
--- How the members of an object are read, one after the other, and the first fault among them. This project's own.
+-- How the members of an object are read, one after the other, and the first fault among
+-- them. This project's own.
 use Rattle.std.specs.Prelude.{◌≡◌, ◌≢◌, ℕ, ◌&&◌, ℤ, pos, negsuc, List, [], ◌∷◌, length, int_le, if◌then◌else◌, Option, Some, None, option_and_then, map, Result, Ok, Err}
 use Rattle.std.specs.Borrow.{Bor}
 use Rattle.std.specs.Ordering.{nat_cmp, is_eq}
@@ -26,7 +27,8 @@ Gives (Ok x) read = read ≡ Ok x
 Gives (Err fault) read = Fails fault read
 
 -- the same, and these members are left
-abbrev pub Takes : {A : Type 0} → Result A TopoFault → Members → Result (A × Members) TopoFault → Type 0
+abbrev pub Takes : {A : Type 0} → Result A TopoFault → Members → Result (A × Members) TopoFault
+    → Type 0
 Takes (Ok x) rest read = read ≡ Ok (x, rest)
 Takes (Err fault) rest read = Fails fault read
 
@@ -37,7 +39,8 @@ abbrev pub Form : Type 0 → Type 0
 Form A = List ℕ → Data → Result A TopoFault
 
 -- of the wrong kind, or what follows
-abbrev pub of_kind : {A B : Type 0} → List ℕ → Option A → (A → Result B TopoFault) → Result B TopoFault
+abbrev pub of_kind : {A B : Type 0} → List ℕ → Option A → (A → Result B TopoFault)
+    → Result B TopoFault
 of_kind name None next = Err (WrongKind name)
 of_kind name (Some x) next = next x
 
@@ -48,12 +51,15 @@ natural (negsuc n) = 0
 
 -- a number or a length that has to be in a range, and what follows
 abbrev pub within : {A : Type 0} → List ℕ → ℕ → ℕ → ℤ → Result A TopoFault → Result A TopoFault
-within name least most found next = if int_le (pos least) found && int_le found (pos most) then next else Err (OutOfRange name found least most)
+within name least most found next =
+    if int_le (pos least) found && int_le found (pos most) then next
+    else Err (OutOfRange name found least most)
 
 -- a number in this range
 abbrev pub a_number : ℕ → ℕ → Form ℕ
 a_number least most name value =
-    of_kind name (option_and_then as_i64 (as_number value)) (λ n. within name least most n (Ok (natural n)))
+    of_kind name (option_and_then as_i64 (as_number value))
+    (λ n. within name least most n (Ok (natural n)))
 
 -- a text
 abbrev pub a_text : Form (List ℕ)
@@ -61,13 +67,15 @@ a_text name value = of_kind name (as_str value) Ok
 
 -- a name
 abbrev pub a_name : Form (List ℕ)
-a_name name value = of_kind name (as_str value) (λ text. if is_name text then Ok text else Err (WrongKind name))
+a_name name value =
+    of_kind name (as_str value) (λ text. if is_name text then Ok text else Err (WrongKind name))
 
 abbrev pub followed_by : {A : Type 0} → A → Result (List A) TopoFault → Result (List A) TopoFault
 followed_by first (Ok others) = Ok (first ∷ others)
 followed_by first (Err fault) = Err fault
 
-abbrev pub with_others : {A : Type 0} → Result A TopoFault → Result (List A) TopoFault → Result (List A) TopoFault
+abbrev pub with_others : {A : Type 0} → Result A TopoFault → Result (List A) TopoFault
+    → Result (List A) TopoFault
 with_others (Ok first) others = followed_by first others
 with_others (Err fault) others = Err fault
 
@@ -77,12 +85,14 @@ each form name no_items = Ok []
 each form name (item value items) = with_others (form name value) (each form name items)
 
 -- an array of names, this many: the form of all items comes before their number
-abbrev pub counted : {A : Type 0} → List ℕ → ℕ → ℕ → Result (List A) TopoFault → Result (List A) TopoFault
+abbrev pub counted : {A : Type 0} → List ℕ → ℕ → ℕ → Result (List A) TopoFault
+    → Result (List A) TopoFault
 counted name least most (Ok items) = within name least most (pos (length items)) (Ok items)
 counted name least most (Err fault) = Err fault
 
 abbrev pub some_names : ℕ → ℕ → Form (List (List ℕ))
-some_names least most name value = of_kind name (as_array value) (λ items. counted name least most (each a_name name items))
+some_names least most name value =
+    of_kind name (as_array value) (λ items. counted name least most (each a_name name items))
 
 -- a number, or a text of at most 256 bytes
 abbrev pub short : List ℕ → Value → Result Value TopoFault
@@ -99,7 +109,8 @@ an_object part_of name value = of_kind name (as_object value) part_of
 -- an array of these, this many: first its length, then item by item
 abbrev pub some_objects : {A : Type 0} → ℕ → ℕ → Form A → Form (List A)
 some_objects least most form name value =
-    of_kind name (as_array value) (λ items. within name least most (pos (items_len items)) (each form name items))
+    of_kind name (as_array value)
+    (λ items. within name least most (pos (items_len items)) (each form name items))
 
 -- what is beside a word in a table
 abbrev pub found_in : {A : Type 0} → List (List ℕ × A) → List ℕ → Result A TopoFault
@@ -116,12 +127,14 @@ a_word words name value = of_kind name (as_str value) (found_in words)
 abbrev pub Reader : Type 0 → Type 0
 Reader A = Members → Result (A × Members) TopoFault
 
-abbrev pub and_then : {A C : Type 0} → Result (A × Members) TopoFault → (A → Members → Result C TopoFault) → Result C TopoFault
+abbrev pub and_then : {A C : Type 0} → Result (A × Members) TopoFault
+    → (A → Members → Result C TopoFault) → Result C TopoFault
 and_then (Ok x) next = next x.0 x.1
 and_then (Err fault) next = Err fault
 
 infixl 10 ◌>>=◌
-abbrev pub ◌>>=◌ : {A C : Type 0} → Reader A → (A → Members → Result C TopoFault) → Members → Result C TopoFault
+abbrev pub ◌>>=◌ : {A C : Type 0} → Reader A → (A → Members → Result C TopoFault) → Members
+    → Result C TopoFault
 (first >>= next) object = and_then (first object) next
 
 -- what was read, and the members that are left
@@ -136,7 +149,9 @@ ends x (member name value rest) = Err (UnknownName name)
 -- the members without the one of this name
 abbrev pub without : List ℕ → Members → Members
 without name no_members = no_members
-without name (member other value members) = if is_eq (slice_cmp nat_cmp name other) then members else member other value (without name members)
+without name (member other value members) =
+    if is_eq (slice_cmp nat_cmp name other) then members
+    else member other value (without name members)
 
 abbrev pub beside : {A : Type 0} → Members → Result A TopoFault → Result (A × Members) TopoFault
 beside rest (Ok x) = Ok (x, rest)
@@ -148,7 +163,8 @@ read_member name form (Some value) = form name value
 
 -- a member that has to be there
 unfoldable pub required : {A : Type 0} → List ℕ → Form A → Reader A
-required name form object = beside (without name object) (read_member name form (get_member name object))
+required name form object =
+    beside (without name object) (read_member name form (get_member name object))
 
 abbrev pub read_or : {A : Type 0} → List ℕ → A → Form A → Option Data → Result A TopoFault
 read_or name default form None = Ok default
@@ -156,12 +172,15 @@ read_or name default form (Some value) = form name value
 
 -- a member that may be absent
 unfoldable pub optional : {A : Type 0} → List ℕ → A → Form A → Reader A
-optional name default form object = beside (without name object) (read_or name default form (get_member name object))
+optional name default form object =
+    beside (without name object) (read_or name default form (get_member name object))
 
 -- what follows a word by a table
-abbrev pub chosen : {C : Type 0} → List (List ℕ × (Members → Result C TopoFault)) → List ℕ → Members → Result C TopoFault
+abbrev pub chosen : {C : Type 0} → List (List ℕ × (Members → Result C TopoFault)) → List ℕ → Members
+    → Result C TopoFault
 chosen [] word object = Err (UnknownName word)
-chosen (pair ∷ pairs) word object = if bytes_eq word pair.0 then pair.1 object else chosen pairs word object
+chosen (pair ∷ pairs) word object =
+    if bytes_eq word pair.0 then pair.1 object else chosen pairs word object
 
 -- a table as its words and what is beside them
 abbrev pub pairs_of : {A : Type 0} → List (Bor (List ℕ) × A) → List (List ℕ × A)

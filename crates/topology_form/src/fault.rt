@@ -50,8 +50,8 @@ impl From<Memory> for TopoFault {
 }
 
 impl TopoFault {
-    /// What is printed of the fault. Texts from the file stand as compact JSON strings, which take memory, so it is no
-    /// `Display`.
+    /// What is printed of the fault. Texts from the file stand as compact JSON strings, which take
+    /// memory, so it is no `Display`.
     pub fn text(&self, alloc: Global) -> Result<String, Memory>
         ensures { IfOk result (λ text. string_bytes text ≡ fault_text self.now) }
     {
@@ -97,14 +97,17 @@ fn out_of_range(
     least: u32,
     most: u32,
 ) -> Result<String, Memory>
-    ensures { IfOk result (λ made. string_bytes made ≡ fault_text (TopoFault.OutOfRange member.now found least most)) }
+    ensures { IfOk result
+        (λ made. string_bytes made
+        ≡ fault_text (TopoFault.OutOfRange member.now found least most)) }
 {
     let member = shown(alloc, member)?;
     format!(in alloc; "{member} is {found}, not from {least} to {most}")
 }
 
 fn no_field(alloc: Global, component: &Txt, field: &Txt) -> Result<String, Memory>
-    ensures { IfOk result (λ made. string_bytes made ≡ fault_text (TopoFault.NoField component.now field.now)) }
+    ensures { IfOk result
+        (λ made. string_bytes made ≡ fault_text (TopoFault.NoField component.now field.now)) }
 {
     let field = shown(alloc, field)?;
     let component = shown(alloc, component)?;

@@ -12,11 +12,14 @@ use crate::parts::FileParts;
 use serde_json::Value as Json;
 use std::alloc::Global;
 
-/// What a file's value says, or its first fault of form. The value's texts are moved, and time is linear in it.
+/// What a file's value says, or its first fault of form. The value's texts are moved,
+/// and time is linear in it.
 #[tactic(auto, unfolding(crate::specs::File::form_fault, crate::specs::File::parts_said))]
 pub fn parts_from(alloc: Global, value: Json) -> Result<FileParts, TopoFault>
-    ensures said { IfOk result (λ parts. (form_fault (view value) ≡ None) × (parts ≡ parts_said (view value))) }
-    ensures fault { IfErr result (λ fault. fault ≢ TopoFault.Memory → form_fault (view value) ≡ Some fault) }
+    ensures said { IfOk result
+        (λ parts. (form_fault (view value) ≡ None) × (parts ≡ parts_said (view value))) }
+    ensures fault { IfErr result
+        (λ fault. fault ≢ TopoFault.Memory → form_fault (view value) ≡ Some fault) }
 {
     FileParts::from_value(alloc, "topology", value)
 }

@@ -1,5 +1,5 @@
-//! One decoder an object: its members in the order of the format's lines, each taken out by its form, and then the first
-//! member that is left over.
+//! One decoder an object: its members in the order of the format's lines, each taken out by its
+//! form, and then the first member that is left over.
 
 ghost use Rattle.topology_form.specs.Left.{left_in};
 ghost use Rattle.topology_form.specs.Reading.{Takes};

@@ -161,7 +161,8 @@ fn count_within(
     least: u32,
     most: u32,
 ) -> Result<(), TopoFault>
-    ensures { Gives result (within name.now least most (pos (items_len (items_view items.now.items))) (Ok tt)) }
+    ensures { Gives result
+        (within name.now least most (pos (items_len (items_view items.now.items))) (Ok tt)) }
 {
     within(alloc, name, items.len() as i64, least, most)
 }

@@ -1,4 +1,5 @@
-//! The form of a topology file: what it says, or the first fault of its form. One decoder an object.
+//! The form of a topology file: what it says, or the first fault of its form. One decoder an
+//! object.
 #![tactic(auto)]
 
 mod fault;

@@ -43,7 +43,8 @@ impl Object {
 
     /// The value of a member that has to be there.
     fn member(&mut self, name: &str) -> Result<Json, TopoFault>
-        ensures good { IfOk result (λ value. (get_member name.now (left_in self.old) ≡ Some (view value))
+        ensures good { IfOk result
+            (λ value. (get_member name.now (left_in self.old) ≡ Some (view value))
             × (left_in self.new ≡ without name.now (left_in self.old))) }
         ensures fault { IfErr result (λ fault. fault ≢ Memory
             → (get_member name.now (left_in self.old) ≡ None) × (fault ≡ Missing name.now)) }
@@ -88,14 +89,16 @@ impl Object {
     }
 
     pub fn names(&mut self, name: &str, least: u32, most: u32) -> Result<Names, TopoFault>
-        ensures { Takes result (left_in self.new) (required name.now (some_names least most) (left_in self.old)) }
+        ensures { Takes result (left_in self.new)
+            (required name.now (some_names least most) (left_in self.old)) }
     {
         let value = self.member(name)?;
         names_from(self.alloc, name, value, least, most)
     }
 
     pub fn number(&mut self, name: &str, least: u32, most: u32) -> Result<u32, TopoFault>
-        ensures { Takes result (left_in self.new) (required name.now (a_number least most) (left_in self.old)) }
+        ensures { Takes result (left_in self.new)
+            (required name.now (a_number least most) (left_in self.old)) }
     {
         let value = self.member(name)?;
         number_from(self.alloc, name, &value, least, most)
@@ -118,14 +121,16 @@ impl Object {
     }
 
     pub fn constant(&mut self, name: &str) -> Result<Value, TopoFault>
-        ensures { Takes result (left_in self.new) (required name.now a_constant (left_in self.old)) }
+        ensures { Takes result (left_in self.new)
+            (required name.now a_constant (left_in self.old)) }
     {
         let value = self.member(name)?;
         constant_from(self.alloc, name, value)
     }
 
     pub fn word<T: Copy>(&mut self, name: &str, words: &[(&str, T)]) -> Result<T, TopoFault>
-        ensures { Takes result (left_in self.new) (required name.now (a_word (pairs_of words.now)) (left_in self.old)) }
+        ensures { Takes result (left_in self.new)
+            (required name.now (a_word (pairs_of words.now)) (left_in self.old)) }
     {
         let value = self.member(name)?;
         word_from(self.alloc, name, value, words)

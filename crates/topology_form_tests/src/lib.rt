@@ -1,4 +1,5 @@
-//! Tests of the form of topology files: each fault of a member, a name, a word, a range and an operation.
+//! Tests of the form of topology files: each fault of a member, a name, a word, a
+//! range and an operation.
 #![tactic(auto)]
 
 #[cfg(test)]

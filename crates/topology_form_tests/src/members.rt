@@ -1,5 +1,5 @@
-// Faults of a file's form. Each line of a table is a file: parts of the valid file, what stands in their places, and
-// what is printed of the fault then.
+// Faults of a file's form. Each line of a table is a file: parts of the valid file, what stands in
+// their places, and what is printed of the fault then.
 use test_kit::Mismatch;
 use topology_test_kit::{check_changes, check_told};
 

@@ -75,8 +75,8 @@ const OPERATIONS: &str = r#"
 {"do":"custom"} | no fault
 "#;
 
-// A part of the valid file, what stands in its place: a start, a piece so many times, and a rest, and what is printed
-// of the fault.
+// A part of the valid file, what stands in its place: a start, a piece so many times, and a rest,
+// and what is printed of the fault.
 const LONG: [(&str, &str, &str, usize, &str, &str); 12] = [
     (
         "\"bolts\":[",

@@ -20,12 +20,15 @@ IsKnown known origin.Spout = Unit {0}
 IsKnown known (origin.Component c) = is_some (slice_index_or known c None) ≡ true
 
 -- what is known is right
-pub record AreRight {V : Type 0} (rule : Rule V) (graph : List (List Feed)) (known : List (Option V)) : Type 0 where
+pub record AreRight {V : Type 0} (rule : Rule V) (graph : List (List Feed))
+    (known : List (Option V)) : Type 0 where
   pub count : length known ≡ length graph
-  pub each : (c : ℕ) (value : V) → slice_index_or known c None ≡ Some value → value ≡ value_of rule graph (origin.Component c)
+  pub each : (c : ℕ) (value : V) → slice_index_or known c None ≡ Some value
+      → value ≡ value_of rule graph (origin.Component c)
 
 -- a source was found, and what was known is known still
-pub record IsFound {V : Type 0} (rule : Rule V) (graph : List (List Feed)) (old new : List (Option V)) (from : Origin) : Type 0 where
+pub record IsFound {V : Type 0} (rule : Rule V) (graph : List (List Feed))
+    (old new : List (Option V)) (from : Origin) : Type 0 where
   pub right : AreRight rule graph new
   pub kept : (other : Origin) → IsKnown old other → IsKnown new other
   pub known : IsKnown new from

@@ -1,4 +1,5 @@
--- A graph of components, each with its subscriptions, and what a component has by what its sources have. This project's own.
+-- A graph of components, each with its subscriptions, and what a component has by what its sources
+-- have. This project's own.
 use Rattle.std.specs.Prelude.{◌≡◌, ℕ, zero, suc, ◌<◌, List, [], map, length, Some, slice_get, slice_index_or}
 use Rattle.topology_plan.specs.declared.parts.Origin.{Origin}
 use Rattle.topology_plan.specs.declared.parts.Origin.TheVariants as origin
@@ -12,8 +13,8 @@ feeds_at graph c = slice_index_or graph c []
 abbrev pub fed : {V : Type 0} → (Origin → V) → List Feed → List (Feed × V)
 fed {V} f feeds = map {B = Feed × V} (λ (feed : Feed). (feed, f feed.from)) feeds
 
--- What the spout has, what a component has that is too far from it, and what component c has by its subscriptions, each with
--- what its source has.
+-- What the spout has, what a component has that is too far from it, and what component c has by its
+-- subscriptions, each with what its source has.
 pub record Rule (V : Type 0) : Type 0 where
   pub spout : V
   pub nothing : V
@@ -23,9 +24,11 @@ pub record Rule (V : Type 0) : Type 0 where
 abbrev pub value_in : {V : Type 0} → ℕ → Rule V → List (List Feed) → Origin → V
 value_in n rule graph origin.Spout = rule.spout
 value_in zero rule graph (origin.Component c) = rule.nothing
-value_in (suc n) rule graph (origin.Component c) = rule.over c (fed (value_in n rule graph) (feeds_at graph c))
+value_in (suc n) rule graph (origin.Component c) =
+    rule.over c (fed (value_in n rule graph) (feeds_at graph c))
 
--- what a source has; where there is no cycle, as many steps as there are components reach everything
+-- what a source has; where there is no cycle, as many steps as there are
+-- components reach everything
 unfoldable pub value_of : {V : Type 0} → Rule V → List (List Feed) → Origin → V
 value_of rule graph from = value_in (length graph) rule graph from
 
@@ -36,9 +39,11 @@ IsThere graph (origin.Component c) = c < length graph
 
 -- each source is there
 abbrev pub IsClosed : List (List Feed) → Type 0
-IsClosed graph = (c k : ℕ) (feed : Feed) → slice_get (feeds_at graph c) k ≡ Some feed → IsThere graph feed.from
+IsClosed graph =
+    (c k : ℕ) (feed : Feed) → slice_get (feeds_at graph c) k ≡ Some feed → IsThere graph feed.from
 
 -- numbers of components that grow along each subscription, as there are where there is no cycle
 pub record IsRanked (graph : List (List Feed)) (rank : ℕ → ℕ) : Type 0 where
   pub below : (c : ℕ) → c < length graph → rank c < length graph
-  pub grows : (b c k : ℕ) (feed : Feed) → slice_get (feeds_at graph c) k ≡ Some feed → feed.from ≡ origin.Component b → rank b < rank c
+  pub grows : (b c k : ℕ) (feed : Feed) → slice_get (feeds_at graph c) k ≡ Some feed
+      → feed.from ≡ origin.Component b → rank b < rank c

@@ -28,7 +28,8 @@ depth_at graph from = value_of depth_rule graph from
 
 -- the numbers of all components
 abbrev pub numbers_of : Rule ℕ → List (List Feed) → List ℕ
-numbers_of rule graph = map (λ c. value_of rule graph (origin.Component c)) (range_with_len 0 (length graph))
+numbers_of rule graph =
+    map (λ c. value_of rule graph (origin.Component c)) (range_with_len 0 (length graph))
 
 -- the greatest depth
 unfoldable pub depth_of : List (List Feed) → ℕ
@@ -40,14 +41,19 @@ weight_of graph = ended_sum (numbers_of tuples_rule graph)
 
 -- the components of a depth, by the depths of all
 abbrev pub at_depth : List ℕ → ℕ → List ℕ
-at_depth depths depth = filter (λ c. slice_index depths c == depth) (range_with_len 0 (length depths))
+at_depth depths depth =
+    filter (λ c. slice_index depths c == depth) (range_with_len 0 (length depths))
 
 -- the components by their depth, and in the order of their numbers among equal depth
 unfoldable pub by_depth : List (List Feed) → List ℕ
 by_depth graph =
-    flat_map (λ depth. filter (λ c. depth_at graph (origin.Component c) == depth) (range_with_len 0 (length graph))) (range_with_len 1 (length graph))
+    flat_map (λ depth.
+    filter (λ c. depth_at graph (origin.Component c) == depth)
+    (range_with_len 0 (length graph))) (range_with_len 1 (length graph))
 
--- no more steps lead further, as where there is no cycle: a component is deeper by one than its deepest source
+-- no more steps lead further, as where there is no cycle: a component is deeper by one
+-- than its deepest source
 abbrev pub IsSettled : List (List Feed) → Type 0
 IsSettled graph = (c : ℕ) → c < length graph
-    → depth_at graph (origin.Component c) ≡ greatest (map (λ (feed : Feed). depth_at graph feed.from) (feeds_at graph c)) + 1
+    → depth_at graph (origin.Component c)
+    ≡ greatest (map (λ (feed : Feed). depth_at graph feed.from) (feeds_at graph c)) + 1

@@ -1,5 +1,5 @@
-//! A graph of components with their subscriptions: depths, weights, and whatever else a component has by what its sources
-//! have. Each component is looked at once, and each subscription once.
+//! A graph of components with their subscriptions: depths, weights, and whatever else a component
+//! has by what its sources have. Each component is looked at once, and each subscription once.
 #![tactic(auto)]
 
 mod numbers;

@@ -110,7 +110,8 @@ fn total(numbers: &[u64]) -> u64
     total
 }
 
-/// The components in the order of their depths, and in the order of their numbers among equal depth.
+/// The components in the order of their depths, and in the order of their numbers among equal
+/// depth.
 pub fn by_depth(alloc: Global, graph: &Graph) -> Result<Vec<usize>, Memory>
     requires small { length graph.now < 2 ^ 32 }
     requires closed { IsClosed graph.now }
@@ -139,5 +140,6 @@ fn add_depth(order: &mut Vec<usize>, depths: &[u64], depth: u64) -> Result<(), M
 
 /// A law: a graph is settled where components have ranks.
 pub fn ranks_settle_depths()
-    ensures { (graph : List (List Feed)) (rank : ℕ → ℕ) → length graph < 2 ^ 32 → IsRanked graph rank → IsSettled graph }
+    ensures { (graph : List (List Feed)) (rank : ℕ → ℕ) → length graph < 2 ^ 32
+        → IsRanked graph rank → IsSettled graph }
 {}

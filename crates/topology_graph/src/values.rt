@@ -28,7 +28,9 @@ pub trait Along<V: Drop> {
     ghost rule: { Self → Rule V };
 
     fn over(&self, c: usize, feeds: &[Feed], known: &[Option<V>]) -> Result<V, Memory>
-        ensures { IfOk result (λ value. value ≡ (rule self.now).over c (fed_by (rule self.now) known.now feeds.now)) };
+        ensures { IfOk result
+            (λ value.
+            value ≡ (rule self.now).over c (fed_by (rule self.now) known.now feeds.now)) };
 }
 
 /// What each component has.
@@ -41,7 +43,8 @@ pub fn values_along<V: Drop, R: Along<V>>(
     requires closed { IsClosed graph.now }
     requires settled { IsSettled graph.now }
     ensures { IfOk result (λ values. values.items
-        ≡ map (λ c. Some (value_of (R.rule rule.now) graph.now (origin.Component c))) (range_with_len 0 (length graph.now))) }
+        ≡ map (λ c. Some (value_of (R.rule rule.now) graph.now (origin.Component c)))
+        (range_with_len 0 (length graph.now))) }
 {
     let mut known = unknown(alloc, graph.len())?;
     for c in 0..graph.len() {

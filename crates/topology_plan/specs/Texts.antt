@@ -22,7 +22,9 @@ begins_with_letter (byte ∷ bytes) = is_letter byte
 
 -- 1 to 32 bytes of `a` to `z`, `0` to `9`, `_` and `-`, the first a letter
 abbrev pub is_name : List ℕ → Bool
-is_name bytes = is_between (length bytes) 1 most_name_bytes && begins_with_letter bytes && list_all is_name_byte bytes
+is_name bytes =
+    is_between (length bytes) 1 most_name_bytes && begins_with_letter bytes
+    && list_all is_name_byte bytes
 
 -- the same as a fact
 unfoldable pub IsName : List ℕ → Type 0

@@ -1,4 +1,5 @@
--- What a plan keeps beyond its numbers: whose rows come to whom, with which fields. Widths are numbers of fields. This project's own.
+-- What a plan keeps beyond its numbers: whose rows come to whom, with which fields. Widths are
+-- numbers of fields. This project's own.
 use Rattle.std.specs.Prelude.{◌≡◌, ◌≢◌, ◌<◌, ℕ, ◌+◌, ◌-◌, ◌≤◌, List, [], length, map, All, Option, None, IsSome, slice_get, IfSome, Some, sum, take, AllPairs}
 use Rattle.std.specs.List.Sorted.{IsStrictlyIncreasing}
 use Rattle.std.specs.Option.{option_map_or}
@@ -28,7 +29,8 @@ use Rattle.topology_plan.specs.Valid.{IsBetween}
 -- the fields of a source's rows
 abbrev pub fields_of : Topology → Origin → List (List ℕ)
 fields_of t origin.Spout = t.spout_fields
-fields_of t (origin.Component c) = option_map_or (λ (component : Component). component.fields) (slice_get t.components c) []
+fields_of t (origin.Component c) =
+    option_map_or (λ (component : Component). component.fields) (slice_get t.components c) []
 
 -- how many there are
 abbrev pub width_of : Topology → Origin → ℕ
@@ -36,7 +38,8 @@ width_of t from = length (fields_of t from)
 
 -- the fields of the rows that come to a component: those of its first source, and so of each
 abbrev pub fields_to : Topology → ℕ → List (List ℕ)
-fields_to t c = option_map_or (λ (input : Origin × Sub). fields_of t input.0) (slice_get (inputs_of t c) 0) []
+fields_to t c =
+    option_map_or (λ (input : Origin × Sub). fields_of t input.0) (slice_get (inputs_of t c) 0) []
 
 -- how many there are
 abbrev pub width_to : Topology → ℕ → ℕ
@@ -56,7 +59,9 @@ width_after Custom n = n
 
 -- some fields of a row of n, each once
 abbrev pub AreWithin : List ℕ → ℕ → Type 0
-AreWithin fields n = IsBetween (length fields) 1 most_fields × All (λ field. field < n) fields × AllPairs (λ a b. a ≢ b) fields
+AreWithin fields n =
+    IsBetween (length fields) 1 most_fields × All (λ field. field < n) fields
+    × AllPairs (λ a b. a ≢ b) fields
 
 -- a number, or a text of at most 256 bytes
 abbrev pub IsConstant : Value → Type 0
@@ -89,14 +94,17 @@ abbrev pub IsRouteOf : Body → ℕ → Type 0
 IsRouteOf (Bolt (Route chosen)) field = chosen ≡ field
 IsRouteOf _ field = ⊥
 
--- a grouping fits its source: its key is among the source's fields, and where it is direct, the source is a route
+-- a grouping fits its source: its key is among the source's fields, and where it is
+-- direct, the source is a route
 abbrev pub IsFrom : Topology → Origin → Grouping → Type 0
 IsFrom t from grouping.Shuffle = Unit {0}
 IsFrom t from (grouping.Fields key) = AreWithin key (width_of t from)
 IsFrom t from grouping.All = Unit {0}
 IsFrom t from grouping.Global = Unit {0}
 IsFrom t origin.Spout (grouping.Direct field) = ⊥
-IsFrom t (origin.Component c) (grouping.Direct field) = (component : Component) × (slice_get t.components c ≡ Some component) × IsRouteOf component.body field × (field < length component.fields)
+IsFrom t (origin.Component c) (grouping.Direct field) =
+    (component : Component) × (slice_get t.components c ≡ Some component)
+    × IsRouteOf component.body field × (field < length component.fields)
 
 -- each input of a state is grouped by the state's key
 abbrev pub IsKeyed : StateSpec → Grouping → Type 0
@@ -110,9 +118,12 @@ IsAsWide t from sub = width_to t sub.to ≡ width_of t from
 
 -- component c fits the n fields that come to it, and has the fields that its body leaves
 abbrev pub IsFed : Topology → ℕ → ℕ → Body → List (List ℕ) → Type 0
-IsFed t c n (Bolt op) fields = IsWithin op n × (length fields ≡ width_after op n) × IsBetween (length fields) 1 most_fields
+IsFed t c n (Bolt op) fields =
+    IsWithin op n × (length fields ≡ width_after op n) × IsBetween (length fields) 1 most_fields
 IsFed t c n (State spec) fields =
-    (fields ≡ []) × (subs_of t (origin.Component c) ≡ []) × AreWithin spec.key n × HasAmount spec.fold spec.amount n × All (λ input. IsKeyed spec (input.1).grouping) (inputs_of t c)
+    (fields ≡ []) × (subs_of t (origin.Component c) ≡ []) × AreWithin spec.key n
+    × HasAmount spec.fold spec.amount n
+    × All (λ input. IsKeyed spec (input.1).grouping) (inputs_of t c)
 
 -- component c: the rows of all its sources, of which there is one at least, have the same fields
 pub record IsComponent (t : Topology) (c : ℕ) (component : Component) : Type 0 where
@@ -122,7 +133,8 @@ pub record IsComponent (t : Topology) (c : ℕ) (component : Component) : Type 0
   pub fed : IsFed t c (width_to t c) component.body component.fields
   pub fields : AllPairs (λ a b. a ≢ b) component.fields
   pub field_names : All IsName component.fields
-  pub first_task : component.first_task ≡ sum (take c (map (λ (other : Component). other.tasks) t.components))
+  pub first_task : component.first_task
+      ≡ sum (take c (map (λ (other : Component). other.tasks) t.components))
   pub tasks : IsBetween component.tasks 1 most_tasks
 
 -- bolts have the numbers below this one, states those from there on
@@ -135,7 +147,8 @@ pub record IsLaidOut (t : Topology) : Type 0 where
   pub bolts : ℕ
   pub few : bolts ≤ most_bolts
   pub states : IsBetween (length t.components - bolts) 1 most_states
-  pub placed : (c : ℕ) → IfSome (slice_get t.components c) (λ component. IsPlaced bolts c component.body)
+  pub placed : (c : ℕ)
+      → IfSome (slice_get t.components c) (λ component. IsPlaced bolts c component.body)
 
 -- an opaque spout may have this body behind it: any bolt, and an opaque state
 abbrev pub MayFollowOpaque : Body → Type 0
@@ -148,9 +161,11 @@ pub record IsWired (t : Topology) : Type 0 where
   pub spout_fields : AllPairs (λ a b. a ≢ b) t.spout_fields
   pub spout_field_names : All IsName t.spout_fields
   pub names : AllPairs (λ (a b : Component). a.name ≢ b.name) t.components
-  -- a component takes a source at most once, and a source's subscriptions stand in the order of their consumers
+  -- a component takes a source at most once, and a source's subscriptions stand in the
+  -- order of their consumers
   pub once : (from : Origin) → IsStrictlyIncreasing (map (λ (sub : Sub). sub.to) (subs_of t from))
   pub groupings : (from : Origin) → All (λ (sub : Sub). IsFrom t from sub.grouping) (subs_of t from)
   pub components : (c : ℕ) → IfSome (slice_get t.components c) (IsComponent t c)
   -- an opaque spout has no transactional state
-  pub replays : t.spout_kind ≡ Opaque → All (λ (component : Component). MayFollowOpaque component.body) t.components
+  pub replays : t.spout_kind ≡ Opaque
+      → All (λ (component : Component). MayFollowOpaque component.body) t.components

@@ -25,7 +25,8 @@ pub enum Origin {
     Component(u32),
 }
 
-/// Which of the consumer's tasks a row goes to. Fields are numbers in the source's row, counted from 0.
+/// Which of the consumer's tasks a row goes to. Fields are numbers in the source's row, counted
+/// from 0.
 #[derive(Debug, Drop)]
 pub enum Grouping {
     /// Round the tasks in turn. `none` and `local_or_shuffle` are this too.

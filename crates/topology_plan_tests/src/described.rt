@@ -6,8 +6,9 @@ use topology_plan::{
     Body, Component, Fold, Grouping, Kind, Op, Origin, Plan, StateSpec, Sub, Test,
 };
 
-/// A line of the plan's sizes, a line of what the run needs, and then a line for the spout's subscriptions, each
-/// component with its first task and its subscriptions, and the components of the tasks.
+/// A line of the plan's sizes, a line of what the run needs, and then a line for the spout's
+/// subscriptions, each component with its first task and its subscriptions, and the
+/// components of the tasks.
 pub fn described(alloc: Global, plan: &Plan) -> Result<String, Memory> {
     let mut text = String::new(alloc);
     let (components, tasks) = (plan.components(), plan.tasks());

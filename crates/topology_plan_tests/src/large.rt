@@ -7,8 +7,8 @@ use test_kit::Mismatch;
 use topology_reader::read_topology;
 use topology_test_kit::check_told;
 
-// How many bolts stand in a chain, how many tasks each has, how many the last has, their grouping, and what is printed
-// of the fault.
+// How many bolts stand in a chain, how many tasks each has, how many the last has, their grouping,
+// and what is printed of the fault.
 const CHAINS: [(u32, u32, u32, &str, &str); 9] = [
     (32, 1, 1, "shuffle", "no fault"),
     (32, 7, 7, "global", "no fault"),
@@ -83,7 +83,8 @@ fn chain(
     )
 }
 
-// Layers of two bolts that each feed both bolts of the next, and a state that takes from the last two.
+// Layers of two bolts that each feed both bolts of the next, and a state that
+// takes from the last two.
 fn lattice(alloc: Global, layers: u32) -> Result<String, Memory> {
     let mut text = String::new(alloc);
     let mut inputs = input(alloc, 0, "shuffle")?;
@@ -100,7 +101,8 @@ fn lattice(alloc: Global, layers: u32) -> Result<String, Memory> {
     file(alloc, text.as_str(), names.as_str())
 }
 
-// Bolts that each take from the spout and from all bolts before, and a state that takes from all of them.
+// Bolts that each take from the spout and from all bolts before, and a state that
+// takes from all of them.
 fn mesh(alloc: Global, bolts: u32) -> Result<String, Memory> {
     let mut text = String::new(alloc);
     let mut inputs = input(alloc, 0, "shuffle")?;

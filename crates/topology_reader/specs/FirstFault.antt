@@ -1,4 +1,5 @@
--- Which fault a topology file has first, and which plan it has where it has none. This project's own.
+-- Which fault a topology file has first, and which plan it has where it has none. This project's
+-- own.
 use Rattle.std.specs.Prelude.{◌≡◌, ℕ, List, [], ◌∷◌, length, nat_lt, if◌then◌else◌, Option, Some, None}
 use Rattle.serde_json.specs.Data.{Data}
 use Rattle.storm_values.specs.Json.{json_of}
@@ -14,7 +15,8 @@ use Rattle.topology_plan.specs.Topology.{Topology}
 
 -- a file longer than the most bytes
 abbrev pub length_fault : List ℕ → Option TopoFault
-length_fault bytes = if nat_lt most_topology_bytes (length bytes) then Some (TooLong (length bytes)) else None
+length_fault bytes =
+    if nat_lt most_topology_bytes (length bytes) then Some (TooLong (length bytes)) else None
 
 -- of a file's value first its form, then what it says
 abbrev pub value_fault : Option Data → Option TopoFault
@@ -27,4 +29,6 @@ first_fault bytes = first_some (length_fault bytes ∷ value_fault (json_of byte
 
 -- the file has no fault, and its topology is t
 abbrev pub IsFilePlan : List ℕ → Topology → Type 0
-IsFilePlan bytes t = (first_fault bytes ≡ None) × (value : Data) × (json_of bytes ≡ Some value) × (t ≡ plan_of (parts_said value))
+IsFilePlan bytes t =
+    (first_fault bytes ≡ None) × (value : Data) × (json_of bytes ≡ Some value)
+    × (t ≡ plan_of (parts_said value))

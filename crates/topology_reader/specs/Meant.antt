@@ -29,14 +29,17 @@ is_among texts text = list_any (bytes_eq text) texts
 
 -- a number or a length that is out of its range
 abbrev pub range_fault : List ℕ → ℤ → ℕ → ℕ → Option TopoFault
-range_fault name found least most = if int_le (pos least) found && int_le found (pos most) then None else Some (OutOfRange name found least most)
+range_fault name found least most =
+    if int_le (pos least) found && int_le found (pos most) then None
+    else Some (OutOfRange name found least most)
 
 -- ---- names that stand twice
 
 -- the first name that equals one before it
 abbrev pub first_again : List (List ℕ) → List (List ℕ) → Option (List ℕ)
 first_again before [] = None
-first_again before (name ∷ names) = if is_among before name then Some name else first_again (name ∷ before) names
+first_again before (name ∷ names) =
+    if is_among before name then Some name else first_again (name ∷ before) names
 
 -- the key that a grouping names
 abbrev pub key_of : GroupingPart → List (List ℕ)
@@ -58,10 +61,13 @@ projected (Flaky below) = []
 projected (Mute below) = []
 projected Custom = []
 
--- the lists of a bolt in which no name is to stand twice: the sources, the key of each input, the projected fields
+-- the lists of a bolt in which no name is to stand twice: the sources, the key of each
+-- input, the projected fields
 abbrev pub bolt_lists : BoltPart → List (List (List ℕ))
 bolt_lists bolt =
-    map (λ (input : Input). input.from) bolt.inputs ∷ (map (λ (input : Input). key_of input.grouping) bolt.inputs ++ projected bolt.operation ∷ [])
+    map (λ (input : Input). input.from) bolt.inputs
+    ∷ (map (λ (input : Input). key_of input.grouping) bolt.inputs
+    ++ projected bolt.operation ∷ [])
 
 -- the lists of a state in which no name is to stand twice: the key, and the sources
 abbrev pub state_lists : StatePart → List (List (List ℕ))
@@ -69,7 +75,9 @@ state_lists state = state.key ∷ state.inputs ∷ []
 
 -- all such lists, the names of the spout and the components first
 abbrev pub name_lists : FileParts → List (List (List ℕ))
-name_lists p = (p.spout.name ∷ component_names p) ∷ p.spout.fields ∷ (flat_map bolt_lists p.bolts ++ flat_map state_lists p.states)
+name_lists p =
+    (p.spout.name ∷ component_names p) ∷ p.spout.fields
+    ∷ (flat_map bolt_lists p.bolts ++ flat_map state_lists p.states)
 
 -- the first name that stands twice in one of these lists
 abbrev pub twice_fault : FileParts → Option TopoFault
@@ -80,23 +88,28 @@ twice_fault p = option_map Twice (first_some (map (first_again []) (name_lists p
 -- the first input that names neither the spout nor a bolt
 abbrev pub source_fault : FileParts → Option TopoFault
 source_fault p =
-    let named = map (λ (input : Input). input.from) (flat_map (λ inputs. inputs) (inputs_by_component p)) in
+    let named =
+    map (λ (input : Input). input.from) (flat_map (λ inputs. inputs) (inputs_by_component p)) in
     option_map NoSource (find (λ name. is_none (source_of p name)) named)
 
 -- the first bolt that can be reached from itself
 abbrev pub cycle_fault : FileParts → Option TopoFault
-cycle_fault p = option_map (λ c. Cycle (name_at p c)) (find (λ c. reaches p c c) (range_with_len 0 (length p.bolts)))
+cycle_fault p =
+    option_map (λ c. Cycle (name_at p c))
+    (find (λ c. reaches p c c) (range_with_len 0 (length p.bolts)))
 
 -- ---- fields
 
 -- two of the sources have different fields
 abbrev pub differ_fault : FileParts → ℕ → Option TopoFault
 differ_fault p c =
-    if list_any (λ from. not (pointwise bytes_eq (fields_of p from) (fields_to p c))) (sources_at p c) then Some (FieldsDiffer (name_at p c)) else None
+    if list_any (λ from. not (pointwise bytes_eq (fields_of p from) (fields_to p c)))
+    (sources_at p c) then Some (FieldsDiffer (name_at p c)) else None
 
 -- the first of some names that is no field of what comes to the component
 abbrev pub field_fault : FileParts → ℕ → List (List ℕ) → Option TopoFault
-field_fault p c names = option_map (NoField (name_at p c)) (find (λ name. not (is_among (fields_to p c) name)) names)
+field_fault p c names =
+    option_map (NoField (name_at p c)) (find (λ name. not (is_among (fields_to p c) name)) names)
 
 -- the operation chooses the tasks of its rows
 abbrev pub is_route : Operation → Bool
@@ -112,7 +125,8 @@ is_route Custom = false
 
 -- the source chooses the task by a route
 abbrev pub chooses : FileParts → Input → Bool
-chooses p input = option_map_or is_route (option_and_then (operation_at p) (source_of p input.from)) false
+chooses p input =
+    option_map_or is_route (option_and_then (operation_at p) (source_of p input.from)) false
 
 -- a direct grouping of a source that does not choose
 abbrev pub direct_fault : FileParts → Input → GroupingPart → Option TopoFault
@@ -120,11 +134,13 @@ direct_fault p input said.Shuffle = None
 direct_fault p input (said.Fields key) = None
 direct_fault p input said.All = None
 direct_fault p input said.Global = None
-direct_fault p input said.Direct = if chooses p input then None else Some (WrongKind (codes "grouping"))
+direct_fault p input said.Direct =
+    if chooses p input then None else Some (WrongKind (codes "grouping"))
 
 -- first the names of the key, then the source of a direct grouping
 abbrev pub input_fault : FileParts → ℕ → Input → Option TopoFault
-input_fault p c input = first_some (field_fault p c (key_of input.grouping) ∷ direct_fault p input input.grouping ∷ [])
+input_fault p c input =
+    first_some (field_fault p c (key_of input.grouping) ∷ direct_fault p input input.grouping ∷ [])
 
 -- the fields that an operation reads
 abbrev pub fields_read : Operation → List (List ℕ)
@@ -141,7 +157,9 @@ fields_read Custom = []
 -- the fields that a component reads: a bolt's operation, or a state's key and then its amount
 abbrev pub reads_at : FileParts → ℕ → List (List ℕ)
 reads_at p c =
-    slice_index_or (map (λ (bolt : BoltPart). fields_read bolt.operation) p.bolts ++ map (λ (state : StatePart). state.key ++ option_to_list state.amount) p.states) c []
+    slice_index_or
+    (map (λ (bolt : BoltPart). fields_read bolt.operation) p.bolts
+    ++ map (λ (state : StatePart). state.key ++ option_to_list state.amount) p.states) c []
 
 -- the field that a length adds is there already, or there are eight without it
 abbrev pub added_fault : List (List ℕ) → Operation → Option TopoFault
@@ -149,13 +167,16 @@ added_fault fields (Split field into) = None
 added_fault fields (Project names) = None
 added_fault fields (Filter field test value) = None
 added_fault fields (Set field value) = None
-added_fault fields (Len field into) = if is_among fields into then Some (Twice into) else range_fault (codes "fields") (pos (length fields + 1)) 1 8
+added_fault fields (Len field into) =
+    if is_among fields into then Some (Twice into)
+    else range_fault (codes "fields") (pos (length fields + 1)) 1 8
 added_fault fields (Route field) = None
 added_fault fields (Flaky below) = None
 added_fault fields (Mute below) = None
 added_fault fields Custom = None
 
--- the first fault of fields of one component: its sources, its inputs in order, what it reads, what it adds
+-- the first fault of fields of one component: its sources, its inputs in order,
+-- what it reads, what it adds
 abbrev pub component_fault : FileParts → ℕ → Option TopoFault
 component_fault p c =
     first_some
@@ -177,7 +198,9 @@ is_transactional Opaque = false
 -- an opaque spout, and the first transactional state
 abbrev pub replay_fault : FileParts → Kind → Option TopoFault
 replay_fault p Transactional = None
-replay_fault p Opaque = option_map (λ (state : StatePart). NotExactlyOnce state.name) (find (λ (state : StatePart). is_transactional state.kind) p.states)
+replay_fault p Opaque =
+    option_map (λ (state : StatePart). NotExactlyOnce state.name)
+    (find (λ (state : StatePart). is_transactional state.kind) p.states)
 
 -- a weight above the most
 abbrev pub weight_fault : ℕ → Option TopoFault

@@ -1,4 +1,5 @@
--- The topology of what a file says. It means something where the file has no fault. This project's own.
+-- The topology of what a file says. It means something where the file has no
+-- fault. This project's own.
 use Rattle.std.specs.Prelude.{ℕ, ◌==◌, List, [], ◌++◌, length, map, filter, Bool, true, false, option_map, unwrap_or, sum, take}
 use Rattle.std.specs.List.{enumerate_from, flat_map}
 use Rattle.std.specs.Option.{option_map_or}
@@ -64,7 +65,8 @@ planned_grouping p from said.Shuffle = grouping.Shuffle
 planned_grouping p from (said.Fields key) = grouping.Fields (numbers_of (fields_of p from) key)
 planned_grouping p from said.All = grouping.All
 planned_grouping p from said.Global = grouping.Global
-planned_grouping p from said.Direct = grouping.Direct (option_map_or (route_field (fields_of p from)) (operation_at p from) 0)
+planned_grouping p from said.Direct =
+    grouping.Direct (option_map_or (route_field (fields_of p from)) (operation_at p from) 0)
 
 -- the two sources are one
 abbrev pub is_origin : Origin → Origin → Bool
@@ -80,7 +82,9 @@ is_from p from input = option_map_or (is_origin from) (source_of p input.from) f
 -- the subscriptions of a component to a source
 abbrev pub subs_of_component : FileParts → Origin → ℕ × List Input → List Sub
 subs_of_component p from component =
-    map (λ (input : Input). record { to = component.0; grouping = planned_grouping p from input.grouping }) (filter (is_from p from) component.1)
+    map (λ (input : Input).
+    record { to = component.0; grouping = planned_grouping p from input.grouping })
+    (filter (is_from p from) component.1)
 
 -- the subscriptions to a source, in the order of their consumers
 abbrev pub planned_subs : FileParts → Origin → List Sub
@@ -90,7 +94,9 @@ planned_subs p from = flat_map (subs_of_component p from) (enumerate_from 0 (inp
 
 -- tasks and parts of the components
 abbrev pub tasks_by_component : FileParts → List ℕ
-tasks_by_component p = map (λ (bolt : BoltPart). bolt.tasks) p.bolts ++ map (λ (state : StatePart). state.parts) p.states
+tasks_by_component p =
+    map (λ (bolt : BoltPart). bolt.tasks) p.bolts
+    ++ map (λ (state : StatePart). state.parts) p.states
 
 -- tasks are numbered through the components
 abbrev pub first_task_of : FileParts → ℕ → ℕ
@@ -133,9 +139,13 @@ plan_of p = record {
   spout_fields = p.spout.fields;
   spout_kind = p.spout.kind;
   batch = p.spout.batch;
-  components = map (planned_bolt p) (enumerate_from 0 p.bolts) ++ map (planned_state p) (enumerate_from (length p.bolts) p.states);
+  components =
+      map (planned_bolt p) (enumerate_from 0 p.bolts)
+      ++ map (planned_state p) (enumerate_from (length p.bolts) p.states);
   spout_subs = planned_subs p origin.Spout;
-  component_subs = map (λ (numbered : ℕ × List Input). planned_subs p (origin.Component numbered.0)) (enumerate_from 0 (inputs_by_component p));
+  component_subs =
+      map (λ (numbered : ℕ × List Input). planned_subs p (origin.Component numbered.0))
+      (enumerate_from 0 (inputs_by_component p));
   ackers = p.ackers;
   pending = p.pending;
   buckets = p.buckets;

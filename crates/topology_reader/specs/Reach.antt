@@ -3,10 +3,12 @@ use Rattle.std.specs.Prelude.{◌≡◌, ◌<◌, ℕ, List, [], ◌∷◌, leng
 use Rattle.topology_form.specs.declared.parts.FileParts.{FileParts}
 use Rattle.topology_reader.specs.Wiring.{feeds}
 
--- bolt a feeds the first of these bolts, each of them feeds the next, and the last feeds component b
+-- bolt a feeds the first of these bolts, each of them feeds the next, and the last feeds component
+-- b
 abbrev pub IsPathThrough : FileParts → ℕ → List ℕ → ℕ → Type 0
 IsPathThrough p a [] b = feeds p a b ≡ true
-IsPathThrough p a (next ∷ bolts) b = (next < length p.bolts) × (feeds p a next ≡ true) × IsPathThrough p next bolts b
+IsPathThrough p a (next ∷ bolts) b =
+    (next < length p.bolts) × (feeds p a next ≡ true) × IsPathThrough p next bolts b
 
 -- there is a path from bolt a to component b, through some bolts or none
 abbrev pub IsPath : FileParts → ℕ → ℕ → Type 0

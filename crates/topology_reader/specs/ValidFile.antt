@@ -1,4 +1,5 @@
--- What a file says that has no fault, in its own names. Components are the bolts and then the states, each in file order. This project's own.
+-- What a file says that has no fault, in its own names. Components are the bolts and then the
+-- states, each in file order. This project's own.
 use Rattle.std.specs.Prelude.{◌≡◌, ◌≢◌, ◌<◌, ◌≤◌, ℕ, List, ◌∷◌, length, All, AllPairs, Some, IfSome, slice_get, sum}
 use Rattle.std.specs.List.{Contains}
 use Rattle.storm_values.specs.Limits.{most_tasks_in_all, most_weight}
@@ -45,12 +46,13 @@ IsRoute _ = ⊥
 -- the source is a bolt that chooses the tasks of its rows
 abbrev pub IsRouteAt : FileParts → Origin → Type 0
 IsRouteAt p origin.Spout = ⊥
-IsRouteAt p (origin.Component b) = (bolt : BoltPart) × (slice_get p.bolts b ≡ Some bolt) × IsRoute bolt.operation
+IsRouteAt p (origin.Component b) =
+    (bolt : BoltPart) × (slice_get p.bolts b ≡ Some bolt) × IsRoute bolt.operation
 
 -- ---- components
 
--- An input names a source that has these fields. The names of its key are among them, none twice, and it is grouped
--- direct where its source is a route alone.
+-- An input names a source that has these fields. The names of its key are among them, none twice,
+-- and it is grouped direct where its source is a route alone.
 pub record IsValidInput (p : FileParts) (fields : List (List ℕ)) (input : Input) : Type 0 where
   pub from : Origin
   pub named : source_of p input.from ≡ Some from
@@ -60,7 +62,8 @@ pub record IsValidInput (p : FileParts) (fields : List (List ℕ)) (input : Inpu
   pub key_fields : All (Contains fields) (key_of input.grouping)
   pub direct : input.grouping ≡ said.Direct → IsRouteAt p from
 
--- the inputs of component c name different sources, all with the same fields, and what it reads is among these
+-- the inputs of component c name different sources, all with the same fields, and what
+-- it reads is among these
 pub record IsValidComponent (p : FileParts) (c : ℕ) : Type 0 where
   pub distinct : AllPairs (λ (a b : Input). a.from ≢ b.from) (inputs_at p c)
   pub inputs : All (IsValidInput p (fields_to p c)) (inputs_at p c)
@@ -71,7 +74,9 @@ pub record IsValidComponent (p : FileParts) (c : ℕ) : Type 0 where
 -- components can be numbered so that each has a greater number than each bolt whose rows it takes
 pub record IsNumbered (p : FileParts) : Type 0 where
   pub number : ℕ → ℕ
-  pub grows : (b c : ℕ) → All (λ (input : Input). source_of p input.from ≡ Some (origin.Component b) → number b < number c) (inputs_at p c)
+  pub grows : (b c : ℕ)
+      → All (λ (input : Input).
+      source_of p input.from ≡ Some (origin.Component b) → number b < number c) (inputs_at p c)
 
 -- names, sources, fields, kinds and numbers are such that the file has a plan
 pub record IsValidFile (p : FileParts) : Type 0 where
@@ -81,7 +86,9 @@ pub record IsValidFile (p : FileParts) : Type 0 where
   pub numbered : IsNumbered p
   pub spout_fields : fields_of p origin.Spout ≡ p.spout.fields
   -- a bolt's operation makes its fields of those that come to it
-  pub bolt_fields : (c : ℕ) → IfSome (slice_get p.bolts c) (λ bolt. fields_of p (origin.Component c) ≡ fields_after bolt.operation (fields_to p c))
+  pub bolt_fields : (c : ℕ)
+      → IfSome (slice_get p.bolts c)
+      (λ bolt. fields_of p (origin.Component c) ≡ fields_after bolt.operation (fields_to p c))
   pub fields : (from : Origin) → IsSource p from → HasFields p from
   pub components : (c : ℕ) → c < component_count p → IsValidComponent p c
   -- an opaque spout has no transactional state

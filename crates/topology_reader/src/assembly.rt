@@ -26,12 +26,14 @@ use topology_plan::{Component, Made, Plan};
 
 /// The plan of a file's parts, or the first fault of what they say.
 ///
-/// The faults in their order: a name that stands twice, an input without a source, a cycle, fields, a transactional
-/// state under an opaque spout, the tasks in all, and the weight.
+/// The faults in their order: a name that stands twice, an input without a source, a cycle, fields,
+/// a transactional state under an opaque spout, the tasks in all, and the weight.
 pub fn plan_from(alloc: Global, parts: &FileParts) -> Result<Plan, TopoFault>
     requires { IsInRange parts.now }
-    ensures plan { IfOk result (λ plan. (meaning_fault parts.now ≡ None) × (plan ≡ plan_of parts.now)) }
-    ensures fault { IfErr result (λ fault. fault ≢ TopoFault.Memory → meaning_fault parts.now ≡ Some fault) }
+    ensures plan { IfOk result
+        (λ plan. (meaning_fault parts.now ≡ None) × (plan ≡ plan_of parts.now)) }
+    ensures fault { IfErr result
+        (λ fault. fault ≢ TopoFault.Memory → meaning_fault parts.now ≡ Some fault) }
 {
     let wiring = checked_wiring(alloc, parts)?;
     let made = make(alloc, &wiring)?;
@@ -42,8 +44,10 @@ pub fn plan_from(alloc: Global, parts: &FileParts) -> Result<Plan, TopoFault>
 /// The wiring of a file that has no fault but maybe of its size.
 fn checked_wiring<'p>(alloc: Global, parts: &'p FileParts) -> Result<Wiring<'p>, TopoFault>
     requires { IsInRange parts.now }
-    ensures wiring { IfOk result (λ wiring. (fault_before_size parts.now ≡ None) × (wiring ≡ parts.now)) }
-    ensures fault { IfErr result (λ fault. fault ≢ TopoFault.Memory → fault_before_size parts.now ≡ Some fault) }
+    ensures wiring { IfOk result
+        (λ wiring. (fault_before_size parts.now ≡ None) × (wiring ≡ parts.now)) }
+    ensures fault { IfErr result
+        (λ fault. fault ≢ TopoFault.Memory → fault_before_size parts.now ≡ Some fault) }
 {
     check_twice(alloc, parts)?;
     let sources = Sources::of(alloc, parts)?;

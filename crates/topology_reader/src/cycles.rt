@@ -34,7 +34,8 @@ pub(crate) fn check_cycles(alloc: Global, sources: &Sources<'_>) -> Result<(), T
 /// The first set that holds its own number.
 fn own_member(sets: &[u64]) -> Option<usize>
     requires few { length sets.now ≤ 64 }
-    ensures { result ≡ find (λ c. has (slice_index sets.now c) c) (range_with_len 0 (length sets.now)) }
+    ensures { result
+        ≡ find (λ c. has (slice_index sets.now c) c) (range_with_len 0 (length sets.now)) }
 {
     for (c, set) in sets.iter().enumerate() {
         if has(*set, c) {
@@ -61,7 +62,8 @@ fn reach_sets(alloc: Global, index: &Index<'_>) -> Result<Vec<u64>, Memory>
 fn lead_through(sets: &mut [u64], n: usize)
     requires within { n < length sets.old }
     requires few { length sets.old ≤ 64 }
-    ensures { sets.new ≡ map (λ set. if has set n then bit_or set (slice_index sets.old n) else set) sets.old }
+    ensures { sets.new
+        ≡ map (λ set. if has set n then bit_or set (slice_index sets.old n) else set) sets.old }
 {
     let before = sets[n];
     for set in sets.iter_mut() {
@@ -87,7 +89,8 @@ fn direct_sources(alloc: Global, index: &Index<'_>) -> Result<Vec<u64>, Memory>
 /// The bolts among the sources of some inputs.
 fn bolt_sources(index: &Index<'_>, inputs: &[Input]) -> u64
     requires few { length index.now.bolts ≤ 32 }
-    ensures { (a : ℕ) → has result a ≡ list_any (is_component a) (input_sources index.now inputs.now) }
+    ensures { (a : ℕ)
+        → has result a ≡ list_any (is_component a) (input_sources index.now inputs.now) }
 {
     let mut set = 0;
     for input in inputs {
@@ -99,7 +102,8 @@ fn bolt_sources(index: &Index<'_>, inputs: &[Input]) -> u64
 /// The bolt of this name alone, or no bolt.
 fn source_set(index: &Index<'_>, name: &str) -> u64
     requires few { length index.now.bolts ≤ 32 }
-    ensures { (a : ℕ) → has result a ≡ option_map_or (is_component a) (source_of index.now name.now) false }
+    ensures { (a : ℕ)
+        → has result a ≡ option_map_or (is_component a) (source_of index.now name.now) false }
 {
     match index.source_of(name) {
         Some(Origin::Component(a)) => 1 << a,

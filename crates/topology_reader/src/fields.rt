@@ -24,7 +24,8 @@ struct FieldsLeft<'p> {
 
 impl<'p> FieldsLeft<'p> {
     fn of_source(&self, from: Origin, known: &[Option<Names>]) -> Result<Names, Memory>
-        ensures { IfOk result (λ fields. fields ≡ read self.now.parts.now.spout.fields [] known.now from) }
+        ensures { IfOk result
+            (λ fields. fields ≡ read self.now.parts.now.spout.fields [] known.now from) }
     {
         match from {
             Origin::Spout => self.parts.spout.fields.copy(),
@@ -60,8 +61,8 @@ impl<'p> Along<Names> for FieldsLeft<'p> {
     }
 }
 
-/// The graph of a file without a cycle with the fields of each source and the order in which fields are checked.
-/// Contracts see it as what the file says.
+/// The graph of a file without a cycle with the fields of each source and the order in which fields
+/// are checked. Contracts see it as what the file says.
 #[derive(Drop)]
 pub(crate) struct Wiring<'p> {
     alloc: Global,
@@ -82,11 +83,13 @@ impl<'p> Model for Wiring<'p> {
 
     ghost view = { λ w. w.sources };
 
-    ghost invariant = { λ w. (w.fields.items ≡ field_table w.sources) × (w.order.items ≡ by_depth w.sources) };
+    ghost invariant = { λ w.
+        (w.fields.items ≡ field_table w.sources) × (w.order.items ≡ by_depth w.sources) };
 }
 
 impl<'p> Wiring<'p> {
-    /// Each component and each subscription is looked at once for the fields, and once for the depths.
+    /// Each component and each subscription is looked at once for the fields, and once for the
+    /// depths.
     pub(crate) fn of(alloc: Global, sources: Sources<'p>) -> Result<Self, Memory>
         requires range { IsInRange sources }
         requires acyclic { cycle_fault sources ≡ None }

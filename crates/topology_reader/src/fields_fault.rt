@@ -77,7 +77,8 @@ fn check_same(wiring: &Wiring<'_>, c: usize) -> Result<(), TopoFault>
 fn differs(wiring: &Wiring<'_>, c: usize) -> bool
     ensures { result
         ≡ list_any
-        (λ (feed : Feed). not (pointwise bytes_eq (fields_of wiring.now feed.from) (fields_to wiring.now c)))
+        (λ (feed : Feed).
+        not (pointwise bytes_eq (fields_of wiring.now feed.from) (fields_to wiring.now c)))
         (feeds_at (graph_of wiring.now) c) }
 {
     let fields = wiring.fields_to(c);

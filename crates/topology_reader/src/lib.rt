@@ -1,4 +1,5 @@
-//! Reads a topology file: what is wrong with what it says, and its plan. The form is `topology_form`'s.
+//! Reads a topology file: what is wrong with what it says, and its plan. The form is
+//! `topology_form`'s.
 #![tactic(auto)]
 
 mod assembly;

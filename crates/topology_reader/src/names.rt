@@ -50,7 +50,8 @@ impl Named for Input {
 
 /// The first name that an earlier item has too.
 fn first_again<'a, N: Named>(alloc: Global, items: &'a [N]) -> Result<Option<&'a str>, Memory>
-    ensures { IfOk result (λ again. option_copied again ≡ first_again [] (map N.name_of items.now)) }
+    ensures { IfOk result
+        (λ again. option_copied again ≡ first_again [] (map N.name_of items.now)) }
 {
     let mut seen = IndexSet::with_capacity(alloc, items.len())?;
     for item in items {
@@ -81,7 +82,8 @@ fn sourceless<'a>(index: &'a Index<'_>) -> Option<&'a str>
 }
 
 fn bolt_sourceless<'a>(index: &'a Index<'_>) -> Option<&'a str>
-    ensures { option_copied result ≡ sourceless_in index.now (flat_map bolt_sources index.now.bolts) }
+    ensures { option_copied result
+        ≡ sourceless_in index.now (flat_map bolt_sources index.now.bolts) }
 {
     for bolt in index.parts().bolts.as_slice() {
         if let Some(name) = sourceless_in(index, bolt.inputs.as_slice()) {
@@ -92,7 +94,8 @@ fn bolt_sourceless<'a>(index: &'a Index<'_>) -> Option<&'a str>
 }
 
 fn state_sourceless<'a>(index: &'a Index<'_>) -> Option<&'a str>
-    ensures { option_copied result ≡ sourceless_in index.now (flat_map state_sources index.now.states) }
+    ensures { option_copied result
+        ≡ sourceless_in index.now (flat_map state_sources index.now.states) }
 {
     for state in index.parts().states.as_slice() {
         if let Some(name) = sourceless_in(index, state.inputs.as_slice()) {
@@ -165,7 +168,8 @@ fn name_again(alloc: Global, names: &[Txt]) -> Result<Option<&str>, Memory>
 }
 
 fn bolts_again(alloc: Global, bolts: &[BoltPart]) -> Result<Option<&str>, Memory>
-    ensures { IfOk result (λ again. option_copied again ≡ again_among (flat_map bolt_lists bolts.now)) }
+    ensures { IfOk result
+        (λ again. option_copied again ≡ again_among (flat_map bolt_lists bolts.now)) }
 {
     for bolt in bolts {
         if let Some(name) = bolt_again(alloc, bolt)? {
@@ -188,7 +192,8 @@ fn bolt_again(alloc: Global, bolt: &BoltPart) -> Result<Option<&str>, Memory>
 }
 
 fn keys_again(alloc: Global, inputs: &[Input]) -> Result<Option<&str>, Memory>
-    ensures { IfOk result (λ again. option_copied again ≡ again_among (flat_map key_lists inputs.now)) }
+    ensures { IfOk result
+        (λ again. option_copied again ≡ again_among (flat_map key_lists inputs.now)) }
 {
     for input in inputs {
         if let Some(name) = name_again(alloc, key_of(&input.grouping))? {
@@ -199,7 +204,8 @@ fn keys_again(alloc: Global, inputs: &[Input]) -> Result<Option<&str>, Memory>
 }
 
 fn states_again(alloc: Global, states: &[StatePart]) -> Result<Option<&str>, Memory>
-    ensures { IfOk result (λ again. option_copied again ≡ again_among (flat_map state_lists states.now)) }
+    ensures { IfOk result
+        (λ again. option_copied again ≡ again_among (flat_map state_lists states.now)) }
 {
     for state in states {
         if let Some(name) = state_again(alloc, state)? {

@@ -1,5 +1,5 @@
-//! The depth and the weight of a topology. Both are computed for all sources at once, from one round to the next,
-//! where each round reads every subscription once.
+//! The depth and the weight of a topology. Both are computed for all sources at once, from one
+//! round to the next, where each round reads every subscription once.
 
 ghost use Rattle.std.specs.Prelude.{◌≡◌, ◌<◌, ◌+◌, ◌^◌, ◌++◌, map, length, slice_index, IfOk, OnOk};
 ghost use Rattle.topology_reader.specs.steps.Rounds.{items_of, feeds_among, feeds_to, feeds_of, depth_at, depths_by, tuples_over, tuples_by};

@@ -127,7 +127,8 @@ pub(crate) fn planned_grouping(
 /// The field by which a source chooses the task.
 fn chosen_field(wiring: &Wiring<'_>, from: Origin) -> u32
     requires { IsInRange wiring.now }
-    ensures { result ≡ option_map_or (route_field (fields_of wiring.now from)) (operation_at wiring.now from) 0 }
+    ensures { result
+        ≡ option_map_or (route_field (fields_of wiring.now from)) (operation_at wiring.now from) 0 }
 {
     match wiring.sources().operation_at(from) {
         Some(operation) => route_field(fields_of(wiring, from), operation),
@@ -226,7 +227,8 @@ fn add_bolts(
     requires { IsInRange wiring.now }
     ensures next { IfOk result (λ next. next ≡ first_task_of wiring.now (length wiring.now.bolts)) }
     ensures bolts { OnOk result (components.new.items
-        ≡ components.old.items ++ map (planned_bolt wiring.now) (enumerate_from 0 wiring.now.bolts)) }
+        ≡ components.old.items
+        ++ map (planned_bolt wiring.now) (enumerate_from 0 wiring.now.bolts)) }
 {
     let bolts = wiring.sources().parts().bolts.as_slice();
     let mut first_task = 0;
@@ -248,7 +250,8 @@ fn add_states(
     requires first_task { first_task ≡ first_task_of wiring.now (length wiring.now.bolts) }
     ensures { OnOk result (components.new.items
         ≡ components.old.items
-        ++ map (planned_state wiring.now) (enumerate_from (length wiring.now.bolts) wiring.now.states)) }
+        ++ map (planned_state wiring.now)
+        (enumerate_from (length wiring.now.bolts) wiring.now.states)) }
 {
     let bolt_count = wiring.sources().bolt_count();
     let states = wiring.sources().parts().states.as_slice();

@@ -16,15 +16,17 @@ use storm_values::MOST_TOPOLOGY_BYTES;
 use topology_form::{TopoFault, parts_from};
 use topology_plan::Plan;
 
-/// The plan of a topology file, or the file's first fault: its length, JSON, its form, and then what it says.
+/// The plan of a topology file, or the file's first fault: its length, JSON, its
+/// form, and then what it says.
 ///
-/// Time is linear in the bytes; the depth and the weight take a walk over all inputs for each of the at most 40
-/// components besides.
+/// Time is linear in the bytes; the depth and the weight take a walk over all inputs for each of
+/// the at most 40 components besides.
 pub fn read_topology(alloc: Global, bytes: &[u8]) -> Result<Plan, TopoFault>
     ensures plan { IfOk result (λ plan. IsFilePlan bytes.now plan) }
     ensures valid { IfOk result (λ plan. IsValid plan) }
     ensures wired { IfOk result (λ plan. IsWired plan) }
-    ensures fault { IfErr result (λ fault. fault ≢ TopoFault.Memory → first_fault bytes.now ≡ Some fault) }
+    ensures fault { IfErr result
+        (λ fault. fault ≢ TopoFault.Memory → first_fault bytes.now ≡ Some fault) }
 {
     if bytes.len() > MOST_TOPOLOGY_BYTES {
         return Err(TopoFault::TooLong(bytes.len()));

@@ -38,7 +38,8 @@ fn feed_of(index: &Index<'_>, name: &Txt, copies: u32) -> Option<Feed>
 }
 
 fn bolt_feeds(alloc: Global, index: &Index<'_>, bolt: &BoltPart) -> Result<Vec<Feed>, Memory>
-    ensures { IfOk result (λ feeds. feeds.items ≡ feeds_of index.now bolt.now.tasks bolt.now.inputs) }
+    ensures { IfOk result
+        (λ feeds. feeds.items ≡ feeds_of index.now bolt.now.tasks bolt.now.inputs) }
 {
     let tasks = bolt.tasks;
     bolt.inputs
@@ -49,7 +50,8 @@ fn bolt_feeds(alloc: Global, index: &Index<'_>, bolt: &BoltPart) -> Result<Vec<F
 }
 
 fn state_feeds(alloc: Global, index: &Index<'_>, state: &StatePart) -> Result<Vec<Feed>, Memory>
-    ensures { IfOk result (λ feeds. feeds.items ≡ filter_map (λ name. feed_of index.now name 1) state.now.inputs) }
+    ensures { IfOk result
+        (λ feeds. feeds.items ≡ filter_map (λ name. feed_of index.now name 1) state.now.inputs) }
 {
     let inputs = state.inputs.as_slice();
     inputs
@@ -201,7 +203,8 @@ fn feeds_of_bolts(alloc: Global, index: &Index<'_>) -> Result<Vec<Seq<Feed>>, Me
 fn add_states(alloc: Global, index: &Index<'_>, feeds: &mut Vec<Seq<Feed>>) -> Result<(), Memory>
     ensures { OnOk result (feeds.new.items
         ≡ feeds.old.items
-        ++ map (λ (state : StatePart). filter_map (λ name. feed_of index.now name 1) state.inputs) index.now.states) }
+        ++ map (λ (state : StatePart). filter_map (λ name. feed_of index.now name 1) state.inputs)
+        index.now.states) }
 {
     for state in index.parts().states.as_slice() {
         feeds.push(Seq::from_vec(state_feeds(alloc, index, state)?))?;

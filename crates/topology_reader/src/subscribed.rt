@@ -44,8 +44,10 @@ impl Subs {
     /// inputs but for the search of their sources' names.
     pub(crate) fn of(alloc: Global, wiring: &Wiring<'_>) -> Result<Self, Memory>
         requires { IsInRange wiring.now }
-        ensures spout { IfOk result (λ subs. subs.from_spout ≡ planned_subs wiring.now origin.Spout) }
-        ensures components { IfOk result (λ subs. subs.from_components ≡ planned_component_subs wiring.now) }
+        ensures spout { IfOk result
+            (λ subs. subs.from_spout ≡ planned_subs wiring.now origin.Spout) }
+        ensures components { IfOk result
+            (λ subs. subs.from_components ≡ planned_component_subs wiring.now) }
     {
         let mut subs = Subs::none(alloc, wiring.sources().count())?;
         subs.add_bolts(alloc, wiring)?;
@@ -64,7 +66,8 @@ impl Subs {
     fn add_bolts(&mut self, alloc: Global, wiring: &Wiring<'_>) -> Result<(), Memory>
         requires { IsInRange wiring.now }
         ensures { OnOk result (self.new
-            ≡ fold (with_inputs wiring.now) self.old (enumerate_from 0 (map (λ (bolt : BoltPart). bolt.inputs) wiring.now.bolts))) }
+            ≡ fold (with_inputs wiring.now) self.old
+            (enumerate_from 0 (map (λ (bolt : BoltPart). bolt.inputs) wiring.now.bolts))) }
     {
         let bolts = wiring.sources().parts().bolts.as_slice();
         for (c, bolt) in bolts.iter().enumerate() {
@@ -76,7 +79,8 @@ impl Subs {
     fn add_states(&mut self, alloc: Global, wiring: &Wiring<'_>) -> Result<(), Memory>
         requires { IsInRange wiring.now }
         ensures { OnOk result (self.new
-            ≡ fold (with_inputs wiring.now) self.old (enumerate_from (length wiring.now.bolts) (map state_inputs wiring.now.states))) }
+            ≡ fold (with_inputs wiring.now) self.old
+            (enumerate_from (length wiring.now.bolts) (map state_inputs wiring.now.states))) }
     {
         let bolt_count = wiring.sources().bolt_count();
         let states = wiring.sources().parts().states.as_slice();
@@ -158,7 +162,8 @@ impl Subs {
         state: &StatePart,
     ) -> Result<(), Memory>
         requires { IsInRange wiring.now }
-        ensures { OnOk result (self.new ≡ with_inputs wiring.now self.old (to, state_inputs state.now)) }
+        ensures { OnOk result
+            (self.new ≡ with_inputs wiring.now self.old (to, state_inputs state.now)) }
     {
         let said = GroupingPart::Fields(state.key.copy()?);
         self.add_names(alloc, wiring, to, state.inputs.as_slice(), &said)
@@ -174,7 +179,8 @@ impl Subs {
     ) -> Result<(), Memory>
         requires { IsInRange wiring.now }
         ensures { OnOk result (self.new
-            ≡ fold (with_input wiring.now to) self.old (map (λ name. record { from = name; grouping = said.now }) names.now)) }
+            ≡ fold (with_input wiring.now to) self.old
+            (map (λ name. record { from = name; grouping = said.now }) names.now)) }
     {
         for name in names {
             self.add_input(alloc, wiring, to, name, said)?;

@@ -26,8 +26,8 @@ fn bad_columns(alloc: Global, line: &str) -> Result<(), Mismatch> {
     Err(Mismatch::Case(String::from_str(alloc, line)?))
 }
 
-/// Reads the valid file with the changes of each line: a part and what stands in its place, as often as the line says,
-/// and what is told of the file then.
+/// Reads the valid file with the changes of each line: a part and what stands in its place, as
+/// often as the line says, and what is told of the file then.
 pub fn check_changes(alloc: Global, table: &str) -> Result<(), Mismatch> {
     for line in table.trim().split('\n') {
         check_change(alloc, line)?;
@@ -48,7 +48,8 @@ fn check_change(alloc: Global, line: &str) -> Result<(), Mismatch> {
     bad_columns(alloc, line)
 }
 
-/// Reads the valid file with the first bolt's operation of each line, which ends with what is told of the file then.
+/// Reads the valid file with the first bolt's operation of each line, which ends with what
+/// is told of the file then.
 pub fn check_operations(alloc: Global, table: &str) -> Result<(), Mismatch> {
     for line in table.trim().split('\n') {
         check_operation(alloc, line)?;
@@ -66,8 +67,8 @@ fn check_operation(alloc: Global, line: &str) -> Result<(), Mismatch> {
     }
 }
 
-/// Reads the valid file with the two changes of each line, and with the second alone. Each change stands with what is
-/// told of its fault, and the first is told before the second.
+/// Reads the valid file with the two changes of each line, and with the second alone. Each change
+/// stands with what is told of its fault, and the first is told before the second.
 pub fn check_pairs(alloc: Global, table: &str) -> Result<(), Mismatch> {
     for line in table.trim().split('\n') {
         check_pair(alloc, line)?;

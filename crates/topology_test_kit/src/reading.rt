@@ -19,7 +19,8 @@ pub fn told(alloc: Global, bytes: &[u8]) -> Result<String, Memory>
 }
 
 fn text_of(alloc: Global, fault: &TopoFault) -> Result<String, Memory>
-    ensures { IfOk result (λ text. (fault.now ≢ TopoFault.Memory) × (string_bytes text ≡ fault_text fault.now)) }
+    ensures { IfOk result
+        (λ text. (fault.now ≢ TopoFault.Memory) × (string_bytes text ≡ fault_text fault.now)) }
 {
     if matches!(fault, TopoFault::Memory) {
         return Err(AllocError);

@@ -26,7 +26,8 @@ course_by custom body row attempt = course_of (exec_by custom body row attempt)
 -- what an attempt at a node comes to; nothing comes of one without a component
 abbrev pub course_at : Topology → Custom → ℕ → Node → Course
 course_at t custom attempt node =
-    option_map_or (λ (c : Component). course_by custom c.body node.row attempt) (slice_get t.components node.component) mute
+    option_map_or (λ (c : Component). course_by custom c.body node.row attempt)
+    (slice_get t.components node.component) mute
 
 -- how trees grow where each root has these rows of the spout
 abbrev pub growth_of : Topology → Custom → (Root → List (List Value)) → Growth Node

@@ -1,4 +1,5 @@
--- Lists of messages of one root: the edges that occur in them, and what they say of the root's tuple tree.
+-- Lists of messages of one root: the edges that occur in them, and what they say
+-- of the root's tuple tree.
 use Rattle.std.specs.Prelude.{◌≡◌, ◌≢◌, ◌≤◌, ℕ, ◌%◌, List, [], ◌∷◌, length, Some}
 use Rattle.std.specs.List.{flat_map, AllByRecursion}
 use Rattle.std.specs.Option.{option_to_list}
@@ -72,16 +73,20 @@ abbrev pub consumes : List ℕ → AckMsg → ℕ
 consumes path m = tickets.consumes path (said m)
 
 module _ (t : Topology) (custom : Custom) (rows : List (List Value)) (root : Root) where
-  -- A message says what is so in the tree of the root's rows: an init has exactly the paths of one number, each once
-  -- and in order; a done consumes a node that goes on at this attempt, produces exactly its children in order, and
-  -- carries exactly its writes; a failure names a node that fails at this attempt.
+  -- A message says what is so in the tree of the root's rows: an init has exactly the paths of
+  -- one number, each once and in order; a done consumes a node that goes on at this attempt,
+  -- produces exactly its children in order, and carries exactly its writes; a failure names a
+  -- node that fails at this attempt.
   abbrev pub SaysTrue : AckMsg → Type 0
   SaysTrue (msg.Init m) = paths_of m.edges ≡ paths_below [] 0 (length (kids t origin.Spout rows))
   SaysTrue (msg.Done m) =
-      (node : Node) × (node_at t custom rows m.consumed.path ≡ Some node) × (course_at t custom root.attempt node ≡ goes)
+      (node : Node) × (node_at t custom rows m.consumed.path ≡ Some node)
+      × (course_at t custom root.attempt node ≡ goes)
       × (paths_of m.produced ≡ paths_below m.consumed.path 0 (length (kids_of t custom node)))
       × (m.writes ≡ option_to_list (write_of t node))
-  SaysTrue (msg.Failed m) = (node : Node) × (node_at t custom rows m.path ≡ Some node) × (course_at t custom root.attempt node ≡ fails)
+  SaysTrue (msg.Failed m) =
+      (node : Node) × (node_at t custom rows m.path ≡ Some node)
+      × (course_at t custom root.attempt node ≡ fails)
 
   -- a true message is about the root, and says what is so
   pub record IsTrueOf (m : AckMsg) : Type 0 where
@@ -93,9 +98,11 @@ module _ (t : Topology) (custom : Custom) (rows : List (List Value)) (root : Roo
   AreTrueOf list = AllByRecursion IsTrueOf list
 
 -- there is an init, and each path of the tree is consumed
-pub record Covers (t : Topology) (custom : Custom) (rows : List (List Value)) (list : List AckMsg) : Type 0 where
+pub record Covers (t : Topology) (custom : Custom) (rows : List (List Value))
+    (list : List AckMsg) : Type 0 where
   pub begins : 1 ≤ weigh is_init list
-  pub consumed : (path : List ℕ) (node : Node) → node_at t custom rows path ≡ Some node → 1 ≤ weigh (consumes path) list
+  pub consumed : (path : List ℕ) (node : Node) → node_at t custom rows path ≡ Some node
+      → 1 ≤ weigh (consumes path) list
 
 -- there is at most one init, and no path is consumed twice
 pub record IsSingle (list : List AckMsg) : Type 0 where
@@ -105,7 +112,10 @@ pub record IsSingle (list : List AckMsg) : Type 0 where
 -- all occurrences of one path have one id
 abbrev pub IsSteady : List AckMsg → Type 0
 IsSteady list =
-    AllByRecursion (λ (a : Edge). AllByRecursion (λ (b : Edge). a.path ≡ b.path → a.id ≡ b.id) (occurrences list)) (occurrences list)
+    AllByRecursion
+    (λ (a : Edge).
+    AllByRecursion (λ (b : Edge). a.path ≡ b.path → a.id ≡ b.id) (occurrences list))
+    (occurrences list)
 
 -- ---- words of 0
 
@@ -125,4 +135,6 @@ pub record Coincides (list : List AckMsg) : Type 0 where
 
 -- no set of open edges but the empty one has ids that XOR to 0
 abbrev pub NoneCancel : List AckMsg → Type 0
-NoneCancel list = (edges : List Edge) → ((e : Edge) → times e edges ≤ times e (occurrences list) % 2) → edges ≢ [] → xor_ids edges ≢ 0
+NoneCancel list =
+    (edges : List Edge) → ((e : Edge) → times e edges ≤ times e (occurrences list) % 2) → edges ≢ []
+    → xor_ids edges ≢ 0

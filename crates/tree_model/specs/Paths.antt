@@ -9,7 +9,8 @@ use Rattle.tree_model.specs.declared.write.Write.{Write}
 use Rattle.tree_model.specs.Trees.{node_at, IsInTree, write_of}
 
 -- exactly the paths of the tree of the spout's rows, each once and in order
-pub record ArePathsOf (t : Topology) (custom : Custom) (rows : List (List Value)) (paths : List (List ℕ)) : Type 0 where
+pub record ArePathsOf (t : Topology) (custom : Custom) (rows : List (List Value))
+    (paths : List (List ℕ)) : Type 0 where
   pub exact : (path : List ℕ) → IsInTree t custom rows path ↔ Contains paths path
   pub ordered : IsStrictlySortedBy path_cmp paths
 

@@ -1,4 +1,5 @@
--- The tables that writes leave: for each state its keys in order, each with the fold of its amounts.
+-- The tables that writes leave: for each state its keys in order, each with the fold of its
+-- amounts.
 use Rattle.std.specs.Prelude.{◌≡◌, ℕ, ◌==◌, ◌&&◌, ℤ, pos, ◌+ℤ◌, List, [], ◌∷◌, ◌++◌, length, map, filter, fold, slice_index_or, Option, Some, None, option_map, IfSome, option_and_then, slice_get, unwrap_or}
 use Rattle.std.specs.List.{filter_map, range_with_len, find, AllZip}
 use Rattle.std.specs.List.Sorted.{IsStrictlySortedBy}
@@ -18,7 +19,8 @@ use Rattle.tree_model.specs.declared.write.Table.{Table}
 
 -- ---- the value of a key
 
--- A key's value after one more amount, from its value before, if it has one. Sums end at the ends of 128 bits.
+-- A key's value after one more amount, from its value before, if it has one. Sums end
+-- at the ends of 128 bits.
 abbrev pub folded : Fold → Option ℤ → ℤ → ℤ
 folded Count old amount = saturate_signed w128 (unwrap_or old (pos 0) +ℤ amount)
 folded Sum old amount = saturate_signed w128 (unwrap_or old (pos 0) +ℤ amount)
@@ -29,19 +31,23 @@ folded Max (Some old) amount = int_max old amount
 -- the amounts that are written for a key of a state, in order
 abbrev pub amounts_of : List Write → ℕ → List ℕ → List ℤ
 amounts_of writes state key =
-    map (λ (write : Write). write.amount) (filter (λ (write : Write). (write.state == state) && bytes_eq write.key key) writes)
+    map (λ (write : Write). write.amount)
+    (filter (λ (write : Write). (write.state == state) && bytes_eq write.key key) writes)
 
 -- the value of a key of a state, where something is written for it
 abbrev pub base : Fold → List Write → ℕ → List ℕ → Option ℤ
-base by writes state key = fold (λ old amount. Some (folded by old amount)) None (amounts_of writes state key)
+base by writes state key =
+    fold (λ old amount. Some (folded by old amount)) None (amounts_of writes state key)
 
 -- ---- tables
 
 -- the value beside a key
 abbrev pub value_at : List Pair → List ℕ → Option ℤ
-value_at pairs key = option_map (λ (pair : Pair). pair.value) (find (λ (pair : Pair). bytes_eq key pair.key) pairs)
+value_at pairs key =
+    option_map (λ (pair : Pair). pair.value) (find (λ (pair : Pair). bytes_eq key pair.key) pairs)
 
--- the pairs have each key that is written for a state, once and in the order of their bytes, with its value
+-- the pairs have each key that is written for a state, once and in the order of
+-- their bytes, with its value
 pub record IsTable (by : Fold) (writes : List Write) (state : ℕ) (pairs : List Pair) : Type 0 where
   pub ordered : IsStrictlySortedBy (slice_cmp nat_cmp) (map (λ (pair : Pair). pair.key) pairs)
   pub values : (key : List ℕ) → value_at pairs key ≡ base by writes state key
@@ -54,11 +60,14 @@ pub record StateOf : Type 0 where
 
 abbrev pub state_by : ℕ → Component → Body → Option StateOf
 state_by number component (Bolt op) = None
-state_by number component (State spec) = Some (record { number = number; name = component.name; by = spec.fold })
+state_by number component (State spec) =
+    Some (record { number = number; name = component.name; by = spec.fold })
 
 -- the state of a component number
 abbrev pub state_at : Topology → ℕ → Option StateOf
-state_at t number = option_and_then (λ (component : Component). state_by number component component.body) (slice_get t.components number)
+state_at t number =
+    option_and_then (λ (component : Component). state_by number component component.body)
+    (slice_get t.components number)
 
 -- the states of a topology, in the order of their numbers
 abbrev pub states_of : Topology → List StateOf
@@ -76,9 +85,12 @@ AreTables t writes tables = AllZip (IsTableOf writes) (states_of t) tables
 -- ---- running tables
 
 -- the pairs of each component, where a state's are its table
-pub record AreRunningTables (t : Topology) (writes : List Write) (running : List (List Pair)) : Type 0 where
+pub record AreRunningTables (t : Topology) (writes : List Write)
+    (running : List (List Pair)) : Type 0 where
   pub count : length running ≡ length t.components
-  pub tables : (number : ℕ) → IfSome (state_at t number) (λ state. IsTable state.by writes number (slice_index_or running number []))
+  pub tables : (number : ℕ)
+      → IfSome (state_at t number)
+      (λ state. IsTable state.by writes number (slice_index_or running number []))
 
 -- where a component is a state, one more table with its name and some pairs
 abbrev pub AddsTable : Option StateOf → List Pair → List Table → List Table → Type 0

@@ -47,31 +47,39 @@ rows_by custom (State spec) row = []
 -- the children of a node
 abbrev pub kids_of : Topology → Custom → Node → List Node
 kids_of t custom node =
-    option_map_or (λ (c : Component). kids t (origin.Component node.component) (rows_by custom c.body node.row)) (slice_get t.components node.component) []
+    option_map_or
+    (λ (c : Component).
+    kids t (origin.Component node.component) (rows_by custom c.body node.row))
+    (slice_get t.components node.component) []
 
 -- the node at a path from a node: itself at the empty path, and else each number picks a child
 abbrev pub node_from : Topology → Custom → Node → List ℕ → Option Node
 node_from t custom node [] = Some node
-node_from t custom node (i ∷ path) = option_and_then (λ kid. node_from t custom kid path) (slice_get (kids_of t custom node) i)
+node_from t custom node (i ∷ path) =
+    option_and_then (λ kid. node_from t custom kid path) (slice_get (kids_of t custom node) i)
 
 -- the node at a path in the tree of the spout's rows, which has none at the empty path
 abbrev pub node_at : Topology → Custom → List (List Value) → List ℕ → Option Node
 node_at t custom rows [] = None
-node_at t custom rows (i ∷ path) = option_and_then (λ node. node_from t custom node path) (slice_get (kids t origin.Spout rows) i)
+node_at t custom rows (i ∷ path) =
+    option_and_then (λ node. node_from t custom node path) (slice_get (kids t origin.Spout rows) i)
 
 -- the tree of the spout's rows has this path
 abbrev pub IsInTree : Topology → Custom → List (List Value) → List ℕ → Type 0
 IsInTree t custom rows path = IsSome (node_at t custom rows path)
 
--- a node and what is below it, at most this many levels, in path order: a node right before its children's trees
+-- a node and what is below it, at most this many levels, in path order: a node right
+-- before its children's trees
 abbrev pub nodes_from : ℕ → Topology → Custom → Node → List Node
 nodes_from zero t custom node = []
-nodes_from (suc levels) t custom node = node ∷ flat_map (nodes_from levels t custom) (kids_of t custom node)
+nodes_from (suc levels) t custom node =
+    node ∷ flat_map (nodes_from levels t custom) (kids_of t custom node)
 
--- All nodes of the tree, in path order. A chain of subscriptions goes through each component at most once, so that there
--- are no more levels than components.
+-- All nodes of the tree, in path order. A chain of subscriptions goes through each component at
+-- most once, so that there are no more levels than components.
 unfoldable pub nodes_of : Topology → Custom → List (List Value) → List Node
-nodes_of t custom rows = flat_map (nodes_from (length t.components) t custom) (kids t origin.Spout rows)
+nodes_of t custom rows =
+    flat_map (nodes_from (length t.components) t custom) (kids t origin.Spout rows)
 
 -- how many nodes the tree has
 abbrev pub node_count : Topology → Custom → List (List Value) → ℕ
@@ -79,7 +87,8 @@ node_count t custom rows = length (nodes_of t custom rows)
 
 -- ---- a node at an attempt
 
--- what an attempt at a row comes to in a component; a state makes no rows, and neither fails nor stays mute
+-- what an attempt at a row comes to in a component; a state makes no rows, and
+-- neither fails nor stays mute
 abbrev pub exec_by : Custom → Body → List Value → ℕ → Outcome
 exec_by custom (Bolt op) row attempt = exec_of custom op row attempt
 exec_by custom (State spec) row attempt = outcome.Rows []
@@ -87,7 +96,8 @@ exec_by custom (State spec) row attempt = outcome.Rows []
 -- what an attempt at a node comes to; attempts are counted from 1
 abbrev pub exec_at : Topology → Custom → ℕ → Node → Outcome
 exec_at t custom attempt node =
-    option_map_or (λ (c : Component). exec_by custom c.body node.row attempt) (slice_get t.components node.component) (outcome.Rows [])
+    option_map_or (λ (c : Component). exec_by custom c.body node.row attempt)
+    (slice_get t.components node.component) (outcome.Rows [])
 
 -- ---- writes
 
@@ -120,7 +130,9 @@ write_by component parts (State spec) row = Some (record {
 
 -- the write of a node; a bolt's has none
 abbrev pub write_of : Topology → Node → Option Write
-write_of t node = option_and_then (λ (c : Component). write_by node.component c.tasks c.body node.row) (slice_get t.components node.component)
+write_of t node =
+    option_and_then (λ (c : Component). write_by node.component c.tasks c.body node.row)
+    (slice_get t.components node.component)
 
 -- the writes of the tree's state nodes, in path order
 abbrev pub writes : Topology → Custom → List (List Value) → List Write

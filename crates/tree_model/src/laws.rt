@@ -21,7 +21,8 @@ pub fn writes_of_joined_rows()
         → writes t custom (xs ++ ys) ≡ writes t custom xs ++ writes t custom ys }
 {}
 
-/// A law: joined rows have as many nodes as the rows of each, and so a batch of rows has no more than all.
+/// A law: joined rows have as many nodes as the rows of each, and so a batch of
+/// rows has no more than all.
 pub fn nodes_of_joined_rows()
     ensures sum { (t : Topology) (custom : Custom) (xs ys : List (List Value))
         → node_count t custom (xs ++ ys) ≡ node_count t custom xs + node_count t custom ys }
@@ -29,16 +30,19 @@ pub fn nodes_of_joined_rows()
         → node_count t custom (slice_range rows first last) ≤ node_count t custom rows }
 {}
 
-/// A law: in the tree of rows within limits each node's row is within limits, and as wide as its component's input.
+/// A law: in the tree of rows within limits each node's row is within limits, and as wide
+/// as its component's input.
 pub fn rows_of_nodes_are_within_limits()
-    ensures { (t : Topology) (custom : Custom) (rows : List (List Value)) (path : List ℕ) (node : Node)
+    ensures { (t : Topology) (custom : Custom) (rows : List (List Value)) (path : List ℕ)
+        (node : Node)
         → IsValid t → IsWired t → IsCustom custom → All (IsRow (width_of t Origin.Spout)) rows
         → node_at t custom rows path ≡ Some node → IsRow (width_to t node.component) node.row }
 {}
 
 /// A law: where an attempt at a node comes to rows, its children are what these rows make.
 pub fn children_are_made_of_rows()
-    ensures { (t : Topology) (custom : Custom) (attempt : ℕ) (node : Node) (rows : List (List Value))
+    ensures { (t : Topology) (custom : Custom) (attempt : ℕ) (node : Node)
+        (rows : List (List Value))
         → exec_at t custom attempt node ≡ Outcome.Rows rows
         → kids_of t custom node ≡ kids t (Origin.Component node.component) rows }
 {}
@@ -49,22 +53,28 @@ pub fn tables_are_one()
         → AreTables t made a → AreTables t made b → a ≡ b }
 {}
 
-/// A law: a path of one number leads to a node that the rows make, and one more number leads from a node to a child.
+/// A law: a path of one number leads to a node that the rows make, and one more number leads
+/// from a node to a child.
 pub fn paths_lead_to_children()
     ensures first { (t : Topology) (custom : Custom) (rows : List (List Value)) (i : ℕ)
         → node_at t custom rows (i ∷ []) ≡ slice_get (kids t Origin.Spout rows) i }
-    ensures next { (t : Topology) (custom : Custom) (rows : List (List Value)) (path : List ℕ) (j : ℕ)
+    ensures next { (t : Topology) (custom : Custom) (rows : List (List Value)) (path : List ℕ)
+        (j : ℕ)
         → path ≢ [] → node_at t custom rows (path ++ j ∷ [])
-        ≡ option_and_then (λ node. slice_get (kids_of t custom node) j) (node_at t custom rows path) }
+        ≡ option_and_then (λ node. slice_get (kids_of t custom node) j)
+        (node_at t custom rows path) }
 {}
 
-/// A law: the paths of a tree stand in one order, the writes stand in the order of their nodes' paths, and there are as
-/// many nodes as paths.
+/// A law: the paths of a tree stand in one order, the writes stand in the order of their nodes'
+/// paths, and there are as many nodes as paths.
 pub fn writes_stand_in_path_order()
     ensures paths { (t : Topology) (custom : Custom) (rows : List (List Value))
         → IsValid t → (paths : List (List ℕ)) × ArePathsOf t custom rows paths }
-    ensures writes { (t : Topology) (custom : Custom) (rows : List (List Value)) (paths : List (List ℕ))
-        → IsValid t → ArePathsOf t custom rows paths → writes t custom rows ≡ filter_map (write_at t custom rows) paths }
-    ensures count { (t : Topology) (custom : Custom) (rows : List (List Value)) (paths : List (List ℕ))
+    ensures writes { (t : Topology) (custom : Custom) (rows : List (List Value))
+        (paths : List (List ℕ))
+        → IsValid t → ArePathsOf t custom rows paths
+        → writes t custom rows ≡ filter_map (write_at t custom rows) paths }
+    ensures count { (t : Topology) (custom : Custom) (rows : List (List Value))
+        (paths : List (List ℕ))
         → IsValid t → ArePathsOf t custom rows paths → node_count t custom rows ≡ length paths }
 {}

@@ -10,8 +10,8 @@ ghost use Rattle.tree_model.specs.declared.messages.AckMsg.{AckMsg};
 ghost use Rattle.tree_model.specs.Lists.{consumes, is_init, is_failed, word, IsOpen, IsClosed, AreOpen, AreTrueOf, IsSingle, IsSteady, Covers, IsComplete, Coincides, NoneCancel};
 ghost use Rattle.tree_model.specs.Trees.{Node, node_at};
 
-/// A law: a list has a list of its open edges; each list of them has exactly these edges and the word's XOR, and is
-/// empty exactly where the list is closed.
+/// A law: a list has a list of its open edges; each list of them has exactly these edges and the
+/// word's XOR, and is empty exactly where the list is closed.
 pub fn words_are_of_open_edges()
     ensures are_there { (list : List AckMsg) → (edges : List Edge) × AreOpen list edges }
     ensures open { (list : List AckMsg) (edges : List Edge) → AreOpen list edges
@@ -22,8 +22,8 @@ pub fn words_are_of_open_edges()
         → IsClosed list ↔ (edges ≡ []) }
 {}
 
-/// A law: a true, closed list with one init covers the tree and consumes each of its paths an odd number of times,
-/// whatever is repeated and whatever the ids.
+/// A law: a true, closed list with one init covers the tree and consumes each of its paths an odd
+/// number of times, whatever is repeated and whatever the ids.
 pub fn closed_lists_cover()
     ensures covers { (t : Topology) (custom : Custom)
         → (rows : List (List Value)) (root : Root) (list : List AckMsg)
@@ -49,13 +49,14 @@ pub fn covering_lists_are_closed()
         → IsSingle list → IsSteady list → Covers t custom rows list → weigh is_failed list ≡ 0 }
 {}
 
-/// A law: where no set of open edges but the empty one has ids that XOR to 0, there is no coincidence.
+/// A law: where no set of open edges but the empty one has ids that XOR to 0,
+/// there is no coincidence.
 pub fn what_does_not_cancel_does_not_coincide()
     ensures { (list : List AckMsg) → NoneCancel list → Coincides list → ⊥ }
 {}
 
-/// A law: a true, single, steady list without a coincidence has the word 0, an init and no failure exactly where it
-/// covers the tree.
+/// A law: a true, single, steady list without a coincidence has the word 0, an init and no failure
+/// exactly where it covers the tree.
 pub fn complete_lists_cover()
     ensures { (t : Topology) (custom : Custom)
         → (rows : List (List Value)) (root : Root) (list : List AckMsg)

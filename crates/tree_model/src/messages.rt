@@ -12,8 +12,8 @@ pub struct Tuple {
     pub row: Row,
 }
 
-/// Where the ids of a message's first or produced edges come from: they are, in order, the words of this source from
-/// the place `first` on.
+/// Where the ids of a message's first or produced edges come from: they are, in order, the words of
+/// this source from the place `first` on.
 #[derive(Clone, Copy, Debug, PartialEq, Eq)]
 pub struct Draw {
     pub source: u32,

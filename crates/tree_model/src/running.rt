@@ -44,11 +44,13 @@ impl RunningTables {
         Ok(RunningTables { values })
     }
 
-    /// Folds the amounts of some writes in, in order. Without memory a first part of the writes is in.
+    /// Folds the amounts of some writes in, in order. Without memory a first part of the writes is
+    /// in.
     pub fn add(&mut self, plan: &Plan, writes: Writes) -> Result<(), Memory>
         ensures ok { OnOk result ((before : List Write) → AreRunningTables plan.now before self.old
             → AreRunningTables plan.now (before ++ writes) self.new) }
-        ensures err { OnErr result ((before : List Write) → AreRunningTables plan.now before self.old
+        ensures err { OnErr result
+            ((before : List Write) → AreRunningTables plan.now before self.old
             → (done : ℕ) × AreRunningTables plan.now (before ++ take done writes) self.new) }
     {
         add_all(&mut self.values, plan, writes.into_vec())
@@ -56,7 +58,8 @@ impl RunningTables {
 
     /// The tables of the states.
     pub fn tables(self, alloc: Global, plan: &Plan) -> Result<Tables, Memory>
-        ensures { IfOk result (λ tables. (writes : List Write) → AreRunningTables plan.now writes self
+        ensures { IfOk result
+            (λ tables. (writes : List Write) → AreRunningTables plan.now writes self
             → AreTables plan.now writes tables) }
     {
         let mut tables = Seq::new(alloc);
@@ -74,7 +77,10 @@ fn add_table(
     component: &Component,
     values: Values,
 ) -> Result<(), Memory>
-    ensures { OnOk result ((number : ℕ) → AddsTable (state_by number component.now component.now.body) (pairs_of values) tables.old tables.new) }
+    ensures { OnOk result
+        ((number : ℕ)
+        → AddsTable (state_by number component.now component.now.body) (pairs_of values) tables.old
+        tables.new) }
 {
     if let Body::State(_) = component.body {
         let name = component.name.copy()?;
@@ -99,10 +105,14 @@ fn pairs(alloc: Global, values: Values) -> Result<Pairs, Memory>
 
 /// Adds writes to the maps of the components.
 fn add_all(values: &mut Vec<Values>, plan: &Plan, writes: Vec<Write>) -> Result<(), Memory>
-    ensures ok { OnOk result ((before : List Write) → AreRunningTables plan.now before (pairs_by values.old.items)
+    ensures ok { OnOk result
+        ((before : List Write) → AreRunningTables plan.now before (pairs_by values.old.items)
         → AreRunningTables plan.now (before ++ writes.items) (pairs_by values.new.items)) }
-    ensures err { OnErr result ((before : List Write) → AreRunningTables plan.now before (pairs_by values.old.items)
-        → (done : ℕ) × AreRunningTables plan.now (before ++ take done writes.items) (pairs_by values.new.items)) }
+    ensures err { OnErr result
+        ((before : List Write) → AreRunningTables plan.now before (pairs_by values.old.items)
+        → (done : ℕ)
+        × AreRunningTables plan.now (before ++ take done writes.items)
+        (pairs_by values.new.items)) }
 {
     for write in writes {
         add_one(values, plan, write)?;
@@ -111,7 +121,8 @@ fn add_all(values: &mut Vec<Values>, plan: &Plan, writes: Vec<Write>) -> Result<
 }
 
 fn add_one(values: &mut Vec<Values>, plan: &Plan, write: Write) -> Result<(), Memory>
-    ensures ok { OnOk result ((before : List Write) → AreRunningTables plan.now before (pairs_by values.old.items)
+    ensures ok { OnOk result
+        ((before : List Write) → AreRunningTables plan.now before (pairs_by values.old.items)
         → AreRunningTables plan.now (before ++ write ∷ []) (pairs_by values.new.items)) }
     ensures err { OnErr result (pairs_by values.new.items ≡ pairs_by values.old.items) }
 {
@@ -139,7 +150,8 @@ fn fold_of(plan: &Plan, number: u32) -> Option<Fold>
 fn put(values: &mut Values, by: Fold, key: Txt, amount: i64) -> Result<(), Memory>
     ensures ordered { IsOrdered string_cmp values.new }
     ensures ok { OnOk result ((at : List ℕ) → get_by_text values.new at
-        ≡ update bytes_eq (get_by_text values.old) key (Some (folded by (get_by_text values.old key) amount)) at) }
+        ≡ update bytes_eq (get_by_text values.old) key
+        (Some (folded by (get_by_text values.old key) amount)) at) }
     ensures err { OnErr result (IsUnchanged values.old values.new) }
 {
     let old = values.get(key.as_str()).copied();

@@ -19,7 +19,8 @@ pub(crate) trait Visitor {
         requires there { component < length plan.now.components }
         requires row { IsRow (width_to plan.now component) row.now }
         ensures { OnOk result
-            (self.new ≡ visited plan.now self.old (record { component = component; row = row.now })) };
+            (self.new
+            ≡ visited plan.now self.old (record { component = component; row = row.now })) };
 }
 
 /// The tuple trees of a topology.
@@ -31,7 +32,8 @@ pub(crate) struct Tree<'a, O> {
 }
 
 impl<O: RowOp> Tree<'_, O> {
-    /// Visits the nodes that rows of a source make and what is below them, at most this many levels, in path order.
+    /// Visits the nodes that rows of a source make and what is below them, at most this
+    /// many levels, in path order.
     #[cycle(walk)]
     pub(crate) fn visit_rows<V: Visitor>(
         &self,

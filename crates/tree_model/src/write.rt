@@ -52,8 +52,8 @@ pub struct Table {
 
 pub type Tables = Seq<Table>;
 
-/// The writes of the state nodes of the rows' tuple tree, in path order. Each node's rows are made once, so that the
-/// time grows with the nodes and their bytes.
+/// The writes of the state nodes of the rows' tuple tree, in path order. Each node's rows are made
+/// once, so that the time grows with the nodes and their bytes.
 pub fn writes_of<O: RowOp>(
     alloc: Global,
     plan: &Plan,
@@ -104,7 +104,8 @@ fn write_at(
     row: &Row,
 ) -> Result<Write, Memory>
     requires { 1 ≤ parts }
-    ensures { IfOk result (λ write. Some write ≡ write_by state parts (Body.State spec.now) row.now) }
+    ensures { IfOk result
+        (λ write. Some write ≡ write_by state parts (Body.State spec.now) row.now) }
 {
     let (values, key) = (row.as_slice(), spec.key.as_slice());
     let part = key_hash_in(values, key) % u64::from(parts);
@@ -117,7 +118,8 @@ fn write_at(
 }
 
 fn amount(spec: &StateSpec, row: &Row) -> i64
-    ensures { result ≡ amount_by spec.now.fold (option_and_then (slice_get row.now) spec.now.amount) }
+    ensures { result
+        ≡ amount_by spec.now.fold (option_and_then (slice_get row.now) spec.now.amount) }
 {
     match spec.fold {
         Fold::Count => 1,

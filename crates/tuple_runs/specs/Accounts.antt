@@ -37,7 +37,8 @@ is_at root path tuple = if root_eq tuple.root root && path_eq tuple.edge.path pa
 -- the notes of a root
 abbrev pub notes_about : Root → List AckMsg → List AckMsg
 notes_about root [] = []
-notes_about root (m ∷ notes) = if root_eq (root_of m) root then m ∷ notes_about root notes else notes_about root notes
+notes_about root (m ∷ notes) =
+    if root_eq (root_of m) root then m ∷ notes_about root notes else notes_about root notes
 
 module _ (t : Topology) (custom : Custom) where
   -- all tuples that were issued
@@ -55,15 +56,19 @@ module _ (t : Topology) (custom : Custom) where
 
   -- a tuple whose node goes on has an id for each child
   abbrev pub IsRun : Run → Type 0
-  IsRun u = course_of_run t custom u ≡ goes → length u.ids ≡ length (kids_of t custom (node_of u.tuple))
+  IsRun u =
+      course_of_run t custom u ≡ goes → length u.ids ≡ length (kids_of t custom (node_of u.tuple))
 
-  -- Each issued tuple was executed or waits, as often as it was issued; no root is begun twice; there are enough ids.
+  -- Each issued tuple was executed or waits, as often as it was issued; no root is begun
+  -- twice; there are enough ids.
   pub record IsAccount (rows_of : Root → List (List Value)) (a : Account) : Type 0 where
-    pub balanced : (f : Tuple → ℕ) → weigh (λ (u : Run). f u.tuple) a.runs + a.waiting f ≡ weigh f (issued a)
+    pub balanced : (f : Tuple → ℕ)
+        → weigh (λ (u : Run). f u.tuple) a.runs + a.waiting f ≡ weigh f (issued a)
     pub distinct : (root : Root) → weigh (is_begun root) a.begun ≤ 1
     pub begun_well : AllByRecursion (IsBegun rows_of) a.begun
     pub runs_well : AllByRecursion IsRun a.runs
 
   -- the node of a tuple is that of its path
   abbrev pub IsNode : (Root → List (List Value)) → Tuple → Type 0
-  IsNode rows_of tuple = node_at t custom (rows_of tuple.root) tuple.edge.path ≡ Some (node_of tuple)
+  IsNode rows_of tuple =
+      node_at t custom (rows_of tuple.root) tuple.edge.path ≡ Some (node_of tuple)

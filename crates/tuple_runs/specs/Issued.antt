@@ -16,8 +16,8 @@ use Rattle.tree_model.specs.declared.messages.Tuple.{Tuple}
 use Rattle.tree_model.specs.Courses.{course_at}
 use Rattle.tree_model.specs.Trees.{Node, kids, kids_of, write_of}
 
--- A root that was begun with these rows of the spout. The ids of its first tuples are words of the source from the
--- place `at` on.
+-- A root that was begun with these rows of the spout. The ids of its first tuples are words of the
+-- source from the place `at` on.
 pub record Begun : Type 0 where
   pub root : Root
   pub rows : List (List Value)
@@ -25,7 +25,8 @@ pub record Begun : Type 0 where
   pub source : ℕ
   pub at : ℕ
 
--- A tuple that a task executed. The ids of the tuples made are words of the task's source from the place `at` on.
+-- A tuple that a task executed. The ids of the tuples made are words of the task's source
+-- from the place `at` on.
 pub record Run : Type 0 where
   pub tuple : Tuple
   pub ids : List ℕ
@@ -45,7 +46,12 @@ abbrev pub tuples_from : Root → List ℕ → ℕ → List Node → List ℕ �
 tuples_from root path j [] ids = []
 tuples_from root path j (node ∷ nodes) [] = []
 tuples_from root path j (node ∷ nodes) (id ∷ ids) =
-    record { root = root; edge = record { path = path ++ j ∷ []; id = id }; component = node.component; row = node.row } ∷ tuples_from root path (suc j) nodes ids
+    record {
+      root = root;
+      edge = record { path = path ++ j ∷ []; id = id };
+      component = node.component;
+      row = node.row;
+    } ∷ tuples_from root path (suc j) nodes ids
 
 abbrev pub edges_of : List Tuple → List Edge
 edges_of tuples = map (λ (tuple : Tuple). tuple.edge) tuples
@@ -56,7 +62,9 @@ abbrev pub first_tuples : Topology → Begun → List Tuple
 first_tuples t b = tuples_from b.root [] 0 (kids t origin.Spout b.rows) b.ids
 
 abbrev pub init_of : Topology → Begun → AckMsg
-init_of t b = msg.Init (record { root = b.root; edges = edges_of (first_tuples t b); draw = draw_from b.source b.at })
+init_of t b =
+    msg.Init (record
+    { root = b.root; edges = edges_of (first_tuples t b); draw = draw_from b.source b.at })
 
 -- ---- a tuple is executed
 
@@ -66,7 +74,9 @@ course_of_run t custom u = course_at t custom u.tuple.root.attempt (node_of u.tu
 
 -- the tuples of its node's children, where the node goes on
 abbrev pub children_of : Topology → Custom → Run → List Tuple
-children_of t custom u = made_by (course_of_run t custom u) (tuples_from u.tuple.root u.tuple.edge.path 0 (kids_of t custom (node_of u.tuple)) u.ids)
+children_of t custom u =
+    made_by (course_of_run t custom u)
+    (tuples_from u.tuple.root u.tuple.edge.path 0 (kids_of t custom (node_of u.tuple)) u.ids)
 
 -- done, with the node's writes, where it goes on; failed where it fails; and else nothing
 abbrev pub notes_by : Topology → Custom → Run → Course → List AckMsg
@@ -77,7 +87,8 @@ notes_by t custom u goes = msg.Done (record {
   draw = draw_from u.task u.at;
   writes = option_to_list (write_of t (node_of u.tuple));
 }) ∷ []
-notes_by t custom u fails = msg.Failed (record { root = u.tuple.root; path = u.tuple.edge.path }) ∷ []
+notes_by t custom u fails =
+    msg.Failed (record { root = u.tuple.root; path = u.tuple.edge.path }) ∷ []
 notes_by t custom u mute = []
 
 abbrev pub notes_of : Topology → Custom → Run → List AckMsg

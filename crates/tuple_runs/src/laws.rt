@@ -14,8 +14,8 @@ ghost use Rattle.tree_model.specs.Trees.{node_count};
 ghost use Rattle.tuple_runs.specs.Accounts.{Account, is_begun, is_of, is_at, issued, issued_notes, notes_about, IsAccount, IsNode};
 ghost use Rattle.tuple_runs.specs.Issued.{Run, course_of_run};
 
-/// A law: where each issued tuple was executed or waits, a root and a path have one tuple at most, and each tuple has
-/// the node of its path.
+/// A law: where each issued tuple was executed or waits, a root and a path have one tuple at most,
+/// and each tuple has the node of its path.
 pub fn tuples_grow_along_trees()
     ensures once { (t : Topology) (custom : Custom)
         → (rows_of : Root → List (List Value)) → (a : Account) → IsAccount t custom rows_of a
@@ -53,8 +53,8 @@ pub fn issued_lists_are_sound()
         → IsSteady list }
 {}
 
-/// A law: where no tuple waits and no executed one stayed mute, a list of a begun root with all of its issued notes,
-/// and no failure, covers the tree.
+/// A law: where no tuple waits and no executed one stayed mute, a list of a begun root with all of
+/// its issued notes, and no failure, covers the tree.
 pub fn lists_of_all_notes_cover()
     ensures { (t : Topology) (custom : Custom)
         → (rows_of : Root → List (List Value)) → (a : Account) → IsAccount t custom rows_of a

@@ -8,8 +8,8 @@ use Rattle.tuple_tickets.specs.Edges.{times, xor_ids}
 use Rattle.tuple_tickets.specs.Paths.{is_path, paths_below}
 use Rattle.tuple_tickets.specs.Trees.{Growth, node_at, goes, fails}
 
--- What a message says: the edges of the root's first tuples; that the tuple of an edge was executed and made these
--- edges; or that the one at a path failed.
+-- What a message says: the edges of the root's first tuples; that the tuple of an edge was executed
+-- and made these edges; or that the one at a path failed.
 pub data Message : Type 0 where
   init : (edges : List Edge) → Message
   done : (consumed : Edge) (produced : List Edge) → Message
@@ -66,14 +66,16 @@ abbrev pub paths_of : List Edge → List (List ℕ)
 paths_of edges = map (λ (e : Edge). e.path) edges
 
 module _ {N : Type 0} where
-  -- A message is true of a root's tree: an init has exactly the paths of one number, each once and in order; a done
-  -- consumes a node that goes on and produces exactly its children, in order; a failure names a node that fails.
+  -- A message is true of a root's tree: an init has exactly the paths of one number, each once and
+  -- in order; a done consumes a node that goes on and produces exactly its children, in order; a
+  -- failure names a node that fails.
   abbrev pub IsTrueOf : Growth N → Root → Message → Type 0
   IsTrueOf g root (init edges) = paths_of edges ≡ paths_below [] 0 (length (g.firsts root))
   IsTrueOf g root (done consumed produced) =
       (node : N) × (node_at g root consumed.path ≡ Some node) × (g.course root node ≡ goes)
       × (paths_of produced ≡ paths_below consumed.path 0 (length (g.kids node)))
-  IsTrueOf g root (failed path) = (node : N) × (node_at g root path ≡ Some node) × (g.course root node ≡ fails)
+  IsTrueOf g root (failed path) =
+      (node : N) × (node_at g root path ≡ Some node) × (g.course root node ≡ fails)
 
   -- each message is true
   abbrev pub AreTrueOf : Growth N → Root → List Message → Type 0
@@ -82,7 +84,8 @@ module _ {N : Type 0} where
   -- there is an init, and each path of the tree is consumed
   pub record Covers (g : Growth N) (root : Root) (list : List Message) : Type 0 where
     pub begins : 1 ≤ weigh is_init list
-    pub consumed : (path : List ℕ) (node : N) → node_at g root path ≡ Some node → 1 ≤ weigh (consumes path) list
+    pub consumed : (path : List ℕ) (node : N) → node_at g root path ≡ Some node
+        → 1 ≤ weigh (consumes path) list
 
 -- there is at most one init, and no path is consumed twice
 pub record IsSingle (list : List Message) : Type 0 where
@@ -92,7 +95,10 @@ pub record IsSingle (list : List Message) : Type 0 where
 -- all occurrences of one path have one id
 abbrev pub IsSteady : List Message → Type 0
 IsSteady list =
-    AllByRecursion (λ (a : Edge). AllByRecursion (λ (b : Edge). a.path ≡ b.path → a.id ≡ b.id) (occurrences list)) (occurrences list)
+    AllByRecursion
+    (λ (a : Edge).
+    AllByRecursion (λ (b : Edge). a.path ≡ b.path → a.id ≡ b.id) (occurrences list))
+    (occurrences list)
 
 -- ---- words of 0
 
@@ -112,4 +118,6 @@ pub record Coincides (list : List Message) : Type 0 where
 
 -- no set of open edges but the empty one has ids that XOR to 0
 abbrev pub NoneCancel : List Message → Type 0
-NoneCancel list = (edges : List Edge) → ((e : Edge) → times e edges ≤ times e (occurrences list) % 2) → edges ≢ [] → xor_ids edges ≢ 0
+NoneCancel list =
+    (edges : List Edge) → ((e : Edge) → times e edges ≤ times e (occurrences list) % 2) → edges ≢ []
+    → xor_ids edges ≢ 0

@@ -16,7 +16,8 @@ pub record Note : Type 0 where
 -- what the notes of a root say
 abbrev pub said_about : Root → List Note → List Message
 said_about root [] = []
-said_about root (note ∷ notes) = if root_eq note.root root then note.said ∷ said_about root notes else said_about root notes
+said_about root (note ∷ notes) =
+    if root_eq note.root root then note.said ∷ said_about root notes else said_about root notes
 
 module _ {N : Type 0} where
   abbrev pub edges_of : List (Ticket N) → List Edge
@@ -26,7 +27,8 @@ module _ {N : Type 0} where
   init_note g b = record { root = b.root; said = init (edges_of (first_tickets g b)) }
 
   abbrev pub done_note : Growth N → Run N → Note
-  done_note g u = record { root = u.ticket.root; said = done u.ticket.edge (edges_of (made_of g u)) }
+  done_note g u =
+      record { root = u.ticket.root; said = done u.ticket.edge (edges_of (made_of g u)) }
 
   abbrev pub failed_note : Run N → Note
   failed_note u = record { root = u.ticket.root; said = failed u.ticket.edge.path }

@@ -1,4 +1,5 @@
--- Tickets of tuples, which are issued when a root begins and when a ticket is used, and an account of them.
+-- Tickets of tuples, which are issued when a root begins and when a ticket is used,
+-- and an account of them.
 use Rattle.std.specs.Prelude.{◌≡◌, ◌≤◌, ℕ, suc, ◌+◌, ◌&&◌, if◌then◌else◌, List, [], ◌∷◌, ◌++◌, length, Some}
 use Rattle.std.specs.List.{flat_map, AllByRecursion}
 use Rattle.storm_values.specs.declared.value.Root.{Root}
@@ -45,7 +46,8 @@ module _ {N : Type 0} where
   tickets_from root path j [] ids = []
   tickets_from root path j (n ∷ ns) [] = []
   tickets_from root path j (n ∷ ns) (id ∷ ids) =
-      record { root = root; edge = record { path = path ++ j ∷ []; id = id }; node = n } ∷ tickets_from root path (suc j) ns ids
+      record { root = root; edge = record { path = path ++ j ∷ []; id = id }; node = n }
+      ∷ tickets_from root path (suc j) ns ids
 
   -- the weight that is 1 at the tickets of a root
   abbrev pub is_of : Root → Ticket N → ℕ
@@ -64,7 +66,8 @@ module _ {N : Type 0} where
   -- the tickets that a used one makes
   abbrev pub made_of : Growth N → Run N → List (Ticket N)
   made_of g u =
-      made_by (g.course u.ticket.root u.ticket.node) (tickets_from u.ticket.root u.ticket.edge.path 0 (g.kids u.ticket.node) u.ids)
+      made_by (g.course u.ticket.root u.ticket.node)
+      (tickets_from u.ticket.root u.ticket.edge.path 0 (g.kids u.ticket.node) u.ids)
 
   -- all tickets that were issued
   abbrev pub issued : Growth N → Account N → List (Ticket N)
@@ -78,11 +81,14 @@ module _ {N : Type 0} where
 
   -- a used ticket whose node goes on has an id for each child
   abbrev pub IsRun : Growth N → Run N → Type 0
-  IsRun g u = g.course u.ticket.root u.ticket.node ≡ goes → length u.ids ≡ length (g.kids u.ticket.node)
+  IsRun g u =
+      g.course u.ticket.root u.ticket.node ≡ goes → length u.ids ≡ length (g.kids u.ticket.node)
 
-  -- Each issued ticket was used or waits, as often as it was issued; no root is begun twice; there are enough ids.
+  -- Each issued ticket was used or waits, as often as it was issued; no root is begun
+  -- twice; there are enough ids.
   pub record IsAccount (g : Growth N) (a : Account N) : Type 0 where
-    pub balanced : (f : Ticket N → ℕ) → weigh (λ (u : Run N). f u.ticket) a.runs + a.waiting f ≡ weigh f (issued g a)
+    pub balanced : (f : Ticket N → ℕ)
+        → weigh (λ (u : Run N). f u.ticket) a.runs + a.waiting f ≡ weigh f (issued g a)
     pub distinct : (root : Root) → weigh (is_begun root) a.begun ≤ 1
     pub begun_well : AllByRecursion (IsBegun g) a.begun
     pub runs_well : AllByRecursion (IsRun g) a.runs

@@ -10,8 +10,8 @@ ghost use Rattle.tuple_tickets.specs.Notes.{said_about, issued_notes};
 ghost use Rattle.tuple_tickets.specs.Tickets.{Ticket, Run, Account, is_begun, is_of, is_at, issued, IsAccount, IsNode};
 ghost use Rattle.tuple_tickets.specs.Trees.{Growth, node_at, mute};
 
-/// A law: where each issued ticket was used or waits, a root and a path have one ticket at most, and each ticket has
-/// the node of its path.
+/// A law: where each issued ticket was used or waits, a root and a path have one ticket at most,
+/// and each ticket has the node of its path.
 pub fn tickets_grow_along_trees<N>()
     ensures once { (g : Growth N) (a : Account N) → IsAccount g a
         → (root : Root) (path : List ℕ) → weigh (is_at root path) (issued g a) ≤ 1 }
@@ -41,8 +41,8 @@ pub fn issued_lists_are_sound<N>()
         → IsSteady list }
 {}
 
-/// A law: there is a list of a list's open edges, each list of them has exactly these edges and the word's XOR, and is
-/// empty exactly where the list is closed.
+/// A law: there is a list of a list's open edges, each list of them has exactly these edges and the
+/// word's XOR, and is empty exactly where the list is closed.
 pub fn words_are_of_open_edges()
     ensures are_there { (list : List Message) → (edges : List Edge) × AreOpen list edges }
     ensures open { (list : List Message) (edges : List Edge) → AreOpen list edges
@@ -53,8 +53,8 @@ pub fn words_are_of_open_edges()
         → IsClosed list ↔ (edges ≡ []) }
 {}
 
-/// A law: a true, closed list with one init covers the tree and consumes each of its paths an odd number of times,
-/// whatever is repeated and whatever the ids.
+/// A law: a true, closed list with one init covers the tree and consumes each of its paths an odd
+/// number of times, whatever is repeated and whatever the ids.
 pub fn closed_lists_cover<N>()
     ensures covers { (g : Growth N) (root : Root) (list : List Message)
         → AreTrueOf g root list → IsClosed list → weigh is_init list ≡ 1
@@ -75,21 +75,22 @@ pub fn covering_lists_are_closed<N>()
         → weigh is_failed list ≡ 0 }
 {}
 
-/// A law: where no set of open edges but the empty one has ids that XOR to 0, there is no coincidence.
+/// A law: where no set of open edges but the empty one has ids that XOR to 0,
+/// there is no coincidence.
 pub fn what_does_not_cancel_does_not_coincide()
     ensures { (list : List Message) → NoneCancel list → Coincides list → ⊥ }
 {}
 
-/// A law: a true, single, steady list without a coincidence has the word 0, an init and no failure exactly where it
-/// covers the tree.
+/// A law: a true, single, steady list without a coincidence has the word 0, an init and no failure
+/// exactly where it covers the tree.
 pub fn complete_lists_cover<N>()
     ensures { (g : Growth N) (root : Root) (list : List Message)
         → AreTrueOf g root list → IsSingle list → IsSteady list → (Coincides list → ⊥)
         → IsComplete list ↔ Covers g root list }
 {}
 
-/// A law: where no ticket waits and no used one stayed mute, a list with all that was said of a begun root, and no
-/// failure, covers the tree.
+/// A law: where no ticket waits and no used one stayed mute, a list with all that was said of a
+/// begun root, and no failure, covers the tree.
 pub fn lists_of_all_notes_cover<N>()
     ensures { (coded : Coded N) (g : Growth N) (a : Account N) → IsAccount g a
         → ((f : Ticket N → ℕ) → a.waiting f ≡ 0)

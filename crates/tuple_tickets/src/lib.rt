@@ -1,7 +1,8 @@
-//! Tuple trees by tickets: what a list of messages about a tree says, and why acks by XOR are right.
+//! Tuple trees by tickets: what a list of messages about a tree says, and why acks by XOR are
+//! right.
 //!
-//! A ticket is a tuple of which a node and an edge are known. Trees are given by how they grow, so that everything
-//! here holds of any topology.
+//! A ticket is a tuple of which a node and an edge are known. Trees are given by how they grow, so
+//! that everything here holds of any topology.
 #![tactic(auto)]
 
 mod edge;

@@ -8,7 +8,8 @@ use Rattle.storm_program.specs.Texts.{topology_not_read, input_not_read}
 use Rattle.topology_plan.specs.Topology.{Topology}
 
 -- at most so many bytes of the file of that name were read
-pub record WasRead (holds : List ℕ → List ℕ → Type 0) (name : List ℕ) (most : ℕ) (front : List ℕ) : Type 0 where
+pub record WasRead (holds : List ℕ → List ℕ → Type 0) (name : List ℕ) (most : ℕ)
+    (front : List ℕ) : Type 0 where
   pub bytes : List ℕ
   pub are_of : AreBytesOf holds name bytes
   pub is_front : front ≡ take most bytes
@@ -28,9 +29,11 @@ abbrev pub TopologyComes : ShelfUse → List ℕ → Status → List ℕ → Typ
 TopologyComes shelf topology status.Done text = ⊥
 TopologyComes shelf topology status.Memory text = Fetched 1 shelf
 TopologyComes shelf topology status.Words text = ⊥
-TopologyComes shelf topology status.Topology text = Fetched 1 shelf × IsTopologyLine shelf.holds topology text
+TopologyComes shelf topology status.Topology text =
+    Fetched 1 shelf × IsTopologyLine shelf.holds topology text
 TopologyComes shelf topology status.Input text = ⊥
-TopologyComes shelf topology status.ReadFault text = Fetched 1 shelf × IsNotRead shelf topology × (text ≡ topology_not_read)
+TopologyComes shelf topology status.ReadFault text =
+    Fetched 1 shelf × IsNotRead shelf topology × (text ≡ topology_not_read)
 TopologyComes shelf topology status.WriteFault text = ⊥
 
 -- what the input of a plan comes to where it is not accepted

@@ -17,8 +17,14 @@ inputs_fault p c inputs = first_some (map (input_fault p c) inputs)
 -- the first fault of fields of a bolt
 abbrev pub bolt_fault : FileParts → ℕ → BoltPart → Option TopoFault
 bolt_fault p c bolt =
-    first_some (differ_fault p c ∷ inputs_fault p c bolt.inputs ∷ field_fault p c (fields_read bolt.operation) ∷ added_fault (fields_to p c) bolt.operation ∷ [])
+    first_some
+    (differ_fault p c ∷ inputs_fault p c bolt.inputs
+    ∷ field_fault p c (fields_read bolt.operation) ∷ added_fault (fields_to p c) bolt.operation
+    ∷ [])
 
 -- every input of a state has the state's key, which the state reads first
 abbrev pub state_fault : FileParts → ℕ → StatePart → Option TopoFault
-state_fault p c state = first_some (differ_fault p c ∷ field_fault p c state.key ∷ field_fault p c (option_to_list state.amount) ∷ [])
+state_fault p c state =
+    first_some
+    (differ_fault p c ∷ field_fault p c state.key ∷ field_fault p c (option_to_list state.amount)
+    ∷ [])

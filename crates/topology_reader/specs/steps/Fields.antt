@@ -7,4 +7,5 @@ use Rattle.topology_reader.specs.Wiring.{component_count, fields_of}
 
 -- of each component its fields
 abbrev pub field_table : FileParts → List (Option (List (List ℕ)))
-field_table p = map (λ c. Some (fields_of p (origin.Component c))) (range_with_len 0 (component_count p))
+field_table p =
+    map (λ c. Some (fields_of p (origin.Component c))) (range_with_len 0 (component_count p))

@@ -1,4 +1,5 @@
--- What a file says as a graph: each component with its subscriptions, and the fields as what a component has by its sources'.
+-- What a file says as a graph: each component with its subscriptions, and the fields as what a
+-- component has by its sources'.
 use Rattle.std.specs.Prelude.{ℕ, List, [], ◌∷◌, ◌++◌, map, Option, option_map, slice_get}
 use Rattle.std.specs.List.{filter_map}
 use Rattle.std.specs.Option.{option_map_or}
@@ -22,11 +23,13 @@ copies_said said.Direct tasks = 1
 
 -- the subscription that an input is, where it names a source
 abbrev pub feed_of : FileParts → List ℕ → ℕ → Option Feed
-feed_of p name copies = option_map (λ from. record { from = from; copies = copies }) (source_of p name)
+feed_of p name copies =
+    option_map (λ from. record { from = from; copies = copies }) (source_of p name)
 
 -- the subscriptions of a component with these tasks and inputs
 abbrev pub feeds_of : FileParts → ℕ → List Input → List Feed
-feeds_of p tasks inputs = filter_map (λ (input : Input). feed_of p input.from (copies_said input.grouping tasks)) inputs
+feeds_of p tasks inputs =
+    filter_map (λ (input : Input). feed_of p input.from (copies_said input.grouping tasks)) inputs
 
 -- the subscriptions of each component
 abbrev pub graph_of : FileParts → List (List Feed)
@@ -44,5 +47,7 @@ abbrev pub fields_rule : FileParts → Rule (List (List ℕ))
 fields_rule p = record {
   spout = p.spout.fields;
   nothing = [];
-  over = λ c fed. option_map_or (λ (bolt : BoltPart). fields_after bolt.operation (first_of fed)) (slice_get p.bolts c) [];
+  over = λ c fed.
+      option_map_or (λ (bolt : BoltPart). fields_after bolt.operation (first_of fed))
+      (slice_get p.bolts c) [];
 }

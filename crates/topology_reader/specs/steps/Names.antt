@@ -1,4 +1,5 @@
--- Where a file's names stand: the inputs that no source has, and the lists with a name that stands twice.
+-- Where a file's names stand: the inputs that no source has, and the lists with a
+-- name that stands twice.
 use Rattle.std.specs.Prelude.{ℕ, List, [], ◌∷◌, ◌++◌, map, Option, is_none}
 use Rattle.std.specs.List.{find, flat_map}
 use Rattle.storm_values.specs.Lines.{first_some}

@@ -18,12 +18,14 @@ use Rattle.topology_reader.specs.Wiring.{inputs_by_component}
 -- the bolts and then the states
 abbrev pub planned_components : FileParts → List Component
 planned_components p =
-    map (planned_bolt p) (enumerate_from 0 p.bolts) ++ map (planned_state p) (enumerate_from (length p.bolts) p.states)
+    map (planned_bolt p) (enumerate_from 0 p.bolts)
+    ++ map (planned_state p) (enumerate_from (length p.bolts) p.states)
 
 -- the subscriptions to each component's rows
 abbrev pub planned_component_subs : FileParts → List (List Sub)
 planned_component_subs p =
-    map (λ (numbered : ℕ × List Input). planned_subs p (origin.Component numbered.0)) (enumerate_from 0 (inputs_by_component p))
+    map (λ (numbered : ℕ × List Input). planned_subs p (origin.Component numbered.0))
+    (enumerate_from 0 (inputs_by_component p))
 
 -- the tasks in all, and then the weight
 unfoldable pub size_fault : FileParts → Option TopoFault
@@ -36,4 +38,6 @@ size_fault p =
 -- the faults that do not ask for the plan's size
 abbrev pub fault_before_size : FileParts → Option TopoFault
 fault_before_size p =
-    first_some (twice_fault p ∷ source_fault p ∷ cycle_fault p ∷ fields_fault p ∷ replay_fault p p.spout.kind ∷ [])
+    first_some
+    (twice_fault p ∷ source_fault p ∷ cycle_fault p ∷ fields_fault p
+    ∷ replay_fault p p.spout.kind ∷ [])

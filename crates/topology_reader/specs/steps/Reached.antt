@@ -15,7 +15,8 @@ has set a = bit_at set a == 1
 abbrev pub input_sources : FileParts → List Input → List Origin
 input_sources p inputs = filter_map (λ (input : Input). source_of p input.from) inputs
 
--- the set of bolt b holds the bolts with a path to b on which the bolts in between are among the first n
+-- the set of bolt b holds the bolts with a path to b on which the bolts in between are among the
+-- first n
 pub record AreReached (n : ℕ) (p : FileParts) (sets : List ℕ) : Type 0 where
   pub counted : length sets ≡ length p.bolts
   pub held : (a b : ℕ) → b < length p.bolts → has (slice_index sets b) a ≡ reaches_over n p a b

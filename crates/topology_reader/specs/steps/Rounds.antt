@@ -7,16 +7,19 @@ use Rattle.topology_plan.specs.declared.parts.Origin.TheVariants as origin
 use Rattle.topology_plan.specs.declared.parts.Sub.{Sub}
 use Rattle.topology_plan.specs.Topology.{Topology, subs_of, copies_of, greatest, ended_sum, weight_end}
 
--- the subscriptions of a component among those to the source that has this place among the spout and the components
+-- the subscriptions of a component among those to the source that has this place among the
+-- spout and the components
 abbrev pub feeds_among : Topology → ℕ → ℕ → List Sub → List Feed
 feeds_among t to place subs =
-    map (λ (sub : Sub). record { from = place; copies = copies_of t sub }) (filter (λ (sub : Sub). sub.to == to) subs)
+    map (λ (sub : Sub). record { from = place; copies = copies_of t sub })
+    (filter (λ (sub : Sub). sub.to == to) subs)
 
 -- the subscriptions of a component, source by source
 abbrev pub feeds_to : Topology → ℕ → List Feed
 feeds_to t to =
     feeds_among t to 0 t.spout_subs
-    ++ flat_map (λ c. feeds_among t to (c + 1) (subs_of t (origin.Component c))) (range_with_len 0 (length t.components))
+    ++ flat_map (λ c. feeds_among t to (c + 1) (subs_of t (origin.Component c)))
+    (range_with_len 0 (length t.components))
 
 -- of each component
 abbrev pub feeds_of : Topology → List (List Feed)
@@ -46,4 +49,5 @@ tuples_over tuples feed = min (slice_index tuples feed.from * feed.copies) weigh
 
 -- the spout's tuples and then the components'
 abbrev pub tuples_by : List ℕ → List (List Feed) → List ℕ
-tuples_by tuples feeds = 1 ∷ map (λ of_component. ended_sum (map (tuples_over tuples) of_component)) feeds
+tuples_by tuples feeds =
+    1 ∷ map (λ of_component. ended_sum (map (tuples_over tuples) of_component)) feeds

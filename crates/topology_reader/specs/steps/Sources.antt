@@ -19,4 +19,6 @@ IsNumbered p = length p.bolts < 2 ^ 32
 
 -- a map from a name to the source of that name
 abbrev pub IsIndexOf : {S : Type 0} → FileParts → IndexMap (Bor (List ℕ)) Origin S → Type 0
-IsIndexOf p m = (name : Bor (List ℕ)) → get_by (λ (key : Bor (List ℕ)). bytes_eq name.now key.now) m ≡ source_of p name.now
+IsIndexOf p m =
+    (name : Bor (List ℕ))
+    → get_by (λ (key : Bor (List ℕ)). bytes_eq name.now key.now) m ≡ source_of p name.now

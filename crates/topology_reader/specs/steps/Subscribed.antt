@@ -16,16 +16,21 @@ pub record SubTable : Type 0 where
 
 -- one more at its source, if that is there
 abbrev pub with_sub : SubTable → Origin → Sub → SubTable
-with_sub table origin.Spout sub = record { from_spout = table.from_spout ++ sub ∷ []; from_components = table.from_components }
+with_sub table origin.Spout sub =
+    record { from_spout = table.from_spout ++ sub ∷ []; from_components = table.from_components }
 with_sub table (origin.Component c) sub = record {
   from_spout = table.from_spout;
-  from_components = slice_set table.from_components c (slice_index_or table.from_components c [] ++ sub ∷ []);
+  from_components =
+      slice_set table.from_components c (slice_index_or table.from_components c [] ++ sub ∷ []);
 }
 
 -- an input of a component, at its source
 abbrev pub with_input : FileParts → ℕ → SubTable → Input → SubTable
 with_input p to table input =
-    option_map_or (λ from. with_sub table from (record { to = to; grouping = planned_grouping p from input.grouping })) (source_of p input.from) table
+    option_map_or
+    (λ from. with_sub table from
+    (record { to = to; grouping = planned_grouping p from input.grouping }))
+    (source_of p input.from) table
 
 -- all inputs of a component
 abbrev pub with_inputs : FileParts → SubTable → ℕ × List Input → SubTable

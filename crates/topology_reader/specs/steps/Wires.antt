@@ -26,7 +26,8 @@ wired_by components spout_subs component_subs = record {
 }
 
 -- the topology has these components and subscriptions
-pub record IsWiredBy (t : Topology) (parts : List Component) (from_spout : List Sub) (from_parts : List (Vec Sub Global)) : Type 0 where
+pub record IsWiredBy (t : Topology) (parts : List Component) (from_spout : List Sub)
+    (from_parts : List (Vec Sub Global)) : Type 0 where
   pub components : t.components ≡ parts
   pub spout_subs : t.spout_subs ≡ from_spout
   pub component_subs : t.component_subs ≡ items_by from_parts
