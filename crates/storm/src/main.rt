@@ -1,13 +1,16 @@
-//! Runs the command that the words after the program's name give.
+//! Runs the command that the words after the program's name give. Bolts with the operation `custom`
+//! turn a row's values round.
 #![tactic(auto)]
 
 ghost use Rattle.std.specs.Prelude.{map, string_bytes};
+ghost use Rattle.bolt_ops.specs.RowOp.{reversed};
 ghost use Rattle.storm_program.specs.Outside.{shelf_use, sink_use};
 ghost use Rattle.storm_program.specs.Storm.{Exits};
 
 mod arguments;
 
 use crate::arguments::words;
+use bolt_ops::Reversed;
 use std::alloc::Global;
 use std::process::ExitCode;
 use std::sync::Wait;
@@ -23,12 +26,12 @@ fn exit_status<R: Threads + Wait + Sync, H: Shelf, K: Sink>(
     shelf: &mut H,
     out: &mut K,
 ) -> u8
-    ensures { Exits (map string_bytes words.now)
+    ensures { Exits reversed (map string_bytes words.now)
         (shelf_use H.holds H.ready H.fetches H.faults shelf.old shelf.new)
         (sink_use K.taken K.faults out.old out.new) result }
 {
     let mut fates = Fates::new(alloc);
-    let status = storm(rt, alloc, words, shelf, out, &mut fates);
+    let status = storm(rt, alloc, words, shelf, out, &Reversed, &mut fates);
     status.code()
 }
 

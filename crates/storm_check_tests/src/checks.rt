@@ -3,7 +3,7 @@ use std::alloc::Global;
 use storm_program::{Status, storm_check};
 use storm_test_kit::{
     CALM, CHECK, COPIES_TO_ALL, LAST_VALUE, PAIRS, RUN, SENTENCES, Scene, WORD_COUNT,
-    check_refusal, run_of, shelf, sink, taken,
+    check_refusal, one_bolt, run_of, shelf, sink, taken,
 };
 use test_kit::{Mismatch, changed, compare};
 
@@ -81,16 +81,8 @@ const LENGTHS: [(usize, u8, &str); 3] = [
     (200_000, 3, "topology: longer than 65536 bytes\n"),
 ];
 
-// A spout, one bolt with this operation, and one state.
-const ONE_BOLT: &str = r#"{"version":1,
- "spout":{"name":"words","kind":"SPOUT","fields":["word"],"batch":1},
- "bolts":[{"name":"bolt","tasks":1,"op":OP,
-   "inputs":[{"from":"words","grouping":"shuffle"}]}],
- "states":[{"name":"counts","kind":"STATE","parts":1,"key":["word"],
-   "fold":"count","inputs":["bolt"]}]}"#;
-
 // Kinds of the spout and the state, and the operation, of plans that are valid and not run yet.
-const NOT_YET: [(&str, &str, &str); 5] = [
+const NOT_YET: [(&str, &str, &str); 4] = [
     (
         "transactional",
         "transactional",
@@ -101,7 +93,6 @@ const NOT_YET: [(&str, &str, &str); 5] = [
         "transactional",
         r#"{"do":"mute","below":1}"#,
     ),
-    ("transactional", "transactional", r#"{"do":"custom"}"#),
     (
         "transactional",
         "opaque",
@@ -166,13 +157,6 @@ fn a_check_without_words(rt: HostRuntime) -> Result<(), Mismatch> {
     let text = taken(alloc, &sink)?;
     let want = "valid components 1 tasks 1 weight 1 depth 1\n";
     compare(alloc, "a check", text.as_str(), want)
-}
-
-// The topology with kinds of its spout and its state, and the operation of its bolt.
-fn one_bolt(alloc: Global, spout: &str, state: &str, op: &str) -> Result<String, Mismatch> {
-    let with_spout = changed(alloc, ONE_BOLT, "SPOUT", spout)?;
-    let with_state = changed(alloc, with_spout.as_str(), "STATE", state)?;
-    changed(alloc, with_state.as_str(), "OP", op)
 }
 
 #[test]

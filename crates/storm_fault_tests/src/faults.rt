@@ -5,13 +5,13 @@ use std::alloc::Global;
 use std::sync::Wait;
 use std::thread::Threads;
 use storm_test_kit::{
-    CALM, CHECK, COUNTED_SENTENCES, Outside, RUN, SENTENCES, Scene, Told, WORD_COUNT, call,
-    check_call, check_refusal, reads_of, run_over,
+    CALM, CHECK, COUNTED_SENTENCES, Outside, PLAIN, RUN, SENTENCES, Scene, TABLES_OF_SENTENCES,
+    Told, WORD_COUNT, call, check_call, check_refusal, plain_of, reads_of, run_over,
 };
 use test_kit::{Mismatch, compare};
 
 // A report, each refusal, and the line of a read fault.
-const SCENES: [Scene<'static>; 7] = [
+const SCENES: [Scene<'static>; 10] = [
     Scene {
         words: &RUN,
         topology: Some(WORD_COUNT),
@@ -29,6 +29,21 @@ const SCENES: [Scene<'static>; 7] = [
     },
     Scene {
         words: &RUN,
+        topology: Some(WORD_COUNT),
+        input: None,
+    },
+    Scene {
+        words: &PLAIN,
+        topology: Some(WORD_COUNT),
+        input: Some(SENTENCES),
+    },
+    Scene {
+        words: &PLAIN,
+        topology: Some(WORD_COUNT),
+        input: Some("[]"),
+    },
+    Scene {
+        words: &PLAIN,
         topology: Some(WORD_COUNT),
         input: None,
     },
@@ -76,70 +91,111 @@ fn cut(alloc: Global, told: &Told, whole: &Told, taken: usize) -> Result<(), Mis
     bad_case(alloc, "other fates")
 }
 
-// The status and the text of a run over the sentences, a read of which fails.
-fn with_read_fault(longest: usize, number: u64) -> (u8, &'static str)
+// The commands that count the words of the sentences, with their texts.
+fn counts() -> [(Scene<'static>, &'static str); 2] {
+    [
+        (run_over(SENTENCES), COUNTED_SENTENCES),
+        (plain_of(WORD_COUNT, SENTENCES), TABLES_OF_SENTENCES),
+    ]
+}
+
+// Which file a read of the sentences' count is of, in the line of its fault, where there is one.
+fn unread(longest: usize, number: u64) -> Option<&'static str>
     requires { 0 < longest }
 {
     let of_topology = reads_of(WORD_COUNT, longest);
     if number <= of_topology {
-        return (5, "read fault topology\n");
+        return Some("read fault topology\n");
     }
     if number - of_topology <= reads_of(SENTENCES, longest) {
-        return (5, "read fault input\n");
+        return Some("read fault input\n");
     }
-    (0, COUNTED_SENTENCES)
+    None
 }
 
-// Lets one read of a run over the sentences fail. The answer is whether there is no such read.
+// Lets one read of a count of the sentences fail. The answer is whether there is no such read.
 fn fail_read<R: Threads + Wait + Sync>(
     rt: &R,
     alloc: Global,
+    count: (Scene<'static>, &'static str),
     longest: usize,
     number: u64,
 ) -> Result<bool, Mismatch>
     requires { 0 < longest }
 {
+    let (scene, text) = count;
     let outside = Outside {
         read: longest,
         failing_read: number,
         ..CALM
     };
-    let (code, text) = with_read_fault(longest, number);
-    if code == 0 {
-        check_call(rt, alloc, run_over(SENTENCES), outside, code, text)?;
-        return Ok(true);
+    match unread(longest, number) {
+        Some(line) => {
+            check_refusal(rt, alloc, scene, outside, 5, line)?;
+            Ok(false)
+        }
+        None => {
+            check_call(rt, alloc, scene, outside, 0, text)?;
+            Ok(true)
+        }
     }
-    check_refusal(rt, alloc, run_over(SENTENCES), outside, code, text)?;
-    Ok(false)
 }
 
-#[test]
-fn each_read_fails(rt: HostRuntime) -> Result<(), Mismatch> {
-    for longest in 1..8 {
-        for number in 1..1_000 {
-            if fail_read(&rt, rt.alloc(), longest, number)? {
-                break;
-            }
+// Lets each read of so many bytes of a count of the sentences fail in turn.
+fn fail_reads<R: Threads + Wait + Sync>(
+    rt: &R,
+    alloc: Global,
+    count: (Scene<'static>, &'static str),
+    longest: usize,
+) -> Result<(), Mismatch>
+    requires { 0 < longest }
+{
+    for number in 1..1_000 {
+        if fail_read(rt, alloc, count, longest, number)? {
+            break;
         }
     }
     Ok(())
 }
 
-// The fetch that fails, the status, and the text.
-const FETCHES: [(u64, u8, &str); 3] = [
-    (1, 5, "read fault topology\n"),
-    (2, 5, "read fault input\n"),
-    (3, 0, COUNTED_SENTENCES),
-];
-
 #[test]
-fn each_fetch_fails(rt: HostRuntime) -> Result<(), Mismatch> {
-    for (failing_fetch, code, text) in FETCHES {
+fn each_read_fails(rt: HostRuntime) -> Result<(), Mismatch> {
+    for count in counts() {
+        for longest in 1..8 {
+            fail_reads(&rt, rt.alloc(), count, longest)?;
+        }
+    }
+    Ok(())
+}
+
+// The fetch that fails, and the line of its fault.
+const FETCHES: [(u64, &str); 2] = [(1, "read fault topology\n"), (2, "read fault input\n")];
+
+// Lets each fetch of a count of the sentences fail in turn, and one more than there are.
+fn fail_fetches<R: Threads + Wait + Sync>(
+    rt: &R,
+    alloc: Global,
+    count: (Scene<'static>, &'static str),
+) -> Result<(), Mismatch> {
+    let (scene, text) = count;
+    for (failing_fetch, line) in FETCHES {
         let outside = Outside {
             failing_fetch,
             ..CALM
         };
-        check_call(&rt, rt.alloc(), run_over(SENTENCES), outside, code, text)?;
+        check_refusal(rt, alloc, scene, outside, 5, line)?;
+    }
+    let outside = Outside {
+        failing_fetch: 3,
+        ..CALM
+    };
+    check_call(rt, alloc, scene, outside, 0, text)
+}
+
+#[test]
+fn each_fetch_fails(rt: HostRuntime) -> Result<(), Mismatch> {
+    for count in counts() {
+        fail_fetches(&rt, rt.alloc(), count)?;
     }
     Ok(())
 }

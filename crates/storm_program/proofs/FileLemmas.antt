@@ -1,5 +1,5 @@
 -- What the two files come to, from what reading them gave.
-use Rattle.std.proofs.Common.{◌≡◌, ◌≢◌, ℕ, ◌+◌, ◌%◌, ◌^◌, ◌≤◌, List, length, ◌++◌, true, false, codes, Some, None, sym, ap, subst, ◌∙◌, inl, inr, arith, string_bytes}
+use Rattle.std.proofs.Common.{◌≡◌, ◌≢◌, ℕ, ◌+◌, ◌%◌, ◌^◌, ◌≤◌, List, length, ◌++◌, Bool, true, false, codes, Some, None, sym, ap, subst, ◌∙◌, inl, inr, arith, string_bytes}
 use Rattle.std.proofs.Math.Nat.{mod-add-mod}
 use Rattle.storm_values.specs.declared.value.Value.{Value}
 use Rattle.storm_values.specs.declared.lines.InputFault.{InputFault}
@@ -19,7 +19,6 @@ use Rattle.storm_program.specs.declared.stop.Stop.TheVariants.{Memory, Told}
 use Rattle.storm_program.specs.Ends.{HasText}
 use Rattle.storm_program.specs.Files.{IsAccepted, IsRunnable, AreRecords, IsTopologyLine, IsNotYetLine, IsInputLine, IsNotRead, of_topology, of_input, FilesCome}
 use Rattle.storm_program.specs.steps.Reading.{TopologyComes}
-use Rattle.storm_program.specs.NotYet.{is_not_yet}
 use Rattle.storm_program.specs.Outside.{ShelfUse, AreBytesOf, Fetched}
 use Rattle.storm_program.specs.steps.Reading.{WasRead, NotReadComes, InputComes}
 use Rattle.storm_program.specs.steps.Stops.{Stops, IfTold}
@@ -104,24 +103,24 @@ input_unread shelf plan name status.WriteFault text comes = absurd comes
 -- ---- both files
 
 -- what comes of the topology alone comes of both files
-pub files_of_topology : (shelf : ShelfUse) (topology input : List ℕ) (s : Status) (text : List ℕ) → TopologyComes shelf topology s text → FilesCome shelf topology input s text
-files_of_topology shelf topology input status.Done text comes = absurd comes
-files_of_topology shelf topology input status.Memory text comes = inl comes
-files_of_topology shelf topology input status.Words text comes = absurd comes
-files_of_topology shelf topology input status.Topology text comes = (comes.0, inl comes.1)
-files_of_topology shelf topology input status.Input text comes = absurd comes
-files_of_topology shelf topology input status.ReadFault text comes = of_topology comes.0 comes.1 comes.2
-files_of_topology shelf topology input status.WriteFault text comes = absurd comes
+pub files_of_topology : (puts_off : Topology → Bool) (shelf : ShelfUse) (topology input : List ℕ) (s : Status) (text : List ℕ) → TopologyComes shelf topology s text → FilesCome puts_off shelf topology input s text
+files_of_topology puts_off shelf topology input status.Done text comes = absurd comes
+files_of_topology puts_off shelf topology input status.Memory text comes = inl comes
+files_of_topology puts_off shelf topology input status.Words text comes = absurd comes
+files_of_topology puts_off shelf topology input status.Topology text comes = (comes.0, inl comes.1)
+files_of_topology puts_off shelf topology input status.Input text comes = absurd comes
+files_of_topology puts_off shelf topology input status.ReadFault text comes = of_topology comes.0 comes.1 comes.2
+files_of_topology puts_off shelf topology input status.WriteFault text comes = absurd comes
 
-pub runnable : (holds : List ℕ → List ℕ → Type 0) (topology : List ℕ) (plan : Topology) → IsAccepted holds topology plan → is_not_yet plan ≡ false → IsRunnable holds topology plan
-runnable holds topology plan accepted runs = record { accepted = accepted; runs = runs }
+pub runnable : (puts_off : Topology → Bool) (holds : List ℕ → List ℕ → Type 0) (topology : List ℕ) (plan : Topology) → IsAccepted holds topology plan → puts_off plan ≡ false → IsRunnable puts_off holds topology plan
+runnable puts_off holds topology plan accepted runs = record { accepted = accepted; runs = runs }
 
 -- a topology that is put off
-pub files_late : (shelf : ShelfUse) (topology input : List ℕ) (plan : Topology) (stop : Stop) → IsAccepted shelf.holds topology plan → is_not_yet plan ≡ true → Fetched 1 shelf → IfTold stop (λ ending text. (ending ≡ status.Topology) × (text ≡ not_yet_line)) → Stops (FilesCome shelf topology input) stop
-files_late shelf topology input plan Memory accepted late once told = inl once
-files_late shelf topology input plan (Told s line) accepted late once (is, printed) =
-    let put_off : IsNotYetLine shelf.holds topology (string_bytes line) = record { plan = plan; accepted = accepted; late = late; printed = printed } in
-    subst (λ t. HasText t × FilesCome shelf topology input t (string_bytes line)) (sym is) (tt, (once, inr put_off))
+pub files_late : (puts_off : Topology → Bool) (shelf : ShelfUse) (topology input : List ℕ) (plan : Topology) (stop : Stop) → IsAccepted shelf.holds topology plan → puts_off plan ≡ true → Fetched 1 shelf → IfTold stop (λ ending text. (ending ≡ status.Topology) × (text ≡ not_yet_line)) → Stops (FilesCome puts_off shelf topology input) stop
+files_late puts_off shelf topology input plan Memory accepted late once told = inl once
+files_late puts_off shelf topology input plan (Told s line) accepted late once (is, printed) =
+    let put_off : IsNotYetLine puts_off shelf.holds topology (string_bytes line) = record { plan = plan; accepted = accepted; late = late; printed = printed } in
+    subst (λ t. HasText t × FilesCome puts_off shelf topology input t (string_bytes line)) (sym is) (tt, (once, inr put_off))
 
 -- a count that rose has risen since any moment before
 rose_since : (a b c : ℕ) → a ≤ b → Rose b c → Rose a c
@@ -137,7 +136,7 @@ told_before : (was is : List ℕ → List ℕ → Type 0) (name bytes : List ℕ
 told_before was is name bytes keeps are told holds = are told (keeps name told holds)
 
 -- a shelf before and after both reads, and before and after the second
-module _ (whole rest : ShelfUse) (topology input : List ℕ) (plan : Topology) (keeps : (n b : List ℕ) → whole.holds n b → rest.holds n b) where
+module _ (puts_off : Topology → Bool) (whole rest : ShelfUse) (topology input : List ℕ) (plan : Topology) (keeps : (n b : List ℕ) → whole.holds n b → rest.holds n b) where
   pub records_before : (records : List (List Value)) → AreRecords rest.holds plan input records → AreRecords whole.holds plan input records
   records_before records are = record {
     bytes = are.bytes;
@@ -156,7 +155,7 @@ module _ (whole rest : ShelfUse) (topology input : List ℕ) (plan : Topology) (
   }
 
   -- what comes of the input comes of both files
-  pub files_of_input : (s : Status) (text : List ℕ) → IsRunnable whole.holds topology plan → Fetched 2 whole → (whole.ready → rest.ready) → whole.faults_before ≤ rest.faults_before → rest.faults_after ≡ whole.faults_after → InputComes rest plan input s text → FilesCome whole topology input s text
+  pub files_of_input : (s : Status) (text : List ℕ) → IsRunnable puts_off whole.holds topology plan → Fetched 2 whole → (whole.ready → rest.ready) → whole.faults_before ≤ rest.faults_before → rest.faults_after ≡ whole.faults_after → InputComes rest plan input s text → FilesCome puts_off whole topology input s text
   files_of_input status.Done text runs twice stays falls same comes = absurd comes
   files_of_input status.Memory text runs twice stays falls same comes = inr twice
   files_of_input status.Words text runs twice stays falls same comes = absurd comes

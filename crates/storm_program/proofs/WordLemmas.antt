@@ -1,11 +1,11 @@
 -- Which words the program takes.
-use Rattle.std.proofs.Common.{◌≡◌, ◌≢◌, ℕ, ◌<◌, ◌≤◌, ◌^◌, zero, suc, Bool, true, false, not, cond, ◌==◌, ◌&&◌, nat_lt, nat_le, List, [], ◌∷◌, length, Option, Some, None, codes, bytes_eq, option_and_then, option_map, refl, ap, subst, inl, inr, arith}
+use Rattle.std.proofs.Common.{◌≡◌, ◌≢◌, ℕ, ◌<◌, ◌≤◌, ◌^◌, zero, suc, Bool, true, false, not, cond, ◌==◌, ◌&&◌, nat_lt, nat_le, List, [], ◌∷◌, length, Option, Some, None, codes, bytes_eq, option_and_then, option_map, refl, sym, ap, subst, inl, inr, arith}
 use Rattle.std.specs.Char.{is_ascii_digit}
 use Rattle.std.specs.List.{list_all}
 use Rattle.std.proofs.lemmas.Bool.{cases_Bool, and_parts, eqb-true, false≢true}
 use Rattle.std.proofs.lemmas.Bool.Decides.{nat_tests}
 use Rattle.std.proofs.lemmas.Option.{none-some}
-use Rattle.storm_program.specs.Words.{Command, check, run, load, is_word, number_word, digits_value, command_of, command, if_built, built}
+use Rattle.storm_program.specs.Words.{Command, check, plain, run, load, is_word, number_word, digits_value, command_of, command, if_built, built}
 
 -- a choice of two commands that the program does not have
 neither : (b : Bool) (x y : Option Command) → if_built x ≡ None → if_built y ≡ None → if_built (cond b x y) ≡ None
@@ -35,20 +35,39 @@ check_good verb t e = rw e (by_word (is_word t))
 
 -- ---- three words
 
-pub run_other : (verb t i : List ℕ) → bytes_eq verb (codes "run") ≡ false → built (verb ∷ t ∷ i ∷ []) ≡ None
-unfolding built command
-run_other verb t i e =
-    let out : if_built (command_of (verb ∷ t ∷ i ∷ [])) ≡ None = rw e (neither (bytes_eq verb (codes "plain")) _ _ refl (neither (bytes_eq verb (codes "load")) _ _ (load_is_out _ _) refl)) in
-    neither (list_all is_word (verb ∷ t ∷ i ∷ [])) (command_of (verb ∷ t ∷ i ∷ [])) None out refl
+-- what is asked for is none where a test fails
+unless : (b c : Bool) (x : Option Command) → c ≡ false → if_built (cond (b && c) x None) ≡ None
+unless true true x bad = absurd (false≢true (sym bad))
+unless true false x bad = refl
+unless false c x bad = refl
 
-pub run_good : (verb t i : List ℕ) → verb ≡ codes "run" → built (verb ∷ t ∷ i ∷ []) ≡ cond (is_word t && is_word i) (Some (run t i 4)) None
+-- a word that is none
+pub files_bad_first : (verb t i : List ℕ) → is_word t ≡ false → built (verb ∷ t ∷ i ∷ []) ≡ None
 unfolding built command
-run_good verb t i e = rw e (by_words (is_word t) (is_word i))
+files_bad_first verb t i bad = unless (is_word verb) (is_word t && (is_word i && true)) _ (rw bad refl)
+
+pub files_bad_second : (verb t i : List ℕ) → is_word i ≡ false → built (verb ∷ t ∷ i ∷ []) ≡ None
+unfolding built command
+files_bad_second verb t i bad =
+    unless (is_word verb) (is_word t && (is_word i && true)) _ (rw bad (last (is_word t)))
   where
-    by_words : (x y : Bool) → if_built (cond (x && (y && true)) (command_of (codes "run" ∷ t ∷ i ∷ [])) None) ≡ cond (x && y) (Some (run t i 4)) None
-    by_words true true = refl
-    by_words true false = refl
-    by_words false y = refl
+    last : (b : Bool) → b && false ≡ false
+    last true = refl
+    last false = refl
+
+pub plain_good : (verb t i : List ℕ) → verb ≡ codes "plain" → is_word t ≡ true → is_word i ≡ true → built (verb ∷ t ∷ i ∷ []) ≡ Some (plain t i)
+unfolding built command
+plain_good verb t i e first second = rw (e, first, second) refl
+
+pub run_good : (verb t i : List ℕ) → verb ≡ codes "run" → is_word t ≡ true → is_word i ≡ true → built (verb ∷ t ∷ i ∷ []) ≡ Some (run t i 4)
+unfolding built command
+run_good verb t i e first second = rw (e, first, second) refl
+
+pub files_other : (verb t i : List ℕ) → bytes_eq verb (codes "plain") ≡ false → bytes_eq verb (codes "run") ≡ false → built (verb ∷ t ∷ i ∷ []) ≡ None
+unfolding built command
+files_other verb t i no_plain no_run =
+    let out : if_built (command_of (verb ∷ t ∷ i ∷ [])) ≡ None = rw (no_plain, no_run) (neither (bytes_eq verb (codes "load")) _ _ (load_is_out _ _) refl) in
+    neither (list_all is_word (verb ∷ t ∷ i ∷ [])) (command_of (verb ∷ t ∷ i ∷ [])) None out refl
 
 -- ---- numbers
 

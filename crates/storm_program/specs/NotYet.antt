@@ -1,4 +1,4 @@
--- Which plans a run does not take yet. This project's own.
+-- Which plans a command puts off. This project's own.
 use Rattle.std.specs.Prelude.{Bool, true, false, ◌||◌}
 use Rattle.std.specs.List.{list_any}
 use Rattle.topology_plan.specs.declared.parts.Body.{Body}
@@ -15,7 +15,7 @@ abbrev pub is_opaque : Kind → Bool
 is_opaque Transactional = false
 is_opaque Opaque = true
 
--- an operation that fails, stays mute, or is handed in
+-- an operation that fails or stays mute
 abbrev pub is_operation_not_yet : Op → Bool
 is_operation_not_yet (Split field) = false
 is_operation_not_yet (Project fields) = false
@@ -25,15 +25,19 @@ is_operation_not_yet (Len field) = false
 is_operation_not_yet (Route field) = false
 is_operation_not_yet (Flaky below) = true
 is_operation_not_yet (Mute below) = true
-is_operation_not_yet Custom = true
+is_operation_not_yet Custom = false
 
 -- a bolt or a state that is not run yet
 abbrev pub is_body_not_yet : Body → Bool
 is_body_not_yet (Bolt op) = is_operation_not_yet op
 is_body_not_yet (State spec) = is_opaque spec.kind
 
--- The spout or a state is opaque, or a bolt has an operation that is not run yet.
+-- those of a run: the spout or a state is opaque, or a bolt has an operation that is not run yet
 unfoldable pub is_not_yet : Topology → Bool
 is_not_yet t =
     is_opaque t.spout_kind
     || list_any (λ (component : Component). is_body_not_yet component.body) t.components
+
+-- those of `plain`: none
+abbrev pub puts_off_none : Topology → Bool
+puts_off_none t = false

@@ -1,15 +1,17 @@
 -- What a call of the program promises, by the command that its words give.
 use Rattle.std.specs.Prelude.{◌≡◌, ℕ, List, [], Option, Some}
+use Rattle.bolt_ops.specs.RowOp.{Custom}
 use Rattle.storm_program.specs.declared.fates.Attempt.{Attempt}
 use Rattle.storm_program.specs.declared.status.Status.{Status}
 use Rattle.storm_program.specs.declared.status.Status.TheVariants as status
 use Rattle.storm_program.specs.Check.{check_promise}
 use Rattle.storm_program.specs.Ends.{Promise, Ends, IsAnswered, Counts}
 use Rattle.storm_program.specs.Outside.{ShelfUse, SinkUse}
+use Rattle.storm_program.specs.Plain.{plain_promise}
 use Rattle.storm_program.specs.Run.{run_promise}
 use Rattle.storm_program.specs.Statuses.{code_of}
 use Rattle.storm_program.specs.Texts.{usage}
-use Rattle.storm_program.specs.Words.{Command, check, run, built}
+use Rattle.storm_program.specs.Words.{Command, check, plain, run, built}
 
 -- Words that are no command come to the usage line: no file is fetched, and nothing is run.
 abbrev pub WordsCome : ShelfUse → List Attempt → Status → List ℕ → Type 0
@@ -30,22 +32,26 @@ words_promise shelf fates = record {
 }
 
 -- One line a command. The commands that the program does not have yet are none.
-abbrev pub promise : ShelfUse → List Attempt → Option Command → Promise
-promise shelf fates (Some (check topology)) = check_promise shelf fates topology
-promise shelf fates (Some (run topology input workers)) = run_promise shelf fates topology input
-promise shelf fates _ = words_promise shelf fates
+abbrev pub promise : Custom → ShelfUse → List Attempt → Option Command → Promise
+promise custom shelf fates (Some (check topology)) = check_promise shelf fates topology
+promise custom shelf fates (Some (plain topology input)) =
+    plain_promise custom shelf fates topology input
+promise custom shelf fates (Some (run topology input workers)) =
+    run_promise custom shelf fates topology input
+promise custom shelf fates _ = words_promise shelf fates
 
--- a call over a shelf and a sink ended with a status, and left these fates
-pub record Calls (words : List (List ℕ)) (shelf : ShelfUse) (sink : SinkUse) (fates : List Attempt)
-    (ending : Status) : Type 0 where
-  pub ends : Ends (promise shelf fates (built words)).comes sink ending
-  pub answered : IsAnswered (promise shelf fates (built words)).calls shelf sink ending
+-- a call with an operation that was handed in, over a shelf and a sink, ended with a status, and
+-- left these fates
+pub record Calls (custom : Custom) (words : List (List ℕ)) (shelf : ShelfUse) (sink : SinkUse)
+    (fates : List Attempt) (ending : Status) : Type 0 where
+  pub ends : Ends (promise custom shelf fates (built words)).comes sink ending
+  pub answered : IsAnswered (promise custom shelf fates (built words)).calls shelf sink ending
   pub counts : Counts shelf sink
 
 -- the program ended with an exit status, that of a call
-pub record Exits (words : List (List ℕ)) (shelf : ShelfUse) (sink : SinkUse)
+pub record Exits (custom : Custom) (words : List (List ℕ)) (shelf : ShelfUse) (sink : SinkUse)
     (code : ℕ) : Type 0 where
   pub ending : Status
   pub fates : List Attempt
   pub is_code : code ≡ code_of ending
-  pub call : Calls words shelf sink fates ending
+  pub call : Calls custom words shelf sink fates ending

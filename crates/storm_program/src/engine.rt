@@ -3,29 +3,29 @@ ghost use Rattle.storm_values.specs.Rows.{IsRow};
 ghost use Rattle.tree_model.specs.Trees.{writes};
 ghost use Rattle.tree_model.specs.Tables.{AreTables, AreRunningTables};
 ghost use Rattle.storm_program.specs.Batches.{batch_count};
-ghost use Rattle.storm_program.specs.Custom.{as_it_is};
 ghost use Rattle.storm_program.specs.Fates.{ticks_handed_out, committed_records, IsOnce, IsWhole};
 ghost use Rattle.storm_program.specs.steps.Cutting.{first_attempt};
 
 use crate::batches::Batches;
-use crate::custom::AsItIs;
 use crate::fates::{Attempt, End, Fates};
+use bolt_ops::RowOp;
 use std::alloc::Global;
 use storm_values::{Memory, Root};
 use topology_plan::Plan;
 use tree_model::{RunningTables, Tables, writes_of};
 
 /// Runs a plan over its batches, one after another, and commits each at its first attempt.
-pub fn run_batches(
+pub fn run_batches<O: RowOp>(
     alloc: Global,
     plan: &Plan,
     batches: &Batches,
+    custom: &O,
     fates: &mut Fates,
 ) -> Result<Tables, Memory>
     requires fates { fates.old ≡ [] }
     requires rows { All (IsRow (length plan.now.spout_fields)) batches.now.records }
-    ensures tables { IfOk result (AreTables plan.now
-        (writes plan.now as_it_is (committed_records batches.now.records fates.new))) }
+    ensures tables { IfOk result (AreTables plan.now (writes plan.now (O.meaning custom.now)
+        (committed_records batches.now.records fates.new))) }
     ensures fates { OnOk result (IsWhole (length batches.now.records) batches.now.size
         ticks_handed_out fates.new) }
     ensures once { OnErr result (IsOnce (length batches.now.records) batches.now.size
@@ -34,18 +34,19 @@ pub fn run_batches(
     let mut running = RunningTables::new(alloc, plan)?;
     for number in 0..batches.count() {
         let txid = number + 1;
-        run_batch(alloc, plan, batches, txid, &mut running)?;
+        run_batch(alloc, plan, batches, txid, custom, &mut running)?;
         fates.push(committed(batches, txid))?;
     }
     running.tables(alloc, plan)
 }
 
 /// Executes the nodes of a batch in path order, and adds its writes to the tables.
-fn run_batch(
+fn run_batch<O: RowOp>(
     alloc: Global,
     plan: &Plan,
     batches: &Batches,
     txid: u64,
+    custom: &O,
     running: &mut RunningTables,
 ) -> Result<(), Memory>
     requires first { 0 < txid }
@@ -53,16 +54,18 @@ fn run_batch(
     requires rows { All (IsRow (length plan.now.spout_fields)) batches.now.records }
     ensures { OnOk result (
         AreRunningTables plan.now
-        (writes plan.now as_it_is (take ((txid - 1) * batches.now.size) batches.now.records))
+        (writes plan.now (O.meaning custom.now)
+        (take ((txid - 1) * batches.now.size) batches.now.records))
         running.old
         → AreRunningTables plan.now
-        (writes plan.now as_it_is (take (txid * batches.now.size) batches.now.records))
+        (writes plan.now (O.meaning custom.now)
+        (take (txid * batches.now.size) batches.now.records))
         running.new) }
 {
     let Some(batch) = batches.batch(txid) else {
         unreachable!()
     };
-    let writes = writes_of(alloc, plan, batch, &AsItIs)?;
+    let writes = writes_of(alloc, plan, batch, custom)?;
     running.add(plan, writes)
 }
 

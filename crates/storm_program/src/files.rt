@@ -4,10 +4,10 @@ ghost use Rattle.storm_outside.specs.Counts.{Rose};
 ghost use Rattle.storm_program.specs.Files.{IsAccepted, AreRecords, AreAccepted, FilesCome};
 ghost use Rattle.storm_program.specs.steps.Reading.{TopologyComes};
 ghost use Rattle.storm_program.specs.Outside.{shelf_use, Fetched};
-ghost use Rattle.storm_program.specs.steps.Reading.{WasRead, NotReadComes, InputComes};
+ghost use Rattle.storm_program.specs.steps.Reading.{WasRead, NotReadComes, InputComes, puts_off};
 ghost use Rattle.storm_program.specs.steps.Stops.{Stops};
 
-use crate::not_yet::is_not_yet;
+use crate::not_yet::Plans;
 use crate::status::Status;
 use crate::stop::{Stop, refused_input, refused_topology, told};
 use std::alloc::Global;
@@ -29,26 +29,28 @@ pub struct Accepted {
     pub rows: Rows,
 }
 
-/// Reads a topology and an input, and refuses them in this order.
+/// Reads a topology and an input, and refuses them in this order. A command takes some plans and
+/// puts the others off.
 pub fn read_files<H: Shelf>(
     alloc: Global,
     topology: &str,
     input: &str,
+    takes: Plans,
     shelf: &mut H,
 ) -> Result<Accepted, Stop>
-    ensures accepted { IfOk result (λ files.
-        AreAccepted (H.holds shelf.old) topology.now input.now files.plan files.rows) }
+    ensures accepted { IfOk result (λ files. AreAccepted (puts_off takes)
+        (H.holds shelf.old) topology.now input.now files.plan files.rows) }
     ensures rows { IfOk result (λ files.
         All (IsRow (length files.plan.spout_fields)) files.rows) }
     ensures fetches { OnOk result
         (Fetched 2 (shelf_use H.holds H.ready H.fetches H.faults shelf.old shelf.new)) }
-    ensures stop { IfErr result (Stops (FilesCome
+    ensures stop { IfErr result (Stops (FilesCome (puts_off takes)
         (shelf_use H.holds H.ready H.fetches H.faults shelf.old shelf.new)
         topology.now input.now)) }
     ensures never_falls { H.faults shelf.old ≤ H.faults shelf.new }
 {
     let plan = read_plan(alloc, topology, shelf)?;
-    if is_not_yet(&plan) {
+    if takes.puts_off(&plan) {
         return Err(told(alloc, Status::Topology, "topology: not yet\n"));
     }
     let rows = read_records(alloc, input, &plan, shelf)?;

@@ -3,13 +3,13 @@
 
 mod batches;
 mod check;
-mod custom;
 mod engine;
 mod fates;
 mod files;
 mod laws;
 mod not_yet;
 mod output;
+mod plain;
 mod program;
 mod report;
 mod run;
@@ -19,5 +19,5 @@ mod words;
 
 pub use fates::{Attempt, End, Fates};
 pub use laws::{committed_records_are_all, each_record_is_committed_once};
-pub use program::{storm, storm_check, storm_run};
+pub use program::{storm, storm_check, storm_plain, storm_run};
 pub use status::Status;

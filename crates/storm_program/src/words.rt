@@ -19,6 +19,10 @@ pub enum Command<'a> {
     Check {
         topology: &'a str,
     },
+    Plain {
+        topology: &'a str,
+        input: &'a str,
+    },
     Run {
         topology: &'a str,
         input: &'a str,
@@ -33,7 +37,7 @@ pub fn read_words(words: &[String]) -> Option<Command<'_>>
 {
     match words.len() {
         2 => check_of(words[0].as_str(), words[1].as_str()),
-        3 => run_of(words[0].as_str(), words[1].as_str(), words[2].as_str()),
+        3 => over_files(words[0].as_str(), words[1].as_str(), words[2].as_str()),
         4 => run_with(
             words[0].as_str(),
             words[1].as_str(),
@@ -57,18 +61,22 @@ fn check_of<'a>(verb: &str, topology: &'a str) -> Option<Command<'a>>
     Some(Command::Check { topology })
 }
 
-fn run_of<'a>(verb: &str, topology: &'a str, input: &'a str) -> Option<Command<'a>>
+/// A command on a topology and an input.
+fn over_files<'a>(verb: &str, topology: &'a str, input: &'a str) -> Option<Command<'a>>
     ensures command { option_map command_of_words result
         ≡ built (verb.now ∷ topology.now ∷ input.now ∷ []) }
     ensures workers { IfSome result HasWorkers }
 {
-    if verb != "run" {
-        return None;
-    }
     if !is_word(topology) {
         return None;
     }
     if !is_word(input) {
+        return None;
+    }
+    if verb == "plain" {
+        return Some(Command::Plain { topology, input });
+    }
+    if verb != "run" {
         return None;
     }
     Some(Command::Run {

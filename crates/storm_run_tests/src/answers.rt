@@ -2,8 +2,8 @@
 use std::alloc::Global;
 use storm_program::{Attempt, End};
 use storm_test_kit::{
-    CALM, COPIES_TO_ALL, COUNTED_SENTENCES, LAST_VALUE, PAIRS, RUN, SENTENCES, Scene, WORD_COUNT,
-    call, check_call, check_refusal, run_of, run_over,
+    CALM, COPIES_TO_ALL, COUNTED_SENTENCES, LAST_VALUE, PAIRS, RUN, SENTENCES, Scene, TURNED,
+    WORD_COUNT, call, check_call, check_refusal, run_of, run_over,
 };
 use storm_values::Root;
 use test_kit::Mismatch;
@@ -117,7 +117,7 @@ const REFUSED_INPUTS: [(&str, &str); 7] = [
 const USAGE: &str = "usage: storm check T | plain T I | replay T I S | run T I [W] | load N SEED\n";
 
 // Words that are no command.
-const NO_COMMANDS: [&[&str]; 28] = [
+const NO_COMMANDS: [&[&str]; 32] = [
     &[],
     &["run"],
     &["run", "t"],
@@ -132,6 +132,11 @@ const NO_COMMANDS: [&[&str]; 28] = [
     &["run", "t", "-"],
     &["run", "", "i"],
     &["Run", "t", "i"],
+    &["plain"],
+    &["plain", "t"],
+    &["plain", "t", "i", "4"],
+    &["plain", "-t", "i"],
+    &["plain", "t", ""],
     &["check"],
     &["check", "t", "i"],
     &["check", ""],
@@ -143,7 +148,6 @@ const NO_COMMANDS: [&[&str]; 28] = [
     &["help"],
     &["--", "check", "t"],
     // commands that are not there yet
-    &["plain", "t", "i"],
     &["replay", "t", "i", "s"],
     &["load", "1", "1"],
     &["t", "i"],
@@ -165,7 +169,7 @@ ok 5 records 3 batches
 "#;
 
 // Topologies, inputs, and their reports.
-const OTHER_REPORTS: [(&str, &str, &str); 3] = [
+const OTHER_REPORTS: [(&str, &str, &str); 4] = [
     (
         LAST_VALUE,
         "[\"a\",1]\n[\"b\",2]\n[\"a\",-3]\n",
@@ -183,6 +187,15 @@ ok 3 records 3 batches
         r#"attempt 1.1 records 1-1 ticks 0-0 committed
 cell counts ["a"] 3
 cell counts ["b"] 3
+ok 1 records 1 batches
+"#,
+    ),
+    // the bolt between turns each row round
+    (
+        TURNED,
+        "[7,\"x\"]",
+        r#"attempt 1.1 records 1-1 ticks 0-0 committed
+cell last ["x"] 7
 ok 1 records 1 batches
 "#,
     ),

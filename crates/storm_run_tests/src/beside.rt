@@ -67,7 +67,9 @@ fn the_tables_of_two_thousand_lines(rt: HostRuntime) -> Result<(), Fail> {
     let mut shelf = shelf(alloc, scene, outside)?;
     let mut sink = sink(alloc, outside)?;
     let mut fates = Fates::new(alloc);
-    let status = storm_run(&rt, alloc, "t", "i", 64, &mut shelf, &mut sink, &mut fates);
+    let status = storm_run(
+        &rt, alloc, "t", "i", 64, &mut shelf, &mut sink, &Reversed, &mut fates,
+    );
     assert!(rt; status == Status::Done);
     let tables = tables(alloc, topology.as_str(), input.as_str())?;
     let want = report(alloc, tables.as_slice())?;

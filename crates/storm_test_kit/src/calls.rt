@@ -1,5 +1,6 @@
 // Calls of `storm` over files and an output in memory.
 use crate::scenes::{Scene, owned};
+use bolt_ops::Reversed;
 use std::alloc::Global;
 use std::sync::Wait;
 use std::thread::Threads;
@@ -55,6 +56,7 @@ pub fn call<R: Threads + Wait + Sync>(
         words.as_slice(),
         &mut shelf,
         &mut sink,
+        &Reversed,
         &mut fates,
     );
     let text = taken(alloc, &sink)?;

@@ -9,6 +9,9 @@ use storm_values::Memory;
 /// The words of a run.
 pub const RUN: [&str; 3] = ["run", "t", "i"];
 
+/// The words of a `plain`.
+pub const PLAIN: [&str; 3] = ["plain", "t", "i"];
+
 /// The words of a check.
 pub const CHECK: [&str; 2] = ["check", "t"];
 
@@ -26,6 +29,14 @@ pub fn run_of<'a>(topology: &'a str, input: &'a str) -> Scene<'a> {
         words: &RUN,
         topology: Some(topology),
         input: Some(input),
+    }
+}
+
+/// The scene of a `plain`.
+pub fn plain_of<'a>(topology: &'a str, input: &'a str) -> Scene<'a> {
+    Scene {
+        words: &PLAIN,
+        ..run_of(topology, input)
     }
 }
 

@@ -1,4 +1,6 @@
 // Topologies, and records with their report.
+use std::alloc::Global;
+use test_kit::{Mismatch, changed};
 
 /// The topology of the word count, in batches of two records.
 pub const WORD_COUNT: &str = "{\"version\":1,
@@ -38,12 +40,40 @@ cell counts [\"years\"] 1
 ok 3 records 2 batches
 ";
 
+/// The tables of the word count over them, and the tail of their report.
+pub const TABLES_OF_SENTENCES: &str = "cell counts [\"ago\"] 1
+cell counts [\"and\"] 1
+cell counts [\"cow\"] 1
+cell counts [\"four\"] 1
+cell counts [\"jumped\"] 1
+cell counts [\"man\"] 1
+cell counts [\"moon\"] 1
+cell counts [\"over\"] 1
+cell counts [\"score\"] 1
+cell counts [\"seven\"] 1
+cell counts [\"store\"] 1
+cell counts [\"the\"] 4
+cell counts [\"to\"] 1
+cell counts [\"went\"] 1
+cell counts [\"years\"] 1
+ok 3 records 2 batches
+";
+
 /// The last value of each key.
 pub const LAST_VALUE: &str = r#"{"version":1,
  "spout":{"name":"pairs","kind":"transactional","fields":["k","v"],"batch":1},
  "bolts":[],
  "states":[{"name":"last","kind":"transactional","parts":1,"key":["k"],
    "fold":"last","amount":"v","inputs":["pairs"]}],
+ "ackers":2,"pending":2}"#;
+
+/// The last value of each key, behind a bolt that is handed in.
+pub const TURNED: &str = r#"{"version":1,
+ "spout":{"name":"pairs","kind":"transactional","fields":["k","v"],"batch":1},
+ "bolts":[{"name":"turn","tasks":1,"op":{"do":"custom"},
+   "inputs":[{"from":"pairs","grouping":"shuffle"}]}],
+ "states":[{"name":"last","kind":"transactional","parts":1,"key":["k"],
+   "fold":"last","amount":"v","inputs":["turn"]}],
  "ackers":2,"pending":2}"#;
 
 /// The words of three copies of each sentence.
@@ -75,3 +105,19 @@ pub const PAIRS: &str = r#"{"version":1,
    "fold":"max","amount":"v","inputs":["sized"]},
   {"name":"all","kind":"transactional","parts":1,"key":["k","v"],
    "fold":"count","inputs":["pairs"]}]}"#;
+
+/// A count of words behind one bolt.
+const ONE_BOLT: &str = r#"{"version":1,
+ "spout":{"name":"words","kind":"SPOUT","fields":["word"],"batch":1},
+ "bolts":[{"name":"bolt","tasks":1,"op":OP,
+   "inputs":[{"from":"words","grouping":"shuffle"}]}],
+ "states":[{"name":"counts","kind":"STATE","parts":1,"key":["word"],
+   "fold":"count","inputs":["bolt"]}]}"#;
+
+/// A count of words behind one bolt, with kinds of its spout and its state, and the operation of
+/// its bolt.
+pub fn one_bolt(alloc: Global, spout: &str, state: &str, op: &str) -> Result<String, Mismatch> {
+    let with_spout = changed(alloc, ONE_BOLT, "SPOUT", spout)?;
+    let with_state = changed(alloc, with_spout.as_str(), "STATE", state)?;
+    changed(alloc, with_state.as_str(), "OP", op)
+}

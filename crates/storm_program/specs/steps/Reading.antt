@@ -1,8 +1,11 @@
 -- What was read of a file.
-use Rattle.std.specs.Prelude.{◌≡◌, ℕ, List, take}
+use Rattle.std.specs.Prelude.{◌≡◌, ℕ, List, Bool, take}
+use Rattle.storm_program.specs.declared.not_yet.Plans.{Plans}
+use Rattle.storm_program.specs.declared.not_yet.Plans.TheVariants as plans
 use Rattle.storm_program.specs.declared.status.Status.{Status}
 use Rattle.storm_program.specs.declared.status.Status.TheVariants as status
 use Rattle.storm_program.specs.Files.{IsNotRead, IsTopologyLine, IsInputLine}
+use Rattle.storm_program.specs.NotYet.{is_not_yet, puts_off_none}
 use Rattle.storm_program.specs.Outside.{ShelfUse, Fetched, AreBytesOf}
 use Rattle.storm_program.specs.Texts.{topology_not_read, input_not_read}
 use Rattle.topology_plan.specs.Topology.{Topology}
@@ -45,3 +48,8 @@ InputComes shelf plan input status.Topology text = ⊥
 InputComes shelf plan input status.Input text = IsInputLine shelf.holds plan input text
 InputComes shelf plan input status.ReadFault text = IsNotRead shelf input × (text ≡ input_not_read)
 InputComes shelf plan input status.WriteFault text = ⊥
+
+-- which plans a command puts off that takes these
+abbrev pub puts_off : Plans → Topology → Bool
+puts_off plans.All = puts_off_none
+puts_off plans.Runnable = is_not_yet

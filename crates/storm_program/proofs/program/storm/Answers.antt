@@ -7,6 +7,7 @@ use Rattle.storm_program.proofs.program.storm.Goals as goal
 pub returns-in-None-clause-ends : goal.returns-in-None-clause-ends
 returns-in-None-clause-ends g c =
     ends_words
+    (g.O.RowOp.meaning c.args.custom.now)
     (shelf_use g.H.Shelf.holds g.H.Shelf.ready g.H.Shelf.fetches g.H.Shelf.faults c.args.shelf.now c.args.shelf.now)
     (sink_use g.K.Sink.taken g.K.Sink.faults c.args.out.now c.write_text.new.out)
     _ _ _ c.write_text.result

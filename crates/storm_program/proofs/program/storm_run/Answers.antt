@@ -10,6 +10,7 @@ returns-clause-ends g c =
 pub returns-clause-answered : goal.returns-clause-answered
 returns-clause-answered g c =
     run_answered
+    (g.O.RowOp.meaning c.args.custom.now)
     (shelf_use g.H.Shelf.holds g.H.Shelf.ready g.H.Shelf.fetches g.H.Shelf.faults c.args.shelf.now c.run_files-came.new.shelf)
     (sink_use g.K.Sink.taken g.K.Sink.faults c.args.out.now c.write_answer.new.out)
     c.args.topology.now c.args.input.now _ c.write_answer.result (returns-clause-ends g c)

@@ -5,4 +5,4 @@ use Rattle.storm_program.proofs.run.run_files.Goals as goal
 pub returns-in_err-files-clause-stop : goal.returns-in_err-files-clause-stop
 returns-in_err-files-clause-stop g c =
     IfErr-exit c.from_residual.result _ _ c.from_residual.ensures.1 (
-    Stops-weaker _ _ c.in_err-files.field-0.0 (run_of_files _ _ _ _ c.requires) c.in_err-files.ensures.stop)
+    Stops-weaker _ _ c.in_err-files.field-0.0 (run_of_files _ _ _ _ _ c.requires) c.in_err-files.ensures.stop)

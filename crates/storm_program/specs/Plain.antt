@@ -1,0 +1,64 @@
+-- The command `plain`: the tables by definition, without batches, whatever fails or stays mute.
+use Rattle.std.specs.Prelude.{◌≡◌, ℕ, List, [], length}
+use Rattle.storm_values.specs.declared.value.Value.{Value}
+use Rattle.bolt_ops.specs.RowOp.{Custom}
+use Rattle.topology_plan.specs.Topology.{Topology}
+use Rattle.tree_model.specs.declared.write.Table.{Table}
+use Rattle.tree_model.specs.Trees.{writes}
+use Rattle.tree_model.specs.Tables.{AreTables}
+use Rattle.storm_program.specs.declared.fates.Attempt.{Attempt}
+use Rattle.storm_program.specs.declared.status.Status.{Status}
+use Rattle.storm_program.specs.declared.status.Status.TheVariants as status
+use Rattle.storm_program.specs.Batches.{batch_count}
+use Rattle.storm_program.specs.Cells.{cells_of}
+use Rattle.storm_program.specs.Ends.{Promise}
+use Rattle.storm_program.specs.Files.{AreAccepted, FilesCome, FilesCall}
+use Rattle.storm_program.specs.NotYet.{puts_off_none}
+use Rattle.storm_program.specs.Outside.{ShelfUse, Fetched}
+use Rattle.storm_program.specs.Report.{ok, report_text}
+
+-- The report of a plan and the records of an input, with the operation that was handed in. The
+-- tables are those of one machine that takes all records in order, and there is no attempt line.
+pub record IsPlainReport (custom : Custom) (plan : Topology) (records : List (List Value))
+    (text : List ℕ) : Type 0 where
+  pub tables : List Table
+  pub of_records : AreTables plan (writes plan custom records) tables
+  pub printed : text ≡ report_text (record {
+    attempts = [];
+    cells = cells_of tables;
+    tail = ok (length records) (batch_count (length records) plan.batch);
+  })
+
+-- the report of the files of these names, whatever valid plan that is
+pub record IsPlainReportOfFiles (custom : Custom) (holds : List ℕ → List ℕ → Type 0)
+    (topology input : List ℕ) (text : List ℕ) : Type 0 where
+  pub plan : Topology
+  pub records : List (List Value)
+  pub accepted : AreAccepted puts_off_none holds topology input plan records
+  pub report : IsPlainReport custom plan records text
+
+-- What it comes to, by its status. It comes to no other status, and puts no plan off.
+abbrev pub PlainComes : Custom → ShelfUse → List ℕ → List ℕ → Status → List ℕ → Type 0
+PlainComes custom shelf topology input status.Done text =
+    Fetched 2 shelf × IsPlainReportOfFiles custom shelf.holds topology input text
+PlainComes custom shelf topology input status.Memory text =
+    FilesCome puts_off_none shelf topology input status.Memory text
+PlainComes custom shelf topology input status.Words text = ⊥
+PlainComes custom shelf topology input status.Topology text =
+    FilesCome puts_off_none shelf topology input status.Topology text
+PlainComes custom shelf topology input status.Input text =
+    FilesCome puts_off_none shelf topology input status.Input text
+PlainComes custom shelf topology input status.ReadFault text =
+    FilesCome puts_off_none shelf topology input status.ReadFault text
+PlainComes custom shelf topology input status.WriteFault text = ⊥
+
+-- Which status the told files call for.
+abbrev pub PlainCalls : (List ℕ → List ℕ → Type 0) → List ℕ → List ℕ → Status → Type 0
+PlainCalls = FilesCall puts_off_none
+
+-- `plain` as a command among others: it leaves the fates empty
+abbrev pub plain_promise : Custom → ShelfUse → List Attempt → List ℕ → List ℕ → Promise
+plain_promise custom shelf fates topology input = record {
+  comes = λ ending text. PlainComes custom shelf topology input ending text × (fates ≡ []);
+  calls = PlainCalls shelf.holds topology input;
+}
