@@ -1,0 +1,5 @@
+//! Tests of tables by their definition, whatever fails or stays mute.
+#![tactic(auto)]
+
+#[cfg(test)]
+mod plains;
