@@ -6,7 +6,7 @@ use Rattle.std.specs.Str.{bytes_eq}
 use Rattle.std.specs.List.{AllByRecursion}
 use mathlib.Core.Option.{some}
 use lib.ListN.{get_elem?}
-use Rattle.counted_items.specs.Weights.{weigh}
+use Rattle.counted_items.specs.Weights.{weigh, Same}
 use Rattle.counted_items.proofs.Weighing.{weigh-append, weigh-none}
 use Rattle.pass_numbers.specs.declared.Number.{Number}
 use Rattle.pass_numbers.specs.Numbers.{first_numbers, kept_numbers, cut_numbers, has, splits_at, IsWhole, over, Numbered}
@@ -69,6 +69,14 @@ whole_of numbers_of holders ns same numbered = (
 pub numbered_as : {V W : Type 0} (numbers_of : V → List Number) (numbers_in : W → List Number) (before : List V) (after : List W)
     → ((f : Number → ℕ) → over numbers_in f after ≡ over numbers_of f before) → Numbered numbers_of before → Numbered numbers_in after
 numbered_as numbers_of numbers_in before after same numbered = (same (has []) ∙ numbered.0, λ p k. same (has (p ++ k ∷ [])) ∙ rw (same (splits_at p)) (numbered.1 p k))
+
+-- one holder that is left has all numbers
+pub one_whole : {V : Type 0} (numbers_of : V → List Number) (v : V) → Numbered numbers_of (v ∷ []) → IsWhole (numbers_of v)
+one_whole numbers_of v numbered = whole_of numbers_of (v ∷ []) (numbers_of v) (λ f. omega arith) numbered
+
+-- holders in another order
+pub any_order : {V : Type 0} (numbers_of : V → List Number) (holders others : List V) → Same holders others → Numbered numbers_of holders → Numbered numbers_of others
+any_order numbers_of holders others same numbered = numbered_as numbers_of numbers_of holders others (λ f. sym (same (λ v. weigh f (numbers_of v)))) numbered
 
 module _ {V : Type 0} (numbers_of : V → List Number) where
   abbrev in_holder : (Number → ℕ) → V → ℕ

@@ -1,5 +1,6 @@
 //! Laws of the numbers, each a call that does nothing. A holder is the list of its numbers.
-ghost use Rattle.std.specs.Prelude.{◌≡◌, ◌≢◌, ◌≤◌, ℕ, All, List, [], ◌∷◌, ◌++◌};
+ghost use Rattle.std.specs.Prelude.{◌≡◌, ◌≢◌, ◌≤◌, ◌↔◌, ℕ, All, List, [], ◌∷◌, ◌++◌};
+ghost use Rattle.counted_items.specs.Weights.{Same};
 ghost use Rattle.pass_numbers.specs.declared.Number.{Number};
 ghost use Rattle.pass_numbers.specs.Numbers.{Numbered, IsWhole, over, has};
 ghost use Rattle.pass_numbers.specs.Numbers.{first_numbers, kept_numbers, cut_numbers};
@@ -13,6 +14,17 @@ pub fn numbers_stand_once()
 /// A law: the first holder has all numbers.
 pub fn the_first_is_whole()
     ensures { IsWhole first_numbers }
+{}
+
+/// A law: the one holder that is left has all numbers.
+pub fn the_last_is_whole()
+    ensures { (ns : List Number) → Numbered (λ ns. ns) (ns ∷ []) ↔ IsWhole ns }
+{}
+
+/// A law: holders with all numbers have them in any order.
+pub fn holders_have_no_order()
+    ensures { (holders others : List (List Number))
+        → Same holders others → Numbered (λ ns. ns) holders → Numbered (λ ns. ns) others }
 {}
 
 /// A law: beside a holder of all numbers no other has any.

@@ -4,7 +4,8 @@
 mod laws;
 
 pub use laws::{
-    a_join_loses_none, a_split_gives_one, numbers_stand_once, the_first_is_whole, whole_leaves_none,
+    a_join_loses_none, a_split_gives_one, holders_have_no_order, numbers_stand_once,
+    the_first_is_whole, the_last_is_whole, whole_leaves_none,
 };
 use std::collections::LinkedList;
 

@@ -28,6 +28,7 @@ impl Board {
         requires { IsSeatOf self.now seat.old }
         ensures seat { IsSeatOf self.now seat.new }
         ensures book { book_of seat.new ≡ ticked (book_of seat.old) result }
+        ensures numbers { numbers_in (book_of seat.new) ≡ numbers_in (book_of seat.old) }
 
         // Where the book is not marked, the number is above all that was seen, and joins the book.
         ensures above { (book_of seat.new).wrapped ≡ false → (book_of seat.old).seen < result }
@@ -45,6 +46,7 @@ impl Board {
         requires { IsSeatOf self.now seat.old }
         ensures seat { IsSeatOf self.now seat.new }
         ensures book { book_of seat.new ≡ looked (book_of seat.old) result }
+        ensures numbers { numbers_in (book_of seat.new) ≡ numbers_in (book_of seat.old) }
 
         // Where the book is not marked, the answer is what it has seen now, no less than before.
         ensures seen { (book_of seat.new).wrapped ≡ false → result ≡ (book_of seat.new).seen }
@@ -61,6 +63,7 @@ impl Board {
         requires { IsSeatOf self.now seat.old }
         ensures seat { IsSeatOf self.now seat.new }
         ensures book { book_of seat.new ≡ made_halt (book_of seat.old) }
+        ensures numbers { numbers_in (book_of seat.new) ≡ numbers_in (book_of seat.old) }
     {
         self.table.shared.store::<MakeHalt>(&mut seat.inner, 1, 1);
     }
@@ -70,6 +73,7 @@ impl Board {
         requires { IsSeatOf self.now seat.old }
         ensures seat { IsSeatOf self.now seat.new }
         ensures book { book_of seat.new ≡ with_halt (book_of seat.old) result }
+        ensures numbers { numbers_in (book_of seat.new) ≡ numbers_in (book_of seat.old) }
         ensures stays { (book_of seat.old).halted ≡ true → result ≡ true }
         ensures whole { IsWhole (numbers_in (book_of seat.old)) →
             result ≡ (book_of seat.old).halted }

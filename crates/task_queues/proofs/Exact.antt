@@ -11,7 +11,7 @@ use Rattle.topology_plan.specs.Topology.{Topology}
 use Rattle.task_queues.specs.declared.rule.Book.{Book}
 use Rattle.task_queues.specs.declared.rule.Stamped.{Stamped}
 use Rattle.task_queues.specs.declared.rule.View.{View}
-use Rattle.task_queues.specs.Books.{no_view, sent_of, taken_of, took, kept_first, cut_first, kept_of, cut_of, both_of, numbers_in, numbers_of}
+use Rattle.task_queues.specs.Books.{no_view, sent_of, taken_of, sent_first, taken_first, took, kept_first, cut_first, kept_of, cut_of, both_of, numbers_in, numbers_of}
 use Rattle.task_queues.specs.Rule.{items_of, Stood}
 use Rattle.task_queues.specs.Steps.{SendsOne, TakesOne}
 use Rattle.task_queues.proofs.Whole.{same-length, whole_balanced, whole_left}
@@ -50,6 +50,23 @@ module _ {M : Type 0} (is_true : Topology → ℕ → M → Type 0) where
   take_stamp v w None none = tt
 
 module _ {M : Type 0} where
+  sent_numbers : (bs : List (Book M)) (x : M) → numbers_in (sent_first bs x) ≡ numbers_in bs
+  sent_numbers [] x = refl
+  sent_numbers (b ∷ bs) x = refl
+
+  taken_numbers : (bs : List (Book M)) (s : Stamped M) → numbers_in (taken_first bs s) ≡ numbers_in bs
+  taken_numbers [] s = refl
+  taken_numbers (b ∷ bs) s = refl
+
+  -- a step leaves a pass its numbers
+  pub send_numbers : {A : Type 0} (H : Type 0) (v w : View M) (x : M) (r : Result A M) → MatchResult r (λ _. SendsOne v x w) (λ y. (y ≡ x) × (w ≡ v) × H) → numbers_of w ≡ numbers_of v
+  send_numbers H v w x (Ok a) sent = ap numbers_of sent.0 ∙ sent_numbers v.books x
+  send_numbers H v w x (Err y) back = ap numbers_of back.1
+
+  pub take_numbers : (is_true : Topology → ℕ → M → Type 0) (H : Type 0) (v w : View M) (r : Option M) → MatchOption r ((w ≡ v) × H) (λ x. TakesOne is_true v x w) → numbers_of w ≡ numbers_of v
+  take_numbers is_true H v w (Some x) taken = ap numbers_of taken.2 ∙ taken_numbers v.books taken.0
+  take_numbers is_true H v w None none = ap numbers_of none.0
+
   kept_is : (bs : List (Book M)) → numbers_in (kept_first bs) ≡ kept_numbers (numbers_in bs)
   kept_is [] = refl
   kept_is (b ∷ bs) = refl

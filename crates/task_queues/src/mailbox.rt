@@ -49,6 +49,7 @@ impl<M: Truth + Drop> Mailbox<M> {
         requires is_true { M.is_true (view_of pass.old).plan (view_of pass.old).owner m }
         ensures pass { IsPassOf self.now pass.new }
         ensures sent { OnOk result (view_of pass.new ≡ sent_to (view_of pass.old) m) }
+        ensures numbers { numbers_of (view_of pass.new) ≡ numbers_of (view_of pass.old) }
         ensures back { IfErr result (λ message. message ≡ m) }
         ensures same { OnErr result (view_of pass.new ≡ view_of pass.old) }
         ensures full { OnErr result (HeldAt M.is_true pass.old (view_of pass.old).capacity) }
@@ -71,6 +72,7 @@ impl<M: Truth + Drop> Mailbox<M> {
             (M.is_true (view_of pass.old).plan (view_of pass.old).owner) }
         ensures taken { IfSome result (λ m. (s : Stamped M)
             × (s.item ≡ m) × (view_of pass.new ≡ took (view_of pass.old) s)) }
+        ensures numbers { numbers_of (view_of pass.new) ≡ numbers_of (view_of pass.old) }
         ensures same { IfNone result (view_of pass.new ≡ view_of pass.old) }
         ensures empty { IfNone result (HeldAt M.is_true pass.old 0) }
 

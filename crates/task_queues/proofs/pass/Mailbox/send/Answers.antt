@@ -1,5 +1,5 @@
 use Rattle.task_queues.proofs.Steps.{sends, stands}
-use Rattle.task_queues.proofs.Exact.{send_whole}
+use Rattle.task_queues.proofs.Exact.{send_whole, send_numbers}
 use Rattle.task_queues.proofs.pass.Mailbox.send.Goals as goal
 
 pub push_as-requires-clause-rule : goal.push_as-requires-clause-rule
@@ -10,3 +10,6 @@ push_as-requires-clause-rule g c = (
 
 pub returns-clause-whole : goal.returns-clause-whole
 returns-clause-whole g c = send_whole g.M.Truth.is_true _ _ _ _ c.push_as.result c.push_as.ensures.rule c.requires.pass.capacity
+
+pub returns-clause-numbers : goal.returns-clause-numbers
+returns-clause-numbers g c = send_numbers _ _ _ _ c.push_as.result c.push_as.ensures.rule
