@@ -78,6 +78,15 @@ one_whole numbers_of v numbered = whole_of numbers_of (v ∷ []) (numbers_of v) 
 pub any_order : {V : Type 0} (numbers_of : V → List Number) (holders others : List V) → Same holders others → Numbered numbers_of holders → Numbered numbers_of others
 any_order numbers_of holders others same numbered = numbered_as numbers_of numbers_of holders others (λ f. sym (same (λ v. weigh f (numbers_of v)))) numbered
 
+-- the first two holders change places
+pub swap_beside : {V : Type 0} (numbers_of : V → List Number) (v u : V) (others : List V) → Numbered numbers_of (v ∷ u ∷ others) → Numbered numbers_of (u ∷ v ∷ others)
+swap_beside numbers_of v u others numbered = numbered_as numbers_of numbers_of (v ∷ u ∷ others) (u ∷ v ∷ others) (λ f. omega arith) numbered
+
+-- the first holder keeps its numbers
+pub same_beside : {V : Type 0} (numbers_of : V → List Number) (v w : V) (others : List V) → numbers_of w ≡ numbers_of v → Numbered numbers_of (v ∷ others) → Numbered numbers_of (w ∷ others)
+same_beside numbers_of v w others same numbered =
+    numbered_as numbers_of numbers_of (v ∷ others) (w ∷ others) (λ f. let e : weigh f (numbers_of w) ≡ weigh f (numbers_of v) = ap (weigh f) same in omega arith) numbered
+
 module _ {V : Type 0} (numbers_of : V → List Number) where
   abbrev in_holder : (Number → ℕ) → V → ℕ
   in_holder f v = weigh f (numbers_of v)

@@ -1,0 +1,7 @@
+use Rattle.std.proofs.Common.{◌≡◌}
+use Rattle.task_queues.specs.Books.{numbers_of}
+use Rattle.task_queues.specs.Passes.{IsPassOf, view_of}
+use Rattle.queue_tests.proofs.together.send_soon.Given as goal
+
+abbrev pub invariant-loop : goal.invariant-loop
+invariant-loop g l = IsPassOf l.mailbox l.pass × (numbers_of (view_of l.pass) ≡ numbers_of (view_of l.fn.pass))
