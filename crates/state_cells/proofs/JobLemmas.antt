@@ -9,8 +9,10 @@ use Rattle.topology_plan.specs.declared.parts.Fold.{Fold}
 use Rattle.topology_plan.specs.declared.parts.Kind.{Kind}
 use Rattle.storm_stores.specs.CellMaps.{CellMap, cell_at}
 use Rattle.storm_stores.proofs.CellMapLemmas.{bytes_eq-same}
-use Rattle.cell_format.specs.Commits.{Commits, IsPerhapsDone}
-use Rattle.state_cells.specs.Turns.{AreApart, IsPerhapsWorked, IsWorked, OnlyAt, Turns, job_at}
+use Rattle.cell_format.specs.Commits.{Commits, Holds, IsPerhapsDone, after}
+use Rattle.cell_format.specs.Layout.{bytes_of}
+use Rattle.cell_format.specs.declared.cell.Cell.{Cell}
+use Rattle.state_cells.specs.Turns.{AreApart, IsBad, IsPerhapsWorked, IsWorked, OnlyAt, Turns, job_at}
 use Rattle.state_cells.specs.declared.group.Job.{Job}
 
 some_here : (b : Bool) (o : Option Job) (y : Job) → b ≡ true → option_map (λ (z : Job). z.amounts.items) (cond b (Some y) o) ≢ None
@@ -141,3 +143,15 @@ module _ {S : Type 0} (tells : S → CellMap → Type 0) (kind : Kind) (by : Fol
   work_broken_at jobs i job a b c apart at first then =
       subst (λ (xs : List Job). Turns tells (λ key. IsPerhapsWorked kind by txid (job_at xs key)) a c) (sym (taken jobs i job at))
       (work_broken (take i jobs) (drop (suc i) jobs) job a b c (job_at-before jobs i job apart at) first then)
+
+-- ---- a cell that the part does not take
+
+good_not_bad : (kind : Kind) (held : Option (List ℕ)) (cell : Option Cell) → Holds kind held cell → IsBad kind held → ⊥
+good_not_bad kind None cell holds bad = bad
+good_not_bad kind (Some bytes) None holds bad = let e : ◌≡◌ {A = Option (List ℕ)} (Some bytes) None = holds.bytes in absurd cc
+good_not_bad kind (Some bytes) (Some cell) holds bad = bad cell holds.good (let e : ◌≡◌ {A = Option (List ℕ)} (Some bytes) (Some (bytes_of cell)) = holds.bytes in cc)
+
+-- no commit makes one
+pub bad_before : (kind : Kind) (by : Fold) (txid : ℕ) (o : Option (List ℤ)) (old new : Option (List ℕ)) → IsWorked kind by txid o old new → IsBad kind new → IsBad kind old
+bad_before kind by txid None old new same bad = subst (IsBad kind) same bad
+bad_before kind by txid (Some amounts) old new commits bad = absurd (good_not_bad kind new (after kind by txid amounts commits.cell) commits.is bad)

@@ -4,5 +4,6 @@ mod OnErr
 mod GroupLemmas
 mod ScanLemmas
 mod RestoreLemmas
+mod KnownLemmas
 mod PlanLemmas
 mod RowLemmas

@@ -1,31 +1,23 @@
 -- The jobs that a commit needs, and what they make of a part.
 use Rattle.std.proofs.Common.{◌≡◌, inl, ℕ, ℤ, Vec, Bool, true, false, true≢false, not, ◌&&◌, ◌||◌, ◌==◌, cond, List, [], ◌∷◌, Option, None, Some, MatchOption, is_some, option_map, refl, sym, ap, subst, ◌∙◌, nat_cmp}
-use Rattle.std.specs.Cmp.Lexicographic.{slice_cmp}
-use Rattle.std.specs.List.{AllByRecursion, list_any}
-use Rattle.std.specs.List.Sorted.{IsStrictlySortedBy}
-use Rattle.std.specs.Map.{keys_of}
+use Rattle.std.specs.List.{list_any}
 use Rattle.std.specs.Option.{option_map_or, option_or}
-use Rattle.std.specs.Ordering.{is_eq}
-use Rattle.std.specs.declared.cmp.Ordering.TheVariants.{Less}
 use Rattle.std.specs.declared.alloc.Global.{Global}
 use Rattle.std.specs.Str.{bytes_eq}
-use Rattle.std.proofs.lemmas.List.Kept.{IsStrictlySortedBy-filter}
-use Rattle.std.proofs.lemmas.Map.Text.{is_eq-slice_cmp}
-use Rattle.std.proofs.lemmas.Map.Views.{any-filter_same}
-use Rattle.std.proofs.lemmas.Slice.Eq.{bytes_eq-Decides}
 use Rattle.topology_plan.specs.declared.parts.Fold.{Fold}
 use Rattle.topology_plan.specs.declared.parts.Kind.{Kind}
 use Rattle.topology_plan.specs.declared.parts.Kind.TheVariants.{Transactional, Opaque}
 use Rattle.tree_model.specs.declared.write.Write.{Write}
-use Rattle.storm_stores.specs.CellMaps.{CellMap, InKeyOrder, cell_at}
+use Rattle.storm_stores.specs.CellMaps.{CellMap, cell_at}
 use Rattle.cell_format.specs.Layout.{bytes_of}
 use Rattle.cell_format.specs.Commits.{Commits, Holds, IsDone, IsPerhapsDone, after, again, amounts_at}
 use Rattle.cell_format.specs.declared.cell.Cell.{Cell}
+use Rattle.state_cells.specs.Known.{AreKnown, IsListedOf, keys_in}
 use Rattle.state_cells.specs.Plans.{IsLeft, IsPlan}
-use Rattle.state_cells.specs.Scans.{AreGood, carriers, carries_of, is_carrier}
+use Rattle.state_cells.specs.Scans.{carries_of}
 use Rattle.state_cells.specs.Turns.{AreApart, AreOnce, IsPerhapsWorked, IsWorked, Turns, job_at}
 use Rattle.state_cells.specs.declared.group.Job.{Job}
-use Rattle.state_cells.proofs.ScanLemmas.{carrier_is}
+use Rattle.state_cells.proofs.KnownLemmas.{job_listed, keys_once, not_carrier}
 
 -- ---- what the jobs make of a key
 
@@ -82,44 +74,6 @@ module _ {S : Type 0} (tells : S → CellMap → Type 0) (kind : Kind) (by : Fol
 pub nothing_done : {S : Type 0} (tells : S → CellMap → Type 0) (kind : Kind) (by : Fold) (txid : ℕ) (writes : List Write) (a b : S) → ((m : CellMap) → tells a m → tells b m) → Turns tells (λ key. IsPerhapsDone kind by txid (amounts_at writes key)) a b
 nothing_done tells kind by txid writes a b same = record { to = λ m told. (m, same m told, λ key. inl refl) }
 
--- ---- the keys of a transaction
-
-once_if_sorted : (keys : List (List ℕ)) → IsStrictlySortedBy (slice_cmp nat_cmp) keys → AreOnce keys
-unfolding IsStrictlySortedBy
-once_if_sorted [] sorted = tt
-once_if_sorted (k ∷ ks) sorted = (λ listed. true≢false (sym listed ∙ none k ks sorted.0), once_if_sorted ks sorted.1)
-  where
-    none : (key : List ℕ) (keys : List (List ℕ)) → AllByRecursion (λ y. slice_cmp nat_cmp key y ≡ Less) keys → list_any (bytes_eq key) keys ≡ false
-    none key [] below = refl
-    none key (y ∷ ys) below =
-        let apart : bytes_eq key y ≡ false = sym (is_eq-slice_cmp key y) ∙ ap is_eq below.0 in
-        rw apart (none key ys below.1)
-
-pub carriers_once : (txid : ℕ) (cells : CellMap) → InKeyOrder cells → AreOnce (carriers txid cells)
-carriers_once txid cells sorted = once_if_sorted (carriers txid cells) (IsStrictlySortedBy-filter (slice_cmp nat_cmp) (λ key. is_carrier txid (cell_at cells key)) (keys_of cells) sorted)
-
-key_listed : (cells : CellMap) (key bytes : List ℕ) → cell_at cells key ≡ Some bytes → list_any (bytes_eq key) (keys_of cells) ≡ true
-key_listed [] key bytes is = absurd (let e : ◌≡◌ {A = Option (List ℕ)} None (Some bytes) = is in cc)
-key_listed (e ∷ es) key bytes is = cases (bytes_eq key e.0) is (key_listed es key bytes)
-  where
-    cases : (b : Bool) → cond b (Some e.1) (cell_at es key) ≡ Some bytes → (cell_at es key ≡ Some bytes → list_any (bytes_eq key) (keys_of es) ≡ true) → (b || list_any (bytes_eq key) (keys_of es)) ≡ true
-    cases true found later = refl
-    cases false found later = later found
-
-pub carriers_listed : (txid : ℕ) (cells : CellMap) (key : List ℕ) → is_carrier txid (cell_at cells key) ≡ list_any (bytes_eq key) (carriers txid cells)
-carriers_listed txid cells key = cases (cell_at cells key) refl
-  where
-    row : list_any (bytes_eq key) (carriers txid cells) ≡ (is_carrier txid (cell_at cells key) && list_any (bytes_eq key) (keys_of cells))
-    row = any-filter_same (bytes_eq key) (λ k. is_carrier txid (cell_at cells k)) (is_carrier txid (cell_at cells key)) (λ k same. ap (λ x. is_carrier txid (cell_at cells x)) (sym ((bytes_eq-Decides key k).0 same))) (keys_of cells)
-
-    and_true : (b : Bool) → b ≡ (b && true)
-    and_true true = refl
-    and_true false = refl
-
-    cases : (held : Option (List ℕ)) → cell_at cells key ≡ held → is_carrier txid (cell_at cells key) ≡ list_any (bytes_eq key) (carriers txid cells)
-    cases None is = ap (is_carrier txid) is ∙ sym (row ∙ ap (λ h. is_carrier txid h && list_any (bytes_eq key) (keys_of cells)) is)
-    cases (Some bytes) is = and_true (is_carrier txid (cell_at cells key)) ∙ ap (λ b. is_carrier txid (cell_at cells key) && b) (sym (key_listed cells key bytes is)) ∙ sym row
-
 -- ---- the plans
 
 abbrev Amounts : Type 0
@@ -131,11 +85,11 @@ written_row txid amounts held None is = sym is
 written_row txid amounts held (Some xs) is = is
 
 all_row : (txid : ℕ) (amounts : List ℤ) (held : Option (List ℕ)) (group : Option Amounts) (listed : Bool) → option_map_or (λ (xs : Amounts). xs.items) group [] ≡ amounts
-    → is_carrier txid held ≡ listed → ((cell : Option Cell) × Holds Opaque held cell)
+    → (listed ≡ false → (cell : Option Cell) × Holds Opaque held cell × (carries_of txid cell ≡ false))
     → MatchOption (option_or (option_map (λ (xs : Amounts). xs.items) group) (cond (listed && not (is_some group)) (Some []) None)) (IsLeft Opaque txid amounts held) (λ xs. xs ≡ amounts)
-all_row txid amounts held (Some xs) listed is carried good = is
-all_row txid amounts held None true is carried good = is
-all_row txid amounts held None false is carried good = (sym is, good.0, good.1, sym (carrier_is Opaque txid held good.0 good.1) ∙ carried)
+all_row txid amounts held (Some xs) listed is left = is
+all_row txid amounts held None true is left = is
+all_row txid amounts held None false is left = let x = left refl in (sym is, x.0, x.1, x.2)
 
 pub plan_of_written : (txid : ℕ) (writes : List Write) (cells : CellMap) (jobs : List Job) (groups : List ℕ → Option Amounts) → AreApart jobs → ((key : List ℕ) → job_at jobs key ≡ option_map (λ (xs : Amounts). xs.items) (groups key))
     → ((key : List ℕ) → option_map_or (λ (xs : Amounts). xs.items) (groups key) [] ≡ amounts_at writes key) → IsPlan Transactional txid writes cells jobs
@@ -144,12 +98,36 @@ plan_of_written txid writes cells jobs groups apart at amounts = record {
   at = λ key. subst (λ (job : Option (List ℤ)). MatchOption job (IsLeft Transactional txid (amounts_at writes key) (cell_at cells key)) (λ xs. xs ≡ amounts_at writes key)) (sym (at key)) (written_row txid (amounts_at writes key) (cell_at cells key) (groups key) (amounts key));
 }
 
-pub plan_of_all : (txid : ℕ) (writes : List Write) (cells : CellMap) (jobs : List Job) (keys : List (List ℕ)) (groups : List ℕ → Option Amounts) → (AreOnce keys → AreApart jobs)
+pub plan_of_all : (txid : ℕ) (newest : Bool) (writes : List Write) (cells : CellMap) (jobs : List Job) (keys : List (List ℕ)) (groups : List ℕ → Option Amounts) → (AreOnce keys → AreApart jobs)
     → ((key : List ℕ) → job_at jobs key ≡ option_or (option_map (λ (xs : Amounts). xs.items) (groups key)) (cond (list_any (bytes_eq key) keys && not (is_some (groups key))) (Some []) None))
     → ((key : List ℕ) → option_map_or (λ (xs : Amounts). xs.items) (groups key) [] ≡ amounts_at writes key)
-    → keys ≡ carriers txid cells → AreGood Opaque cells → InKeyOrder cells → IsPlan Opaque txid writes cells jobs
-plan_of_all txid writes cells jobs keys groups apart at amounts is good sorted = record {
-  apart = apart (subst AreOnce (sym is) (carriers_once txid cells sorted));
+    → AreKnown txid newest keys cells → IsPlan Opaque txid writes cells jobs
+plan_of_all txid newest writes cells jobs keys groups apart at amounts known = record {
+  apart = apart known.once;
   at = λ key. subst (λ (job : Option (List ℤ)). MatchOption job (IsLeft Opaque txid (amounts_at writes key) (cell_at cells key)) (λ xs. xs ≡ amounts_at writes key)) (sym (at key))
-      (all_row txid (amounts_at writes key) (cell_at cells key) (groups key) (list_any (bytes_eq key) keys) (amounts key) (carriers_listed txid cells key ∙ ap (list_any (bytes_eq key)) (sym is)) (good key));
+      (all_row txid (amounts_at writes key) (cell_at cells key) (groups key) (list_any (bytes_eq key) keys) (amounts key)
+      (λ none. ((known.at key).cell, (known.at key).holds, not_carrier txid keys key (known.at key).cell (known.at key).listed none)));
 }
+
+-- each key of the transaction has a job
+job_there : (group : Option Amounts) (listed : Bool) (o : Option (List ℤ)) → listed ≡ true → o ≡ option_or (option_map (λ (xs : Amounts). xs.items) group) (cond (listed && not (is_some group)) (Some []) None) → is_some o ≡ true
+job_there (Some xs) listed o is made = ap is_some made
+job_there None true o is made = ap is_some made
+job_there None false o is made = absurd (true≢false (sym is))
+
+pub known_by_jobs : (txid : ℕ) (newest : Bool) (cells : CellMap) (jobs : List Job) (keys : List (List ℕ)) (groups : List ℕ → Option Amounts) → (AreOnce keys → AreApart jobs)
+    → ((key : List ℕ) → job_at jobs key ≡ option_or (option_map (λ (xs : Amounts). xs.items) (groups key)) (cond (list_any (bytes_eq key) keys && not (is_some (groups key))) (Some []) None))
+    → AreKnown txid newest keys cells → AreKnown txid newest (keys_in jobs) cells
+known_by_jobs txid newest cells jobs keys groups apart at known = record {
+  once = keys_once jobs (apart known.once);
+  at = λ key. let x = known.at key in record {
+    cell = x.cell;
+    holds = x.holds;
+    listed = more x.cell key x.listed;
+    within = x.within;
+  };
+}
+  where
+    more : (cell : Option Cell) (key : List ℕ) → IsListedOf txid keys key cell → IsListedOf txid (keys_in jobs) key cell
+    more None key listed = tt
+    more (Some c) key listed = λ is. job_listed jobs key ∙ job_there (groups key) (list_any (bytes_eq key) keys) (job_at jobs key) (listed is) (at key)

@@ -1,5 +1,5 @@
 -- The rows that were read so far.
-use Rattle.std.proofs.Common.{◌≡◌, ◌<◌, ◌+◌, ℕ, ℤ, inr, IsSome, zero, suc, nat_lt, Bool, true, false, List, [], ◌∷◌, ◌++◌, length, take, Option, None, Some, refl, sym, ap, subst, ◌∙◌, arith}
+use Rattle.std.proofs.Common.{◌≡◌, ◌<◌, ◌+◌, ℕ, ℤ, inr, IsSome, zero, suc, nat_lt, Bool, true, false, true≢false, List, [], ◌∷◌, ◌++◌, length, take, Option, None, Some, refl, sym, ap, subst, ◌∙◌, arith}
 use Rattle.std.specs.List.{filter_map, slice_get}
 use Rattle.std.specs.Map.{keys_of}
 use Rattle.std.specs.Option.{option_to_list}
@@ -21,14 +21,14 @@ use Rattle.state_cells.proofs.ScanLemmas.{Scanned, Scanned-end, Scanned-more, Sc
 -- the rows of the first keys; the keys of some transaction tell of each cell that it is good
 pub record Tabled (kind : Kind) (cells : CellMap) (n : ℕ) (pairs : List Pair) : Type 0 where
   pub rows : pairs ≡ filter_map (λ key. row_by key (value_in (cell_at cells key))) (take n (keys_of cells))
-  pub seen : (keys : List (List ℕ)) × Scanned kind 0 cells n keys
+  pub seen : (keys : List (List ℕ)) × Scanned kind 0 cells n keys false
 
 value_is : (kind : Kind) (held : Option (List ℕ)) (cell : Option Cell) → Holds kind held cell → value_in held ≡ value_of cell
 value_is kind held None is = rw is.bytes refl
 value_is kind held (Some c) is = ap value_in is.bytes ∙ ap (λ (d : Cell). d.value) (read_of-bytes_of c is.good.is)
 
 pub Tabled-none : (kind : Kind) (cells : CellMap) → Tabled kind cells 0 []
-Tabled-none kind cells = record { rows = refl; seen = ([], Scanned-none kind 0 cells) }
+Tabled-none kind cells = record { rows = refl; seen = ([], Scanned-none kind 0 cells false) }
 
 pub Tabled-more : (kind : Kind) (cells : CellMap) (i : ℕ) (old new : List Pair) → Tabled kind cells i old → Reads kind cells i old new → Tabled kind cells (i + 1) new
 Tabled-more kind cells i old new seen reads =
@@ -39,7 +39,16 @@ Tabled-more kind cells i old new seen reads =
           ∙ ap (λ o. filter_map (λ key. row_by key (value_in (cell_at cells key))) (take i (keys_of cells)) ++ option_to_list o) (sym row)
           ∙ sym (ap (λ n. filter_map (λ key. row_by key (value_in (cell_at cells key))) (take n (keys_of cells))) next ∙ ap (filter_map (λ key. row_by key (value_in (cell_at cells key)))) (taken_more (keys_of cells) i reads.key reads.at)
           ∙ mapped_more (λ key. row_by key (value_in (cell_at cells key))) (take i (keys_of cells)) reads.key);
-      seen = (_, Scanned-more kind 0 cells i seen.seen.0 _ seen.seen.1 (record { key = reads.key; at = reads.at; cell = reads.cell; holds = reads.holds; noted = refl }));
+      seen = (
+        _,
+        Scanned-more kind 0 cells i seen.seen.0 _ false false seen.seen.1 (record {
+          key = reads.key;
+          at = reads.at;
+          cell = reads.cell;
+          holds = reads.holds;
+          notes = record { noted = refl; newest = λ is. absurd (true≢false (sym is)) };
+        }),
+      );
     }
   where
     mapped_more : (f : List ℕ → Option Pair) (xs : List (List ℕ)) (x : List ℕ) → filter_map f (xs ++ x ∷ []) ≡ filter_map f xs ++ option_to_list (f x)
@@ -52,7 +61,7 @@ Tabled-more kind cells i old new seen reads =
 pub Tabled-end : (kind : Kind) (cells : CellMap) (n : ℕ) (pairs : List Pair) → n ≡ length cells → Tabled kind cells n pairs → (pairs ≡ rows_of cells) × AreGood kind cells
 Tabled-end kind cells n pairs all seen = (
   seen.rows ∙ ap (filter_map (λ key. row_by key (value_in (cell_at cells key)))) (take_all n (keys_of cells) (omega (arith, length-keys_of cells, all))),
-  (Scanned-end kind 0 cells n seen.seen.0 all seen.seen.1).1,
+  λ key. let x = (Scanned-end kind 0 cells n seen.seen.0 false all seen.seen.1).1 key in (x.0, x.1),
 )
 
 -- a value at a key that is no text

@@ -12,11 +12,11 @@ use Rattle.topology_plan.specs.declared.parts.Kind.{Kind}
 use Rattle.storm_stores.specs.CellMaps.{CellMap, cell_at}
 use Rattle.cell_format.specs.Commits.{Holds}
 use Rattle.cell_format.specs.declared.cell.Cell.{Cell}
-use Rattle.state_cells.specs.Scans.{AreGood, Scans, carriers, carries_of, is_carrier}
+use Rattle.state_cells.specs.Scans.{IsNotLater, Scans, carriers, carries_of, is_carrier}
 
-pub record Scanned (kind : Kind) (txid : ℕ) (cells : CellMap) (n : ℕ) (keys : List (List ℕ)) : Type 0 where
+pub record Scanned (kind : Kind) (txid : ℕ) (cells : CellMap) (n : ℕ) (keys : List (List ℕ)) (newest : Bool) : Type 0 where
   pub noted : keys ≡ filter (λ key. is_carrier txid (cell_at cells key)) (take n (keys_of cells))
-  pub good : (j : ℕ) (key : List ℕ) → j < n → slice_get (keys_of cells) j ≡ Some key → (cell : Option Cell) × Holds kind (cell_at cells key) cell
+  pub good : (j : ℕ) (key : List ℕ) → j < n → slice_get (keys_of cells) j ≡ Some key → (cell : Option Cell) × Holds kind (cell_at cells key) cell × (newest ≡ true → IsNotLater txid cell)
 
 -- the bytes tell the transaction of the cell
 pub carrier_is : (kind : Kind) (txid : ℕ) (held : Option (List ℕ)) (cell : Option Cell) → Holds kind held cell → is_carrier txid held ≡ carries_of txid cell
@@ -42,11 +42,11 @@ filter_more p (y ∷ ys) x = cases (p y) (p x) (filter_more p ys x)
     cases false true later = later
     cases false false later = later
 
-pub Scanned-none : (kind : Kind) (txid : ℕ) (cells : CellMap) → Scanned kind txid cells 0 []
-Scanned-none kind txid cells = record { noted = refl; good = λ j key below at. absurd (omega arith) }
+pub Scanned-none : (kind : Kind) (txid : ℕ) (cells : CellMap) (newest : Bool) → Scanned kind txid cells 0 [] newest
+Scanned-none kind txid cells newest = record { noted = refl; good = λ j key below at. absurd (omega arith) }
 
-pub Scanned-more : (kind : Kind) (txid : ℕ) (cells : CellMap) (i : ℕ) (old new : List (List ℕ)) → Scanned kind txid cells i old → Scans kind txid cells i old new → Scanned kind txid cells (i + 1) new
-Scanned-more kind txid cells i old new seen scans =
+pub Scanned-more : (kind : Kind) (txid : ℕ) (cells : CellMap) (i : ℕ) (old new : List (List ℕ)) (was is : Bool) → Scanned kind txid cells i old was → Scans kind txid cells i old new was is → Scanned kind txid cells (i + 1) new is
+Scanned-more kind txid cells i old new was now seen scans =
     let p : List ℕ → Bool = λ key. is_carrier txid (cell_at cells key) in
     let next : i + 1 ≡ suc i = omega arith in
     let is : p scans.key ≡ carries_of txid scans.cell = carrier_is kind txid (cell_at cells scans.key) scans.cell scans.holds in
@@ -54,33 +54,36 @@ Scanned-more kind txid cells i old new seen scans =
     ap (λ n. filter p (take n (keys_of cells))) next ∙ ap (filter p) (taken_more (keys_of cells) i scans.key scans.at) ∙ filter_more p (take i (keys_of cells)) scans.key
     ∙ ap (λ b. cond b (filter p (take i (keys_of cells)) ++ scans.key ∷ []) (filter p (take i (keys_of cells)))) is in
     record {
-      noted = scans.noted ∙ ap (λ (xs : List (List ℕ)). cond (carries_of txid scans.cell) (xs ++ scans.key ∷ []) xs) seen.noted ∙ sym all;
+      noted = scans.notes.noted ∙ ap (λ (xs : List (List ℕ)). cond (carries_of txid scans.cell) (xs ++ scans.key ∷ []) xs) seen.noted ∙ sym all;
       good = λ j key below at. cases j key (nat_lt j i) refl below at;
     }
   where
-    cases : (j : ℕ) (key : List ℕ) (b : Bool) → nat_lt j i ≡ b → j < i + 1 → slice_get (keys_of cells) j ≡ Some key → (cell : Option Cell) × Holds kind (cell_at cells key) cell
-    cases j key true here below at = seen.good j key (grind (arith, nat_tests)) at
+    cases : (j : ℕ) (key : List ℕ) (b : Bool) → nat_lt j i ≡ b → j < i + 1 → slice_get (keys_of cells) j ≡ Some key → (cell : Option Cell) × Holds kind (cell_at cells key) cell × (now ≡ true → IsNotLater txid cell)
+    cases j key true here below at =
+        let x = seen.good j key (grind (arith, nat_tests)) at in
+        (x.0, x.1, λ is. x.2 (scans.notes.newest is).0)
     cases j key false here below at =
         let last : j ≡ i = grind (arith, nat_tests) in
         let both : ◌≡◌ {A = Option (List ℕ)} (Some scans.key) (Some key) = sym scans.at ∙ ap (slice_get (keys_of cells)) (sym last) ∙ at in
         let same : scans.key ≡ key = cc in
-        (scans.cell, subst (λ (k : List ℕ). Holds kind (cell_at cells k) scans.cell) same scans.holds)
+        (scans.cell, subst (λ (k : List ℕ). Holds kind (cell_at cells k) scans.cell) same scans.holds, λ is. (scans.notes.newest is).1)
 
 key_of_place : (cells : CellMap) (i : ℕ) (k bytes : List ℕ) → slice_get cells i ≡ Some (k, bytes) → (slice_get (keys_of cells) i ≡ Some k) × (i < length cells)
 key_of_place [] i k bytes at = absurd (let e : ◌≡◌ {A = Option (List ℕ × List ℕ)} None (Some (k, bytes)) = at in cc)
 key_of_place (e ∷ es) zero k bytes at = (let same : e ≡ (k, bytes) = cc in ap (λ (x : List ℕ × List ℕ). Some x.0) same, omega arith)
 key_of_place (e ∷ es) (suc i) k bytes at = let later = key_of_place es i k bytes at in (later.0, omega (arith, later.1))
 
-pub Scanned-end : (kind : Kind) (txid : ℕ) (cells : CellMap) (n : ℕ) (keys : List (List ℕ)) → n ≡ length cells → Scanned kind txid cells n keys → (keys ≡ carriers txid cells) × AreGood kind cells
-Scanned-end kind txid cells n keys all seen =
+pub Scanned-end : (kind : Kind) (txid : ℕ) (cells : CellMap) (n : ℕ) (keys : List (List ℕ)) (newest : Bool) → n ≡ length cells → Scanned kind txid cells n keys newest
+    → (keys ≡ carriers txid cells) × ((key : List ℕ) → (cell : Option Cell) × Holds kind (cell_at cells key) cell × (newest ≡ true → IsNotLater txid cell))
+Scanned-end kind txid cells n keys newest all seen =
     let p : List ℕ → Bool = λ key. is_carrier txid (cell_at cells key) in
     (seen.noted ∙ ap (filter p) (take_all n (keys_of cells) (omega (arith, length-keys_of cells, all))), λ key. cases key (cell_at cells key) refl)
   where
-    cases : (key : List ℕ) (held : Option (List ℕ)) → cell_at cells key ≡ held → (cell : Option Cell) × Holds kind (cell_at cells key) cell
-    cases key None is = (None, record { bytes = is; good = tt })
+    cases : (key : List ℕ) (held : Option (List ℕ)) → cell_at cells key ≡ held → (cell : Option Cell) × Holds kind (cell_at cells key) cell × (newest ≡ true → IsNotLater txid cell)
+    cases key None is = (None, record { bytes = is; good = tt }, λ _. tt)
     cases key (Some bytes) is =
         let place = place_from_lookup (bytes_eq key) cells bytes is in
         let at = key_of_place cells place.0 place.1 bytes place.2 in
         let same : key ≡ place.1 = (bytes_eq-Decides key place.1).0 place.3 in
         let found = seen.good place.0 place.1 (omega (arith, at.1, all)) at.0 in
-        (found.0, subst (λ (k : List ℕ). Holds kind (cell_at cells k) found.0) (sym same) found.1)
+        (found.0, subst (λ (k : List ℕ). Holds kind (cell_at cells k) found.0) (sym same) found.1, found.2)

@@ -1,5 +1,5 @@
 -- What one look at each key of a store finds.
-use Rattle.std.specs.Prelude.{◌≡◌, ◌==◌, ℕ, Bool, false, List, [], ◌∷◌, ◌++◌, if◌then◌else◌, filter, slice_get, Option, None, Some}
+use Rattle.std.specs.Prelude.{◌≡◌, ◌≤◌, ◌==◌, ℕ, Bool, true, false, List, [], ◌∷◌, ◌++◌, if◌then◌else◌, filter, slice_get, Option, None, Some}
 use Rattle.std.specs.Map.{keys_of}
 use Rattle.topology_plan.specs.declared.parts.Kind.{Kind}
 use Rattle.storm_stores.specs.CellMaps.{CellMap, cell_at}
@@ -25,11 +25,23 @@ carriers txid cells = filter (λ key. is_carrier txid (cell_at cells key)) (keys
 abbrev pub AreGood : Kind → CellMap → Type 0
 AreGood kind cells = (key : List ℕ) → (cell : Option Cell) × Holds kind (cell_at cells key) cell
 
--- the key of a number was looked at, and noted where its cell is of this transaction
+-- the cell is of this transaction or of an earlier one
+abbrev pub IsNotLater : ℕ → Option Cell → Type 0
+IsNotLater txid None = Unit {0}
+IsNotLater txid (Some cell) = cell.txid ≤ txid
+
+-- a key was noted where its cell is of this transaction; this is the newest so far where it was,
+-- and this cell is not later
+pub record Notes (txid : ℕ) (key : List ℕ) (cell : Option Cell)
+    (old new : List (List ℕ)) (was is : Bool) : Type 0 where
+  pub noted : new ≡ (if carries_of txid cell then old ++ key ∷ [] else old)
+  pub newest : is ≡ true → (was ≡ true) × IsNotLater txid cell
+
+-- the key of a number was looked at, and noted
 pub record Scans (kind : Kind) (txid : ℕ) (cells : CellMap) (i : ℕ)
-    (old new : List (List ℕ)) : Type 0 where
+    (old new : List (List ℕ)) (was is : Bool) : Type 0 where
   pub key : List ℕ
   pub at : slice_get (keys_of cells) i ≡ Some key
   pub cell : Option Cell
   pub holds : Holds kind (cell_at cells key) cell
-  pub noted : new ≡ (if carries_of txid cell then old ++ key ∷ [] else old)
+  pub notes : Notes txid key cell old new was is

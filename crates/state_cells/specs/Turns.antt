@@ -63,15 +63,3 @@ IsListed keys key = list_any (bytes_eq key) keys ≡ true
 abbrev pub AreOnce : List (List ℕ) → Type 0
 AreOnce [] = Unit {0}
 AreOnce (key ∷ keys) = (IsListed keys key → ⊥) × AreOnce keys
-
--- a key's cell is one that the part takes, and where it carries the transaction the key is listed
-pub record IsSeen (kind : Kind) (txid : ℕ) (keys : List (List ℕ))
-    (key bytes : List ℕ) : Type 0 where
-  pub cell : Cell
-  pub is : Holds kind (Some bytes) (Some cell)
-  pub listed : cell.txid ≡ txid → IsListed keys key
-
--- of every key
-abbrev pub AreSeen : Kind → ℕ → List (List ℕ) → CellMap → Type 0
-AreSeen kind txid keys cells =
-    (key bytes : List ℕ) → cell_at cells key ≡ Some bytes → IsSeen kind txid keys key bytes

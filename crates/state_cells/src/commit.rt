@@ -43,6 +43,7 @@ pub(crate) fn find_cell<C: CellStore>(
         Holds kind (cell_at cells key.now) cell) }
     ensures good { IfOk result (λ cell. IfSome cell (IsCellOf kind)) }
     ensures same { (cells : CellMap) → C.tells store.old cells → C.tells store.new cells }
+    ensures told_before { (cells : CellMap) → C.tells store.new cells → C.tells store.old cells }
     ensures failed { IsErrOf result PartFault.Store →
         Rose (C.fault_count store.old) (C.fault_count store.new) }
     ensures bad { (k : List ℕ) → IsErrOf result (PartFault.BadCell k) →
@@ -64,6 +65,8 @@ fn put_cell<C: CellStore>(store: &mut C, key: &[u8], cell: &Cell) -> Result<(), 
         C.tells store.new (with_cell cells key.now (bytes_of cell.now))) }
     ensures broken { OnErr result ((cells : CellMap) → C.tells store.old cells →
         C.tells store.new cells ⊎ C.tells store.new (with_cell cells key.now (bytes_of cell.now))) }
+    ensures told_before { (cells : CellMap) → C.tells store.new cells →
+        (before : CellMap) × C.tells store.old before }
     ensures failed { IsErrOf result PartFault.Store →
         Rose (C.fault_count store.old) (C.fault_count store.new) }
     ensures not_bad { (k : List ℕ) → IsErrOf result (PartFault.BadCell k) → ⊥ }
@@ -92,6 +95,8 @@ fn commit_key<C: CellStore>(
         Rose (C.fault_count store.old) (C.fault_count store.new) }
     ensures bad { (k : List ℕ) → IsErrOf result (PartFault.BadCell k) →
         (cells : CellMap) → C.tells store.old cells → IsBad batch.kind (cell_at cells k) }
+    ensures told_before { (cells : CellMap) → C.tells store.new cells →
+        (before : CellMap) × C.tells store.old before }
     ensures never_falls { C.fault_count store.old ≤ C.fault_count store.new }
 {
     let cell = match find_cell(alloc, store, batch.kind, key) {
@@ -119,6 +124,8 @@ pub(crate) fn commit_jobs<C: CellStore>(
         Rose (C.fault_count store.old) (C.fault_count store.new) }
     ensures bad { (k : List ℕ) → IsErrOf result (PartFault.BadCell k) → AreApart jobs.now →
         (cells : CellMap) → C.tells store.old cells → IsBad batch.kind (cell_at cells k) }
+    ensures told_before { (cells : CellMap) → C.tells store.new cells →
+        (before : CellMap) × C.tells store.old before }
     ensures never_falls { C.fault_count store.old ≤ C.fault_count store.new }
 {
     for job in jobs {

@@ -4,6 +4,7 @@
 mod commit;
 mod fault;
 mod group;
+mod known;
 mod part;
 mod plan;
 mod scan;

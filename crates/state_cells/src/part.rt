@@ -1,7 +1,8 @@
-ghost use Rattle.std.specs.Prelude.{◌≡◌, ◌≤◌, ℕ, List, IfOk, OnOk, OnErr, IsErrOf};
+ghost use Rattle.std.specs.Prelude.{◌≡◌, ◌≤◌, ℕ, List, IfOk, IfSome, OnOk, OnErr, IsErrOf};
 ghost use Rattle.storm_outside.specs.Counts.{Rose};
 ghost use Rattle.storm_stores.specs.CellMaps.{CellMap, cell_at};
 ghost use Rattle.cell_format.specs.Commits.{IsDone, IsPerhapsDone, amounts_at};
+ghost use Rattle.state_cells.specs.Known.{Knows};
 ghost use Rattle.state_cells.specs.PartStates.{part_of};
 ghost use Rattle.state_cells.specs.Rows.{IsBadRow, rows_of};
 ghost use Rattle.state_cells.specs.Scans.{AreGood};
@@ -9,6 +10,7 @@ ghost use Rattle.state_cells.specs.Turns.{IsBad, Turns};
 
 use crate::commit::{Batch, commit_jobs};
 use crate::fault::PartFault;
+use crate::known::{Known, known_after};
 use crate::plan::plan;
 use crate::table::table;
 use std::alloc::Global;
@@ -23,15 +25,21 @@ pub struct Part<C: CellStore> {
     store: C,
     kind: Kind,
     by: Fold,
+    /// What an opaque part knows of its store since it looked at each key.
+    known: Option<Known>,
     alloc: Global,
 }
 
 impl<C: CellStore> Model for Part<C> {
+    ghost use Rattle.std.specs.Prelude.{IfSome};
+    ghost use Rattle.state_cells.specs.Known.{Knows};
     ghost use Rattle.state_cells.specs.PartStates.{PartState};
 
     ghost Value = { PartState C };
 
     ghost view = { λ p. record { store = p.store; kind = p.kind; by = p.by } };
+
+    ghost invariant = { λ p. IfSome p.known (Knows C.tells p.store) };
 }
 
 impl<C: CellStore> Part<C> {
@@ -43,6 +51,7 @@ impl<C: CellStore> Part<C> {
             store,
             kind,
             by: fold,
+            known: None,
             alloc,
         }
     }
@@ -61,9 +70,11 @@ impl<C: CellStore> Part<C> {
         self.store.faults()
     }
 
-    /// Commits the part's writes of a batch. A transactional part takes a get and a put at most for
-    /// each key that is written; an opaque one looks at each of its keys first. After a fault some
-    /// keys may be done and the others are as before.
+    /// Commits the part's writes of a batch, with a get and a put at most for each key that is
+    /// written. An opaque part gives each other key with a cell of the transaction its value before
+    /// back, with a get and a put too; it looks at each key of its store at its first commit, and
+    /// once more at each commit of an older transaction than the one before and at the one after
+    /// that. After a fault some keys may be done and the others are as before.
     pub fn commit(&mut self, txid: u64, writes: &Writes) -> Result<(), PartFault>
         ensures ok { OnOk result (Turns C.tells (λ key. IsDone self.old.kind self.old.by txid
             (amounts_at writes.now key)) self.old.store self.new.store) }
@@ -83,7 +94,7 @@ impl<C: CellStore> Part<C> {
             by: self.by,
             txid,
         };
-        commit_batch(self.alloc, &mut self.store, batch, writes)
+        commit_batch(self.alloc, &mut self.store, &mut self.known, batch, writes)
     }
 
     /// The keys with a value, in order, with one look at each key.
@@ -109,9 +120,12 @@ impl<C: CellStore> Part<C> {
 fn commit_batch<C: CellStore>(
     alloc: Global,
     store: &mut C,
+    known: &mut Option<Known>,
     batch: Batch,
     writes: &Writes,
 ) -> Result<(), PartFault>
+    requires { IfSome known.old (Knows C.tells store.old) }
+    ensures known { IfSome known.new (Knows C.tells store.new) }
     ensures ok { OnOk result (Turns C.tells (λ key. IsDone batch.kind batch.by batch.txid
         (amounts_at writes.now key)) store.old store.new) }
     ensures err { OnErr result (Turns C.tells (λ key. IsPerhapsDone batch.kind batch.by batch.txid
@@ -122,9 +136,11 @@ fn commit_batch<C: CellStore>(
         C.tells store.old cells → IsBad batch.kind (cell_at cells k) }
     ensures never_falls { C.fault_count store.old ≤ C.fault_count store.new }
 {
-    let jobs = match plan(alloc, store, batch, writes) {
-        Ok(jobs) => jobs,
+    let work = match plan(alloc, store, known.take(), batch, writes) {
+        Ok(work) => work,
         Err(fault) => return Err(fault),
     };
-    commit_jobs(alloc, store, batch, &jobs)
+    let done = commit_jobs(alloc, store, batch, &work.jobs);
+    *known = known_after(alloc, batch.kind, batch.txid, work.jobs, work.is_newest);
+    done
 }

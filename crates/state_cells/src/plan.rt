@@ -1,28 +1,44 @@
-ghost use Rattle.std.specs.Prelude.{◌≡◌, ◌≤◌, ℕ, List, IfOk, IsErrOf};
+ghost use Rattle.std.specs.Prelude.{◌≡◌, ◌≤◌, ℕ, List, IfOk, IfSome, IsErrOf};
 ghost use Rattle.storm_outside.specs.Counts.{Rose};
 ghost use Rattle.storm_stores.specs.CellMaps.{CellMap, cell_at};
+ghost use Rattle.state_cells.specs.Known.{AreKnown, Knows, keys_in};
 ghost use Rattle.state_cells.specs.Plans.{IsPlan};
 ghost use Rattle.state_cells.specs.Turns.{IsBad};
 
 use crate::commit::Batch;
 use crate::fault::PartFault;
 use crate::group::{Job, all_jobs, group, jobs_of};
+use crate::known::{Known, known_of};
 use crate::scan::scan;
 use std::alloc::Global;
 use storm_stores::CellStore;
 use topology_plan::Kind;
 use tree_model::Writes;
 
+/// What a commit does.
+#[derive(Debug, Drop)]
+pub(crate) struct Work {
+    pub jobs: Vec<Job>,
+    /// Whether no cell of an opaque part is of a later transaction.
+    pub is_newest: bool,
+}
+
 /// The jobs of a commit. A transactional one makes no call here.
 pub(crate) fn plan<C: CellStore>(
     alloc: Global,
     store: &mut C,
+    known: Option<Known>,
     batch: Batch,
     writes: &Writes,
-) -> Result<Vec<Job>, PartFault>
-    ensures plan { IfOk result (λ jobs. (cells : CellMap) → C.tells store.old cells →
-        IsPlan batch.kind batch.txid writes.now cells jobs.items) }
+) -> Result<Work, PartFault>
+    requires { IfSome known (Knows C.tells store.old) }
+    ensures plan { IfOk result (λ work. (cells : CellMap) → C.tells store.old cells →
+        IsPlan batch.kind batch.txid writes.now cells work.jobs.items) }
+    ensures known { IfOk result (λ work. batch.kind ≡ Kind.Opaque →
+        (cells : CellMap) → C.tells store.old cells →
+        AreKnown batch.txid work.is_newest (keys_in work.jobs.items) cells) }
     ensures same { (cells : CellMap) → C.tells store.old cells → C.tells store.new cells }
+    ensures told_before { (cells : CellMap) → C.tells store.new cells → C.tells store.old cells }
     ensures failed { IsErrOf result PartFault.Store →
         Rose (C.fault_count store.old) (C.fault_count store.new) }
     ensures bad { (k : List ℕ) → IsErrOf result (PartFault.BadCell k) →
@@ -31,32 +47,40 @@ pub(crate) fn plan<C: CellStore>(
 {
     match batch.kind {
         Kind::Transactional => plan_written(alloc, writes),
-        Kind::Opaque => plan_opaque(alloc, store, batch.txid, writes),
+        Kind::Opaque => plan_opaque(alloc, store, known, batch.txid, writes),
     }
 }
 
 /// A job for each key that is written.
-fn plan_written(alloc: Global, writes: &Writes) -> Result<Vec<Job>, PartFault>
-    ensures plan { IfOk result (λ jobs. (txid : ℕ) (cells : CellMap) →
-        IsPlan Kind.Transactional txid writes.now cells jobs.items) }
+fn plan_written(alloc: Global, writes: &Writes) -> Result<Work, PartFault>
+    ensures plan { IfOk result (λ work. (txid : ℕ) (cells : CellMap) →
+        IsPlan Kind.Transactional txid writes.now cells work.jobs.items) }
     ensures not_store { IsErrOf result PartFault.Store → ⊥ }
     ensures not_bad { (k : List ℕ) → IsErrOf result (PartFault.BadCell k) → ⊥ }
 {
     let groups = group(alloc, writes)?;
     let jobs = jobs_of(alloc, groups)?;
-    Ok(jobs)
+    Ok(Work {
+        jobs,
+        is_newest: false,
+    })
 }
 
 /// A job for each key that is written, or whose cell is of the transaction.
 fn plan_opaque<C: CellStore>(
     alloc: Global,
     store: &mut C,
+    known: Option<Known>,
     txid: u64,
     writes: &Writes,
-) -> Result<Vec<Job>, PartFault>
-    ensures plan { IfOk result (λ jobs. (cells : CellMap) → C.tells store.old cells →
-        IsPlan Kind.Opaque txid writes.now cells jobs.items) }
+) -> Result<Work, PartFault>
+    requires { IfSome known (Knows C.tells store.old) }
+    ensures plan { IfOk result (λ work. (cells : CellMap) → C.tells store.old cells →
+        IsPlan Kind.Opaque txid writes.now cells work.jobs.items) }
+    ensures known { IfOk result (λ work. (cells : CellMap) → C.tells store.old cells →
+        AreKnown txid work.is_newest (keys_in work.jobs.items) cells) }
     ensures same { (cells : CellMap) → C.tells store.old cells → C.tells store.new cells }
+    ensures told_before { (cells : CellMap) → C.tells store.new cells → C.tells store.old cells }
     ensures failed { IsErrOf result PartFault.Store →
         Rose (C.fault_count store.old) (C.fault_count store.new) }
     ensures bad { (k : List ℕ) → IsErrOf result (PartFault.BadCell k) →
@@ -64,10 +88,37 @@ fn plan_opaque<C: CellStore>(
     ensures never_falls { C.fault_count store.old ≤ C.fault_count store.new }
 {
     let groups = group(alloc, writes)?;
-    let keys = match scan(alloc, store, Kind::Opaque, txid) {
-        Ok(keys) => keys,
+    let found = match find_known(alloc, store, known, txid) {
+        Ok(found) => found,
         Err(fault) => return Err(fault),
     };
-    let jobs = all_jobs(alloc, groups, &keys)?;
-    Ok(jobs)
+    let jobs = all_jobs(alloc, groups, &found.keys)?;
+    Ok(Work {
+        jobs,
+        is_newest: found.is_newest,
+    })
+}
+
+/// What is known of a transaction, with one look at each key only where that has to be found out.
+fn find_known<C: CellStore>(
+    alloc: Global,
+    store: &mut C,
+    known: Option<Known>,
+    txid: u64,
+) -> Result<Known, PartFault>
+    requires { IfSome known (Knows C.tells store.old) }
+    ensures txid { IfOk result (λ found. found.txid ≡ txid) }
+    ensures knows { IfOk result (λ found. Knows C.tells store.old found) }
+    ensures same { (cells : CellMap) → C.tells store.old cells → C.tells store.new cells }
+    ensures told_before { (cells : CellMap) → C.tells store.new cells → C.tells store.old cells }
+    ensures failed { IsErrOf result PartFault.Store →
+        Rose (C.fault_count store.old) (C.fault_count store.new) }
+    ensures bad { (k : List ℕ) → IsErrOf result (PartFault.BadCell k) →
+        (cells : CellMap) → C.tells store.old cells → IsBad Kind.Opaque (cell_at cells k) }
+    ensures never_falls { C.fault_count store.old ≤ C.fault_count store.new }
+{
+    match known_of(alloc, known, txid) {
+        Some(known) => Ok(known),
+        None => scan(alloc, store, txid),
+    }
 }

@@ -1,81 +1,104 @@
-ghost use Rattle.std.specs.Prelude.{◌≡◌, ◌≤◌, ◌<◌, ℕ, List, length, Option, IfOk, OnOk, OnErr, IsErrOf, IsTrue, ◌++◌, ◌∷◌, [], if◌then◌else◌, slice_get, Some};
-ghost use Rattle.std.specs.Map.{keys_of};
+ghost use Rattle.std.specs.Prelude.{◌≡◌, ◌≤◌, ◌<◌, ◌==◌, if◌then◌else◌, true, ℕ, List, [], ◌∷◌, ◌++◌, length, Option, IfOk, OnOk, IsErrOf};
 ghost use Rattle.storm_outside.specs.Counts.{Rose};
 ghost use Rattle.storm_stores.specs.CellMaps.{CellMap, cell_at};
 ghost use Rattle.cell_format.specs.declared.cell.Cell.{Cell};
+ghost use Rattle.state_cells.specs.Known.{Knows};
+ghost use Rattle.state_cells.specs.Scans.{Notes, Scans};
 ghost use Rattle.state_cells.specs.Turns.{IsBad};
-ghost use Rattle.state_cells.specs.Scans.{AreGood, Scans, carriers, carries_of};
 
 use crate::commit::find_cell;
 use crate::fault::PartFault;
+use crate::known::Known;
 use cell_format::Cell;
 use std::alloc::Global;
 use storm_stores::CellStore;
-use storm_values::Bytes;
+use storm_values::{Bytes, Memory};
 use topology_plan::Kind;
 
-/// Whether the cell is of this transaction.
-fn carries(cell: &Option<Cell>, txid: u64) -> bool
-    ensures { result ≡ carries_of txid cell.now }
+/// Notes a key where its cell is of the transaction, and that a cell is of a later one.
+fn note(found: &mut Known, key: Bytes, cell: Option<Cell>) -> Result<(), Memory>
+    ensures txid { found.new.txid ≡ found.old.txid }
+    ensures notes { OnOk result (Notes found.old.txid key cell found.old.keys.items
+        found.new.keys.items found.old.is_newest found.new.is_newest) }
 {
     match cell {
-        Some(cell) => cell.txid == txid,
-        None => false,
+        None => Ok(()),
+        Some(cell) => note_cell(found, key, cell.txid),
     }
 }
 
-/// Looks at the key of a number, and notes it where its cell is of this transaction.
+fn note_cell(found: &mut Known, key: Bytes, txid: u64) -> Result<(), Memory>
+    ensures txid { found.new.txid ≡ found.old.txid }
+    ensures keys { OnOk result (found.new.keys.items ≡ (if txid == found.old.txid
+        then found.old.keys.items ++ key ∷ [] else found.old.keys.items)) }
+    ensures newest { found.new.is_newest ≡ true →
+        (found.old.is_newest ≡ true) × (txid ≤ found.old.txid) }
+{
+    if txid == found.txid {
+        found.keys.push(key)?;
+    }
+    if txid > found.txid {
+        found.is_newest = false;
+    }
+    Ok(())
+}
+
+/// Looks at the key of a number, and notes it where its cell is of the transaction.
 fn scan_key<C: CellStore>(
     alloc: Global,
     store: &mut C,
-    kind: Kind,
-    txid: u64,
     i: u64,
-    keys: &mut Vec<Bytes>,
+    found: &mut Known,
 ) -> Result<(), PartFault>
+    ensures txid { found.new.txid ≡ found.old.txid }
     ensures seen { OnOk result ((cells : CellMap) → C.tells store.old cells → i < length cells →
-        Scans kind txid cells i keys.old.items keys.new.items) }
+        Scans Kind.Opaque found.old.txid cells i found.old.keys.items found.new.keys.items
+        found.old.is_newest found.new.is_newest) }
     ensures same { (cells : CellMap) → C.tells store.old cells → C.tells store.new cells }
+    ensures told_before { (cells : CellMap) → C.tells store.new cells → C.tells store.old cells }
     ensures failed { IsErrOf result PartFault.Store →
         Rose (C.fault_count store.old) (C.fault_count store.new) }
     ensures bad { (k : List ℕ) → IsErrOf result (PartFault.BadCell k) →
-        (cells : CellMap) → C.tells store.old cells → IsBad kind (cell_at cells k) }
+        (cells : CellMap) → C.tells store.old cells → IsBad Kind.Opaque (cell_at cells k) }
     ensures never_falls { C.fault_count store.old ≤ C.fault_count store.new }
 {
     let Some(key) = store.key_at(i)? else {
         return Ok(());
     };
-    let cell = find_cell(alloc, store, kind, key.as_slice())?;
-    if carries(&cell, txid) && keys.push(key).is_err() {
-        return Err(PartFault::Memory);
+    let cell = find_cell(alloc, store, Kind::Opaque, key.as_slice())?;
+    match note(found, key, cell) {
+        Ok(()) => Ok(()),
+        Err(_) => Err(PartFault::Memory),
     }
-    Ok(())
 }
 
-/// The keys whose cells are of this transaction, with one look at each key.
+/// Finds the keys whose cells are of a transaction, with one look at each key of an opaque part.
 pub(crate) fn scan<C: CellStore>(
     alloc: Global,
     store: &mut C,
-    kind: Kind,
     txid: u64,
-) -> Result<Vec<Bytes>, PartFault>
-    ensures carriers { IfOk result (λ keys. (cells : CellMap) → C.tells store.old cells →
-        keys.items ≡ carriers txid cells) }
-    ensures good { OnOk result ((cells : CellMap) → C.tells store.old cells → AreGood kind cells) }
+) -> Result<Known, PartFault>
+    ensures txid { IfOk result (λ found. found.txid ≡ txid) }
+    ensures knows { IfOk result (λ found. Knows C.tells store.old found) }
     ensures same { (cells : CellMap) → C.tells store.old cells → C.tells store.new cells }
+    ensures told_before { (cells : CellMap) → C.tells store.new cells → C.tells store.old cells }
     ensures failed { IsErrOf result PartFault.Store →
         Rose (C.fault_count store.old) (C.fault_count store.new) }
     ensures bad { (k : List ℕ) → IsErrOf result (PartFault.BadCell k) →
-        (cells : CellMap) → C.tells store.old cells → IsBad kind (cell_at cells k) }
+        (cells : CellMap) → C.tells store.old cells → IsBad Kind.Opaque (cell_at cells k) }
     ensures never_falls { C.fault_count store.old ≤ C.fault_count store.new }
 {
-    let mut keys = Vec::new(alloc);
+    let mut found = Known {
+        txid,
+        keys: Vec::new(alloc),
+        is_newest: true,
+    };
     let count = store.count()?;
     for i in 0..count {
-        match scan_key(alloc, store, kind, txid, i, &mut keys) {
+        match scan_key(alloc, store, i, &mut found) {
             Ok(()) => {}
             Err(fault) => return Err(fault),
         }
     }
-    Ok(keys)
+    Ok(found)
 }

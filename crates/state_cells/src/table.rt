@@ -25,6 +25,7 @@ fn read_key<C: CellStore>(
     ensures reads { OnOk result ((cells : CellMap) → C.tells store.old cells → i < length cells →
         Reads kind cells i pairs.old pairs.new) }
     ensures same { (cells : CellMap) → C.tells store.old cells → C.tells store.new cells }
+    ensures told_before { (cells : CellMap) → C.tells store.new cells → C.tells store.old cells }
     ensures failed { IsErrOf result PartFault.Store →
         Rose (C.fault_count store.old) (C.fault_count store.new) }
     ensures bad { (k : List ℕ) → IsErrOf result (PartFault.BadCell k) →
@@ -76,6 +77,7 @@ pub(crate) fn table<C: CellStore>(
         pairs ≡ rows_of cells) }
     ensures good { OnOk result ((cells : CellMap) → C.tells store.old cells → AreGood kind cells) }
     ensures same { (cells : CellMap) → C.tells store.old cells → C.tells store.new cells }
+    ensures told_before { (cells : CellMap) → C.tells store.new cells → C.tells store.old cells }
     ensures failed { IsErrOf result PartFault.Store →
         Rose (C.fault_count store.old) (C.fault_count store.new) }
     ensures bad { (k : List ℕ) → IsErrOf result (PartFault.BadCell k) →

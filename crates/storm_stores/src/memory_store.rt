@@ -69,6 +69,7 @@ fn put_cell(alloc: Global, cells: &mut Cells, key: &[u8], cell: &[u8]) -> Result
         (λ new. new ≡ false
         → keys_of (cells_of cells.new.entries) ≡ keys_of (cells_of cells.old.entries)) }
     ensures ordered { OnOk result (InKeyOrder (cells_of cells.new.entries)) }
+    ensures ordered_before { OnOk result (InKeyOrder (cells_of cells.old.entries)) }
     ensures err { OnErr result (cells_of cells.new.entries ≡ cells_of cells.old.entries) }
 {
     let value = Bytes::from_vec(cell.to_vec(alloc)?);
@@ -150,6 +151,7 @@ impl MemStore {
           cells = with_cell self.old.cells key.now cell.now;
         }) }
         ensures ordered { OnOk result (InKeyOrder self.new.cells) }
+        ensures ordered_before { OnOk result (InKeyOrder self.old.cells) }
         ensures err { OnErr result (self.new ≡ self.old) }
     {
         let new = put_cell(self.alloc, &mut self.cells, key, cell)?;
@@ -231,6 +233,8 @@ impl CellStore for MemStore {
         ensures perhaps_done { IsErrOf result StoreFault.Failed → (cells : CellMap) →
             Holds self.old cells →
             Holds self.new cells ⊎ Holds self.new (with_cell cells key.now cell.now) }
+        ensures told_before { (cells : CellMap) → Holds self.new cells →
+            (before : CellMap) × Holds self.old before }
         ensures failed { IsErrOf result StoreFault.Failed → Rose self.old.faults self.new.faults }
         ensures never_falls { self.old.faults ≤ self.new.faults }
     {

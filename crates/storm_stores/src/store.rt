@@ -7,7 +7,8 @@ ghost use Rattle.storm_stores.specs.Counts.{RoseBy};
 use crate::fault::StoreFault;
 use storm_values::{Bytes, Memory};
 
-/// A finite map from keys to cells, both bytes, that may refuse a call.
+/// A finite map from keys to cells, both bytes, that may refuse a call. A store that tells no map
+/// goes on to tell none.
 pub trait CellStore: Drop {
     /// The store tells that its map is this one.
     ghost tells: { Self → CellMap → Type 0 };
@@ -20,6 +21,7 @@ pub trait CellStore: Drop {
         ensures found { IfOk result (λ cell. (cells : CellMap) →
             tells self.old cells → cell ≡ cell_at cells key.now) }
         ensures same { (cells : CellMap) → tells self.old cells → tells self.new cells }
+        ensures told_before { (cells : CellMap) → tells self.new cells → tells self.old cells }
         ensures failed { IsErrOf result StoreFault.Failed →
             Rose (fault_count self.old) (fault_count self.new) }
         ensures never_falls { fault_count self.old ≤ fault_count self.new };
@@ -33,6 +35,8 @@ pub trait CellStore: Drop {
             tells self.new cells ⊎ tells self.new (with_cell cells key.now cell.now) }
         ensures not_done { IsErrOf result StoreFault.Memory → (cells : CellMap) →
             tells self.old cells → tells self.new cells }
+        ensures told_before { (cells : CellMap) → tells self.new cells →
+            (before : CellMap) × tells self.old before }
         ensures failed { IsErrOf result StoreFault.Failed →
             Rose (fault_count self.old) (fault_count self.new) }
         ensures never_falls { fault_count self.old ≤ fault_count self.new };
@@ -42,6 +46,7 @@ pub trait CellStore: Drop {
         ensures counted { IfOk result (λ count. (cells : CellMap) →
             tells self.old cells → count ≡ length cells) }
         ensures same { (cells : CellMap) → tells self.old cells → tells self.new cells }
+        ensures told_before { (cells : CellMap) → tells self.new cells → tells self.old cells }
         ensures failed { IsErrOf result StoreFault.Failed →
             Rose (fault_count self.old) (fault_count self.new) }
         ensures never_falls { fault_count self.old ≤ fault_count self.new };
@@ -52,6 +57,7 @@ pub trait CellStore: Drop {
         ensures key { IfOk result (λ key. (cells : CellMap) →
             tells self.old cells → key ≡ slice_get (keys_of cells) i) }
         ensures same { (cells : CellMap) → tells self.old cells → tells self.new cells }
+        ensures told_before { (cells : CellMap) → tells self.new cells → tells self.old cells }
         ensures failed { IsErrOf result StoreFault.Failed →
             Rose (fault_count self.old) (fault_count self.new) }
         ensures never_falls { fault_count self.old ≤ fault_count self.new };

@@ -1,22 +1,21 @@
-use Rattle.std.proofs.Common.{◌<◌, length, arith}
-use Rattle.state_cells.proofs.ScanLemmas.{Scanned-end, Scanned-more}
+use Rattle.std.proofs.Common.{◌<◌, length, ◌∙◌, arith}
+use Rattle.state_cells.proofs.KnownLemmas.{known_of_scan}
+use Rattle.state_cells.proofs.ScanLemmas.{Scanned-more}
+use Rattle.topology_plan.specs.declared.parts.Kind.TheVariants.{Opaque}
 use Rattle.state_cells.proofs.scan.scan.Goals as goal
 
 pub loop-i-preserved : goal.loop-i-preserved
 loop-i-preserved g c = record {
+  txid = c.scan_key.ensures.txid ∙ c.loop-i.invariant.txid;
   scanned = λ cells told.
       let x = c.loop-i.invariant.scanned cells told in
       let within : c.loop-i.i < length cells = omega (arith, x.1) in
-      (c.scan_key.ensures.same cells x.0, x.1, Scanned-more c.args.kind c.args.txid cells c.loop-i.i _ _ x.2 (c.in-Ok.ensures.seen cells x.0 within));
+      (c.scan_key.ensures.same cells x.0, x.1, rw c.scan_key.ensures.txid (Scanned-more Opaque c.loop-i.found.txid cells c.loop-i.i _ _ _ _ x.2 (c.in-Ok.ensures.seen cells x.0 within)));
+  told_before = λ cells told. c.loop-i.invariant.told_before cells (c.scan_key.ensures.told_before cells told);
   never_falls = omega arith;
 }
 
-pub returns-clause-carriers : goal.returns-clause-carriers
-returns-clause-carriers g c = λ cells told.
+pub returns-clause-knows : goal.returns-clause-knows
+returns-clause-knows g c = λ cells told.
     let x = c.loop-i.invariant.scanned cells told in
-    (Scanned-end c.args.kind c.args.txid cells c.loop-i.i _ (omega (arith, x.1)) x.2).0
-
-pub returns-clause-good : goal.returns-clause-good
-returns-clause-good g c = λ cells told.
-    let x = c.loop-i.invariant.scanned cells told in
-    (Scanned-end c.args.kind c.args.txid cells c.loop-i.i _ (omega (arith, x.1)) x.2).1
+    known_of_scan c.loop-i.found.txid cells c.loop-i.i _ _ (omega (arith, x.1)) (g.met.C.CellStore.in_order c.args.store.now cells told) x.2

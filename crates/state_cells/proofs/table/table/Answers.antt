@@ -8,6 +8,7 @@ loop-i-preserved g c = record {
       let x = c.loop-i.invariant.scanned cells told in
       let within : c.loop-i.i < length cells = omega (arith, x.1) in
       (c.read_key.ensures.same cells x.0, x.1, Tabled-more c.args.kind cells c.loop-i.i _ _ x.2 (c.in-Ok.ensures.reads cells x.0 within));
+  told_before = λ cells told. c.loop-i.invariant.told_before cells (c.read_key.ensures.told_before cells told);
   never_falls = omega arith;
 }
 

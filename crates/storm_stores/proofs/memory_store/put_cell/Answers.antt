@@ -15,3 +15,6 @@ returns-clause-known c = λ known.
 
 pub returns-clause-ordered : goal.returns-clause-ordered
 returns-clause-ordered c = InKeyOrder-cells_of c.insert.new.self.entries c.in_ok-old.ensures.ordered
+
+pub returns-clause-ordered_before : goal.returns-clause-ordered_before
+returns-clause-ordered_before c = InKeyOrder-cells_of c.args.cells.now.entries c.in_ok-old.ensures.was_ordered

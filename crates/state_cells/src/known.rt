@@ -1,0 +1,77 @@
+ghost use Rattle.std.specs.Prelude.{◌≡◌, IfSome, IfOk};
+ghost use Rattle.state_cells.specs.Known.{Follows, FollowsFrom, IsAfter, keys_in};
+
+use crate::group::Job;
+use std::alloc::Global;
+use storm_values::{Bytes, Memory};
+use topology_plan::Kind;
+
+/// What an opaque part knows of its store's cells, so that it does not look at each key again.
+#[derive(Debug, Drop)]
+pub(crate) struct Known {
+    pub txid: u64,
+    /// The keys whose cells are of the transaction, and perhaps others: a put that failed may have
+    /// happened.
+    pub keys: Vec<Bytes>,
+    /// Whether no cell is of a later transaction.
+    pub is_newest: bool,
+}
+
+/// What is known of a transaction, if that follows.
+pub(crate) fn known_of(alloc: Global, known: Option<Known>, txid: u64) -> Option<Known>
+    ensures txid { IfSome result (λ now. now.txid ≡ txid) }
+    ensures known { IfSome result (FollowsFrom known) }
+{
+    match known {
+        Some(known) => move_on(alloc, known, txid),
+        None => None,
+    }
+}
+
+fn move_on(alloc: Global, known: Known, txid: u64) -> Option<Known>
+    ensures txid { IfSome result (λ now. now.txid ≡ txid) }
+    ensures known { IfSome result (Follows known) }
+{
+    if known.txid == txid {
+        Some(known)
+    } else if known.is_newest && known.txid < txid {
+        Some(Known {
+            txid,
+            keys: Vec::new(alloc),
+            is_newest: true,
+        })
+    } else {
+        None
+    }
+}
+
+/// What is known after a commit, whether it was broken off or not. Nothing is where there is no
+/// memory.
+pub(crate) fn known_after(
+    alloc: Global,
+    kind: Kind,
+    txid: u64,
+    jobs: Vec<Job>,
+    is_newest: bool,
+) -> Option<Known>
+    ensures { IfSome result (IsAfter kind txid is_newest jobs.items) }
+{
+    match kind {
+        Kind::Transactional => None,
+        Kind::Opaque => match keys_of(alloc, jobs) {
+            Ok(keys) => Some(Known {
+                txid,
+                keys,
+                is_newest,
+            }),
+            Err(_) => None,
+        },
+    }
+}
+
+/// The keys of jobs.
+fn keys_of(alloc: Global, jobs: Vec<Job>) -> Result<Vec<Bytes>, Memory>
+    ensures { IfOk result (λ keys. keys.items ≡ keys_in jobs.items) }
+{
+    jobs.into_iter().map(|job| job.key).collect(alloc)
+}
