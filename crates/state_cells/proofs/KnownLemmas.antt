@@ -1,5 +1,5 @@
 -- What an opaque part knows, after a look at each key and after a commit.
-use Rattle.std.proofs.Common.{◌≡◌, ◌≤◌, ◌<◌, ◌==◌, inl, inr, ℕ, ℤ, Bool, true, false, true≢false, ◌&&◌, ◌||◌, cond, List, [], ◌∷◌, length, Option, None, Some, Result, Ok, Err, OnOk, OnErr, IfSome, is_some, find, option_map, refl, sym, ap, subst, ◌∙◌, nat_cmp, arith}
+use Rattle.std.proofs.Common.{◌≡◌, ◌<◌, ◌==◌, inl, inr, ℕ, ℤ, Bool, true, false, true≢false, ◌&&◌, ◌||◌, cond, List, [], ◌∷◌, length, Option, None, Some, Result, Ok, Err, OnOk, OnErr, IfSome, is_some, find, option_map, refl, sym, ap, subst, ◌∙◌, nat_cmp, arith}
 use Rattle.std.specs.Cmp.Lexicographic.{slice_cmp}
 use Rattle.std.specs.List.{AllByRecursion, list_any}
 use Rattle.std.specs.List.Sorted.{IsStrictlySortedBy}
@@ -17,10 +17,10 @@ use Rattle.topology_plan.specs.declared.parts.Kind.{Kind}
 use Rattle.topology_plan.specs.declared.parts.Kind.TheVariants.{Opaque}
 use Rattle.storm_stores.specs.CellMaps.{CellMap, InKeyOrder, cell_at}
 use Rattle.cell_format.specs.Layout.{bytes_of, read_of}
-use Rattle.cell_format.specs.Commits.{Commits, Holds, again, after, anew}
+use Rattle.cell_format.specs.Commits.{Holds, again, after, anew}
 use Rattle.cell_format.specs.declared.cell.Cell.{Cell}
 use Rattle.cell_format.proofs.LayoutLemmas.{read_of-bytes_of}
-use Rattle.state_cells.specs.Known.{AreKnown, Follows, FollowsFrom, IsAfter, IsKnownAt, IsListedOf, Knows, keys_in}
+use Rattle.state_cells.specs.Known.{AreKnown, FollowsFrom, IsAfter, IsKnownAt, IsListedOf, Knows, keys_in}
 use Rattle.state_cells.specs.Scans.{IsNotLater, carriers, carries_of, is_carrier}
 use Rattle.state_cells.specs.Turns.{AreApart, AreOnce, IsListed, IsPerhapsWorked, IsWorked, Turns, job_at}
 use Rattle.state_cells.specs.declared.group.Job.{Job}

@@ -1,10 +1,9 @@
 -- The rows that were read so far.
-use Rattle.std.proofs.Common.{◌≡◌, ◌<◌, ◌+◌, ℕ, ℤ, inr, IsSome, zero, suc, nat_lt, Bool, true, false, true≢false, List, [], ◌∷◌, ◌++◌, length, take, Option, None, Some, refl, sym, ap, subst, ◌∙◌, arith}
-use Rattle.std.specs.List.{filter_map, slice_get}
+use Rattle.std.proofs.Common.{◌≡◌, ◌+◌, ℕ, ℤ, inr, IsSome, suc, true, false, true≢false, List, [], ◌∷◌, ◌++◌, length, take, Option, None, Some, refl, sym, ap, subst, ◌∙◌, arith}
+use Rattle.std.specs.List.{filter_map}
 use Rattle.std.specs.Map.{keys_of}
 use Rattle.std.specs.Option.{option_to_list}
 use Rattle.std.specs.Str.{IsUtf8}
-use Rattle.std.proofs.lemmas.Bool.Decides.{nat_tests}
 use Rattle.std.proofs.lemmas.List.{take_all}
 use Rattle.std.proofs.lemmas.List.Elements.{filter_map-append}
 use Rattle.std.proofs.lemmas.Map.Entries.{length-keys_of}
@@ -15,7 +14,7 @@ use Rattle.cell_format.specs.Commits.{Holds, value_of}
 use Rattle.cell_format.specs.declared.cell.Cell.{Cell}
 use Rattle.cell_format.proofs.LayoutLemmas.{read_of-bytes_of}
 use Rattle.state_cells.specs.Rows.{IsBadRow, Reads, row_by, rows_of, value_in}
-use Rattle.state_cells.specs.Scans.{AreGood, Scans, carries_of, is_carrier}
+use Rattle.state_cells.specs.Scans.{AreGood}
 use Rattle.state_cells.proofs.ScanLemmas.{Scanned, Scanned-end, Scanned-more, Scanned-none, taken_more}
 
 -- the rows of the first keys; the keys of some transaction tell of each cell that it is good

@@ -5,8 +5,7 @@ use Rattle.std.specs.Str.{bytes_eq}
 use Rattle.topology_plan.specs.declared.parts.Fold.{Fold}
 use Rattle.topology_plan.specs.declared.parts.Kind.{Kind}
 use Rattle.storm_stores.specs.CellMaps.{CellMap, cell_at}
-use Rattle.cell_format.specs.Commits.{Commits, Holds, IsPerhapsDone, IsRefused}
-use Rattle.cell_format.specs.declared.cell.Cell.{Cell}
+use Rattle.cell_format.specs.Commits.{Commits, IsPerhapsDone, IsRefused}
 use Rattle.state_cells.specs.declared.group.Job.{Job}
 
 -- The store told a map before, and tells one now, where each key's cell has become

@@ -1,4 +1,3 @@
-use Rattle.std.proofs.Common.{subst, ◌∙◌}
 use Rattle.std.specs.BTreeMap.{get_by_text}
 use Rattle.state_cells.proofs.PlanLemmas.{known_by_jobs, plan_of_all}
 use Rattle.state_cells.proofs.plan.plan_opaque.Goals as goal
