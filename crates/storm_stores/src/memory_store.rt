@@ -216,6 +216,7 @@ impl CellStore for MemStore {
 
     fn put(&mut self, key: &[u8], cell: &[u8]) -> Result<(), StoreFault>
         ensures fails { IsErrOf result StoreFault.Failed → IsSome (next_fate self.old.puts) }
+        ensures does_not_fail { OnOk result (next_fate self.old.puts ≡ None) }
         ensures ok { OnOk result (self.new ≡ record self.old {
           cells = with_cell self.old.cells key.now cell.now;
           puts = counted self.old.puts;
