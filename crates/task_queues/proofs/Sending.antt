@@ -23,7 +23,7 @@ pub with_view : {M : Type 0} (is_true : Topology → ℕ → M → Type 0) (plan
     → (bs : List (Book M)) → AllByRecursion (IsKept is_true plan owner capacity held v) bs → AllByRecursion (IsKept is_true plan owner capacity held w) bs
 with_view is_true plan owner capacity held v w p o c bs all =
     each-weaker (IsKept is_true plan owner capacity held v) (IsKept is_true plan owner capacity held w)
-    (λ b old. record { plan_is = p ∙ old.plan_is; owner_is = o ∙ old.owner_is; capacity_is = c ∙ old.capacity_is; sent_true = old.sent_true; rises = old.rises }) bs all
+    (λ b old. record { plan_is = p ∙ old.plan_is; owner_is = o ∙ old.owner_is; capacity_is = c ∙ old.capacity_is; sent_true = old.sent_true; taken_true = old.taken_true; rises = old.rises }) bs all
 
 module _ {M : Type 0} (is_true : Topology → ℕ → M → Type 0) (plan : Topology) (owner capacity : ℕ) (b : Book M) (bs : List (Book M)) where
   abbrev sent_book : M → Book M
@@ -46,6 +46,7 @@ module _ {M : Type 0} (is_true : Topology → ℕ → M → Type 0) (plan : Topo
         owner_is = old.owner_is;
         capacity_is = old.capacity_is;
         sent_true = old.sent_true;
+        taken_true = old.taken_true;
         rises = subst Rises (append_assoc c.taken kept.held (s ∷ [])) (Rises-more (c.taken ++ kept.held) s old.rises
             (each-append (λ (y : Stamped M). Below y s) c.taken kept.held (all-below b.number.digits (length b.sent) x c.taken nothing) (all-below b.number.digits (length b.sent) x kept.held none.1)));
       } in
@@ -66,7 +67,7 @@ module _ {M : Type 0} (is_true : Topology → ℕ → M → Type 0) (plan : Topo
         items_true = each-append (is_true kept.plan kept.owner) items (x ∷ []) kept.items_true (true_here, tt);
         named = each-set (λ (u : View M). u.fresh ≡ false) views port w kept.named refl;
         books = each-set Q views port w all
-            (record { plan_is = mine.0.plan_is; owner_is = mine.0.owner_is; capacity_is = mine.0.capacity_is; sent_true = each-append (is_true kept.plan kept.owner) b.sent (x ∷ []) mine.0.sent_true (true_here, tt); rises = mine.0.rises }, with_view is_true kept.plan kept.owner kept.capacity (kept.held ++ s ∷ []) v w refl refl refl bs mine.1);
+            (record { plan_is = mine.0.plan_is; owner_is = mine.0.owner_is; capacity_is = mine.0.capacity_is; sent_true = each-append (is_true kept.plan kept.owner) b.sent (x ∷ []) mine.0.sent_true (true_here, tt); taken_true = mine.0.taken_true; rises = mine.0.rises }, with_view is_true kept.plan kept.owner kept.capacity (kept.held ++ s ∷ []) v w refl refl refl bs mine.1);
         rises = Rises-more kept.held s kept.rises (all-below b.number.digits (length b.sent) x kept.held none.1);
         balanced = balanced_out (kept.held ++ s ∷ []) (set views port w) (λ h.
             let sent = books-set (sent_weight h) views port v w at in

@@ -44,7 +44,7 @@ module _ {M : Type 0} (is_true : Topology → ℕ → M → Type 0) where
     few = omega arith;
     items_true = tt;
     named = (refl, (refl, tt));
-    books = ((record { plan_is = refl; owner_is = refl; capacity_is = refl; sent_true = tt; rises = tt }, tt), (tt, tt));
+    books = ((record { plan_is = refl; owner_is = refl; capacity_is = refl; sent_true = tt; taken_true = tt; rises = tt }, tt), (tt, tt));
     rises = tt;
     balanced = λ h. refl;
     numbered = numbered_as (numbers_of {M = M}) (numbers_of {M = M}) (first_view plan owner capacity ∷ []) (first_view plan owner capacity ∷ no_view ∷ []) (λ f. omega arith)
@@ -89,8 +89,8 @@ module _ {M : Type 0} (is_true : Topology → ℕ → M → Type 0) (plan : Topo
         named = each-append (λ (u : View M). u.fresh ≡ false) (set views port w) (r ∷ []) (each-set (λ (u : View M). u.fresh ≡ false) views port w kept.named refl) (refl, tt);
         books = each-append P (set views port w) (r ∷ [])
             (each-set P views port w kept.books
-            (record { plan_is = own.0.plan_is; owner_is = own.0.owner_is; capacity_is = own.0.capacity_is; sent_true = own.0.sent_true; rises = own.0.rises }, with_view is_true kept.plan kept.owner kept.capacity kept.held v w refl refl refl bs own.1))
-            ((record { plan_is = own.0.plan_is; owner_is = own.0.owner_is; capacity_is = own.0.capacity_is; sent_true = tt; rises = kept.rises }, tt), tt);
+            (record { plan_is = own.0.plan_is; owner_is = own.0.owner_is; capacity_is = own.0.capacity_is; sent_true = own.0.sent_true; taken_true = own.0.taken_true; rises = own.0.rises }, with_view is_true kept.plan kept.owner kept.capacity kept.held v w refl refl refl bs own.1))
+            ((record { plan_is = own.0.plan_is; owner_is = own.0.owner_is; capacity_is = own.0.capacity_is; sent_true = tt; taken_true = tt; rises = kept.rises }, tt), tt);
         rises = kept.rises;
         balanced = balanced_out kept.held after (λ h.
             let sent = same (sent_weight h) refl refl in
@@ -132,7 +132,7 @@ module _ {M : Type 0} (is_true : Topology → ℕ → M → Type 0) (plan : Topo
             (each-set P views port w kept.books
             (each-append (IsKept is_true kept.plan kept.owner kept.capacity kept.held w) (b ∷ bs) u.books (with_view is_true kept.plan kept.owner kept.capacity kept.held v w refl refl refl (b ∷ bs) own)
             (each-weaker (IsKept is_true kept.plan kept.owner kept.capacity kept.held u) (IsKept is_true kept.plan kept.owner kept.capacity kept.held w)
-            (λ c old. record { plan_is = own.0.plan_is; owner_is = own.0.owner_is; capacity_is = own.0.capacity_is; sent_true = old.sent_true; rises = old.rises }) u.books theirs)))
+            (λ c old. record { plan_is = own.0.plan_is; owner_is = own.0.owner_is; capacity_is = own.0.capacity_is; sent_true = old.sent_true; taken_true = old.taken_true; rises = old.rises }) u.books theirs)))
             tt;
         rises = kept.rises;
         balanced = balanced_out kept.held after (λ h. same (sent_weight h) ∙ balanced_in kept.held views kept.balanced h ∙ ap (λ (n : ℕ). n + weigh h kept.held) (sym (same (taken_weight h))));

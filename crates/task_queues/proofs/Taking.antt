@@ -3,7 +3,7 @@ use Rattle.std.proofs.Common.{◌≡◌, ℕ, ◌+◌, false, List, [], ◌∷�
 use Rattle.std.specs.List.{AllByRecursion}
 use mathlib.Core.Option.{some}
 use lib.ListN.{get_elem?}
-use Rattle.counted_items.proofs.Each.{each-weaker}
+use Rattle.counted_items.proofs.Each.{each-append, each-weaker}
 use Rattle.counted_items.proofs.Weighing.{weigh-append}
 use Rattle.pass_numbers.proofs.Lists.{each-set, each-at}
 use Rattle.pass_numbers.proofs.Numbering.{numbered_set}
@@ -41,9 +41,10 @@ module _ {M : Type 0} (is_true : Topology → ℕ → M → Type 0) (plan : Topo
           let balanced : Balanced (s ∷ ss) views = subst (λ (zs : List (Stamped M)). Balanced zs views) is kept.balanced in
           let own = each-at P views port v each at in
           let still : (u : View M) (c : Book M) → IsKept is_true kept.plan kept.owner kept.capacity (s ∷ ss) u c → IsKept is_true kept.plan kept.owner kept.capacity ss u c =
-          λ u c old. record { plan_is = old.plan_is; owner_is = old.owner_is; capacity_is = old.capacity_is; sent_true = old.sent_true; rises = Rises-skip c.taken s ss old.rises } in
+          λ u c old. record { plan_is = old.plan_is; owner_is = old.owner_is; capacity_is = old.capacity_is; sent_true = old.sent_true; taken_true = old.taken_true; rises = Rises-skip c.taken s ss old.rises } in
           let all : AllByRecursion Q views =
           each-weaker P Q (λ u. each-weaker (IsKept is_true kept.plan kept.owner kept.capacity (s ∷ ss) u) (IsKept is_true kept.plan kept.owner kept.capacity ss u) (still u) u.books) views each in
+          let T : Stamped M → Type 0 = λ t. is_true kept.plan kept.owner t.item in
           let mine = each-at Q views port v all at in
           let item : s.item ≡ x = cc in
           let rest : items_of ss ≡ items = cc in
@@ -62,7 +63,7 @@ module _ {M : Type 0} (is_true : Topology → ℕ → M → Type 0) (plan : Topo
               items_true = kept.items_true.1;
               named = each-set (λ (u : View M). u.fresh ≡ false) views port w kept.named refl;
               books = each-set Q views port w all
-                  (record { plan_is = mine.0.plan_is; owner_is = mine.0.owner_is; capacity_is = mine.0.capacity_is; sent_true = mine.0.sent_true; rises = subst Rises (sym (append_assoc b.taken (s ∷ []) ss)) own.0.rises }, with_view is_true kept.plan kept.owner kept.capacity ss v w refl refl refl bs mine.1);
+                  (record { plan_is = mine.0.plan_is; owner_is = mine.0.owner_is; capacity_is = mine.0.capacity_is; sent_true = mine.0.sent_true; taken_true = each-append T b.taken (s ∷ []) mine.0.taken_true (subst (is_true kept.plan kept.owner) (sym item) kept.items_true.0, tt); rises = subst Rises (sym (append_assoc b.taken (s ∷ []) ss)) own.0.rises }, with_view is_true kept.plan kept.owner kept.capacity ss v w refl refl refl bs mine.1);
               rises = rises.1;
               balanced = balanced_out ss (set views port w) (λ h.
                   let sent = books-set (sent_weight h) views port v w at in

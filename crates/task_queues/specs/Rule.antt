@@ -34,14 +34,15 @@ module _ {M : Type 0} where
       (flat_map (λ (v : View M). taken_of v.books) views ++ held)
 
 module _ {M : Type 0} (is_true : Topology → ℕ → M → Type 0) where
-  -- A book of a view: the view names the terms of the box, what was sent is true, and the stamps of
-  -- what was taken rise, those in the box above them.
+  -- A book of a view: the view names the terms of the box, what was sent and taken is true, and the
+  -- stamps of what was taken rise, those in the box above them.
   pub record IsKept (plan : Topology) (owner capacity : ℕ) (held : List (Stamped M)) (v : View M)
       (b : Book M) : Type 0 where
     pub plan_is : v.plan ≡ plan
     pub owner_is : v.owner ≡ owner
     pub capacity_is : v.capacity ≡ capacity
     pub sent_true : AllByRecursion (is_true plan owner) b.sent
+    pub taken_true : AllByRecursion (λ (s : Stamped M). is_true plan owner s.item) b.taken
     pub rises : Rises (b.taken ++ held)
 
   -- a box whose passes name its plan, owner and capacity
