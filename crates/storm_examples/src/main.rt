@@ -1,7 +1,7 @@
 //! Calls `storm` over each folder of `examples`, and tells whether it prints what lies there.
 //!
-//! A folder has `topology.json`, `input.jsonl`, and in `plain.txt` what `plain` prints. A run prints
-//! the same after its attempt lines.
+//! A folder has `topology.json`, `input.jsonl`, and in `plain.txt` what `plain` prints. A run
+//! prints the same after its attempt lines.
 #![tactic(auto)]
 
 ghost use Rattle.std.specs.Prelude.{[]};
