@@ -1,11 +1,9 @@
 -- A plan put together from its parts.
-use Rattle.std.proofs.Common.{◌≡◌, ℕ, ◌+◌, ◌≤◌, pos, List, [], ◌∷◌, ◌++◌, length, map, sum, sum_by, Vec, None, refl, sym, ap, subst, ◌∙◌, arith, length-append}
-use Rattle.std.proofs.lemmas.List.{map-append, length-map}
-use Rattle.std.proofs.lemmas.List.FromFn.{length-enumerate_from}
+use Rattle.std.proofs.Common.{◌≡◌, ℕ, ◌+◌, ◌≤◌, pos, List, [], ◌∷◌, ◌++◌, length, map, sum, sum_by, None, refl, sym, ap, subst, ◌∙◌, arith}
+use Rattle.std.proofs.lemmas.List.{map-append}
 use Rattle.std.proofs.lemmas.List.Sums.{sum-map}
 use Rattle.std.specs.List.{enumerate_from}
 use Rattle.std.specs.Prelude.{codes}
-use Rattle.std.specs.declared.alloc.Global.{Global}
 use Rattle.storm_values.specs.Lines.{first_some}
 use Rattle.topology_plan.specs.declared.parts.Component.{Component}
 use Rattle.topology_plan.specs.declared.parts.Origin.TheVariants as origin
@@ -27,7 +25,6 @@ use Rattle.topology_reader.specs.steps.PlanSteps.{planned_components, planned_co
 use Rattle.topology_reader.specs.Planned.{planned_bolt, planned_state, planned_subs, tasks_by_component, plan_of}
 use Rattle.topology_form.specs.Ranges.{IsInRange}
 use Rattle.topology_plan.specs.Topology.{Topology, tasks_in_all, depth_of, weight_of}
-use Rattle.topology_reader.specs.steps.Wires.{items_by, IsWiredBy}
 use Rattle.topology_reader.proofs.TaskLemmas.{tasks_in_all-le}
 
 -- ---- how many tasks and components there are
@@ -55,21 +52,11 @@ pub sum_by-planned-le : (p : FileParts) → IsInRange p → sum_by (λ (componen
 unfolding component_tasks
 sum_by-planned-le p range = omega (arith, sum-map component_tasks (planned_components p), ap sum (tasks-planned p), tasks_in_all-le p range)
 
-pub length-planned-le : (p : FileParts) → IsInRange p → length (planned_components p) ≤ 40
-length-planned-le p range =
-    omega
-    (arith, length-append (map (planned_bolt p) (enumerate_from 0 p.bolts)) (map (planned_state p) (enumerate_from (length p.bolts) p.states)), length-map (enumerate_from 0 p.bolts) (planned_bolt p), length-map (enumerate_from (length p.bolts) p.states) (planned_state p), length-enumerate_from 0 p.bolts, length-enumerate_from (length p.bolts) p.states, range.bolts, range.states.1)
-
 -- ---- the plan
 
-module _ (p : FileParts) (components : List Component) (from_spout : List Sub) (from_components : List (Vec Sub Global)) (made : components ≡ planned_components p) (spout : from_spout ≡ planned_subs p origin.Spout) (others : items_by from_components ≡ planned_component_subs p) where
-  pub wired-plan : IsWiredBy (plan_of p) components from_spout from_components
-  unfolding plan_of
-  wired-plan = record { components = sym made; spout_subs = sym spout; component_subs = sym others }
-
-  pub tasks-plan : sum_by (λ (component : Component). component.tasks) components ≡ tasks_in_all (plan_of p)
-  unfolding plan_of
-  tasks-plan = ap (sum_by (λ (component : Component). component.tasks)) made
+pub tasks-plan : (p : FileParts) (components : List Component) → components ≡ planned_components p → sum_by (λ (component : Component). component.tasks) components ≡ tasks_in_all (plan_of p)
+unfolding plan_of
+tasks-plan p components made = ap (sum_by (λ (component : Component). component.tasks)) made
 
 pub size_fault-plan : (p : FileParts) (tasks weight : ℕ) → tasks ≡ tasks_in_all (plan_of p) → weight ≡ weight_of (plan_of p) → first_some (range_fault (codes "tasks in all") (pos tasks) 1 256 ∷ weight_fault weight ∷ []) ≡ size_fault p
 unfolding size_fault

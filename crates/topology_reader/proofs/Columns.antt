@@ -1,6 +1,6 @@
 -- The fields of the sources where a file has no fault: each source has one to eight fields, none twice, that its operation makes of the fields of its sources.
-use Rattle.std.specs.Prelude.{◌≡◌, ℕ, zero, suc, ◌+◌, ◌<◌, ◌≤◌, ◌==◌, pos, List, [], ◌∷◌, ◌++◌, length, map, filter, All, Bool, true, false, not, cond, Option, Some, None, option_map, option_and_then, slice_get, is_none, codes}
-use Rattle.std.specs.List.{count_by, range_with_len, flat_map, list_any, find}
+use Rattle.std.specs.Prelude.{◌≡◌, ℕ, zero, suc, ◌+◌, ◌-◌, ◌<◌, ◌≤◌, ◌==◌, pos, List, [], ◌∷◌, ◌++◌, length, map, filter, All, Bool, true, false, not, cond, Option, Some, None, option_map, option_and_then, slice_get, is_none, option_to_list, codes}
+use Rattle.std.specs.List.{count_by, range_with_len, list_any, find}
 use Rattle.std.specs.Option.{option_map_or}
 use Rattle.std.specs.Str.{bytes_eq}
 use Rattle.std.specs.Cmp.Lexicographic.{pointwise, pointwise_decides}
@@ -10,9 +10,10 @@ use Rattle.std.proofs.lemmas.List.{length-append, length-map}
 use Rattle.std.proofs.lemmas.List.Elements.{All-nil, All-cons, All-append}
 use Rattle.std.proofs.lemmas.List.FromFn.{length-range_with_len}
 use Rattle.std.proofs.lemmas.List.Sums.{sum_by-cons, count_by-le-length}
-use Rattle.std.proofs.lemmas.Option.{none-some, get_or_from_slice_get, slice_get_within}
+use Rattle.std.proofs.lemmas.Option.{none-some, get_or_from_slice_get, slice_get_within, slice_get_past}
 use Rattle.topology_plan.specs.declared.parts.Origin.{Origin}
 use Rattle.topology_plan.specs.declared.parts.Origin.TheVariants as origin
+use Rattle.topology_form.specs.declared.fault.TopoFault.{TopoFault}
 use Rattle.topology_form.specs.declared.fault.TopoFault.TheVariants.{Twice, NoSource, NoField, FieldsDiffer}
 use Rattle.topology_form.specs.declared.parts.GroupingPart.TheVariants as said
 use Rattle.topology_form.specs.declared.parts.Input.{Input}
@@ -26,14 +27,19 @@ use Rattle.topology_reader.specs.Meant.{is_among, range_fault}
 use Rattle.topology_plan.specs.Topology.{greatest}
 use Rattle.topology_plan.specs.Texts.{IsName}
 use Rattle.topology_plan.specs.Valid.{IsBetween}
-use Rattle.topology_reader.specs.Wiring.{bolt_names, component_count, name_at, source_of, state_inputs, inputs_by_component, inputs_at, sources_at, is_component, feeds, reaches, depth_in, depth_at, by_depth, fields_after, first_fields, fields_in, fields_of, fields_to, operation_at}
-use Rattle.topology_reader.specs.Meant.{first_again, key_of, projected, bolt_lists, state_lists, name_lists, twice_fault, source_fault, cycle_fault, differ_fault, field_fault, direct_fault, input_fault, reads_at, added_fault, component_fault, fields_fault}
+use Rattle.topology_reader.specs.Wiring.{bolt_names, component_names, component_count, name_at, source_of, state_inputs, inputs_by_component, inputs_at, sources_at, is_component, feeds, reaches, depth_in, depth_at, by_depth, fields_after, first_fields, fields_in, fields_of, fields_to, operation_at}
+use Rattle.topology_reader.specs.Meant.{first_again, again_fault, key_of, projected, bolt_twice, state_twice, twice_fault, nameless_fault, source_fault, cycle_fault, differ_fault, field_fault, direct_fault, input_fault, fields_read, reads_at, added_fault, bolt_fault, state_fault, component_fault, fields_fault}
 use Rattle.topology_form.specs.Ranges.{IsOperationInRange, IsBoltInRange, IsStateInRange, IsInRange}
 use Rattle.topology_reader.proofs.Ranks.{rank, rank_grows, no_cycle}
-use Rattle.topology_reader.proofs.Listed.{IsIn, All-at_in, to_map, in_map, to_left, to_right, to_flat_map, to_filter, in_filter_map, to_filter_map, in_place, to_range, to_any, none_mapped, none_found, none_of_some}
+use Rattle.topology_reader.proofs.Listed.{IsIn, All-at_in, to_map, in_map, in_append, to_flat_map, to_filter, in_filter_map, to_filter_map, in_place, to_range, to_any, none_mapped, none_found, none_of_some}
 use Rattle.topology_reader.proofs.Distinct.{bytes_same, bytes_itself, among_in, AreApart, apart_push, not_among, apart_from_again}
-use Rattle.topology_reader.proofs.Numbered.{IsBoltAt, some_there, cases_component, inputs_at_bolt, inputs_at_state}
+use Rattle.topology_reader.proofs.Numbered.{IsBoltAt, IsStateAt, some_there, cases_component, inputs_at_bolt, inputs_at_state, reads_at_bolt, reads_at_state}
 use Rattle.topology_reader.proofs.ValidPlan.{HasNoFault, between_from_range, source_within}
+
+pub length_names : (p : FileParts) → component_count p ≡ length p.bolts + length p.states
+length_names p =
+    omega
+    (arith, length-append (bolt_names p) (map (λ (state : StatePart). state.name) p.states), length-map p.bolts (λ (bolt : BoltPart). bolt.name), length-map p.states (λ (state : StatePart). state.name))
 
 -- ---- sources
 
@@ -145,26 +151,62 @@ there_from_none p c names none name at =
     let known : not (is_among (fields_to p c) name) ≡ false = none_found strange names (none_mapped (NoField (name_at p c)) (find strange names) none) name at in
     among_in (fields_to p c) name (not-false (is_among (fields_to p c) name) known)
 
-no_fault_from_none : (p : FileParts) (c : ℕ) → component_fault p c ≡ None → HasNoFaultAt p c
-no_fault_from_none p c none =
-    let firsts : List (Option _) = differ_fault p c ∷ map (input_fault p c) (inputs_at p c) in
-    let lasts : List (Option _) = field_fault p c (reads_at p c) ∷ option_and_then (added_fault (fields_to p c)) (operation_at p (origin.Component c)) ∷ [] in
-    let each = none_of_some (firsts ++ lasts) none in
+-- the fault of a component is that of its bolt, or of its state
+pub fault_of_bolt : (p : FileParts) (c : ℕ) (bolt : BoltPart) → IsBoltAt p c bolt → component_fault p c ≡ bolt_fault p c bolt
+fault_of_bolt p c bolt is = ap (λ there. option_map_or (bolt_fault p c) there (option_and_then (state_fault p c) (slice_get p.states (c - length p.bolts)))) is
+
+pub fault_of_state : (p : FileParts) (c : ℕ) (state : StatePart) → IsStateAt p c state → component_fault p c ≡ state_fault p c state
+fault_of_state p c state at =
+    let place : c - length p.bolts ≡ at.place = omega (arith, at.number) in
+    ap (λ there. option_map_or (bolt_fault p c) there (option_and_then (state_fault p c) (slice_get p.states (c - length p.bolts)))) (slice_get_past p.bolts c (omega (arith, at.number)))
+    ∙ ap (option_and_then (state_fault p c)) (ap (slice_get p.states) place ∙ at.is)
+
+bolt_no_fault : (p : FileParts) (c : ℕ) (bolt : BoltPart) → IsBoltAt p c bolt → bolt_fault p c bolt ≡ None → HasNoFaultAt p c
+bolt_no_fault p c bolt is none =
+    let inputs : inputs_at p c ≡ bolt.inputs = get_or_from_slice_get (inputs_by_component p) c bolt.inputs [] (inputs_at_bolt p c bolt is) in
+    let each = none_of_some (differ_fault p c ∷ first_some (map (input_fault p c) bolt.inputs) ∷ field_fault p c (fields_read bolt.operation) ∷ added_fault (fields_to p c) bolt.operation ∷ []) none in
     let input = λ (input : Input) (at : IsIn input (inputs_at p c)).
     none_of_some (field_fault p c (key_of input.grouping) ∷ direct_fault p input input.grouping ∷ [])
-    (each (input_fault p c input) (to_left firsts lasts (input_fault p c input) (inr (to_map (input_fault p c) (inputs_at p c) input at))))
+    (none_of_some (map (input_fault p c) bolt.inputs) (each (first_some (map (input_fault p c) bolt.inputs)) (inr (inl refl))) (input_fault p c input) (to_map (input_fault p c) bolt.inputs input (subst (IsIn input) inputs at)))
     in
     record {
-      same = same_from_none p c (each (differ_fault p c) (to_left firsts lasts (differ_fault p c) (inl refl)));
+      same = same_from_none p c (each (differ_fault p c) (inl refl));
       keys = λ i at. there_from_none p c (key_of i.grouping) (input i at (field_fault p c (key_of i.grouping)) (inl refl));
       direct = λ i at. input i at (direct_fault p i i.grouping) (inr (inl refl));
-      reads = there_from_none p c (reads_at p c) (each (field_fault p c (reads_at p c)) (to_right firsts lasts (field_fault p c (reads_at p c)) (inl refl)));
-      added = each (option_and_then (added_fault (fields_to p c)) (operation_at p (origin.Component c))) (to_right firsts lasts (option_and_then (added_fault (fields_to p c)) (operation_at p (origin.Component c))) (inr (inl refl)));
+      reads = λ name at. there_from_none p c (fields_read bolt.operation) (each (field_fault p c (fields_read bolt.operation)) (inr (inr (inl refl)))) name (subst (IsIn name) (reads_at_bolt p c bolt is) at);
+      added =
+          ap (λ there. option_and_then (added_fault (fields_to p c)) (option_map (λ (b : BoltPart). b.operation) there)) is
+          ∙ each (added_fault (fields_to p c) bolt.operation) (inr (inr (inr (inl refl))));
     }
+
+state_no_fault : (p : FileParts) (c : ℕ) (state : StatePart) → IsStateAt p c state → state_fault p c state ≡ None → HasNoFaultAt p c
+state_no_fault p c state there none =
+    let amounts : List (List ℕ) = option_to_list state.amount in
+    let inputs : inputs_at p c ≡ state_inputs state = get_or_from_slice_get (inputs_by_component p) c (state_inputs state) [] (inputs_at_state p c state there) in
+    let each = none_of_some (differ_fault p c ∷ field_fault p c state.key ∷ field_fault p c (option_to_list state.amount) ∷ []) none in
+    let made = λ (input : Input) (at : IsIn input (inputs_at p c)). in_map (λ from. record { from = from; grouping = said.Fields state.key }) state.inputs input (subst (IsIn input) inputs at) in
+    let keys = there_from_none p c state.key (each (field_fault p c state.key) (inr (inl refl))) in
+    record {
+      same = same_from_none p c (each (differ_fault p c) (inl refl));
+      keys = λ i at name named. keys name (subst (λ (input : Input). IsIn name (key_of input.grouping)) (sym (made i at).2) named);
+      direct = λ i at. subst (λ (input : Input). direct_fault p input input.grouping ≡ None) (made i at).2 refl;
+      reads = λ name at. elim (in_append state.key (option_to_list state.amount) name (subst (IsIn name) (reads_at_state p c state there) at)) [
+        | inl key ↦ keys name key
+        | inr amount ↦ there_from_none p c (option_to_list state.amount) (each (field_fault p c (option_to_list state.amount)) (inr (inr (inl refl)))) name amount
+      ];
+      added = ap (λ there. option_and_then (added_fault (fields_to p c)) (option_map (λ (b : BoltPart). b.operation) there)) (slice_get_past p.bolts c (omega (arith, there.number)));
+    }
+
+no_fault_from_none : (p : FileParts) (c : ℕ) → c < length p.bolts + length p.states → component_fault p c ≡ None → HasNoFaultAt p c
+no_fault_from_none p c within none =
+    elim (cases_component p c within) [
+      | inl bolt ↦ bolt_no_fault p c bolt.0 bolt.1 (sym (fault_of_bolt p c bolt.0 bolt.1) ∙ none)
+      | inr state ↦ state_no_fault p c state.0 state.1 (sym (fault_of_state p c state.0 state.1) ∙ none)
+    ]
 
 -- ---- depths
 
-greatest_le : (most : ℕ) (ns : List ℕ) → ((n : ℕ) → IsIn n ns → n ≤ most) → greatest ns ≤ most
+pub greatest_le : (most : ℕ) (ns : List ℕ) → ((n : ℕ) → IsIn n ns → n ≤ most) → greatest ns ≤ most
 greatest_le most [] each = omega arith
 greatest_le most (n ∷ ns) each = omega (arith, each n (inl refl), greatest_le most ns (λ m at. each m (inr at)))
 
@@ -192,24 +234,48 @@ in_by_depth p c within =
 
 pub no_fault_at : (p : FileParts) (c : ℕ) → fields_fault p ≡ None → c < component_count p → HasNoFaultAt p c
 no_fault_at p c none within =
-    no_fault_from_none p c (none_of_some (map (component_fault p) (by_depth p)) none (component_fault p c) (to_map (component_fault p) (by_depth p) c (in_by_depth p c within)))
+    no_fault_from_none p c (omega (arith, length_names p)) (none_of_some (map (component_fault p) (by_depth p)) none (component_fault p c) (to_map (component_fault p) (by_depth p) c (in_by_depth p c within)))
 
 -- ---- names that stand once
 
-pub lists_apart : (p : FileParts) (names : List (List ℕ)) → twice_fault p ≡ None → IsIn names (name_lists p) → AreApart names
-lists_apart p names none at =
-    apart_from_again names
-    (none_of_some (map (first_again []) (name_lists p)) (none_mapped Twice (first_some (map (first_again []) (name_lists p))) none) (first_again [] names) (to_map (first_again []) (name_lists p) names at))
+apart_from_none : (names : List (List ℕ)) → again_fault names ≡ None → AreApart names
+apart_from_none names none = apart_from_again names (none_mapped Twice (first_again [] names) none)
 
-pub bolt_list_apart : (p : FileParts) (bolt : BoltPart) (names : List (List ℕ)) → twice_fault p ≡ None → IsIn bolt p.bolts → IsIn names (bolt_lists bolt) → AreApart names
-bolt_list_apart p bolt names none there at =
-    lists_apart p names none
-    (inr (inr (to_left (flat_map bolt_lists p.bolts) (flat_map state_lists p.states) names (to_flat_map bolt_lists p.bolts bolt names there at))))
+module _ (p : FileParts) (none : twice_fault p ≡ None) where
+  none_twice : (fault : Option TopoFault) → IsIn fault (again_fault (p.spout.name ∷ component_names p) ∷ again_fault p.spout.fields ∷ first_some (map bolt_twice p.bolts) ∷ first_some (map state_twice p.states) ∷ []) → fault ≡ None
+  none_twice = none_of_some (again_fault (p.spout.name ∷ component_names p) ∷ again_fault p.spout.fields ∷ first_some (map bolt_twice p.bolts) ∷ first_some (map state_twice p.states) ∷ []) none
 
-pub state_list_apart : (p : FileParts) (state : StatePart) (names : List (List ℕ)) → twice_fault p ≡ None → IsIn state p.states → IsIn names (state_lists state) → AreApart names
-state_list_apart p state names none there at =
-    lists_apart p names none
-    (inr (inr (to_right (flat_map bolt_lists p.bolts) (flat_map state_lists p.states) names (to_flat_map state_lists p.states state names there at))))
+  pub names_once : AreApart (p.spout.name ∷ component_names p)
+  names_once = apart_from_none (p.spout.name ∷ component_names p) (none_twice (again_fault (p.spout.name ∷ component_names p)) (inl refl))
+
+  pub spout_once : AreApart p.spout.fields
+  spout_once = apart_from_none p.spout.fields (none_twice (again_fault p.spout.fields) (inr (inl refl)))
+
+  none_in_bolt : (bolt : BoltPart) → IsIn bolt p.bolts → (fault : Option TopoFault) → IsIn fault (again_fault (map (λ (input : Input). input.from) bolt.inputs) ∷ first_some (map (λ (input : Input). again_fault (key_of input.grouping)) bolt.inputs) ∷ again_fault (projected bolt.operation) ∷ []) → fault ≡ None
+  none_in_bolt bolt at =
+      none_of_some (again_fault (map (λ (input : Input). input.from) bolt.inputs) ∷ first_some (map (λ (input : Input). again_fault (key_of input.grouping)) bolt.inputs) ∷ again_fault (projected bolt.operation) ∷ [])
+      (none_of_some (map bolt_twice p.bolts) (none_twice (first_some (map bolt_twice p.bolts)) (inr (inr (inl refl)))) (bolt_twice bolt) (to_map bolt_twice p.bolts bolt at))
+
+  pub froms_once : (bolt : BoltPart) → IsIn bolt p.bolts → AreApart (map (λ (input : Input). input.from) bolt.inputs)
+  froms_once bolt at = apart_from_none (map (λ (input : Input). input.from) bolt.inputs) (none_in_bolt bolt at (again_fault (map (λ (input : Input). input.from) bolt.inputs)) (inl refl))
+
+  pub key_once : (bolt : BoltPart) → IsIn bolt p.bolts → (input : Input) → IsIn input bolt.inputs → AreApart (key_of input.grouping)
+  key_once bolt at input listed =
+      apart_from_none (key_of input.grouping) (none_of_some (map (λ (i : Input). again_fault (key_of i.grouping)) bolt.inputs) (none_in_bolt bolt at (first_some (map (λ (i : Input). again_fault (key_of i.grouping)) bolt.inputs)) (inr (inl refl))) (again_fault (key_of input.grouping)) (to_map (λ (i : Input). again_fault (key_of i.grouping)) bolt.inputs input listed))
+
+  pub projected_once : (bolt : BoltPart) → IsIn bolt p.bolts → AreApart (projected bolt.operation)
+  projected_once bolt at = apart_from_none (projected bolt.operation) (none_in_bolt bolt at (again_fault (projected bolt.operation)) (inr (inr (inl refl))))
+
+  none_in_state : (state : StatePart) → IsIn state p.states → (fault : Option TopoFault) → IsIn fault (again_fault state.key ∷ again_fault state.inputs ∷ []) → fault ≡ None
+  none_in_state state at =
+      none_of_some (again_fault state.key ∷ again_fault state.inputs ∷ [])
+      (none_of_some (map state_twice p.states) (none_twice (first_some (map state_twice p.states)) (inr (inr (inr (inl refl))))) (state_twice state) (to_map state_twice p.states state at))
+
+  pub state_key_once : (state : StatePart) → IsIn state p.states → AreApart state.key
+  state_key_once state at = apart_from_none state.key (none_in_state state at (again_fault state.key) (inl refl))
+
+  pub state_froms_once : (state : StatePart) → IsIn state p.states → AreApart state.inputs
+  state_froms_once state at = apart_from_none state.inputs (none_in_state state at (again_fault state.inputs) (inr (inl refl)))
 
 -- ---- one to eight names of fields, none twice
 
@@ -253,11 +319,6 @@ some_value : {X : Type 0} (o : Option X) → is_none o ≡ false → (x : X) × 
 some_value None none = absurd (true≢false none)
 some_value (Some x) none = (x, refl)
 
-pub length_names : (p : FileParts) → component_count p ≡ length p.bolts + length p.states
-length_names p =
-    omega
-    (arith, length-append (bolt_names p) (map (λ (state : StatePart). state.name) p.states), length-map p.bolts (λ (bolt : BoltPart). bolt.name), length-map p.states (λ (state : StatePart). state.name))
-
 pub some_inputs : (p : FileParts) (c : ℕ) → IsInRange p → c < length p.bolts + length p.states → (inputs : List Input) × (slice_get (inputs_by_component p) c ≡ Some inputs) × (1 ≤ length inputs)
 some_inputs p c range within =
     elim (cases_component p c within) [
@@ -269,14 +330,27 @@ some_inputs p c range within =
           (state_inputs state.0, inputs_at_state p c state.0 state.1, omega (arith, limits.inputs.0, length-map {B = Input} state.0.inputs (λ from. record { from = from; grouping = said.Fields state.0.key })))
     ]
 
+has_source : (p : FileParts) (names : List (List ℕ)) → nameless_fault p names ≡ None → (name : List ℕ) → IsIn name names → (from : Origin) × (source_of p name ≡ Some from)
+has_source p names none name at =
+    some_value (source_of p name) (none_found (λ name. is_none (source_of p name)) names (none_mapped NoSource (find (λ name. is_none (source_of p name)) names) none) name at)
+
 -- each input names a source
 pub named_source : (p : FileParts) (c : ℕ) (inputs : List Input) (input : Input) → source_fault p ≡ None → slice_get (inputs_by_component p) c ≡ Some inputs → IsIn input inputs → (from : Origin) × (source_of p input.from ≡ Some from)
 named_source p c inputs input none is at =
-    let named = map (λ (i : Input). i.from) (flat_map (λ (inputs : List Input). inputs) (inputs_by_component p)) in
-    some_value (source_of p input.from)
-    (none_found (λ name. is_none (source_of p name)) named (none_mapped NoSource (find (λ name. is_none (source_of p name)) named) none) input.from
-    (to_map (λ (i : Input). i.from) (flat_map (λ (inputs : List Input). inputs) (inputs_by_component p)) input
-    (to_flat_map (λ (inputs : List Input). inputs) (inputs_by_component p) inputs input (in_place (inputs_by_component p) c inputs is) at)))
+    let of_bolt = λ (bolt : BoltPart). nameless_fault p (map (λ (input : Input). input.from) bolt.inputs) in
+    let of_state = λ (state : StatePart). nameless_fault p state.inputs in
+    let each = none_of_some (first_some (map of_bolt p.bolts) ∷ first_some (map of_state p.states) ∷ []) none in
+    elim (in_append (map (λ (bolt : BoltPart). bolt.inputs) p.bolts) (map state_inputs p.states) inputs (in_place (inputs_by_component p) c inputs is)) [
+      | inl left ↦
+          let bolt = in_map (λ (bolt : BoltPart). bolt.inputs) p.bolts inputs left in
+          has_source p (map (λ (input : Input). input.from) bolt.0.inputs) (none_of_some (map of_bolt p.bolts) (each (first_some (map of_bolt p.bolts)) (inl refl)) (of_bolt bolt.0) (to_map of_bolt p.bolts bolt.0 bolt.1)) input.from
+          (to_map (λ (input : Input). input.from) bolt.0.inputs input (subst (IsIn input) (sym bolt.2) at))
+      | inr right ↦
+          let state = in_map state_inputs p.states inputs right in
+          let made = in_map (λ from. record { from = from; grouping = said.Fields state.0.key }) state.0.inputs input (subst (IsIn input) (sym state.2) at) in
+          has_source p state.0.inputs (none_of_some (map of_state p.states) (each (first_some (map of_state p.states)) (inr (inl refl))) (of_state state.0) (to_map of_state p.states state.0 state.1)) input.from
+          (subst (λ (i : Input). IsIn i.from state.0.inputs) made.2 made.1)
+    ]
 
 -- an input of a component, with its source
 pub record HasSource (p : FileParts) (c : ℕ) : Type 0 where
@@ -323,7 +397,7 @@ module _ (p : FileParts) (range : IsInRange p) (faultless : HasNoFault p) where
   -- from those of the sources on, as far as there are n bolts before it
   fields_before : (n : ℕ) (from : Origin) → IsRankBelow p n from → IsBoltOrSpout p from → AreFields (fields_of p from)
   fields_before n origin.Spout below there =
-      subst AreFields (sym (fields_of_spout p)) (record { count = range.spout.fields; apart = lists_apart p p.spout.fields faultless.twice (inr (inl refl)); named = range.spout.field_names })
+      subst AreFields (sym (fields_of_spout p)) (record { count = range.spout.fields; apart = spout_once p faultless.twice; named = range.spout.field_names })
   fields_before zero (origin.Component c) below there = absurd (omega arith)
   fields_before (suc n) (origin.Component c) below there =
       let bolt = some_there p.bolts c there in
@@ -333,14 +407,9 @@ module _ (p : FileParts) (range : IsInRange p) (faultless : HasNoFault p) where
       let limits : IsBoltInRange bolt.0 = All-at_in IsBoltInRange p.bolts range.each_bolt bolt.0 (in_place p.bolts c bolt.0 bolt.1) in
       subst AreFields (sym (fields_of_bolt p c bolt.0 faultless.cycle bolt.1))
       (fields_kept bolt.0.operation (fields_to p c) limits.operation
-      (bolt_list_apart p bolt.0 (projected bolt.0.operation) faultless.twice (in_place p.bolts c bolt.0 bolt.1) (inr (to_right (map (λ (input : Input). key_of input.grouping) bolt.0.inputs) (projected bolt.0.operation ∷ []) (projected bolt.0.operation) (inl refl))))
+      (projected_once p faultless.twice bolt.0 (in_place p.bolts c bolt.0 bolt.1))
       (added_at p c bolt.0 bolt.1 (no_fault_here c within)) come)
 
   pub fields_of_source : (from : Origin) → IsBoltOrSpout p from → AreFields (fields_of p from)
   fields_of_source origin.Spout there = fields_before 0 origin.Spout tt there
   fields_of_source (origin.Component c) there = fields_before (suc (rank p c)) (origin.Component c) (omega arith) there
-
-  pub fields_to_component : (c : ℕ) → c < length p.bolts + length p.states → AreFields (fields_to p c)
-  fields_to_component c within =
-      let first = first_source c within in
-      subst AreFields (sym first.2) (fields_of_source first.0 (source_there p c first.0 first.1))

@@ -1,11 +1,11 @@
 -- The fields of the components in their table.
-use Rattle.std.proofs.Common.{◌≡◌, ℕ, zero, suc, ◌+◌, ◌<◌, ◌≤◌, [], ◌∷◌, length, map, Some, None, slice_index_or, refl, sym, ap, ⊎_elim, ◌∙◌, arith, length-append}
+use Rattle.std.proofs.Common.{◌≡◌, ℕ, zero, suc, ◌≤◌, [], length, map, Some, None, slice_index_or, refl, sym, ap, ⊎_elim, ◌∙◌, arith, length-append}
 use Rattle.std.proofs.lemmas.Bool.{cases_lt}
 use Rattle.std.proofs.lemmas.List.{get_or_past, length-map}
 use Rattle.std.proofs.lemmas.List.FromFn.{get_or-map-range_with_len, length-map-range_with_len}
 use Rattle.std.proofs.lemmas.Option.{slice_get_past}
 use Rattle.std.specs.Prelude.{unwrap_or}
-use Rattle.std.specs.List.{range_with_len, slice_get}
+use Rattle.std.specs.List.{slice_get}
 use Rattle.std.specs.Option.{option_map_or}
 use Rattle.topology_form.specs.declared.parts.BoltPart.{BoltPart}
 use Rattle.topology_form.specs.declared.parts.StatePart.{StatePart}

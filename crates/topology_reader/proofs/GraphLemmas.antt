@@ -1,26 +1,29 @@
 -- The graph of a file: its depths and its fields are those of the file, and without a cycle its depths are settled.
-use Rattle.std.specs.Prelude.{◌≡◌, ℕ, zero, suc, ◌+◌, ◌<◌, ◌≤◌, ◌^◌, ◌==◌, Bool, min, List, [], ◌∷◌, length, map, filter, Some, None, slice_get}
-use Rattle.std.specs.List.{range_with_len, flat_map}
+use Rattle.std.specs.Prelude.{◌≡◌, ℕ, zero, suc, ◌+◌, ◌<◌, ◌≤◌, ◌^◌, ◌==◌, ◌||◌, Bool, true, false, not, min, List, [], ◌∷◌, length, map, filter, Some, None, slice_get}
+use Rattle.std.specs.List.{list_any, range_with_len, flat_map}
+use Rattle.std.specs.Cmp.Lexicographic.{pointwise}
+use Rattle.std.specs.Str.{bytes_eq}
 use Rattle.std.specs.Option.{option_map_or}
 use Rattle.std.proofs.Common.{inl, inr, refl, sym, ◌∙◌, ap, subst, arith}
-use Rattle.std.proofs.lemmas.Bool.{cases_lt}
+use Rattle.std.proofs.lemmas.Bool.{cases_lt, cond-true, cond-false}
 use Rattle.std.proofs.lemmas.Option.{none-some, slice_get_past}
 use Rattle.std.proofs.lemmas.Simd.{map-map}
 use Rattle.topology_plan.specs.declared.parts.Origin.{Origin}
 use Rattle.topology_plan.specs.declared.parts.Origin.TheVariants as origin
 use Rattle.topology_plan.specs.Topology.{greatest, weight_end}
+use Rattle.topology_form.specs.declared.fault.TopoFault.TheVariants.{FieldsDiffer}
 use Rattle.topology_form.specs.declared.parts.BoltPart.{BoltPart}
 use Rattle.topology_form.specs.declared.parts.FileParts.{FileParts}
 use Rattle.topology_form.specs.Ranges.{IsInRange}
 use Rattle.topology_graph.specs.declared.values.Feed.{Feed}
-use Rattle.topology_graph.specs.Graph.{fed, feeds_at, value_in, value_of, IsThere, IsClosed, IsRanked}
+use Rattle.topology_graph.specs.Graph.{fed, feeds_at, value_in, value_of, IsThere, IsClosed}
 use Rattle.topology_graph.specs.Numbers.{depth_rule, depth_at as graph_depth_at, by_depth as graph_by_depth, IsSettled}
 use Rattle.topology_graph.proofs.ValueLemmas.{settled_by_rank}
-use Rattle.topology_reader.specs.Meant.{cycle_fault}
-use Rattle.topology_reader.specs.Wiring.{component_count, sources_at, fields_after, first_fields, fields_in, fields_of, depth_in, depth_at, by_depth}
+use Rattle.topology_reader.specs.Meant.{cycle_fault, differ_fault}
+use Rattle.topology_reader.specs.Wiring.{component_count, name_at, sources_at, fields_to, fields_after, first_fields, fields_in, fields_of, depth_in, depth_at, by_depth}
 use Rattle.topology_reader.specs.steps.Fields.{field_table}
 use Rattle.topology_reader.specs.steps.Graph.{graph_of, fields_rule, first_of}
-use Rattle.topology_reader.proofs.Columns.{IsBoltOrSpout, source_there, bolt_source, feeds_from_source, length_names, rank_of_bolt, IsRankBelow, fields_stable, depth_in_le}
+use Rattle.topology_reader.proofs.Columns.{IsBoltOrSpout, source_there, bolt_source, feeds_from_source, length_names, rank_of_bolt, fields_stable, depth_in_le}
 use Rattle.topology_reader.proofs.FieldLemmas.{fields_in_past}
 use Rattle.topology_reader.proofs.Listed.{IsIn, in_place, to_map}
 use Rattle.topology_reader.proofs.Ranks.{rank, rank_grows, rank-le}
@@ -133,3 +136,23 @@ first_of_some f (first ∷ feeds) feed is = let same : first ≡ feed = cc in ap
 pub first_of_none : (f : Origin → List (List ℕ)) (feeds : List Feed) → slice_get feeds 0 ≡ None → first_fields f (froms feeds) ≡ []
 first_of_none f [] is = refl
 first_of_none f (first ∷ feeds) is = absurd (none-some first (sym is))
+
+-- ---- sources with other fields
+
+any_from : (test : Origin → Bool) (feeds : List Feed) → list_any (λ (feed : Feed). test feed.from) feeds ≡ list_any test (froms feeds)
+any_from test [] = refl
+any_from test (feed ∷ feeds) = ap (λ b. test feed.from || b) (any_from test feeds)
+
+abbrev differs : FileParts → ℕ → Origin → Bool
+differs p c from = not (pointwise bytes_eq (fields_of p from) (fields_to p c))
+
+differs_at : (p : FileParts) (c : ℕ) → list_any (λ (feed : Feed). differs p c feed.from) (feeds_at (graph_of p) c) ≡ list_any (differs p c) (sources_at p c)
+differs_at p c = any_from (differs p c) (feeds_at (graph_of p) c) ∙ ap (list_any (differs p c)) (froms_at p c)
+
+pub differ_told : (p : FileParts) (c : ℕ) (found : Bool) → found ≡ list_any (λ (feed : Feed). not (pointwise bytes_eq (fields_of p feed.from) (fields_to p c))) (feeds_at (graph_of p) c)
+    → found ≡ true → differ_fault p c ≡ Some (FieldsDiffer (name_at p c))
+differ_told p c found is told = cond-true (list_any (differs p c) (sources_at p c)) (Some (FieldsDiffer (name_at p c))) None (sym (differs_at p c) ∙ (sym is ∙ told))
+
+pub differ_none : (p : FileParts) (c : ℕ) (found : Bool) → found ≡ list_any (λ (feed : Feed). not (pointwise bytes_eq (fields_of p feed.from) (fields_to p c))) (feeds_at (graph_of p) c)
+    → found ≡ false → differ_fault p c ≡ None
+differ_none p c found is none = cond-false (list_any (differs p c) (sources_at p c)) (Some (FieldsDiffer (name_at p c))) None (sym (differs_at p c) ∙ (sym is ∙ none))

@@ -1,13 +1,9 @@
 mod SourceLemmas
 mod PartLemmas
 mod FieldLemmas
-mod FieldFaultLemmas
-mod RoundLemmas
-mod WireLemmas
 mod PlannedLemmas
 mod TaskLemmas
 mod NameLists
-mod Sourceless
 mod ReachedSets
 mod SubLemmas
 pub mod FilePlans
@@ -28,3 +24,4 @@ mod FileFaults
 mod IndexLemmas
 mod Ranks
 mod GraphLemmas
+mod PlanGraph

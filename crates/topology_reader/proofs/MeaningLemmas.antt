@@ -1,7 +1,7 @@
 -- What is wrong with what a file says: first what does not ask for the plan's size, and then the size.
-use Rattle.std.proofs.Common.{◌≡◌, pos, [], ◌∷◌, Option, Some, None, Result, Ok, Err, MatchResult, codes, refl, sym, ap, ◌∙◌}
+use Rattle.std.proofs.Common.{◌≡◌, pos, [], ◌∷◌, Option, Some, None, codes, refl, sym, ap, ◌∙◌}
 use Rattle.storm_values.specs.Lines.{first_some}
-use Rattle.topology_plan.specs.Topology.{Topology, tasks_in_all, weight_of}
+use Rattle.topology_plan.specs.Topology.{tasks_in_all, weight_of}
 use Rattle.topology_form.specs.declared.fault.TopoFault.{TopoFault}
 use Rattle.topology_form.specs.declared.parts.FileParts.{FileParts}
 use Rattle.topology_reader.specs.Meant.{range_fault}
@@ -31,30 +31,3 @@ fault_before p fault is = meaning_in_two p ∙ ap (λ first. first_some (first �
 -- where none comes before it is that of the size
 pub fault_of_size : (p : FileParts) (found : Option TopoFault) → fault_before_size p ≡ None → size_fault p ≡ found → meaning_fault p ≡ found
 fault_of_size p found none is = meaning_in_two p ∙ (ap (λ first. first_some (first ∷ size_fault p ∷ [])) none ∙ (ap (λ size. first_some (None ∷ size ∷ [])) is ∙ next_alone found))
-
--- ---- the faults before the size, one after the other
-
-module _ (p : FileParts) (fault : TopoFault) where
-  pub told_twice : twice_fault p ≡ Some fault → fault_before_size p ≡ Some fault
-  told_twice is = ap (λ o. first_some (o ∷ source_fault p ∷ cycle_fault p ∷ fields_fault p ∷ replay_fault p p.spout.kind ∷ [])) is
-
-  pub told_source : twice_fault p ≡ None → source_fault p ≡ Some fault → fault_before_size p ≡ Some fault
-  told_source twice is =
-      ap (λ o. first_some (o ∷ source_fault p ∷ cycle_fault p ∷ fields_fault p ∷ replay_fault p p.spout.kind ∷ [])) twice
-      ∙ ap (λ o. first_some (o ∷ cycle_fault p ∷ fields_fault p ∷ replay_fault p p.spout.kind ∷ [])) is
-
-  pub told_cycle : twice_fault p ≡ None → source_fault p ≡ None → cycle_fault p ≡ Some fault → fault_before_size p ≡ Some fault
-  told_cycle twice source is =
-      ap (λ o. first_some (o ∷ source_fault p ∷ cycle_fault p ∷ fields_fault p ∷ replay_fault p p.spout.kind ∷ [])) twice
-      ∙ ap (λ o. first_some (o ∷ cycle_fault p ∷ fields_fault p ∷ replay_fault p p.spout.kind ∷ [])) source
-      ∙ ap (λ o. first_some (o ∷ fields_fault p ∷ replay_fault p p.spout.kind ∷ [])) is
-
--- where there is none of the first three, the fields come, and then the kinds
-pub later_fault : (p : FileParts) → twice_fault p ≡ None → source_fault p ≡ None → cycle_fault p ≡ None → fault_before_size p ≡ first_some (fields_fault p ∷ replay_fault p p.spout.kind ∷ [])
-later_fault p twice source cycle =
-    ap (λ o. first_some (o ∷ source_fault p ∷ cycle_fault p ∷ fields_fault p ∷ replay_fault p p.spout.kind ∷ [])) twice
-    ∙ ap (λ o. first_some (o ∷ cycle_fault p ∷ fields_fault p ∷ replay_fault p p.spout.kind ∷ [])) source
-    ∙ ap (λ o. first_some (o ∷ fields_fault p ∷ replay_fault p p.spout.kind ∷ [])) cycle
-
-pub first_of_two : (a b : Option TopoFault) (found : Option TopoFault) → a ≡ None → b ≡ found → first_some (a ∷ b ∷ []) ≡ found
-first_of_two a b found none is = ap (λ o. first_some (o ∷ b ∷ [])) none ∙ (ap (λ o. first_some (o ∷ [])) is ∙ next_alone found)

@@ -1,13 +1,13 @@
 -- A file that says what is valid has no fault in what it says.
-use Rattle.std.specs.Prelude.{◌≡◌, ◌≢◌, ◌↔◌, ℕ, zero, suc, ◌+◌, ◌<◌, ◌≤◌, ◌==◌, ◌&&◌, ◌∷◌, List, [], ◌++◌, pos, length, map, filter, All, AllPairs, Bool, true, false, not, nat_lt, int_le, Option, Some, None, IfSome, option_map, option_and_then, slice_get, is_none, codes}
-use Rattle.std.specs.List.{Contains, find, list_any, flat_map, range_with_len}
+use Rattle.std.specs.Prelude.{◌≡◌, ◌≢◌, ◌↔◌, ℕ, zero, suc, ◌+◌, ◌<◌, ◌≤◌, ◌==◌, ◌&&◌, ◌∷◌, List, [], ◌++◌, pos, length, map, filter, All, AllPairs, Bool, true, false, not, nat_lt, int_le, Option, Some, None, IfSome, option_map, option_and_then, slice_get, is_none, option_to_list, codes}
+use Rattle.std.specs.List.{Contains, find, list_any, range_with_len}
 use Rattle.std.specs.Option.{option_map_or}
 use Rattle.std.specs.Str.{bytes_eq}
 use Rattle.std.specs.Cmp.Lexicographic.{pointwise, pointwise_decides}
 use Rattle.std.proofs.Common.{inl, inr, refl, sym, ◌∙◌, ap, subst, arith}
 use Rattle.std.proofs.lemmas.Bool.{cond-true, cond-false, false≢true, false_from_ne_true, and_from, eqb-true, le-leb, le-ltb}
 use Rattle.std.proofs.lemmas.List.{map-id, length-append}
-use Rattle.std.proofs.lemmas.Option.{none-some, same_Some, get_or_from_slice_get, slice_get_within, slice_get_past}
+use Rattle.std.proofs.lemmas.Option.{none-some, same_Some, get_or_from_slice_get, slice_get_within}
 use Rattle.storm_values.specs.Lines.{first_some}
 use Rattle.topology_plan.specs.declared.parts.Kind.{Kind}
 use Rattle.topology_plan.specs.declared.parts.Kind.TheVariants.{Transactional, Opaque}
@@ -15,7 +15,6 @@ use Rattle.topology_plan.specs.declared.parts.Origin.{Origin}
 use Rattle.topology_plan.specs.declared.parts.Origin.TheVariants as origin
 use Rattle.topology_plan.specs.Topology.{tasks_in_all, weight_of}
 use Rattle.topology_plan.specs.Valid.{IsBetween}
-use Rattle.topology_form.specs.declared.fault.TopoFault.{TopoFault}
 use Rattle.topology_form.specs.declared.fault.TopoFault.TheVariants.{WrongKind, OutOfRange, Twice, NoSource, FieldsDiffer, NoField, NotExactlyOnce, Weight}
 use Rattle.topology_form.specs.declared.parts.GroupingPart.{GroupingPart}
 use Rattle.topology_form.specs.declared.parts.GroupingPart.TheVariants as said
@@ -28,15 +27,15 @@ use Rattle.topology_form.specs.declared.parts.FileParts.{FileParts}
 use Rattle.topology_reader.specs.Meant.{is_among, range_fault}
 use Rattle.topology_reader.specs.Wiring.{component_names, component_count, name_at, source_of, state_inputs, inputs_by_component, inputs_at, sources_at, is_component, feeds, depth_at, by_depth, fields_after, fields_of, fields_to, operation_at}
 use Rattle.topology_reader.specs.Planned.{plan_of}
-use Rattle.topology_reader.specs.Meant.{first_again, key_of, projected, bolt_lists, state_lists, name_lists, twice_fault, source_fault, cycle_fault, differ_fault, field_fault, is_route, chooses, direct_fault, input_fault, reads_at, added_fault, component_fault, fields_fault, is_transactional, replay_fault, weight_fault, meaning_fault}
+use Rattle.topology_reader.specs.Meant.{first_again, again_fault, key_of, projected, bolt_twice, state_twice, twice_fault, nameless_fault, source_fault, cycle_fault, differ_fault, field_fault, is_route, chooses, direct_fault, input_fault, fields_read, added_fault, component_fault, fields_fault, is_transactional, replay_fault, weight_fault, meaning_fault}
 use Rattle.topology_form.specs.Ranges.{IsStateInRange, IsInRange}
 use Rattle.topology_reader.specs.Reach.{IsPathThrough}
 use Rattle.topology_reader.specs.ValidFile.{AreDistinct, HasFields, IsRoute, IsRouteAt, IsValidInput, IsValidComponent, IsValidFile}
-use Rattle.topology_reader.proofs.Listed.{IsIn, All-at_in, in_map, to_map, in_append, in_flat_map, in_filter, in_place, in_range, in_any}
+use Rattle.topology_reader.proofs.Listed.{IsIn, All-from_in, All-at_in, in_map, to_map, to_left, to_right, in_flat_map, in_filter, in_range, in_any}
 use Rattle.topology_reader.proofs.Distinct.{bytes_same, bytes_itself, among_in, in_among, AreApart}
-use Rattle.topology_reader.proofs.Numbered.{IsBoltAt, IsStateAt, map_twice, cases_component, inputs_at_bolt, inputs_at_state}
+use Rattle.topology_reader.proofs.Numbered.{IsBoltAt, map_twice, cases_component, inputs_at_bolt, inputs_at_state, reads_at_bolt, reads_at_state}
 use Rattle.topology_reader.proofs.ValidPlan.{length_inputs}
-use Rattle.topology_reader.proofs.Columns.{in_sources, length_names}
+use Rattle.topology_reader.proofs.Columns.{in_sources, length_names, fault_of_bolt, fault_of_state}
 use Rattle.topology_reader.proofs.ValidFile.{contains_from_in, sum_of_tasks, valid_file}
 use Rattle.topology_reader.proofs.CyclePaths.{no_cycle_by_paths}
 
@@ -46,6 +45,18 @@ none_from_each : {F : Type 0} (faults : List (Option F)) → ((fault : Option F)
 none_from_each [] each = refl
 none_from_each (None ∷ rest) each = none_from_each rest (λ fault at. each fault (inr at))
 none_from_each (Some found ∷ rest) each = absurd (none-some found (sym (each (Some found) (inl refl))))
+
+none_of_two : {F : Type 0} (a b : Option F) → a ≡ None → b ≡ None → first_some (a ∷ b ∷ []) ≡ None
+none_of_two a b is_a is_b = rw (is_a, is_b) refl
+
+none_of_three : {F : Type 0} (a b c : Option F) → a ≡ None → b ≡ None → c ≡ None → first_some (a ∷ b ∷ c ∷ []) ≡ None
+none_of_three a b c is_a is_b is_c = rw (is_a, is_b, is_c) refl
+
+none_of_four : {F : Type 0} (a b c d : Option F) → a ≡ None → b ≡ None → c ≡ None → d ≡ None → first_some (a ∷ b ∷ c ∷ d ∷ []) ≡ None
+none_of_four a b c d is_a is_b is_c is_d = rw (is_a, is_b, is_c, is_d) refl
+
+none_of_seven : {F : Type 0} (a b c d e f g : Option F) → a ≡ None → b ≡ None → c ≡ None → d ≡ None → e ≡ None → f ≡ None → g ≡ None → first_some (a ∷ b ∷ c ∷ d ∷ e ∷ f ∷ g ∷ []) ≡ None
+none_of_seven a b c d e f g is_a is_b is_c is_d is_e is_f is_g = rw (is_a, is_b, is_c, is_d, is_e, is_f, is_g) refl
 
 find_none : {X : Type 0} (test : X → Bool) (xs : List X) → ((x : X) → IsIn x xs → test x ≡ false) → find test xs ≡ None
 find_none test [] each = refl
@@ -158,89 +169,80 @@ module _ (p : FileParts) (valid : IsValidFile p) where
   projected_by fields come (Mute below) is distinct = tt
   projected_by fields come Custom is distinct = tt
 
-  bolt_list_once : (c : ℕ) (bolt : BoltPart) (names : List (List ℕ)) → IsBoltAt p c bolt → IsIn names (bolt_lists bolt) → AreApart names
-  bolt_list_once c bolt names is at =
-      let inputs : slice_get (inputs_by_component p) c ≡ Some bolt.inputs = inputs_at_bolt p c bolt is in
-      elim at [
-        | inl froms ↦ subst AreApart froms (froms_apart c bolt.inputs inputs)
-        | inr later ↦ elim (in_append (map (λ (input : Input). key_of input.grouping) bolt.inputs) (projected bolt.operation ∷ []) names later) [
-          | inl keys ↦
-              let input = in_map (λ (input : Input). key_of input.grouping) bolt.inputs names keys in
-              subst AreApart input.2 (key_apart_of c bolt.inputs input.0 inputs input.1)
-          | inr last ↦ elim last [
-            | inl same ↦ subst AreApart same (projected_by (fields_of p (origin.Component c)) (fields_to p c) bolt.operation (fields_made c bolt is) (HasFields.distinct (bolt_has c bolt is)))
-            | inr none ↦ elim none [ ]
-          ]
-        ]
-      ]
+  once : (names : List (List ℕ)) → AreApart names → again_fault names ≡ None
+  once names apart = ap (option_map Twice) (none_again [] names apart (λ name listed before. elim before [ ]))
+
+  bolt_once : (bolt : BoltPart) → IsIn bolt p.bolts → bolt_twice bolt ≡ None
+  bolt_once bolt at =
+      let place = place_in p.bolts bolt at in
+      let inputs : slice_get (inputs_by_component p) place.0 ≡ Some bolt.inputs = inputs_at_bolt p place.0 bolt place.1 in
+      none_of_three (again_fault (map (λ (input : Input). input.from) bolt.inputs)) (first_some (map (λ (input : Input). again_fault (key_of input.grouping)) bolt.inputs)) (again_fault (projected bolt.operation))
+      (once (map (λ (input : Input). input.from) bolt.inputs) (froms_apart place.0 bolt.inputs inputs))
+      (none_from_each (map (λ (input : Input). again_fault (key_of input.grouping)) bolt.inputs)
+      (λ fault listed.
+      let input = in_map (λ (input : Input). again_fault (key_of input.grouping)) bolt.inputs fault listed in
+      sym input.2 ∙ once (key_of input.0.grouping) (key_apart_of place.0 bolt.inputs input.0 inputs input.1)))
+      (once (projected bolt.operation) (projected_by (fields_of p (origin.Component place.0)) (fields_to p place.0) bolt.operation (fields_made place.0 bolt place.1) (HasFields.distinct (bolt_has place.0 bolt place.1))))
 
   some_first : {X : Type 0} (xs : List X) → 1 ≤ length xs → (x : X) × IsIn x xs
   some_first [] some = absurd (omega arith)
   some_first (x ∷ xs) some = (x, inl refl)
 
-  state_list_once : (place : ℕ) (state : StatePart) (names : List (List ℕ)) → slice_get p.states place ≡ Some state → IsIn names (state_lists state) → AreApart names
-  state_list_once place state names is at =
-      let c = length p.bolts + place in
-      let there : IsStateAt p c state = record { place = place; number = refl; is = is } in
-      let inputs : slice_get (inputs_by_component p) c ≡ Some (state_inputs state) = inputs_at_state p c state there in
-      elim at [
-        | inl key ↦
-            let limits : IsStateInRange state = All-at_in IsStateInRange p.states (valid.range).each_state state (in_place p.states place state is) in
-            let first = some_first state.inputs (limits.inputs).0 in
-            let input : Input = record { from = first.0; grouping = said.Fields state.key } in
-            let listed : IsIn input (state_inputs state) = to_map (λ from. record { from = from; grouping = said.Fields state.key }) state.inputs first.0 first.1 in
-            subst AreApart key (key_apart_of c (state_inputs state) input inputs listed)
-        | inr later ↦ elim later [
-          | inl froms ↦
-              let same : map (λ (input : Input). input.from) (state_inputs state) ≡ state.inputs =
-              map_twice (λ (input : Input). input.from) (λ from. record { from = from; grouping = said.Fields state.key }) state.inputs ∙ map-id state.inputs
-              in
-              subst AreApart (same ∙ froms) (froms_apart c (state_inputs state) inputs)
-          | inr none ↦ elim none [ ]
-        ]
-      ]
-
-  list_once : (names : List (List ℕ)) → IsIn names (name_lists p) → AreApart names
-  list_once names at =
-      elim at [
-        | inl components ↦ subst AreApart components (apart_from_distinct (p.spout.name ∷ component_names p) valid.names)
-        | inr later ↦ elim later [
-          | inl fields ↦
-              subst AreApart (valid.spout_fields ∙ fields) (apart_from_distinct (fields_of p origin.Spout) (HasFields.distinct (valid.fields origin.Spout tt)))
-          | inr others ↦ elim (in_append (flat_map bolt_lists p.bolts) (flat_map state_lists p.states) names others) [
-            | inl left ↦
-                let bolt = in_flat_map bolt_lists p.bolts names left in
-                let place = place_in p.bolts bolt.0 bolt.1 in
-                bolt_list_once place.0 bolt.0 names place.1 bolt.2
-            | inr right ↦
-                let state = in_flat_map state_lists p.states names right in
-                let place = place_in p.states state.0 state.1 in
-                state_list_once place.0 state.0 names place.1 state.2
-          ]
-        ]
-      ]
+  state_once : (state : StatePart) → IsIn state p.states → state_twice state ≡ None
+  state_once state at =
+      let place = place_in p.states state at in
+      let c : ℕ = length p.bolts + place.0 in
+      let inputs : slice_get (inputs_by_component p) c ≡ Some (state_inputs state) = inputs_at_state p c state (record { place = place.0; number = refl; is = place.1 }) in
+      let limits : IsStateInRange state = All-at_in IsStateInRange p.states (valid.range).each_state state at in
+      let first = some_first state.inputs (limits.inputs).0 in
+      let input : Input = record { from = first.0; grouping = said.Fields state.key } in
+      let listed : IsIn input (state_inputs state) = to_map (λ from. record { from = from; grouping = said.Fields state.key }) state.inputs first.0 first.1 in
+      let same : map (λ (input : Input). input.from) (state_inputs state) ≡ state.inputs =
+      map_twice (λ (input : Input). input.from) (λ from. record { from = from; grouping = said.Fields state.key }) state.inputs ∙ map-id state.inputs
+      in
+      none_of_two (again_fault state.key) (again_fault state.inputs) (once state.key (key_apart_of c (state_inputs state) input inputs listed)) (once state.inputs (subst AreApart same (froms_apart c (state_inputs state) inputs)))
 
   twice_none : twice_fault p ≡ None
   twice_none =
-      ap (option_map Twice)
-      (none_from_each (map (first_again []) (name_lists p))
-      (λ again at.
-      let names = in_map (first_again []) (name_lists p) again at in
-      sym names.2 ∙ none_again [] names.0 (list_once names.0 names.1) (λ name listed before. elim before [ ])))
+      none_of_four (again_fault (p.spout.name ∷ component_names p)) (again_fault p.spout.fields) (first_some (map bolt_twice p.bolts)) (first_some (map state_twice p.states))
+      (once (p.spout.name ∷ component_names p) (apart_from_distinct (p.spout.name ∷ component_names p) valid.names))
+      (once p.spout.fields (subst AreApart valid.spout_fields (apart_from_distinct (fields_of p origin.Spout) (HasFields.distinct (valid.fields origin.Spout tt)))))
+      (none_from_each (map bolt_twice p.bolts) (λ fault at. let bolt = in_map bolt_twice p.bolts fault at in sym bolt.2 ∙ bolt_once bolt.0 bolt.1))
+      (none_from_each (map state_twice p.states) (λ fault at. let state = in_map state_twice p.states fault at in sym state.2 ∙ state_once state.0 state.1))
 
   -- ---- sources
 
+  named : (names : List (List ℕ)) → ((name : List ℕ) → IsIn name names → (from : Origin) × (source_of p name ≡ Some from)) → nameless_fault p names ≡ None
+  named names each =
+      ap (option_map NoSource)
+      (find_none (λ name. is_none (source_of p name)) names (λ name at. ap (λ (there : Option Origin). is_none there) (each name at).1))
+
   source_none : source_fault p ≡ None
   source_none =
-      let inputs = flat_map (λ (inputs : List Input). inputs) (inputs_by_component p) in
-      ap (option_map NoSource)
-      (find_none (λ name. is_none (source_of p name)) (map (λ (input : Input). input.from) inputs)
-      (λ name at.
-      let input = in_map (λ (input : Input). input.from) inputs name at in
-      let of = in_flat_map (λ (inputs : List Input). inputs) (inputs_by_component p) input.0 input.1 in
-      let place = place_in (inputs_by_component p) of.0 of.1 in
-      let has : IsValidInput p (fields_to p place.0) input.0 = input_valid place.0 of.0 input.0 place.1 of.2 in
-      ap (λ name. is_none (source_of p name)) (sym input.2) ∙ ap (λ (there : Option Origin). is_none there) has.named))
+      let of_bolt = λ (bolt : BoltPart). nameless_fault p (map (λ (input : Input). input.from) bolt.inputs) in
+      let of_state = λ (state : StatePart). nameless_fault p state.inputs in
+      none_of_two (first_some (map of_bolt p.bolts)) (first_some (map of_state p.states))
+      (none_from_each (map of_bolt p.bolts)
+      (λ fault at.
+      let bolt = in_map of_bolt p.bolts fault at in
+      let place = place_in p.bolts bolt.0 bolt.1 in
+      sym bolt.2 ∙ named (map (λ (input : Input). input.from) bolt.0.inputs)
+      (λ name listed.
+      let input = in_map (λ (input : Input). input.from) bolt.0.inputs name listed in
+      let has : IsValidInput p (fields_to p place.0) input.0 = input_valid place.0 bolt.0.inputs input.0 (inputs_at_bolt p place.0 bolt.0 place.1) input.1 in
+      (has.from, ap (source_of p) (sym input.2) ∙ has.named))))
+      (none_from_each (map of_state p.states)
+      (λ fault at.
+      let state = in_map of_state p.states fault at in
+      let place = place_in p.states state.0 state.1 in
+      let c : ℕ = length p.bolts + place.0 in
+      sym state.2 ∙ named state.0.inputs
+      (λ name listed.
+      let input : Input = record { from = name; grouping = said.Fields state.0.key } in
+      let has : IsValidInput p (fields_to p c) input =
+      input_valid c (state_inputs state.0) input (inputs_at_state p c state.0 (record { place = place.0; number = refl; is = place.1 })) (to_map (λ from. record { from = from; grouping = said.Fields state.0.key }) state.0.inputs name listed)
+      in
+      (has.from, has.named))))
 
   -- ---- fields
 
@@ -337,38 +339,31 @@ added_none fields come (Mute below) is distinct count = refl
 added_none fields come Custom is distinct count = refl
 
 module _ (p : FileParts) (valid : IsValidFile p) where
-  added_here : (c : ℕ) → c < component_count p → option_and_then (added_fault (fields_to p c)) (operation_at p (origin.Component c)) ≡ None
-  added_here c within =
+  component_none : (c : ℕ) → c < component_count p → component_fault p c ≡ None
+  component_none c within =
+      let reads = IsValidComponent.reads (valid.components c within) in
       elim (cases_component p c (omega (arith, length_names p))) [
         | inl bolt ↦
             let has : HasFields p (origin.Component c) = bolt_has p valid c bolt.0 bolt.1 in
-            ap (λ (there : Option BoltPart). option_and_then (added_fault (fields_to p c)) (option_map (λ (b : BoltPart). b.operation) there)) bolt.1
-            ∙ added_none (fields_of p (origin.Component c)) (fields_to p c) bolt.0.operation (fields_made p valid c bolt.0 bolt.1) has.distinct has.count
+            let inputs : inputs_at p c ≡ bolt.0.inputs = inputs_are p valid c bolt.0.inputs (inputs_at_bolt p c bolt.0 bolt.1) in
+            fault_of_bolt p c bolt.0 bolt.1
+            ∙ none_of_four (differ_fault p c) (first_some (map (input_fault p c) bolt.0.inputs)) (field_fault p c (fields_read bolt.0.operation)) (added_fault (fields_to p c) bolt.0.operation)
+            (same_none p valid c within)
+            (none_from_each (map (input_fault p c) bolt.0.inputs)
+            (λ fault at.
+            let input = in_map (input_fault p c) bolt.0.inputs fault at in
+            sym input.2 ∙ input_none p valid c input.0 (here_valid p valid c input.0 within (subst (IsIn input.0) (sym inputs) input.1))))
+            (there_none p valid c (fields_read bolt.0.operation) (subst (All (Contains (fields_to p c))) (reads_at_bolt p c bolt.0 bolt.1) reads))
+            (added_none (fields_of p (origin.Component c)) (fields_to p c) bolt.0.operation (fields_made p valid c bolt.0 bolt.1) has.distinct has.count)
         | inr state ↦
-            let past : length p.bolts ≤ c = omega (arith, (state.1).number) in
-            ap (λ (there : Option BoltPart). option_and_then (added_fault (fields_to p c)) (option_map (λ (b : BoltPart). b.operation) there)) (slice_get_past p.bolts c past)
+            let each : All (Contains (fields_to p c)) (state.0.key ++ option_to_list state.0.amount) = subst (All (Contains (fields_to p c))) (reads_at_state p c state.0 state.1) reads in
+            let part = λ (names : List (List ℕ)) (from : (name : List ℕ) → IsIn name names → IsIn name (state.0.key ++ option_to_list state.0.amount)).
+            there_none p valid c names (All-from_in (Contains (fields_to p c)) names (λ name at. All-at_in (Contains (fields_to p c)) (state.0.key ++ option_to_list state.0.amount) each name (from name at)))
+            in
+            fault_of_state p c state.0 state.1
+            ∙ none_of_three (differ_fault p c) (field_fault p c state.0.key) (field_fault p c (option_to_list state.0.amount))
+            (same_none p valid c within) (part state.0.key (to_left state.0.key (option_to_list state.0.amount))) (part (option_to_list state.0.amount) (to_right state.0.key (option_to_list state.0.amount)))
       ]
-
-  component_none : (c : ℕ) → c < component_count p → component_fault p c ≡ None
-  component_none c within =
-      let firsts : List (Option TopoFault) = differ_fault p c ∷ map (input_fault p c) (inputs_at p c) in
-      let lasts : List (Option TopoFault) = field_fault p c (reads_at p c) ∷ option_and_then (added_fault (fields_to p c)) (operation_at p (origin.Component c)) ∷ [] in
-      none_from_each (firsts ++ lasts)
-      (λ fault at. elim (in_append firsts lasts fault at) [
-        | inl first ↦ elim first [
-          | inl differ ↦ sym differ ∙ same_none p valid c within
-          | inr later ↦
-              let input = in_map (input_fault p c) (inputs_at p c) fault later in
-              sym input.2 ∙ input_none p valid c input.0 (here_valid p valid c input.0 within input.1)
-        ]
-        | inr last ↦ elim last [
-          | inl reads ↦ sym reads ∙ there_none p valid c (reads_at p c) (IsValidComponent.reads (valid.components c within))
-          | inr later ↦ elim later [
-            | inl added ↦ sym added ∙ added_here c within
-            | inr none ↦ elim none [ ]
-          ]
-        ]
-      ])
 
   depth_within : (c : ℕ) → IsIn c (by_depth p) → c < component_count p
   depth_within c at =
@@ -400,13 +395,10 @@ module _ (p : FileParts) (valid : IsValidFile p) where
 light : (weight : ℕ) → weight ≤ 256 → weight_fault weight ≡ None
 light weight few = cond-false (nat_lt 256 weight) (Some (Weight weight)) None (le-ltb 256 weight few)
 
-none_of_each_seven : {F : Type 0} (a b c d e f g : Option F) → a ≡ None → b ≡ None → c ≡ None → d ≡ None → e ≡ None → f ≡ None → g ≡ None → first_some (a ∷ b ∷ c ∷ d ∷ e ∷ f ∷ g ∷ []) ≡ None
-none_of_each_seven a b c d e f g is_a is_b is_c is_d is_e is_f is_g = rw (is_a, is_b, is_c, is_d, is_e, is_f, is_g) refl
-
 pub none_of_valid : (p : FileParts) → IsValidFile p → meaning_fault p ≡ None
 unfolding meaning_fault
 none_of_valid p valid =
-    none_of_each_seven (twice_fault p) (source_fault p) (cycle_fault p) (fields_fault p) (replay_fault p p.spout.kind)
+    none_of_seven (twice_fault p) (source_fault p) (cycle_fault p) (fields_fault p) (replay_fault p p.spout.kind)
     (range_fault (codes "tasks in all") (pos (tasks_in_all (plan_of p))) 1 256)
     (weight_fault (weight_of (plan_of p)))
     (twice_none p valid) (source_none p valid) (cycle_none p valid) (fields_none p valid) (replay_none p valid p.spout.kind refl)

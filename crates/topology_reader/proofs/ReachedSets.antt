@@ -20,7 +20,7 @@ use Rattle.topology_form.specs.declared.fault.TopoFault.TheVariants.{Cycle}
 use Rattle.topology_reader.specs.Wiring.{bolt_names, name_at, source_of, place_of, is_component, reaches_over, reaches}
 use Rattle.topology_reader.specs.Meant.{cycle_fault}
 use Rattle.topology_reader.specs.steps.Reached.{has, input_sources, AreReached}
-use Rattle.topology_reader.proofs.NameLists.{place_below}
+use Rattle.topology_reader.proofs.Distinct.{place_within}
 
 -- ---- one word
 
@@ -137,7 +137,7 @@ source_by false (Some k) n a below is = let same : k ≡ a = cc in omega (arith,
 pub source_below : (p : FileParts) (name : List ℕ) (a : ℕ) → source_of p name ≡ Some (origin.Component a) → a < length p.bolts
 source_below p name a is =
     source_by (bytes_eq p.spout.name name) (place_of (bolt_names p) name) (length p.bolts) a
-    (λ k found. omega (arith, place_below (bolt_names p) name k found, length-map p.bolts (λ (b : BoltPart). b.name))) is
+    (λ k found. omega (arith, place_within (bolt_names p) name k found, length-map p.bolts (λ (b : BoltPart). b.name))) is
 
 one_source : (a : ℕ) (found : Option Origin) → list_any (is_component a) (cons_option found []) ≡ option_map_or (is_component a) found false
 one_source a None = refl

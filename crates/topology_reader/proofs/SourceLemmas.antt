@@ -1,5 +1,5 @@
 -- The graph of a file, as the program makes it, and the sources in it.
-use Rattle.std.proofs.Common.{◌≡◌, ℕ, zero, suc, ◌+◌, List, [], ◌∷◌, ◌++◌, length, map, Option, Some, None, option_map, slice_index_or, refl, sym, ap, ◌∙◌, arith}
+use Rattle.std.proofs.Common.{◌≡◌, ℕ, zero, suc, List, [], ◌∷◌, ◌++◌, length, map, Option, Some, None, option_map, slice_index_or, refl, sym, ap, ◌∙◌, arith}
 use Rattle.std.proofs.lemmas.List.{map-append, length-append, length-map}
 use Rattle.std.proofs.lemmas.Simd.{map-map}
 use Rattle.std.specs.List.{filter_map, cons_option}
@@ -13,7 +13,7 @@ use Rattle.topology_graph.specs.declared.values.Feed.{Feed}
 use Rattle.topology_graph.specs.Graph.{feeds_at}
 use Rattle.topology_reader.specs.steps.Graph.{feed_of, feeds_of, graph_of, copies_said}
 use Rattle.topology_reader.specs.steps.Sources.{sources_among}
-use Rattle.topology_reader.specs.Wiring.{component_count, component_names, bolt_names, source_of, state_inputs, inputs_by_component, inputs_at, sources_at}
+use Rattle.topology_reader.specs.Wiring.{component_count, bolt_names, source_of, state_inputs, inputs_by_component, sources_at}
 
 -- each input of a state gets one copy
 feeds_of-state_inputs : (p : FileParts) (tasks : ℕ) (key names : List (List ℕ)) → feeds_of p tasks (map (λ from. record { from = from; grouping = said.Fields key }) names) ≡ filter_map (λ name. feed_of p name 1) names

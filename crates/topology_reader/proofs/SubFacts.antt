@@ -26,13 +26,13 @@ use Rattle.topology_plan.specs.Valid.{IsBetween}
 use Rattle.topology_plan.specs.Wired.{fields_of as plan_fields, width_of, AreWithin, IsRouteOf, IsFrom}
 use Rattle.topology_reader.specs.Wiring.{bolt_names, place_of, source_of, state_inputs, inputs_by_component, inputs_at, sources_at, fields_after, fields_of, fields_to, operation_at}
 use Rattle.topology_reader.specs.Planned.{number_of, numbers_of, planned_operation, route_field, planned_grouping, is_from, subs_of_component, planned_subs, planned_bolt, plan_of}
-use Rattle.topology_reader.specs.Meant.{key_of, projected, is_route, chooses, direct_fault, fields_read, twice_fault}
+use Rattle.topology_reader.specs.Meant.{key_of, is_route, chooses, direct_fault, fields_read, twice_fault}
 use Rattle.topology_form.specs.Ranges.{IsGroupingInRange, IsInputInRange, IsBoltInRange, IsStateInRange, IsInRange}
-use Rattle.topology_reader.proofs.Listed.{IsIn, All-from_in, All-at_in, in_map, to_map, in_append, in_place, to_left}
+use Rattle.topology_reader.proofs.Listed.{IsIn, All-from_in, All-at_in, in_map, to_map, in_append, in_place}
 use Rattle.topology_reader.proofs.Distinct.{bytes_same, some_mapped, place_named, place_within, place_there, AreApart, AllPairs-from_apart, IsRising, rising_above, increasing_from_rising}
 use Rattle.topology_reader.proofs.Numbered.{map_twice, some_there, reads_at_bolt, component_at_bolt}
 use Rattle.topology_reader.proofs.ValidPlan.{HasNoFault, is_source, IsPlanned, planned_in_plan, subs_of_plan, no_subs_past, length_inputs}
-use Rattle.topology_reader.proofs.Columns.{to_sources, fields_of_spout, fields_of_bolt, HasNoFaultAt, bolt_list_apart, state_list_apart, in_inputs_at, IsBoltOrSpout, source_there, no_fault_here}
+use Rattle.topology_reader.proofs.Columns.{to_sources, fields_of_spout, fields_of_bolt, HasNoFaultAt, froms_once, key_once, state_key_once, state_froms_once, in_inputs_at, IsBoltOrSpout, source_there, no_fault_here}
 
 -- ---- one name of a source
 
@@ -66,7 +66,7 @@ one_name p (origin.Component c) a b first second = same_Some a b (sym first ∙ 
 
 -- ---- at most one subscription of a component to a source
 
-none_kept : {X : Type 0} (test : X → Bool) (xs : List X) → ((x : X) → IsIn x xs → test x ≡ false) → filter test xs ≡ []
+pub none_kept : {X : Type 0} (test : X → Bool) (xs : List X) → ((x : X) → IsIn x xs → test x ≡ false) → filter test xs ≡ []
 none_kept test [] each = refl
 none_kept test (x ∷ xs) each = cond-false (test x) (x ∷ filter test xs) (filter test xs) (each x (inl refl)) ∙ none_kept test xs (λ y at. each y (inr at))
 
@@ -109,13 +109,13 @@ inputs_apart p inputs none at =
     elim (in_append (map (λ (bolt : BoltPart). bolt.inputs) p.bolts) (map state_inputs p.states) inputs at) [
       | inl left ↦
           let bolt = in_map (λ (bolt : BoltPart). bolt.inputs) p.bolts inputs left in
-          subst (λ (is : List Input). AreApart (map (λ (input : Input). input.from) is)) bolt.2 (bolt_list_apart p bolt.0 (map (λ (input : Input). input.from) bolt.0.inputs) none bolt.1 (inl refl))
+          subst (λ (is : List Input). AreApart (map (λ (input : Input). input.from) is)) bolt.2 (froms_once p none bolt.0 bolt.1)
       | inr right ↦
           let state = in_map state_inputs p.states inputs right in
           let names : map (λ (input : Input). input.from) (state_inputs state.0) ≡ state.0.inputs =
           map_twice (λ (input : Input). input.from) (λ from. record { from = from; grouping = said.Fields state.0.key }) state.0.inputs ∙ map-id state.0.inputs
           in
-          subst (λ (is : List Input). AreApart (map (λ (input : Input). input.from) is)) state.2 (subst AreApart (sym names) (state_list_apart p state.0 state.0.inputs none state.1 (inr (inl refl))))
+          subst (λ (is : List Input). AreApart (map (λ (input : Input). input.from) is)) state.2 (subst AreApart (sym names) (state_froms_once p none state.0 state.1))
     ]
 
 once_from : (p : FileParts) (from : Origin) → twice_fault p ≡ None → IsStrictlyIncreasing (map (λ (sub : Sub). sub.to) (planned_subs p from))
@@ -178,38 +178,28 @@ width_planned p from there = ap (λ (fields : List (List ℕ)). length fields) (
 
 -- ---- routes
 
+-- a route by a field
+pub routed : (operation : Operation) → is_route operation ≡ true → (field : List ℕ) × (operation ≡ Route field)
+routed (Split field into) route = absurd (false≢true route)
+routed (Project names) route = absurd (false≢true route)
+routed (Filter field test value) route = absurd (false≢true route)
+routed (Set field value) route = absurd (false≢true route)
+routed (Len field into) route = absurd (false≢true route)
+routed (Route field) route = (field, refl)
+routed (Flaky below) route = absurd (false≢true route)
+routed (Mute below) route = absurd (false≢true route)
+routed Custom route = absurd (false≢true route)
+
 route_of : (fields : List (List ℕ)) (operation : Operation) → is_route operation ≡ true → IsRouteOf (Bolt (planned_operation fields operation)) (route_field fields operation)
-route_of fields (Split field into) route = absurd (false≢true route)
-route_of fields (Project names) route = absurd (false≢true route)
-route_of fields (Filter field test value) route = absurd (false≢true route)
-route_of fields (Set field value) route = absurd (false≢true route)
-route_of fields (Len field into) route = absurd (false≢true route)
-route_of fields (Route field) route = refl
-route_of fields (Flaky below) route = absurd (false≢true route)
-route_of fields (Mute below) route = absurd (false≢true route)
-route_of fields Custom route = absurd (false≢true route)
+route_of fields operation route = let by = routed operation route in subst (λ (o : Operation). IsRouteOf (Bolt (planned_operation fields o)) (route_field fields o)) (sym by.1) refl
 
 route_keeps : (fields : List (List ℕ)) (operation : Operation) → is_route operation ≡ true → fields_after operation fields ≡ fields
-route_keeps fields (Split field into) route = absurd (false≢true route)
-route_keeps fields (Project names) route = absurd (false≢true route)
-route_keeps fields (Filter field test value) route = refl
-route_keeps fields (Set field value) route = refl
-route_keeps fields (Len field into) route = absurd (false≢true route)
-route_keeps fields (Route field) route = refl
-route_keeps fields (Flaky below) route = refl
-route_keeps fields (Mute below) route = refl
-route_keeps fields Custom route = refl
+route_keeps fields operation route = let by = routed operation route in ap (λ (o : Operation). fields_after o fields) by.1
 
 route_within : (fields : List (List ℕ)) (operation : Operation) → is_route operation ≡ true → ((name : List ℕ) → IsIn name (fields_read operation) → IsIn name fields) → route_field fields operation < length fields
-route_within fields (Split field into) route there = absurd (false≢true route)
-route_within fields (Project names) route there = absurd (false≢true route)
-route_within fields (Filter field test value) route there = absurd (false≢true route)
-route_within fields (Set field value) route there = absurd (false≢true route)
-route_within fields (Len field into) route there = absurd (false≢true route)
-route_within fields (Route field) route there = number_within fields field (there field (inl refl))
-route_within fields (Flaky below) route there = absurd (false≢true route)
-route_within fields (Mute below) route there = absurd (false≢true route)
-route_within fields Custom route there = absurd (false≢true route)
+route_within fields operation route there =
+    let by = routed operation route in
+    subst (λ (o : Operation). route_field fields o < length fields) (sym by.1) (number_within fields by.0 (there by.0 (subst (λ (o : Operation). IsIn by.0 (fields_read o)) (sym by.1) (inl refl))))
 
 pub chosen_by_route : (p : FileParts) (input : Input) (from : Origin) → source_of p input.from ≡ Some from → direct_fault p input said.Direct ≡ None → option_map_or is_route (operation_at p from) false ≡ true
 chosen_by_route p input from source none =
@@ -240,13 +230,11 @@ key_apart p inputs input none at listed =
     elim (in_append (map (λ (bolt : BoltPart). bolt.inputs) p.bolts) (map state_inputs p.states) inputs at) [
       | inl left ↦
           let bolt = in_map (λ (bolt : BoltPart). bolt.inputs) p.bolts inputs left in
-          let own : IsIn input bolt.0.inputs = subst (IsIn input) (sym bolt.2) listed in
-          bolt_list_apart p bolt.0 (key_of input.grouping) none bolt.1
-          (inr (to_left (map (λ (i : Input). key_of i.grouping) bolt.0.inputs) (projected bolt.0.operation ∷ []) (key_of input.grouping) (to_map (λ (i : Input). key_of i.grouping) bolt.0.inputs input own)))
+          key_once p none bolt.0 bolt.1 input (subst (IsIn input) (sym bolt.2) listed)
       | inr right ↦
           let state = in_map state_inputs p.states inputs right in
           let made = in_map (λ from. record { from = from; grouping = said.Fields state.0.key }) state.0.inputs input (subst (IsIn input) (sym state.2) listed) in
-          subst (λ (i : Input). AreApart (key_of i.grouping)) made.2 (state_list_apart p state.0 state.0.key none state.1 (inl refl))
+          subst (λ (i : Input). AreApart (key_of i.grouping)) made.2 (state_key_once p none state.0 state.1)
     ]
 
 module _ (p : FileParts) (range : IsInRange p) (faultless : HasNoFault p) where

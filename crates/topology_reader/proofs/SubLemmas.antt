@@ -15,7 +15,7 @@ use Rattle.topology_form.specs.declared.parts.Input.{Input}
 use Rattle.topology_form.specs.declared.parts.FileParts.{FileParts}
 use Rattle.topology_reader.specs.Planned.{is_origin, is_from, planned_grouping, subs_of_component, planned_subs}
 use Rattle.topology_reader.specs.steps.Subscribed.{SubTable, with_sub, with_input, with_inputs, no_subs}
-use Rattle.topology_reader.specs.steps.Wires.{items_by}
+use Rattle.topology_reader.specs.steps.Subscribed.{items_by}
 use Rattle.topology_reader.specs.Wiring.{source_of, state_inputs, inputs_by_component, component_count}
 
 -- a vector of the table with one more subscription

@@ -2,7 +2,7 @@
 use Rattle.std.specs.Prelude.{◌≡◌, ◌≢◌, ℕ, zero, suc, ◌+◌, ◌<◌, List, [], ◌∷◌, length, All, AllPairs, false, true, Option, Some, None, IfSome, option_map, slice_get, sum}
 use Rattle.std.specs.List.{Contains, find}
 use Rattle.std.specs.Option.{option_map_or}
-use Rattle.std.proofs.Common.{inl, inr, refl, sym, ◌∙◌, ap, subst, arith}
+use Rattle.std.proofs.Common.{inl, inr, sym, ◌∙◌, ap, subst, arith}
 use Rattle.std.proofs.lemmas.Bool.{cases_lt, false≢true}
 use Rattle.std.proofs.lemmas.List.{map-id}
 use Rattle.std.proofs.lemmas.List.Sums.{sum-map}
@@ -17,7 +17,6 @@ use Rattle.topology_form.specs.declared.fault.TopoFault.TheVariants.{NotExactlyO
 use Rattle.topology_form.specs.declared.parts.GroupingPart.{GroupingPart}
 use Rattle.topology_form.specs.declared.parts.Input.{Input}
 use Rattle.topology_form.specs.declared.parts.Operation.{Operation}
-use Rattle.topology_form.specs.declared.parts.Operation.TheVariants.{Split, Project, Filter, Set, Len, Route, Flaky, Mute, Custom}
 use Rattle.topology_form.specs.declared.parts.BoltPart.{BoltPart}
 use Rattle.topology_form.specs.declared.parts.StatePart.{StatePart}
 use Rattle.topology_form.specs.declared.parts.FileParts.{FileParts}
@@ -31,8 +30,8 @@ use Rattle.topology_reader.proofs.Listed.{IsIn, All-from_in, in_place, none_mapp
 use Rattle.topology_reader.proofs.Distinct.{AreApart, AllPairs-from_apart}
 use Rattle.topology_reader.proofs.Numbered.{some_there}
 use Rattle.topology_reader.proofs.ValidPlan.{HasNoFault, no_fault, source_within, valid_plan}
-use Rattle.topology_reader.proofs.Columns.{to_sources, feeds_from_source, fields_of_spout, fields_of_bolt, HasNoFaultAt, lists_apart, length_names, some_inputs, named_source, source_there, AreFields, no_fault_here, fields_of_source}
-use Rattle.topology_reader.proofs.SubFacts.{inputs_apart, key_apart, chosen_by_route}
+use Rattle.topology_reader.proofs.Columns.{to_sources, feeds_from_source, fields_of_spout, fields_of_bolt, HasNoFaultAt, names_once, length_names, some_inputs, named_source, source_there, AreFields, no_fault_here, fields_of_source}
+use Rattle.topology_reader.proofs.SubFacts.{inputs_apart, key_apart, routed, chosen_by_route}
 use Rattle.topology_reader.proofs.WiredPlan.{tasks_planned, opaque_kind}
 
 -- ---- lists
@@ -51,15 +50,7 @@ distinct_from_apart names apart = AllPairs-from_apart (λ (name : List ℕ). nam
 -- ---- sources
 
 route_is : (operation : Operation) → is_route operation ≡ true → IsRoute operation
-route_is (Split field into) route = absurd (false≢true route)
-route_is (Project names) route = absurd (false≢true route)
-route_is (Filter field test value) route = absurd (false≢true route)
-route_is (Set field value) route = absurd (false≢true route)
-route_is (Len field into) route = absurd (false≢true route)
-route_is (Route field) route = tt
-route_is (Flaky below) route = absurd (false≢true route)
-route_is (Mute below) route = absurd (false≢true route)
-route_is Custom route = absurd (false≢true route)
+route_is operation route = let by = routed operation route in subst IsRoute (sym by.1) tt
 
 route_there : (p : FileParts) (from : Origin) → IsSource p from → option_map_or is_route (operation_at p from) false ≡ true → IsRouteAt p from
 route_there p origin.Spout there chosen = absurd (false≢true chosen)
@@ -150,7 +141,7 @@ valid_file p range none =
     let plan : IsValid (plan_of p) = valid_plan p range none in
     record {
       range = range;
-      names = distinct_from_apart (p.spout.name ∷ component_names p) (lists_apart p (p.spout.name ∷ component_names p) faultless.twice (inl refl));
+      names = distinct_from_apart (p.spout.name ∷ component_names p) (names_once p faultless.twice);
       numbered = numbered p range faultless;
       spout_fields = fields_of_spout p;
       bolt_fields = bolt_made p range faultless;

@@ -30,13 +30,13 @@ use Rattle.topology_plan.specs.Texts.{IsName}
 use Rattle.topology_plan.specs.Wired.{fields_of as plan_fields, fields_to as plan_fields_to, width_to, IsFed, width_after, IsWithin, HasAmount, IsComponent, IsPlaced, IsLaidOut, MayFollowOpaque, IsWired}
 use Rattle.topology_reader.specs.Wiring.{component_names, inputs_by_component, sources_at, state_inputs, fields_after, fields_of, fields_to}
 use Rattle.topology_reader.specs.Planned.{number_of, numbers_of, planned_operation, planned_grouping, tasks_by_component, planned_bolt, planned_state, plan_of}
-use Rattle.topology_reader.specs.Meant.{key_of, projected, fields_read, twice_fault, is_transactional, replay_fault, meaning_fault}
+use Rattle.topology_reader.specs.Meant.{projected, fields_read, twice_fault, is_transactional, replay_fault, meaning_fault}
 use Rattle.topology_form.specs.Ranges.{HasAmount as SaysAmount, IsOperationInRange, IsBoltInRange, IsStateInRange, IsInRange}
 use Rattle.topology_reader.proofs.Listed.{IsIn, All-from_in, All-at_in, in_map, to_map, in_flat_map, to_flat_map, in_filter, to_filter, in_append, in_enumerated, in_place, none_mapped, none_found, to_left, to_right, to_range}
 use Rattle.topology_reader.proofs.Distinct.{AreApart, AllPairs-from_apart}
 use Rattle.topology_reader.proofs.Numbered.{IsBoltAt, IsStateAt, cases_component, inputs_at_state, reads_at_bolt, reads_at_state, component_at_bolt, component_at_state, map_components}
 use Rattle.topology_reader.proofs.ValidPlan.{HasNoFault, no_fault, source_within, IsPlanned, planned_to_plan, planned_in_plan, length_components}
-use Rattle.topology_reader.proofs.Columns.{to_sources, fields_of_bolt, HasNoFaultAt, lists_apart, bolt_list_apart, state_list_apart, HasSource, some_source, in_inputs_at, IsBoltOrSpout, source_there, AreFields, no_fault_here, fields_of_source}
+use Rattle.topology_reader.proofs.Columns.{to_sources, fields_of_bolt, HasNoFaultAt, names_once, spout_once, projected_once, state_key_once, HasSource, some_source, in_inputs_at, IsBoltOrSpout, source_there, AreFields, no_fault_here, fields_of_source}
 use Rattle.topology_reader.proofs.SubFacts.{once_planned, number_within, numbers_within, fields_planned, groupings_planned}
 
 -- ---- names and tasks
@@ -46,7 +46,7 @@ names_planned p none =
     let names : map (λ (c : Component). c.name) (plan_of p).components ≡ component_names p =
     map_components (λ (c : Component). c.name) (λ (bolt : BoltPart). bolt.name) (λ (state : StatePart). state.name) p (λ c bolt. refl) (λ c state. refl)
     in
-    let apart : AreApart (p.spout.name ∷ component_names p) = lists_apart p (p.spout.name ∷ component_names p) none (inl refl) in
+    let apart : AreApart (p.spout.name ∷ component_names p) = names_once p none in
     AllPairs-from_apart (λ (c : Component). c.name) (plan_of p).components (subst AreApart (sym names) apart.1)
 
 pub tasks_planned : (p : FileParts) → map (λ (c : Component). c.tasks) (plan_of p).components ≡ tasks_by_component p
@@ -166,8 +166,7 @@ module _ (p : FileParts) (range : IsInRange p) (faultless : HasNoFault p) where
 
   projected_apart : (c : ℕ) (bolt : BoltPart) → IsBoltAt p c bolt → AreApart (projected bolt.operation)
   projected_apart c bolt is =
-      bolt_list_apart p bolt (projected bolt.operation) faultless.twice (in_place p.bolts c bolt is)
-      (inr (to_right (map (λ (input : Input). key_of input.grouping) bolt.inputs) (projected bolt.operation ∷ []) (projected bolt.operation) (inl refl)))
+      projected_once p faultless.twice bolt (in_place p.bolts c bolt is)
 
   bolt_planned : (c : ℕ) (bolt : BoltPart) → IsBoltAt p c bolt → IsComponent (plan_of p) c (planned_bolt p (c, bolt))
   bolt_planned c bolt is =
@@ -222,7 +221,7 @@ module _ (p : FileParts) (range : IsInRange p) (faultless : HasNoFault p) where
             subst (λ n. IsFed (plan_of p) c n (planned_state p (c, state)).body []) (width_comes c within) (
               refl,
               no_subs_of_state p c (omega (arith, at.number)),
-              numbers_within (fields_to p c) state.key limits.key (state_list_apart p state state.key faultless.twice (in_place p.states at.place state at.is) (inl refl)) (λ name read. reads name (to_left state.key (option_to_list state.amount) name read)),
+              numbers_within (fields_to p c) state.key limits.key (state_key_once p faultless.twice state (in_place p.states at.place state at.is)) (λ name read. reads name (to_left state.key (option_to_list state.amount) name read)),
               amount_planned (fields_to p c) state.fold state.amount limits.amount (λ name read. reads name (to_right state.key (option_to_list state.amount) name read)),
               keyed c state at,
             );
@@ -304,7 +303,7 @@ wired_plan p range none =
     let faultless : HasNoFault p = no_fault p none in
     record {
       layout = layout_planned p range;
-      spout_fields = spout_fields_planned p (lists_apart p p.spout.fields faultless.twice (inr (inl refl)));
+      spout_fields = spout_fields_planned p (spout_once p faultless.twice);
       spout_field_names = spout_names_planned p range.spout.field_names;
       names = names_planned p faultless.twice;
       once = λ from. once_planned p from faultless.twice;

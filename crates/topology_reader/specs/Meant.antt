@@ -1,6 +1,6 @@
 -- The faults of what a topology file says, in the order of the checks. This project's own.
-use Rattle.std.specs.Prelude.{ℕ, ◌+◌, ◌&&◌, ℤ, pos, int_le, List, [], ◌∷◌, ◌++◌, length, map, Bool, true, false, not, nat_lt, if◌then◌else◌, Option, Some, None, option_map, option_and_then, slice_index_or, is_none, codes}
-use Rattle.std.specs.List.{list_any, find, range_with_len, flat_map}
+use Rattle.std.specs.Prelude.{ℕ, ◌+◌, ◌-◌, ◌&&◌, ℤ, pos, int_le, List, [], ◌∷◌, ◌++◌, length, map, Bool, true, false, not, nat_lt, if◌then◌else◌, Option, Some, None, option_map, option_and_then, slice_get, slice_index_or, is_none, codes}
+use Rattle.std.specs.List.{list_any, find, range_with_len}
 use Rattle.std.specs.Option.{option_map_or, option_to_list}
 use Rattle.std.specs.Cmp.Lexicographic.{pointwise}
 use Rattle.std.specs.Str.{bytes_eq}
@@ -8,19 +8,18 @@ use Rattle.storm_values.specs.Lines.{first_some}
 use Rattle.storm_values.specs.Limits.{most_tasks_in_all, most_weight}
 use Rattle.topology_plan.specs.declared.parts.Kind.{Kind}
 use Rattle.topology_plan.specs.declared.parts.Kind.TheVariants.{Transactional, Opaque}
-use Rattle.topology_plan.specs.declared.parts.Origin.TheVariants as origin
 use Rattle.topology_form.specs.declared.parts.GroupingPart.{GroupingPart}
 use Rattle.topology_form.specs.declared.parts.GroupingPart.TheVariants as said
 use Rattle.topology_form.specs.declared.parts.Input.{Input}
 use Rattle.topology_form.specs.declared.parts.Operation.{Operation}
-use Rattle.topology_form.specs.declared.parts.Operation.TheVariants.{Split, Project, Filter, Set, Len, Route, Flaky, Mute, Custom}
+use Rattle.topology_form.specs.declared.parts.Operation.TheVariants.{Split, Project, Filter, Set, Len, Route}
 use Rattle.topology_form.specs.declared.parts.BoltPart.{BoltPart}
 use Rattle.topology_form.specs.declared.parts.StatePart.{StatePart}
 use Rattle.topology_form.specs.declared.parts.FileParts.{FileParts}
 use Rattle.topology_form.specs.declared.fault.TopoFault.{TopoFault}
 use Rattle.topology_form.specs.declared.fault.TopoFault.TheVariants.{WrongKind, OutOfRange, Twice, NoSource, Cycle, FieldsDiffer, NoField, NotExactlyOnce, Weight}
 use Rattle.topology_plan.specs.Topology.{tasks_in_all, weight_of}
-use Rattle.topology_reader.specs.Wiring.{component_names, name_at, source_of, inputs_by_component, inputs_at, sources_at, reaches, by_depth, fields_of, fields_to, operation_at}
+use Rattle.topology_reader.specs.Wiring.{component_names, name_at, source_of, sources_at, reaches, by_depth, fields_of, fields_to, operation_at}
 use Rattle.topology_reader.specs.Planned.{plan_of}
 
 -- the text is among these
@@ -41,56 +40,55 @@ first_again before [] = None
 first_again before (name ∷ names) =
     if is_among before name then Some name else first_again (name ∷ before) names
 
+-- some names of which one stands twice
+abbrev pub again_fault : List (List ℕ) → Option TopoFault
+again_fault names = option_map Twice (first_again [] names)
+
 -- the key that a grouping names
 abbrev pub key_of : GroupingPart → List (List ℕ)
-key_of said.Shuffle = []
 key_of (said.Fields key) = key
-key_of said.All = []
-key_of said.Global = []
-key_of said.Direct = []
+key_of _ = []
 
 -- the names that an operation puts in the place of the fields
 abbrev pub projected : Operation → List (List ℕ)
-projected (Split field into) = []
 projected (Project names) = names
-projected (Filter field test value) = []
-projected (Set field value) = []
-projected (Len field into) = []
-projected (Route field) = []
-projected (Flaky below) = []
-projected (Mute below) = []
-projected Custom = []
+projected _ = []
 
--- the lists of a bolt in which no name is to stand twice: the sources, the key of each
--- input, the projected fields
-abbrev pub bolt_lists : BoltPart → List (List (List ℕ))
-bolt_lists bolt =
-    map (λ (input : Input). input.from) bolt.inputs
-    ∷ (map (λ (input : Input). key_of input.grouping) bolt.inputs
-    ++ projected bolt.operation ∷ [])
+-- a bolt names a source twice, or a field in the key of an input, or among the projected
+abbrev pub bolt_twice : BoltPart → Option TopoFault
+bolt_twice bolt =
+    first_some
+    (again_fault (map (λ (input : Input). input.from) bolt.inputs)
+    ∷ first_some (map (λ (input : Input). again_fault (key_of input.grouping)) bolt.inputs)
+    ∷ again_fault (projected bolt.operation) ∷ [])
 
--- the lists of a state in which no name is to stand twice: the key, and the sources
-abbrev pub state_lists : StatePart → List (List (List ℕ))
-state_lists state = state.key ∷ state.inputs ∷ []
+-- a state names a field of its key twice, or a source
+abbrev pub state_twice : StatePart → Option TopoFault
+state_twice state = first_some (again_fault state.key ∷ again_fault state.inputs ∷ [])
 
--- all such lists, the names of the spout and the components first
-abbrev pub name_lists : FileParts → List (List (List ℕ))
-name_lists p =
-    (p.spout.name ∷ component_names p) ∷ p.spout.fields
-    ∷ (flat_map bolt_lists p.bolts ++ flat_map state_lists p.states)
-
--- the first name that stands twice in one of these lists
+-- the first name that stands twice: among the spout and the components, in the spout's fields, in a
+-- bolt, in a state
 abbrev pub twice_fault : FileParts → Option TopoFault
-twice_fault p = option_map Twice (first_some (map (first_again []) (name_lists p)))
+twice_fault p =
+    first_some
+    (again_fault (p.spout.name ∷ component_names p) ∷ again_fault p.spout.fields
+    ∷ first_some (map bolt_twice p.bolts) ∷ first_some (map state_twice p.states) ∷ [])
 
 -- ---- sources
 
--- the first input that names neither the spout nor a bolt
+-- the first of some names that is neither the spout's nor a bolt's
+abbrev pub nameless_fault : FileParts → List (List ℕ) → Option TopoFault
+nameless_fault p names = option_map NoSource (find (λ name. is_none (source_of p name)) names)
+
+-- the first input that names no source
 abbrev pub source_fault : FileParts → Option TopoFault
 source_fault p =
-    let named =
-    map (λ (input : Input). input.from) (flat_map (λ inputs. inputs) (inputs_by_component p)) in
-    option_map NoSource (find (λ name. is_none (source_of p name)) named)
+    first_some
+    (first_some
+    (map (λ (bolt : BoltPart). nameless_fault p (map (λ (input : Input). input.from) bolt.inputs))
+    p.bolts)
+    ∷ first_some (map (λ (state : StatePart). nameless_fault p state.inputs) p.states)
+    ∷ [])
 
 -- the first bolt that can be reached from itself
 abbrev pub cycle_fault : FileParts → Option TopoFault
@@ -113,15 +111,8 @@ field_fault p c names =
 
 -- the operation chooses the tasks of its rows
 abbrev pub is_route : Operation → Bool
-is_route (Split field into) = false
-is_route (Project names) = false
-is_route (Filter field test value) = false
-is_route (Set field value) = false
-is_route (Len field into) = false
 is_route (Route field) = true
-is_route (Flaky below) = false
-is_route (Mute below) = false
-is_route Custom = false
+is_route _ = false
 
 -- the source chooses the task by a route
 abbrev pub chooses : FileParts → Input → Bool
@@ -130,12 +121,9 @@ chooses p input =
 
 -- a direct grouping of a source that does not choose
 abbrev pub direct_fault : FileParts → Input → GroupingPart → Option TopoFault
-direct_fault p input said.Shuffle = None
-direct_fault p input (said.Fields key) = None
-direct_fault p input said.All = None
-direct_fault p input said.Global = None
 direct_fault p input said.Direct =
     if chooses p input then None else Some (WrongKind (codes "grouping"))
+direct_fault p input _ = None
 
 -- first the names of the key, then the source of a direct grouping
 abbrev pub input_fault : FileParts → ℕ → Input → Option TopoFault
@@ -150,9 +138,7 @@ fields_read (Filter field test value) = field ∷ []
 fields_read (Set field value) = field ∷ []
 fields_read (Len field into) = field ∷ []
 fields_read (Route field) = field ∷ []
-fields_read (Flaky below) = []
-fields_read (Mute below) = []
-fields_read Custom = []
+fields_read _ = []
 
 -- the fields that a component reads: a bolt's operation, or a state's key and then its amount
 abbrev pub reads_at : FileParts → ℕ → List (List ℕ)
@@ -163,27 +149,32 @@ reads_at p c =
 
 -- the field that a length adds is there already, or there are eight without it
 abbrev pub added_fault : List (List ℕ) → Operation → Option TopoFault
-added_fault fields (Split field into) = None
-added_fault fields (Project names) = None
-added_fault fields (Filter field test value) = None
-added_fault fields (Set field value) = None
 added_fault fields (Len field into) =
     if is_among fields into then Some (Twice into)
     else range_fault (codes "fields") (pos (length fields + 1)) 1 8
-added_fault fields (Route field) = None
-added_fault fields (Flaky below) = None
-added_fault fields (Mute below) = None
-added_fault fields Custom = None
+added_fault fields _ = None
 
--- the first fault of fields of one component: its sources, its inputs in order,
--- what it reads, what it adds
+-- the first fault of fields of a bolt: its sources, its inputs in order, what it reads, what it adds
+abbrev pub bolt_fault : FileParts → ℕ → BoltPart → Option TopoFault
+bolt_fault p c bolt =
+    first_some
+    (differ_fault p c ∷ first_some (map (input_fault p c) bolt.inputs)
+    ∷ field_fault p c (fields_read bolt.operation) ∷ added_fault (fields_to p c) bolt.operation
+    ∷ [])
+
+-- the first fault of fields of a state: its sources, its key, which is that of each input, and its
+-- amount
+abbrev pub state_fault : FileParts → ℕ → StatePart → Option TopoFault
+state_fault p c state =
+    first_some
+    (differ_fault p c ∷ field_fault p c state.key ∷ field_fault p c (option_to_list state.amount)
+    ∷ [])
+
+-- the first fault of fields of a component
 abbrev pub component_fault : FileParts → ℕ → Option TopoFault
 component_fault p c =
-    first_some
-    ((differ_fault p c ∷ map (input_fault p c) (inputs_at p c))
-    ++ field_fault p c (reads_at p c)
-    ∷ option_and_then (added_fault (fields_to p c)) (operation_at p (origin.Component c))
-    ∷ [])
+    option_map_or (bolt_fault p c) (slice_get p.bolts c)
+    (option_and_then (state_fault p c) (slice_get p.states (c - length p.bolts)))
 
 -- component by component, by depth, then in file order
 abbrev pub fields_fault : FileParts → Option TopoFault

@@ -49,15 +49,8 @@ planned_operation fields Custom = op.Custom
 
 -- the number of the field by which a route chooses
 abbrev pub route_field : List (List ℕ) → Operation → ℕ
-route_field fields (Split field into) = 0
-route_field fields (Project names) = 0
-route_field fields (Filter field test value) = 0
-route_field fields (Set field value) = 0
-route_field fields (Len field into) = 0
 route_field fields (Route field) = number_of fields field
-route_field fields (Flaky below) = 0
-route_field fields (Mute below) = 0
-route_field fields Custom = 0
+route_field fields _ = 0
 
 -- the grouping of a subscription to a source, in the numbers of the source's fields
 abbrev pub planned_grouping : FileParts → Origin → GroupingPart → Grouping

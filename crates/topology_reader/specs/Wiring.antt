@@ -9,7 +9,7 @@ use Rattle.topology_plan.specs.declared.parts.Origin.TheVariants as origin
 use Rattle.topology_form.specs.declared.parts.GroupingPart.TheVariants as said
 use Rattle.topology_form.specs.declared.parts.Input.{Input}
 use Rattle.topology_form.specs.declared.parts.Operation.{Operation}
-use Rattle.topology_form.specs.declared.parts.Operation.TheVariants.{Split, Project, Filter, Set, Len, Route, Flaky, Mute, Custom}
+use Rattle.topology_form.specs.declared.parts.Operation.TheVariants.{Split, Project, Len}
 use Rattle.topology_form.specs.declared.parts.BoltPart.{BoltPart}
 use Rattle.topology_form.specs.declared.parts.StatePart.{StatePart}
 use Rattle.topology_form.specs.declared.parts.FileParts.{FileParts}
@@ -111,13 +111,8 @@ by_depth p =
 abbrev pub fields_after : Operation → List (List ℕ) → List (List ℕ)
 fields_after (Split field into) fields = into ∷ []
 fields_after (Project names) fields = names
-fields_after (Filter field test value) fields = fields
-fields_after (Set field value) fields = fields
 fields_after (Len field into) fields = fields ++ into ∷ []
-fields_after (Route field) fields = fields
-fields_after (Flaky below) fields = fields
-fields_after (Mute below) fields = fields
-fields_after Custom fields = fields
+fields_after _ fields = fields
 
 -- the first of some sources has these fields
 abbrev pub first_fields : (Origin → List (List ℕ)) → List Origin → List (List ℕ)

@@ -3,11 +3,7 @@ pub mod Checks
 pub mod Sources
 pub mod Graph
 pub mod Fields
-pub mod FieldFaults
-pub mod Names
 pub mod Reached
-pub mod Rounds
-pub mod Wires
 pub mod PlanSteps
 pub mod Made
 pub mod Subscribed

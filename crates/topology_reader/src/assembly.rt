@@ -15,7 +15,6 @@ use crate::cycles::{check_cycles, check_replays};
 use crate::fields::Wiring;
 use crate::fields_fault::check_fields;
 use crate::names::{check_sources, check_twice};
-use crate::numbers::{depth_from, weight_from};
 use crate::planned::planned_components;
 use crate::sources::Sources;
 use crate::subscribed::Subs;
@@ -51,7 +50,7 @@ fn checked_wiring<'p>(alloc: Global, parts: &'p FileParts) -> Result<Wiring<'p>,
 {
     check_twice(alloc, parts)?;
     let sources = Sources::of(alloc, parts)?;
-    check_sources(alloc, &sources)?;
+    check_sources(alloc, sources.index())?;
     check_cycles(alloc, &sources)?;
     let wiring = Wiring::of(alloc, sources)?;
     check_fields(&wiring)?;
@@ -60,14 +59,15 @@ fn checked_wiring<'p>(alloc: Global, parts: &'p FileParts) -> Result<Wiring<'p>,
 }
 
 fn make(alloc: Global, wiring: &Wiring<'_>) -> Result<Made, Memory>
-    requires { IsInRange wiring.now }
     ensures { IfOk result (IsMade wiring.now) }
 {
     let components = planned_components(alloc, wiring)?;
     let (spout_subs, component_subs) = Subs::of(alloc, wiring)?.into_vecs();
+    // brings in the ranges, by which tasks are few
+    wiring.facts();
     let tasks = tasks_in_all(&components);
-    let depth = depth_from(alloc, &components, &spout_subs, &component_subs)?;
-    let weight = weight_from(alloc, &components, &spout_subs, &component_subs)?;
+    let depth = wiring.depth()?;
+    let weight = wiring.weight()?;
     let parts = wiring.sources().parts();
     Ok(Made {
         spout_fields: parts.spout.fields.copy()?,

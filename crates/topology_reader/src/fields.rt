@@ -1,9 +1,11 @@
 //! Which fields the rows of a source have.
 
-ghost use Rattle.std.specs.Prelude.{◌≡◌, [], ◌∷◌, IfOk, None};
+ghost use Rattle.std.specs.Prelude.{◌≡◌, ◌<◌, ◌^◌, [], ◌∷◌, length, IfOk, None};
 ghost use Rattle.topology_form.specs.Ranges.{IsInRange};
 ghost use Rattle.topology_graph.specs.Found.{read, fed_by};
+ghost use Rattle.topology_plan.specs.Topology.{depth_of, weight_of};
 ghost use Rattle.topology_reader.specs.Meant.{cycle_fault};
+ghost use Rattle.topology_reader.specs.Planned.{plan_of};
 ghost use Rattle.topology_reader.specs.Wiring.{name_at, by_depth, fields_after, fields_of, fields_to};
 ghost use Rattle.topology_reader.specs.steps.Graph.{first_of, fields_rule};
 
@@ -12,7 +14,7 @@ use std::alloc::Global;
 use std::marker::Model;
 use storm_values::{Memory, Names, Txt};
 use topology_form::{FileParts, Operation};
-use topology_graph::{Along, Feed, by_depth, values_along};
+use topology_graph::{Along, Feed, by_depth, depth, values_along, weight};
 use topology_plan::Origin;
 
 /// What a bolt's operation leaves of the fields of its first source.
@@ -77,14 +79,17 @@ impl<'p> Model for Wiring<'p> {
 
     ghost Value = { FileParts };
 
-    ghost use Rattle.std.specs.Prelude.{◌≡◌};
+    ghost use Rattle.std.specs.Prelude.{◌≡◌, None};
+    ghost use Rattle.topology_form.specs.Ranges.{IsInRange};
+    ghost use Rattle.topology_reader.specs.Meant.{cycle_fault};
     ghost use Rattle.topology_reader.specs.Wiring.{by_depth};
     ghost use Rattle.topology_reader.specs.steps.Fields.{field_table};
 
     ghost view = { λ w. w.sources };
 
     ghost invariant = { λ w.
-        (w.fields.items ≡ field_table w.sources) × (w.order.items ≡ by_depth w.sources) };
+        (w.fields.items ≡ field_table w.sources) × (w.order.items ≡ by_depth w.sources)
+        × IsInRange w.sources × (cycle_fault w.sources ≡ None) };
 }
 
 impl<'p> Wiring<'p> {
@@ -119,6 +124,31 @@ impl<'p> Wiring<'p> {
         &self.sources
     }
 
+    /// What holds of the parts of every wiring. It does nothing.
+    pub(crate) fn facts(&self)
+        ensures { IsInRange self.now }
+    {
+        // brings in the invariant
+        let _ = &self.order;
+    }
+
+    /// The most subscriptions between the spout and a component of the plan.
+    pub(crate) fn depth(&self) -> Result<u32, Memory>
+        ensures { IfOk result (λ depth. depth ≡ depth_of (plan_of self.now)) }
+    {
+        let depth = depth(self.alloc, self.sources.graph())?;
+        Ok(depth as u32)
+    }
+
+    /// How many tuples one tuple of the spout can make at most in the plan, or 2^64 - 1 where there
+    /// are more.
+    pub(crate) fn weight(&self) -> Result<u64, Memory>
+        ensures { IfOk result (λ weight. weight ≡ weight_of (plan_of self.now)) }
+    {
+        let weight = weight(self.alloc, self.sources.graph())?;
+        Ok(weight)
+    }
+
     /// The components by their depth.
     pub(crate) fn order(&self) -> &[usize]
         ensures { result.now ≡ by_depth self.now }
@@ -135,7 +165,8 @@ impl<'p> Wiring<'p> {
 
     /// The fields of a source.
     pub(crate) fn fields_of(&self, from: Origin) -> &[Txt]
-        ensures { result.now ≡ fields_of self.now from }
+        ensures value { result.now ≡ fields_of self.now from }
+        ensures few { length result.now < 2 ^ 32 }
     {
         match from {
             Origin::Spout => self.sources.parts().spout.fields.as_slice(),
@@ -148,7 +179,8 @@ impl<'p> Wiring<'p> {
 
     /// The fields of what comes to a component.
     pub(crate) fn fields_to(&self, c: usize) -> &[Txt]
-        ensures { result.now ≡ fields_to self.now c }
+        ensures value { result.now ≡ fields_to self.now c }
+        ensures few { length result.now < 2 ^ 32 }
     {
         match self.sources.at(c).first() {
             Some(feed) => self.fields_of(feed.from),

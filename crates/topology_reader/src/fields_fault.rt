@@ -1,16 +1,16 @@
 //! The faults of fields: what differs, what is not there, and what is there already.
 
-ghost use Rattle.std.specs.Prelude.{◌≡◌, not, find};
+ghost use Rattle.std.specs.Prelude.{◌≡◌, not, find, map};
 ghost use Rattle.std.specs.List.{list_any};
 ghost use Rattle.std.specs.Cmp.Lexicographic.{pointwise};
 ghost use Rattle.std.specs.Option.{option_copied, option_to_list};
 ghost use Rattle.std.specs.Str.{bytes_eq};
+ghost use Rattle.storm_values.specs.Lines.{first_some};
 ghost use Rattle.topology_graph.specs.declared.values.Feed.{Feed};
 ghost use Rattle.topology_graph.specs.Graph.{feeds_at};
-ghost use Rattle.topology_reader.specs.Meant.{is_among, differ_fault, field_fault, chooses, direct_fault, input_fault, fields_read, added_fault, component_fault, fields_fault};
+ghost use Rattle.topology_reader.specs.Meant.{is_among, differ_fault, field_fault, chooses, direct_fault, input_fault, fields_read, added_fault, bolt_fault, state_fault, component_fault, fields_fault};
 ghost use Rattle.topology_reader.specs.Wiring.{fields_of, fields_to};
 ghost use Rattle.topology_reader.specs.steps.Checks.{Checks};
-ghost use Rattle.topology_reader.specs.steps.FieldFaults.{inputs_fault, bolt_fault, state_fault};
 ghost use Rattle.topology_reader.specs.steps.Graph.{graph_of};
 
 use crate::fields::Wiring;
@@ -126,7 +126,7 @@ fn is_among(texts: &[Txt], text: &Txt) -> bool
 }
 
 fn check_inputs(wiring: &Wiring<'_>, c: usize, inputs: &[Input]) -> Result<(), TopoFault>
-    ensures { Checks result (inputs_fault wiring.now c inputs.now) }
+    ensures { Checks result (first_some (map (input_fault wiring.now c) inputs.now)) }
 {
     for input in inputs {
         check_input(wiring, c, input)?;
@@ -147,17 +147,10 @@ fn check_direct(wiring: &Wiring<'_>, input: &Input) -> Result<(), TopoFault>
     ensures { Checks result (direct_fault wiring.now input.now input.now.grouping) }
 {
     match input.grouping {
-        GroupingPart::Shuffle
-        | GroupingPart::Fields(_)
-        | GroupingPart::All
-        | GroupingPart::Global => Ok(()),
-        GroupingPart::Direct => {
-            if chooses(wiring, input) {
-                return Ok(());
-            }
-            let name = Txt::from_str(wiring.alloc(), "grouping")?;
-            Err(TopoFault::WrongKind(name))
+        GroupingPart::Direct if !chooses(wiring, input) => {
+            Err(TopoFault::WrongKind(Txt::from_str(wiring.alloc(), "grouping")?))
         }
+        _ => Ok(()),
     }
 }
 

@@ -9,7 +9,6 @@ mod fields_fault;
 mod index;
 mod laws;
 mod names;
-mod numbers;
 mod planned;
 mod read;
 mod sources;

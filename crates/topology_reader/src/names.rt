@@ -1,16 +1,18 @@
 //! Names that stand twice, and names that no source has.
 
-ghost use Rattle.std.specs.Prelude.{◌≡◌, ℕ, List, [], ◌∷◌, map, IfOk};
+ghost use Rattle.std.specs.Prelude.{◌≡◌, ℕ, List, [], ◌∷◌, map, is_none, IfOk};
 ghost use Rattle.std.specs.Borrow.{Bor};
-ghost use Rattle.std.specs.List.{flat_map};
+ghost use Rattle.std.specs.List.{find};
 ghost use Rattle.std.specs.Option.{option_copied};
-ghost use Rattle.topology_reader.specs.Meant.{first_again, key_of, projected, bolt_lists, state_lists, source_fault, twice_fault};
+ghost use Rattle.storm_values.specs.Lines.{first_some};
+ghost use Rattle.topology_form.specs.declared.parts.BoltPart.{BoltPart};
+ghost use Rattle.topology_form.specs.declared.parts.Input.{Input};
+ghost use Rattle.topology_form.specs.declared.parts.StatePart.{StatePart};
+ghost use Rattle.topology_reader.specs.Meant.{first_again, again_fault, key_of, projected, bolt_twice, state_twice, twice_fault, nameless_fault, source_fault};
 ghost use Rattle.topology_reader.specs.steps.Checks.{Checks};
-ghost use Rattle.topology_reader.specs.steps.Names.{bolt_sources, state_sources, key_lists, part_lists, again_among, sourceless_in, sourceless};
-ghost use Rattle.topology_reader.specs.Wiring.{component_names};
+ghost use Rattle.topology_reader.specs.Wiring.{component_names, source_of};
 
 use crate::index::Index;
-use crate::sources::Sources;
 use indexmap::IndexSet;
 use std::alloc::Global;
 use storm_values::{Memory, Txt};
@@ -62,73 +64,37 @@ fn first_again<'a, N: Named>(alloc: Global, items: &'a [N]) -> Result<Option<&'a
     Ok(None)
 }
 
-/// That each input names a source.
-pub(crate) fn check_sources(alloc: Global, sources: &Sources<'_>) -> Result<(), TopoFault>
-    ensures { Checks result (source_fault sources.now) }
+/// That no two of some items have one name.
+fn check_items<N: Named>(alloc: Global, items: &[N]) -> Result<(), TopoFault>
+    ensures { Checks result (again_fault (map N.name_of items.now)) }
 {
-    match sourceless(sources.index()) {
-        Some(name) => Err(TopoFault::NoSource(Txt::from_str(alloc, name)?)),
+    match first_again(alloc, items)? {
+        Some(name) => Err(TopoFault::Twice(Txt::from_str(alloc, name)?)),
         None => Ok(()),
     }
 }
 
-fn sourceless<'a>(index: &'a Index<'_>) -> Option<&'a str>
-    ensures { option_copied result ≡ sourceless index.now }
+fn check_names(alloc: Global, names: &[Txt]) -> Result<(), TopoFault>
+    ensures { Checks result (again_fault names.now) }
 {
-    match bolt_sourceless(index) {
-        Some(name) => Some(name),
-        None => state_sourceless(index),
-    }
-}
-
-fn bolt_sourceless<'a>(index: &'a Index<'_>) -> Option<&'a str>
-    ensures { option_copied result
-        ≡ sourceless_in index.now (flat_map bolt_sources index.now.bolts) }
-{
-    for bolt in index.parts().bolts.as_slice() {
-        if let Some(name) = sourceless_in(index, bolt.inputs.as_slice()) {
-            return Some(name);
-        }
-    }
-    None
-}
-
-fn state_sourceless<'a>(index: &'a Index<'_>) -> Option<&'a str>
-    ensures { option_copied result
-        ≡ sourceless_in index.now (flat_map state_sources index.now.states) }
-{
-    for state in index.parts().states.as_slice() {
-        if let Some(name) = sourceless_in(index, state.inputs.as_slice()) {
-            return Some(name);
-        }
-    }
-    None
-}
-
-/// The first name of some items that no source has.
-fn sourceless_in<'a, N: Named>(index: &Index<'_>, items: &'a [N]) -> Option<&'a str>
-    ensures { option_copied result ≡ sourceless_in index.now (map N.name_of items.now) }
-{
-    for item in items {
-        if index.source_of(item.name()).is_none() {
-            return Some(item.name());
-        }
-    }
-    None
+    check_items(alloc, names)
 }
 
 /// That no name stands twice where it may not.
 pub(crate) fn check_twice(alloc: Global, parts: &FileParts) -> Result<(), TopoFault>
     ensures { Checks result (twice_fault parts.now) }
 {
+    check_components(alloc, parts)?;
+    check_names(alloc, parts.spout.fields.as_slice())?;
+    check_bolts(alloc, parts.bolts.as_slice())?;
+    check_states(alloc, parts.states.as_slice())
+}
+
+fn check_components(alloc: Global, parts: &FileParts) -> Result<(), TopoFault>
+    ensures { Checks result (again_fault (parts.now.spout.name ∷ component_names parts.now)) }
+{
     let names = component_names(alloc, parts)?;
-    if let Some(name) = first_again(alloc, names.as_slice())? {
-        return Err(TopoFault::Twice(Txt::from_str(alloc, name)?));
-    }
-    match part_again(alloc, parts)? {
-        Some(name) => Err(TopoFault::Twice(Txt::from_str(alloc, name)?)),
-        None => Ok(()),
-    }
+    check_items(alloc, names.as_slice())
 }
 
 /// The names of the spout and the components.
@@ -148,80 +114,101 @@ fn component_names<'a>(alloc: Global, parts: &'a FileParts) -> Result<Vec<&'a st
         .collect(alloc)
 }
 
-/// A name that stands twice in a list of the parts, without that of the components' names.
-fn part_again(alloc: Global, parts: &FileParts) -> Result<Option<&str>, Memory>
-    ensures { IfOk result (λ again. option_copied again ≡ again_among (part_lists parts.now)) }
-{
-    if let Some(name) = name_again(alloc, parts.spout.fields.as_slice())? {
-        return Ok(Some(name));
-    }
-    match bolts_again(alloc, parts.bolts.as_slice())? {
-        Some(name) => Ok(Some(name)),
-        None => states_again(alloc, parts.states.as_slice()),
-    }
-}
-
-fn name_again(alloc: Global, names: &[Txt]) -> Result<Option<&str>, Memory>
-    ensures { IfOk result (λ again. option_copied again ≡ first_again [] names.now) }
-{
-    first_again(alloc, names)
-}
-
-fn bolts_again(alloc: Global, bolts: &[BoltPart]) -> Result<Option<&str>, Memory>
-    ensures { IfOk result
-        (λ again. option_copied again ≡ again_among (flat_map bolt_lists bolts.now)) }
+fn check_bolts(alloc: Global, bolts: &[BoltPart]) -> Result<(), TopoFault>
+    ensures { Checks result (first_some (map bolt_twice bolts.now)) }
 {
     for bolt in bolts {
-        if let Some(name) = bolt_again(alloc, bolt)? {
-            return Ok(Some(name));
-        }
+        check_bolt(alloc, bolt)?;
     }
-    Ok(None)
+    Ok(())
 }
 
-fn bolt_again(alloc: Global, bolt: &BoltPart) -> Result<Option<&str>, Memory>
-    ensures { IfOk result (λ again. option_copied again ≡ again_among (bolt_lists bolt.now)) }
+fn check_bolt(alloc: Global, bolt: &BoltPart) -> Result<(), TopoFault>
+    ensures { Checks result (bolt_twice bolt.now) }
 {
-    if let Some(name) = first_again(alloc, bolt.inputs.as_slice())? {
-        return Ok(Some(name));
-    }
-    match keys_again(alloc, bolt.inputs.as_slice())? {
-        Some(name) => Ok(Some(name)),
-        None => name_again(alloc, projected(&bolt.operation)),
-    }
+    let inputs = bolt.inputs.as_slice();
+    check_items(alloc, inputs)?;
+    check_keys(alloc, inputs)?;
+    check_names(alloc, projected(&bolt.operation))
 }
 
-fn keys_again(alloc: Global, inputs: &[Input]) -> Result<Option<&str>, Memory>
-    ensures { IfOk result
-        (λ again. option_copied again ≡ again_among (flat_map key_lists inputs.now)) }
+fn check_keys(alloc: Global, inputs: &[Input]) -> Result<(), TopoFault>
+    ensures { Checks result
+        (first_some (map (λ (input : Input). again_fault (key_of input.grouping)) inputs.now)) }
 {
     for input in inputs {
-        if let Some(name) = name_again(alloc, key_of(&input.grouping))? {
-            return Ok(Some(name));
-        }
+        check_names(alloc, key_of(&input.grouping))?;
     }
-    Ok(None)
+    Ok(())
 }
 
-fn states_again(alloc: Global, states: &[StatePart]) -> Result<Option<&str>, Memory>
-    ensures { IfOk result
-        (λ again. option_copied again ≡ again_among (flat_map state_lists states.now)) }
+fn check_states(alloc: Global, states: &[StatePart]) -> Result<(), TopoFault>
+    ensures { Checks result (first_some (map state_twice states.now)) }
 {
     for state in states {
-        if let Some(name) = state_again(alloc, state)? {
-            return Ok(Some(name));
-        }
+        check_names(alloc, state.key.as_slice())?;
+        check_names(alloc, state.inputs.as_slice())?;
     }
-    Ok(None)
+    Ok(())
 }
 
-fn state_again(alloc: Global, state: &StatePart) -> Result<Option<&str>, Memory>
-    ensures { IfOk result (λ again. option_copied again ≡ again_among (state_lists state.now)) }
+/// That each input names a source.
+pub(crate) fn check_sources(alloc: Global, index: &Index<'_>) -> Result<(), TopoFault>
+    ensures { Checks result (source_fault index.now) }
 {
-    match name_again(alloc, state.key.as_slice())? {
-        Some(name) => Ok(Some(name)),
-        None => name_again(alloc, state.inputs.as_slice()),
+    check_bolt_sources(alloc, index, index.parts().bolts.as_slice())?;
+    check_state_sources(alloc, index, index.parts().states.as_slice())
+}
+
+fn check_bolt_sources(alloc: Global, index: &Index<'_>, bolts: &[BoltPart]) -> Result<(), TopoFault>
+    ensures { Checks result
+        (first_some
+        (map
+        (λ (bolt : BoltPart).
+        nameless_fault index.now (map (λ (input : Input). input.from) bolt.inputs)) bolts.now)) }
+{
+    for bolt in bolts {
+        check_named(alloc, index, bolt.inputs.as_slice())?;
     }
+    Ok(())
+}
+
+fn check_state_sources(
+    alloc: Global,
+    index: &Index<'_>,
+    states: &[StatePart],
+) -> Result<(), TopoFault>
+    ensures { Checks result
+        (first_some
+        (map (λ (state : StatePart). nameless_fault index.now state.inputs) states.now)) }
+{
+    for state in states {
+        check_named(alloc, index, state.inputs.as_slice())?;
+    }
+    Ok(())
+}
+
+/// That each of some items has the name of a source.
+fn check_named<N: Named>(alloc: Global, index: &Index<'_>, items: &[N]) -> Result<(), TopoFault>
+    ensures { Checks result (nameless_fault index.now (map N.name_of items.now)) }
+{
+    match first_nameless(index, items) {
+        Some(name) => Err(TopoFault::NoSource(Txt::from_str(alloc, name)?)),
+        None => Ok(()),
+    }
+}
+
+/// The first name of some items that no source has.
+fn first_nameless<'a, N: Named>(index: &Index<'_>, items: &'a [N]) -> Option<&'a str>
+    ensures { option_copied result
+        ≡ find (λ name. is_none (source_of index.now name)) (map N.name_of items.now) }
+{
+    for item in items {
+        if index.source_of(item.name()).is_none() {
+            return Some(item.name());
+        }
+    }
+    None
 }
 
 /// The key that a grouping names.

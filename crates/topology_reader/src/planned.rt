@@ -5,8 +5,7 @@ ghost use Rattle.std.specs.List.{enumerate_from};
 ghost use Rattle.std.specs.Option.{option_map_or};
 ghost use Rattle.topology_reader.specs.steps.PlanSteps.{planned_components};
 ghost use Rattle.topology_reader.specs.Planned.{number_of, numbers_of, planned_operation, route_field, planned_grouping, planned_bolt, planned_state, first_task_of};
-ghost use Rattle.topology_form.specs.Ranges.{IsInRange};
-ghost use Rattle.topology_reader.specs.Wiring.{place_of, fields_of, fields_to, operation_at};
+ghost use Rattle.topology_reader.specs.Wiring.{place_of, fields_of, operation_at};
 
 use crate::fields::Wiring;
 use std::alloc::Global;
@@ -86,22 +85,6 @@ fn route_field(fields: &[Txt], operation: &Operation) -> u32
     }
 }
 
-fn fields_of<'w>(wiring: &'w Wiring<'_>, from: Origin) -> &'w [Txt]
-    requires { IsInRange wiring.now }
-    ensures value { result.now ≡ fields_of wiring.now from }
-    ensures few { length result.now < 2 ^ 32 }
-{
-    wiring.fields_of(from)
-}
-
-fn fields_to<'w>(wiring: &'w Wiring<'_>, c: u32) -> &'w [Txt]
-    requires { IsInRange wiring.now }
-    ensures value { result.now ≡ fields_to wiring.now c }
-    ensures few { length result.now < 2 ^ 32 }
-{
-    wiring.fields_to(c as usize)
-}
-
 /// The grouping of a subscription to a source.
 pub(crate) fn planned_grouping(
     alloc: Global,
@@ -109,13 +92,12 @@ pub(crate) fn planned_grouping(
     from: Origin,
     said: &GroupingPart,
 ) -> Result<Grouping, Memory>
-    requires { IsInRange wiring.now }
     ensures { IfOk result (λ grouping. grouping ≡ planned_grouping wiring.now from said.now) }
 {
     match said {
         GroupingPart::Shuffle => Ok(Grouping::Shuffle),
         GroupingPart::Fields(key) => {
-            let key = numbers_of(alloc, fields_of(wiring, from), key.as_slice())?;
+            let key = numbers_of(alloc, wiring.fields_of(from), key.as_slice())?;
             Ok(Grouping::Fields(key))
         }
         GroupingPart::All => Ok(Grouping::All),
@@ -126,12 +108,11 @@ pub(crate) fn planned_grouping(
 
 /// The field by which a source chooses the task.
 fn chosen_field(wiring: &Wiring<'_>, from: Origin) -> u32
-    requires { IsInRange wiring.now }
     ensures { result
         ≡ option_map_or (route_field (fields_of wiring.now from)) (operation_at wiring.now from) 0 }
 {
     match wiring.sources().operation_at(from) {
-        Some(operation) => route_field(fields_of(wiring, from), operation),
+        Some(operation) => route_field(wiring.fields_of(from), operation),
         None => 0,
     }
 }
@@ -153,11 +134,10 @@ fn planned_bolt(
     first_task: u32,
     bolt: &BoltPart,
 ) -> Result<Component, Memory>
-    requires ranges { IsInRange wiring.now }
-    requires first_task { first_task ≡ first_task_of wiring.now c }
+    requires { first_task ≡ first_task_of wiring.now c }
     ensures { IfOk result (λ component. component ≡ planned_bolt wiring.now (c, bolt.now)) }
 {
-    let op = planned_operation(alloc, fields_to(wiring, c), &bolt.operation)?;
+    let op = planned_operation(alloc, wiring.fields_to(c as usize), &bolt.operation)?;
     Ok(Component {
         name: bolt.name.copy()?,
         first_task,
@@ -174,11 +154,10 @@ fn planned_state(
     first_task: u32,
     state: &StatePart,
 ) -> Result<Component, Memory>
-    requires ranges { IsInRange wiring.now }
-    requires first_task { first_task ≡ first_task_of wiring.now c }
+    requires { first_task ≡ first_task_of wiring.now c }
     ensures { IfOk result (λ component. component ≡ planned_state wiring.now (c, state.now)) }
 {
-    let fields = fields_to(wiring, c);
+    let fields = wiring.fields_to(c as usize);
     let spec = StateSpec {
         kind: state.kind,
         key: numbers_of(alloc, fields, state.key.as_slice())?,
@@ -209,7 +188,6 @@ pub(crate) fn planned_components(
     alloc: Global,
     wiring: &Wiring<'_>,
 ) -> Result<Vec<Component>, Memory>
-    requires { IsInRange wiring.now }
     ensures { IfOk result (λ components. components.items ≡ planned_components wiring.now) }
 {
     let mut components = Vec::with_capacity(alloc, wiring.sources().count())?;
@@ -224,13 +202,14 @@ fn add_bolts(
     wiring: &Wiring<'_>,
     components: &mut Vec<Component>,
 ) -> Result<u32, Memory>
-    requires { IsInRange wiring.now }
     ensures next { IfOk result (λ next. next ≡ first_task_of wiring.now (length wiring.now.bolts)) }
     ensures bolts { OnOk result (components.new.items
         ≡ components.old.items
         ++ map (planned_bolt wiring.now) (enumerate_from 0 wiring.now.bolts)) }
 {
     let bolts = wiring.sources().parts().bolts.as_slice();
+    // brings in the ranges, by which tasks are few
+    wiring.facts();
     let mut first_task = 0;
     for (c, bolt) in bolts.iter().enumerate() {
         components.push(planned_bolt(alloc, wiring, c as u32, first_task, bolt)?)?;
@@ -246,8 +225,7 @@ fn add_states(
     components: &mut Vec<Component>,
     first_task: u32,
 ) -> Result<(), Memory>
-    requires ranges { IsInRange wiring.now }
-    requires first_task { first_task ≡ first_task_of wiring.now (length wiring.now.bolts) }
+    requires { first_task ≡ first_task_of wiring.now (length wiring.now.bolts) }
     ensures { OnOk result (components.new.items
         ≡ components.old.items
         ++ map (planned_state wiring.now)
@@ -255,6 +233,8 @@ fn add_states(
 {
     let bolt_count = wiring.sources().bolt_count();
     let states = wiring.sources().parts().states.as_slice();
+    // brings in the ranges, by which tasks are few
+    wiring.facts();
     let mut next_task = first_task;
     for (i, state) in states.iter().enumerate() {
         let c = bolt_count + i as u32;

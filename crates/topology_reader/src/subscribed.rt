@@ -4,9 +4,7 @@ ghost use Rattle.std.specs.Prelude.{◌≡◌, length, map, fold, IfOk, OnOk};
 ghost use Rattle.std.specs.List.{enumerate_from};
 ghost use Rattle.topology_reader.specs.steps.PlanSteps.{planned_component_subs};
 ghost use Rattle.topology_reader.specs.Planned.{planned_subs};
-ghost use Rattle.topology_form.specs.Ranges.{IsInRange};
-ghost use Rattle.topology_reader.specs.steps.Subscribed.{with_sub, with_input, with_inputs, no_subs};
-ghost use Rattle.topology_reader.specs.steps.Wires.{items_by};
+ghost use Rattle.topology_reader.specs.steps.Subscribed.{items_by, with_sub, with_input, with_inputs, no_subs};
 ghost use Rattle.topology_reader.specs.Wiring.{state_inputs};
 ghost use Rattle.topology_form.specs.declared.parts.BoltPart.{BoltPart};
 ghost use Rattle.topology_plan.specs.declared.parts.Origin.TheVariants as origin;
@@ -27,11 +25,9 @@ pub(crate) struct Subs {
 }
 
 impl Model for Subs {
-    ghost use Rattle.topology_reader.specs.steps.Subscribed.{SubTable};
+    ghost use Rattle.topology_reader.specs.steps.Subscribed.{SubTable, items_by};
 
     ghost Value = { SubTable };
-
-    ghost use Rattle.topology_reader.specs.steps.Wires.{items_by};
 
     ghost view = { λ subs. record {
       from_spout = subs.from_spout.items;
@@ -43,7 +39,6 @@ impl Subs {
     /// The subscriptions of each source, in the order of their consumers, in time linear in the
     /// inputs but for the search of their sources' names.
     pub(crate) fn of(alloc: Global, wiring: &Wiring<'_>) -> Result<Self, Memory>
-        requires { IsInRange wiring.now }
         ensures spout { IfOk result
             (λ subs. subs.from_spout ≡ planned_subs wiring.now origin.Spout) }
         ensures components { IfOk result
@@ -64,11 +59,12 @@ impl Subs {
     }
 
     fn add_bolts(&mut self, alloc: Global, wiring: &Wiring<'_>) -> Result<(), Memory>
-        requires { IsInRange wiring.now }
         ensures { OnOk result (self.new
             ≡ fold (with_inputs wiring.now) self.old
             (enumerate_from 0 (map (λ (bolt : BoltPart). bolt.inputs) wiring.now.bolts))) }
     {
+        // brings in the ranges, by which bolts are few
+        wiring.facts();
         let bolts = wiring.sources().parts().bolts.as_slice();
         for (c, bolt) in bolts.iter().enumerate() {
             self.add_bolt(alloc, wiring, c as u32, bolt)?;
@@ -77,11 +73,12 @@ impl Subs {
     }
 
     fn add_states(&mut self, alloc: Global, wiring: &Wiring<'_>) -> Result<(), Memory>
-        requires { IsInRange wiring.now }
         ensures { OnOk result (self.new
             ≡ fold (with_inputs wiring.now) self.old
             (enumerate_from (length wiring.now.bolts) (map state_inputs wiring.now.states))) }
     {
+        // brings in the ranges, by which bolts and states are few
+        wiring.facts();
         let bolt_count = wiring.sources().bolt_count();
         let states = wiring.sources().parts().states.as_slice();
         for (i, state) in states.iter().enumerate() {
@@ -127,7 +124,6 @@ impl Subs {
         name: &Txt,
         said: &GroupingPart,
     ) -> Result<(), Memory>
-        requires { IsInRange wiring.now }
         ensures { OnOk result (self.new
             ≡ with_input wiring.now to self.old (record { from = name.now; grouping = said.now })) }
     {
@@ -145,7 +141,6 @@ impl Subs {
         to: u32,
         bolt: &BoltPart,
     ) -> Result<(), Memory>
-        requires { IsInRange wiring.now }
         ensures { OnOk result (self.new ≡ with_inputs wiring.now self.old (to, bolt.now.inputs)) }
     {
         for input in bolt.inputs.as_slice() {
@@ -161,7 +156,6 @@ impl Subs {
         to: u32,
         state: &StatePart,
     ) -> Result<(), Memory>
-        requires { IsInRange wiring.now }
         ensures { OnOk result
             (self.new ≡ with_inputs wiring.now self.old (to, state_inputs state.now)) }
     {
@@ -177,7 +171,6 @@ impl Subs {
         names: &[Txt],
         said: &GroupingPart,
     ) -> Result<(), Memory>
-        requires { IsInRange wiring.now }
         ensures { OnOk result (self.new
             ≡ fold (with_input wiring.now to) self.old
             (map (λ name. record { from = name; grouping = said.now }) names.now)) }

@@ -15,11 +15,8 @@ use Rattle.topology_reader.specs.Wiring.{source_of, state_inputs, fields_after}
 
 -- how many copies of a tuple a consumer with these tasks gets
 abbrev pub copies_said : GroupingPart → ℕ → ℕ
-copies_said said.Shuffle tasks = 1
-copies_said (said.Fields key) tasks = 1
 copies_said said.All tasks = tasks
-copies_said said.Global tasks = 1
-copies_said said.Direct tasks = 1
+copies_said _ tasks = 1
 
 -- the subscription that an input is, where it names a source
 abbrev pub feed_of : FileParts → List ℕ → ℕ → Option Feed

@@ -1,5 +1,6 @@
 -- The subscriptions of all sources, made in one walk over the inputs.
-use Rattle.std.specs.Prelude.{ℕ, List, [], ◌∷◌, ◌++◌, fold, replicate, slice_index_or, slice_set}
+use Rattle.std.specs.Prelude.{ℕ, List, [], ◌∷◌, ◌++◌, fold, replicate, slice_index_or, slice_set, map, Vec}
+use Rattle.std.specs.declared.alloc.Global.{Global}
 use Rattle.std.specs.Option.{option_map_or}
 use Rattle.topology_plan.specs.declared.parts.Origin.{Origin}
 use Rattle.topology_plan.specs.declared.parts.Origin.TheVariants as origin
@@ -8,6 +9,10 @@ use Rattle.topology_form.specs.declared.parts.Input.{Input}
 use Rattle.topology_form.specs.declared.parts.FileParts.{FileParts}
 use Rattle.topology_reader.specs.Planned.{planned_grouping}
 use Rattle.topology_reader.specs.Wiring.{source_of}
+
+-- the lists behind vectors of subscriptions
+abbrev pub items_by : List (Vec Sub Global) → List (List Sub)
+items_by vectors = map (λ (subs : Vec Sub Global). subs.items) vectors
 
 -- the subscriptions of the spout, and of each component
 pub record SubTable : Type 0 where

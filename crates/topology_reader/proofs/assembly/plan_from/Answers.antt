@@ -1,7 +1,5 @@
 use Rattle.std.proofs.Common.{◌≡◌, ◌∙◌, None, sym, subst}
 use Rattle.std.proofs.lemmas.Result.{err_from_is_err_and}
-use Rattle.topology_form.specs.Ranges.{IsInRange}
-use Rattle.topology_reader.specs.Meant.{meaning_fault}
 use Rattle.topology_reader.specs.steps.Made.{IsMade}
 use Rattle.topology_reader.specs.steps.PlanSteps.{size_fault}
 use Rattle.topology_reader.proofs.AssemblyLemmas.{size_fault-plan, sound-planned}

@@ -1,6 +1,6 @@
 use Rattle.std.proofs.Common.{Some, ap, sym, ◌∙◌}
 use Rattle.topology_form.specs.declared.fault.TopoFault.TheVariants.{FieldsDiffer}
-use Rattle.topology_reader.proofs.FieldFaultLemmas.{differ_told, differ_none}
+use Rattle.topology_reader.proofs.GraphLemmas.{differ_told, differ_none}
 use Rattle.topology_reader.proofs.fields_fault.check_same.Goals as goal
 
 pub returns-then-differs : goal.returns-then-differs

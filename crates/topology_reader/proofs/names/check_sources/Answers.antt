@@ -1,15 +1,26 @@
-use Rattle.std.proofs.Common.{◌≡◌, Some, None, option_map, ap, sym, ◌∙◌}
-use Rattle.topology_form.specs.declared.fault.TopoFault.TheVariants.{NoSource}
-use Rattle.topology_reader.specs.steps.Names.{sourceless}
-use Rattle.topology_reader.proofs.Sourceless.{source_fault-sourceless}
+use Rattle.std.proofs.Common.{◌≡◌, [], ◌∷◌, map, ap, sym, ◌∙◌}
+use Rattle.std.proofs.lemmas.Result.{err_from_is_err_and}
+use Rattle.storm_values.specs.Lines.{first_some}
+use Rattle.topology_form.specs.declared.parts.BoltPart.{BoltPart}
+use Rattle.topology_form.specs.declared.parts.Input.{Input}
+use Rattle.topology_form.specs.declared.parts.StatePart.{StatePart}
+use Rattle.topology_reader.specs.Meant.{nameless_fault}
+use Rattle.topology_reader.proofs.FileFaults.{next_alone}
 use Rattle.topology_reader.proofs.names.check_sources.Goals as goal
 
-pub returns-in_ok-from_str-in-Some : goal.returns-in_ok-from_str-in-Some
-returns-in_ok-from_str-in-Some c =
-    let found : sourceless c.args.sources.now ≡ Some c.in-Some.name.now = ap sourceless (sym c.index.ensures) ∙ sym c.in-Some.ensures in
-    λ other. source_fault-sourceless c.args.sources.now ∙ ap (option_map NoSource) found ∙ ap (λ name. Some (NoSource name)) (sym c.in_ok-from_str-in-Some.ensures)
+pub returns-in_err-check_bolt_sources : goal.returns-in_err-check_bolt_sources
+returns-in_err-check_bolt_sources c =
+    let p = c.args.index.now in
+    let bolts : c.as_slice.result.now ≡ c.args.index.now.bolts = cc in
+    let made = err_from_is_err_and c.from_residual.result c.from_residual.ensures.1 in
+    rw (made.1, made.2) (λ other.
+    ap (λ o. first_some (o ∷ first_some (map (λ (state : StatePart). nameless_fault p state.inputs) p.states) ∷ []))
+    (ap (λ bs. first_some (map (λ (bolt : BoltPart). nameless_fault p (map (λ (input : Input). input.from) bolt.inputs)) bs)) (sym bolts) ∙ c.in_err-check_bolt_sources.ensures other))
 
-pub returns-in-None : goal.returns-in-None
-returns-in-None c =
-    let none : sourceless c.args.sources.now ≡ None = ap sourceless (sym c.index.ensures) ∙ sym c.in-None.ensures in
-    source_fault-sourceless c.args.sources.now ∙ ap (option_map NoSource) none
+pub returns : goal.returns
+returns c =
+    let p = c.args.index.now in
+    let bolts : c.as_slice.result.now ≡ c.args.index.now.bolts = cc in
+    let states : c.as_slice-2.result.now ≡ c.args.index.now.states = cc in
+    let none = ap (λ bs. first_some (map (λ (bolt : BoltPart). nameless_fault p (map (λ (input : Input). input.from) bolt.inputs)) bs)) (sym bolts) ∙ c.in_ok-check_bolt_sources.ensures in
+    rw (none, next_alone (first_some (map (λ (state : StatePart). nameless_fault p state.inputs) p.states)), ← states) c.check_state_sources.ensures

@@ -11,7 +11,7 @@ overflow_add-first_task c =
     let bolts : c.as_slice-bolts.result.now ≡ p.bolts = cc in
     let below : c.loop-c.c < length p.bolts = omega (arith, ap length bolts) in
     let more = first_task_after_bolt p c.loop-c.c c.index-bolts-c.result below (c.index-bolts-c.is ∙ ap (λ bs. get_or bs c.loop-c.c c.index-bolts-c.result) bolts) in
-    omega (arith, more, first_task-le p (c.loop-c.c + 1) c.requires, c.loop-c.invariant.first_task)
+    omega (arith, more, first_task-le p (c.loop-c.c + 1) c.facts.ensures, c.loop-c.invariant.first_task)
 
 pub loop-c-preserved : goal.loop-c-preserved
 loop-c-preserved c =

@@ -8,11 +8,11 @@ use Rattle.topology_reader.proofs.planned.add_states.Goals as goal
 pub loop-i-init : goal.loop-i-init
 loop-i-init c = record {
   added = sym (append-nil c.args.components.now.items);
-  next_task = c.requires.first_task ∙ ap (first_task_of c.args.wiring.now) (omega arith);
+  next_task = c.requires ∙ ap (first_task_of c.args.wiring.now) (omega arith);
 }
 
-pub planned_state-requires-clause-first_task : goal.planned_state-requires-clause-first_task
-planned_state-requires-clause-first_task c =
+pub planned_state-requires : goal.planned_state-requires
+planned_state-requires c =
     let count : c.bolt_count-bolt_count.result ≡ length c.args.wiring.now.bolts = cc in
     c.loop-i.invariant.next_task ∙ ap (λ n. first_task_of c.args.wiring.now (n + c.loop-i.i)) (sym count)
 
@@ -22,7 +22,7 @@ overflow_add-next_task c =
     let states : c.as_slice-states.result.now ≡ p.states = cc in
     let below : c.loop-i.i < length p.states = omega (arith, ap length states) in
     let more = first_task_after_state p c.loop-i.i c.index-states-i.result below (c.index-states-i.is ∙ ap (λ ss. get_or ss c.loop-i.i c.index-states-i.result) states) in
-    omega (arith, more, first_task-le p (length p.bolts + (c.loop-i.i + 1)) c.requires.ranges, c.loop-i.invariant.next_task)
+    omega (arith, more, first_task-le p (length p.bolts + (c.loop-i.i + 1)) c.facts.ensures, c.loop-i.invariant.next_task)
 
 pub loop-i-preserved : goal.loop-i-preserved
 loop-i-preserved c =

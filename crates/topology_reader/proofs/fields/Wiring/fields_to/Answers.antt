@@ -6,17 +6,17 @@ use Rattle.topology_reader.specs.steps.Graph.{graph_of}
 use Rattle.topology_reader.proofs.GraphLemmas.{first_source_fields, first_of_some, first_of_none}
 use Rattle.topology_reader.proofs.fields.Wiring.fields_to.Goals as goal
 
-pub returns-in-Some : goal.returns-in-Some
-returns-in-Some c =
+pub returns-in-Some-clause-value : goal.returns-in-Some-clause-value
+returns-in-Some-clause-value c =
     let p = c.args.self.now in
     let view = c.self.view_is in
     let at = c.at.ensures in
     let one = c.in-Some.ensures.value in
     let first : slice_get (feeds_at (graph_of p) c.args.c) 0 ≡ Some c.in-Some.feed.now = cc in
-    c.fields_of.ensures ∙ sym (first_source_fields (fields_of p) p c.args.c ∙ first_of_some (fields_of p) (feeds_at (graph_of p) c.args.c) c.in-Some.feed.now first)
+    c.fields_of.ensures.value ∙ sym (first_source_fields (fields_of p) p c.args.c ∙ first_of_some (fields_of p) (feeds_at (graph_of p) c.args.c) c.in-Some.feed.now first)
 
-pub returns-in-None : goal.returns-in-None
-returns-in-None c =
+pub returns-in-None-clause-value : goal.returns-in-None-clause-value
+returns-in-None-clause-value c =
     let p = c.args.self.now in
     let view = c.self.view_is in
     let at = c.at.ensures in

@@ -30,4 +30,6 @@ invariant_of-result c =
           ∙ ap (λ graph. map (λ d. Some (value_of (fields_rule p) graph (origin.Component d))) (range_with_len 0 (length graph))) c.graph.ensures
           ∙ table_found p c.requires.range c.requires.acyclic,
       c.in_ok-order.ensures ∙ ap by_depth c.graph-2.ensures ∙ by_depth_same p small,
+      c.requires.range,
+      c.requires.acyclic,
     )

@@ -1,0 +1,7 @@
+use Rattle.std.proofs.Common.{◌≡◌, map, drop}
+use Rattle.storm_values.specs.Lines.{first_some}
+use Rattle.topology_reader.specs.Meant.{bolt_twice}
+use Rattle.topology_reader.proofs.names.check_bolts.Given as goal
+
+abbrev pub invariant-loop-bolt : goal.invariant-loop-bolt
+invariant-loop-bolt l = first_some (map bolt_twice (drop l.bolt-index l.bolts)) ≡ first_some (map bolt_twice l.bolts)

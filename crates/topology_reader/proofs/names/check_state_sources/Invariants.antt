@@ -1,0 +1,9 @@
+use Rattle.std.proofs.Common.{◌≡◌, map, drop}
+use Rattle.storm_values.specs.Lines.{first_some}
+use Rattle.topology_form.specs.declared.parts.StatePart.{StatePart}
+use Rattle.topology_reader.specs.Meant.{nameless_fault}
+use Rattle.topology_reader.proofs.names.check_state_sources.Given as goal
+
+abbrev pub invariant-loop-state : goal.invariant-loop-state
+invariant-loop-state l =
+    first_some (map (λ (state : StatePart). nameless_fault l.index state.inputs) (drop l.state-index l.states)) ≡ first_some (map (λ (state : StatePart). nameless_fault l.index state.inputs) l.states)
