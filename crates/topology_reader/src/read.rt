@@ -19,8 +19,8 @@ use topology_plan::Plan;
 /// The plan of a topology file, or the file's first fault: its length, JSON, its
 /// form, and then what it says.
 ///
-/// Time is linear in the bytes; the depth and the weight take a walk over all inputs for each of
-/// the at most 40 components besides.
+/// Time is linear in the bytes; the search for a cycle takes a step for each two of the at most 32
+/// bolts besides.
 pub fn read_topology(alloc: Global, bytes: &[u8]) -> Result<Plan, TopoFault>
     ensures plan { IfOk result (λ plan. IsFilePlan bytes.now plan) }
     ensures valid { IfOk result (λ plan. IsValid plan) }
