@@ -154,7 +154,8 @@ added_fault fields (Len field into) =
     else range_fault (codes "fields") (pos (length fields + 1)) 1 8
 added_fault fields _ = None
 
--- the first fault of fields of a bolt: its sources, its inputs in order, what it reads, what it adds
+-- the first fault of fields of a bolt: its sources, its inputs in order, what it reads, what it
+-- adds
 abbrev pub bolt_fault : FileParts → ℕ → BoltPart → Option TopoFault
 bolt_fault p c bolt =
     first_some
