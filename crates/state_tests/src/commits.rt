@@ -84,7 +84,7 @@ fn an_equal_transaction_begins_at_the_value_before(rt: HostRuntime) -> Result<()
     check(rt.alloc(), &EQUAL_TRANSACTION)
 }
 
-// Of a batch that comes again with other writes, each key of the first attempt gets its value before back.
+// Where a batch comes again with other writes, keys of the first attempt get their value before.
 const OTHER_KEYS: Scene = Scene {
     kind: Kind::Opaque,
     by: Fold::Sum,

@@ -142,7 +142,7 @@ fn a_transactional_put_that_happened_is_made_good(rt: HostRuntime) -> Result<(),
     check_each(rt.alloc(), &ONCE_A_KEY, CallKind::Put, true, 2)
 }
 
-// Calls that a transactional commit of two keys does not make: one get and one put more, and no other call.
+// Calls that a transactional commit of two keys does not make: a get and a put more, and any other.
 const NOT_MADE: [FailAt; 4] = [
     FailAt {
         kind: CallKind::Get,
@@ -183,8 +183,8 @@ fn a_transactional_commit_gets_and_puts_a_key_once(rt: HostRuntime) -> Result<()
     Ok(())
 }
 
-// An opaque part looks at each key at its first commit alone. Each later commit takes a get a key that is written, and one
-// for each key of the same transaction.
+// Calls that an opaque part does not make: it looks at each key at its first commit alone, and gets
+// at each later one the keys that are written and those of the same transaction.
 const LATER_CALLS: [FailAt; 3] = [
     FailAt {
         kind: CallKind::Count,

@@ -1,4 +1,5 @@
-// A part over a store with given cells, of which a call fails; what it is to commit, and the cells after it.
+// A part over a store with given cells, of which a call may fail: what it commits, and the cells
+// that this is to make.
 use cell_format::{Cell, encode_cell};
 use state_cells::{Part, PartFault};
 use std::alloc::Global;
