@@ -146,7 +146,7 @@ fn fold_of(plan: &Plan, number: u32) -> Option<Fold>
     }
 }
 
-/// Folds an amount into the value of a key.
+/// Folds an amount into the value of a key, with one search where the key has one.
 fn put(values: &mut Values, by: Fold, key: Txt, amount: i64) -> Result<(), Memory>
     ensures ordered { IsOrdered string_cmp values.new }
     ensures ok { OnOk result ((at : List ℕ) → get_by_text values.new at
@@ -154,9 +154,16 @@ fn put(values: &mut Values, by: Fold, key: Txt, amount: i64) -> Result<(), Memor
         (Some (folded by (get_by_text values.old key) amount)) at) }
     ensures err { OnErr result (IsUnchanged values.old values.new) }
 {
-    let old = values.get(key.as_str()).copied();
-    values.insert(key.into_string(), folded(by, old, amount))?;
-    Ok(())
+    match values.get_mut(key.as_str()) {
+        Some(value) => {
+            *value = folded(by, Some(*value), amount);
+            Ok(())
+        }
+        None => {
+            values.insert(key.into_string(), folded(by, None, amount))?;
+            Ok(())
+        }
+    }
 }
 
 /// A key's value after one more amount.
