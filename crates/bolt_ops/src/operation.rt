@@ -11,6 +11,9 @@ use std::cmp::Ordering;
 use storm_values::{Duplicate, Memory, Row, Rows, Txt, Value};
 use topology_plan::{Op, Test};
 
+/// The room for words that is asked for at once.
+const WORD_ROOM: usize = 16;
+
 /// What an attempt at a row comes to.
 #[derive(Debug, Drop)]
 pub enum Outcome {
@@ -93,10 +96,10 @@ fn text_of_field(row: &Row, field: u32) -> &str
 fn word_rows(alloc: Global, text: &str) -> Result<Rows, Memory>
     ensures { IfOk result (λ rows. rows ≡ map (λ word. Value.Text word ∷ []) (words text.now)) }
 {
-    let mut rows = Rows::new(alloc);
+    let mut rows = Rows::from_vec(Vec::with_capacity(alloc, WORD_ROOM)?);
     for word in text.split(' ') {
         if !word.is_empty() {
-            let mut row = Row::new(alloc);
+            let mut row = Row::from_vec(Vec::with_capacity(alloc, 1)?);
             row.push(Value::Text(Txt::from_str(alloc, word)?))?;
             rows.push(row)?;
         }

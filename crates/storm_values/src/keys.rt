@@ -22,7 +22,7 @@ const MULTIPLIER: u64 = 1_099_511_628_211;
 const SEPARATOR: u8 = 0x1F;
 
 /// The room for a key's text that is asked for at once, in bytes.
-const KEY_ROOM: usize = 32;
+pub const KEY_ROOM: usize = 32;
 
 /// FNV-1a of 64 bits over the key's bytes, in their order. It takes no memory.
 pub fn key_hash(key: &[Value]) -> u64
@@ -100,11 +100,13 @@ pub fn key_text(alloc: Global, key: &[Value]) -> Result<Txt, Memory>
     closed_text(writer)
 }
 
-/// The text of the key that some fields of a row are. No value is copied on the way.
-pub fn key_text_in(alloc: Global, row: &[Value], fields: &[u32]) -> Result<Txt, Memory>
+/// The text of the key that some fields of a row are, written over what `room` holds, so that one
+/// buffer serves many keys. No value is copied on the way.
+pub fn key_text_in(mut room: Vec<u8>, row: &[Value], fields: &[u32]) -> Result<Txt, Memory>
     ensures { IfOk result (λ text. text ≡ text_of (values_in row.now fields.now)) }
 {
-    let mut writer = Writer::new(Vec::with_capacity(alloc, KEY_ROOM)?);
+    room.clear();
+    let mut writer = Writer::new(room);
     writer.begin_array()?;
     for field in fields {
         if let Some(value) = value_at(row, *field) {

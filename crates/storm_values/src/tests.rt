@@ -24,7 +24,7 @@ fn hashes_and_texts_of_keys(rt: HostRuntime) -> Result<(), Fail> {
         (&[], "[]"),
     ] {
         assert!(rt;
-            key_text_in(alloc, &row, fields)?.as_str() == text,
+            key_text_in(vec![in alloc; b'x']?, &row, fields)?.as_str() == text,
             "at {text}"
         );
     }

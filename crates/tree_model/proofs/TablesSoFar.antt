@@ -1,100 +1,173 @@
 -- What one more write does to the running tables.
-use Rattle.std.proofs.Common.{◌≡◌, ℕ, zero, suc, ◌+◌, arith, slice_get, replicate, ◌==◌, ◌<◌, ◌⊎◌, false, inl, inr, ℤ, List, [], ◌∷◌, ◌++◌, map, length, get_or, set, Option, Some, None, IfSome, String, BTreeMap, sym, refl, ap, ◌∙◌, subst, ⊎_elim, length-set}
-use Rattle.std.proofs.Math.Seq.{map-set_same}
+use Rattle.std.proofs.Common.{◌≡◌, ℕ, zero, suc, ◌+◌, ◌%◌, arith, slice_get, replicate, ◌==◌, ◌<◌, ◌⊎◌, false, inl, inr, ℤ, List, [], ◌∷◌, ◌++◌, map, length, get_or, set, fold, append_assoc, Option, Some, None, IfSome, String, ◌≤◌, sym, refl, ap, ◌∙◌, subst, ⊎_elim, length-set}
 use Rattle.std.proofs.lemmas.Bool.{cases_eq, eq-eqb, ne_eqb}
 use Rattle.std.proofs.lemmas.List.{append-nil, map-id, length-map, length-replicate, map-set, get_or-map, get_or-set_same, get_or-set_other}
 use Rattle.std.proofs.lemmas.List.Elements.{filter_map-append}
 use Rattle.std.proofs.lemmas.List.FromFn.{map-range_with_len_more}
 use Rattle.std.proofs.lemmas.Slice.Zip.{all_zipped_more}
 use Rattle.std.proofs.lemmas.Option.{none-some, same_Some, slice_get_cases, option_and_then_some}
-use Rattle.std.specs.BTreeMap.{IsOrdered, get_by_text}
-use Rattle.std.specs.List.{AllZip, cons_option, filter_map, range_with_len}
-use Rattle.std.specs.List.Sorted.{IsStrictlySortedBy}
-use Rattle.std.specs.Map.{update}
-use Rattle.std.specs.Option.{option_map, option_and_then}
-use Rattle.std.specs.Str.{bytes_eq}
-use Rattle.std.specs.String.{string_cmp}
+use Rattle.std.proofs.Math.Seq.{map-set_same, set_out}
+use Rattle.std.specs.List.{AllZip, cons_option, filter_map, flat_map, range_with_len}
+use Rattle.std.specs.Option.{option_map, option_map_or, option_and_then}
+use Rattle.bolt_ops.specs.RowOp.{Custom}
+use Rattle.indexmap.specs.IndexMap.{IndexMap}
+use Rattle.storm_values.specs.declared.value.Value.{Value}
+use Rattle.storm_values.specs.Keys.{hash_of, text_of}
 use Rattle.topology_plan.specs.declared.parts.Body.{Body}
 use Rattle.topology_plan.specs.declared.parts.Body.TheVariants.{Bolt, State}
 use Rattle.topology_plan.specs.declared.parts.Component.{Component}
 use Rattle.topology_plan.specs.declared.parts.Fold.{Fold}
+use Rattle.topology_plan.specs.declared.parts.Op.{Op}
+use Rattle.topology_plan.specs.declared.parts.Origin.TheVariants as origin
+use Rattle.topology_plan.specs.declared.parts.StateSpec.{StateSpec}
 use Rattle.topology_plan.specs.Topology.{Topology}
 use Rattle.tree_model.specs.declared.write.Pair.{Pair}
 use Rattle.tree_model.specs.declared.write.Table.{Table}
 use Rattle.tree_model.specs.declared.write.Write.{Write}
-use Rattle.tree_model.specs.Inside.{pair_of, pairs_of, pairs_by}
-use Rattle.tree_model.specs.Tables.{StateOf, folded, state_by, state_at, IsTable, IsTableOf, AreRunningTables, AddsTable}
-use Rattle.tree_model.proofs.Folding.{base-push_other}
-use Rattle.tree_model.proofs.Maps.{IsTable-put}
+use Rattle.tree_model.specs.Tables.{StateOf, folded, tallied, with_amount, written, state_by, state_at, IsTally, IsTableOf, AreRunningTables, AddsTable}
+use Rattle.tree_model.specs.Inside.{pairs_of, pairs_by}
+use Rattle.tree_model.specs.Trees.{Node, kids, nodes_from, nodes_of, key_of, amount_by, write_by, write_of, writes}
+use Rattle.tree_model.proofs.Folding.{IsTally-push, IsTally-other}
 
 -- what follows of the value that is there
 pub IfSome_with : {X : Type 0} {P Q : X → Type 0} (o : Option X) → IfSome o P → ((x : X) → o ≡ Some x → P x → Q x) → IfSome o Q
 IfSome_with None p step = tt
 IfSome_with (Some x) p step = step x refl p
 
-none_before : {X Z : Type 0} (f : X → Z) (o : Option X) (x : X) → option_map f o ≡ None → o ≡ Some x → ⊥
-none_before f o x none some = none-some (f x) (sym none ∙ ap (option_map f) some)
+IfSome-at : {X : Type 0} (P : X → Type 0) (o : Option X) (x : X) → o ≡ Some x → IfSome o P → P x
+IfSome-at P o x some holds = rw some at holds
 
--- a write for another state leaves a table as it is
-IsTable-other : (by : Fold) (before : List Write) (write : Write) (state : ℕ) (pairs : List Pair) → (write.state == state) ≡ false → IsTable by before state pairs → IsTable by (before ++ write ∷ []) state pairs
-IsTable-other by before write state pairs other table = record {
-  ordered = table.ordered;
-  values = λ key. table.values key ∙ sym (base-push_other by before write state key other);
-}
+-- one more write
+module _ (t : Topology) (before : List Write) (write : Write) (tables : List (List Pair)) (is : AreRunningTables t before tables) where
+  -- its state is a component, so it has pairs
+  state_within : (state : StateOf) → state_at t write.state ≡ Some state → write.state < length tables
+  state_within state found = rw is.count (⊎_elim (λ there. there.1) (λ past. absurd (none-some state (ap (option_and_then (λ (component : Component). state_by write.state component component.body)) (sym past.1) ∙ found))) (slice_get_cases t.components write.state).1)
 
--- a write for no state leaves the running tables as they are
-pub AreRunningTables-ignored : (t : Topology) (before : List Write) (write : Write) (tables : List (List Pair)) → option_map (λ (state : StateOf). state.by) (state_at t write.state) ≡ None
-    → AreRunningTables t before tables → AreRunningTables t (before ++ write ∷ []) tables
-AreRunningTables-ignored t before write tables none is = record {
-  count = is.count;
-  tables = λ number. IfSome_with (state_at t number) (is.tables number) (λ state found table. at number state found table (cases_eq write.state number));
-}
+  own : (state : StateOf) → state_at t write.state ≡ Some state → IsTally state.by (before ++ write ∷ []) write.state (get_or (set tables write.state (tallied state.by (get_or tables write.state []) write.key write.amount)) write.state [])
+  own state found =
+      rw (get_or-set_same tables write.state (tallied state.by (get_or tables write.state []) write.key write.amount) [] (state_within state found))
+      (IsTally-push state.by before write write.state (get_or tables write.state []) (eq-eqb _ _ refl) (IfSome-at (λ here. IsTally here.by before write.state (get_or tables write.state [])) (state_at t write.state) state found (is.tables write.state)))
+
+  others : (number : ℕ) → (write.state ≡ number → ⊥) → (state : StateOf) → IsTally state.by before number (get_or tables number []) → IsTally state.by (before ++ write ∷ []) number (get_or tables number [])
+  others number differs state = IsTally-other state.by before write number (get_or tables number []) (ne_eqb _ _ differs)
+
+  -- what a write for no state leaves
+  ignored : state_at t write.state ≡ None → AreRunningTables t (before ++ write ∷ []) tables
+  ignored none = record {
+    count = is.count;
+    tables = λ number. IfSome_with (state_at t number) (is.tables number) (λ state found tally. others number (λ same. none-some state (sym none ∙ ap (state_at t) same ∙ found)) state tally);
+  }
+
+  -- what a write for a state leaves
+  put : (state : StateOf) → state_at t write.state ≡ Some state → AreRunningTables t (before ++ write ∷ []) (set tables write.state (tallied state.by (get_or tables write.state []) write.key write.amount))
+  put state found = record {
+    count = length-set tables write.state pairs ∙ is.count;
+    tables = λ number. IfSome_with (state_at t number) (is.tables number) (λ here found_here tally. at number here found_here tally (cases_eq write.state number));
+  }
+    where
+      pairs : List Pair
+      pairs = tallied state.by (get_or tables write.state []) write.key write.amount
+
+      at : (number : ℕ) (here : StateOf) → state_at t number ≡ Some here → IsTally here.by before number (get_or tables number []) → (write.state ≡ number) ⊎ (write.state ≡ number → ⊥) → IsTally here.by (before ++ write ∷ []) number (get_or (set tables write.state pairs) number [])
+      at number here found_here tally (inl same) =
+          let one : state ≡ here = same_Some _ _ (sym found ∙ ap (state_at t) same ∙ found_here) in
+          subst (λ n. IsTally here.by (before ++ write ∷ []) n (get_or (set tables write.state pairs) n [])) same
+          (subst (λ (s : StateOf). IsTally s.by (before ++ write ∷ []) write.state (get_or (set tables write.state pairs) write.state [])) one (own state found))
+      at number here found_here tally (inr differs) =
+          rw (get_or-set_other tables write.state number pairs [] (λ e. differs (sym e))) (others number differs here tally)
+
+  -- the running tables with the write are those of the writes with it
+  pub AreRunningTables-written : AreRunningTables t (before ++ write ∷ []) (written t tables write)
+  AreRunningTables-written = at (state_at t write.state) refl
+    where
+      at : (o : Option StateOf) → state_at t write.state ≡ o → AreRunningTables t (before ++ write ∷ []) (option_map_or (λ (state : StateOf). set tables write.state (tallied state.by (get_or tables write.state []) write.key write.amount)) o tables)
+      at None none = ignored none
+      at (Some state) found = put state found
+
+-- and so for many writes
+pub AreRunningTables-fold : (t : Topology) (before writes : List Write) (tables : List (List Pair)) → AreRunningTables t before tables → AreRunningTables t (before ++ writes) (fold (written t) tables writes)
+AreRunningTables-fold t before [] tables is = rw append-nil is
+AreRunningTables-fold t before (write ∷ writes) tables is =
+    subst (λ all. AreRunningTables t all (fold (written t) tables (write ∷ writes))) (append_assoc before (write ∷ []) writes)
+    (AreRunningTables-fold t (before ++ write ∷ []) writes (written t tables write) (AreRunningTables-written t before write tables is))
+
+-- ---- the maps behind the tables
+
+module _ {Y S : Type 0} (olds : List (IndexMap (String Y) ℤ S)) (state : ℕ) (by : Fold) (key : List ℕ) (amount : ℤ) where
+  -- the map of a state has the amount folded in
+  pub pairs_by-put : (old new : IndexMap (String Y) ℤ S) → state < length olds → old ≡ get_or olds state old → pairs_of new ≡ tallied by (pairs_of old) key amount
+      → pairs_by (set olds state new) ≡ with_amount (pairs_by olds) state by key amount
+  pairs_by-put old new within read puts =
+      let was : get_or (pairs_by olds) state [] ≡ pairs_of old = get_or-map pairs_of olds state old [] within ∙ ap pairs_of (sym read) in
+      map-set pairs_of olds state new ∙ ap (set (pairs_by olds) state) (puts ∙ ap (λ pairs. tallied by pairs key amount) (sym was))
+
+  -- there is no map to change
+  pub pairs_by-out : length olds ≤ state → pairs_by olds ≡ with_amount (pairs_by olds) state by key amount
+  pairs_by-out out = sym (set_out (pairs_by olds) state _ (rw length-map out))
+
+module _ (t : Topology) (write : Write) (tables : List (List Pair)) where
+  -- a write for a state changes its pairs alone
+  pub written-state : (by : Fold) → Some by ≡ option_map (λ (state : StateOf). state.by) (state_at t write.state) → with_amount tables write.state by write.key write.amount ≡ written t tables write
+  written-state by has = at (state_at t write.state) has
+    where
+      at : (o : Option StateOf) → Some by ≡ option_map (λ (state : StateOf). state.by) o → with_amount tables write.state by write.key write.amount ≡ option_map_or (λ (state : StateOf). with_amount tables write.state state.by write.key write.amount) o tables
+      at None none = absurd (none-some by (sym none))
+      at (Some state) same = ap (λ f. with_amount tables write.state f write.key write.amount) (same_Some _ _ same)
+
+  -- one for no state changes none
+  pub written-ignored : None ≡ option_map (λ (state : StateOf). state.by) (state_at t write.state) → tables ≡ written t tables write
+  written-ignored none = at (state_at t write.state) none
+    where
+      at : (o : Option StateOf) → None ≡ option_map (λ (state : StateOf). state.by) o → tables ≡ option_map_or (λ (state : StateOf). with_amount tables write.state state.by write.key write.amount) o tables
+      at None is = refl
+      at (Some state) is = absurd (none-some state.by is)
+
+-- where a map's pairs stay, all do
+pub pairs_by-set_same : {Y S : Type 0} (olds : List (IndexMap (String Y) ℤ S)) (i : ℕ) (old new : IndexMap (String Y) ℤ S) → old ≡ get_or olds i old → pairs_of new ≡ pairs_of old → pairs_by (set olds i new) ≡ pairs_by olds
+pairs_by-set_same olds i old new read same = map-set_same pairs_of olds i new old (same ∙ ap pairs_of read)
+
+-- ---- a walk that adds each node's write
+
+abbrev pub at_node : Topology → List (List Pair) → Node → List (List Pair)
+at_node t tables node = option_map_or (written t tables) (write_of t node) tables
+
+-- at a state's node an amount is added, and at a bolt's nothing
+pub at_node-state : (t : Topology) (tables : List (List Pair)) (node : Node) (component : Component) (spec : StateSpec) → slice_get t.components node.component ≡ Some component → component.body ≡ State spec
+    → with_amount tables node.component spec.fold (text_of (key_of spec node.row)) (amount_by spec.fold (option_and_then (slice_get node.row) spec.amount)) ≡ at_node t tables node
+at_node-state t tables node component spec there state =
+    let write : Write = record {
+      state = node.component;
+      part = hash_of (key_of spec node.row) % component.tasks;
+      key = text_of (key_of spec node.row);
+      amount = amount_by spec.fold (option_and_then (slice_get node.row) spec.amount);
+    } in
+    let writes_it : write_of t node ≡ Some write =
+    ap (option_and_then (λ (c : Component). write_by node.component c.tasks c.body node.row)) there ∙ ap (λ body. write_by node.component component.tasks body node.row) state in
+    let by_state : state_at t node.component ≡ state_by node.component component (State spec) =
+    ap (option_and_then (λ (c : Component). state_by node.component c c.body)) there ∙ ap (state_by node.component component) state in
+    sym (ap (λ o. option_map_or (written t tables) o tables) writes_it ∙ ap (λ o. option_map_or (λ (s : StateOf). with_amount tables node.component s.by write.key write.amount) o tables) by_state)
+
+pub at_node-bolt : (t : Topology) (tables : List (List Pair)) (node : Node) (component : Component) (op : Op) → slice_get t.components node.component ≡ Some component → component.body ≡ Bolt op → tables ≡ at_node t tables node
+at_node-bolt t tables node component op there bolt =
+    sym (ap (λ o. option_map_or (written t tables) o tables) (ap (option_and_then (λ (c : Component). write_by node.component c.tasks c.body node.row)) there ∙ ap (λ body. write_by node.component component.tasks body node.row) bolt))
+
+fold-at_node : (t : Topology) (nodes : List Node) (tables : List (List Pair)) → fold (at_node t) tables nodes ≡ fold (written t) tables (filter_map (write_of t) nodes)
+fold-at_node t [] tables = refl
+fold-at_node t (node ∷ nodes) tables = fold-at_node t nodes (at_node t tables node) ∙ at (write_of t node)
   where
-    at : (number : ℕ) (state : StateOf) → state_at t number ≡ Some state → IsTable state.by before number (get_or tables number []) → (write.state ≡ number) ⊎ (write.state ≡ number → ⊥) → IsTable state.by (before ++ write ∷ []) number (get_or tables number [])
-    at number state found table (inl same) = absurd (none_before (λ (state : StateOf). state.by) (state_at t write.state) state none (ap (state_at t) same ∙ found))
-    at number state found table (inr differs) = IsTable-other state.by before write number (get_or tables number []) (ne_eqb _ _ differs) table
+    at : (o : Option Write) → fold (written t) (option_map_or (written t tables) o tables) (filter_map (write_of t) nodes) ≡ fold (written t) tables (cons_option o (filter_map (write_of t) nodes))
+    at None = refl
+    at (Some write) = refl
 
--- a write for a state changes that state's table alone
-pub AreRunningTables-put : {Y : Type 0} (t : Topology) (before : List Write) (write : Write) (by : Fold) (olds : List (BTreeMap (String Y) ℤ)) (old new : BTreeMap (String Y) ℤ)
-    → Some by ≡ option_map (λ (state : StateOf). state.by) (state_at t write.state) → write.state < length olds → old ≡ get_or olds write.state old → IsOrdered string_cmp new
-    → ((at : List ℕ) → get_by_text new at ≡ update bytes_eq (get_by_text old) write.key (Some (folded by (get_by_text old write.key) write.amount)) at)
-    → AreRunningTables t before (pairs_by olds) → AreRunningTables t (before ++ write ∷ []) (pairs_by (set olds write.state new))
-AreRunningTables-put t before write by olds old new has within read sorted puts is = record {
-  count = length-map (set olds write.state new) pairs_of ∙ length-set olds write.state new ∙ sym (length-map olds pairs_of) ∙ is.count;
-  tables = λ number. IfSome_with (state_at t number) (is.tables number) (λ state found table. at number state found table (cases_eq write.state number));
-}
-  where
-    own : (state : StateOf) → state_at t write.state ≡ Some state → IsTable state.by before write.state (get_or (pairs_by olds) write.state []) → IsTable state.by (before ++ write ∷ []) write.state (get_or (pairs_by (set olds write.state new)) write.state [])
-    own state found table =
-        let was : get_or (pairs_by olds) write.state [] ≡ pairs_of old = get_or-map pairs_of olds write.state old [] within ∙ ap pairs_of (sym read) in
-        let within_pairs : write.state < length (pairs_by olds) = rw length-map within in
-        let now : get_or (pairs_by (set olds write.state new)) write.state [] ≡ pairs_of new =
-        ap (λ lists. get_or lists write.state []) (map-set pairs_of olds write.state new) ∙ get_or-set_same (pairs_by olds) write.state (pairs_of new) [] within_pairs in
-        let same_by : by ≡ state.by = same_Some _ _ (has ∙ ap (option_map (λ (s : StateOf). s.by)) found) in
-        let puts_by = subst (λ f. (at : List ℕ) → get_by_text new at ≡ update bytes_eq (get_by_text old) write.key (Some (folded f (get_by_text old write.key) write.amount)) at) same_by puts in
-        subst (IsTable state.by (before ++ write ∷ []) write.state) (sym now)
-        (IsTable-put state.by before write write.state old new (eq-eqb _ _ refl) sorted puts_by (subst (IsTable state.by before write.state) was table))
-
-    at : (number : ℕ) (state : StateOf) → state_at t number ≡ Some state → IsTable state.by before number (get_or (pairs_by olds) number []) → (write.state ≡ number) ⊎ (write.state ≡ number → ⊥) → IsTable state.by (before ++ write ∷ []) number (get_or (pairs_by (set olds write.state new)) number [])
-    at number state found table (inl same) =
-        subst (λ n. state_at t n ≡ Some state → IsTable state.by before n (get_or (pairs_by olds) n []) → IsTable state.by (before ++ write ∷ []) n (get_or (pairs_by (set olds write.state new)) n [])) same (own state) found table
-    at number state found table (inr differs) =
-        let stays : get_or (pairs_by (set olds write.state new)) number [] ≡ get_or (pairs_by olds) number [] =
-        ap (λ lists. get_or lists number []) (map-set pairs_of olds write.state new) ∙ get_or-set_other (pairs_by olds) write.state number (pairs_of new) [] (λ e. differs (sym e)) in
-        subst (IsTable state.by (before ++ write ∷ []) number) (sym stays) (IsTable-other state.by before write number (get_or (pairs_by olds) number []) (ne_eqb _ _ differs) table)
-
--- where a map's entries stay, its pairs do
-pub pairs_by-set_same : {Y : Type 0} (olds : List (BTreeMap (String Y) ℤ)) (i : ℕ) (old new : BTreeMap (String Y) ℤ) → i < length olds → old ≡ get_or olds i old → new.entries ≡ old.entries → pairs_by (set olds i new) ≡ pairs_by olds
-pairs_by-set_same olds i old new within read same = map-set_same pairs_of olds i new old (ap (map pair_of) same ∙ ap pairs_of read)
-
--- the running tables have a place for each state
-pub state_within : (t : Topology) (before : List Write) (tables : List (List Pair)) (number : ℕ) (by : Fold) → Some by ≡ option_map (λ (state : StateOf). state.by) (state_at t number) → AreRunningTables t before tables → number < length tables
-state_within t before tables number by has is = rw is.count (⊎_elim (λ there. there.1) (λ past. absurd (none-some by (ap (λ o. option_map (λ (state : StateOf). state.by) (option_and_then (λ (component : Component). state_by number component component.body) o)) (sym past.1) ∙ sym has))) (slice_get_cases t.components number).1)
+-- it leaves the tables of the writes of the whole tree
+pub tables_from_walk : (t : Topology) (custom : Custom) (rows : List (List Value)) (levels : ℕ) (start made : List (List Pair)) → AreRunningTables t [] start → levels ≡ length t.components → made ≡ fold (at_node t) start (flat_map (nodes_from levels t custom) (kids t origin.Spout rows)) → AreRunningTables t (writes t custom rows) made
+unfolding nodes_of
+tables_from_walk t custom rows levels start made empty all walk =
+    rw (walk ∙ fold-at_node t (flat_map (nodes_from levels t custom) (kids t origin.Spout rows)) start, all) (AreRunningTables-fold t [] (writes t custom rows) start empty)
 
 -- no write is in empty tables
-IsTable-none : (by : Fold) (state : ℕ) → IsTable by [] state []
-unfolding IsStrictlySortedBy
-IsTable-none by state = record { ordered = tt; values = λ key. refl }
+IsTally-none : (by : Fold) (state : ℕ) → IsTally by [] state []
+IsTally-none by state = λ key. refl
 
 IfSome-always : {X : Type 0} {P : X → Type 0} (o : Option X) → ((x : X) → P x) → IfSome o P
 IfSome-always None each = tt
@@ -108,7 +181,7 @@ get_or-replicate_same (suc n) (suc i) x = get_or-replicate_same n i x
 pub AreRunningTables-none : (t : Topology) → AreRunningTables t [] (replicate (length t.components) [])
 AreRunningTables-none t = record {
   count = length-replicate (length t.components) [];
-  tables = λ number. IfSome-always (state_at t number) (λ state. rw (get_or-replicate_same {X = List Pair} (length t.components) number []) (IsTable-none state.by number));
+  tables = λ number. IfSome-always (state_at t number) (λ state. rw (get_or-replicate_same {X = List Pair} (length t.components) number []) (IsTally-none state.by number));
 }
 
 range_with_len_more : (n : ℕ) → range_with_len 0 (n + 1) ≡ range_with_len 0 n ++ n ∷ []
@@ -121,17 +194,18 @@ state_by-number n component (State spec) state found = ap (λ (s : StateOf). s.n
 state_at-number : (t : Topology) (n : ℕ) (state : StateOf) → state_at t n ≡ Some state → state.number ≡ n
 state_at-number t n state found = option_and_then_some (λ (component : Component). state_by n component component.body) (slice_get t.components n) state found (λ component there is. state_by-number n component component.body state is)
 
-AllZip-table : (writes : List Write) (o : Option StateOf) (pairs : List Pair) (states : List StateOf) (old new : List Table) → AllZip (IsTableOf writes) states old → IfSome o (λ state. IsTable state.by writes state.number pairs) → AddsTable o pairs old new → AllZip (IsTableOf writes) (states ++ cons_option o []) new
+AllZip-table : (writes : List Write) (o : Option StateOf) (pairs : List Pair) (states : List StateOf) (old new : List Table) → AllZip (IsTableOf writes) states old → IfSome o (λ state. IsTally state.by writes state.number pairs) → AddsTable o pairs old new → AllZip (IsTableOf writes) (states ++ cons_option o []) new
 AllZip-table writes None pairs states old new all table adds = rw (append-nil states, adds) all
-AllZip-table writes (Some state) pairs states old new all table adds = rw adds (all_zipped_more (IsTableOf writes) states old state (record { name = state.name; pairs = pairs }) all (record { name = refl; pairs = table }))
+AllZip-table writes (Some state) pairs states old new all tally adds =
+    rw adds.2 (all_zipped_more (IsTableOf writes) states old state (record { name = state.name; pairs = adds.0 }) all (record { name = refl; pairs = record { ordered = adds.1.ordered; values = λ key. adds.1.values key ∙ tally key } }))
 
 -- one more component in a list of tables
 pub tables_more : (t : Topology) (writes : List Write) (tables : List (List Pair)) (n : ℕ) (component : Component) (pairs : List Pair) (old new : List Table) → slice_get t.components n ≡ Some component → pairs ≡ get_or tables n [] → AreRunningTables t writes tables
     → AddsTable (state_by n component component.body) pairs old new → AllZip (IsTableOf writes) (filter_map (state_at t) (range_with_len 0 n)) old → AllZip (IsTableOf writes) (filter_map (state_at t) (range_with_len 0 (n + 1))) new
 tables_more t writes tables n component pairs old new there same is adds all =
     let at : state_at t n ≡ state_by n component component.body = ap (option_and_then (λ (c : Component). state_by n c c.body)) there in
-    let table : IfSome (state_at t n) (λ state. IsTable state.by writes state.number pairs) =
-    IfSome_with (state_at t n) (is.tables n) (λ state found table. rw (state_at-number t n state found, same) table) in
+    let tally : IfSome (state_at t n) (λ state. IsTally state.by writes state.number pairs) =
+    IfSome_with (state_at t n) (is.tables n) (λ state found tally. rw (state_at-number t n state found, same) tally) in
     let more : filter_map (state_at t) (range_with_len 0 (n + 1)) ≡ filter_map (state_at t) (range_with_len 0 n) ++ cons_option (state_at t n) [] =
     ap (filter_map (state_at t)) (range_with_len_more n) ∙ filter_map-append (state_at t) (range_with_len 0 n) (n ∷ []) in
-    rw more (AllZip-table writes (state_at t n) pairs (filter_map (state_at t) (range_with_len 0 n)) old new all table (rw at adds))
+    rw more (AllZip-table writes (state_at t n) pairs (filter_map (state_at t) (range_with_len 0 n)) old new all tally (rw at adds))

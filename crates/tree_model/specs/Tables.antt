@@ -1,6 +1,7 @@
 -- The tables that writes leave: for each state its keys in order, each with the fold of its
 -- amounts.
-use Rattle.std.specs.Prelude.{◌≡◌, ℕ, ◌==◌, ◌&&◌, ℤ, pos, ◌+ℤ◌, List, [], ◌∷◌, ◌++◌, length, map, filter, fold, slice_index_or, Option, Some, None, option_map, IfSome, option_and_then, slice_get, unwrap_or}
+use Rattle.std.specs.Prelude.{◌≡◌, ℕ, ◌==◌, ◌&&◌, ℤ, pos, ◌+ℤ◌, List, [], ◌∷◌, ◌++◌, length, map, filter, fold, set, slice_index_or, cond, Option, Some, None, option_map, IfSome, option_and_then, slice_get, unwrap_or}
+use Rattle.std.specs.Option.{option_map_or}
 use Rattle.std.specs.List.{filter_map, range_with_len, find, AllZip}
 use Rattle.std.specs.List.Sorted.{IsStrictlySortedBy}
 use Rattle.std.specs.Cmp.Lexicographic.{slice_cmp}
@@ -46,11 +47,21 @@ abbrev pub value_at : List Pair → List ℕ → Option ℤ
 value_at pairs key =
     option_map (λ (pair : Pair). pair.value) (find (λ (pair : Pair). bytes_eq key pair.key) pairs)
 
+-- the keys stand in the order of their bytes, each once
+abbrev pub AreInOrder : List Pair → Type 0
+AreInOrder pairs =
+    IsStrictlySortedBy (slice_cmp nat_cmp) (map (λ (pair : Pair). pair.key) pairs)
+
+-- the pairs have each key that is written for a state, with its value
+abbrev pub IsTally : Fold → List Write → ℕ → List Pair → Type 0
+IsTally by writes state pairs =
+    (key : List ℕ) → value_at pairs key ≡ base by writes state key
+
 -- the pairs have each key that is written for a state, once and in the order of
 -- their bytes, with its value
 pub record IsTable (by : Fold) (writes : List Write) (state : ℕ) (pairs : List Pair) : Type 0 where
-  pub ordered : IsStrictlySortedBy (slice_cmp nat_cmp) (map (λ (pair : Pair). pair.key) pairs)
-  pub values : (key : List ℕ) → value_at pairs key ≡ base by writes state key
+  pub ordered : AreInOrder pairs
+  pub values : IsTally by writes state pairs
 
 -- a state by its component number, with its name and its fold
 pub record StateOf : Type 0 where
@@ -84,15 +95,43 @@ AreTables t writes tables = AllZip (IsTableOf writes) (states_of t) tables
 
 -- ---- running tables
 
--- the pairs of each component, where a state's are its table
+-- The pairs of a state after one more amount for a key: the key's pair has it folded in, and a
+-- key that has no pair gets one at the end. So the keys stand in the order in which they came.
+abbrev pub tallied : Fold → List Pair → List ℕ → ℤ → List Pair
+tallied by [] key amount = record { key = key; value = folded by None amount } ∷ []
+tallied by (pair ∷ pairs) key amount =
+    cond (bytes_eq key pair.key)
+    (record { key = pair.key; value = folded by (Some pair.value) amount } ∷ pairs)
+    (pair ∷ tallied by pairs key amount)
+
+-- the pairs of each component, with one more amount for a key of a state
+abbrev pub with_amount : List (List Pair) → ℕ → Fold → List ℕ → ℤ → List (List Pair)
+with_amount running state by key amount =
+    set running state (tallied by (slice_index_or running state []) key amount)
+
+-- the pairs of each component after one more write, which changes those of its state
+abbrev pub written : Topology → List (List Pair) → Write → List (List Pair)
+written t running write =
+    option_map_or
+    (λ (state : StateOf). with_amount running write.state state.by write.key write.amount)
+    (state_at t write.state) running
+
+-- the pairs of each component, where a state's have each key that was written for it
 pub record AreRunningTables (t : Topology) (writes : List Write)
     (running : List (List Pair)) : Type 0 where
   pub count : length running ≡ length t.components
   pub tables : (number : ℕ)
       → IfSome (state_at t number)
-      (λ state. IsTable state.by writes number (slice_index_or running number []))
+      (λ state. IsTally state.by writes number (slice_index_or running number []))
 
--- where a component is a state, one more table with its name and some pairs
+-- the same pairs in the order of their keys
+pub record AreSorted (pairs sorted : List Pair) : Type 0 where
+  pub ordered : AreInOrder sorted
+  pub values : (key : List ℕ) → value_at sorted key ≡ value_at pairs key
+
+-- where a component is a state, one more table with its name and some pairs in order
 abbrev pub AddsTable : Option StateOf → List Pair → List Table → List Table → Type 0
 AddsTable None pairs old new = new ≡ old
-AddsTable (Some state) pairs old new = new ≡ old ++ record { name = state.name; pairs = pairs } ∷ []
+AddsTable (Some state) pairs old new =
+    (sorted : List Pair) × AreSorted pairs sorted
+    × (new ≡ old ++ record { name = state.name; pairs = sorted } ∷ [])

@@ -6,14 +6,14 @@ ghost use Rattle.tree_model.specs.Trees.{node_count, writes};
 
 use crate::running::RunningTables;
 use crate::tree::{Tree, Visitor};
-use crate::write::{Tables, writes_of};
+use crate::write::Tables;
 use bolt_ops::RowOp;
 use std::alloc::Global;
-use std::slice;
 use storm_values::{Memory, Row, Rows};
 use topology_plan::{Origin, Plan};
 
-/// The tables that the rows' tuple tree leaves. At most one row's writes are held at a time.
+/// The tables that the rows' tuple tree leaves. Each write is folded in where it is made, and none
+/// is held.
 pub fn plain_tables<O: RowOp>(
     alloc: Global,
     plan: &Plan,
@@ -24,12 +24,19 @@ pub fn plain_tables<O: RowOp>(
     ensures { IfOk result
         (AreTables plan.now (writes plan.now (O.meaning custom.now) rows.now)) }
 {
-    let mut tables = RunningTables::new(alloc, plan)?;
-    for row in rows.as_slice() {
-        let writes = writes_of(alloc, plan, slice::from_ref(row), custom)?;
-        tables.add(plan, writes)?;
-    }
-    tables.tables(alloc, plan)
+    let mut running = RunningTables::new(alloc, plan)?;
+    let tree = Tree {
+        alloc,
+        plan,
+        custom,
+    };
+    tree.visit_rows(
+        &mut running,
+        plan.components(),
+        Origin::Spout,
+        rows.as_slice(),
+    )?;
+    running.tables(alloc, plan)
 }
 
 /// How many nodes the rows' tuple tree has, or `u64::MAX` where there are more.

@@ -1,24 +1,25 @@
-ghost use Rattle.std.specs.Prelude.{◌≡◌, ℕ, List, [], ◌∷◌, ◌++◌, take, option_map, IfOk, OnOk, OnErr};
-ghost use Rattle.std.specs.BTreeMap.{IsOrdered, IsUnchanged, get_by_text};
-ghost use Rattle.std.specs.Map.{update};
-ghost use Rattle.std.specs.Str.{bytes_eq};
-ghost use Rattle.std.specs.String.{string_cmp};
+ghost use Rattle.std.specs.Prelude.{◌≡◌, ℕ, List, [], ◌∷◌, ◌++◌, take, fold, option_map, IfOk, OnOk, OnErr};
 ghost use Rattle.tree_model.specs.Inside.{pairs_of, pairs_by};
-ghost use Rattle.tree_model.specs.Tables.{AddsTable, AreTables, AreRunningTables, folded, state_at, state_by};
+ghost use Rattle.tree_model.specs.Tables.{AddsTable, AreSorted, AreTables, AreRunningTables, folded, tallied, with_amount, written, state_at, state_by};
 
-use crate::write::{Pair, Pairs, Table, Tables, Write, Writes};
+use crate::tree::Visitor;
+use crate::write::{Pair, Pairs, Table, Tables, Write, Writes, amount};
+use indexmap::IndexMap;
 use std::alloc::Global;
-use std::collections::BTreeMap;
 use std::marker::Model;
-use storm_values::{Memory, Seq, Txt};
+use std::mem;
+use storm_values::{Memory, Row, Seq, Txt, key_text_in};
 use topology_plan::{Body, Component, Fold, Plan};
 
-type Values = BTreeMap<String, i128>;
+/// The values of a state by key, found by hash.
+type Values = IndexMap<String, i128>;
 
 /// The tables of the states so far.
 #[derive(Debug, Drop)]
 pub struct RunningTables {
     values: Vec<Values>,
+    // where the next key is written
+    room: Vec<u8>,
 }
 
 impl Model for RunningTables {
@@ -39,9 +40,10 @@ impl RunningTables {
     {
         let mut values = Vec::new(alloc);
         for _ in 0..plan.components() {
-            values.push(BTreeMap::new(alloc))?;
+            values.push(IndexMap::new(alloc))?;
         }
-        Ok(RunningTables { values })
+        let room = Vec::new(alloc);
+        Ok(RunningTables { values, room })
     }
 
     /// Folds the amounts of some writes in, in order. Without memory a first part of the writes is
@@ -56,7 +58,7 @@ impl RunningTables {
         add_all(&mut self.values, plan, writes.into_vec())
     }
 
-    /// The tables of the states.
+    /// The tables of the states, whose keys are sorted here, once.
     pub fn tables(self, alloc: Global, plan: &Plan) -> Result<Tables, Memory>
         ensures { IfOk result
             (λ tables. (writes : List Write) → AreRunningTables plan.now writes self
@@ -67,6 +69,31 @@ impl RunningTables {
             add_table(alloc, &mut tables, plan.component(number), values)?;
         }
         Ok(tables)
+    }
+}
+
+impl Visitor for RunningTables {
+    ghost use Rattle.std.specs.Option.{option_map_or};
+    ghost use Rattle.tree_model.specs.Tables.{written};
+    ghost use Rattle.tree_model.specs.Trees.{write_of};
+
+    ghost visited = { λ t tables node. option_map_or (written t tables) (write_of t node) tables };
+
+    fn visit(
+        &mut self,
+        alloc: Global,
+        plan: &Plan,
+        component: u32,
+        row: &Row,
+    ) -> Result<(), Memory> {
+        if let Body::State(spec) = &plan.component(component).body {
+            let room = mem::replace(&mut self.room, Vec::new(alloc));
+            let key = key_text_in(room, row.as_slice(), spec.key.as_slice())?;
+            let amount = amount(spec, row);
+            add_amount(&mut self.values, component, spec.fold, &key, amount)?;
+            self.room = key.into_string().into_bytes();
+        }
+        Ok(())
     }
 }
 
@@ -84,10 +111,18 @@ fn add_table(
 {
     if let Body::State(_) = component.body {
         let name = component.name.copy()?;
-        let pairs = pairs(alloc, values)?;
+        let pairs = sorted_pairs(alloc, values)?;
         tables.push(Table { name, pairs })?;
     }
     Ok(())
+}
+
+/// The pairs of a state in the order of their keys.
+fn sorted_pairs(alloc: Global, mut values: Values) -> Result<Pairs, Memory>
+    ensures { IfOk result (AreSorted (pairs_of values)) }
+{
+    values.sort_keys()?;
+    pairs(alloc, values)
 }
 
 fn pairs(alloc: Global, values: Values) -> Result<Pairs, Memory>
@@ -103,33 +138,48 @@ fn pairs(alloc: Global, values: Values) -> Result<Pairs, Memory>
     Ok(Seq::from_vec(pairs))
 }
 
-/// Adds writes to the maps of the components.
+/// Adds writes to the maps of the components, in order.
 fn add_all(values: &mut Vec<Values>, plan: &Plan, writes: Vec<Write>) -> Result<(), Memory>
-    ensures ok { OnOk result
-        ((before : List Write) → AreRunningTables plan.now before (pairs_by values.old.items)
-        → AreRunningTables plan.now (before ++ writes.items) (pairs_by values.new.items)) }
-    ensures err { OnErr result
-        ((before : List Write) → AreRunningTables plan.now before (pairs_by values.old.items)
-        → (done : ℕ)
-        × AreRunningTables plan.now (before ++ take done writes.items)
-        (pairs_by values.new.items)) }
+    ensures ok { OnOk result (pairs_by values.new.items
+        ≡ fold (written plan.now) (pairs_by values.old.items) writes.items) }
+    ensures err { OnErr result ((done : ℕ) × (pairs_by values.new.items
+        ≡ fold (written plan.now) (pairs_by values.old.items) (take done writes.items))) }
 {
     for write in writes {
-        add_one(values, plan, write)?;
+        add_one(values, plan, &write)?;
     }
     Ok(())
 }
 
-fn add_one(values: &mut Vec<Values>, plan: &Plan, write: Write) -> Result<(), Memory>
+/// Adds a write to the map of its state.
+fn add_one(values: &mut Vec<Values>, plan: &Plan, write: &Write) -> Result<(), Memory>
     ensures ok { OnOk result
-        ((before : List Write) → AreRunningTables plan.now before (pairs_by values.old.items)
-        → AreRunningTables plan.now (before ++ write ∷ []) (pairs_by values.new.items)) }
+        (pairs_by values.new.items ≡ written plan.now (pairs_by values.old.items) write.now) }
     ensures err { OnErr result (pairs_by values.new.items ≡ pairs_by values.old.items) }
 {
-    let state = write.state as usize;
     match fold_of(plan, write.state) {
-        Some(by) if state < values.len() => put(&mut values[state], by, write.key, write.amount),
-        _ => Ok(()),
+        Some(by) => add_amount(values, write.state, by, &write.key, write.amount),
+        None => Ok(()),
+    }
+}
+
+/// Folds an amount into the map of a state, if there is one.
+fn add_amount(
+    values: &mut Vec<Values>,
+    state: u32,
+    by: Fold,
+    key: &Txt,
+    amount: i64,
+) -> Result<(), Memory>
+    ensures ok { OnOk result (pairs_by values.new.items
+        ≡ with_amount (pairs_by values.old.items) state by key.now amount) }
+    ensures err { OnErr result (pairs_by values.new.items ≡ pairs_by values.old.items) }
+{
+    let state = state as usize;
+    if state < values.len() {
+        put(&mut values[state], by, key, amount)
+    } else {
+        Ok(())
     }
 }
 
@@ -146,13 +196,12 @@ fn fold_of(plan: &Plan, number: u32) -> Option<Fold>
     }
 }
 
-/// Folds an amount into the value of a key, with one search where the key has one.
-fn put(values: &mut Values, by: Fold, key: Txt, amount: i64) -> Result<(), Memory>
-    ensures ordered { IsOrdered string_cmp values.new }
-    ensures ok { OnOk result ((at : List ℕ) → get_by_text values.new at
-        ≡ update bytes_eq (get_by_text values.old) key
-        (Some (folded by (get_by_text values.old key) amount)) at) }
-    ensures err { OnErr result (IsUnchanged values.old values.new) }
+/// Folds an amount into the value of a key, with one search where the key has one. A new key is
+/// copied.
+fn put(values: &mut Values, by: Fold, key: &Txt, amount: i64) -> Result<(), Memory>
+    ensures ok { OnOk result
+        (pairs_of values.new ≡ tallied by (pairs_of values.old) key.now amount) }
+    ensures err { OnErr result (pairs_of values.new ≡ pairs_of values.old) }
 {
     match values.get_mut(key.as_str()) {
         Some(value) => {
@@ -160,7 +209,8 @@ fn put(values: &mut Values, by: Fold, key: Txt, amount: i64) -> Result<(), Memor
             Ok(())
         }
         None => {
-            values.insert(key.into_string(), folded(by, None, amount))?;
+            let name = key.copy()?.into_string();
+            values.insert(name, folded(by, None, amount))?;
             Ok(())
         }
     }

@@ -111,8 +111,10 @@ impl<O: RowOp> Tree<'_, O> {
         }
         visitor.visit(self.alloc, self.plan, component, row)?;
         let made = self.rows_at(component, row)?;
-        let from = Origin::Component(component);
-        self.visit_rows(visitor, levels - 1, from, made.as_slice())?;
+        if !made.is_empty() {
+            let from = Origin::Component(component);
+            self.visit_rows(visitor, levels - 1, from, made.as_slice())?;
+        }
         Ok(())
     }
 

@@ -6,7 +6,7 @@ ghost use Rattle.tree_model.specs.Trees.{amount_by, int_of, write_by, writes};
 use crate::tree::{Tree, Visitor};
 use bolt_ops::RowOp;
 use std::alloc::Global;
-use storm_values::{Duplicate, Memory, Row, Seq, Txt, Value, key_hash_in, key_text_in};
+use storm_values::{Duplicate, KEY_ROOM, Memory, Row, Seq, Txt, Value, key_hash_in, key_text_in};
 use topology_plan::{Body, Fold, Origin, Plan, StateSpec};
 
 /// What a state is to add to the value of a key.
@@ -112,12 +112,12 @@ fn write_at(
     Ok(Write {
         state,
         part: part as u32,
-        key: key_text_in(alloc, values, key)?,
+        key: key_text_in(Vec::with_capacity(alloc, KEY_ROOM)?, values, key)?,
         amount: amount(spec, row),
     })
 }
 
-fn amount(spec: &StateSpec, row: &Row) -> i64
+pub(crate) fn amount(spec: &StateSpec, row: &Row) -> i64
     ensures { result
         ≡ amount_by spec.now.fold (option_and_then (slice_get row.now) spec.now.amount) }
 {

@@ -1,15 +1,12 @@
-use Rattle.std.proofs.Common.{take}
+use Rattle.std.proofs.lemmas.Result.{IfOk-weaker}
+use Rattle.tree_model.specs.Tables.{AreTables}
 use Rattle.tree_model.specs.Trees.{writes}
-use Rattle.tree_model.proofs.Walks.{writes-nil, writes-take_more}
+use Rattle.tree_model.proofs.TablesSoFar.{tables_from_walk}
 use Rattle.tree_model.proofs.plain.plain_tables.Goals as goal
 
-pub loop-row-init : goal.loop-row-init
-loop-row-init g c = rw (writes-nil c.args.plan.now (g.O.RowOp.meaning c.args.custom.now)) c.in_ok-tables.ensures
-
-pub loop-row-preserved : goal.loop-row-preserved
-loop-row-preserved g c =
+-- the walk has added the write of each node
+pub returns : goal.returns
+returns g c =
     let custom = g.O.RowOp.meaning c.args.custom.now in
-    let made = rw c.from_ref.ensures.value at c.in_ok-writes.ensures in
-    let added = c.in_ok-add.ensures.ok (writes c.args.plan.now custom (take c.loop-row.row-index c.args.rows.now)) c.loop-row.invariant in
-    let more = rw c.as_slice-row-items.ensures at (writes-take_more c.args.plan.now custom c.as_slice-row-items.result.now c.loop-row.row-index c.row-item.result c.loop-row-test.true c.row-item.is) in
-    rw (← more, ← made) added
+    let all = tables_from_walk c.args.plan.now custom c.args.rows.now c.components.result _ _ c.in_ok-running.ensures c.components.ensures (rw c.as_slice.ensures at c.in_ok-visit_rows.ensures) in
+    IfOk-weaker _ _ (AreTables c.args.plan.now (writes c.args.plan.now custom c.args.rows.now)) (λ tables are. are (writes c.args.plan.now custom c.args.rows.now) all) c.tables.ensures

@@ -1,0 +1,11 @@
+use Rattle.std.proofs.Common.{ap, subst, sym}
+use Rattle.std.proofs.lemmas.Result.{IfOk-weaker}
+use Rattle.tree_model.specs.Inside.{pairs_of}
+use Rattle.tree_model.specs.Tables.{AreSorted}
+use Rattle.tree_model.proofs.Maps.{pairs-sorted}
+use Rattle.tree_model.proofs.running.sorted_pairs.Goals as goal
+
+pub returns : goal.returns
+returns c =
+    let e = c.in_ok-sort_keys.ensures in
+    IfOk-weaker c.pairs.result _ (AreSorted (pairs_of c.args.values)) (λ pairs is. rw is (pairs-sorted c.args.values c.sort_keys.new.self e.sorted e.reordered e.unique)) c.pairs.ensures
