@@ -10,7 +10,7 @@ use Rattle.tree_model.specs.declared.write.Pair.{Pair}
 use Rattle.tree_model.specs.Tables.{AreRunningTables}
 use Rattle.tree_model.specs.Trees.{writes}
 use Rattle.tree_model.proofs.Walks.{writes-append, writes-nil}
-use Rattle.storm_program.specs.steps.Cutting.{batch_of}
+use Rattle.trident_batches.specs.Batches.{batch_of}
 
 -- the records of the batches so far, and those of one more
 records_joined : {R : Type 0} (size txid : ℕ) (records : List R) → 0 < txid → take (txid * size) records ≡ take ((txid - 1) * size) records ++ batch_of size txid records

@@ -2,10 +2,10 @@
 use Rattle.std.specs.Prelude.{◌≡◌, ◌≢◌, ◌≤◌, ℕ, ◌+◌, ◌-◌, List, length, take, drop, map, filter, All, AllPairs, Bool, true, IsTrue, ◌==◌}
 use Rattle.std.specs.List.{range_with_len, flat_map, list_any}
 use Rattle.std.specs.List.Sorted.{IsNonDecreasing}
+use Rattle.trident_batches.specs.Batches.{batch_count, first_of, last_of}
 use Rattle.storm_program.specs.declared.fates.Attempt.{Attempt}
 use Rattle.storm_program.specs.declared.fates.End.{End}
 use Rattle.storm_program.specs.declared.fates.End.TheVariants.{Committed}
-use Rattle.storm_program.specs.Batches.{batch_count, first_of, last_of}
 
 -- ---- records
 

@@ -1,4 +1,3 @@
-pub mod Batches
 pub mod Cells
 pub mod Check
 pub mod Ends

@@ -6,10 +6,10 @@ use Rattle.topology_plan.specs.Topology.{Topology}
 use Rattle.tree_model.specs.declared.write.Table.{Table}
 use Rattle.tree_model.specs.Trees.{writes}
 use Rattle.tree_model.specs.Tables.{AreTables}
+use Rattle.trident_batches.specs.Batches.{batch_count}
 use Rattle.storm_program.specs.declared.fates.Attempt.{Attempt}
 use Rattle.storm_program.specs.declared.status.Status.{Status}
 use Rattle.storm_program.specs.declared.status.Status.TheVariants as status
-use Rattle.storm_program.specs.Batches.{batch_count}
 use Rattle.storm_program.specs.Cells.{cells_of}
 use Rattle.storm_program.specs.Ends.{Promise}
 use Rattle.storm_program.specs.Files.{AreAccepted, FilesCome, FilesCall}

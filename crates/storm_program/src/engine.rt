@@ -2,17 +2,17 @@ ghost use Rattle.std.specs.Prelude.{◌≡◌, ◌≤◌, ◌<◌, ◌-◌, ◌*
 ghost use Rattle.storm_values.specs.Rows.{IsRow};
 ghost use Rattle.tree_model.specs.Trees.{writes};
 ghost use Rattle.tree_model.specs.Tables.{AreTables, AreRunningTables};
-ghost use Rattle.storm_program.specs.Batches.{batch_count};
+ghost use Rattle.trident_batches.specs.Batches.{batch_count};
 ghost use Rattle.storm_program.specs.Fates.{ticks_handed_out, committed_records, IsOnce, IsWhole};
 ghost use Rattle.storm_program.specs.steps.Cutting.{first_attempt};
 
-use crate::batches::Batches;
 use crate::fates::{Attempt, End, Fates};
 use bolt_ops::RowOp;
 use std::alloc::Global;
 use storm_values::{Memory, Root};
 use topology_plan::Plan;
 use tree_model::{RunningTables, Tables, writes_of};
+use trident_batches::Batches;
 
 /// Runs a plan over its batches, one after another, and commits each at its first attempt.
 pub fn run_batches<O: RowOp>(

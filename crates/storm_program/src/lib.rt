@@ -1,7 +1,6 @@
 //! The commands of storm, and the call that the program makes.
 #![tactic(auto)]
 
-mod batches;
 mod check;
 mod engine;
 mod fates;

@@ -5,7 +5,6 @@ ghost use Rattle.storm_program.specs.Outside.{shelf_use};
 ghost use Rattle.storm_program.specs.Plain.{IsPlainReport, PlainComes};
 ghost use Rattle.storm_program.specs.steps.Stops.{Stops};
 
-use crate::batches::Batches;
 use crate::files::{Accepted, read_files};
 use crate::not_yet::Plans;
 use crate::report::report_text;
@@ -15,6 +14,7 @@ use std::alloc::Global;
 use storm_outside::Shelf;
 use storm_values::Memory;
 use tree_model::plain_tables;
+use trident_batches::Batches;
 
 /// Reads a topology and an input, and makes the tables by definition.
 pub fn plain_files<H: Shelf, O: RowOp>(

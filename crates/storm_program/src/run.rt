@@ -6,7 +6,6 @@ ghost use Rattle.storm_program.specs.Outside.{shelf_use};
 ghost use Rattle.storm_program.specs.Run.{IsReport, RunComes};
 ghost use Rattle.storm_program.specs.steps.Stops.{Stops};
 
-use crate::batches::Batches;
 use crate::engine::run_batches;
 use crate::fates::Fates;
 use crate::files::{Accepted, read_files};
@@ -17,6 +16,7 @@ use bolt_ops::RowOp;
 use std::alloc::Global;
 use storm_outside::Shelf;
 use storm_values::Memory;
+use trident_batches::Batches;
 
 /// Reads a topology and an input, and runs the one over the other.
 pub fn run_files<H: Shelf, O: RowOp>(

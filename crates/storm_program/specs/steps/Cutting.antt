@@ -1,18 +1,8 @@
--- Batches as they are cut and run one after another.
-use Rattle.std.specs.Prelude.{ℕ, ◌-◌, ◌*◌, List, take, drop}
-use Rattle.storm_values.specs.declared.value.Value.{Value}
+-- Batches that are run one after another.
+use Rattle.std.specs.Prelude.{ℕ}
+use Rattle.trident_batches.specs.Batches.{first_of, last_of}
 use Rattle.storm_program.specs.declared.fates.Attempt.{Attempt}
 use Rattle.storm_program.specs.declared.fates.End.TheVariants.{Committed}
-use Rattle.storm_program.specs.Batches.{first_of, last_of}
-
--- the records of a batch
-abbrev pub batch_of : {R : Type 0} → ℕ → ℕ → List R → List R
-batch_of size txid records = take size (drop ((txid - 1) * size) records)
-
--- records that are cut into batches of a size
-pub record Cut : Type 0 where
-  pub records : List (List Value)
-  pub size : ℕ
 
 -- the first attempt of a batch of n records in batches of a size, committed before any tick
 abbrev pub first_attempt : ℕ → ℕ → ℕ → Attempt

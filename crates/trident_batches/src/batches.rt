@@ -1,6 +1,5 @@
 ghost use Rattle.std.specs.Prelude.{◌≡◌, ◌<◌, ◌*◌, ◌≤◌, ◌⊎◌, ◌↔◌, length, IsNone, IfSome};
-ghost use Rattle.storm_program.specs.Batches.{batch_count};
-ghost use Rattle.storm_program.specs.steps.Cutting.{batch_of};
+ghost use Rattle.trident_batches.specs.Batches.{batch_count, batch_of};
 
 use std::marker::Model;
 use storm_values::{Row, Rows};
@@ -14,7 +13,7 @@ pub struct Batches {
 
 impl Model for Batches {
     ghost use Rattle.std.specs.Prelude.{◌<◌};
-    ghost use Rattle.storm_program.specs.steps.Cutting.{Cut};
+    ghost use Rattle.trident_batches.specs.Batches.{Cut};
 
     ghost Value = { Cut };
 
@@ -56,7 +55,7 @@ impl Batches {
         &self.rows
     }
 
-    /// The records of a batch, the first of which has the number 1.
+    /// The records of a batch, the first of which has the number 1. It takes no memory.
     pub fn batch(&self, txid: u64) -> Option<&[Row]>
         ensures none { IsNone result
             ↔ (txid ≡ 0) ⊎ (batch_count (length self.now.records) self.now.size < txid) }

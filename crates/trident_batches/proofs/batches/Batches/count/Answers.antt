@@ -1,6 +1,6 @@
 use Rattle.std.proofs.Common.{◌≡◌, length, arith, rules}
 use Rattle.std.proofs.lemmas.Grind.{div_ceil_times}
-use Rattle.storm_program.proofs.batches.Batches.count.Goals as goal
+use Rattle.trident_batches.proofs.batches.Batches.count.Goals as goal
 
 pub returns-clause-enough : goal.returns-clause-enough
 returns-clause-enough c =

@@ -1,0 +1,7 @@
+mod Lists
+mod CountLemmas
+mod BeginLemmas
+mod SettleLemmas
+mod TickLemmas
+mod StandLemmas
+mod CallLemmas
