@@ -1,0 +1,36 @@
+ghost use Rattle.std.specs.Prelude.{◌≡◌, ◌≤◌, ◌<◌, ℕ, ◌+◌, ◌*◌, ◌^◌, List, length};
+ghost use Rattle.std.specs.List.{AllByRecursion};
+ghost use Rattle.bolt_ops.specs.RowOp.{Custom};
+ghost use Rattle.storm_values.specs.declared.value.Value.{Value};
+ghost use Rattle.topology_plan.specs.Topology.{Topology};
+ghost use Rattle.topology_plan.specs.Valid.{IsValid};
+ghost use Rattle.tree_model.specs.Trees.{node_count};
+ghost use Rattle.tuple_account.specs.Drawn.{AreDrawn, started};
+ghost use Rattle.tuple_account.specs.Ends.{Ended, Desk, HasCause, lists_of};
+ghost use Rattle.tuple_account.specs.Fits.{Fits};
+ghost use Rattle.tuple_account.specs.Histories.{Opening, History};
+ghost use Rattle.tuple_account.specs.Moves.{Station, Reached, HasDrawn};
+ghost use Rattle.tuple_account.specs.Places.{before};
+
+/// A law: where the coordinator's account fits what happened, each end has its cause, and the ids
+/// of all lists in the fates are drawn. No source has more than 40 start words and, of the attempts
+/// that ended and the at most 64 that are pending, a word for each node.
+pub fn ends_have_causes()
+    ensures causes { (t : Topology) (custom : Custom) (h : History) (b : Station)
+        → Reached t custom h b
+        → (batch : ℕ → List (List Value)) (desk : Desk) (fates : List Ended)
+        → Fits t batch desk fates h
+        → AllByRecursion (HasCause t custom batch desk.tick) fates }
+    ensures drawn { (t : Topology) (custom : Custom) (h : History) (b : Station)
+        → Reached t custom h b
+        → (batch : ℕ → List (List Value)) (desk : Desk) (fates : List Ended)
+        → Fits t batch desk fates h → IsValid t
+        → (most : ℕ)
+        → AllByRecursion (λ (o : Opening). node_count t custom o.begun.rows ≤ most) h.begun
+        → ((s : ℕ) → started s h ≤ 40)
+        → 40 + (length fates + 64) * most < 2 ^ 64
+        → (counts : ℕ → ℕ) → ((s j : ℕ) → b.given s j ≡ before (counts s) j)
+        → (words : ℕ → ℕ → ℕ) → HasDrawn words h
+        → AreDrawn t custom (λ root. batch root.txid) words
+        (40 + (length fates + 64) * most) (lists_of fates) }
+{}
