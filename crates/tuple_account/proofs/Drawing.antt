@@ -17,7 +17,6 @@ use Rattle.tree_model.specs.declared.messages.AckMsg.TheVariants as msg
 use Rattle.tree_model.specs.declared.messages.Tuple.{Tuple}
 use Rattle.tree_model.specs.Trees.{Node, kids, kids_of}
 use Rattle.tuple_runs.specs.Accounts.{IsNode, issued_notes}
-use Rattle.tuple_runs.specs.Accounts as tuples
 use Rattle.tuple_runs.specs.Issued.{Begun, Run, node_of, tuples_from, edges_of, first_tuples, init_of, course_of_run, children_of, notes_by, notes_of}
 use Rattle.tuple_runs.proofs.Codes.{msg_code}
 use Rattle.tuple_runs.proofs.Sound as sound

@@ -8,7 +8,6 @@ use Rattle.counted_items.proofs.Each.{each-to_map, each-weaker, each-both}
 use Rattle.counted_items.proofs.Weighing.{weigh-append, weigh-map, weigh-flat_map, weigh-zero, weigh-same_each, each-weighs}
 use Rattle.storm_values.specs.declared.value.Root.{Root}
 use Rattle.storm_values.specs.declared.value.Value.{Value}
-use Rattle.topology_plan.specs.declared.parts.Origin.TheVariants as origin
 use Rattle.topology_plan.specs.Topology.{Topology}
 use Rattle.topology_plan.specs.Valid.{IsValid}
 use Rattle.tuple_tickets.specs.Roots.{root_eq}

@@ -1,6 +1,5 @@
 ghost use Rattle.std.specs.Prelude.{◌≡◌, ◌≤◌, ◌<◌, ℕ, ◌+◌, ◌*◌, ◌^◌, List, length, map};
 ghost use Rattle.std.specs.List.{AllByRecursion, flat_map};
-ghost use Rattle.acker_core.specs.declared.verdict.Verdict.{Verdict};
 ghost use Rattle.bolt_ops.specs.RowOp.{Custom};
 ghost use Rattle.counted_items.specs.Weights.{weigh, Within};
 ghost use Rattle.rotating_ledger.specs.Held.{Held};

@@ -1,4 +1,4 @@
-ghost use Rattle.std.specs.Prelude.{◌≡◌, ◌≤◌, ℕ, ◌+◌, List, [], ◌∷◌, length, map};
+ghost use Rattle.std.specs.Prelude.{◌≤◌, ℕ, ◌+◌, List, [], ◌∷◌, length, map};
 ghost use Rattle.acker_core.specs.Entries.{met};
 ghost use Rattle.acker_core.specs.declared.verdict.Verdict.{Verdict};
 ghost use Rattle.bolt_ops.specs.RowOp.{Custom};
