@@ -13,3 +13,4 @@ pub mod Counting
 pub mod Ending
 pub mod Sourcing
 pub mod Stuck
+pub mod Settling

@@ -1,16 +1,19 @@
-ghost use Rattle.std.specs.Prelude.{◌≡◌, ◌≤◌, ◌<◌, ℕ, ◌+◌, ◌*◌, ◌^◌, List, length};
+ghost use Rattle.std.specs.Prelude.{◌≡◌, ◌≢◌, ◌≤◌, ◌<◌, ℕ, ◌+◌, ◌*◌, ◌^◌, List, length, None};
 ghost use Rattle.std.specs.List.{AllByRecursion};
 ghost use Rattle.bolt_ops.specs.RowOp.{Custom};
+ghost use Rattle.rotating_ledger.specs.Held.{Held};
 ghost use Rattle.storm_values.specs.declared.value.Value.{Value};
 ghost use Rattle.topology_plan.specs.Topology.{Topology};
 ghost use Rattle.topology_plan.specs.Valid.{IsValid};
+ghost use Rattle.tree_model.specs.declared.messages.AckMsg.{AckMsg};
 ghost use Rattle.tree_model.specs.Trees.{node_count};
 ghost use Rattle.tuple_account.specs.Drawn.{AreDrawn, started};
-ghost use Rattle.tuple_account.specs.Ends.{Ended, Desk, HasCause, lists_of};
+ghost use Rattle.tuple_account.specs.Ends.{Ended, Waits, Desk, HasCause, lists_of};
 ghost use Rattle.tuple_account.specs.Fits.{Fits};
 ghost use Rattle.tuple_account.specs.Histories.{Opening, History};
 ghost use Rattle.tuple_account.specs.Moves.{Station, Reached, HasDrawn};
 ghost use Rattle.tuple_account.specs.Places.{before};
+ghost use Rattle.tuple_account.specs.Stuck.{IsStuck};
 
 /// A law: where the coordinator's account fits what happened, each end has its cause, and the ids
 /// of all lists in the fates are drawn. No source has more than 40 start words and, of the attempts
@@ -33,4 +36,15 @@ pub fn ends_have_causes()
         → (words : ℕ → ℕ → ℕ) → HasDrawn words h
         → AreDrawn t custom (λ root. batch root.txid) words
         (40 + (length fates + 64) * most) (lists_of fates) }
+{}
+
+/// A law: where the coordinator's account fits what happened and no work is left, each pending
+/// attempt is settled.
+pub fn pending_attempts_are_settled()
+    ensures { (t : Topology) (custom : Custom) (h : History) (b : Station)
+        → Reached t custom h b
+        → (entries : List (Held (List AckMsg))) → IsStuck t custom h b entries
+        → (batch : ℕ → List (List Value)) (desk : Desk) (fates : List Ended)
+        → Fits t batch desk fates h
+        → AllByRecursion (λ (w : Waits). w.settled ≢ None) desk.pending }
 {}
