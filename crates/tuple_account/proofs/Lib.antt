@@ -14,3 +14,4 @@ pub mod Ending
 pub mod Sourcing
 pub mod Stuck
 pub mod Settling
+pub mod Beginning

@@ -1,5 +1,5 @@
 -- Where no work is left, each pending attempt is settled.
-use Rattle.std.proofs.Common.{◌≡◌, ◌≢◌, ◌≤◌, ℕ, ◌+◌, cond, None, List, sym, refl, ap, arith}
+use Rattle.std.proofs.Common.{◌≡◌, ◌≢◌, ◌≤◌, ℕ, cond, None, List, refl, ap, arith}
 use Rattle.std.specs.List.{AllByRecursion}
 use Rattle.acker_core.specs.declared.verdict.Verdict.{Verdict}
 use Rattle.acker_core.specs.declared.verdict.Verdict.TheVariants.{Complete, Fails}

@@ -45,6 +45,10 @@ pub record Desk : Type 0 where
   pub tries : ℕ → ℕ
   pub pending : List Waits
 
+-- nothing was counted, begun or committed
+abbrev pub first_desk : Desk
+first_desk = record { tick = 0; committed = 0; tries = λ txid. 0; pending = [] }
+
 -- ---- verdicts and lists of ends
 
 abbrev pub verdicts_by : Root → Ending → List Verdict

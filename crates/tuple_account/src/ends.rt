@@ -1,4 +1,4 @@
-ghost use Rattle.std.specs.Prelude.{◌≡◌, ◌≢◌, ◌≤◌, ◌<◌, ℕ, ◌+◌, ◌*◌, ◌^◌, List, length, None};
+ghost use Rattle.std.specs.Prelude.{◌≡◌, ◌≢◌, ◌≤◌, ◌<◌, ℕ, ◌+◌, ◌*◌, ◌^◌, List, [], length, None};
 ghost use Rattle.std.specs.List.{AllByRecursion};
 ghost use Rattle.bolt_ops.specs.RowOp.{Custom};
 ghost use Rattle.rotating_ledger.specs.Held.{Held};
@@ -8,12 +8,18 @@ ghost use Rattle.topology_plan.specs.Valid.{IsValid};
 ghost use Rattle.tree_model.specs.declared.messages.AckMsg.{AckMsg};
 ghost use Rattle.tree_model.specs.Trees.{node_count};
 ghost use Rattle.tuple_account.specs.Drawn.{AreDrawn, started};
-ghost use Rattle.tuple_account.specs.Ends.{Ended, Waits, Desk, HasCause, lists_of};
+ghost use Rattle.tuple_account.specs.Ends.{Ended, Waits, Desk, HasCause, first_desk, lists_of};
 ghost use Rattle.tuple_account.specs.Fits.{Fits};
-ghost use Rattle.tuple_account.specs.Histories.{Opening, History};
+ghost use Rattle.tuple_account.specs.Histories.{Opening, History, nothing};
 ghost use Rattle.tuple_account.specs.Moves.{Station, Reached, HasDrawn};
 ghost use Rattle.tuple_account.specs.Places.{before};
 ghost use Rattle.tuple_account.specs.Stuck.{IsStuck};
+
+/// A law: at first, where nothing happened, the coordinator's account fits.
+pub fn accounts_fit_at_first()
+    ensures { (t : Topology) (batch : ℕ → List (List Value))
+        → Fits t batch first_desk [] nothing }
+{}
 
 /// A law: where the coordinator's account fits what happened, each end has its cause, and the ids
 /// of all lists in the fates are drawn. No source has more than 40 start words and, of the attempts

@@ -11,7 +11,7 @@ mod laws;
 mod moves;
 mod stretches;
 
-pub use ends::{ends_have_causes, pending_attempts_are_settled};
+pub use ends::{accounts_fit_at_first, ends_have_causes, pending_attempts_are_settled};
 pub use laws::{
     each_root_has_one_verdict, ids_are_drawn_once, lists_are_sound, packets_are_routed,
     stuck_roots_were_told, tuples_are_issued_once, verdicts_have_causes, words_given_are_few,
