@@ -59,7 +59,7 @@ made_read goes ts = refl
 made_read fails ts = refl
 made_read mute ts = refl
 
-weigh-notes_about : (r : Root) (h : AckMsg → ℕ) (ms : List AckMsg) → weigh h (notes_about r ms) ≡ weigh (λ m. cond (root_eq (root_of m) r) (h m) 0) ms
+pub weigh-notes_about : (r : Root) (h : AckMsg → ℕ) (ms : List AckMsg) → weigh h (notes_about r ms) ≡ weigh (λ m. cond (root_eq (root_of m) r) (h m) 0) ms
 weigh-notes_about r h [] = refl
 weigh-notes_about r h (m ∷ ms) = cases (root_eq (root_of m) r) (weigh-notes_about r h ms)
   where

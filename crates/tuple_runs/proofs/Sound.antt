@@ -111,7 +111,7 @@ module _ (t : Topology) (custom : Custom) (rows_of : Root → List (List Value))
         in_tree : (node : Node) → IsSome (Some node)
         in_tree node = refl
 
-    used_nodes : AllByRecursion (λ (u : Run). IsNode t custom rows_of u.tuple) a.runs
+    pub used_nodes : AllByRecursion (λ (u : Run). IsNode t custom rows_of u.tuple) a.runs
     used_nodes =
         each-weaker (λ (u : Run). tickets.IsNode (grows t custom rows_of) (ticket_of u.tuple)) (λ (u : Run). IsNode t custom rows_of u.tuple) (λ u. node_read u.tuple) a.runs
         (each-map (λ (u : tickets.Run Node). tickets.IsNode (grows t custom rows_of) u.ticket) run_read a.runs (once_tickets.used_nodes (grows t custom rows_of) node_code (account_read a) read))

@@ -1,0 +1,28 @@
+-- The coordinator's account fits at first.
+use Rattle.std.proofs.Common.{◌≡◌, ℕ, ◌&&◌, nat_lt, Bool, true, false, cond, List, [], refl, ltb-true, arith}
+use Rattle.storm_values.specs.declared.value.Value.{Value}
+use Rattle.topology_plan.specs.Topology.{Topology}
+use Rattle.tuple_account.specs.Ends.{first_desk}
+use Rattle.tuple_account.specs.Fits.{Fits}
+use Rattle.tuple_account.specs.Histories.{nothing}
+
+none_between : (n : ℕ) → ◌≡◌ {A = ℕ} 0 (cond (nat_lt 0 n && nat_lt n 1) 1 0)
+none_between n = cases (nat_lt 0 n) (nat_lt n 1) refl refl
+  where
+    cases : (b c : Bool) → nat_lt 0 n ≡ b → nat_lt n 1 ≡ c → ◌≡◌ {A = ℕ} 0 (cond (b && c) 1 0)
+    cases true true above below = let x = ltb-true 0 n above in let y = ltb-true n 1 below in absurd (omega arith)
+    cases true false above below = refl
+    cases false c above below = refl
+
+pub fits_first : (t : Topology) (batch : ℕ → List (List Value)) → Fits t batch first_desk [] nothing
+fits_first t batch = record {
+  begun = λ f. omega arith;
+  numbered = λ root. none_between root.attempt;
+  rows = tt;
+  heard = λ f. omega arith;
+  unheard = tt;
+  ends = tt;
+  waits = tt;
+  few = omega arith;
+  once = none_between;
+}

@@ -1,0 +1,17 @@
+pub mod Moving
+pub mod Entering
+pub mod Stretching
+pub mod Working
+pub mod Sending
+pub mod Reading
+pub mod Listing
+pub mod Telling
+pub mod Routing
+pub mod Placing
+pub mod Drawing
+pub mod Counting
+pub mod Ending
+pub mod Sourcing
+pub mod Stuck
+pub mod Settling
+pub mod Beginning

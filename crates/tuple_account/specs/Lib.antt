@@ -1,0 +1,11 @@
+pub mod Places
+pub mod Histories
+pub mod Moves
+pub mod Parts
+pub mod Sound
+pub mod Drawn
+pub mod Stretches
+pub mod Benches
+pub mod Ends
+pub mod Fits
+pub mod Stuck
