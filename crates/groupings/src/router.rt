@@ -34,8 +34,9 @@ impl Router {
     /// A router with a start word for each subscription.
     pub fn new(alloc: Global, plan: &Plan, from: Origin, starts: &[u64]) -> Result<Self, Memory>
         requires { length starts.now ≡ length (subs_of plan.now from) }
-        ensures { IfOk result (λ router. router
+        ensures value { IfOk result (λ router. router
             ≡ lanes_of plan.now (subs_of plan.now from) starts.now) }
+        ensures counted { IfOk result (λ router. length router ≡ length (subs_of plan.now from)) }
     {
         let subs = plan.subs(from);
         let mut lanes = Vec::with_capacity(alloc, subs.len())?;
@@ -43,6 +44,13 @@ impl Router {
             lanes.push(lane(plan, sub, starts[i])?)?;
         }
         Ok(Router { lanes })
+    }
+
+    /// How many subscriptions the source has.
+    pub fn subs_len(&self) -> usize
+        ensures { result ≡ length self.now }
+    {
+        self.lanes.len()
     }
 
     /// Where a row goes along the subscription of a number. It takes no memory, and searches
@@ -53,6 +61,7 @@ impl Router {
             → result ≡ targets lane row.now }
         ensures moved { (lane : Lane) → slice_get self.old sub ≡ Some lane
             → self.new ≡ slice_set self.old sub (moved lane) }
+        ensures kept { length self.new ≡ length self.old }
     {
         self.lanes[sub as usize].route(row)
     }
