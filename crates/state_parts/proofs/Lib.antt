@@ -1,0 +1,7 @@
+mod Places
+mod MakerLemmas
+mod SplitLemmas
+mod TrialLemmas
+mod TableLemmas
+mod StandingLemmas
+mod TableLaw

@@ -1,0 +1,29 @@
+use Rattle.state_cells.specs.declared.fault.PartFault.TheVariants.{BadCell, Store}
+use Rattle.state_parts.proofs.TableLemmas.{all_read, all_read_on, bad_before, read_plans, rose_before, same_fault, tables_more}
+use Rattle.state_parts.proofs.tables.tables_of.Goals as goal
+
+pub loop-number-init : goal.loop-number-init
+loop-number-init g c = record { read = all_read g.C.CellStore.tells g.C.CellStore.fault_count c.args.parts.now.items; tables = rw c.new-tables.ensures tt }
+
+pub loop-number-preserved : goal.loop-number-preserved
+loop-number-preserved g c = record {
+  read = all_read_on g.C.CellStore.tells g.C.CellStore.fault_count c.args.parts.now.items c.loop-number.parts.items c.add_table.new.parts.items c.loop-number.invariant.read c.add_table.ensures.read;
+  tables = tables_more g.C.CellStore.tells g.C.CellStore.fault_count c.args.plan.now c.args.parts.now.items c.loop-number.parts.items c.loop-number.number c.component.result.now c.loop-number.tables c.add_table.new.tables
+      c.component.ensures.value c.loop-number.invariant.read c.in-Ok.ensures.added c.loop-number.invariant.tables;
+}
+
+pub returns-in-Err-clause-read : goal.returns-in-Err-clause-read
+returns-in-Err-clause-read g c = all_read_on g.C.CellStore.tells g.C.CellStore.fault_count c.args.parts.now.items c.loop-number.parts.items c.add_table.new.parts.items c.loop-number.invariant.read c.add_table.ensures.read
+
+pub returns-in-Err-clause-plans : goal.returns-in-Err-clause-plans
+returns-in-Err-clause-plans g c = read_plans g.C.CellStore.tells g.C.CellStore.fault_count c.args.parts.now.items c.add_table.new.parts.items
+    (all_read_on g.C.CellStore.tells g.C.CellStore.fault_count c.args.parts.now.items c.loop-number.parts.items c.add_table.new.parts.items c.loop-number.invariant.read c.add_table.ensures.read)
+
+pub returns-in-Err-clause-failed : goal.returns-in-Err-clause-failed
+returns-in-Err-clause-failed g c = λ is. rose_before g.C.CellStore.tells g.C.CellStore.fault_count c.args.parts.now.items c.loop-number.parts.items c.add_table.new.parts.items c.loop-number.invariant.read (c.add_table.ensures.failed (same_fault c.add_table.result c.in-Err.fault Store c.in-Err.is is))
+
+pub returns-clause-plans : goal.returns-clause-plans
+returns-clause-plans g c = read_plans g.C.CellStore.tells g.C.CellStore.fault_count c.args.parts.now.items c.loop-number.parts.items c.loop-number.invariant.read
+
+pub returns-in-Err-clause-bad : goal.returns-in-Err-clause-bad
+returns-in-Err-clause-bad g c = λ key is. bad_before g.C.CellStore.tells g.C.CellStore.fault_count c.args.parts.now.items c.loop-number.parts.items key c.loop-number.invariant.read (c.add_table.ensures.bad key (same_fault c.add_table.result c.in-Err.fault (BadCell key) c.in-Err.is is))

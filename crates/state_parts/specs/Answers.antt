@@ -1,0 +1,29 @@
+-- What is noted of a part's answer.
+use Rattle.std.specs.Prelude.{◌≡◌, ℕ, true, List, Some, Result, Ok, Err}
+use Rattle.std.specs.Option.{option_or}
+use Rattle.storm_stores.specs.CellMaps.{CellMap}
+use Rattle.tree_model.specs.declared.write.Write.{Write}
+use Rattle.state_cells.specs.declared.fault.PartFault.{PartFault}
+use Rattle.state_cells.specs.declared.fault.PartFault.TheVariants as fault
+use Rattle.state_parts.specs.declared.answer.CommitOutcome.{CommitOutcome}
+use Rattle.state_parts.specs.declared.answer.CommitOutcome.TheVariants.{Failed}
+use Rattle.state_parts.specs.declared.answer.Tally.{Tally}
+use Rattle.state_parts.specs.declared.parts.StatePart.{StatePart}
+use Rattle.state_parts.specs.Commits.{IsTrial}
+
+-- one more answer, with the part's failure in case its store failed
+abbrev pub noted : Tally → Result (Unit {0}) PartFault → CommitOutcome → Tally
+noted tally (Ok done) failure = tally
+noted tally (Err fault.Store) failure =
+    record tally { failed = option_or tally.failed (Some failure) }
+noted tally (Err (fault.BadCell key)) failure =
+    record tally { bad = option_or tally.bad (Some key) }
+noted tally (Err fault.Memory) failure = record tally { no_memory = true }
+
+-- a part was tried, and what it answered is noted
+pub record Tries {S : Type 0} (tells : S → CellMap → Type 0) (count : S → ℕ) (txid : ℕ)
+    (own : List Write) (old new : StatePart S) (before after : Tally) : Type 0 where
+  pub answer : Result (Unit {0}) PartFault
+  pub trial : IsTrial tells count txid own (record { old = old; new = new; answer = answer })
+  pub notes : after ≡ noted before answer
+      (Failed old.component old.part (count old.over.store) (count new.over.store))

@@ -1,0 +1,6 @@
+pub mod PartPlans
+pub mod Makers
+pub mod Commits
+pub mod Answers
+pub mod PartTables
+pub mod Standing

@@ -1,0 +1,73 @@
+ghost use Rattle.std.specs.Prelude.{◌≡◌, ℕ, List, length, Ok, Err};
+ghost use Rattle.tree_model.specs.declared.write.Write.{Write};
+ghost use Rattle.state_parts.specs.Answers.{Tries};
+ghost use Rattle.state_parts.specs.Commits.{AreCommitted, ArePerhapsCommitted, AreTried, Comes, IsBadAt, IsFailedPart, NoCountFell, writes_by_part};
+ghost use Rattle.state_parts.specs.PartPlans.{AreIndexed, plans_of};
+
+use crate::answer::{Commit, CommitFault, CommitOutcome, Tally};
+use crate::parts::StatePart;
+use crate::split::split;
+use std::alloc::Global;
+use storm_stores::CellStore;
+use tree_model::Writes;
+
+/// Commits a part with its writes of a batch, and notes what it answers.
+fn commit_part<C: CellStore>(at: &mut StatePart<C>, txid: u64, writes: &Writes, tally: &mut Tally)
+    ensures { Tries C.tells C.fault_count txid writes.now at.old at.new tally.old tally.new }
+{
+    let before = at.over.faults();
+    let answer = at.over.commit(txid, writes);
+    let after = at.over.faults();
+    tally.note(
+        answer,
+        CommitOutcome::Failed {
+            component: at.component,
+            part: at.part,
+            before,
+            after,
+        },
+    );
+}
+
+/// Tries every part, one after another, each with its list of writes.
+fn commit_each<C: CellStore>(parts: &mut Vec<StatePart<C>>, txid: u64, lists: &[Writes]) -> Tally
+    requires { length lists.now ≡ length parts.old.items }
+    ensures { (writes : List Write) → lists.now ≡ writes_by_part writes parts.old.items →
+        AreTried C.tells C.fault_count txid writes parts.old.items parts.new.items result }
+{
+    let mut tally = Tally::new();
+    for i in 0..parts.len() {
+        commit_part(&mut parts[i], txid, &lists[i], &mut tally);
+    }
+    tally
+}
+
+/// Commits a batch to all parts, each with its writes.
+pub(crate) fn commit_parts<C: CellStore>(
+    alloc: Global,
+    firsts: &[usize],
+    parts: &mut Vec<StatePart<C>>,
+    commit: Commit,
+) -> Result<CommitOutcome, CommitFault>
+    requires { AreIndexed firsts.now 0 (plans_of parts.old.items) }
+    ensures plans { plans_of parts.new.items ≡ plans_of parts.old.items }
+    ensures comes { (result ≡ Err CommitFault.Memory → ⊥) →
+        Comes C.tells C.fault_count commit.root.txid commit.writes
+        parts.old.items parts.new.items result }
+    ensures done { result ≡ Ok CommitOutcome.Done →
+        AreCommitted C.tells commit.root.txid commit.writes parts.old.items parts.new.items }
+    ensures kept { ArePerhapsCommitted C.tells commit.root.txid commit.writes
+        parts.old.items parts.new.items }
+    ensures failed { (component part before after : ℕ) →
+        result ≡ Ok (CommitOutcome.Failed component part before after) →
+        IsFailedPart C.fault_count parts.old.items parts.new.items component part before after }
+    ensures bad { (key : List ℕ) → result ≡ Err (CommitFault.BadCell key) →
+        IsBadAt C.tells parts.old.items key }
+    ensures never_falls { NoCountFell C.fault_count parts.old.items parts.new.items }
+{
+    let lists = match split(alloc, firsts, parts, commit.writes) {
+        Ok(lists) => lists,
+        Err(_) => return Err(CommitFault::Memory),
+    };
+    commit_each(parts, commit.root.txid, &lists).answer()
+}

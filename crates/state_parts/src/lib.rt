@@ -1,0 +1,18 @@
+//! The parts of all states of a topology over a maker of stores: commits of batches to all of them,
+//! and the tables of the states.
+#![tactic(auto)]
+
+mod answer;
+mod commit;
+mod give;
+mod laws;
+mod make;
+mod parts;
+mod split;
+mod tables;
+
+pub use answer::{Commit, CommitFault, CommitOutcome};
+pub use laws::{
+    commits_move_all_parts_on, parts_over_empty_stores_begin, tables_of_parts_are_tables_of_writes,
+};
+pub use parts::Parts;

@@ -1,0 +1,143 @@
+ghost use Rattle.std.specs.Prelude.{◌≡◌, ◌≤◌, ◌⊎◌, ℕ, List, All, Ok, Err, IfOk, OnOk, OnErr, IsErrOf};
+ghost use Rattle.std.specs.List.{AllZip};
+ghost use Rattle.storm_outside.specs.Counts.{Rose};
+ghost use Rattle.storm_stores.specs.CellMaps.{CellMap, cell_at};
+ghost use Rattle.tree_model.specs.Tables.{states_of};
+ghost use Rattle.state_parts.specs.Commits.{AreCommitted, ArePerhapsCommitted, Comes, IsBadAt, IsFailedPart, NoCountFell};
+ghost use Rattle.state_parts.specs.Makers.{AreMade, Began, CameBack, HasNotFailed, OnlyMade, RoseBySum, faults_of};
+ghost use Rattle.state_parts.specs.PartPlans.{AreParts, IsOneOf, plans_of};
+ghost use Rattle.state_parts.specs.PartTables.{AreRead, IsBadRowAt, IsTableOver, SomeRose};
+
+use crate::answer::{Commit, CommitFault, CommitOutcome};
+use crate::commit::commit_parts;
+use crate::give::give_all;
+use crate::make::add_states;
+use crate::tables::tables_of;
+use state_cells::{Part, PartFault};
+use std::alloc::Global;
+use std::marker::Model;
+use storm_stores::{CellStore, StoreMaker};
+use storm_values::Memory;
+use topology_plan::Plan;
+use tree_model::Tables;
+
+/// A part of a state over its store, by the state's component number and its own.
+#[derive(Drop)]
+pub(crate) struct StatePart<C: CellStore> {
+    pub component: u32,
+    pub part: u32,
+    pub over: Part<C>,
+}
+
+/// The parts of all states of a topology, in the order of the states and of the parts.
+#[derive(Drop)]
+pub struct Parts<C: CellStore> {
+    parts: Vec<StatePart<C>>,
+    /// The place of the first part of each component, or where it would stand.
+    firsts: Vec<usize>,
+    alloc: Global,
+}
+
+impl<C: CellStore> Model for Parts<C> {
+    ghost use Rattle.std.specs.Prelude.{List};
+    ghost use Rattle.state_parts.specs.declared.parts.StatePart.{StatePart};
+    ghost use Rattle.state_parts.specs.PartPlans.{AreApart, AreIndexed, plans_of};
+
+    ghost Value = { List (StatePart C) };
+
+    ghost view = { λ p. p.parts.items };
+
+    ghost invariant = { λ p. AreIndexed p.firsts.items 0 (plans_of p.parts.items) };
+}
+
+impl<C: CellStore> Parts<C> {
+    /// The parts of the plan's states, each over the store that the maker makes for it. Without
+    /// memory the stores that were made are given back.
+    pub fn make<M: StoreMaker<C = C>>(
+        alloc: Global,
+        plan: &Plan,
+        stores: &mut M,
+    ) -> Result<Self, Memory>
+        ensures parts { IfOk result (AreParts plan.now) }
+        ensures began { IfOk result (All (Began C.tells M.holds stores.old)) }
+        ensures no_fault { IfOk result (All (HasNotFailed C.fault_count)) }
+        ensures made { IfOk result (λ parts. AreMade M.has_made stores.new (plans_of parts)) }
+        ensures only_made { IfOk result (OnlyMade M.has_made stores.old stores.new) }
+        ensures others { IfOk result (λ parts. (c p : ℕ) (cells : CellMap) →
+            (IsOneOf (plans_of parts) c p → ⊥) →
+            M.holds stores.old c p cells → M.holds stores.new c p cells) }
+        ensures not_made { OnErr result ((c p : ℕ) (cells : CellMap) →
+            M.holds stores.old c p cells → M.holds stores.new c p cells) }
+        ensures stays_made { (c p : ℕ) → M.has_made stores.old c p → M.has_made stores.new c p }
+        ensures same_count { M.fault_count stores.new ≡ M.fault_count stores.old }
+    {
+        let mut parts = Vec::new(alloc);
+        let mut firsts = Vec::new(alloc);
+        match add_states(alloc, &mut parts, &mut firsts, plan, stores) {
+            Ok(()) => {}
+            Err(fault) => {
+                give_all(parts, stores);
+                return Err(fault);
+            }
+        }
+        Ok(Parts {
+            parts,
+            firsts,
+            alloc,
+        })
+    }
+
+    /// Commits a batch: tries every part, one after another, each with its writes of the batch or
+    /// none, in time linear in the writes and the parts beside what the parts take. Want of memory
+    /// goes before a bad cell, a bad cell before a failed store; of parts the first is told. After
+    /// any fault each key of each part has its old cell or the commit's.
+    pub fn commit_all(&mut self, commit: Commit) -> Result<CommitOutcome, CommitFault>
+        ensures plans { plans_of self.new ≡ plans_of self.old }
+        ensures comes { (result ≡ Err CommitFault.Memory → ⊥) →
+            Comes C.tells C.fault_count commit.root.txid commit.writes self.old self.new result }
+        ensures done { result ≡ Ok CommitOutcome.Done →
+            AreCommitted C.tells commit.root.txid commit.writes self.old self.new }
+        ensures kept { ArePerhapsCommitted C.tells commit.root.txid commit.writes
+            self.old self.new }
+        ensures failed { (component part before after : ℕ) →
+            result ≡ Ok (CommitOutcome.Failed component part before after) →
+            IsFailedPart C.fault_count self.old self.new component part before after }
+        ensures bad { (key : List ℕ) → result ≡ Err (CommitFault.BadCell key) →
+            IsBadAt C.tells self.old key }
+        ensures never_falls { NoCountFell C.fault_count self.old self.new }
+    {
+        commit_parts(self.alloc, &self.firsts, &mut self.parts, commit)
+    }
+
+    /// The tables of the plan's states, in order: of each state the keys with a value in one of its
+    /// parts, with one look at each key.
+    pub fn tables(&mut self, plan: &Plan) -> Result<Tables, PartFault>
+        ensures tables { IfOk result
+            (AllZip (IsTableOver C.tells self.old) (states_of plan.now)) }
+        ensures plans { plans_of self.new ≡ plans_of self.old }
+        ensures read { AreRead C.tells C.fault_count self.old self.new }
+        ensures failed { IsErrOf result PartFault.Store →
+            SomeRose C.fault_count self.old self.new }
+        ensures bad { (key : List ℕ) → IsErrOf result (PartFault.BadCell key) →
+            IsBadRowAt C.tells self.old key }
+    {
+        tables_of(self.alloc, &mut self.parts, plan)
+    }
+
+    /// Gives every store back to the maker, which takes no memory.
+    pub fn give_back<M: StoreMaker<C = C>>(self, stores: &mut M)
+        requires { AreMade M.has_made stores.old (plans_of self) }
+        ensures back { All (CameBack C.tells M.holds stores.new) self }
+        ensures others { (c p : ℕ) (cells : CellMap) → (IsOneOf (plans_of self) c p → ⊥) →
+            M.holds stores.old c p cells → M.holds stores.new c p cells }
+        ensures stays_made { (c p : ℕ) → M.has_made stores.old c p → M.has_made stores.new c p }
+        ensures made_before { (c p : ℕ) → M.has_made stores.new c p → M.has_made stores.old c p }
+        ensures rose { RoseBySum (faults_of C.fault_count self)
+            (M.fault_count stores.old) (M.fault_count stores.new) }
+        ensures never_falls { M.fault_count stores.old ≤ M.fault_count stores.new }
+        ensures same_count { faults_of C.fault_count self ≡ 0 →
+            M.fault_count stores.new ≡ M.fault_count stores.old }
+    {
+        give_all(self.parts, stores);
+    }
+}
