@@ -1,21 +1,14 @@
 -- What holds of whatever is read, by how it is read.
-use Rattle.std.specs.Prelude.{◌≡◌, ℕ, ◌&&◌, ℤ, pos, negsuc, List, [], ◌∷◌, length, All, Bool, true, false, int_le, if◌then◌else◌, Option, Some, None, option_and_then, Result, Ok, Err, IfOk}
-use Rattle.std.proofs.Common.{suc, refl, ap, sym, subst, arith}
+use Rattle.std.proofs.Common.{◌≡◌, ℕ, ◌&&◌, ℤ, pos, negsuc, List, [], ◌∷◌, length, All, Bool, true, false, int_le, if◌then◌else◌, Option, Some, None, option_and_then, Result, Ok, Err, IfOk, suc, refl, ap, sym, subst, arith}
 use Rattle.std.proofs.lemmas.Bool.Decides.{nat_tests}
 use Rattle.std.proofs.lemmas.List.Elements.{All-nil, All-cons}
 use Rattle.std.specs.List.{AllByRecursion}
 use Rattle.std.specs.Str.{bytes_eq}
-use Rattle.serde_json.specs.Data.{Data, Items, no_items, item, Members, no_members, member}
-use Rattle.serde_json.specs.Find.{get_member, as_str, as_number, as_array, as_object, as_i64}
-use Rattle.serde_json.specs.Events.{items_len}
+use Rattle.topology_form.specs.Prelude.{Data, Items, no_items, item, Members, no_members, member, is_name, IsName, TopoFault, WrongKind, OutOfRange, get_member, as_str, as_number, as_array, as_object, as_i64, items_len, Value}
 use Rattle.storm_values.specs.Json.{value_of}
-use Rattle.storm_values.specs.declared.value.Value.{Value}
 use Rattle.storm_values.specs.declared.value.Value.TheVariants.{Int, Text}
-use Rattle.topology_plan.specs.Texts.{is_name, IsName}
 use Rattle.topology_plan.specs.Valid.{IsBetween}
 use Rattle.topology_plan.specs.Wired.{IsConstant}
-use Rattle.topology_form.specs.declared.fault.TopoFault.{TopoFault}
-use Rattle.topology_form.specs.declared.fault.TopoFault.TheVariants.{WrongKind, OutOfRange}
 use Rattle.topology_form.specs.Reading.{Form, Reader, of_kind, natural, within, with_others, each, counted, some_names, some_objects, a_number, a_name, short, a_constant, an_object, and_then, ◌>>=◌, done, ends, without, beside, read_member, read_or, required, optional, chosen}
 
 -- P holds of what is read by the form

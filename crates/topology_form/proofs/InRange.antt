@@ -1,14 +1,9 @@
 -- What a file says is in range.
-use Rattle.serde_json.specs.Data.{Data}
-use Rattle.std.specs.Prelude.{◌≡◌, codes, None, IsSome, Result, Ok, Err, IfOk}
-use Rattle.std.proofs.Common.{refl, sym, lit≤}
+use Rattle.topology_form.specs.Prelude.{Data, TopoFault, FileParts, Fold, Count, Sum, Last, Max}
+use Rattle.std.proofs.Common.{◌≡◌, codes, None, IsSome, Result, Ok, Err, IfOk, refl, sym, lit≤}
 use Rattle.std.proofs.lemmas.Option.{none-some}
-use Rattle.topology_plan.specs.declared.parts.Fold.{Fold}
-use Rattle.topology_plan.specs.declared.parts.Fold.TheVariants.{Count, Sum, Last, Max}
-use Rattle.topology_form.specs.declared.fault.TopoFault.{TopoFault}
-use Rattle.topology_form.specs.declared.parts.FileParts.{FileParts}
-use Rattle.topology_form.specs.File.{fault_in, read_or_else, blank, form_fault, parts_said}
-use Rattle.topology_form.specs.Format.{file_of, operations, groupings, key_of, grouping_of, amount_of, amount_for, a_spout, an_operation, an_input, a_bolt, a_state, a_file}
+use Rattle.topology_form.specs.File.{fault_in, read_or_else, form_fault, parts_said}
+use Rattle.topology_form.specs.Format.{blank, file_of, operations, groupings, key_of, grouping_of, amount_of, amount_for, a_spout, an_operation, an_input, a_bolt, a_state, a_file}
 use Rattle.topology_form.specs.Ranges.{IsSpoutInRange, IsOperationInRange, IsGroupingInRange, IsInputInRange, IsBoltInRange, HasAmount, IsStateInRange, IsInRange}
 use Rattle.topology_form.proofs.Good.{IsOf, Makes, Reads, first, last, had, reads, object_of, chosen_makes, a_member, may_be, number_of, name_of, any_of, names_of, objects_of, constant_of}
 

@@ -3,7 +3,7 @@ use Rattle.std.proofs.Common.{◌≡◌, ℕ, List, [], ◌∷◌, String, Globa
 use Rattle.std.specs.BTreeMap.{is_at}
 use Rattle.std.specs.Cmp.Lexicographic.{slice_cmp}
 use Rattle.std.specs.Map.{remove_entry}
-use Rattle.serde_json.specs.View.{members_view}
+use Rattle.topology_form.specs.Prelude.{members_view}
 use Rattle.serde_json.specs.declared.value.Value.{Value}
 use Rattle.topology_form.specs.Reading.{without}
 

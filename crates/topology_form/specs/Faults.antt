@@ -1,10 +1,8 @@
 -- What is printed of a fault of a file. This project's own.
 use Rattle.std.specs.Prelude.{ℕ, List, ◌++◌, codes, decimal}
 use Rattle.std.specs.Fmt.{signed_decimal}
-use Rattle.serde_json.specs.Data.{string}
+use Rattle.topology_form.specs.Prelude.{string, most_topology_bytes, most_weight, TopoFault}
 use Rattle.serde_json.specs.Written.{compact_text}
-use Rattle.storm_values.specs.Limits.{most_topology_bytes, most_weight}
-use Rattle.topology_form.specs.declared.fault.TopoFault.{TopoFault}
 use Rattle.topology_form.specs.declared.fault.TopoFault.TheVariants as file
 
 -- a text from a file, as a compact JSON string

@@ -1,23 +1,11 @@
 -- What the objects of a topology file say. This project's own.
 use Rattle.std.specs.Prelude.{ℕ, List, [], ◌∷◌, Option, Some, None, Result, codes}
-use Rattle.serde_json.specs.Data.{Data, Members}
-use Rattle.storm_values.specs.Limits.{most_fields, most_batch, most_below, most_tasks, most_bolt_inputs, most_state_inputs, most_bolts, most_states, most_ackers, most_pending, least_buckets, most_buckets, most_attempts}
-use Rattle.topology_plan.specs.declared.parts.Kind.{Kind}
+use Rattle.topology_form.specs.Prelude.{Data, Members, most_fields, most_batch, most_below, most_tasks, most_bolt_inputs, most_state_inputs, most_bolts, most_states, most_ackers, most_pending, least_buckets, most_buckets, most_attempts, Value, TopoFault, FileParts, Fold, Count, Sum, Last, Max, GroupingPart, Input, Operation, Split, Project, Filter, Set, Len, Route, Flaky, Mute, Custom, SpoutPart, BoltPart, StatePart}
 use Rattle.topology_plan.specs.declared.parts.Kind.TheVariants.{Transactional, Opaque}
-use Rattle.topology_plan.specs.declared.parts.Fold.{Fold}
-use Rattle.topology_plan.specs.declared.parts.Fold.TheVariants.{Count, Sum, Last, Max}
+use Rattle.topology_plan.specs.declared.parts.Kind.{Kind}
 use Rattle.topology_plan.specs.declared.parts.Test.{Test}
 use Rattle.topology_plan.specs.declared.parts.Test.TheVariants.{Eq, Ne, Lt}
-use Rattle.topology_form.specs.declared.fault.TopoFault.{TopoFault}
-use Rattle.topology_form.specs.declared.parts.GroupingPart.{GroupingPart}
 use Rattle.topology_form.specs.declared.parts.GroupingPart.TheVariants as said
-use Rattle.topology_form.specs.declared.parts.Input.{Input}
-use Rattle.topology_form.specs.declared.parts.Operation.{Operation}
-use Rattle.topology_form.specs.declared.parts.Operation.TheVariants.{Split, Project, Filter, Set, Len, Route, Flaky, Mute, Custom}
-use Rattle.topology_form.specs.declared.parts.SpoutPart.{SpoutPart}
-use Rattle.topology_form.specs.declared.parts.BoltPart.{BoltPart}
-use Rattle.topology_form.specs.declared.parts.StatePart.{StatePart}
-use Rattle.topology_form.specs.declared.parts.FileParts.{FileParts}
 use Rattle.topology_form.specs.Reading.{Form, Reader, ◌>>=◌, done, ends, required, optional, chosen, a_number, a_text, a_name, a_word, some_names, a_constant, an_object, some_objects}
 
 abbrev pub kinds : List (List ℕ × Kind)
@@ -37,61 +25,40 @@ a_spout = an_object (do
 abbrev pub tests : List (List ℕ × Test)
 tests = (codes "eq", Eq) ∷ (codes "ne", Ne) ∷ (codes "lt", Lt) ∷ []
 
+-- members that several operations have
+abbrev pub some_fields : Reader (List (List ℕ))
+some_fields = required (codes "fields") (some_names 1 most_fields)
+
+abbrev pub a_field : Reader (List ℕ)
+a_field = required (codes "field") a_name
+
+abbrev pub a_new_field : Reader (List ℕ)
+a_new_field = required (codes "as") a_name
+
+abbrev pub a_value : Reader Value
+a_value = required (codes "value") a_constant
+
+abbrev pub a_limit : Reader ℕ
+a_limit = required (codes "below") (a_number 1 most_below)
+
+abbrev pub a_filter : Members → Result Operation TopoFault
+a_filter = do
+  field ← a_field
+  test ← required (codes "test") (a_word tests)
+  value ← a_value
+  ends (Filter field test value)
+
 -- each word of `do`, and the operation by the other members
 abbrev pub operations : List (List ℕ × (Members → Result Operation TopoFault))
-operations = (
-  codes "split",
-  do
-    field ← required (codes "field") a_name
-    into ← required (codes "as") a_name
-    ends (Split field into),
-)
-    ∷ (
-      codes "project",
-      do
-        fields ← required (codes "fields") (some_names 1 most_fields)
-        ends (Project fields),
-    )
-    ∷ (
-      codes "filter",
-      do
-        field ← required (codes "field") a_name
-        test ← required (codes "test") (a_word tests)
-        value ← required (codes "value") a_constant
-        ends (Filter field test value),
-    )
-    ∷ (
-      codes "set",
-      do
-        field ← required (codes "field") a_name
-        value ← required (codes "value") a_constant
-        ends (Set field value),
-    )
-    ∷ (
-      codes "len",
-      do
-        field ← required (codes "field") a_name
-        into ← required (codes "as") a_name
-        ends (Len field into),
-    )
-    ∷ (
-      codes "route",
-      do
-        field ← required (codes "field") a_name
-        ends (Route field),
-    )
-    ∷ (
-      codes "flaky",
-      do
-        below ← required (codes "below") (a_number 1 most_below)
-        ends (Flaky below),
-    )
-    ∷ (
-      codes "mute",
-      do
-        below ← required (codes "below") (a_number 1 most_below)
-        ends (Mute below),
-    )
+operations =
+    (codes "split", do field ← a_field; into ← a_new_field; ends (Split field into))
+    ∷ (codes "project", do fields ← some_fields; ends (Project fields))
+    ∷ (codes "filter", a_filter)
+    ∷ (codes "set", do field ← a_field; value ← a_value; ends (Set field value))
+    ∷ (codes "len", do field ← a_field; into ← a_new_field; ends (Len field into))
+    ∷ (codes "route", do field ← a_field; ends (Route field))
+    ∷ (codes "flaky", do below ← a_limit; ends (Flaky below))
+    ∷ (codes "mute", do below ← a_limit; ends (Mute below))
     ∷ (codes "custom", ends Custom)
     ∷ []
 
@@ -197,6 +164,18 @@ a_file = an_object (do
     buckets = buckets;
     attempts = attempts;
   }))
+
+-- a file that says nothing
+abbrev pub blank : FileParts
+blank = record {
+  spout = record { name = []; kind = Transactional; fields = []; batch = 0 };
+  bolts = [];
+  states = [];
+  ackers = 0;
+  pending = 0;
+  buckets = 0;
+  attempts = 0;
+}
 
 -- what a file's value says, or its first fault of form
 abbrev pub file_of : Data → Result FileParts TopoFault

@@ -1,19 +1,8 @@
 -- How large the numbers and the lists are of what a file says, and what its names are, where it has
 -- no fault of form. This project's own.
 use Rattle.std.specs.Prelude.{◌≡◌, ◌≤◌, ℕ, List, length, Option, None, IsSome, All}
-use Rattle.storm_values.specs.Limits.{most_fields, most_batch, most_below, most_tasks, most_bolt_inputs, most_state_inputs, most_bolts, most_states, most_ackers, most_pending, least_buckets, most_buckets, most_attempts}
-use Rattle.topology_plan.specs.declared.parts.Fold.{Fold}
-use Rattle.topology_plan.specs.declared.parts.Fold.TheVariants.{Count, Sum, Last, Max}
-use Rattle.topology_form.specs.declared.parts.GroupingPart.{GroupingPart}
+use Rattle.topology_form.specs.Prelude.{most_fields, most_batch, most_below, most_tasks, most_bolt_inputs, most_state_inputs, most_bolts, most_states, most_ackers, most_pending, least_buckets, most_buckets, most_attempts, FileParts, IsName, Fold, Count, GroupingPart, Input, Operation, Split, Project, Filter, Set, Len, Route, Flaky, Mute, Custom, SpoutPart, BoltPart, StatePart}
 use Rattle.topology_form.specs.declared.parts.GroupingPart.TheVariants as said
-use Rattle.topology_form.specs.declared.parts.Input.{Input}
-use Rattle.topology_form.specs.declared.parts.Operation.{Operation}
-use Rattle.topology_form.specs.declared.parts.Operation.TheVariants.{Split, Project, Filter, Set, Len, Route, Flaky, Mute, Custom}
-use Rattle.topology_form.specs.declared.parts.SpoutPart.{SpoutPart}
-use Rattle.topology_form.specs.declared.parts.BoltPart.{BoltPart}
-use Rattle.topology_form.specs.declared.parts.StatePart.{StatePart}
-use Rattle.topology_form.specs.declared.parts.FileParts.{FileParts}
-use Rattle.topology_plan.specs.Texts.{IsName}
 use Rattle.topology_plan.specs.Valid.{IsBetween}
 use Rattle.topology_plan.specs.Wired.{IsConstant}
 
@@ -38,11 +27,8 @@ IsOperationInRange Custom = Unit {0}
 
 -- the names of a key
 abbrev pub IsGroupingInRange : GroupingPart → Type 0
-IsGroupingInRange said.Shuffle = Unit {0}
 IsGroupingInRange (said.Fields key) = IsBetween (length key) 1 most_fields
-IsGroupingInRange said.All = Unit {0}
-IsGroupingInRange said.Global = Unit {0}
-IsGroupingInRange said.Direct = Unit {0}
+IsGroupingInRange _ = Unit {0}
 
 -- the names of an input's key
 abbrev pub IsInputInRange : Input → Type 0
@@ -59,9 +45,7 @@ pub record IsBoltInRange (bolt : BoltPart) : Type 0 where
 -- a count has no amount, and every other fold has one
 abbrev pub HasAmount : Fold → Option (List ℕ) → Type 0
 HasAmount Count amount = amount ≡ None
-HasAmount Sum amount = IsSome amount
-HasAmount Last amount = IsSome amount
-HasAmount Max amount = IsSome amount
+HasAmount _ amount = IsSome amount
 
 -- a state's name, parts, key, amount and inputs
 pub record IsStateInRange (state : StatePart) : Type 0 where

@@ -5,15 +5,9 @@ use Rattle.std.specs.Borrow.{Bor}
 use Rattle.std.specs.Ordering.{nat_cmp, is_eq}
 use Rattle.std.specs.Cmp.Lexicographic.{slice_cmp}
 use Rattle.std.specs.Str.{bytes_eq}
-use Rattle.serde_json.specs.Data.{Data, Items, no_items, item, Members, no_members, member}
-use Rattle.serde_json.specs.Find.{get_member, as_str, as_number, as_array, as_object, as_i64}
+use Rattle.topology_form.specs.Prelude.{Data, Items, no_items, item, Members, no_members, member, is_name, TopoFault, Missing, WrongKind, UnknownName, OutOfRange, Memory, get_member, as_str, as_number, as_array, as_object, as_i64, items_len, Value}
 use Rattle.storm_values.specs.Json.{value_of}
-use Rattle.serde_json.specs.Events.{items_len}
-use Rattle.storm_values.specs.declared.value.Value.{Value}
 use Rattle.storm_values.specs.declared.value.Value.TheVariants.{Int, Text}
-use Rattle.topology_plan.specs.Texts.{is_name}
-use Rattle.topology_form.specs.declared.fault.TopoFault.{TopoFault}
-use Rattle.topology_form.specs.declared.fault.TopoFault.TheVariants.{Missing, WrongKind, UnknownName, OutOfRange, Memory}
 
 -- ---- what a function gives
 

@@ -1,8 +1,7 @@
 //! What the value of a whole file says.
 
 ghost use Rattle.std.specs.Prelude.{◌≡◌, ◌≢◌, Some, None, IfOk, IfErr};
-ghost use Rattle.serde_json.specs.Data.{Data};
-ghost use Rattle.serde_json.specs.View.{view};
+ghost use Rattle.topology_form.specs.Prelude.{Data, view};
 ghost use Rattle.topology_form.specs.File.{form_fault, parts_said};
 ghost use Rattle.topology_form.specs.Ranges.{IsInRange};
 

@@ -1,14 +1,8 @@
 //! The forms of members: what a value says, if it is of its form. Texts are moved.
 
-ghost use Rattle.std.specs.Prelude.{◌≡◌, ◌≢◌, ℕ, List, pos, length, map, Result, Ok, Err};
-ghost use Rattle.std.specs.Borrow.{Bor};
+ghost use Rattle.std.specs.Prelude.{◌≡◌, ◌≢◌, ℕ, List, pos, Result, Ok, Err};
 ghost use Rattle.std.specs.List.{list_all};
-ghost use Rattle.serde_json.specs.Data.{Data};
-ghost use Rattle.serde_json.specs.Events.{items_len};
-ghost use Rattle.serde_json.specs.View.{view, items_view};
-ghost use Rattle.topology_plan.specs.Texts.{is_name, is_letter, is_name_byte, begins_with_letter};
-ghost use Rattle.topology_form.specs.declared.fault.TopoFault.{TopoFault};
-ghost use Rattle.topology_form.specs.declared.fault.TopoFault.TheVariants.{WrongKind, OutOfRange, Memory};
+ghost use Rattle.topology_form.specs.Prelude.{Data, view, items_view, is_name, is_letter, is_name_byte, begins_with_letter, TopoFault, WrongKind, OutOfRange, Memory, items_len};
 ghost use Rattle.topology_form.specs.Reading.{Gives, a_number, a_text, a_name, a_word, some_names, some_objects, a_constant, each, found_in, within, pairs_of};
 
 use crate::fault::TopoFault;
@@ -24,7 +18,6 @@ pub trait Form: Drop {
         ensures { Gives result (form name.now (view value)) };
 }
 
-/// That a member is not of its form.
 pub(crate) fn wrong_kind(alloc: Global, name: &str) -> TopoFault
     ensures { result ≢ Memory → result ≡ WrongKind name.now }
 {
@@ -34,7 +27,6 @@ pub(crate) fn wrong_kind(alloc: Global, name: &str) -> TopoFault
     }
 }
 
-/// That a number or a length is in its range.
 pub(crate) fn within(
     alloc: Global,
     name: &str,
@@ -153,7 +145,6 @@ fn each<T: Form>(alloc: Global, name: &str, items: Vec<Json>) -> Result<Seq<T>, 
     Ok(read)
 }
 
-/// That there are so many items.
 fn count_within(
     alloc: Global,
     name: &str,
@@ -167,7 +158,6 @@ fn count_within(
     within(alloc, name, items.len() as i64, least, most)
 }
 
-/// What each object of an array says, from `least` to `most` of them.
 pub(crate) fn objects_from<T: Form>(
     alloc: Global,
     name: &str,
@@ -200,7 +190,6 @@ pub(crate) fn constant_from(alloc: Global, name: &str, value: Json) -> Result<Va
     }
 }
 
-/// What stands beside a word in a table.
 pub(crate) fn found_in<T: Copy>(words: &[(&str, T)], word: Txt) -> Result<T, TopoFault>
     ensures { Gives result (found_in (pairs_of words.now) word) }
 {

@@ -1,9 +1,7 @@
 #![tactic(auto, unfolding(crate::specs::Reading::required, crate::specs::Reading::optional))]
 
 ghost use Rattle.std.specs.Prelude.{◌≡◌, ◌≢◌, Some, None, option_map, IfOk, IfErr};
-ghost use Rattle.serde_json.specs.Find.{get_member, as_object};
-ghost use Rattle.serde_json.specs.View.{view, members_view};
-ghost use Rattle.topology_form.specs.declared.fault.TopoFault.TheVariants.{Missing, WrongKind, Memory};
+ghost use Rattle.topology_form.specs.Prelude.{get_member, as_object, view, Missing, WrongKind, Memory};
 ghost use Rattle.topology_form.specs.Left.{left_in};
 ghost use Rattle.topology_form.specs.Reading.{Gives, Takes, without, ends, required, optional, a_number, a_text, a_name, a_word, some_names, some_objects, a_constant, pairs_of};
 

@@ -1,12 +1,12 @@
 -- What components have by what their sources have: no more steps lead further where depths are settled, and what is found on
 -- the way is right.
-use Rattle.std.proofs.Common.{◌≡◌, ℕ, zero, suc, ◌+◌, ◌<◌, ◌≤◌, List, [], ◌∷◌, length, map, set, replicate, min, Option, Some, None, true, is_some, ◌⊎◌, inl, inr, refl, sym, ap, subst, ◌∙◌, arith}
-use Rattle.std.specs.Prelude.{◌≢◌, ◌^◌, unwrap_or, slice_get, slice_index_or}
+use Rattle.std.proofs.Common.{◌≡◌, ℕ, zero, suc, ◌+◌, ◌<◌, ◌≤◌, List, [], ◌∷◌, length, map, set, replicate, min, Option, Some, None, true, is_some, ◌⊎◌, inl, inr, refl, sym, ap, subst, ◌∙◌, arith, ◌≢◌, ◌^◌, unwrap_or, slice_get, slice_index_or}
 use Rattle.std.specs.List.{range_with_len}
 use Rattle.std.proofs.lemmas.Bool.{cases_eq, cases_lt, false≢true}
 use Rattle.std.proofs.lemmas.Grind.{get_or-set_at}
-use Rattle.std.proofs.lemmas.List.{get_or-set_other, length-set}
-use Rattle.std.proofs.lemmas.Option.{get_or_from_slice_get, slice_get_within}
+use Rattle.std.proofs.lemmas.List.{get_or-set_other, length-set, length-replicate}
+use Rattle.std.proofs.lemmas.Simd.{map-map}
+use Rattle.std.proofs.lemmas.Option.{get_or_from_slice_get, slice_get-get_or, slice_get_within}
 use Rattle.topology_plan.specs.declared.parts.Origin.{Origin}
 use Rattle.topology_plan.specs.declared.parts.Origin.TheVariants as origin
 use Rattle.topology_plan.specs.Topology.{greatest, weight_end}
@@ -22,13 +22,9 @@ within_greatest f [] k x is = absurd (cc)
 within_greatest f (y ∷ ys) zero x is = let same : y ≡ x = cc in omega (arith, ap f same)
 within_greatest f (y ∷ ys) (suc k) x is = omega (arith, within_greatest f ys k x is)
 
-greatest_within : {A : Type 0} (f : A → ℕ) (xs : List A) (most : ℕ) → ((x : A) → f x ≤ most) → greatest (map f xs) ≤ most
+pub greatest_within : {A : Type 0} (f : A → ℕ) (xs : List A) (most : ℕ) → ((x : A) → f x ≤ most) → greatest (map f xs) ≤ most
 greatest_within f [] most each = omega arith
 greatest_within f (x ∷ xs) most each = omega (arith, each x, greatest_within f xs most each)
-
-map-map : {A B C : Type 0} (g : B → C) (f : A → B) (xs : List A) → map g (map f xs) ≡ map (λ x. g (f x)) xs
-map-map g f [] = refl
-map-map g f (x ∷ xs) = ap (λ ys. g (f x) ∷ ys) (map-map g f xs)
 
 -- two functions that agree on the source of each of some subscriptions
 map_fed : {V : Type 0} (f g : Origin → V) (feeds : List Feed) → ((k : ℕ) (feed : Feed) → slice_get feeds k ≡ Some feed → f feed.from ≡ g feed.from) → fed f feeds ≡ fed g feeds
@@ -134,14 +130,10 @@ found_set rule graph closed settled old known c value right kept there is = reco
 -- nothing is known at first
 pub nothing_right : {V : Type 0} (rule : Rule V) (graph : List (List Feed)) (known : List (Option V)) → known ≡ replicate (length graph) None → AreRight rule graph known
 nothing_right {V} rule graph known is = record {
-  count = ap length is ∙ length-none (length graph);
+  count = ap length is ∙ length-replicate (length graph) None;
   each = λ c value found. absurd (never (length graph) c value (sym (ap (λ ks. slice_index_or ks c None) is) ∙ found));
 }
   where
-    length-none : (n : ℕ) → length (replicate {A = Option V} n None) ≡ n
-    length-none zero = refl
-    length-none (suc n) = ap suc (length-none n)
-
     never : (n c : ℕ) (value : V) → slice_index_or (replicate {A = Option V} n None) c None ≡ Some value → ⊥
     never zero c value is = cc
     never (suc n) zero value is = cc
@@ -190,16 +182,11 @@ settled_by_rank graph rank small ranked c there =
 
 -- ---- one subscription more
 
-pub get_at : {X : Type 0} (xs : List X) (k : ℕ) (default : X) → k < length xs → slice_get xs k ≡ Some (slice_index_or xs k default)
-get_at [] k default within = absurd (omega arith)
-get_at (x ∷ xs) zero default within = refl
-get_at (x ∷ xs) (suc k) default within = get_at xs k default (omega arith)
-
 pub feeds_are : (graph : List (List Feed)) (c : ℕ) (at items : List Feed) → slice_get graph c ≡ Some at → items ≡ at → items ≡ feeds_at graph c
 feeds_are graph c at items got is = is ∙ sym (get_or_from_slice_get graph c at [] got)
 
 pub next_at : (graph : List (List Feed)) (c k : ℕ) (items : List Feed) (default : Feed) → items ≡ feeds_at graph c → k < length items → slice_get (feeds_at graph c) k ≡ Some (slice_index_or items k default)
-next_at graph c k items default is within = ap (λ fs. slice_get fs k) (sym is) ∙ get_at items k default within
+next_at graph c k items default is within = ap (λ fs. slice_get fs k) (sym is) ∙ slice_get-get_or items k default within
 
 -- all sources so far are known, and the next
 pub known_more : {V : Type 0} (old new : List (Option V)) (items : List Feed) (i : ℕ) (default : Feed) → i < length items
@@ -210,7 +197,7 @@ known_more old new items i default within found kept next k feed below at =
       | inl earlier ↦ kept feed.from (found k feed earlier at)
       | inr last ↦
           let same : k ≡ i = omega arith in
-          let here : Some feed ≡ Some (slice_index_or items i default) = sym at ∙ ap (slice_get items) same ∙ get_at items i default within in
+          let here : Some feed ≡ Some (slice_index_or items i default) = sym at ∙ ap (slice_get items) same ∙ slice_get-get_or items i default within in
           let one : feed ≡ slice_index_or items i default = cc in
           subst (λ (f : Feed). IsKnown new f.from) (sym one) next
     ]

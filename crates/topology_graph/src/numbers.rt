@@ -1,7 +1,6 @@
 //! Depths and weights.
 
-ghost use Rattle.std.specs.Prelude.{◌≡◌, ℕ, ◌+◌, ◌<◌, ◌≤◌, ◌^◌, ◌++◌, List, length, map, unwrap_or, Option, IfOk, OnOk};
-ghost use Rattle.std.specs.List.{range_with_len};
+ghost use Rattle.std.specs.Prelude.{◌≡◌, ℕ, ◌+◌, ◌<◌, ◌^◌, ◌++◌, List, length, unwrap_or, IfOk, OnOk};
 ghost use Rattle.topology_plan.specs.Topology.{greatest, ended_sum};
 ghost use Rattle.topology_graph.specs.declared.values.Feed.{Feed};
 ghost use Rattle.topology_graph.specs.Graph.{IsClosed, IsRanked};
@@ -53,7 +52,6 @@ fn number_at(known: &[Option<u64>], from: Origin, of_spout: u64) -> u64
     }
 }
 
-/// The numbers of all components.
 fn numbers<R: Along<u64>>(alloc: Global, rule: &R, graph: &Graph) -> Result<Vec<u64>, Memory>
     requires small { length graph.now < 2 ^ 32 }
     requires closed { IsClosed graph.now }
@@ -69,6 +67,7 @@ fn numbers<R: Along<u64>>(alloc: Global, rule: &R, graph: &Graph) -> Result<Vec<
 }
 
 /// The most subscriptions between the spout and a component.
+#[tactic(auto, unfolding(crate::specs::Numbers::depth_of))]
 pub fn depth(alloc: Global, graph: &Graph) -> Result<u64, Memory>
     requires small { length graph.now < 2 ^ 32 }
     requires closed { IsClosed graph.now }
@@ -90,6 +89,7 @@ fn greatest(numbers: &[u64]) -> u64
 }
 
 /// How many tuples one tuple of the spout can make at most, or 2^64 - 1 where there are more.
+#[tactic(auto, unfolding(crate::specs::Numbers::weight_of))]
 pub fn weight(alloc: Global, graph: &Graph) -> Result<u64, Memory>
     requires small { length graph.now < 2 ^ 32 }
     requires closed { IsClosed graph.now }
@@ -126,7 +126,6 @@ pub fn by_depth(alloc: Global, graph: &Graph) -> Result<Vec<usize>, Memory>
     Ok(order)
 }
 
-/// Adds the components of a depth.
 fn add_depth(order: &mut Vec<usize>, depths: &[u64], depth: u64) -> Result<(), Memory>
     ensures { OnOk result (order.new.items ≡ order.old.items ++ at_depth depths.now depth) }
 {

@@ -1,8 +1,7 @@
 //! What each component has by what its sources have.
 
-ghost use Rattle.std.specs.Prelude.{◌≡◌, ℕ, ◌<◌, ◌^◌, length, map, Some, IfOk, OnOk};
+ghost use Rattle.std.specs.Prelude.{◌≡◌, ◌<◌, ◌^◌, length, map, Some, IfOk, OnOk, replicate, None};
 ghost use Rattle.std.specs.List.{range_with_len};
-ghost use Rattle.std.specs.Prelude.{replicate, None};
 ghost use Rattle.topology_plan.specs.declared.parts.Origin.TheVariants as origin;
 ghost use Rattle.topology_graph.specs.Graph.{Rule, value_of, IsThere, IsClosed};
 ghost use Rattle.topology_graph.specs.Numbers.{IsSettled};

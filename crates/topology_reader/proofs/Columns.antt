@@ -1,92 +1,20 @@
 -- The fields of the sources where a file has no fault: each source has one to eight fields, none twice, that its operation makes of the fields of its sources.
-use Rattle.std.specs.Prelude.{◌≡◌, ℕ, zero, suc, ◌+◌, ◌-◌, ◌<◌, ◌≤◌, ◌==◌, pos, List, [], ◌∷◌, ◌++◌, length, map, filter, All, Bool, true, false, not, cond, Option, Some, None, option_map, option_and_then, slice_get, is_none, option_to_list, codes}
-use Rattle.std.specs.List.{count_by, range_with_len, list_any, find}
-use Rattle.std.specs.Option.{option_map_or}
-use Rattle.std.specs.Str.{bytes_eq}
-use Rattle.std.specs.Cmp.Lexicographic.{pointwise, pointwise_decides}
-use Rattle.std.proofs.Common.{inl, inr, refl, sym, ◌∙◌, ap, subst, arith}
-use Rattle.std.proofs.lemmas.Bool.{true≢false, cases_Bool, cases_eq, cond-true, cond-false, both_ways, eq-eqb, not-false}
-use Rattle.std.proofs.lemmas.List.{length-append, length-map}
-use Rattle.std.proofs.lemmas.List.Elements.{All-nil, All-cons, All-append}
-use Rattle.std.proofs.lemmas.List.FromFn.{length-range_with_len}
-use Rattle.std.proofs.lemmas.List.Sums.{sum_by-cons, count_by-le-length}
-use Rattle.std.proofs.lemmas.Option.{none-some, get_or_from_slice_get, slice_get_within, slice_get_past}
-use Rattle.topology_plan.specs.declared.parts.Origin.{Origin}
+use Rattle.std.proofs.Common.{◌≡◌, ℕ, zero, suc, ◌+◌, ◌<◌, ◌≤◌, ◌==◌, pos, List, [], ◌∷◌, ◌++◌, length, map, filter, All, false, not, Option, Some, None, option_map, option_and_then, slice_get, is_none, option_to_list, codes, inl, inr, refl, sym, ◌∙◌, ap, subst, arith}
+use Rattle.topology_reader.proofs.Common.{range_with_len, list_any, bytes_eq, Origin, Twice, NoSource, NoField, FieldsDiffer, Input, Operation, Split, Project, Filter, Set, Len, Route, Flaky, Mute, Custom, BoltPart, StatePart, FileParts, first_some, IsBetween, IsInRange, IsOperationInRange, IsBoltInRange, IsStateInRange, feeds_at, value_in, value_of, Feed, pointwise, pointwise_decides, true≢false, cases_Bool, cond-true, cond-false, both_ways, eq-eqb, not-false, length-map, All-nil, All-cons, All-append, none-some, get_or_from_slice_get, slice_get_past, depth_at, by_depth, depth_rule, depth_at_within, is_among, range_fault, first_again, again_fault, key_of, projected, bolt_twice, state_twice, twice_fault, nameless_fault, source_fault, cycle_fault, differ_fault, field_fault, direct_fault, input_fault, fields_read, reads_at, added_fault, bolt_fault, state_fault, component_fault, fields_fault, component_names, name_at, source_of, state_inputs, inputs_by_component, inputs_at, sources_at, fields_after, fields_of, fields_to, operation_at, graph_of, IsSource}
+use Rattle.std.specs.List.{find}
+use Rattle.std.proofs.lemmas.List.{length-append}
 use Rattle.topology_plan.specs.declared.parts.Origin.TheVariants as origin
-use Rattle.topology_form.specs.declared.fault.TopoFault.{TopoFault}
-use Rattle.topology_form.specs.declared.fault.TopoFault.TheVariants.{Twice, NoSource, NoField, FieldsDiffer}
 use Rattle.topology_form.specs.declared.parts.GroupingPart.TheVariants as said
-use Rattle.topology_form.specs.declared.parts.Input.{Input}
-use Rattle.topology_form.specs.declared.parts.Operation.{Operation}
-use Rattle.topology_form.specs.declared.parts.Operation.TheVariants.{Split, Project, Filter, Set, Len, Route, Flaky, Mute, Custom}
-use Rattle.topology_form.specs.declared.parts.BoltPart.{BoltPart}
-use Rattle.topology_form.specs.declared.parts.StatePart.{StatePart}
-use Rattle.topology_form.specs.declared.parts.FileParts.{FileParts}
-use Rattle.storm_values.specs.Lines.{first_some}
-use Rattle.topology_reader.specs.Meant.{is_among, range_fault}
-use Rattle.topology_plan.specs.Topology.{greatest}
 use Rattle.topology_plan.specs.Texts.{IsName}
-use Rattle.topology_plan.specs.Valid.{IsBetween}
-use Rattle.topology_reader.specs.Wiring.{bolt_names, component_names, component_count, name_at, source_of, state_inputs, inputs_by_component, inputs_at, sources_at, is_component, feeds, reaches, depth_in, depth_at, by_depth, fields_after, first_fields, fields_in, fields_of, fields_to, operation_at}
-use Rattle.topology_reader.specs.Meant.{first_again, again_fault, key_of, projected, bolt_twice, state_twice, twice_fault, nameless_fault, source_fault, cycle_fault, differ_fault, field_fault, direct_fault, input_fault, fields_read, reads_at, added_fault, bolt_fault, state_fault, component_fault, fields_fault}
-use Rattle.topology_form.specs.Ranges.{IsOperationInRange, IsBoltInRange, IsStateInRange, IsInRange}
-use Rattle.topology_reader.proofs.Ranks.{rank, rank_grows, no_cycle}
-use Rattle.topology_reader.proofs.Listed.{IsIn, All-at_in, to_map, in_map, in_append, to_flat_map, to_filter, in_filter_map, to_filter_map, in_place, to_range, to_any, none_mapped, none_found, none_of_some}
+use Rattle.topology_reader.proofs.Ranks.{rank, rank_grows}
+use Rattle.topology_reader.proofs.Listed.{IsIn, All-at_in, to_map, in_map, in_append, to_flat_map, to_filter, in_place, to_range, to_any, none_mapped, none_found, AreNone, none_each_map, none_each}
 use Rattle.topology_reader.proofs.Distinct.{bytes_same, bytes_itself, among_in, AreApart, apart_push, not_among, apart_from_again}
-use Rattle.topology_reader.proofs.Numbered.{IsBoltAt, IsStateAt, some_there, cases_component, inputs_at_bolt, inputs_at_state, reads_at_bolt, reads_at_state}
-use Rattle.topology_reader.proofs.ValidPlan.{HasNoFault, between_from_range, source_within}
+use Rattle.topology_reader.proofs.Numbered.{IsBoltAt, IsStateAt, some_there, cases_component, inputs_at_bolt, inputs_at_state, reads_at_bolt, reads_at_state, at_bolt, at_state}
+use Rattle.topology_reader.proofs.ValidPlan.{HasNoFault, between_from_range}
+use Rattle.topology_reader.proofs.SourceLemmas.{feeds_from_source, froms_at, in_inputs_at, length_graph, source_there, to_sources, of_each_input, length_inputs, of_inputs}
+use Rattle.topology_reader.proofs.GraphLemmas.{fields_of_bolt, fields_of_spout, first_fed}
 
-pub length_names : (p : FileParts) → component_count p ≡ length p.bolts + length p.states
-length_names p =
-    omega
-    (arith, length-append (bolt_names p) (map (λ (state : StatePart). state.name) p.states), length-map p.bolts (λ (bolt : BoltPart). bolt.name), length-map p.states (λ (state : StatePart). state.name))
-
--- ---- sources
-
-pub in_sources : (p : FileParts) (c : ℕ) (from : Origin) → IsIn from (sources_at p c) → (input : Input) × IsIn input (inputs_at p c) × (source_of p input.from ≡ Some from)
-in_sources p c from at = in_filter_map (λ (input : Input). source_of p input.from) (inputs_at p c) from at
-
-pub to_sources : (p : FileParts) (c : ℕ) (input : Input) (from : Origin) → IsIn input (inputs_at p c) → source_of p input.from ≡ Some from → IsIn from (sources_at p c)
-to_sources p c input from at is = to_filter_map (λ (input : Input). source_of p input.from) (inputs_at p c) input from at is
-
-pub bolt_source : (p : FileParts) (c b : ℕ) → IsIn (origin.Component b) (sources_at p c) → b < length p.bolts
-bolt_source p c b at = let input = in_sources p c (origin.Component b) at in source_within p input.0.from b input.2
-
-pub feeds_from_source : (p : FileParts) (c b : ℕ) → IsIn (origin.Component b) (sources_at p c) → feeds p b c ≡ true
-feeds_from_source p c b at = to_any (is_component b) (sources_at p c) (origin.Component b) at (eq-eqb b b refl)
-
-first_of : (f : Origin → List (List ℕ)) (sources : List Origin) (from : Origin) → IsIn from sources → (first : Origin) × IsIn first sources × (first_fields f sources ≡ f first)
-first_of f [] from at = elim at [ ]
-first_of f (first ∷ sources) from at = (first, inl refl, refl)
-
-first_same : (f g : Origin → List (List ℕ)) (sources : List Origin) → ((from : Origin) → IsIn from sources → f from ≡ g from) → first_fields f sources ≡ first_fields g sources
-first_same f g [] same = refl
-first_same f g (first ∷ sources) same = same first (inl refl)
-
--- ---- the fields hang on no bound
-
-count_below : (f : ℕ → Bool) (first n c : ℕ) → first ≤ c → c < first + n → f c ≡ false → count_by f (range_with_len first n) < n
-count_below f first zero c from to fails = absurd (omega arith)
-count_below f first (suc n) c from to fails =
-    rw (sum_by-cons (λ a. cond (f a) 1 0) first (range_with_len (first + 1) n))
-    (elim (cases_eq first c) [
-      | inl same ↦
-          let here : ◌≡◌ {A = ℕ} (cond (f first) 1 0) 0 = cond-false (f first) 1 0 (ap f same ∙ fails) in
-          let rest : count_by f (range_with_len (first + 1) n) ≤ n = omega (arith, count_by-le-length f (range_with_len (first + 1) n), length-range_with_len (first + 1) n) in
-          omega arith
-      | inr other ↦
-          let here : cond (f first) 1 0 ≤ 1 = at_most_one (f first) in
-          let rest : count_by f (range_with_len (first + 1) n) < n = count_below f (first + 1) n c (omega arith) (omega arith) fails in
-          omega arith
-    ])
-  where
-    at_most_one : (b : Bool) → cond b 1 0 ≤ 1
-    at_most_one true = omega arith
-    at_most_one false = omega arith
-
-pub rank_of_bolt : (p : FileParts) (c : ℕ) → cycle_fault p ≡ None → c < length p.bolts → rank p c < length p.bolts
-unfolding rank
-rank_of_bolt p c none within = count_below (λ a. reaches p a c) 0 (length p.bolts) c (omega arith) (omega arith) (no_cycle p c none within)
+-- ---- the bolts before a component
 
 abbrev pub IsRankBelow : FileParts → ℕ → Origin → Type 0
 IsRankBelow p n origin.Spout = Unit {0}
@@ -94,31 +22,7 @@ IsRankBelow p n (origin.Component c) = rank p c < n
 
 source_below : (p : FileParts) (n c : ℕ) (from : Origin) → cycle_fault p ≡ None → IsIn from (sources_at p c) → rank p c < suc n → IsRankBelow p n from
 source_below p n c origin.Spout none at below = tt
-source_below p n c (origin.Component b) none at below = omega (arith, rank_grows p b c none (bolt_source p c b at) (feeds_from_source p c b at))
-
-pub fields_stable : (p : FileParts) (n m : ℕ) (from : Origin) → cycle_fault p ≡ None → IsRankBelow p n from → IsRankBelow p m from → fields_in n p from ≡ fields_in m p from
-fields_stable p n m origin.Spout none below under = refl
-fields_stable p zero m (origin.Component c) none below under = absurd (omega arith)
-fields_stable p (suc n) zero (origin.Component c) none below under = absurd (omega arith)
-fields_stable p (suc n) (suc m) (origin.Component c) none below under =
-    ap (λ fields. option_map_or (λ (bolt : BoltPart). fields_after bolt.operation fields) (slice_get p.bolts c) [])
-    (first_same (fields_in n p) (fields_in m p) (sources_at p c)
-    (λ from at. fields_stable p n m from none (source_below p n c from none at below) (source_below p m c from none at under)))
-
-pub fields_of_spout : (p : FileParts) → fields_of p origin.Spout ≡ p.spout.fields
-unfolding fields_of
-fields_of_spout p = refl
-
-fields_once_more : (p : FileParts) (c : ℕ) (bolt : BoltPart) → IsBoltAt p c bolt → fields_in (suc (length p.bolts)) p (origin.Component c) ≡ fields_after bolt.operation (fields_to p c)
-unfolding fields_of
-fields_once_more p c bolt is = ap (λ there. option_map_or (λ (b : BoltPart). fields_after b.operation (fields_to p c)) there []) is
-
--- a bolt's fields are what its operation leaves of those that come to it
-pub fields_of_bolt : (p : FileParts) (c : ℕ) (bolt : BoltPart) → cycle_fault p ≡ None → IsBoltAt p c bolt → fields_of p (origin.Component c) ≡ fields_after bolt.operation (fields_to p c)
-unfolding fields_of
-fields_of_bolt p c bolt none is =
-    let within : rank p c < length p.bolts = rank_of_bolt p c none (slice_get_within p.bolts c bolt is) in
-    fields_stable p (length p.bolts) (suc (length p.bolts)) (origin.Component c) none within (omega arith) ∙ fields_once_more p c bolt is
+source_below p n c (origin.Component b) none at below = omega (arith, rank_grows p b c none (source_there p c (origin.Component b) at) (feeds_from_source p c b at))
 
 -- ---- the faults of one component
 
@@ -129,19 +33,18 @@ pub record HasNoFaultAt (p : FileParts) (c : ℕ) : Type 0 where
   pub reads : (name : List ℕ) → IsIn name (reads_at p c) → IsIn name (fields_to p c)
   pub added : option_and_then (added_fault (fields_to p c)) (operation_at p (origin.Component c)) ≡ None
 
-names_same : (xs ys : List (List ℕ)) → pointwise bytes_eq xs ys ≡ true → xs ≡ ys
-names_same xs ys same = (pointwise_decides (λ a b. (bytes_same a b, bytes_itself a b)) xs ys).0 same
-
 same_from_none : (p : FileParts) (c : ℕ) → differ_fault p c ≡ None → (from : Origin) → IsIn from (sources_at p c) → fields_of p from ≡ fields_to p c
 same_from_none p c none from at =
-    let differs = λ (other : Origin). not (pointwise bytes_eq (fields_of p other) (fields_to p c)) in
-    elim (cases_Bool (list_any differs (sources_at p c))) [
-      | inl some ↦ absurd (none-some (FieldsDiffer (name_at p c)) (sym none ∙ cond-true (list_any differs (sources_at p c)) (Some (FieldsDiffer (name_at p c))) None some))
+    let differs = λ (feed : Feed). not (pointwise bytes_eq (fields_of p feed.from) (fields_to p c)) in
+    let feed = in_map (λ (feed : Feed). feed.from) (feeds_at (graph_of p) c) from (subst (IsIn from) (sym (froms_at p c)) at) in
+    elim (cases_Bool (list_any differs (feeds_at (graph_of p) c))) [
+      | inl some ↦ absurd (none-some (FieldsDiffer (name_at p c)) (sym none ∙ cond-true (list_any differs (feeds_at (graph_of p) c)) (Some (FieldsDiffer (name_at p c))) None some))
       | inr never ↦
-          names_same (fields_of p from) (fields_to p c)
-          (elim (cases_Bool (pointwise bytes_eq (fields_of p from) (fields_to p c))) [
+          ap (fields_of p) (sym feed.2)
+          ∙ (pointwise_decides (λ a b. (bytes_same a b, bytes_itself a b)) (fields_of p feed.0.from) (fields_to p c)).0
+          (elim (cases_Bool (pointwise bytes_eq (fields_of p feed.0.from) (fields_to p c))) [
             | inl same ↦ same
-            | inr other ↦ absurd (both_ways (list_any differs (sources_at p c)) never (to_any differs (sources_at p c) from at (ap not other)))
+            | inr other ↦ absurd (both_ways (list_any differs (feeds_at (graph_of p) c)) never (to_any differs (feeds_at (graph_of p) c) feed.0 feed.1 (ap not other)))
           ])
     ]
 
@@ -153,46 +56,39 @@ there_from_none p c names none name at =
 
 -- the fault of a component is that of its bolt, or of its state
 pub fault_of_bolt : (p : FileParts) (c : ℕ) (bolt : BoltPart) → IsBoltAt p c bolt → component_fault p c ≡ bolt_fault p c bolt
-fault_of_bolt p c bolt is = ap (λ there. option_map_or (bolt_fault p c) there (option_and_then (state_fault p c) (slice_get p.states (c - length p.bolts)))) is
+fault_of_bolt p c = at_bolt (bolt_fault p c) (state_fault p c) None p c
 
 pub fault_of_state : (p : FileParts) (c : ℕ) (state : StatePart) → IsStateAt p c state → component_fault p c ≡ state_fault p c state
-fault_of_state p c state at =
-    let place : c - length p.bolts ≡ at.place = omega (arith, at.number) in
-    ap (λ there. option_map_or (bolt_fault p c) there (option_and_then (state_fault p c) (slice_get p.states (c - length p.bolts)))) (slice_get_past p.bolts c (omega (arith, at.number)))
-    ∙ ap (option_and_then (state_fault p c)) (ap (slice_get p.states) place ∙ at.is)
+fault_of_state p c = at_state (bolt_fault p c) (state_fault p c) None p c
 
 bolt_no_fault : (p : FileParts) (c : ℕ) (bolt : BoltPart) → IsBoltAt p c bolt → bolt_fault p c bolt ≡ None → HasNoFaultAt p c
 bolt_no_fault p c bolt is none =
     let inputs : inputs_at p c ≡ bolt.inputs = get_or_from_slice_get (inputs_by_component p) c bolt.inputs [] (inputs_at_bolt p c bolt is) in
-    let each = none_of_some (differ_fault p c ∷ first_some (map (input_fault p c) bolt.inputs) ∷ field_fault p c (fields_read bolt.operation) ∷ added_fault (fields_to p c) bolt.operation ∷ []) none in
+    let each = none_each (differ_fault p c ∷ first_some (map (input_fault p c) bolt.inputs) ∷ field_fault p c (fields_read bolt.operation) ∷ added_fault (fields_to p c) bolt.operation ∷ []) none in
     let input = λ (input : Input) (at : IsIn input (inputs_at p c)).
-    none_of_some (field_fault p c (key_of input.grouping) ∷ direct_fault p input input.grouping ∷ [])
-    (none_of_some (map (input_fault p c) bolt.inputs) (each (first_some (map (input_fault p c) bolt.inputs)) (inr (inl refl))) (input_fault p c input) (to_map (input_fault p c) bolt.inputs input (subst (IsIn input) inputs at)))
+    none_each (field_fault p c (key_of input.grouping) ∷ direct_fault p input input.grouping ∷ []) (none_each_map (input_fault p c) bolt.inputs each.1.0 input (subst (IsIn input) inputs at))
     in
     record {
-      same = same_from_none p c (each (differ_fault p c) (inl refl));
-      keys = λ i at. there_from_none p c (key_of i.grouping) (input i at (field_fault p c (key_of i.grouping)) (inl refl));
-      direct = λ i at. input i at (direct_fault p i i.grouping) (inr (inl refl));
-      reads = λ name at. there_from_none p c (fields_read bolt.operation) (each (field_fault p c (fields_read bolt.operation)) (inr (inr (inl refl)))) name (subst (IsIn name) (reads_at_bolt p c bolt is) at);
-      added =
-          ap (λ there. option_and_then (added_fault (fields_to p c)) (option_map (λ (b : BoltPart). b.operation) there)) is
-          ∙ each (added_fault (fields_to p c) bolt.operation) (inr (inr (inr (inl refl))));
+      same = same_from_none p c each.0;
+      keys = λ i at. there_from_none p c (key_of i.grouping) (input i at).0;
+      direct = λ i at. (input i at).1.0;
+      reads = λ name at. there_from_none p c (fields_read bolt.operation) each.1.1.0 name (subst (IsIn name) (reads_at_bolt p c bolt is) at);
+      added = ap (λ there. option_and_then (added_fault (fields_to p c)) (option_map (λ (b : BoltPart). b.operation) there)) is ∙ each.1.1.1.0;
     }
 
 state_no_fault : (p : FileParts) (c : ℕ) (state : StatePart) → IsStateAt p c state → state_fault p c state ≡ None → HasNoFaultAt p c
 state_no_fault p c state there none =
-    let amounts : List (List ℕ) = option_to_list state.amount in
     let inputs : inputs_at p c ≡ state_inputs state = get_or_from_slice_get (inputs_by_component p) c (state_inputs state) [] (inputs_at_state p c state there) in
-    let each = none_of_some (differ_fault p c ∷ field_fault p c state.key ∷ field_fault p c (option_to_list state.amount) ∷ []) none in
+    let each = none_each (differ_fault p c ∷ field_fault p c state.key ∷ field_fault p c (option_to_list state.amount) ∷ []) none in
     let made = λ (input : Input) (at : IsIn input (inputs_at p c)). in_map (λ from. record { from = from; grouping = said.Fields state.key }) state.inputs input (subst (IsIn input) inputs at) in
-    let keys = there_from_none p c state.key (each (field_fault p c state.key) (inr (inl refl))) in
+    let keys = there_from_none p c state.key each.1.0 in
     record {
-      same = same_from_none p c (each (differ_fault p c) (inl refl));
+      same = same_from_none p c each.0;
       keys = λ i at name named. keys name (subst (λ (input : Input). IsIn name (key_of input.grouping)) (sym (made i at).2) named);
       direct = λ i at. subst (λ (input : Input). direct_fault p input input.grouping ≡ None) (made i at).2 refl;
       reads = λ name at. elim (in_append state.key (option_to_list state.amount) name (subst (IsIn name) (reads_at_state p c state there) at)) [
         | inl key ↦ keys name key
-        | inr amount ↦ there_from_none p c (option_to_list state.amount) (each (field_fault p c (option_to_list state.amount)) (inr (inr (inl refl)))) name amount
+        | inr amount ↦ there_from_none p c (option_to_list state.amount) each.1.1.0 name amount
       ];
       added = ap (λ there. option_and_then (added_fault (fields_to p c)) (option_map (λ (b : BoltPart). b.operation) there)) (slice_get_past p.bolts c (omega (arith, there.number)));
     }
@@ -204,37 +100,23 @@ no_fault_from_none p c within none =
       | inr state ↦ state_no_fault p c state.0 state.1 (sym (fault_of_state p c state.0 state.1) ∙ none)
     ]
 
--- ---- depths
+-- ---- components by depth
 
-pub greatest_le : (most : ℕ) (ns : List ℕ) → ((n : ℕ) → IsIn n ns → n ≤ most) → greatest ns ≤ most
-greatest_le most [] each = omega arith
-greatest_le most (n ∷ ns) each = omega (arith, each n (inl refl), greatest_le most ns (λ m at. each m (inr at)))
-
-pub depth_in_le : (n : ℕ) (p : FileParts) (from : Origin) → depth_in n p from ≤ n
-depth_in_le n p origin.Spout = omega arith
-depth_in_le zero p (origin.Component c) = omega arith
-depth_in_le (suc n) p (origin.Component c) =
-    omega (
-      arith,
-      greatest_le n (map (depth_in n p) (sources_at p c))
-          (λ m at. let found = in_map (depth_in n p) (sources_at p c) m at in rw (← found.2) (depth_in_le n p found.0)),
-    )
-
-some_depth : (n : ℕ) (p : FileParts) (c : ℕ) → 0 < n → 1 ≤ depth_in n p (origin.Component c)
-some_depth zero p c above = absurd (omega arith)
-some_depth (suc n) p c above = omega arith
+some_depth : (n : ℕ) (graph : List (List Feed)) (c : ℕ) → 0 < n → 1 ≤ value_in n depth_rule graph (origin.Component c)
+some_depth zero graph c above = absurd (omega arith)
+some_depth (suc n) graph c above = omega arith
 
 -- every component is among those by depth
-in_by_depth : (p : FileParts) (c : ℕ) → c < component_count p → IsIn c (by_depth p)
-unfolding depth_at
-in_by_depth p c within =
-    to_flat_map (λ depth. filter (λ d. depth_at p d == depth) (range_with_len 0 (component_count p))) (range_with_len 1 (component_count p)) (depth_at p c) c
-    (to_range 1 (component_count p) (depth_at p c) (some_depth (component_count p) p c (omega arith)) (omega (arith, depth_in_le (component_count p) p (origin.Component c))))
-    (to_filter (λ d. depth_at p d == depth_at p c) (range_with_len 0 (component_count p)) c (to_range 0 (component_count p) c (omega arith) (omega arith)) (eq-eqb (depth_at p c) (depth_at p c) refl))
+in_by_depth : (graph : List (List Feed)) (c : ℕ) → c < length graph → IsIn c (by_depth graph)
+unfolding by_depth depth_at value_of
+in_by_depth graph c within =
+    to_flat_map (λ n. filter (λ d. depth_at graph (origin.Component d) == n) (range_with_len 0 (length graph))) (range_with_len 1 (length graph)) (depth_at graph (origin.Component c)) c
+    (to_range 1 (length graph) (depth_at graph (origin.Component c)) (some_depth (length graph) graph c (omega arith)) (omega (arith, depth_at_within graph (origin.Component c))))
+    (to_filter (λ d. depth_at graph (origin.Component d) == depth_at graph (origin.Component c)) (range_with_len 0 (length graph)) c (to_range 0 (length graph) c (omega arith) (omega arith)) (eq-eqb (depth_at graph (origin.Component c)) (depth_at graph (origin.Component c)) refl))
 
-pub no_fault_at : (p : FileParts) (c : ℕ) → fields_fault p ≡ None → c < component_count p → HasNoFaultAt p c
+pub no_fault_at : (p : FileParts) (c : ℕ) → fields_fault p ≡ None → c < length p.bolts + length p.states → HasNoFaultAt p c
 no_fault_at p c none within =
-    no_fault_from_none p c (omega (arith, length_names p)) (none_of_some (map (component_fault p) (by_depth p)) none (component_fault p c) (to_map (component_fault p) (by_depth p) c (in_by_depth p c within)))
+    no_fault_from_none p c within (none_each_map (component_fault p) (by_depth (graph_of p)) none c (in_by_depth (graph_of p) c (omega (arith, length_graph p))))
 
 -- ---- names that stand once
 
@@ -242,40 +124,37 @@ apart_from_none : (names : List (List ℕ)) → again_fault names ≡ None → A
 apart_from_none names none = apart_from_again names (none_mapped Twice (first_again [] names) none)
 
 module _ (p : FileParts) (none : twice_fault p ≡ None) where
-  none_twice : (fault : Option TopoFault) → IsIn fault (again_fault (p.spout.name ∷ component_names p) ∷ again_fault p.spout.fields ∷ first_some (map bolt_twice p.bolts) ∷ first_some (map state_twice p.states) ∷ []) → fault ≡ None
-  none_twice = none_of_some (again_fault (p.spout.name ∷ component_names p) ∷ again_fault p.spout.fields ∷ first_some (map bolt_twice p.bolts) ∷ first_some (map state_twice p.states) ∷ []) none
+  none_twice : AreNone (again_fault (p.spout.name ∷ component_names p) ∷ again_fault p.spout.fields ∷ first_some (map bolt_twice p.bolts) ∷ first_some (map state_twice p.states) ∷ [])
+  none_twice = none_each (again_fault (p.spout.name ∷ component_names p) ∷ again_fault p.spout.fields ∷ first_some (map bolt_twice p.bolts) ∷ first_some (map state_twice p.states) ∷ []) none
 
   pub names_once : AreApart (p.spout.name ∷ component_names p)
-  names_once = apart_from_none (p.spout.name ∷ component_names p) (none_twice (again_fault (p.spout.name ∷ component_names p)) (inl refl))
+  names_once = apart_from_none (p.spout.name ∷ component_names p) none_twice.0
 
   pub spout_once : AreApart p.spout.fields
-  spout_once = apart_from_none p.spout.fields (none_twice (again_fault p.spout.fields) (inr (inl refl)))
+  spout_once = apart_from_none p.spout.fields none_twice.1.0
 
-  none_in_bolt : (bolt : BoltPart) → IsIn bolt p.bolts → (fault : Option TopoFault) → IsIn fault (again_fault (map (λ (input : Input). input.from) bolt.inputs) ∷ first_some (map (λ (input : Input). again_fault (key_of input.grouping)) bolt.inputs) ∷ again_fault (projected bolt.operation) ∷ []) → fault ≡ None
+  none_in_bolt : (bolt : BoltPart) → IsIn bolt p.bolts → AreNone (again_fault (map (λ (input : Input). input.from) bolt.inputs) ∷ first_some (map (λ (input : Input). again_fault (key_of input.grouping)) bolt.inputs) ∷ again_fault (projected bolt.operation) ∷ [])
   none_in_bolt bolt at =
-      none_of_some (again_fault (map (λ (input : Input). input.from) bolt.inputs) ∷ first_some (map (λ (input : Input). again_fault (key_of input.grouping)) bolt.inputs) ∷ again_fault (projected bolt.operation) ∷ [])
-      (none_of_some (map bolt_twice p.bolts) (none_twice (first_some (map bolt_twice p.bolts)) (inr (inr (inl refl)))) (bolt_twice bolt) (to_map bolt_twice p.bolts bolt at))
+      none_each (again_fault (map (λ (input : Input). input.from) bolt.inputs) ∷ first_some (map (λ (input : Input). again_fault (key_of input.grouping)) bolt.inputs) ∷ again_fault (projected bolt.operation) ∷ [])
+      (none_each_map bolt_twice p.bolts none_twice.1.1.0 bolt at)
 
   pub froms_once : (bolt : BoltPart) → IsIn bolt p.bolts → AreApart (map (λ (input : Input). input.from) bolt.inputs)
-  froms_once bolt at = apart_from_none (map (λ (input : Input). input.from) bolt.inputs) (none_in_bolt bolt at (again_fault (map (λ (input : Input). input.from) bolt.inputs)) (inl refl))
+  froms_once bolt at = apart_from_none (map (λ (input : Input). input.from) bolt.inputs) (none_in_bolt bolt at).0
 
   pub key_once : (bolt : BoltPart) → IsIn bolt p.bolts → (input : Input) → IsIn input bolt.inputs → AreApart (key_of input.grouping)
-  key_once bolt at input listed =
-      apart_from_none (key_of input.grouping) (none_of_some (map (λ (i : Input). again_fault (key_of i.grouping)) bolt.inputs) (none_in_bolt bolt at (first_some (map (λ (i : Input). again_fault (key_of i.grouping)) bolt.inputs)) (inr (inl refl))) (again_fault (key_of input.grouping)) (to_map (λ (i : Input). again_fault (key_of i.grouping)) bolt.inputs input listed))
+  key_once bolt at input listed = apart_from_none (key_of input.grouping) (none_each_map (λ (i : Input). again_fault (key_of i.grouping)) bolt.inputs (none_in_bolt bolt at).1.0 input listed)
 
   pub projected_once : (bolt : BoltPart) → IsIn bolt p.bolts → AreApart (projected bolt.operation)
-  projected_once bolt at = apart_from_none (projected bolt.operation) (none_in_bolt bolt at (again_fault (projected bolt.operation)) (inr (inr (inl refl))))
+  projected_once bolt at = apart_from_none (projected bolt.operation) (none_in_bolt bolt at).1.1.0
 
-  none_in_state : (state : StatePart) → IsIn state p.states → (fault : Option TopoFault) → IsIn fault (again_fault state.key ∷ again_fault state.inputs ∷ []) → fault ≡ None
-  none_in_state state at =
-      none_of_some (again_fault state.key ∷ again_fault state.inputs ∷ [])
-      (none_of_some (map state_twice p.states) (none_twice (first_some (map state_twice p.states)) (inr (inr (inr (inl refl))))) (state_twice state) (to_map state_twice p.states state at))
+  none_in_state : (state : StatePart) → IsIn state p.states → AreNone (again_fault state.key ∷ again_fault state.inputs ∷ [])
+  none_in_state state at = none_each (again_fault state.key ∷ again_fault state.inputs ∷ []) (none_each_map state_twice p.states none_twice.1.1.1.0 state at)
 
   pub state_key_once : (state : StatePart) → IsIn state p.states → AreApart state.key
-  state_key_once state at = apart_from_none state.key (none_in_state state at (again_fault state.key) (inl refl))
+  state_key_once state at = apart_from_none state.key (none_in_state state at).0
 
   pub state_froms_once : (state : StatePart) → IsIn state p.states → AreApart state.inputs
-  state_froms_once state at = apart_from_none state.inputs (none_in_state state at (again_fault state.inputs) (inr (inl refl)))
+  state_froms_once state at = apart_from_none state.inputs (none_in_state state at).1.0
 
 -- ---- one to eight names of fields, none twice
 
@@ -311,7 +190,7 @@ fields_kept Custom fields range apart none were = were
 
 -- ---- a source for each component
 
-some_in : {X : Type 0} (xs : List X) → 1 ≤ length xs → (x : X) × IsIn x xs
+pub some_in : {X : Type 0} (xs : List X) → 1 ≤ length xs → (x : X) × IsIn x xs
 some_in [] some = absurd (omega arith)
 some_in (x ∷ xs) some = (x, inl refl)
 
@@ -321,14 +200,15 @@ some_value (Some x) none = (x, refl)
 
 pub some_inputs : (p : FileParts) (c : ℕ) → IsInRange p → c < length p.bolts + length p.states → (inputs : List Input) × (slice_get (inputs_by_component p) c ≡ Some inputs) × (1 ≤ length inputs)
 some_inputs p c range within =
-    elim (cases_component p c within) [
-      | inl bolt ↦
-          let limits : IsBoltInRange bolt.0 = All-at_in IsBoltInRange p.bolts range.each_bolt bolt.0 (in_place p.bolts c bolt.0 bolt.1) in
-          (bolt.0.inputs, inputs_at_bolt p c bolt.0 bolt.1, limits.inputs.0)
-      | inr state ↦
-          let limits : IsStateInRange state.0 = All-at_in IsStateInRange p.states range.each_state state.0 (in_place p.states state.1.place state.0 state.1.is) in
-          (state_inputs state.0, inputs_at_state p c state.0 state.1, omega (arith, limits.inputs.0, length-map {B = Input} state.0.inputs (λ from. record { from = from; grouping = said.Fields state.0.key })))
-    ]
+    let inputs = some_there (inputs_by_component p) c (omega (arith, length_inputs p)) in (
+      inputs.0,
+      inputs.1,
+      of_inputs p (λ (is : List Input). 1 ≤ length is) (λ bolt at. (IsBoltInRange.inputs (All-at_in IsBoltInRange p.bolts range.each_bolt bolt at)).0)
+          (λ state at.
+          let limits : IsStateInRange state = All-at_in IsStateInRange p.states range.each_state state at in
+          omega (arith, limits.inputs.0, length-map {B = Input} state.inputs (λ from. record { from = from; grouping = said.Fields state.key })))
+          inputs.0 (in_place (inputs_by_component p) c inputs.0 inputs.1),
+    )
 
 has_source : (p : FileParts) (names : List (List ℕ)) → nameless_fault p names ≡ None → (name : List ℕ) → IsIn name names → (from : Origin) × (source_of p name ≡ Some from)
 has_source p names none name at =
@@ -336,21 +216,15 @@ has_source p names none name at =
 
 -- each input names a source
 pub named_source : (p : FileParts) (c : ℕ) (inputs : List Input) (input : Input) → source_fault p ≡ None → slice_get (inputs_by_component p) c ≡ Some inputs → IsIn input inputs → (from : Origin) × (source_of p input.from ≡ Some from)
-named_source p c inputs input none is at =
+named_source p c inputs input none is =
     let of_bolt = λ (bolt : BoltPart). nameless_fault p (map (λ (input : Input). input.from) bolt.inputs) in
     let of_state = λ (state : StatePart). nameless_fault p state.inputs in
-    let each = none_of_some (first_some (map of_bolt p.bolts) ∷ first_some (map of_state p.states) ∷ []) none in
-    elim (in_append (map (λ (bolt : BoltPart). bolt.inputs) p.bolts) (map state_inputs p.states) inputs (in_place (inputs_by_component p) c inputs is)) [
-      | inl left ↦
-          let bolt = in_map (λ (bolt : BoltPart). bolt.inputs) p.bolts inputs left in
-          has_source p (map (λ (input : Input). input.from) bolt.0.inputs) (none_of_some (map of_bolt p.bolts) (each (first_some (map of_bolt p.bolts)) (inl refl)) (of_bolt bolt.0) (to_map of_bolt p.bolts bolt.0 bolt.1)) input.from
-          (to_map (λ (input : Input). input.from) bolt.0.inputs input (subst (IsIn input) (sym bolt.2) at))
-      | inr right ↦
-          let state = in_map state_inputs p.states inputs right in
-          let made = in_map (λ from. record { from = from; grouping = said.Fields state.0.key }) state.0.inputs input (subst (IsIn input) (sym state.2) at) in
-          has_source p state.0.inputs (none_of_some (map of_state p.states) (each (first_some (map of_state p.states)) (inr (inl refl))) (of_state state.0) (to_map of_state p.states state.0 state.1)) input.from
-          (subst (λ (i : Input). IsIn i.from state.0.inputs) made.2 made.1)
-    ]
+    let each = none_each (first_some (map of_bolt p.bolts) ∷ first_some (map of_state p.states) ∷ []) none in
+    of_each_input p (λ (input : Input). (from : Origin) × (source_of p input.from ≡ Some from))
+    (λ bolt at input listed.
+    has_source p (map (λ (input : Input). input.from) bolt.inputs) (none_each_map of_bolt p.bolts each.0 bolt at) input.from (to_map (λ (input : Input). input.from) bolt.inputs input listed))
+    (λ state at from listed. has_source p state.inputs (none_each_map of_state p.states each.1.0 state at) from listed)
+    inputs (in_place (inputs_by_component p) c inputs is) input
 
 -- an input of a component, with its source
 pub record HasSource (p : FileParts) (c : ℕ) : Type 0 where
@@ -368,34 +242,23 @@ some_source p c range none within =
     let from = named_source p c inputs.0 input.0 none inputs.1 input.1 in
     record { inputs = inputs.0; input = input.0; from = from.0; consumer = inputs.1; listed = input.1; is = from.1 }
 
-pub in_inputs_at : (p : FileParts) (c : ℕ) (inputs : List Input) (input : Input) → slice_get (inputs_by_component p) c ≡ Some inputs → IsIn input inputs → IsIn input (inputs_at p c)
-in_inputs_at p c inputs input is at = subst (IsIn input) (sym (get_or_from_slice_get (inputs_by_component p) c inputs [] is)) at
-
--- ---- the fields of each source
-
-abbrev pub IsBoltOrSpout : FileParts → Origin → Type 0
-IsBoltOrSpout p origin.Spout = Unit {0}
-IsBoltOrSpout p (origin.Component c) = c < length p.bolts
-
-pub source_there : (p : FileParts) (c : ℕ) (from : Origin) → IsIn from (sources_at p c) → IsBoltOrSpout p from
-source_there p c origin.Spout at = tt
-source_there p c (origin.Component b) at = bolt_source p c b at
-
 added_at : (p : FileParts) (c : ℕ) (bolt : BoltPart) → IsBoltAt p c bolt → HasNoFaultAt p c → added_fault (fields_to p c) bolt.operation ≡ None
 added_at p c bolt is faultless =
     subst (λ there. option_and_then (added_fault (fields_to p c)) (option_map (λ (b : BoltPart). b.operation) there) ≡ None) is faultless.added
 
 module _ (p : FileParts) (range : IsInRange p) (faultless : HasNoFault p) where
   pub no_fault_here : (c : ℕ) → c < length p.bolts + length p.states → HasNoFaultAt p c
-  no_fault_here c within = no_fault_at p c faultless.fields (omega (arith, length_names p))
+  no_fault_here c within = no_fault_at p c faultless.fields within
 
   first_source : (c : ℕ) → c < length p.bolts + length p.states → (first : Origin) × IsIn first (sources_at p c) × (fields_to p c ≡ fields_of p first)
   first_source c within =
       let source = some_source p c range faultless.sources within in
-      first_of (fields_of p) (sources_at p c) source.from (to_sources p c source.input source.from (in_inputs_at p c source.inputs source.input source.consumer source.listed) source.is)
+      let at : IsIn source.from (sources_at p c) = to_sources p c source.input source.from (in_inputs_at p c source.inputs source.input source.consumer source.listed) source.is in
+      let first = first_fed (fields_of p) (feeds_at (graph_of p) c) source.from (subst (IsIn source.from) (sym (froms_at p c)) at) in
+      (first.0, subst (IsIn first.0) (froms_at p c) first.1, first.2)
 
   -- from those of the sources on, as far as there are n bolts before it
-  fields_before : (n : ℕ) (from : Origin) → IsRankBelow p n from → IsBoltOrSpout p from → AreFields (fields_of p from)
+  fields_before : (n : ℕ) (from : Origin) → IsRankBelow p n from → IsSource p from → AreFields (fields_of p from)
   fields_before n origin.Spout below there =
       subst AreFields (sym (fields_of_spout p)) (record { count = range.spout.fields; apart = spout_once p faultless.twice; named = range.spout.field_names })
   fields_before zero (origin.Component c) below there = absurd (omega arith)
@@ -405,11 +268,11 @@ module _ (p : FileParts) (range : IsInRange p) (faultless : HasNoFault p) where
       let first = first_source c within in
       let come : AreFields (fields_to p c) = subst AreFields (sym first.2) (fields_before n first.0 (source_below p n c first.0 faultless.cycle first.1 below) (source_there p c first.0 first.1)) in
       let limits : IsBoltInRange bolt.0 = All-at_in IsBoltInRange p.bolts range.each_bolt bolt.0 (in_place p.bolts c bolt.0 bolt.1) in
-      subst AreFields (sym (fields_of_bolt p c bolt.0 faultless.cycle bolt.1))
+      subst AreFields (sym (fields_of_bolt p c bolt.0 range faultless.cycle bolt.1))
       (fields_kept bolt.0.operation (fields_to p c) limits.operation
       (projected_once p faultless.twice bolt.0 (in_place p.bolts c bolt.0 bolt.1))
       (added_at p c bolt.0 bolt.1 (no_fault_here c within)) come)
 
-  pub fields_of_source : (from : Origin) → IsBoltOrSpout p from → AreFields (fields_of p from)
+  pub fields_of_source : (from : Origin) → IsSource p from → AreFields (fields_of p from)
   fields_of_source origin.Spout there = fields_before 0 origin.Spout tt there
   fields_of_source (origin.Component c) there = fields_before (suc (rank p c)) (origin.Component c) (omega arith) there

@@ -1,20 +1,13 @@
 -- A cycle is told exactly where there is a path from a bolt to itself.
-use Rattle.std.specs.Prelude.{◌≡◌, ◌↔◌, ℕ, zero, suc, ◌+◌, ◌<◌, ◌≤◌, Bool, true, false, length, Some, None, option_map}
-use Rattle.std.specs.List.{find, range_with_len}
-use Rattle.std.proofs.Common.{inl, inr, refl, sym, ◌∙◌, ap, arith}
-use Rattle.std.proofs.lemmas.Bool.{cases_Bool, cases_order, both_ways, cond-true, cond-false}
-use Rattle.std.proofs.lemmas.Option.{none-some, same_Some}
-use Rattle.topology_form.specs.declared.parts.FileParts.{FileParts}
-use Rattle.topology_form.specs.declared.fault.TopoFault.{TopoFault}
-use Rattle.topology_form.specs.declared.fault.TopoFault.TheVariants.{Cycle}
-use Rattle.topology_reader.specs.Wiring.{name_at, reaches}
-use Rattle.topology_reader.specs.Meant.{cycle_fault}
-use Rattle.topology_reader.specs.Reach.{IsPath}
+use Rattle.std.proofs.Common.{◌≡◌, ◌↔◌, ℕ, zero, suc, ◌+◌, ◌<◌, ◌≤◌, Bool, true, false, length, Some, None, option_map, inl, inr, sym, ◌∙◌, ap, arith}
+use Rattle.std.specs.List.{find}
+use Rattle.topology_reader.proofs.Common.{range_with_len, FileParts, TopoFault, Cycle, cases_Bool, cases_order, both_ways, cond-true, cond-false, none-some, same_Some, name_at, reaches, cycle_fault, IsPath}
 use Rattle.topology_reader.proofs.Ranks.{reaches_by_path, no_cycle}
 use Rattle.topology_reader.proofs.Distinct.{some_mapped}
+use Rattle.topology_reader.proofs.Listed.{find_none, in_range}
 
 -- the first number that passes is found
-found_first : (test : ℕ → Bool) (first n c : ℕ) → find test (range_with_len first n) ≡ Some c → (c < first + n) × (test c ≡ true) × ((b : ℕ) → first ≤ b → b < c → test b ≡ false)
+pub found_first : (test : ℕ → Bool) (first n c : ℕ) → find test (range_with_len first n) ≡ Some c → (c < first + n) × (test c ≡ true) × ((b : ℕ) → first ≤ b → b < c → test b ≡ false)
 found_first test first zero c is = absurd (none-some c is)
 found_first test first (suc n) c is =
     elim (cases_Bool (test first)) [
@@ -29,12 +22,6 @@ found_first test first (suc n) c is =
           )
     ]
 
-nothing_found : (test : ℕ → Bool) (first n : ℕ) → ((c : ℕ) → c < first + n → test c ≡ false) → find test (range_with_len first n) ≡ None
-nothing_found test first zero fails = refl
-nothing_found test first (suc n) fails =
-    cond-false (test first) (Some first) (find test (range_with_len (first + 1) n)) (fails first (omega arith))
-    ∙ nothing_found test (first + 1) n (λ c below. fails c (omega arith))
-
 pub no_path_back : (p : FileParts) (c : ℕ) → reaches p c c ≡ false → IsPath p c c → ⊥
 no_path_back p c never path = both_ways (reaches p c c) never ((reaches_by_path p c c).1 path)
 
@@ -44,9 +31,9 @@ no_cycle_by_paths p = (
   λ none c below. no_path_back p c (no_cycle p c none below),
   λ never.
       ap (option_map (λ c. Cycle (name_at p c)))
-      (nothing_found (λ c. reaches p c c) 0 (length p.bolts)
-      (λ c below. elim (cases_Bool (reaches p c c)) [
-        | inl back ↦ absurd (never c (omega arith) ((reaches_by_path p c c).0 back))
+      (find_none (λ c. reaches p c c) (range_with_len 0 (length p.bolts))
+      (λ c at. elim (cases_Bool (reaches p c c)) [
+        | inl back ↦ absurd (never c (omega (arith, (in_range 0 (length p.bolts) c at).1)) ((reaches_by_path p c c).0 back))
         | inr fails ↦ fails
       ])),
 )

@@ -1,15 +1,8 @@
 -- Names that differ: what the tests on names say, and lists in which nothing stands twice.
-use Rattle.std.specs.Prelude.{◌≡◌, ◌≢◌, ℕ, zero, suc, ◌+◌, ◌<◌, ◌≤◌, List, [], ◌∷◌, ◌++◌, length, map, AllPairs, true, false, Option, Some, None, option_map, slice_get, slice_index_or}
+use Rattle.std.proofs.Common.{◌≡◌, ◌≢◌, ℕ, zero, suc, ◌+◌, ◌<◌, ◌≤◌, List, [], ◌∷◌, ◌++◌, length, map, AllPairs, true, false, Option, Some, None, option_map, slice_get, slice_index_or, inl, inr, refl, sym, ◌∙◌, ap, subst, arith, add-one}
 use Rattle.std.specs.List.Sorted.{IsStrictlyIncreasing}
-use Rattle.std.specs.Str.{bytes_eq}
-use Rattle.std.specs.Cmp.Lexicographic.{bytes_decides}
-use Rattle.std.proofs.Common.{inl, inr, refl, sym, ◌∙◌, ap, subst, arith, add-one}
-use Rattle.std.proofs.lemmas.Bool.{cases_Bool, cond-true, cond-false, both_ways}
+use Rattle.topology_reader.proofs.Common.{bytes_eq, bytes_decides, cases_Bool, cond-true, cond-false, both_ways, none-some, same_Some, slice_get_within, is_among, first_again, place_of}
 use Rattle.std.proofs.lemmas.List.Kept.{AllPairs-cons}
-use Rattle.std.proofs.lemmas.Option.{none-some, same_Some, slice_get_within}
-use Rattle.topology_reader.specs.Meant.{is_among}
-use Rattle.topology_reader.specs.Wiring.{place_of}
-use Rattle.topology_reader.specs.Meant.{first_again}
 use Rattle.topology_reader.proofs.Listed.{IsIn, All-from_in, in_append, to_map, to_any, in_any}
 
 -- ---- names

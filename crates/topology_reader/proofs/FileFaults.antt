@@ -1,15 +1,8 @@
 -- The first fault of a file, step by step.
 use Rattle.std.proofs.Common.{◌≡◌, ◌<◌, ◌≤◌, ℕ, List, [], ◌∷◌, length, true, false, leb, Option, Some, None, Result, Ok, Err, IfOk, IfErr, ◌≢◌, refl, sym, ap, subst, ◌∙◌, arith}
 use Rattle.std.proofs.lemmas.Bool.Decides.{nat_tests}
-use Rattle.serde_json.specs.Data.{Data}
-use Rattle.storm_values.specs.Json.{json_of}
-use Rattle.storm_values.specs.Lines.{first_some}
-use Rattle.topology_form.specs.declared.fault.TopoFault.{TopoFault}
+use Rattle.topology_reader.proofs.Common.{Data, json_of, first_some, TopoFault, TooLong, Topology, first_fault, value_fault, IsFilePlan, plan_of}
 use Rattle.topology_form.specs.declared.fault.TopoFault.TheVariants as topo_fault
-use Rattle.topology_form.specs.declared.fault.TopoFault.TheVariants.{TooLong}
-use Rattle.topology_plan.specs.Topology.{Topology}
-use Rattle.topology_reader.specs.FirstFault.{first_fault, value_fault, IsFilePlan}
-use Rattle.topology_reader.specs.Planned.{plan_of}
 use Rattle.topology_form.specs.File.{parts_said}
 
 -- a fault that is the first of one, or the next

@@ -1,44 +1,22 @@
 -- The plan of a file without a fault, and that the first bytes of a file decide.
-use Rattle.std.proofs.Common.{◌≡◌, ◌↔◌, ◌<◌, ℕ, List, [], ◌∷◌, length, take, Option, Some, None, refl, sym, ap, subst, ◌∙◌, inl, inr, arith}
-use Rattle.std.proofs.lemmas.Bool.{cases_lt}
-use Rattle.std.proofs.lemmas.List.{take_all, length-take-le}
-use Rattle.std.proofs.lemmas.Option.{none-some}
-use Rattle.serde_json.specs.Data.{Data}
-use Rattle.storm_values.specs.Json.{json_of}
-use Rattle.storm_values.specs.Lines.{first_some}
-use Rattle.topology_plan.specs.Topology.{Topology}
-use Rattle.topology_plan.specs.Valid.{IsValid}
-use Rattle.topology_form.specs.declared.fault.TopoFault.{TopoFault}
-use Rattle.topology_form.specs.declared.fault.TopoFault.TheVariants.{TooLong}
+use Rattle.std.proofs.Common.{◌≡◌, ◌↔◌, ◌<◌, ℕ, List, [], ◌∷◌, length, take, Some, None, refl, sym, ap, subst, ◌∙◌, inl, inr, arith}
+use Rattle.topology_reader.proofs.Common.{cases_lt, take_all, length-take-le, none-some, same_Some, Data, json_of, Topology, IsValid, TopoFault, TooLong, IsInRange, IsWired, plan_of, first_fault, length_fault, value_fault, IsFilePlan, meaning_fault, IsValidFile, in_range}
+use Rattle.topology_reader.proofs.Listed.{none_each}
 use Rattle.topology_form.specs.Faults.{fault_text}
-use Rattle.topology_reader.specs.Planned.{plan_of}
 use Rattle.topology_reader.proofs.FileFaults.{too_long}
-use Rattle.topology_reader.specs.FirstFault.{first_fault, length_fault, value_fault, IsFilePlan}
-use Rattle.topology_form.specs.File.{form_fault}
-use Rattle.topology_reader.specs.Meant.{meaning_fault}
-use Rattle.topology_form.specs.File.{parts_said}
+use Rattle.topology_form.specs.File.{form_fault, parts_said}
 use Rattle.topology_reader.proofs.ValidPlan.{valid_plan}
-use Rattle.topology_plan.specs.Wired.{IsWired}
 use Rattle.topology_reader.proofs.WiredPlan.{wired_plan}
-use Rattle.topology_form.proofs.InRange.{in_range}
-use Rattle.topology_form.specs.Ranges.{IsInRange}
-use Rattle.topology_reader.specs.ValidFile.{IsValidFile}
 use Rattle.topology_reader.proofs.ValidFile.{valid_file}
-
--- where none of some faults is there, the first is not, and none of the rest
-none_first : {X : Type 0} (fault : Option X) (rest : List (Option X)) → first_some (fault ∷ rest) ≡ None → (fault ≡ None) × (first_some rest ≡ None)
-none_first None rest none = (refl, none)
-none_first (Some x) rest none = absurd cc
 
 -- where a file has no fault, what it says is in range, and has none
 said_without_fault : (bytes : List ℕ) (value : Data) → json_of bytes ≡ Some value → first_fault bytes ≡ None → IsInRange (parts_said value) × (meaning_fault (parts_said value) ≡ None)
 unfolding first_fault
 said_without_fault bytes value spelled none =
-    let short = none_first (length_fault bytes) (value_fault (json_of bytes) ∷ []) none in
-    let read : value_fault (json_of bytes) ≡ None = (none_first (value_fault (json_of bytes)) [] short.1).0 in
-    let said : value_fault (Some value) ≡ None = subst (λ file. value_fault file ≡ None) spelled read in
-    let form = none_first (form_fault value) (meaning_fault (parts_said value) ∷ []) said in
-    (in_range value form.0, (none_first (meaning_fault (parts_said value)) [] form.1).0)
+    let each = none_each (length_fault bytes ∷ value_fault (json_of bytes) ∷ []) none in
+    let said : value_fault (Some value) ≡ None = subst (λ file. value_fault file ≡ None) spelled each.1.0 in
+    let form = none_each (form_fault value ∷ meaning_fault (parts_said value) ∷ []) said in
+    (in_range value form.0, form.1.0)
 
 pub plan_is_valid : (bytes : List ℕ) (t : Topology) → IsFilePlan bytes t → IsValid t × IsWired t
 plan_is_valid bytes t (none, value, spelled, is) =
@@ -52,12 +30,9 @@ said_is_valid bytes value spelled none =
 
 -- ---- one answer for a file
 
-same_value : (a b : Data) → Some a ≡ Some b → a ≡ b
-same_value a b is = cc
-
 pub one_plan : (bytes : List ℕ) (s t : Topology) → IsFilePlan bytes s → IsFilePlan bytes t → s ≡ t
 one_plan bytes s t (none, value, spelled, is) (none_too, other, spelled_too, is_too) =
-    is ∙ (ap (λ v. plan_of (parts_said v)) (same_value value other (sym spelled ∙ spelled_too)) ∙ sym is_too)
+    is ∙ (ap (λ v. plan_of (parts_said v)) (same_Some value other (sym spelled ∙ spelled_too)) ∙ sym is_too)
 
 pub plan_or_fault : (bytes : List ℕ) (t : Topology) (fault : TopoFault) → IsFilePlan bytes t → first_fault bytes ≡ Some fault → ⊥
 plan_or_fault bytes t fault plan refused = none-some fault (sym plan.0 ∙ refused)
@@ -93,14 +68,11 @@ pub record IsRefusedAlike (bytes : List ℕ) (fault : TopoFault) : Type 0 where
   pub is_first : first_fault bytes ≡ Some told
   pub alike : fault_text fault ≡ fault_text told
 
-same_fault : (a b : TopoFault) → Some a ≡ Some b → a ≡ b
-same_fault a b is = cc
-
 pub refused_by_front : (bytes : List ℕ) (fault : TopoFault) → first_fault (take enough_bytes bytes) ≡ Some fault → IsRefusedAlike bytes fault
 refused_by_front bytes fault refused =
     elim (cases_lt enough_bytes (length bytes)) [
       | inl more ↦
-          let front : fault ≡ TooLong (length (take enough_bytes bytes)) = same_fault fault _ (sym refused ∙ too_long (take enough_bytes bytes) (length_front bytes more)) in
+          let front : fault ≡ TooLong (length (take enough_bytes bytes)) = same_Some fault _ (sym refused ∙ too_long (take enough_bytes bytes) (length_front bytes more)) in
           record {
             told = TooLong (length bytes);
             is_first = too_long bytes (omega arith);
@@ -117,7 +89,7 @@ pub fault_of_whole : (bytes : List ℕ) (fault : TopoFault) → first_fault byte
 fault_of_whole bytes fault refused =
     elim (cases_lt enough_bytes (length bytes)) [
       | inl more ↦
-          let whole : fault ≡ TooLong (length bytes) = same_fault fault _ (sym refused ∙ too_long bytes (omega arith)) in
+          let whole : fault ≡ TooLong (length bytes) = same_Some fault _ (sym refused ∙ too_long bytes (omega arith)) in
           (TooLong (length (take enough_bytes bytes)), too_long (take enough_bytes bytes) (length_front bytes more), sym (ap fault_text whole))
       | inr fits ↦ (fault, subst (λ b. first_fault b ≡ Some fault) (sym (take_all enough_bytes bytes fits)) refused, refl)
     ]

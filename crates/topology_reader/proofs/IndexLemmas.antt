@@ -1,15 +1,8 @@
 -- The sources of names, as they are put into a map one bolt after the other.
 use Rattle.std.proofs.Common.{◌≡◌, ℕ, zero, suc, ◌+◌, ◌<◌, Bool, true, false, cond, List, [], ◌∷◌, ◌++◌, map, length, take, get_or, Option, Some, None, option_map, unwrap_or, refl, sym, ap, ◌∙◌, inl, inr, arith}
-use Rattle.std.proofs.lemmas.Bool.{cases_Bool}
-use Rattle.std.proofs.lemmas.List.{take_more, map_push, length-map, length-take-le}
-use Rattle.std.specs.Borrow.{Bor}
-use Rattle.std.specs.Option.{option_or}
-use Rattle.std.specs.Str.{bytes_eq}
+use Rattle.topology_reader.proofs.Common.{cases_Bool, take_more, map_push, length-map, length-take-le, Bor, option_or, bytes_eq, Origin, BoltPart, place_of}
 use Rattle.indexmap.specs.IndexMap.{IndexMap, get_by}
-use Rattle.topology_plan.specs.declared.parts.Origin.{Origin}
 use Rattle.topology_plan.specs.declared.parts.Origin.TheVariants as origin
-use Rattle.topology_form.specs.declared.parts.BoltPart.{BoltPart}
-use Rattle.topology_reader.specs.Wiring.{place_of}
 use Rattle.topology_reader.proofs.Distinct.{bytes_same}
 
 -- ---- one name more

@@ -1,6 +1,6 @@
+mod Common
 mod SourceLemmas
 mod PartLemmas
-mod FieldLemmas
 mod PlannedLemmas
 mod TaskLemmas
 mod NameLists
@@ -19,7 +19,6 @@ mod CyclePaths
 mod NoFault
 mod AssemblyLemmas
 mod Texts
-mod MeaningLemmas
 mod FileFaults
 mod IndexLemmas
 mod Ranks

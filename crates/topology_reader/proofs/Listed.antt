@@ -1,11 +1,7 @@
 -- What stands in lists that are made of other lists, and the search for the first of some values.
-use Rattle.std.specs.Prelude.{◌≡◌, ℕ, zero, suc, ◌+◌, ◌<◌, ◌≤◌, List, [], ◌∷◌, ◌++◌, map, filter, All, Bool, true, false, Option, Some, None, option_map, slice_get}
-use Rattle.std.specs.List.{filter_map, flat_map, find, list_any, enumerate_from, range_with_len}
-use Rattle.std.proofs.Common.{◌⊎◌, inl, inr, refl, sym, ◌∙◌, ap, subst, arith}
-use Rattle.std.proofs.lemmas.Bool.{cases_Bool, cases_eq, false≢true, cond-true, cond-false, or_cases, or_left, or_right}
-use Rattle.std.proofs.lemmas.List.Elements.{All-nil, All-cons, All-head, All-tail}
-use Rattle.std.proofs.lemmas.Option.{none-some, same_Some}
-use Rattle.storm_values.specs.Lines.{first_some}
+use Rattle.std.proofs.Common.{◌≡◌, ℕ, zero, suc, ◌+◌, ◌<◌, ◌≤◌, List, [], ◌∷◌, ◌++◌, map, filter, All, Bool, true, false, Option, Some, None, option_map, slice_get, ◌⊎◌, inl, inr, refl, sym, ◌∙◌, ap, subst, arith}
+use Rattle.topology_reader.proofs.Common.{filter_map, flat_map, list_any, enumerate_from, range_with_len, first_some, cases_Bool, cases_eq, false≢true, cond-true, cond-false, or_cases, or_left, or_right, All-nil, All-cons, All-head, All-tail, none-some, same_Some}
+use Rattle.std.specs.List.{find}
 
 abbrev pub IsIn : {X : Type 0} → X → List X → Type 0
 IsIn x [] = ⊥
@@ -188,7 +184,37 @@ none_found p (y ∷ ys) none x at =
       ]
     ]
 
-pub none_of_some : {F : Type 0} (faults : List (Option F)) → first_some faults ≡ None → (fault : Option F) → IsIn fault faults → fault ≡ None
-none_of_some [] none fault at = elim at [ ]
-none_of_some (None ∷ rest) none fault at = elim at [ inl same ↦ sym same | inr later ↦ none_of_some rest none fault later ]
-none_of_some (Some found ∷ rest) none fault at = absurd (none-some found (sym none))
+pub find_none : {X : Type 0} (p : X → Bool) (xs : List X) → ((x : X) → IsIn x xs → p x ≡ false) → find p xs ≡ None
+find_none p [] each = refl
+find_none p (x ∷ xs) each = cond-false (p x) (Some x) (find p xs) (each x (inl refl)) ∙ find_none p xs (λ y at. each y (inr at))
+
+-- ---- no fault
+
+abbrev pub AreNone : {F : Type 0} → List (Option F) → Type 0
+AreNone [] = Unit {0}
+AreNone (fault ∷ faults) = (fault ≡ None) × AreNone faults
+
+-- where none of some faults is told, each of them is none
+pub none_each : {F : Type 0} (faults : List (Option F)) → first_some faults ≡ None → AreNone faults
+none_each [] none = tt
+none_each (None ∷ faults) none = (refl, none_each faults none)
+none_each (Some fault ∷ faults) none = absurd (none-some fault (sym none))
+
+pub none_first : {F : Type 0} (faults : List (Option F)) → AreNone faults → first_some faults ≡ None
+none_first [] are = refl
+none_first (None ∷ faults) are = none_first faults are.1
+none_first (Some fault ∷ faults) are = absurd (none-some fault (sym are.0))
+
+at_each : {X F : Type 0} (f : X → Option F) (xs : List X) → AreNone (map f xs) → (x : X) → IsIn x xs → f x ≡ None
+at_each f [] are x at = elim at [ ]
+at_each f (y ∷ ys) are x at = elim at [ inl same ↦ subst (λ z. f z ≡ None) same are.0 | inr later ↦ at_each f ys are.1 x later ]
+
+pub none_each_map : {X F : Type 0} (f : X → Option F) (xs : List X) → first_some (map f xs) ≡ None → (x : X) → IsIn x xs → f x ≡ None
+none_each_map f xs none = at_each f xs (none_each (map f xs) none)
+
+from_each : {X F : Type 0} (f : X → Option F) (xs : List X) → ((x : X) → IsIn x xs → f x ≡ None) → AreNone (map f xs)
+from_each f [] each = tt
+from_each f (x ∷ xs) each = (each x (inl refl), from_each f xs (λ y at. each y (inr at)))
+
+pub none_first_map : {X F : Type 0} (f : X → Option F) (xs : List X) → ((x : X) → IsIn x xs → f x ≡ None) → first_some (map f xs) ≡ None
+none_first_map f xs each = none_first (map f xs) (from_each f xs each)

@@ -1,15 +1,8 @@
 -- The first name that stands again in a list.
 use Rattle.std.proofs.Common.{◌≡◌, ℕ, ◌+◌, ◌<◌, Bool, true, false, ◌||◌, cond, List, [], ◌∷◌, ◌++◌, map, length, drop, get_or, Option, Some, None, refl, sym, ap, ◌∙◌}
-use Rattle.std.proofs.lemmas.Bool.{cond-true, cond-false}
-use Rattle.std.proofs.lemmas.List.{drop_more, map_push}
-use Rattle.std.proofs.lemmas.List.Folds.{list_any-append}
-use Rattle.std.proofs.lemmas.Iterator.{YieldsList}
-use Rattle.std.specs.Borrow.{Bor}
+use Rattle.topology_reader.proofs.Common.{cond-true, cond-false, drop_more, map_push, YieldsList, Bor, list_any, bytes_eq, is_among, first_again, list_any-append}
 use Rattle.std.specs.Iterator.{AlwaysYields}
-use Rattle.std.specs.List.{list_any}
-use Rattle.std.specs.Str.{bytes_eq}
-use Rattle.topology_reader.specs.Meant.{is_among}
-use Rattle.topology_reader.specs.Meant.{first_again}
+use Rattle.std.proofs.Math.Bool.{or_comm, or-false}
 
 -- ---- again
 
@@ -18,15 +11,9 @@ abbrev pub again_in : List (List ℕ) → List (List ℕ) → Option (List ℕ)
 again_in before [] = None
 again_in before (name ∷ names) = cond (is_among before name) (Some name) (again_in (before ++ name ∷ []) names)
 
-or_turned : (a b : Bool) → (a || b) ≡ (b || (a || false))
-or_turned true true = refl
-or_turned true false = refl
-or_turned false true = refl
-or_turned false false = refl
-
 among_more : (left right : List (List ℕ)) (name : List ℕ) → ((other : List ℕ) → is_among left other ≡ is_among right other) → (other : List ℕ) → is_among (name ∷ left) other ≡ is_among (right ++ name ∷ []) other
 among_more left right name same other =
-    rw (list_any-append (bytes_eq other) right (name ∷ []), same other) (or_turned (bytes_eq other name) (is_among right other))
+    rw (list_any-append (bytes_eq other) right (name ∷ []), same other) (or_comm (bytes_eq other name) (is_among right other) ∙ ap (λ b. is_among right other || b) (sym (or-false (bytes_eq other name))))
 
 again_same : (left right names : List (List ℕ)) → ((other : List ℕ) → is_among left other ≡ is_among right other) → first_again left names ≡ again_in right names
 again_same left right [] same = refl

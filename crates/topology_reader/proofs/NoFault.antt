@@ -1,73 +1,20 @@
 -- A file that says what is valid has no fault in what it says.
-use Rattle.std.specs.Prelude.{◌≡◌, ◌≢◌, ◌↔◌, ℕ, zero, suc, ◌+◌, ◌<◌, ◌≤◌, ◌==◌, ◌&&◌, ◌∷◌, List, [], ◌++◌, pos, length, map, filter, All, AllPairs, Bool, true, false, not, nat_lt, int_le, Option, Some, None, IfSome, option_map, option_and_then, slice_get, is_none, option_to_list, codes}
-use Rattle.std.specs.List.{Contains, find, list_any, range_with_len}
-use Rattle.std.specs.Option.{option_map_or}
-use Rattle.std.specs.Str.{bytes_eq}
-use Rattle.std.specs.Cmp.Lexicographic.{pointwise, pointwise_decides}
-use Rattle.std.proofs.Common.{inl, inr, refl, sym, ◌∙◌, ap, subst, arith}
-use Rattle.std.proofs.lemmas.Bool.{cond-true, cond-false, false≢true, false_from_ne_true, and_from, eqb-true, le-leb, le-ltb}
-use Rattle.std.proofs.lemmas.List.{map-id, length-append}
-use Rattle.std.proofs.lemmas.Option.{none-some, same_Some, get_or_from_slice_get, slice_get_within}
-use Rattle.storm_values.specs.Lines.{first_some}
-use Rattle.topology_plan.specs.declared.parts.Kind.{Kind}
-use Rattle.topology_plan.specs.declared.parts.Kind.TheVariants.{Transactional, Opaque}
-use Rattle.topology_plan.specs.declared.parts.Origin.{Origin}
+use Rattle.std.proofs.Common.{◌≡◌, ◌≢◌, ◌↔◌, ℕ, zero, suc, ◌+◌, ◌<◌, ◌≤◌, ◌==◌, ◌&&◌, ◌∷◌, List, [], ◌++◌, pos, length, map, filter, All, AllPairs, true, false, not, nat_lt, int_le, Option, Some, None, IfSome, option_map, option_and_then, slice_get, is_none, option_to_list, codes, inl, inr, refl, sym, ◌∙◌, ap, subst, arith}
+use Rattle.topology_reader.proofs.Common.{Contains, list_any, range_with_len, option_map_or, bytes_eq, first_some, Origin, tasks_in_all, IsBetween, WrongKind, OutOfRange, Twice, NoSource, FieldsDiffer, NoField, NotExactlyOnce, Weight, GroupingPart, Input, Operation, Split, Project, Filter, Set, Len, Route, Flaky, Mute, Custom, BoltPart, StatePart, FileParts, IsInRange, IsStateInRange, feeds_at, Feed, pointwise, pointwise_decides, cond-true, cond-false, false≢true, false_from_ne_true, and_from, eqb-true, le-leb, le-ltb, map-id, same_Some, get_or_from_slice_get, slice_get_within, Kind, Transactional, Opaque, depth_at, by_depth, is_among, range_fault, first_again, again_fault, key_of, projected, bolt_twice, state_twice, twice_fault, nameless_fault, source_fault, cycle_fault, differ_fault, field_fault, is_route, chooses, direct_fault, input_fault, fields_read, added_fault, component_fault, fields_fault, is_transactional, replay_fault, weight_fault, meaning_fault, fault_before_size, size_fault, component_names, component_count, name_at, source_of, state_inputs, inputs_by_component, inputs_at, sources_at, is_component, feeds, fields_after, fields_of, fields_to, operation_at, graph_of, plan_of, IsPathThrough, AreDistinct, HasFields, IsValidInput, IsValidComponent, IsValidFile, list_any_none}
+use Rattle.topology_plan.specs.Topology.{weight_of}
+use Rattle.std.proofs.lemmas.List.{length-append}
 use Rattle.topology_plan.specs.declared.parts.Origin.TheVariants as origin
-use Rattle.topology_plan.specs.Topology.{tasks_in_all, weight_of}
-use Rattle.topology_plan.specs.Valid.{IsBetween}
-use Rattle.topology_form.specs.declared.fault.TopoFault.TheVariants.{WrongKind, OutOfRange, Twice, NoSource, FieldsDiffer, NoField, NotExactlyOnce, Weight}
-use Rattle.topology_form.specs.declared.parts.GroupingPart.{GroupingPart}
 use Rattle.topology_form.specs.declared.parts.GroupingPart.TheVariants as said
-use Rattle.topology_form.specs.declared.parts.Input.{Input}
-use Rattle.topology_form.specs.declared.parts.Operation.{Operation}
-use Rattle.topology_form.specs.declared.parts.Operation.TheVariants.{Split, Project, Filter, Set, Len, Route, Flaky, Mute, Custom}
-use Rattle.topology_form.specs.declared.parts.BoltPart.{BoltPart}
-use Rattle.topology_form.specs.declared.parts.StatePart.{StatePart}
-use Rattle.topology_form.specs.declared.parts.FileParts.{FileParts}
-use Rattle.topology_reader.specs.Meant.{is_among, range_fault}
-use Rattle.topology_reader.specs.Wiring.{component_names, component_count, name_at, source_of, state_inputs, inputs_by_component, inputs_at, sources_at, is_component, feeds, depth_at, by_depth, fields_after, fields_of, fields_to, operation_at}
-use Rattle.topology_reader.specs.Planned.{plan_of}
-use Rattle.topology_reader.specs.Meant.{first_again, again_fault, key_of, projected, bolt_twice, state_twice, twice_fault, nameless_fault, source_fault, cycle_fault, differ_fault, field_fault, is_route, chooses, direct_fault, input_fault, fields_read, added_fault, component_fault, fields_fault, is_transactional, replay_fault, weight_fault, meaning_fault}
-use Rattle.topology_form.specs.Ranges.{IsStateInRange, IsInRange}
-use Rattle.topology_reader.specs.Reach.{IsPathThrough}
-use Rattle.topology_reader.specs.ValidFile.{AreDistinct, HasFields, IsRoute, IsRouteAt, IsValidInput, IsValidComponent, IsValidFile}
-use Rattle.topology_reader.proofs.Listed.{IsIn, All-from_in, All-at_in, in_map, to_map, to_left, to_right, in_flat_map, in_filter, in_range, in_any}
+use Rattle.topology_reader.proofs.Listed.{IsIn, All-from_in, All-at_in, in_map, to_map, to_left, to_right, in_flat_map, in_filter, in_range, in_any, find_none, none_first, none_first_map}
 use Rattle.topology_reader.proofs.Distinct.{bytes_same, bytes_itself, among_in, in_among, AreApart}
-use Rattle.topology_reader.proofs.Numbered.{IsBoltAt, map_twice, cases_component, inputs_at_bolt, inputs_at_state, reads_at_bolt, reads_at_state}
-use Rattle.topology_reader.proofs.ValidPlan.{length_inputs}
-use Rattle.topology_reader.proofs.Columns.{in_sources, length_names, fault_of_bolt, fault_of_state}
+use Rattle.topology_reader.proofs.Numbered.{IsBoltAt, cases_component, inputs_at_bolt, inputs_at_state, reads_at_bolt, reads_at_state}
+use Rattle.topology_reader.proofs.SourceLemmas.{length_inputs, in_sources, length_names, length_graph, froms_of_state}
+use Rattle.topology_reader.proofs.Columns.{fault_of_bolt, fault_of_state, some_in}
 use Rattle.topology_reader.proofs.ValidFile.{contains_from_in, sum_of_tasks, valid_file}
 use Rattle.topology_reader.proofs.CyclePaths.{no_cycle_by_paths}
+use Rattle.topology_reader.proofs.GraphLemmas.{feed_listed}
 
 -- ---- lists
-
-none_from_each : {F : Type 0} (faults : List (Option F)) → ((fault : Option F) → IsIn fault faults → fault ≡ None) → first_some faults ≡ None
-none_from_each [] each = refl
-none_from_each (None ∷ rest) each = none_from_each rest (λ fault at. each fault (inr at))
-none_from_each (Some found ∷ rest) each = absurd (none-some found (sym (each (Some found) (inl refl))))
-
-none_of_two : {F : Type 0} (a b : Option F) → a ≡ None → b ≡ None → first_some (a ∷ b ∷ []) ≡ None
-none_of_two a b is_a is_b = rw (is_a, is_b) refl
-
-none_of_three : {F : Type 0} (a b c : Option F) → a ≡ None → b ≡ None → c ≡ None → first_some (a ∷ b ∷ c ∷ []) ≡ None
-none_of_three a b c is_a is_b is_c = rw (is_a, is_b, is_c) refl
-
-none_of_four : {F : Type 0} (a b c d : Option F) → a ≡ None → b ≡ None → c ≡ None → d ≡ None → first_some (a ∷ b ∷ c ∷ d ∷ []) ≡ None
-none_of_four a b c d is_a is_b is_c is_d = rw (is_a, is_b, is_c, is_d) refl
-
-none_of_seven : {F : Type 0} (a b c d e f g : Option F) → a ≡ None → b ≡ None → c ≡ None → d ≡ None → e ≡ None → f ≡ None → g ≡ None → first_some (a ∷ b ∷ c ∷ d ∷ e ∷ f ∷ g ∷ []) ≡ None
-none_of_seven a b c d e f g is_a is_b is_c is_d is_e is_f is_g = rw (is_a, is_b, is_c, is_d, is_e, is_f, is_g) refl
-
-find_none : {X : Type 0} (test : X → Bool) (xs : List X) → ((x : X) → IsIn x xs → test x ≡ false) → find test xs ≡ None
-find_none test [] each = refl
-find_none test (x ∷ xs) each = cond-false (test x) (Some x) (find test xs) (each x (inl refl)) ∙ find_none test xs (λ y at. each y (inr at))
-
-any_none : {X : Type 0} (test : X → Bool) (xs : List X) → ((x : X) → IsIn x xs → test x ≡ false) → list_any test xs ≡ false
-any_none test xs each =
-    false_from_ne_true (list_any test xs)
-    (λ some.
-    let found = in_any test xs some in
-    false≢true (sym (each found.0 found.1) ∙ found.2))
 
 in_from_contains : {X : Type 0} (xs : List X) (x : X) → Contains xs x → IsIn x xs
 in_from_contains [] x (k, within, is) = absurd (omega arith)
@@ -176,17 +123,13 @@ module _ (p : FileParts) (valid : IsValidFile p) where
   bolt_once bolt at =
       let place = place_in p.bolts bolt at in
       let inputs : slice_get (inputs_by_component p) place.0 ≡ Some bolt.inputs = inputs_at_bolt p place.0 bolt place.1 in
-      none_of_three (again_fault (map (λ (input : Input). input.from) bolt.inputs)) (first_some (map (λ (input : Input). again_fault (key_of input.grouping)) bolt.inputs)) (again_fault (projected bolt.operation))
-      (once (map (λ (input : Input). input.from) bolt.inputs) (froms_apart place.0 bolt.inputs inputs))
-      (none_from_each (map (λ (input : Input). again_fault (key_of input.grouping)) bolt.inputs)
-      (λ fault listed.
-      let input = in_map (λ (input : Input). again_fault (key_of input.grouping)) bolt.inputs fault listed in
-      sym input.2 ∙ once (key_of input.0.grouping) (key_apart_of place.0 bolt.inputs input.0 inputs input.1)))
-      (once (projected bolt.operation) (projected_by (fields_of p (origin.Component place.0)) (fields_to p place.0) bolt.operation (fields_made place.0 bolt place.1) (HasFields.distinct (bolt_has place.0 bolt place.1))))
-
-  some_first : {X : Type 0} (xs : List X) → 1 ≤ length xs → (x : X) × IsIn x xs
-  some_first [] some = absurd (omega arith)
-  some_first (x ∷ xs) some = (x, inl refl)
+      none_first (again_fault (map (λ (input : Input). input.from) bolt.inputs) ∷ first_some (map (λ (input : Input). again_fault (key_of input.grouping)) bolt.inputs) ∷ again_fault (projected bolt.operation) ∷ []) (
+        once (map (λ (input : Input). input.from) bolt.inputs) (froms_apart place.0 bolt.inputs inputs),
+        (
+          none_first_map (λ (input : Input). again_fault (key_of input.grouping)) bolt.inputs (λ input listed. once (key_of input.grouping) (key_apart_of place.0 bolt.inputs input inputs listed)),
+          (once (projected bolt.operation) (projected_by (fields_of p (origin.Component place.0)) (fields_to p place.0) bolt.operation (fields_made place.0 bolt place.1) (HasFields.distinct (bolt_has place.0 bolt place.1))), tt),
+        ),
+      )
 
   state_once : (state : StatePart) → IsIn state p.states → state_twice state ≡ None
   state_once state at =
@@ -194,21 +137,20 @@ module _ (p : FileParts) (valid : IsValidFile p) where
       let c : ℕ = length p.bolts + place.0 in
       let inputs : slice_get (inputs_by_component p) c ≡ Some (state_inputs state) = inputs_at_state p c state (record { place = place.0; number = refl; is = place.1 }) in
       let limits : IsStateInRange state = All-at_in IsStateInRange p.states (valid.range).each_state state at in
-      let first = some_first state.inputs (limits.inputs).0 in
+      let first = some_in state.inputs (limits.inputs).0 in
       let input : Input = record { from = first.0; grouping = said.Fields state.key } in
       let listed : IsIn input (state_inputs state) = to_map (λ from. record { from = from; grouping = said.Fields state.key }) state.inputs first.0 first.1 in
-      let same : map (λ (input : Input). input.from) (state_inputs state) ≡ state.inputs =
-      map_twice (λ (input : Input). input.from) (λ from. record { from = from; grouping = said.Fields state.key }) state.inputs ∙ map-id state.inputs
-      in
-      none_of_two (again_fault state.key) (again_fault state.inputs) (once state.key (key_apart_of c (state_inputs state) input inputs listed)) (once state.inputs (subst AreApart same (froms_apart c (state_inputs state) inputs)))
+      none_first (again_fault state.key ∷ again_fault state.inputs ∷ []) (once state.key (key_apart_of c (state_inputs state) input inputs listed), (once state.inputs (subst AreApart (froms_of_state state) (froms_apart c (state_inputs state) inputs)), tt))
 
   twice_none : twice_fault p ≡ None
   twice_none =
-      none_of_four (again_fault (p.spout.name ∷ component_names p)) (again_fault p.spout.fields) (first_some (map bolt_twice p.bolts)) (first_some (map state_twice p.states))
-      (once (p.spout.name ∷ component_names p) (apart_from_distinct (p.spout.name ∷ component_names p) valid.names))
-      (once p.spout.fields (subst AreApart valid.spout_fields (apart_from_distinct (fields_of p origin.Spout) (HasFields.distinct (valid.fields origin.Spout tt)))))
-      (none_from_each (map bolt_twice p.bolts) (λ fault at. let bolt = in_map bolt_twice p.bolts fault at in sym bolt.2 ∙ bolt_once bolt.0 bolt.1))
-      (none_from_each (map state_twice p.states) (λ fault at. let state = in_map state_twice p.states fault at in sym state.2 ∙ state_once state.0 state.1))
+      none_first (again_fault (p.spout.name ∷ component_names p) ∷ again_fault p.spout.fields ∷ first_some (map bolt_twice p.bolts) ∷ first_some (map state_twice p.states) ∷ []) (
+        once (p.spout.name ∷ component_names p) (apart_from_distinct (p.spout.name ∷ component_names p) valid.names),
+        (
+          once p.spout.fields (subst AreApart valid.spout_fields (apart_from_distinct (fields_of p origin.Spout) (HasFields.distinct (valid.fields origin.Spout tt)))),
+          (none_first_map bolt_twice p.bolts bolt_once, (none_first_map state_twice p.states state_once, tt)),
+        ),
+      )
 
   -- ---- sources
 
@@ -221,28 +163,30 @@ module _ (p : FileParts) (valid : IsValidFile p) where
   source_none =
       let of_bolt = λ (bolt : BoltPart). nameless_fault p (map (λ (input : Input). input.from) bolt.inputs) in
       let of_state = λ (state : StatePart). nameless_fault p state.inputs in
-      none_of_two (first_some (map of_bolt p.bolts)) (first_some (map of_state p.states))
-      (none_from_each (map of_bolt p.bolts)
-      (λ fault at.
-      let bolt = in_map of_bolt p.bolts fault at in
-      let place = place_in p.bolts bolt.0 bolt.1 in
-      sym bolt.2 ∙ named (map (λ (input : Input). input.from) bolt.0.inputs)
-      (λ name listed.
-      let input = in_map (λ (input : Input). input.from) bolt.0.inputs name listed in
-      let has : IsValidInput p (fields_to p place.0) input.0 = input_valid place.0 bolt.0.inputs input.0 (inputs_at_bolt p place.0 bolt.0 place.1) input.1 in
-      (has.from, ap (source_of p) (sym input.2) ∙ has.named))))
-      (none_from_each (map of_state p.states)
-      (λ fault at.
-      let state = in_map of_state p.states fault at in
-      let place = place_in p.states state.0 state.1 in
-      let c : ℕ = length p.bolts + place.0 in
-      sym state.2 ∙ named state.0.inputs
-      (λ name listed.
-      let input : Input = record { from = name; grouping = said.Fields state.0.key } in
-      let has : IsValidInput p (fields_to p c) input =
-      input_valid c (state_inputs state.0) input (inputs_at_state p c state.0 (record { place = place.0; number = refl; is = place.1 })) (to_map (λ from. record { from = from; grouping = said.Fields state.0.key }) state.0.inputs name listed)
-      in
-      (has.from, has.named))))
+      none_first (first_some (map of_bolt p.bolts) ∷ first_some (map of_state p.states) ∷ []) (
+        none_first_map of_bolt p.bolts
+            (λ bolt at.
+            let place = place_in p.bolts bolt at in
+            named (map (λ (input : Input). input.from) bolt.inputs)
+            (λ name listed.
+            let input = in_map (λ (input : Input). input.from) bolt.inputs name listed in
+            let has : IsValidInput p (fields_to p place.0) input.0 = input_valid place.0 bolt.inputs input.0 (inputs_at_bolt p place.0 bolt place.1) input.1 in
+            (has.from, ap (source_of p) (sym input.2) ∙ has.named))),
+        (
+          none_first_map of_state p.states
+              (λ state at.
+              let place = place_in p.states state at in
+              let c : ℕ = length p.bolts + place.0 in
+              named state.inputs
+              (λ name listed.
+              let input : Input = record { from = name; grouping = said.Fields state.key } in
+              let has : IsValidInput p (fields_to p c) input =
+              input_valid c (state_inputs state) input (inputs_at_state p c state (record { place = place.0; number = refl; is = place.1 })) (to_map (λ from. record { from = from; grouping = said.Fields state.key }) state.inputs name listed)
+              in
+              (has.from, has.named))),
+          tt,
+        ),
+      )
 
   -- ---- fields
 
@@ -251,37 +195,22 @@ module _ (p : FileParts) (valid : IsValidFile p) where
 
   same_none : (c : ℕ) → c < component_count p → differ_fault p c ≡ None
   same_none c within =
-      let differs = λ (from : Origin). not (pointwise bytes_eq (fields_of p from) (fields_to p c)) in
-      cond-false (list_any differs (sources_at p c)) (Some (FieldsDiffer (name_at p c))) None
-      (any_none differs (sources_at p c)
-      (λ from at.
-      let input = in_sources p c from at in
+      let differs = λ (feed : Feed). not (pointwise bytes_eq (fields_of p feed.from) (fields_to p c)) in
+      cond-false (list_any differs (feeds_at (graph_of p) c)) (Some (FieldsDiffer (name_at p c))) None
+      (list_any_none differs (feeds_at (graph_of p) c)
+      (All-from_in (λ (feed : Feed). differs feed ≡ false) (feeds_at (graph_of p) c)
+      (λ feed at.
+      let input = in_sources p c feed.from (feed_listed p c feed at) in
       let has : IsValidInput p (fields_to p c) input.0 = here_valid c input.0 within input.1 in
-      let one : has.from ≡ from = same_Some has.from from (sym has.named ∙ input.2) in
-      let same : fields_of p from ≡ fields_to p c = ap (fields_of p) (sym one) ∙ has.comes in
-      ap not ((pointwise_decides (λ a b. (bytes_same a b, bytes_itself a b)) (fields_of p from) (fields_to p c)).1 same)))
+      let one : has.from ≡ feed.from = same_Some has.from feed.from (sym has.named ∙ input.2) in
+      let same : fields_of p feed.from ≡ fields_to p c = ap (fields_of p) (sym one) ∙ has.comes in
+      ap not ((pointwise_decides (λ a b. (bytes_same a b, bytes_itself a b)) (fields_of p feed.from) (fields_to p c)).1 same))))
 
   there_none : (c : ℕ) (names : List (List ℕ)) → All (Contains (fields_to p c)) names → field_fault p c names ≡ None
   there_none c names each =
       ap (option_map (NoField (name_at p c)))
       (find_none (λ name. not (is_among (fields_to p c) name)) names
       (λ name at. ap not (in_among (fields_to p c) name (in_from_contains (fields_to p c) name (All-at_in (Contains (fields_to p c)) names each name at)))))
-
-  route_test : (operation : Operation) → IsRoute operation → is_route operation ≡ true
-  route_test (Split field into) route = elim route [ ]
-  route_test (Project names) route = elim route [ ]
-  route_test (Filter field test value) route = elim route [ ]
-  route_test (Set field value) route = elim route [ ]
-  route_test (Len field into) route = elim route [ ]
-  route_test (Route field) route = refl
-  route_test (Flaky below) route = elim route [ ]
-  route_test (Mute below) route = elim route [ ]
-  route_test Custom route = elim route [ ]
-
-  route_chosen : (from : Origin) → IsRouteAt p from → option_map_or is_route (operation_at p from) false ≡ true
-  route_chosen origin.Spout route = absurd route
-  route_chosen (origin.Component b) (bolt, is, route) =
-      ap (λ (there : Option BoltPart). option_map_or is_route (option_map (λ (b : BoltPart). b.operation) there) false) is ∙ route_test bolt.operation route
 
   direct_none : (c : ℕ) (input : Input) (by : GroupingPart) → IsValidInput p (fields_to p c) input → (by ≡ said.Direct → input.grouping ≡ said.Direct) → direct_fault p input by ≡ None
   direct_none c input said.Shuffle has is = refl
@@ -290,20 +219,13 @@ module _ (p : FileParts) (valid : IsValidFile p) where
   direct_none c input said.Global has is = refl
   direct_none c input said.Direct has is =
       let chosen : chooses p input ≡ true =
-      ap (λ there. option_map_or is_route (option_and_then (operation_at p) there) false) has.named ∙ route_chosen has.from (has.direct (is refl))
+      ap (λ there. option_map_or is_route (option_and_then (operation_at p) there) false) has.named ∙ has.direct (is refl)
       in
       cond-true (chooses p input) None (Some (WrongKind (codes "grouping"))) chosen
 
   input_none : (c : ℕ) (input : Input) → IsValidInput p (fields_to p c) input → input_fault p c input ≡ None
   input_none c input has =
-      none_from_each (field_fault p c (key_of input.grouping) ∷ direct_fault p input input.grouping ∷ [])
-      (λ fault at. elim at [
-        | inl key ↦ sym key ∙ there_none c (key_of input.grouping) has.key_fields
-        | inr later ↦ elim later [
-          | inl direct ↦ sym direct ∙ direct_none c input input.grouping has (λ is. is)
-          | inr none ↦ elim none [ ]
-        ]
-      ])
+      none_first (field_fault p c (key_of input.grouping) ∷ direct_fault p input input.grouping ∷ []) (there_none c (key_of input.grouping) has.key_fields, (direct_none c input input.grouping has (λ is. is), tt))
 
 within_range : (name : List ℕ) (n least most : ℕ) → IsBetween n least most → range_fault name (pos n) least most ≡ None
 within_range name n least most between =
@@ -347,37 +269,36 @@ module _ (p : FileParts) (valid : IsValidFile p) where
             let has : HasFields p (origin.Component c) = bolt_has p valid c bolt.0 bolt.1 in
             let inputs : inputs_at p c ≡ bolt.0.inputs = inputs_are p valid c bolt.0.inputs (inputs_at_bolt p c bolt.0 bolt.1) in
             fault_of_bolt p c bolt.0 bolt.1
-            ∙ none_of_four (differ_fault p c) (first_some (map (input_fault p c) bolt.0.inputs)) (field_fault p c (fields_read bolt.0.operation)) (added_fault (fields_to p c) bolt.0.operation)
-            (same_none p valid c within)
-            (none_from_each (map (input_fault p c) bolt.0.inputs)
-            (λ fault at.
-            let input = in_map (input_fault p c) bolt.0.inputs fault at in
-            sym input.2 ∙ input_none p valid c input.0 (here_valid p valid c input.0 within (subst (IsIn input.0) (sym inputs) input.1))))
-            (there_none p valid c (fields_read bolt.0.operation) (subst (All (Contains (fields_to p c))) (reads_at_bolt p c bolt.0 bolt.1) reads))
-            (added_none (fields_of p (origin.Component c)) (fields_to p c) bolt.0.operation (fields_made p valid c bolt.0 bolt.1) has.distinct has.count)
+            ∙ none_first (differ_fault p c ∷ first_some (map (input_fault p c) bolt.0.inputs) ∷ field_fault p c (fields_read bolt.0.operation) ∷ added_fault (fields_to p c) bolt.0.operation ∷ []) (
+              same_none p valid c within,
+              (
+                none_first_map (input_fault p c) bolt.0.inputs (λ input at. input_none p valid c input (here_valid p valid c input within (subst (IsIn input) (sym inputs) at))),
+                (
+                  there_none p valid c (fields_read bolt.0.operation) (subst (All (Contains (fields_to p c))) (reads_at_bolt p c bolt.0 bolt.1) reads),
+                  (added_none (fields_of p (origin.Component c)) (fields_to p c) bolt.0.operation (fields_made p valid c bolt.0 bolt.1) has.distinct has.count, tt),
+                ),
+              ),
+            )
         | inr state ↦
             let each : All (Contains (fields_to p c)) (state.0.key ++ option_to_list state.0.amount) = subst (All (Contains (fields_to p c))) (reads_at_state p c state.0 state.1) reads in
             let part = λ (names : List (List ℕ)) (from : (name : List ℕ) → IsIn name names → IsIn name (state.0.key ++ option_to_list state.0.amount)).
             there_none p valid c names (All-from_in (Contains (fields_to p c)) names (λ name at. All-at_in (Contains (fields_to p c)) (state.0.key ++ option_to_list state.0.amount) each name (from name at)))
             in
             fault_of_state p c state.0 state.1
-            ∙ none_of_three (differ_fault p c) (field_fault p c state.0.key) (field_fault p c (option_to_list state.0.amount))
-            (same_none p valid c within) (part state.0.key (to_left state.0.key (option_to_list state.0.amount))) (part (option_to_list state.0.amount) (to_right state.0.key (option_to_list state.0.amount)))
+            ∙ none_first (differ_fault p c ∷ field_fault p c state.0.key ∷ field_fault p c (option_to_list state.0.amount) ∷ [])
+            (same_none p valid c within, (part state.0.key (to_left state.0.key (option_to_list state.0.amount)), (part (option_to_list state.0.amount) (to_right state.0.key (option_to_list state.0.amount)), tt)))
       ]
 
-  depth_within : (c : ℕ) → IsIn c (by_depth p) → c < component_count p
+  depth_within : (c : ℕ) → IsIn c (by_depth (graph_of p)) → c < component_count p
+  unfolding by_depth
   depth_within c at =
-      let depth = in_flat_map (λ depth. filter (λ d. depth_at p d == depth) (range_with_len 0 (component_count p))) (range_with_len 1 (component_count p)) c at in
-      let kept = in_filter (λ d. depth_at p d == depth.0) (range_with_len 0 (component_count p)) c depth.2 in
-      let bounds = in_range 0 (component_count p) c kept.0 in
-      omega (arith, bounds.1)
+      let depth = in_flat_map (λ depth. filter (λ d. depth_at (graph_of p) (origin.Component d) == depth) (range_with_len 0 (length (graph_of p)))) (range_with_len 1 (length (graph_of p))) c at in
+      let kept = in_filter (λ d. depth_at (graph_of p) (origin.Component d) == depth.0) (range_with_len 0 (length (graph_of p))) c depth.2 in
+      let bounds = in_range 0 (length (graph_of p)) c kept.0 in
+      omega (arith, bounds.1, length_graph p, length_names p)
 
   fields_none : fields_fault p ≡ None
-  fields_none =
-      none_from_each (map (component_fault p) (by_depth p))
-      (λ fault at.
-      let c = in_map (component_fault p) (by_depth p) fault at in
-      sym c.2 ∙ component_none c.0 (depth_within c.0 c.1))
+  fields_none = none_first_map (component_fault p) (by_depth (graph_of p)) (λ c at. component_none c (depth_within c at))
 
   -- ---- the whole
 
@@ -396,14 +317,14 @@ light : (weight : ℕ) → weight ≤ 256 → weight_fault weight ≡ None
 light weight few = cond-false (nat_lt 256 weight) (Some (Weight weight)) None (le-ltb 256 weight few)
 
 pub none_of_valid : (p : FileParts) → IsValidFile p → meaning_fault p ≡ None
-unfolding meaning_fault
+unfolding meaning_fault size_fault
 none_of_valid p valid =
-    none_of_seven (twice_fault p) (source_fault p) (cycle_fault p) (fields_fault p) (replay_fault p p.spout.kind)
-    (range_fault (codes "tasks in all") (pos (tasks_in_all (plan_of p))) 1 256)
-    (weight_fault (weight_of (plan_of p)))
-    (twice_none p valid) (source_none p valid) (cycle_none p valid) (fields_none p valid) (replay_none p valid p.spout.kind refl)
-    (within_range (codes "tasks in all") (tasks_in_all (plan_of p)) 1 256 (subst (λ n. IsBetween n 1 256) (sum_of_tasks p) valid.tasks))
-    (light (weight_of (plan_of p)) valid.weight)
+    let tasks = within_range (codes "tasks in all") (tasks_in_all (plan_of p)) 1 256 (subst (λ n. IsBetween n 1 256) (sum_of_tasks p) valid.tasks) in
+    none_first (fault_before_size p ∷ size_fault (tasks_in_all (plan_of p)) (weight_of (plan_of p)) ∷ []) (
+      none_first (twice_fault p ∷ source_fault p ∷ cycle_fault p ∷ fields_fault p ∷ replay_fault p p.spout.kind ∷ [])
+          (twice_none p valid, (source_none p valid, (cycle_none p valid, (fields_none p valid, (replay_none p valid p.spout.kind refl, tt))))),
+      (none_first (range_fault (codes "tasks in all") (pos (tasks_in_all (plan_of p))) 1 256 ∷ weight_fault (weight_of (plan_of p)) ∷ []) (tasks, (light (weight_of (plan_of p)) valid.weight, tt)), tt),
+    )
 
 -- what a file says has no fault exactly where it is valid
 pub none_exactly_valid : (p : FileParts) → IsInRange p → (meaning_fault p ≡ None) ↔ IsValidFile p

@@ -1,18 +1,8 @@
 -- Which bolt or state a component number is, and what stands in its place in the lists that go over all components.
-use Rattle.std.specs.Prelude.{◌≡◌, ℕ, zero, suc, ◌+◌, ◌-◌, ◌<◌, List, [], ◌∷◌, ◌++◌, length, map, Some, option_map, option_to_list, slice_get}
-use Rattle.std.specs.List.{enumerate_from}
-use Rattle.std.proofs.Common.{◌⊎◌, inl, inr, refl, ◌∙◌, ap, arith}
-use Rattle.std.proofs.lemmas.Bool.{cases_lt}
-use Rattle.std.proofs.lemmas.List.{map-append, length-map}
-use Rattle.std.proofs.lemmas.List.FromFn.{length-enumerate_from}
-use Rattle.std.proofs.lemmas.Option.{none-some, slice_get-map, get_or_from_slice_get}
+use Rattle.std.proofs.Common.{◌≡◌, ℕ, zero, suc, ◌+◌, ◌-◌, ◌<◌, List, [], ◌∷◌, ◌++◌, length, map, Some, option_map, option_to_list, slice_get, ◌⊎◌, inl, inr, refl, ◌∙◌, ap, arith}
+use Rattle.topology_reader.proofs.Common.{enumerate_from, BoltPart, StatePart, FileParts, option_map_or, cases_lt, length-map, length-enumerate_from, none-some, slice_get-map, slice_get_past, inputs_by_component, state_inputs, at_component, planned_bolt, planned_state, plan_of, fields_read, reads_at}
 use Rattle.topology_plan.specs.declared.parts.Component.{Component}
-use Rattle.topology_form.specs.declared.parts.BoltPart.{BoltPart}
-use Rattle.topology_form.specs.declared.parts.StatePart.{StatePart}
-use Rattle.topology_form.specs.declared.parts.FileParts.{FileParts}
-use Rattle.topology_reader.specs.Wiring.{inputs_by_component, state_inputs}
-use Rattle.topology_reader.specs.Planned.{planned_bolt, planned_state, plan_of}
-use Rattle.topology_reader.specs.Meant.{fields_read, reads_at}
+use Rattle.topology_reader.proofs.PartLemmas.{map_parts}
 
 -- ---- places in lists
 
@@ -40,10 +30,6 @@ place_enumerated n (y ∷ ys) (suc k) c x number is = place_enumerated (n + 1) y
 pub map_enumerated : {X Y : Type 0} (f : ℕ × X → Y) (g : X → Y) → ((n : ℕ) (x : X) → f (n, x) ≡ g x) → (n : ℕ) (xs : List X) → map f (enumerate_from n xs) ≡ map g xs
 map_enumerated f g same n [] = refl
 map_enumerated f g same n (x ∷ xs) = let here : f (n, x) ≡ g x = same n x in let rest : map f (enumerate_from (n + 1) xs) ≡ map g xs = map_enumerated f g same (n + 1) xs in cc
-
-pub map_twice : {X Y Z : Type 0} (f : Y → Z) (g : X → Y) (xs : List X) → map f (map g xs) ≡ map (λ x. f (g x)) xs
-map_twice f g [] = refl
-map_twice f g (x ∷ xs) = ap (λ rest. f (g x) ∷ rest) (map_twice f g xs)
 
 pub some_there : {X : Type 0} (xs : List X) (k : ℕ) → k < length xs → (x : X) × (slice_get xs k ≡ Some x)
 some_there [] k within = absurd (omega arith)
@@ -86,19 +72,21 @@ inputs_at_bolt p c bolt is = part_at_bolt (λ (b : BoltPart). b.inputs) state_in
 pub inputs_at_state : (p : FileParts) (c : ℕ) (state : StatePart) → IsStateAt p c state → slice_get (inputs_by_component p) c ≡ Some (state_inputs state)
 inputs_at_state p c state at = part_at_state (λ (b : BoltPart). b.inputs) state_inputs p c state at
 
+-- what is said of a component number
+pub at_bolt : {X : Type 0} (f : BoltPart → X) (g : StatePart → X) (nothing : X) (p : FileParts) (c : ℕ) (bolt : BoltPart) → IsBoltAt p c bolt → at_component f g nothing p c ≡ f bolt
+at_bolt f g nothing p c bolt is = ap (λ there. option_map_or f there (option_map_or g (slice_get p.states (c - length p.bolts)) nothing)) is
+
+pub at_state : {X : Type 0} (f : BoltPart → X) (g : StatePart → X) (nothing : X) (p : FileParts) (c : ℕ) (state : StatePart) → IsStateAt p c state → at_component f g nothing p c ≡ g state
+at_state f g nothing p c state at =
+    let place : c - length p.bolts ≡ at.place = omega (arith, at.number) in
+    ap (λ there. option_map_or f there (option_map_or g (slice_get p.states (c - length p.bolts)) nothing)) (slice_get_past p.bolts c (omega (arith, at.number)))
+    ∙ ap (λ there. option_map_or g there nothing) (ap (slice_get p.states) place ∙ at.is)
+
 pub reads_at_bolt : (p : FileParts) (c : ℕ) (bolt : BoltPart) → IsBoltAt p c bolt → reads_at p c ≡ fields_read bolt.operation
-reads_at_bolt p c bolt is =
-    get_or_from_slice_get
-    (map (λ (b : BoltPart). fields_read b.operation) p.bolts ++ map (λ (s : StatePart). s.key ++ option_to_list s.amount) p.states)
-    c (fields_read bolt.operation) []
-    (part_at_bolt (λ (b : BoltPart). fields_read b.operation) (λ (s : StatePart). s.key ++ option_to_list s.amount) p c bolt is)
+reads_at_bolt = at_bolt (λ (b : BoltPart). fields_read b.operation) (λ (s : StatePart). s.key ++ option_to_list s.amount) []
 
 pub reads_at_state : (p : FileParts) (c : ℕ) (state : StatePart) → IsStateAt p c state → reads_at p c ≡ state.key ++ option_to_list state.amount
-reads_at_state p c state at =
-    get_or_from_slice_get
-    (map (λ (b : BoltPart). fields_read b.operation) p.bolts ++ map (λ (s : StatePart). s.key ++ option_to_list s.amount) p.states)
-    c (state.key ++ option_to_list state.amount) []
-    (part_at_state (λ (b : BoltPart). fields_read b.operation) (λ (s : StatePart). s.key ++ option_to_list s.amount) p c state at)
+reads_at_state = at_state (λ (b : BoltPart). fields_read b.operation) (λ (s : StatePart). s.key ++ option_to_list s.amount) []
 
 -- ---- components of the plan
 
@@ -122,12 +110,6 @@ pub map_components : {X : Type 0} (h : Component → X) (f : BoltPart → X) (g 
     → map h (plan_of p).components ≡ map f p.bolts ++ map g p.states
 unfolding plan_of
 map_components h f g p of_bolt of_state =
-    let bolts : map h (map (planned_bolt p) (enumerate_from 0 p.bolts)) ≡ map f p.bolts =
-    map_twice h (planned_bolt p) (enumerate_from 0 p.bolts) ∙ map_enumerated (λ numbered. h (planned_bolt p numbered)) f of_bolt 0 p.bolts
-    in
-    let states : map h (map (planned_state p) (enumerate_from (length p.bolts) p.states)) ≡ map g p.states =
-    map_twice h (planned_state p) (enumerate_from (length p.bolts) p.states) ∙ map_enumerated (λ numbered. h (planned_state p numbered)) g of_state (length p.bolts) p.states
-    in
-    map-append h (map (planned_bolt p) (enumerate_from 0 p.bolts)) (map (planned_state p) (enumerate_from (length p.bolts) p.states))
-    ∙ ap (λ ys. ys ++ map h (map (planned_state p) (enumerate_from (length p.bolts) p.states))) bolts
-    ∙ ap (λ ys. map f p.bolts ++ ys) states
+    map_parts h (planned_bolt p) (planned_state p) (enumerate_from 0 p.bolts) (enumerate_from (length p.bolts) p.states)
+    ∙ ap (λ ys. ys ++ map (λ (numbered : ℕ × StatePart). h (planned_state p numbered)) (enumerate_from (length p.bolts) p.states)) (map_enumerated (λ numbered. h (planned_bolt p numbered)) f of_bolt 0 p.bolts)
+    ∙ ap (λ ys. map f p.bolts ++ ys) (map_enumerated (λ numbered. h (planned_state p numbered)) g of_state (length p.bolts) p.states)

@@ -1,21 +1,21 @@
--- What stands at a component number: a bolt, or else a state.
-use Rattle.std.proofs.Common.{◌≡◌, ℕ, zero, suc, ◌-◌, ◌≤◌, List, [], ◌∷◌, ◌++◌, length, map, None, slice_index_or, refl, ◌∙◌, arith}
-use Rattle.std.proofs.lemmas.List.{get_or-append_right, length-map}
-use Rattle.std.specs.List.{slice_get}
+-- Lists over the bolts and then the states: how long they are, and what is made of them.
+use Rattle.std.proofs.Common.{◌≡◌, ℕ, ◌+◌, List, [], ◌∷◌, ◌++◌, length, map, refl, ap, ◌∙◌, arith, length-append}
+use Rattle.topology_reader.proofs.Common.{length-map, map-append, map-map, enumerate_from}
 
--- past the end
-slice_get_none : {X : Type 0} (xs : List X) (i : ℕ) → slice_get xs i ≡ None → length xs ≤ i
-slice_get_none [] i none = omega arith
-slice_get_none (x ∷ xs) zero none = cc
-slice_get_none (x ∷ xs) (suc i) none = omega (arith, slice_get_none xs i none)
+pub length_parts : {X Y Z : Type 0} (f : X → Z) (g : Y → Z) (xs : List X) (ys : List Y) → length (map f xs ++ map g ys) ≡ length xs + length ys
+length_parts f g xs ys = length-append (map f xs) (map g ys) ∙ omega (arith, length-map xs f, length-map ys g)
 
-at_no_index : {Y Z : Type 0} (g : Y → Z) (ys : List Y) (i : ℕ) (z : Z) → slice_get ys i ≡ None → slice_index_or (map g ys) i z ≡ z
-at_no_index g [] i z is = refl
-at_no_index g (w ∷ ys) zero z is = cc
-at_no_index g (w ∷ ys) (suc i) z is = at_no_index g ys i z is
+pub map_parts : {X Y Z V : Type 0} (h : Z → V) (f : X → Z) (g : Y → Z) (xs : List X) (ys : List Y) → map h (map f xs ++ map g ys) ≡ map (λ x. h (f x)) xs ++ map (λ y. h (g y)) ys
+map_parts h f g xs ys =
+    map-append h (map f xs) (map g ys)
+    ∙ ap (λ zs. zs ++ map h (map g ys)) (map-map h f xs)
+    ∙ ap (λ zs. map (λ x. h (f x)) xs ++ zs) (map-map h g ys)
 
-behind : {X Y Z : Type 0} (f : X → Z) (g : Y → Z) (xs : List X) (ys : List Y) (i : ℕ) (z : Z) → slice_get xs i ≡ None → slice_index_or (map f xs ++ map g ys) i z ≡ slice_index_or (map g ys) (i - length xs) z
-behind f g xs ys i z none = get_or-append_right (map f xs) (map g ys) (length xs) i z (length-map xs f) (slice_get_none xs i none)
+pub map_same : {A B : Type 0} (f g : A → B) → ((a : A) → f a ≡ g a) → (xs : List A) → map f xs ≡ map g xs
+map_same f g same [] = refl
+map_same f g same (x ∷ xs) = let here = same x in let rest = map_same f g same xs in cc
 
-pub at_neither : {X Y Z : Type 0} (f : X → Z) (g : Y → Z) (xs : List X) (ys : List Y) (i : ℕ) (z : Z) → slice_get xs i ≡ None → slice_get ys (i - length xs) ≡ None → slice_index_or (map f xs ++ map g ys) i z ≡ z
-at_neither f g xs ys i z none is = behind f g xs ys i z none ∙ at_no_index g ys (i - length xs) z is
+pub enumerate_append : {X : Type 0} (n : ℕ) (xs ys : List X) → enumerate_from n (xs ++ ys) ≡ enumerate_from n xs ++ enumerate_from (n + length xs) ys
+enumerate_append n [] ys = ap (λ k. enumerate_from k ys) (omega arith)
+enumerate_append n (x ∷ xs) ys =
+    ap (λ zs. (n, x) ∷ zs) (enumerate_append (n + 1) xs ys) ∙ ap (λ k. (n, x) ∷ (enumerate_from (n + 1) xs ++ enumerate_from k ys)) (omega arith)

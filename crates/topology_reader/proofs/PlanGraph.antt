@@ -1,38 +1,17 @@
 -- The depth and the weight of the plan are those of the file's graph: what is gathered from the subscriptions to a component is
 -- the same source by source as input by input.
-use Rattle.std.specs.Prelude.{◌≡◌, ◌≢◌, ℕ, zero, suc, ◌+◌, ◌*◌, ◌<◌, ◌≤◌, ◌^◌, ◌==◌, true, false, List, [], ◌∷◌, ◌++◌, length, map, filter, min, max, Option, Some, None, option_map, slice_index_or}
-use Rattle.std.specs.List.{cons_option, enumerate_from, flat_map, range_with_len}
-use Rattle.std.specs.Option.{option_map_or}
-use Rattle.std.proofs.Common.{inl, inr, refl, sym, ◌∙◌, ap, arith, append_assoc}
-use Rattle.std.proofs.lemmas.Bool.{cases_eq, cases_lt, cond-true, cond-false, eqb-true, eq-eqb, false_from_ne_true}
-use Rattle.std.proofs.lemmas.List.{append-nil, map-append, get_or_past}
-use Rattle.std.proofs.lemmas.List.Elements.{filter-append}
-use Rattle.std.proofs.lemmas.Option.{get_or_from_slice_get}
-use Rattle.std.proofs.lemmas.Simd.{map-map}
+use Rattle.std.proofs.Common.{◌≡◌, ◌≢◌, ℕ, zero, suc, ◌+◌, ◌*◌, ◌<◌, ◌≤◌, ◌^◌, ◌==◌, true, false, List, [], ◌∷◌, ◌++◌, length, map, filter, min, max, Option, Some, None, option_map, slice_index_or, inl, inr, refl, sym, ◌∙◌, ap, arith, append_assoc}
+use Rattle.topology_reader.proofs.Common.{cons_option, enumerate_from, flat_map, range_with_len, option_map_or, Origin, BoltPart, FileParts, GroupingPart, Input, StatePart, Feed, fed, feeds_at, value_in, value_of, cases_eq, cases_lt, cond-true, cond-false, eqb-true, eq-eqb, false_from_ne_true, append-nil, map-append, get_or_past, filter-append, get_or_from_slice_get, map-map, Sub, tasks_of, copies_by, copies_of, origins, inputs_of, subs_of, greatest, depth_within, plan_depth, weight_end, ended_sum, tuples_within, plan_weight, depth_rule, tuples_rule, depth_in_within, greatest_within, source_of, state_inputs, inputs_by_component, inputs_at, copies_said, feeds_of, graph_of, is_origin, is_from, planned_grouping, subs_of_component, planned_subs, plan_of}
+use Rattle.topology_graph.specs.Numbers.{depth_of, weight_of}
 use Rattle.topology_plan.specs.declared.parts.Component.{Component}
-use Rattle.topology_plan.specs.declared.parts.Origin.{Origin}
 use Rattle.topology_plan.specs.declared.parts.Origin.TheVariants as origin
-use Rattle.topology_plan.specs.declared.parts.Sub.{Sub}
-use Rattle.topology_plan.specs.Topology.{tasks_of, copies_by, copies_of, origins, inputs_of, subs_of, greatest, depth_within, depth_of as plan_depth, weight_end, ended_sum, tuples_within, weight_of as plan_weight}
-use Rattle.topology_form.specs.declared.parts.BoltPart.{BoltPart}
-use Rattle.topology_form.specs.declared.parts.FileParts.{FileParts}
-use Rattle.topology_form.specs.declared.parts.GroupingPart.{GroupingPart}
 use Rattle.topology_form.specs.declared.parts.GroupingPart.TheVariants as said
-use Rattle.topology_form.specs.declared.parts.Input.{Input}
-use Rattle.topology_form.specs.declared.parts.StatePart.{StatePart}
-use Rattle.topology_graph.specs.declared.values.Feed.{Feed}
-use Rattle.topology_graph.specs.Graph.{fed, feeds_at, value_in, value_of}
-use Rattle.topology_graph.specs.Numbers.{depth_rule, tuples_rule, depth_of, weight_of}
-use Rattle.topology_graph.proofs.ValueLemmas.{depth_in_within}
-use Rattle.topology_reader.specs.Wiring.{source_of, state_inputs, inputs_by_component, inputs_at}
-use Rattle.topology_reader.specs.Planned.{is_origin, is_from, planned_grouping, subs_of_component, planned_subs, plan_of}
-use Rattle.topology_reader.specs.steps.Graph.{copies_said, feeds_of, graph_of}
-use Rattle.topology_reader.proofs.Columns.{greatest_le, length_names}
 use Rattle.topology_reader.proofs.Listed.{IsIn, in_map, in_flat_map, in_enumerated, in_range}
 use Rattle.topology_reader.proofs.Numbered.{cases_component, part_at_bolt, part_at_state, inputs_at_bolt, inputs_at_state, component_at_bolt, component_at_state}
-use Rattle.topology_reader.proofs.SourceLemmas.{length-graph, map_same}
+use Rattle.topology_reader.proofs.PartLemmas.{map_same}
 use Rattle.topology_reader.proofs.SubFacts.{none_kept}
-use Rattle.topology_reader.proofs.ValidPlan.{source_within, subs_of_plan, length_inputs, length_components}
+use Rattle.topology_reader.proofs.SourceLemmas.{source_within, length_inputs, length_graph}
+use Rattle.topology_reader.proofs.ValidPlan.{subs_of_plan, length_components}
 
 -- ---- a number that is gathered from others, in whatever order
 
@@ -219,7 +198,7 @@ feeds_planned p c =
             ∙ ap (feeds_of p (tasks_of (plan_of p) c)) (sym (get_or_from_slice_get (inputs_by_component p) c (state_inputs state.0) [] (inputs_at_state p c state.0 state.1)))
       ]
       | inr past ↦
-          get_or_past (graph_of p) c [] (omega (arith, length-graph p, length_names p))
+          get_or_past (graph_of p) c [] (omega (arith, length_graph p))
           ∙ ap (feeds_of p (tasks_of (plan_of p) c)) (sym (get_or_past (inputs_by_component p) c [] (omega (arith, length_inputs p))))
     ]
 
@@ -234,7 +213,7 @@ gathered gather more gathers p c f g same =
 -- ---- depth
 
 length_planned : (p : FileParts) → length (graph_of p) ≡ length (plan_of p).components
-length_planned p = omega (arith, length-graph p, length_names p, length_components p)
+length_planned p = omega (arith, length_graph p, length_components p)
 
 fed_by_sources : (g : Feed → ℕ → ℕ) (f : Origin → ℕ) (feeds : List Feed) → map (λ (one : Feed × ℕ). g one.0 one.1) (fed f feeds) ≡ map (λ (feed : Feed). g feed (f feed.from)) feeds
 fed_by_sources g f feeds = map-map {B = Feed × ℕ} (λ one. g one.0 one.1) (λ (feed : Feed). (feed, f feed.from)) feeds
@@ -262,10 +241,8 @@ depth_planned p small =
 pub depth_small : (p : FileParts) → depth_of (graph_of p) ≤ length (graph_of p)
 unfolding depth_of value_of
 depth_small p =
-    greatest_le (length (graph_of p)) (map (λ c. value_in (length (graph_of p)) depth_rule (graph_of p) (origin.Component c)) (range_with_len 0 (length (graph_of p))))
-    (λ n at.
-    let found = in_map (λ c. value_in (length (graph_of p)) depth_rule (graph_of p) (origin.Component c)) (range_with_len 0 (length (graph_of p))) n at in
-    rw (← found.2) (depth_in_within (length (graph_of p)) (graph_of p) (origin.Component found.0)))
+    greatest_within (λ c. value_in (length (graph_of p)) depth_rule (graph_of p) (origin.Component c)) (range_with_len 0 (length (graph_of p))) (length (graph_of p))
+    (λ c. depth_in_within (length (graph_of p)) (graph_of p) (origin.Component c))
 
 -- ---- weight
 

@@ -1,17 +1,8 @@
 -- Fields by their numbers, and how many fields a source can have.
 use Rattle.std.proofs.Common.{◌≡◌, ℕ, zero, suc, ◌+◌, ◌≤◌, Bool, true, false, not, cond, List, [], ◌∷◌, length, All, Option, Some, None, option_map, position, nat_lt, slice_get, refl, ap, arith, rules, tests, length-append}
-use Rattle.std.specs.List.{position_or_len}
-use Rattle.std.specs.Str.{bytes_eq}
-use Rattle.topology_reader.specs.Wiring.{place_of, sources_at, fields_after, first_fields, fields_in, fields_of, fields_to}
-use Rattle.topology_form.specs.Ranges.{IsOperationInRange, IsBoltInRange, IsInRange}
-use Rattle.topology_plan.specs.declared.parts.Origin.{Origin}
+use Rattle.topology_reader.proofs.Common.{position_or_len, bytes_eq, IsInRange, IsOperationInRange, IsBoltInRange, Origin, Operation, Split, Project, Filter, Set, Len, Route, Flaky, Mute, Custom, BoltPart, FileParts, option_map_or, feeds_at, fed, value_in, value_of, Feed, All-head, All-tail, place_of, fields_after, fields_of, fields_rule, first_of, graph_of}
 use Rattle.topology_plan.specs.declared.parts.Origin.TheVariants as origin
-use Rattle.topology_form.specs.declared.parts.Operation.{Operation}
-use Rattle.topology_form.specs.declared.parts.Operation.TheVariants.{Split, Project, Filter, Set, Len, Route, Flaky, Mute, Custom}
-use Rattle.topology_form.specs.declared.parts.BoltPart.{BoltPart}
-use Rattle.topology_form.specs.declared.parts.FileParts.{FileParts}
-use Rattle.std.specs.Option.{option_map_or}
-use Rattle.std.proofs.lemmas.List.Elements.{All-head, All-tail}
+use Rattle.topology_reader.proofs.SourceLemmas.{length_graph}
 
 place_below : (below : Bool) (m : ℕ) → option_map suc (cond below (Some m) None) ≡ cond below (Some (1 + m)) None
 place_below true m = ap (λ n. Some n) (omega arith)
@@ -49,19 +40,16 @@ few_behind (bolt ∷ bolts) zero before most ranges eight few =
 few_behind (bolt ∷ bolts) (suc c) before most ranges eight few =
     few_behind bolts c before most (All-tail IsBoltInRange bolt bolts ranges) eight few
 
-few_first : (fields : Origin → List (List ℕ)) (most : ℕ) → ((from : Origin) → length (fields from) ≤ most) → (sources : List Origin) → length (first_fields fields sources) ≤ most
+few_first : (fields : Origin → List (List ℕ)) (most : ℕ) → ((from : Origin) → length (fields from) ≤ most) → (feeds : List Feed) → length (first_of (fed fields feeds)) ≤ most
 few_first fields most few [] = omega arith
-few_first fields most few (first ∷ sources) = few first
+few_first fields most few (feed ∷ feeds) = few feed.from
 
-few_fields_in : (n : ℕ) (p : FileParts) → IsInRange p → (from : Origin) → length (fields_in n p from) ≤ 8 + n
+few_fields_in : (n : ℕ) (p : FileParts) → IsInRange p → (from : Origin) → length (value_in n (fields_rule p) (graph_of p) from) ≤ 8 + n
 few_fields_in n p range origin.Spout = omega (arith, range.spout.fields.1)
 few_fields_in zero p range (origin.Component c) = omega arith
 few_fields_in (suc n) p range (origin.Component c) =
-    omega (arith, few_behind p.bolts c (first_fields (fields_in n p) (sources_at p c)) (8 + n) range.each_bolt (omega arith) (few_first (fields_in n p) (8 + n) (few_fields_in n p range) (sources_at p c)))
+    omega (arith, few_behind p.bolts c (first_of (fed (value_in n (fields_rule p) (graph_of p)) (feeds_at (graph_of p) c))) (8 + n) range.each_bolt (omega arith) (few_first (value_in n (fields_rule p) (graph_of p)) (8 + n) (few_fields_in n p range) (feeds_at (graph_of p) c)))
 
-pub few_fields_of : (p : FileParts) → IsInRange p → (from : Origin) → length (fields_of p from) ≤ 40
-unfolding fields_of
-few_fields_of p range from = omega (arith, few_fields_in (length p.bolts) p range from, range.bolts)
-
-pub few_fields_to : (p : FileParts) → IsInRange p → (c : ℕ) → length (fields_to p c) ≤ 40
-few_fields_to p range c = few_first (fields_of p) 40 (few_fields_of p range) (sources_at p c)
+pub few_fields_of : (p : FileParts) → IsInRange p → (from : Origin) → length (fields_of p from) ≤ 48
+unfolding fields_of value_of
+few_fields_of p range from = omega (arith, few_fields_in (length (graph_of p)) p range from, length_graph p, range.bolts, range.states.1)

@@ -1,17 +1,8 @@
 -- What is reached is that to which there is a path, and without cycles the bolts before a component grow in number along it.
-use Rattle.std.specs.Prelude.{◌≡◌, ◌↔◌, ℕ, zero, suc, ◌+◌, ◌<◌, ◌≤◌, Bool, true, false, ◌&&◌, cond, List, [], ◌∷◌, ◌++◌, length, Option, Some, None}
-use Rattle.std.specs.List.{find, count_by, range_with_len}
-use Rattle.std.specs.Option.{option_map}
-use Rattle.std.proofs.Common.{◌⊎◌, inl, inr, refl, sym, ◌∙◌, ap, arith}
-use Rattle.std.proofs.lemmas.Bool.{and_parts, and_from, or_cases, or_left, or_right, cases_Bool, cases_order, cond-true, cond-false}
-use Rattle.std.proofs.lemmas.List.FromFn.{length-range_with_len}
-use Rattle.std.proofs.lemmas.List.Sums.{sum_by-cons, count_by-le-length}
-use Rattle.std.proofs.lemmas.Option.{none-some}
-use Rattle.topology_form.specs.declared.parts.FileParts.{FileParts}
-use Rattle.topology_form.specs.declared.fault.TopoFault.TheVariants.{Cycle}
-use Rattle.topology_reader.specs.Wiring.{name_at, feeds, reaches_over, reaches}
-use Rattle.topology_reader.specs.Meant.{cycle_fault}
-use Rattle.topology_reader.specs.Reach.{IsPathThrough, IsPath}
+use Rattle.std.proofs.Common.{◌≡◌, ◌↔◌, ℕ, zero, suc, ◌+◌, ◌<◌, ◌≤◌, Bool, true, false, ◌&&◌, cond, List, [], ◌∷◌, ◌++◌, length, None, ◌⊎◌, inl, inr, refl, ◌∙◌, ap, arith}
+use Rattle.std.specs.List.{find}
+use Rattle.topology_reader.proofs.Common.{count_by, range_with_len, FileParts, Cycle, and_parts, and_from, or_cases, or_left, or_right, cases_order, length-range_with_len, sum_by-cons, count_by-le-length, sum_by-le-sum_by, name_at, feeds, reaches_over, reaches, cycle_fault, IsPathThrough, IsPath}
+use Rattle.topology_reader.proofs.Listed.{none_mapped, to_range, none_found}
 
 -- how many bolts there are before a component, on any path to it
 unfoldable pub rank : FileParts → ℕ → ℕ
@@ -120,60 +111,39 @@ one_le false y onward = omega arith
 one_lt : (x y : Bool) → x ≡ false → y ≡ true → cond x 1 0 < cond y 1 0
 one_lt x y fails passes = rw (fails, passes) (omega arith)
 
-count_le : (f g : ℕ → Bool) (first n : ℕ) → ((a : ℕ) → a < first + n → f a ≡ true → g a ≡ true) → count_by f (range_with_len first n) ≤ count_by g (range_with_len first n)
-count_le f g first zero onward = omega arith
-count_le f g first (suc n) onward =
-    let here : cond (f first) 1 0 ≤ cond (g first) 1 0 = one_le (f first) (g first) (onward first (omega arith)) in
-    let rest : count_by f (range_with_len (first + 1) n) ≤ count_by g (range_with_len (first + 1) n) = count_le f g (first + 1) n (λ a below. onward a (omega arith)) in
-    rw (sum_by-cons (λ a. cond (f a) 1 0) first (range_with_len (first + 1) n), sum_by-cons (λ a. cond (g a) 1 0) first (range_with_len (first + 1) n)) (omega arith)
-
 -- what only the second test has makes it pass more
-count_lt : (f g : ℕ → Bool) (first n c : ℕ) → ((a : ℕ) → a < first + n → f a ≡ true → g a ≡ true) → first ≤ c → c < first + n → f c ≡ false → g c ≡ true → count_by f (range_with_len first n) < count_by g (range_with_len first n)
+count_lt : (f g : ℕ → Bool) (first n c : ℕ) → ((a : ℕ) → f a ≡ true → g a ≡ true) → first ≤ c → c < first + n → f c ≡ false → g c ≡ true → count_by f (range_with_len first n) < count_by g (range_with_len first n)
 count_lt f g first zero c onward from to fails passes = absurd (omega arith)
 count_lt f g first (suc n) c onward from to fails passes =
-    let bound : (a : ℕ) → a < (first + 1) + n → f a ≡ true → g a ≡ true = λ a below. onward a (omega arith) in
     rw (sum_by-cons (λ a. cond (f a) 1 0) first (range_with_len (first + 1) n), sum_by-cons (λ a. cond (g a) 1 0) first (range_with_len (first + 1) n))
     (elim (cases_order first c) [
       | inl same ↦
           let here : cond (f first) 1 0 < cond (g first) 1 0 = one_lt (f first) (g first) (ap f same ∙ fails) (ap g same ∙ passes) in
-          let rest : count_by f (range_with_len (first + 1) n) ≤ count_by g (range_with_len (first + 1) n) = count_le f g (first + 1) n bound in
+          let rest : count_by f (range_with_len (first + 1) n) ≤ count_by g (range_with_len (first + 1) n) =
+          sum_by-le-sum_by (λ a. cond (f a) 1 0) (λ a. cond (g a) 1 0) (range_with_len (first + 1) n) (λ a. one_le (f a) (g a) (onward a))
+          in
           omega arith
       | inr other ↦
-          let here : cond (f first) 1 0 ≤ cond (g first) 1 0 = one_le (f first) (g first) (onward first (omega arith)) in
-          let rest : count_by f (range_with_len (first + 1) n) < count_by g (range_with_len (first + 1) n) = count_lt f g (first + 1) n c bound (omega arith) (omega arith) fails passes in
+          let here : cond (f first) 1 0 ≤ cond (g first) 1 0 = one_le (f first) (g first) (onward first) in
+          let rest : count_by f (range_with_len (first + 1) n) < count_by g (range_with_len (first + 1) n) = count_lt f g (first + 1) n c onward (omega arith) (omega arith) fails passes in
           omega arith
     ])
 
 -- ---- ranks
 
-none_mapped : {A B : Type 0} (f : A → B) (o : Option A) → option_map f o ≡ None → o ≡ None
-none_mapped f None none = refl
-none_mapped f (Some x) none = absurd (none-some (f x) (sym none))
-
 pub rank-le : (p : FileParts) (c : ℕ) → rank p c ≤ length p.bolts
 unfolding rank
 rank-le p c = omega (arith, count_by-le-length (λ a. reaches p a c) (range_with_len 0 (length p.bolts)), length-range_with_len 0 (length p.bolts))
 
-none_found : (test : ℕ → Bool) (first n : ℕ) → find test (range_with_len first n) ≡ None → (c : ℕ) → first ≤ c → c < first + n → test c ≡ false
-none_found test first zero none c from to = absurd (omega arith)
-none_found test first (suc n) none c from to =
-    elim (cases_Bool (test first)) [
-      | inl passes ↦ absurd (none-some first (sym none ∙ cond-true (test first) (Some first) (find test (range_with_len (first + 1) n)) passes))
-      | inr fails ↦ elim (cases_order first c) [
-        | inl same ↦ rw (sym same) fails
-        | inr other ↦ none_found test (first + 1) n (sym (cond-false (test first) (Some first) (find test (range_with_len (first + 1) n)) fails) ∙ none) c (omega arith) (omega arith)
-      ]
-    ]
-
 -- where no fault is told, no bolt is reached from itself
 pub no_cycle : (p : FileParts) (c : ℕ) → cycle_fault p ≡ None → c < length p.bolts → reaches p c c ≡ false
 no_cycle p c none below =
-    none_found (λ a. reaches p a a) 0 (length p.bolts) (none_mapped (λ a. Cycle (name_at p a)) (find (λ a. reaches p a a) (range_with_len 0 (length p.bolts))) none) c (omega arith) (omega arith)
+    none_found (λ a. reaches p a a) (range_with_len 0 (length p.bolts)) (none_mapped (λ a. Cycle (name_at p a)) (find (λ a. reaches p a a) (range_with_len 0 (length p.bolts))) none) c (to_range 0 (length p.bolts) c (omega arith) (omega arith))
 
 -- a fed component has more bolts before it than the bolt that feeds it
 pub rank_grows : (p : FileParts) (c d : ℕ) → cycle_fault p ≡ None → c < length p.bolts → feeds p c d ≡ true → rank p c < rank p d
 unfolding rank
 rank_grows p c d none below fed =
     count_lt (λ a. reaches p a c) (λ a. reaches p a d) 0 (length p.bolts) c
-    (λ a under path. reaches_on p a c d below path fed)
+    (λ a path. reaches_on p a c d below path fed)
     (omega arith) (omega arith) (no_cycle p c none below) (reaches_from_feeds p c d fed)

@@ -1,49 +1,97 @@
--- The graph of a file, as the program makes it, and the sources in it.
-use Rattle.std.proofs.Common.{◌≡◌, ℕ, zero, suc, List, [], ◌∷◌, ◌++◌, length, map, Option, Some, None, option_map, slice_index_or, refl, sym, ap, ◌∙◌, arith}
-use Rattle.std.proofs.lemmas.List.{map-append, length-append, length-map}
-use Rattle.std.proofs.lemmas.Simd.{map-map}
-use Rattle.std.specs.List.{filter_map, cons_option}
-use Rattle.topology_plan.specs.declared.parts.Origin.{Origin}
-use Rattle.topology_form.specs.declared.parts.BoltPart.{BoltPart}
-use Rattle.topology_form.specs.declared.parts.Input.{Input}
-use Rattle.topology_form.specs.declared.parts.FileParts.{FileParts}
-use Rattle.topology_form.specs.declared.parts.StatePart.{StatePart}
+-- The sources of names, and the graph of a file as the program makes it.
+use Rattle.std.proofs.Common.{inl, inr, ◌≡◌, ℕ, zero, suc, ◌+◌, ◌<◌, List, [], ◌∷◌, ◌++◌, length, map, Bool, true, false, cond, Option, Some, None, option_map, slice_get, slice_index_or, refl, sym, ap, subst, ◌∙◌, arith}
+use Rattle.topology_reader.proofs.Common.{eq-eqb, length-map, map-id, none-some, same_Some, slice_get_within, get_or_from_slice_get, filter_map, cons_option, bytes_eq, Origin, BoltPart, Input, FileParts, StatePart, Feed, feeds_at, IsSource, component_count, bolt_names, place_of, source_of, state_inputs, inputs_by_component, inputs_at, sources_among, sources_at, is_component, feeds, feed_of, feeds_of, graph_of, copies_said, map-map}
+use Rattle.topology_plan.specs.declared.parts.Origin.TheVariants as origin
 use Rattle.topology_form.specs.declared.parts.GroupingPart.TheVariants as said
-use Rattle.topology_graph.specs.declared.values.Feed.{Feed}
-use Rattle.topology_graph.specs.Graph.{feeds_at}
-use Rattle.topology_reader.specs.steps.Graph.{feed_of, feeds_of, graph_of, copies_said}
-use Rattle.topology_reader.specs.steps.Sources.{sources_among}
-use Rattle.topology_reader.specs.Wiring.{component_count, bolt_names, source_of, state_inputs, inputs_by_component, sources_at}
+use Rattle.topology_reader.proofs.Distinct.{bytes_same, place_named}
+use Rattle.topology_reader.proofs.Listed.{IsIn, in_append, in_map, in_filter_map, to_filter_map, to_any}
+use Rattle.topology_reader.proofs.PartLemmas.{length_parts, map_parts, map_same}
+
+-- ---- the source of a name
+
+-- the source is the spout of this name, or the bolt
+abbrev pub IsNamed : FileParts → Origin → List ℕ → Type 0
+IsNamed p origin.Spout name = p.spout.name ≡ name
+IsNamed p (origin.Component c) name = slice_get (bolt_names p) c ≡ Some name
+
+named_by : (p : FileParts) (name : List ℕ) (from : Origin) (spout : Bool) (place : Option ℕ) → (spout ≡ true → p.spout.name ≡ name) → ((k : ℕ) → place ≡ Some k → slice_get (bolt_names p) k ≡ Some name)
+    → cond spout (Some origin.Spout) (option_map origin.Component place) ≡ Some from → IsNamed p from name
+named_by p name from true place first there is = subst (λ (o : Origin). IsNamed p o name) (same_Some origin.Spout from is) (first refl)
+named_by p name from false None first there is = absurd (none-some from is)
+named_by p name from false (Some k) first there is = subst (λ (o : Origin). IsNamed p o name) (same_Some (origin.Component k) from is) (there k refl)
+
+pub source_named : (p : FileParts) (name : List ℕ) (from : Origin) → source_of p name ≡ Some from → IsNamed p from name
+source_named p name from is = named_by p name from (bytes_eq p.spout.name name) (place_of (bolt_names p) name) (bytes_same p.spout.name name) (place_named (bolt_names p) name) is
+
+-- a source that is a component is a bolt
+pub source_within : (p : FileParts) (name : List ℕ) (c : ℕ) → source_of p name ≡ Some (origin.Component c) → c < length p.bolts
+source_within p name c is =
+    omega (arith, slice_get_within (bolt_names p) c name (source_named p name (origin.Component c) is), length-map p.bolts (λ (bolt : BoltPart). bolt.name))
+
+-- ---- the sources of a component
+
+pub in_sources : (p : FileParts) (c : ℕ) (from : Origin) → IsIn from (sources_at p c) → (input : Input) × IsIn input (inputs_at p c) × (source_of p input.from ≡ Some from)
+in_sources p c from at = in_filter_map (λ (input : Input). source_of p input.from) (inputs_at p c) from at
+
+pub to_sources : (p : FileParts) (c : ℕ) (input : Input) (from : Origin) → IsIn input (inputs_at p c) → source_of p input.from ≡ Some from → IsIn from (sources_at p c)
+to_sources p c input from at is = to_filter_map (λ (input : Input). source_of p input.from) (inputs_at p c) input from at is
+
+pub in_inputs_at : (p : FileParts) (c : ℕ) (inputs : List Input) (input : Input) → slice_get (inputs_by_component p) c ≡ Some inputs → IsIn input inputs → IsIn input (inputs_at p c)
+in_inputs_at p c inputs input is at = subst (IsIn input) (sym (get_or_from_slice_get (inputs_by_component p) c inputs [] is)) at
+
+pub source_there : (p : FileParts) (c : ℕ) (from : Origin) → IsIn from (sources_at p c) → IsSource p from
+source_there p c origin.Spout at = tt
+source_there p c (origin.Component b) at = let input = in_sources p c (origin.Component b) at in source_within p input.0.from b input.2
+
+pub feeds_from_source : (p : FileParts) (c b : ℕ) → IsIn (origin.Component b) (sources_at p c) → feeds p b c ≡ true
+feeds_from_source p c b at = to_any (is_component b) (sources_at p c) (origin.Component b) at (eq-eqb b b refl)
+
+-- what holds of the inputs of each bolt and of each state holds of those of every component
+pub of_inputs : (p : FileParts) (P : List Input → Type 0) → ((bolt : BoltPart) → IsIn bolt p.bolts → P bolt.inputs) → ((state : StatePart) → IsIn state p.states → P (state_inputs state))
+    → (inputs : List Input) → IsIn inputs (inputs_by_component p) → P inputs
+of_inputs p P of_bolt of_state inputs at =
+    elim (in_append (map (λ (bolt : BoltPart). bolt.inputs) p.bolts) (map state_inputs p.states) inputs at) [
+      | inl left ↦ let bolt = in_map (λ (bolt : BoltPart). bolt.inputs) p.bolts inputs left in subst P bolt.2 (of_bolt bolt.0 bolt.1)
+      | inr right ↦ let state = in_map state_inputs p.states inputs right in subst P state.2 (of_state state.0 state.1)
+    ]
+
+-- the same of each input
+pub of_each_input : (p : FileParts) (P : Input → Type 0) → ((bolt : BoltPart) → IsIn bolt p.bolts → (input : Input) → IsIn input bolt.inputs → P input)
+    → ((state : StatePart) → IsIn state p.states → (from : List ℕ) → IsIn from state.inputs → P (record { from = from; grouping = said.Fields state.key }))
+    → (inputs : List Input) → IsIn inputs (inputs_by_component p) → (input : Input) → IsIn input inputs → P input
+of_each_input p P of_bolt of_state =
+    of_inputs p (λ (inputs : List Input). (input : Input) → IsIn input inputs → P input) of_bolt
+    (λ state at input listed.
+    let made = in_map (λ from. record { from = from; grouping = said.Fields state.key }) state.inputs input listed in
+    subst P made.2 (of_state state at made.0 made.1))
+
+-- the inputs of a state name its sources
+pub froms_of_state : (state : StatePart) → map (λ (input : Input). input.from) (state_inputs state) ≡ state.inputs
+froms_of_state state = map-map (λ (input : Input). input.from) (λ from. record { from = from; grouping = said.Fields state.key }) state.inputs ∙ map-id state.inputs
+
+-- ---- lists over all components
+
+pub length_names : (p : FileParts) → component_count p ≡ length p.bolts + length p.states
+length_names p = length_parts (λ (bolt : BoltPart). bolt.name) (λ (state : StatePart). state.name) p.bolts p.states
+
+pub length_inputs : (p : FileParts) → length (inputs_by_component p) ≡ length p.bolts + length p.states
+length_inputs p = length_parts (λ (bolt : BoltPart). bolt.inputs) state_inputs p.bolts p.states
+
+pub length_graph : (p : FileParts) → length (graph_of p) ≡ length p.bolts + length p.states
+length_graph p = length_parts (λ (bolt : BoltPart). feeds_of p bolt.tasks bolt.inputs) (λ (state : StatePart). feeds_of p state.parts (state_inputs state)) p.bolts p.states
+
+-- ---- the graph
 
 -- each input of a state gets one copy
 feeds_of-state_inputs : (p : FileParts) (tasks : ℕ) (key names : List (List ℕ)) → feeds_of p tasks (map (λ from. record { from = from; grouping = said.Fields key }) names) ≡ filter_map (λ name. feed_of p name 1) names
 feeds_of-state_inputs p tasks key [] = refl
 feeds_of-state_inputs p tasks key (name ∷ names) = ap (cons_option (feed_of p name 1)) (feeds_of-state_inputs p tasks key names)
 
-feeds_of_states : (p : FileParts) (states : List StatePart) → map (λ (state : StatePart). feeds_of p state.parts (state_inputs state)) states ≡ map (λ (state : StatePart). filter_map (λ name. feed_of p name 1) state.inputs) states
-feeds_of_states p [] = refl
-feeds_of_states p (state ∷ states) =
-    let head : feeds_of p state.parts (state_inputs state) ≡ filter_map (λ name. feed_of p name 1) state.inputs = feeds_of-state_inputs p state.parts state.key state.inputs in
-    let tail = feeds_of_states p states in
-    cc
-
 -- bolt by bolt, and then state by state
-pub graph_of-parts : (p : FileParts) → graph_of p ≡ map (λ (bolt : BoltPart). feeds_of p bolt.tasks bolt.inputs) p.bolts ++ map (λ (state : StatePart). filter_map (λ name. feed_of p name 1) state.inputs) p.states
-graph_of-parts p = ap (λ rows. map (λ (bolt : BoltPart). feeds_of p bolt.tasks bolt.inputs) p.bolts ++ rows) (feeds_of_states p p.states)
-
-pub length-graph : (p : FileParts) → length (graph_of p) ≡ component_count p
-length-graph p =
-    omega (
-      arith,
-      length-append (map (λ (bolt : BoltPart). feeds_of p bolt.tasks bolt.inputs) p.bolts) (map (λ (state : StatePart). feeds_of p state.parts (state_inputs state)) p.states),
-      length-map p.bolts (λ (bolt : BoltPart). feeds_of p bolt.tasks bolt.inputs),
-      length-map p.states (λ (state : StatePart). feeds_of p state.parts (state_inputs state)),
-      length-append (bolt_names p) (map (λ (state : StatePart). state.name) p.states),
-      length-map p.bolts (λ (bolt : BoltPart). bolt.name),
-      length-map p.states (λ (state : StatePart). state.name),
-    )
-
--- ---- the sources in the graph
+pub graph_of_parts : (p : FileParts) → graph_of p ≡ map (λ (bolt : BoltPart). feeds_of p bolt.tasks bolt.inputs) p.bolts ++ map (λ (state : StatePart). filter_map (λ name. feed_of p name 1) state.inputs) p.states
+graph_of_parts p =
+    ap (λ rows. map (λ (bolt : BoltPart). feeds_of p bolt.tasks bolt.inputs) p.bolts ++ rows)
+    (map_same (λ (state : StatePart). feeds_of p state.parts (state_inputs state)) (λ (state : StatePart). filter_map (λ name. feed_of p name 1) state.inputs) (λ state. feeds_of-state_inputs p state.parts state.key state.inputs) p.states)
 
 abbrev pub froms : List Feed → List Origin
 froms feeds = map (λ (feed : Feed). feed.from) feeds
@@ -63,28 +111,16 @@ index_mapped f [] c default = refl
 index_mapped f (x ∷ xs) zero default = refl
 index_mapped f (x ∷ xs) (suc c) default = index_mapped f xs c default
 
-pub map_same : {A B : Type 0} (f g : A → B) → ((a : A) → f a ≡ g a) → (xs : List A) → map f xs ≡ map g xs
-map_same f g same [] = refl
-map_same f g same (x ∷ xs) = let here = same x in let rest = map_same f g same xs in cc
-
 froms_of_all : (p : FileParts) → map froms (graph_of p) ≡ map (sources_among p) (inputs_by_component p)
 froms_of_all p =
     let bolt_feeds = λ (bolt : BoltPart). feeds_of p bolt.tasks bolt.inputs in
     let state_feeds = λ (state : StatePart). feeds_of p state.parts (state_inputs state) in
-    let of_bolts : map froms (map bolt_feeds p.bolts) ≡ map (sources_among p) (map (λ (bolt : BoltPart). bolt.inputs) p.bolts) =
-    map-map froms bolt_feeds p.bolts
-    ∙ map_same (λ bolt. froms (bolt_feeds bolt)) (λ bolt. sources_among p bolt.inputs) (λ bolt. froms_of p bolt.tasks bolt.inputs) p.bolts
-    ∙ sym (map-map (sources_among p) (λ (bolt : BoltPart). bolt.inputs) p.bolts)
-    in
-    let of_states : map froms (map state_feeds p.states) ≡ map (sources_among p) (map state_inputs p.states) =
-    map-map froms state_feeds p.states
-    ∙ map_same (λ state. froms (state_feeds state)) (λ state. sources_among p (state_inputs state)) (λ state. froms_of p state.parts (state_inputs state)) p.states
-    ∙ sym (map-map (sources_among p) state_inputs p.states)
-    in
-    map-append froms (map bolt_feeds p.bolts) (map state_feeds p.states)
-    ∙ ap (λ rows. rows ++ map froms (map state_feeds p.states)) of_bolts
-    ∙ ap (λ rows. map (sources_among p) (map (λ (bolt : BoltPart). bolt.inputs) p.bolts) ++ rows) of_states
-    ∙ sym (map-append (sources_among p) (map (λ (bolt : BoltPart). bolt.inputs) p.bolts) (map state_inputs p.states))
+    map_parts froms bolt_feeds state_feeds p.bolts p.states
+    ∙ ap (λ rows. rows ++ map (λ (state : StatePart). froms (state_feeds state)) p.states)
+    (map_same (λ (bolt : BoltPart). froms (bolt_feeds bolt)) (λ bolt. sources_among p bolt.inputs) (λ bolt. froms_of p bolt.tasks bolt.inputs) p.bolts)
+    ∙ ap (λ rows. map (λ (bolt : BoltPart). sources_among p bolt.inputs) p.bolts ++ rows)
+    (map_same (λ (state : StatePart). froms (state_feeds state)) (λ state. sources_among p (state_inputs state)) (λ state. froms_of p state.parts (state_inputs state)) p.states)
+    ∙ sym (map_parts (sources_among p) (λ (bolt : BoltPart). bolt.inputs) state_inputs p.bolts p.states)
 
 -- the sources of a component's subscriptions are its sources
 pub froms_at : (p : FileParts) (c : ℕ) → froms (feeds_at (graph_of p) c) ≡ sources_at p c

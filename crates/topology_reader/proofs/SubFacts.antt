@@ -1,64 +1,20 @@
 -- The subscriptions of the plan of a file without a fault: at most one of a component to a source, with a grouping by fields that are there.
-use Rattle.std.specs.Prelude.{◌≡◌, ℕ, ◌+◌, ◌<◌, List, [], ◌∷◌, ◌++◌, length, map, filter, All, Bool, true, false, Option, Some, None, option_map, option_and_then, slice_get, unwrap_or, codes}
-use Rattle.std.specs.List.{enumerate_from, flat_map}
+use Rattle.std.proofs.Common.{◌≡◌, ℕ, ◌+◌, ◌<◌, List, [], ◌∷◌, ◌++◌, length, map, filter, All, Bool, true, false, Option, Some, None, option_map, option_and_then, slice_get, unwrap_or, codes, ◌⊎◌, inl, inr, refl, sym, ◌∙◌, ap, subst, arith}
+use Rattle.topology_reader.proofs.Common.{enumerate_from, flat_map, option_map_or, Origin, WrongKind, GroupingPart, Input, Operation, Split, Project, Filter, Set, Len, Route, Flaky, Mute, Custom, BoltPart, FileParts, IsBetween, IsInRange, IsGroupingInRange, IsInputInRange, IsBoltInRange, IsStateInRange, cases_Bool, cases_lt, cond-true, cond-false, false≢true, false_from_ne_true, length-map, map-id, none-some, same_Some, slice_get_within, Sub, subs_of, plan_fields, width_of, AreWithin, IsRouteOf, IsFrom, source_of, inputs_by_component, inputs_at, sources_at, fields_after, fields_of, fields_to, operation_at, number_of, numbers_of, planned_operation, route_field, planned_grouping, is_from, subs_of_component, planned_subs, planned_bolt, plan_of, key_of, is_route, chooses, direct_fault, fields_read, twice_fault, IsSource}
 use Rattle.std.specs.List.Sorted.{IsStrictlyIncreasing}
-use Rattle.std.specs.Option.{option_map_or}
-use Rattle.std.specs.Str.{bytes_eq}
-use Rattle.std.proofs.Common.{◌⊎◌, inl, inr, refl, sym, ◌∙◌, ap, subst, arith}
-use Rattle.std.proofs.lemmas.Bool.{cases_Bool, cases_lt, cond-true, cond-false, false≢true, false_from_ne_true}
-use Rattle.std.proofs.lemmas.List.{length-map, map-id}
-use Rattle.std.proofs.lemmas.Option.{none-some, same_Some, slice_get_within}
 use Rattle.topology_plan.specs.declared.parts.Body.TheVariants.{Bolt}
 use Rattle.topology_plan.specs.declared.parts.Component.{Component}
-use Rattle.topology_plan.specs.declared.parts.Origin.{Origin}
 use Rattle.topology_plan.specs.declared.parts.Origin.TheVariants as origin
-use Rattle.topology_plan.specs.declared.parts.Sub.{Sub}
-use Rattle.topology_form.specs.declared.fault.TopoFault.TheVariants.{WrongKind}
-use Rattle.topology_form.specs.declared.parts.GroupingPart.{GroupingPart}
 use Rattle.topology_form.specs.declared.parts.GroupingPart.TheVariants as said
-use Rattle.topology_form.specs.declared.parts.Input.{Input}
-use Rattle.topology_form.specs.declared.parts.Operation.{Operation}
-use Rattle.topology_form.specs.declared.parts.Operation.TheVariants.{Split, Project, Filter, Set, Len, Route, Flaky, Mute, Custom}
-use Rattle.topology_form.specs.declared.parts.BoltPart.{BoltPart}
-use Rattle.topology_form.specs.declared.parts.FileParts.{FileParts}
-use Rattle.topology_plan.specs.Topology.{subs_of}
-use Rattle.topology_plan.specs.Valid.{IsBetween}
-use Rattle.topology_plan.specs.Wired.{fields_of as plan_fields, width_of, AreWithin, IsRouteOf, IsFrom}
-use Rattle.topology_reader.specs.Wiring.{bolt_names, place_of, source_of, state_inputs, inputs_by_component, inputs_at, sources_at, fields_after, fields_of, fields_to, operation_at}
-use Rattle.topology_reader.specs.Planned.{number_of, numbers_of, planned_operation, route_field, planned_grouping, is_from, subs_of_component, planned_subs, planned_bolt, plan_of}
-use Rattle.topology_reader.specs.Meant.{key_of, is_route, chooses, direct_fault, fields_read, twice_fault}
-use Rattle.topology_form.specs.Ranges.{IsGroupingInRange, IsInputInRange, IsBoltInRange, IsStateInRange, IsInRange}
-use Rattle.topology_reader.proofs.Listed.{IsIn, All-from_in, All-at_in, in_map, to_map, in_append, in_place}
-use Rattle.topology_reader.proofs.Distinct.{bytes_same, some_mapped, place_named, place_within, place_there, AreApart, AllPairs-from_apart, IsRising, rising_above, increasing_from_rising}
-use Rattle.topology_reader.proofs.Numbered.{map_twice, some_there, reads_at_bolt, component_at_bolt}
-use Rattle.topology_reader.proofs.ValidPlan.{HasNoFault, is_source, IsPlanned, planned_in_plan, subs_of_plan, no_subs_past, length_inputs}
-use Rattle.topology_reader.proofs.Columns.{to_sources, fields_of_spout, fields_of_bolt, HasNoFaultAt, froms_once, key_once, state_key_once, state_froms_once, in_inputs_at, IsBoltOrSpout, source_there, no_fault_here}
+use Rattle.topology_reader.proofs.Listed.{IsIn, All-from_in, All-at_in, in_map, to_map, in_place}
+use Rattle.topology_reader.proofs.Distinct.{place_named, place_within, place_there, AreApart, AllPairs-from_apart, IsRising, rising_above, increasing_from_rising}
+use Rattle.topology_reader.proofs.Numbered.{some_there, reads_at_bolt, component_at_bolt}
+use Rattle.topology_reader.proofs.ValidPlan.{HasNoFault, is_source, IsPlanned, planned_in_plan, subs_of_plan, no_subs_past, planned_source}
+use Rattle.topology_reader.proofs.SourceLemmas.{length_inputs, in_inputs_at, source_there, IsNamed, source_named, of_each_input, froms_of_state, of_inputs}
+use Rattle.topology_reader.proofs.GraphLemmas.{fields_of_spout, fields_of_bolt}
+use Rattle.topology_reader.proofs.Columns.{HasNoFaultAt, froms_once, key_once, state_key_once, state_froms_once, no_fault_here}
 
 -- ---- one name of a source
-
-abbrev IsNamed : FileParts → Origin → List ℕ → Type 0
-IsNamed p origin.Spout name = p.spout.name ≡ name
-IsNamed p (origin.Component c) name = slice_get (bolt_names p) c ≡ Some name
-
-source_named : (p : FileParts) (name : List ℕ) (from : Origin) → source_of p name ≡ Some from → IsNamed p from name
-source_named p name origin.Spout is =
-    elim (cases_Bool (bytes_eq p.spout.name name)) [
-      | inl spout ↦ bytes_same p.spout.name name spout
-      | inr bolt ↦
-          let found = some_mapped origin.Component (place_of (bolt_names p) name) origin.Spout (sym (cond-false (bytes_eq p.spout.name name) (Some origin.Spout) (option_map origin.Component (place_of (bolt_names p) name)) bolt) ∙ is) in
-          let wrong : origin.Component found.0 ≡ origin.Spout = found.2 in
-          absurd (cc)
-    ]
-source_named p name (origin.Component c) is =
-    elim (cases_Bool (bytes_eq p.spout.name name)) [
-      | inl spout ↦
-          let wrong : Some origin.Spout ≡ Some (origin.Component c) = sym (cond-true (bytes_eq p.spout.name name) (Some origin.Spout) (option_map origin.Component (place_of (bolt_names p) name)) spout) ∙ is in
-          absurd (cc)
-      | inr bolt ↦
-          let found = some_mapped origin.Component (place_of (bolt_names p) name) (origin.Component c) (sym (cond-false (bytes_eq p.spout.name name) (Some origin.Spout) (option_map origin.Component (place_of (bolt_names p) name)) bolt) ∙ is) in
-          let same : found.0 ≡ c = (let parts : origin.Component found.0 ≡ origin.Component c = found.2 in cc) in
-          subst (λ k. slice_get (bolt_names p) k ≡ Some name) same (place_named (bolt_names p) name found.0 found.1)
-    ]
 
 one_name : (p : FileParts) (from : Origin) (a b : List ℕ) → IsNamed p from a → IsNamed p from b → a ≡ b
 one_name p origin.Spout a b first second = sym first ∙ second
@@ -105,18 +61,9 @@ rising_subs p from n (inputs ∷ all) apart =
     ]
 
 pub inputs_apart : (p : FileParts) (inputs : List Input) → twice_fault p ≡ None → IsIn inputs (inputs_by_component p) → AreApart (map (λ (input : Input). input.from) inputs)
-inputs_apart p inputs none at =
-    elim (in_append (map (λ (bolt : BoltPart). bolt.inputs) p.bolts) (map state_inputs p.states) inputs at) [
-      | inl left ↦
-          let bolt = in_map (λ (bolt : BoltPart). bolt.inputs) p.bolts inputs left in
-          subst (λ (is : List Input). AreApart (map (λ (input : Input). input.from) is)) bolt.2 (froms_once p none bolt.0 bolt.1)
-      | inr right ↦
-          let state = in_map state_inputs p.states inputs right in
-          let names : map (λ (input : Input). input.from) (state_inputs state.0) ≡ state.0.inputs =
-          map_twice (λ (input : Input). input.from) (λ from. record { from = from; grouping = said.Fields state.0.key }) state.0.inputs ∙ map-id state.0.inputs
-          in
-          subst (λ (is : List Input). AreApart (map (λ (input : Input). input.from) is)) state.2 (subst AreApart (sym names) (state_froms_once p none state.0 state.1))
-    ]
+inputs_apart p inputs none =
+    of_inputs p (λ (is : List Input). AreApart (map (λ (input : Input). input.from) is)) (froms_once p none)
+    (λ state at. subst AreApart (sym (froms_of_state state)) (state_froms_once p none state at)) inputs
 
 once_from : (p : FileParts) (from : Origin) → twice_fault p ≡ None → IsStrictlyIncreasing (map (λ (sub : Sub). sub.to) (planned_subs p from))
 once_from p from none =
@@ -166,14 +113,14 @@ numbers_within fields names count apart there = (
 
 -- ---- fields of the plan
 
-pub fields_planned : (p : FileParts) (from : Origin) → IsBoltOrSpout p from → plan_fields (plan_of p) from ≡ fields_of p from
+pub fields_planned : (p : FileParts) (from : Origin) → IsSource p from → plan_fields (plan_of p) from ≡ fields_of p from
 unfolding plan_of
 fields_planned p origin.Spout there = sym (fields_of_spout p)
 fields_planned p (origin.Component c) there =
     let bolt = some_there p.bolts c there in
     ap (λ (component : Option Component). option_map_or (λ (c : Component). c.fields) component []) (component_at_bolt p c bolt.0 bolt.1)
 
-width_planned : (p : FileParts) (from : Origin) → IsBoltOrSpout p from → width_of (plan_of p) from ≡ length (fields_of p from)
+width_planned : (p : FileParts) (from : Origin) → IsSource p from → width_of (plan_of p) from ≡ length (fields_of p from)
 width_planned p from there = ap (λ (fields : List (List ℕ)). length fields) (fields_planned p from there)
 
 -- ---- routes
@@ -211,31 +158,16 @@ chosen_by_route p input from source none =
 -- ---- groupings
 
 said_in_range : (p : FileParts) (inputs : List Input) (input : Input) → IsInRange p → IsIn inputs (inputs_by_component p) → IsIn input inputs → IsGroupingInRange input.grouping
-said_in_range p inputs input range at listed =
-    elim (in_append (map (λ (bolt : BoltPart). bolt.inputs) p.bolts) (map state_inputs p.states) inputs at) [
-      | inl left ↦
-          let bolt = in_map (λ (bolt : BoltPart). bolt.inputs) p.bolts inputs left in
-          let limits : IsBoltInRange bolt.0 = All-at_in IsBoltInRange p.bolts range.each_bolt bolt.0 bolt.1 in
-          All-at_in IsInputInRange bolt.0.inputs limits.groupings input (subst (IsIn input) (sym bolt.2) listed)
-      | inr right ↦
-          let state = in_map state_inputs p.states inputs right in
-          let limits : IsStateInRange state.0 = All-at_in IsStateInRange p.states range.each_state state.0 state.1 in
-          let made = in_map (λ from. record { from = from; grouping = said.Fields state.0.key }) state.0.inputs input (subst (IsIn input) (sym state.2) listed) in
-          subst (λ (i : Input). IsGroupingInRange i.grouping) made.2 limits.key
-    ]
+said_in_range p inputs input range at =
+    of_each_input p (λ (input : Input). IsGroupingInRange input.grouping)
+    (λ bolt at. All-at_in IsInputInRange bolt.inputs (IsBoltInRange.groupings (All-at_in IsBoltInRange p.bolts range.each_bolt bolt at)))
+    (λ state at from listed. IsStateInRange.key (All-at_in IsStateInRange p.states range.each_state state at))
+    inputs at input
 
 -- no name stands twice in a key
 pub key_apart : (p : FileParts) (inputs : List Input) (input : Input) → twice_fault p ≡ None → IsIn inputs (inputs_by_component p) → IsIn input inputs → AreApart (key_of input.grouping)
-key_apart p inputs input none at listed =
-    elim (in_append (map (λ (bolt : BoltPart). bolt.inputs) p.bolts) (map state_inputs p.states) inputs at) [
-      | inl left ↦
-          let bolt = in_map (λ (bolt : BoltPart). bolt.inputs) p.bolts inputs left in
-          key_once p none bolt.0 bolt.1 input (subst (IsIn input) (sym bolt.2) listed)
-      | inr right ↦
-          let state = in_map state_inputs p.states inputs right in
-          let made = in_map (λ from. record { from = from; grouping = said.Fields state.0.key }) state.0.inputs input (subst (IsIn input) (sym state.2) listed) in
-          subst (λ (i : Input). AreApart (key_of i.grouping)) made.2 (state_key_once p none state.0 state.1)
-    ]
+key_apart p inputs input none at =
+    of_each_input p (λ (input : Input). AreApart (key_of input.grouping)) (key_once p none) (λ state at from listed. state_key_once p none state at) inputs at input
 
 module _ (p : FileParts) (range : IsInRange p) (faultless : HasNoFault p) where
   -- a direct grouping comes from a route
@@ -244,7 +176,7 @@ module _ (p : FileParts) (range : IsInRange p) (faultless : HasNoFault p) where
       let bolt = some_there p.bolts c within in
       let here : HasNoFaultAt p c = no_fault_here p range faultless c (omega arith) in
       let route : is_route bolt.0.operation ≡ true = subst (λ (there : Option BoltPart). option_map_or is_route (option_map (λ (b : BoltPart). b.operation) there) false ≡ true) bolt.1 chosen in
-      let fields : fields_of p (origin.Component c) ≡ fields_to p c = fields_of_bolt p c bolt.0 faultless.cycle bolt.1 ∙ route_keeps (fields_to p c) bolt.0.operation route in
+      let fields : fields_of p (origin.Component c) ≡ fields_to p c = fields_of_bolt p c bolt.0 range faultless.cycle bolt.1 ∙ route_keeps (fields_to p c) bolt.0.operation route in
       let field : option_map_or (route_field (fields_of p (origin.Component c))) (operation_at p (origin.Component c)) 0 ≡ route_field (fields_to p c) bolt.0.operation =
       ap (λ (there : Option BoltPart). option_map_or (route_field (fields_of p (origin.Component c))) (option_map (λ (b : BoltPart). b.operation) there) 0) bolt.1
       ∙ ap (λ names. route_field names bolt.0.operation) fields
@@ -257,7 +189,7 @@ module _ (p : FileParts) (range : IsInRange p) (faultless : HasNoFault p) where
             (subst (λ (names : List (List ℕ)). route_field (fields_to p c) bolt.0.operation < length names) (sym fields) (route_within (fields_to p c) bolt.0.operation route reads)),
       )
 
-  said_planned : (from : Origin) (by : GroupingPart) → IsBoltOrSpout p from → IsGroupingInRange by → AreApart (key_of by) → ((name : List ℕ) → IsIn name (key_of by) → IsIn name (fields_of p from))
+  said_planned : (from : Origin) (by : GroupingPart) → IsSource p from → IsGroupingInRange by → AreApart (key_of by) → ((name : List ℕ) → IsIn name (key_of by) → IsIn name (fields_of p from))
       → (by ≡ said.Direct → option_map_or is_route (operation_at p from) false ≡ true) → IsFrom (plan_of p) from (planned_grouping p from by)
   said_planned from said.Shuffle there limits apart keys direct = tt
   said_planned from (said.Fields key) there limits apart keys direct =
@@ -272,7 +204,7 @@ module _ (p : FileParts) (range : IsInRange p) (faultless : HasNoFault p) where
       let within : sub.to < length p.bolts + length p.states = omega (arith, slice_get_within (inputs_by_component p) sub.to planned.inputs planned.consumer, length_inputs p) in
       let here : HasNoFaultAt p sub.to = no_fault_here p range faultless sub.to within in
       let listed : IsIn planned.input (inputs_at p sub.to) = in_inputs_at p sub.to planned.inputs planned.input planned.consumer planned.listed in
-      let source : IsIn from (sources_at p sub.to) = to_sources p sub.to planned.input from listed planned.source in
+      let source : IsIn from (sources_at p sub.to) = planned_source p from sub planned in
       let same : fields_of p from ≡ fields_to p sub.to = here.same from source in
       subst (IsFrom (plan_of p) from) (sym planned.grouping)
       (said_planned from planned.input.grouping (source_there p sub.to from source)

@@ -1,22 +1,10 @@
 -- The subscriptions of all sources, made in one walk over the inputs.
-use Rattle.std.proofs.Common.{◌≡◌, ◌≢◌, ℕ, ◌+◌, ◌<◌, ◌==◌, Bool, true, false, cond, inl, inr, List, [], ◌∷◌, ◌++◌, length, map, filter, take, get_or, set, fold, Option, Some, None, Vec, refl, sym, ap, ◌∙◌, subst, arith, append_assoc, length-append}
-use Rattle.std.proofs.lemmas.Bool.{cases_Bool, eqb-true, eqb-false}
-use Rattle.std.proofs.lemmas.List.{map-set, get_or-map, append-nil, take_more, length-take-le, map-append, length-map, length-set, length-replicate, get_or-replicate, get_or-set_same, get_or-set_other}
-use Rattle.std.proofs.lemmas.List.FromFn.{fill_by_all}
-use Rattle.std.proofs.lemmas.List.Sums.{fold_push, fold-append}
-use Rattle.std.specs.List.{enumerate_from, flat_map, range_with_len}
+use Rattle.std.proofs.Common.{◌≡◌, ◌≢◌, ℕ, ◌+◌, ◌<◌, ◌==◌, Bool, true, false, cond, inl, inr, List, [], ◌∷◌, ◌++◌, length, map, filter, take, get_or, set, fold, Option, Some, None, Vec, refl, sym, ap, ◌∙◌, subst, arith, append_assoc}
+use Rattle.topology_reader.proofs.Common.{cases_Bool, eqb-true, eqb-false, map-set, get_or-map, append-nil, take_more, length-take-le, map-append, length-map, length-set, length-replicate, get_or-replicate, get_or-set_same, get_or-set_other, fill_by_all, fold_push, fold-append, enumerate_from, flat_map, range_with_len, Origin, BoltPart, Input, FileParts, Sub, is_origin, is_from, planned_grouping, subs_of_component, planned_subs, SubTable, with_sub, with_input, with_inputs, no_subs, items_by, source_of, state_inputs, inputs_by_component, component_count}
 use Rattle.std.specs.declared.alloc.Global.{Global}
-use Rattle.topology_plan.specs.declared.parts.Origin.{Origin}
 use Rattle.topology_plan.specs.declared.parts.Origin.TheVariants as origin
-use Rattle.topology_plan.specs.declared.parts.Sub.{Sub}
-use Rattle.topology_form.specs.declared.parts.BoltPart.{BoltPart}
-use Rattle.topology_form.specs.declared.parts.StatePart.{StatePart}
-use Rattle.topology_form.specs.declared.parts.Input.{Input}
-use Rattle.topology_form.specs.declared.parts.FileParts.{FileParts}
-use Rattle.topology_reader.specs.Planned.{is_origin, is_from, planned_grouping, subs_of_component, planned_subs}
-use Rattle.topology_reader.specs.steps.Subscribed.{SubTable, with_sub, with_input, with_inputs, no_subs}
-use Rattle.topology_reader.specs.steps.Subscribed.{items_by}
-use Rattle.topology_reader.specs.Wiring.{source_of, state_inputs, inputs_by_component, component_count}
+use Rattle.topology_reader.proofs.SourceLemmas.{length_inputs, length_names}
+use Rattle.topology_reader.proofs.PartLemmas.{enumerate_append}
 
 -- a vector of the table with one more subscription
 pub added_at : (components : List (Vec Sub Global)) (c : ℕ) (old new : Vec Sub Global) (sub : Sub) → c < length components → old ≡ get_or components c old → new.items ≡ old.items ++ sub ∷ [] → items_by (set components c new) ≡ set (items_by components) c (get_or (items_by components) c [] ++ sub ∷ [])
@@ -26,11 +14,6 @@ added_at components c old new sub below is added =
     (added ∙ ap (λ xs. xs ++ sub ∷ []) (ap (λ (subs : Vec Sub Global). subs.items) is ∙ sym (get_or-map (λ (subs : Vec Sub Global). subs.items) components c old [] below)))
 
 -- ---- numbered rows
-
-enumerate_append : {X : Type 0} (n : ℕ) (xs ys : List X) → enumerate_from n (xs ++ ys) ≡ enumerate_from n xs ++ enumerate_from (n + length xs) ys
-enumerate_append n [] ys = ap (λ k. enumerate_from k ys) (omega arith)
-enumerate_append n (x ∷ xs) ys =
-    ap (λ zs. (n, x) ∷ zs) (enumerate_append (n + 1) xs ys) ∙ ap (λ k. (n, x) ∷ (enumerate_from (n + 1) xs ++ enumerate_from k ys)) (omega arith)
 
 map-enumerate : {X Y : Type 0} (g : ℕ → Y) (n : ℕ) (xs : List X) → map (λ (numbered : ℕ × X). g numbered.0) (enumerate_from n xs) ≡ map g (range_with_len n (length xs))
 map-enumerate g n [] = refl
@@ -163,12 +146,6 @@ IsTable-walk n f table p (component ∷ components) holds =
 
 -- ---- the whole walk
 
-length-inputs : (p : FileParts) → component_count p ≡ length (inputs_by_component p)
-length-inputs p =
-    length-append (map (λ (bolt : BoltPart). bolt.name) p.bolts) (map (λ (state : StatePart). state.name) p.states)
-    ∙ omega (arith, length-map p.bolts (λ (bolt : BoltPart). bolt.name), length-map p.states (λ (state : StatePart). state.name), length-map p.bolts (λ (bolt : BoltPart). bolt.inputs), length-map p.states state_inputs)
-    ∙ sym (length-append (map (λ (bolt : BoltPart). bolt.inputs) p.bolts) (map state_inputs p.states))
-
 module _ (p : FileParts) (table : SubTable) (walked : table ≡ fold (with_inputs p) (no_subs (component_count p)) (enumerate_from 0 (inputs_by_component p))) where
   whole : IsTable (component_count p) (planned_subs p) table
   whole = subst (IsTable (component_count p) (planned_subs p)) (sym walked) (IsTable-walk (component_count p) (λ _. []) (no_subs (component_count p)) p (enumerate_from 0 (inputs_by_component p)) (IsTable-none (component_count p)))
@@ -179,5 +156,5 @@ module _ (p : FileParts) (table : SubTable) (walked : table ≡ fold (with_input
   pub from_components-walked : table.from_components ≡ map (λ (numbered : ℕ × List Input). planned_subs p (origin.Component numbered.0)) (enumerate_from 0 (inputs_by_component p))
   from_components-walked =
       fill_by_all (λ c. planned_subs p (origin.Component c)) table.from_components (component_count p) [] whole.count whole.each
-      ∙ ap (λ n. map (λ c. planned_subs p (origin.Component c)) (range_with_len 0 n)) (length-inputs p)
+      ∙ ap (λ n. map (λ c. planned_subs p (origin.Component c)) (range_with_len 0 n)) (length_names p ∙ sym (length_inputs p))
       ∙ sym (map-enumerate (λ c. planned_subs p (origin.Component c)) 0 (inputs_by_component p))

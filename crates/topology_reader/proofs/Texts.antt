@@ -1,10 +1,8 @@
 -- The JSON value that bytes spell, where they are UTF-8 and where they are not.
 use Rattle.std.proofs.Common.{◌≡◌, ℕ, List, Bool, true, false, Option, Some, None, cond, refl}
 use Rattle.std.proofs.lemmas.Str.{IsUtf8-from_is_utf8, is_utf8-from_IsUtf8}
-use Rattle.std.specs.Str.{IsUtf8, is_utf8}
-use Rattle.serde_json.specs.Data.{Data}
+use Rattle.topology_reader.proofs.Common.{IsUtf8, is_utf8, Data, json_of}
 use Rattle.serde_json.specs.Read.{read}
-use Rattle.storm_values.specs.Json.{json_of}
 
 pub json_of-read : (bytes : List ℕ) (value : Data) → IsUtf8 bytes → read bytes ≡ Some value → json_of bytes ≡ Some value
 unfolding json_of

@@ -1,31 +1,14 @@
 -- A file without a fault has a valid plan.
-use Rattle.std.specs.Prelude.{◌≡◌, ℕ, ◌+◌, ◌<◌, ◌≤◌, ◌&&◌, pos, List, [], ◌∷◌, length, map, filter, All, true, false, nat_lt, int_le, Option, Some, None, option_map, slice_get, codes}
-use Rattle.std.specs.List.{enumerate_from}
-use Rattle.std.specs.Option.{option_map_or}
-use Rattle.std.specs.Str.{bytes_eq}
-use Rattle.std.proofs.Common.{zero-add, inl, inr, refl, sym, ◌∙◌, ap, subst, arith}
-use Rattle.std.proofs.lemmas.Bool.{cases_Bool, cases_lt, cond-true, cond-false, and_parts, ltb-false, eqb-true, eq-eqb, false≢true, leb-true}
-use Rattle.std.proofs.lemmas.List.{length-append, length-map, get_or-map, get_or_past}
-use Rattle.std.proofs.lemmas.List.FromFn.{length-enumerate_from, get_or-enumerate_from}
-use Rattle.std.proofs.lemmas.Option.{none-some, slice_get_within, get_or_from_slice_get}
-use Rattle.storm_values.specs.Lines.{first_some}
-use Rattle.topology_plan.specs.declared.parts.Origin.{Origin}
+use Rattle.std.proofs.Common.{◌≡◌, ℕ, ◌+◌, ◌<◌, ◌≤◌, ◌&&◌, pos, List, [], ◌∷◌, length, map, filter, All, true, false, nat_lt, int_le, Option, Some, None, slice_get, codes, zero-add, inl, inr, refl, sym, ◌∙◌, ap, subst, arith, IfSome}
+use Rattle.topology_reader.proofs.Common.{enumerate_from, option_map_or, Origin, OutOfRange, Weight, Input, FileParts, BoltPart, StatePart, tasks_in_all, subs_of, IsBetween, IsValid, IsTarget, IsRanked, IsInRange, cases_Bool, cases_lt, cond-true, cond-false, and_parts, ltb-false, eqb-true, eq-eqb, false≢true, leb-true, length-map, get_or-map, get_or_past, length-enumerate_from, get_or-enumerate_from, none-some, slice_get_within, slice_get_past, Sub, range_fault, twice_fault, source_fault, cycle_fault, fields_fault, replay_fault, weight_fault, meaning_fault, fault_before_size, size_fault, source_of, inputs_by_component, sources_at, is_origin, is_from, planned_grouping, subs_of_component, planned_subs, planned_bolt, planned_state, plan_of}
+use Rattle.topology_plan.specs.Topology.{weight_of}
 use Rattle.topology_plan.specs.declared.parts.Origin.TheVariants as origin
-use Rattle.topology_plan.specs.declared.parts.Sub.{Sub}
-use Rattle.topology_form.specs.declared.fault.TopoFault.TheVariants.{OutOfRange, Weight}
-use Rattle.topology_form.specs.declared.parts.Input.{Input}
-use Rattle.topology_form.specs.declared.parts.BoltPart.{BoltPart}
-use Rattle.topology_form.specs.declared.parts.FileParts.{FileParts}
-use Rattle.topology_reader.specs.Meant.{range_fault}
-use Rattle.topology_plan.specs.Topology.{Topology, subs_of, tasks_in_all, weight_of}
-use Rattle.topology_plan.specs.Valid.{IsBetween, IsTarget, IsRanked, IsValid}
-use Rattle.topology_reader.specs.Wiring.{bolt_names, place_of, source_of, state_inputs, inputs_by_component, inputs_at, sources_at, is_component, feeds}
-use Rattle.topology_reader.specs.Planned.{is_origin, is_from, planned_grouping, subs_of_component, planned_subs, planned_bolt, planned_state, plan_of}
-use Rattle.topology_reader.specs.Meant.{twice_fault, source_fault, cycle_fault, fields_fault, replay_fault, weight_fault, meaning_fault}
-use Rattle.topology_form.specs.Ranges.{IsInRange}
 use Rattle.topology_reader.proofs.Ranks.{rank, rank_grows}
-use Rattle.topology_reader.proofs.Distinct.{some_mapped, place_within}
-use Rattle.topology_reader.proofs.Listed.{IsIn, All-from_in, in_map, to_map, in_flat_map, to_flat_map, in_filter, to_filter, in_enumerated, to_enumerated, to_filter_map, to_any, none_of_some}
+use Rattle.topology_reader.proofs.Listed.{IsIn, All-from_in, in_map, to_map, in_flat_map, to_flat_map, in_filter, to_filter, in_enumerated, to_enumerated, none_each}
+use Rattle.topology_reader.proofs.SourceLemmas.{feeds_from_source, in_inputs_at, length_inputs, source_within, to_sources}
+use Rattle.topology_reader.proofs.PartLemmas.{length_parts}
+use Rattle.topology_reader.proofs.Numbered.{IsBoltAt, IsStateAt, cases_component, component_at_bolt, component_at_state}
+use Rattle.topology_plan.specs.declared.parts.Component.{Component}
 
 -- ---- each fault is none
 
@@ -39,27 +22,14 @@ pub record HasNoFault (p : FileParts) : Type 0 where
   pub tasks : range_fault (codes "tasks in all") (pos (tasks_in_all (plan_of p))) 1 256 ≡ None
   pub weight : weight_fault (weight_of (plan_of p)) ≡ None
 
-none_of_seven : {F : Type 0} (a b c d e f g : Option F) → first_some (a ∷ b ∷ c ∷ d ∷ e ∷ f ∷ g ∷ []) ≡ None → (a ≡ None) × (b ≡ None) × (c ≡ None) × (d ≡ None) × (e ≡ None) × (f ≡ None) × (g ≡ None)
-none_of_seven {F} a b c d e f g none =
-    let each : (fault : Option F) → IsIn fault (a ∷ b ∷ c ∷ d ∷ e ∷ f ∷ g ∷ []) → fault ≡ None = none_of_some (a ∷ b ∷ c ∷ d ∷ e ∷ f ∷ g ∷ []) none in (
-      each a (inl refl),
-      each b (inr (inl refl)),
-      each c (inr (inr (inl refl))),
-      each d (inr (inr (inr (inl refl)))),
-      each e (inr (inr (inr (inr (inl refl))))),
-      each f (inr (inr (inr (inr (inr (inl refl)))))),
-      each g (inr (inr (inr (inr (inr (inr (inl refl))))))),
-    )
-
 pub no_fault : (p : FileParts) → meaning_fault p ≡ None → HasNoFault p
-unfolding meaning_fault
+unfolding meaning_fault size_fault
 no_fault p none =
-    let each =
-    none_of_seven (twice_fault p) (source_fault p) (cycle_fault p) (fields_fault p) (replay_fault p p.spout.kind)
-    (range_fault (codes "tasks in all") (pos (tasks_in_all (plan_of p))) 1 256)
-    (weight_fault (weight_of (plan_of p))) none
-    in
-    record { twice = each.0; sources = each.1; cycle = each.2; fields = each.3; replay = each.4; tasks = each.5; weight = each.6 }
+    let tasks = range_fault (codes "tasks in all") (pos (tasks_in_all (plan_of p))) 1 256 in
+    let parts = none_each (fault_before_size p ∷ size_fault (tasks_in_all (plan_of p)) (weight_of (plan_of p)) ∷ []) none in
+    let before = none_each (twice_fault p ∷ source_fault p ∷ cycle_fault p ∷ fields_fault p ∷ replay_fault p p.spout.kind ∷ []) parts.0 in
+    let size = none_each (tasks ∷ weight_fault (weight_of (plan_of p)) ∷ []) parts.1.0 in
+    record { twice = before.0; sources = before.1.0; cycle = before.1.1.0; fields = before.1.1.1.0; replay = before.1.1.1.1.0; tasks = size.0; weight = size.1.0 }
 
 -- ---- numbers
 
@@ -81,18 +51,6 @@ most_from_weight weight none =
 
 -- ---- sources
 
--- a source that is a component is a bolt
-pub source_within : (p : FileParts) (name : List ℕ) (c : ℕ) → source_of p name ≡ Some (origin.Component c) → c < length p.bolts
-source_within p name c is =
-    elim (cases_Bool (bytes_eq p.spout.name name)) [
-      | inl spout ↦ let wrong : Some origin.Spout ≡ Some (origin.Component c) = sym (cond-true (bytes_eq p.spout.name name) (Some origin.Spout) (option_map origin.Component (place_of (bolt_names p) name)) spout) ∙ is in cc
-      | inr bolt ↦
-          let found = some_mapped origin.Component (place_of (bolt_names p) name) (origin.Component c) (sym (cond-false (bytes_eq p.spout.name name) (Some origin.Spout) (option_map origin.Component (place_of (bolt_names p) name)) bolt) ∙ is) in
-          let there : found.0 < length (bolt_names p) = place_within (bolt_names p) name found.0 found.1 in
-          let same : found.0 ≡ c = (let parts : origin.Component found.0 ≡ origin.Component c = found.2 in cc) in
-          omega (arith, length-map p.bolts (λ (bolt : BoltPart). bolt.name))
-    ]
-
 pub is_origin_same : (a b : Origin) → is_origin a b ≡ true → a ≡ b
 is_origin_same origin.Spout origin.Spout same = refl
 is_origin_same origin.Spout (origin.Component d) same = absurd (false≢true same)
@@ -108,10 +66,6 @@ is_source from None is = absurd (false≢true is)
 is_source from (Some other) is = ap Some (sym (is_origin_same from other is))
 
 -- ---- subscriptions
-
-pub length_inputs : (p : FileParts) → length (inputs_by_component p) ≡ length p.bolts + length p.states
-length_inputs p =
-    omega (arith, length-append (map (λ (bolt : BoltPart). bolt.inputs) p.bolts) (map state_inputs p.states), length-map p.bolts (λ (bolt : BoltPart). bolt.inputs), length-map p.states state_inputs)
 
 -- where a subscription to a source comes from: an input of its consumer
 pub record IsPlanned (p : FileParts) (from : Origin) (sub : Sub) : Type 0 where
@@ -176,21 +130,31 @@ planned_to_plan p (origin.Component b) c inputs input consumer listed is =
     let within : b < length (inputs_by_component p) = omega (arith, source_within p input.from b is, length_inputs p) in
     subst (IsIn (record { to = c; grouping = planned_grouping p (origin.Component b) input.grouping })) (sym (subs_of_plan p b within)) (planned_from p (origin.Component b) c inputs input consumer listed is)
 
--- the source of a subscription, if it is a bolt, feeds the consumer
-pub feeds_planned : (p : FileParts) (c : ℕ) (sub : Sub) → IsPlanned p (origin.Component c) sub → feeds p c sub.to ≡ true
-feeds_planned p c sub planned =
-    let inputs : inputs_at p sub.to ≡ planned.inputs = get_or_from_slice_get (inputs_by_component p) sub.to planned.inputs [] planned.consumer in
-    to_any (is_component c) (sources_at p sub.to) (origin.Component c)
-    (to_filter_map (λ (input : Input). source_of p input.from) (inputs_at p sub.to) planned.input (origin.Component c) (subst (IsIn planned.input) (sym inputs) planned.listed) planned.source)
-    (eq-eqb c c refl)
+-- the source of a subscription is a source of its consumer
+pub planned_source : (p : FileParts) (from : Origin) (sub : Sub) → IsPlanned p from sub → IsIn from (sources_at p sub.to)
+planned_source p from sub planned = to_sources p sub.to planned.input from (in_inputs_at p sub.to planned.inputs planned.input planned.consumer planned.listed) planned.source
 
 -- ---- the components
 
 pub length_components : (p : FileParts) → length (plan_of p).components ≡ length p.bolts + length p.states
 unfolding plan_of
 length_components p =
-    omega
-    (arith, length-append (map (planned_bolt p) (enumerate_from 0 p.bolts)) (map (planned_state p) (enumerate_from (length p.bolts) p.states)), length-map (enumerate_from 0 p.bolts) (planned_bolt p), length-map (enumerate_from (length p.bolts) p.states) (planned_state p), length-enumerate_from 0 p.bolts, length-enumerate_from (length p.bolts) p.states)
+    length_parts (planned_bolt p) (planned_state p) (enumerate_from 0 p.bolts) (enumerate_from (length p.bolts) p.states)
+    ∙ omega (arith, length-enumerate_from 0 p.bolts, length-enumerate_from (length p.bolts) p.states)
+
+-- what holds of what is planned of each bolt and of each state holds of every component
+pub each_component : (p : FileParts) (P : ℕ → Component → Type 0) → ((c : ℕ) (bolt : BoltPart) → IsBoltAt p c bolt → P c (planned_bolt p (c, bolt)))
+    → ((c : ℕ) (state : StatePart) → IsStateAt p c state → P c (planned_state p (c, state))) → (c : ℕ) → IfSome (slice_get (plan_of p).components c) (P c)
+each_component p P of_bolt of_state c =
+    elim (cases_lt c (length p.bolts + length p.states)) [
+      | inl within ↦ elim (cases_component p c within) [
+        | inl bolt ↦ subst (λ there. IfSome there (P c)) (sym (component_at_bolt p c bolt.0 bolt.1)) (of_bolt c bolt.0 bolt.1)
+        | inr state ↦ subst (λ there. IfSome there (P c)) (sym (component_at_state p c state.0 state.1)) (of_state c state.0 state.1)
+      ]
+      | inr past ↦
+          let none : slice_get (plan_of p).components c ≡ None = slice_get_past (plan_of p).components c (omega (arith, length_components p)) in
+          subst (λ there. IfSome there (P c)) (sym none) tt
+    ]
 
 length_sources : (p : FileParts) → length (plan_of p).component_subs ≡ length (plan_of p).components
 unfolding plan_of
@@ -215,33 +179,20 @@ ranked_planned p none = record {
       All-from_in (λ (sub : Sub). rank p c < rank p sub.to) (subs_of (plan_of p) (origin.Component c))
       (λ sub at.
       let planned = planned_in_plan p (origin.Component c) sub at in
-      rank_grows p c sub.to none (source_within p planned.input.from c planned.source) (feeds_planned p c sub planned));
+      rank_grows p c sub.to none (source_within p planned.input.from c planned.source) (feeds_from_source p sub.to c (planned_source p (origin.Component c) sub planned)));
 }
 
--- the numbers that a plan takes over as they are
-record HasNumbersOf (p : FileParts) (t : Topology) : Type 0 where
-  spout_fields : t.spout_fields ≡ p.spout.fields
-  batch : t.batch ≡ p.spout.batch
-  ackers : t.ackers ≡ p.ackers
-  pending : t.pending ≡ p.pending
-  buckets : t.buckets ≡ p.buckets
-  attempts : t.attempts ≡ p.attempts
-
-numbers_planned : (p : FileParts) → HasNumbersOf p (plan_of p)
-unfolding plan_of
-numbers_planned p = record { spout_fields = refl; batch = refl; ackers = refl; pending = refl; buckets = refl; attempts = refl }
-
 pub valid_plan : (p : FileParts) → IsInRange p → meaning_fault p ≡ None → IsValid (plan_of p)
+unfolding plan_of
 valid_plan p range none =
     let faultless : HasNoFault p = no_fault p none in
-    let numbers : HasNumbersOf p (plan_of p) = numbers_planned p in
     record {
-      spout_fields = rw numbers.spout_fields range.spout.fields;
-      batch = rw numbers.batch range.spout.batch;
-      ackers = rw numbers.ackers range.ackers;
-      pending = rw numbers.pending range.pending;
-      buckets = rw numbers.buckets range.buckets;
-      attempts = rw numbers.attempts range.attempts;
+      spout_fields = range.spout.fields;
+      batch = range.spout.batch;
+      ackers = range.ackers;
+      pending = range.pending;
+      buckets = range.buckets;
+      attempts = range.attempts;
       components = (omega (arith, length_components p, range.states.0), omega (arith, length_components p, range.states.1, range.bolts));
       tasks = between_from_range (codes "tasks in all") (tasks_in_all (plan_of p)) 1 256 faultless.tasks;
       sources = length_sources p;

@@ -1,42 +1,23 @@
 -- The plan of a file without a fault is wired: its components take rows with the fields that they name.
-use Rattle.std.specs.Prelude.{◌≡◌, ◌≢◌, ℕ, ◌+◌, ◌<◌, ◌≤◌, ◌==◌, List, [], ◌∷◌, ◌++◌, length, map, filter, All, AllPairs, false, Option, Some, None, IsSome, IfSome, option_map, option_to_list, slice_get, sum, take}
-use Rattle.std.specs.List.{enumerate_from, find, range_with_len}
-use Rattle.std.specs.Option.{option_map_or}
+use Rattle.std.proofs.Common.{◌≡◌, ◌≢◌, ℕ, ◌+◌, ◌<◌, ◌≤◌, ◌==◌, List, [], ◌∷◌, ◌++◌, length, map, filter, All, AllPairs, false, Option, Some, None, IsSome, IfSome, option_map, option_to_list, slice_get, sum, take, inl, inr, refl, sym, ◌∙◌, ap, subst, arith}
+use Rattle.topology_reader.proofs.Common.{enumerate_from, range_with_len, option_map_or, Origin, NotExactlyOnce, Input, Operation, Split, Project, Filter, Set, Len, Route, Flaky, Mute, Custom, BoltPart, StatePart, FileParts, Topology, subs_of, origins, inputs_of, IsInRange, SaysAmount, IsOperationInRange, IsBoltInRange, IsStateInRange, eqb-true, eq-eqb, false≢true, length-map, map-id, All-nil, same_Some, slice_get_within, Kind, Transactional, Opaque, Sub, plan_fields, plan_fields_to, width_to, IsFed, width_after, IsWithin, HasAmount, IsComponent, IsPlaced, IsLaidOut, MayFollowOpaque, IsWired, component_names, inputs_by_component, sources_at, state_inputs, fields_after, fields_of, fields_to, number_of, numbers_of, planned_operation, planned_grouping, tasks_by_component, planned_bolt, planned_state, plan_of, projected, fields_read, twice_fault, is_transactional, replay_fault, meaning_fault, IsSource}
+use Rattle.std.specs.List.{find}
+use Rattle.std.proofs.lemmas.List.{length-append}
 use Rattle.topology_plan.specs.declared.parts.Body.TheVariants.{Bolt}
-use Rattle.std.proofs.Common.{inl, inr, refl, sym, ◌∙◌, ap, subst, arith}
-use Rattle.std.proofs.lemmas.Bool.{cases_lt, eqb-true, eq-eqb, false≢true}
-use Rattle.std.proofs.lemmas.List.{length-append, length-map, map-id}
-use Rattle.std.proofs.lemmas.List.Elements.{All-nil}
-use Rattle.std.proofs.lemmas.Option.{same_Some, slice_get_within, slice_get_past}
 use Rattle.topology_plan.specs.declared.parts.Component.{Component}
 use Rattle.topology_plan.specs.declared.parts.Fold.{Fold}
 use Rattle.topology_plan.specs.declared.parts.Fold.TheVariants.{Count, Sum, Last, Max}
 use Rattle.topology_plan.specs.declared.parts.Grouping.TheVariants as grouping
-use Rattle.topology_plan.specs.declared.parts.Kind.{Kind}
-use Rattle.topology_plan.specs.declared.parts.Kind.TheVariants.{Transactional, Opaque}
-use Rattle.topology_plan.specs.declared.parts.Origin.{Origin}
 use Rattle.topology_plan.specs.declared.parts.Origin.TheVariants as origin
-use Rattle.topology_plan.specs.declared.parts.Sub.{Sub}
-use Rattle.topology_form.specs.declared.fault.TopoFault.TheVariants.{NotExactlyOnce}
 use Rattle.topology_form.specs.declared.parts.GroupingPart.TheVariants as said
-use Rattle.topology_form.specs.declared.parts.Input.{Input}
-use Rattle.topology_form.specs.declared.parts.Operation.{Operation}
-use Rattle.topology_form.specs.declared.parts.Operation.TheVariants.{Split, Project, Filter, Set, Len, Route, Flaky, Mute, Custom}
-use Rattle.topology_form.specs.declared.parts.BoltPart.{BoltPart}
-use Rattle.topology_form.specs.declared.parts.StatePart.{StatePart}
-use Rattle.topology_form.specs.declared.parts.FileParts.{FileParts}
-use Rattle.topology_plan.specs.Topology.{Topology, subs_of, origins, inputs_of}
 use Rattle.topology_plan.specs.Texts.{IsName}
-use Rattle.topology_plan.specs.Wired.{fields_of as plan_fields, fields_to as plan_fields_to, width_to, IsFed, width_after, IsWithin, HasAmount, IsComponent, IsPlaced, IsLaidOut, MayFollowOpaque, IsWired}
-use Rattle.topology_reader.specs.Wiring.{component_names, inputs_by_component, sources_at, state_inputs, fields_after, fields_of, fields_to}
-use Rattle.topology_reader.specs.Planned.{number_of, numbers_of, planned_operation, planned_grouping, tasks_by_component, planned_bolt, planned_state, plan_of}
-use Rattle.topology_reader.specs.Meant.{projected, fields_read, twice_fault, is_transactional, replay_fault, meaning_fault}
-use Rattle.topology_form.specs.Ranges.{HasAmount as SaysAmount, IsOperationInRange, IsBoltInRange, IsStateInRange, IsInRange}
 use Rattle.topology_reader.proofs.Listed.{IsIn, All-from_in, All-at_in, in_map, to_map, in_flat_map, to_flat_map, in_filter, to_filter, in_append, in_enumerated, in_place, none_mapped, none_found, to_left, to_right, to_range}
 use Rattle.topology_reader.proofs.Distinct.{AreApart, AllPairs-from_apart}
-use Rattle.topology_reader.proofs.Numbered.{IsBoltAt, IsStateAt, cases_component, inputs_at_state, reads_at_bolt, reads_at_state, component_at_bolt, component_at_state, map_components}
-use Rattle.topology_reader.proofs.ValidPlan.{HasNoFault, no_fault, source_within, IsPlanned, planned_to_plan, planned_in_plan, length_components}
-use Rattle.topology_reader.proofs.Columns.{to_sources, fields_of_bolt, HasNoFaultAt, names_once, spout_once, projected_once, state_key_once, HasSource, some_source, in_inputs_at, IsBoltOrSpout, source_there, AreFields, no_fault_here, fields_of_source}
+use Rattle.topology_reader.proofs.Numbered.{IsBoltAt, IsStateAt, inputs_at_state, reads_at_bolt, reads_at_state, map_components}
+use Rattle.topology_reader.proofs.ValidPlan.{HasNoFault, no_fault, IsPlanned, planned_to_plan, planned_in_plan, length_components, planned_source, each_component}
+use Rattle.topology_reader.proofs.SourceLemmas.{source_within, to_sources, in_inputs_at, source_there}
+use Rattle.topology_reader.proofs.GraphLemmas.{fields_of_bolt}
+use Rattle.topology_reader.proofs.Columns.{HasNoFaultAt, names_once, spout_once, projected_once, state_key_once, HasSource, some_source, AreFields, no_fault_here, fields_of_source}
 use Rattle.topology_reader.proofs.SubFacts.{once_planned, number_within, numbers_within, fields_planned, groupings_planned}
 
 -- ---- names and tasks
@@ -100,11 +81,7 @@ input_planned p c input at =
     let kept = in_filter (λ (sub : Sub). sub.to == c) (subs_of (plan_of p) from.0) sub.0 sub.1 in
     subst (λ (i : Origin × Sub). IsPlanned p i.0 i.1 × (i.1.to ≡ c)) sub.2 (planned_in_plan p from.0 sub.0 kept.0, eqb-true sub.0.to c kept.1)
 
-planned_source : (p : FileParts) (c : ℕ) (from : Origin) (sub : Sub) → IsPlanned p from sub → sub.to ≡ c → IsIn from (sources_at p c)
-planned_source p c from sub planned to =
-    subst (λ k. IsIn from (sources_at p k)) to (to_sources p sub.to planned.input from (in_inputs_at p sub.to planned.inputs planned.input planned.consumer planned.listed) planned.source)
-
-origin_there : (p : FileParts) (from : Origin) → IsBoltOrSpout p from → IsIn from (origins (plan_of p))
+origin_there : (p : FileParts) (from : Origin) → IsSource p from → IsIn from (origins (plan_of p))
 origin_there p origin.Spout there = inl refl
 origin_there p (origin.Component c) there =
     inr (to_map origin.Component (range_with_len 0 (length (plan_of p).components)) c (to_range 0 (length (plan_of p).components) c (omega arith) (omega (arith, length_components p))))
@@ -113,7 +90,7 @@ source_comes : (p : FileParts) (c : ℕ) → HasSource p c → inputs_of (plan_o
 source_comes p c source none =
     let sub : Sub = record { to = c; grouping = planned_grouping p source.from source.input.grouping } in
     let listed : IsIn source.from (sources_at p c) = to_sources p c source.input source.from (in_inputs_at p c source.inputs source.input source.consumer source.listed) source.is in
-    let there : IsBoltOrSpout p source.from = source_there p c source.from listed in
+    let there : IsSource p source.from = source_there p c source.from listed in
     let taken : IsIn sub (subs_of (plan_of p) source.from) = planned_to_plan p source.from c source.inputs source.input source.consumer source.listed source.is in
     let at : IsIn (source.from, sub) (inputs_of (plan_of p) c) =
     to_flat_map (λ from. map (λ sub. (from, sub)) (filter (λ (sub : Sub). sub.to == c) (subs_of (plan_of p) from))) (origins (plan_of p)) source.from (source.from, sub)
@@ -148,7 +125,7 @@ module _ (p : FileParts) (range : IsInRange p) (faultless : HasNoFault p) where
   fields_same : (c : ℕ) → c < length p.bolts + length p.states → (input : Origin × Sub) → IsIn input (inputs_of (plan_of p) c) → plan_fields (plan_of p) input.0 ≡ fields_to p c
   fields_same c within input at =
       let planned = input_planned p c input at in
-      let source : IsIn input.0 (sources_at p c) = planned_source p c input.0 input.1 planned.0 planned.1 in
+      let source : IsIn input.0 (sources_at p c) = subst (λ k. IsIn input.0 (sources_at p k)) planned.1 (planned_source p input.0 input.1 planned.0) in
       let here : HasNoFaultAt p c = no_fault_here p range faultless c within in
       fields_planned p input.0 (source_there p c input.0 source) ∙ here.same input.0 source
 
@@ -164,24 +141,20 @@ module _ (p : FileParts) (range : IsInRange p) (faultless : HasNoFault p) where
   width_comes : (c : ℕ) → c < length p.bolts + length p.states → length (fields_to p c) ≡ width_to (plan_of p) c
   width_comes c within = ap (λ (fields : List (List ℕ)). length fields) (sym (fields_come c within))
 
-  projected_apart : (c : ℕ) (bolt : BoltPart) → IsBoltAt p c bolt → AreApart (projected bolt.operation)
-  projected_apart c bolt is =
-      projected_once p faultless.twice bolt (in_place p.bolts c bolt is)
-
   bolt_planned : (c : ℕ) (bolt : BoltPart) → IsBoltAt p c bolt → IsComponent (plan_of p) c (planned_bolt p (c, bolt))
   bolt_planned c bolt is =
       let within : c < length p.bolts = slice_get_within p.bolts c bolt is in
       let limits : IsBoltInRange bolt = All-at_in IsBoltInRange p.bolts range.each_bolt bolt (in_place p.bolts c bolt is) in
       let here : HasNoFaultAt p c = no_fault_here p range faultless c (omega arith) in
       let fields : AreFields (fields_of p (origin.Component c)) = fields_of_source p range faultless (origin.Component c) within in
-      let left : fields_of p (origin.Component c) ≡ fields_after bolt.operation (fields_to p c) = fields_of_bolt p c bolt faultless.cycle is in
+      let left : fields_of p (origin.Component c) ≡ fields_after bolt.operation (fields_to p c) = fields_of_bolt p c bolt range faultless.cycle is in
       record {
         name = limits.name;
         sources = sources_same c (omega arith);
         some_source = source_comes p c (some_source p c range faultless.sources (omega arith));
         fed =
             subst (λ n. IsFed (plan_of p) c n (Bolt (planned_operation (fields_to p c) bolt.operation)) (fields_of p (origin.Component c))) (width_comes c (omega arith)) (
-              operation_within (fields_to p c) bolt.operation limits.operation (projected_apart c bolt is) (λ name at. here.reads name (subst (IsIn name) (sym (reads_at_bolt p c bolt is)) at)),
+              operation_within (fields_to p c) bolt.operation limits.operation (projected_once p faultless.twice bolt (in_place p.bolts c bolt is)) (λ name at. here.reads name (subst (IsIn name) (sym (reads_at_bolt p c bolt is)) at)),
               ap (λ (names : List (List ℕ)). length names) left ∙ width_kept (fields_to p c) bolt.operation,
               fields.count,
             );
@@ -196,7 +169,7 @@ module _ (p : FileParts) (range : IsInRange p) (faultless : HasNoFault p) where
       All-from_in (λ input. (input.1).grouping ≡ grouping.Fields (numbers_of (fields_to p c) state.key)) (inputs_of (plan_of p) c)
       (λ input listed.
       let planned = input_planned p c input listed in
-      let source : IsIn input.0 (sources_at p c) = planned_source p c input.0 input.1 planned.0 planned.1 in
+      let source : IsIn input.0 (sources_at p c) = subst (λ k. IsIn input.0 (sources_at p k)) planned.1 (planned_source p input.0 input.1 planned.0) in
       let here : HasNoFaultAt p c = no_fault_here p range faultless c (omega (arith, slice_get_within p.states at.place state at.is, at.number)) in
       let inputs : planned.0.inputs ≡ state_inputs state =
       same_Some planned.0.inputs (state_inputs state) (sym (subst (λ k. slice_get (inputs_by_component p) k ≡ Some planned.0.inputs) planned.1 planned.0.consumer) ∙ inputs_at_state p c state at)
@@ -232,33 +205,14 @@ module _ (p : FileParts) (range : IsInRange p) (faultless : HasNoFault p) where
       }
 
   component_planned : (c : ℕ) → IfSome (slice_get (plan_of p).components c) (IsComponent (plan_of p) c)
-  component_planned c =
-      elim (cases_lt c (length p.bolts + length p.states)) [
-        | inl within ↦ elim (cases_component p c within) [
-          | inl bolt ↦ subst (λ there. IfSome there (IsComponent (plan_of p) c)) (sym (component_at_bolt p c bolt.0 bolt.1)) (bolt_planned c bolt.0 bolt.1)
-          | inr state ↦ subst (λ there. IfSome there (IsComponent (plan_of p) c)) (sym (component_at_state p c state.0 state.1)) (state_planned c state.0 state.1)
-        ]
-        | inr past ↦
-            let none : slice_get (plan_of p).components c ≡ None = slice_get_past (plan_of p).components c (omega (arith, length_components p)) in
-            subst (λ there. IfSome there (IsComponent (plan_of p) c)) (sym none) tt
-      ]
+  component_planned = each_component p (IsComponent (plan_of p)) bolt_planned state_planned
 
 -- ---- bolts and then states
 
 placed_planned : (p : FileParts) (c : ℕ) → IfSome (slice_get (plan_of p).components c) (λ component. IsPlaced (length p.bolts) c component.body)
-placed_planned p c =
-    let placed = λ (component : Component). IsPlaced (length p.bolts) c component.body in
-    elim (cases_lt c (length p.bolts + length p.states)) [
-      | inl within ↦ elim (cases_component p c within) [
-        | inl bolt ↦ subst (λ there. IfSome there placed) (sym (component_at_bolt p c bolt.0 bolt.1)) (slice_get_within p.bolts c bolt.0 bolt.1)
-        | inr state ↦
-            let past : length p.bolts ≤ c = omega (arith, (state.1).number) in
-            subst (λ there. IfSome there placed) (sym (component_at_state p c state.0 state.1)) past
-      ]
-      | inr past ↦
-          let none : slice_get (plan_of p).components c ≡ None = slice_get_past (plan_of p).components c (omega (arith, length_components p)) in
-          subst (λ there. IfSome there placed) (sym none) tt
-    ]
+placed_planned p =
+    each_component p (λ c (component : Component). IsPlaced (length p.bolts) c component.body) (λ c bolt is. slice_get_within p.bolts c bolt is)
+    (λ c state at. let past : length p.bolts ≤ c = omega (arith, at.number) in past)
 
 layout_planned : (p : FileParts) → IsInRange p → IsLaidOut (plan_of p)
 layout_planned p range = record {
@@ -290,21 +244,14 @@ replays_planned p none opaque =
           subst (λ (made : Component). MayFollowOpaque made.body) state.2 (opaque_kind (state.0.1).kind other)
     ])
 
-spout_fields_planned : (p : FileParts) → AreApart p.spout.fields → AllPairs (λ a b. a ≢ b) (plan_of p).spout_fields
-unfolding plan_of
-spout_fields_planned p apart = AllPairs-from_apart (λ (name : List ℕ). name) p.spout.fields (subst AreApart (sym (map-id p.spout.fields)) apart)
-
-spout_names_planned : (p : FileParts) → All IsName p.spout.fields → All IsName (plan_of p).spout_fields
-unfolding plan_of
-spout_names_planned p named = named
-
 pub wired_plan : (p : FileParts) → IsInRange p → meaning_fault p ≡ None → IsWired (plan_of p)
+unfolding plan_of
 wired_plan p range none =
     let faultless : HasNoFault p = no_fault p none in
     record {
       layout = layout_planned p range;
-      spout_fields = spout_fields_planned p (spout_once p faultless.twice);
-      spout_field_names = spout_names_planned p range.spout.field_names;
+      spout_fields = AllPairs-from_apart (λ (name : List ℕ). name) p.spout.fields (subst AreApart (sym (map-id p.spout.fields)) (spout_once p faultless.twice));
+      spout_field_names = range.spout.field_names;
       names = names_planned p faultless.twice;
       once = λ from. once_planned p from faultless.twice;
       groupings = groupings_planned p range faultless;

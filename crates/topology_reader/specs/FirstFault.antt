@@ -2,16 +2,9 @@
 -- own.
 use Rattle.std.specs.Prelude.{◌≡◌, ℕ, List, [], ◌∷◌, length, nat_lt, if◌then◌else◌, Option, Some, None}
 use Rattle.serde_json.specs.Data.{Data}
-use Rattle.storm_values.specs.Json.{json_of}
-use Rattle.storm_values.specs.Lines.{first_some}
-use Rattle.storm_values.specs.Limits.{most_topology_bytes}
-use Rattle.topology_form.specs.declared.fault.TopoFault.{TopoFault}
-use Rattle.topology_form.specs.declared.fault.TopoFault.TheVariants.{TooLong, NotJson}
-use Rattle.topology_form.specs.File.{form_fault}
+use Rattle.topology_reader.specs.Prelude.{json_of, first_some, most_topology_bytes, TopoFault, TooLong, NotJson, form_fault, parts_said, Topology}
 use Rattle.topology_reader.specs.Meant.{meaning_fault}
 use Rattle.topology_reader.specs.Planned.{plan_of}
-use Rattle.topology_form.specs.File.{parts_said}
-use Rattle.topology_plan.specs.Topology.{Topology}
 
 -- a file longer than the most bytes
 abbrev pub length_fault : List ℕ → Option TopoFault

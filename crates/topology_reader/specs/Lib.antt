@@ -2,10 +2,11 @@ pub use Rattle.topology_form.specs.declared.fault.TopoFault
 pub use Rattle.topology_form.specs.File
 pub use Rattle.topology_form.specs.Ranges
 pub use Rattle.topology_form.specs.Faults
+pub mod Prelude
 pub mod Wiring
 pub mod Planned
 pub mod Meant
 pub mod FirstFault
 pub mod ValidFile
 pub mod Reach
-pub mod steps
+pub mod Steps

@@ -1,25 +1,12 @@
 -- The faults of what a topology file says, in the order of the checks. This project's own.
-use Rattle.std.specs.Prelude.{ℕ, ◌+◌, ◌-◌, ◌&&◌, ℤ, pos, int_le, List, [], ◌∷◌, ◌++◌, length, map, Bool, true, false, not, nat_lt, if◌then◌else◌, Option, Some, None, option_map, option_and_then, slice_get, slice_index_or, is_none, codes}
-use Rattle.std.specs.List.{list_any, find, range_with_len}
-use Rattle.std.specs.Option.{option_map_or, option_to_list}
+use Rattle.std.specs.Prelude.{ℕ, ◌+◌, ◌&&◌, ℤ, pos, int_le, List, [], ◌∷◌, ◌++◌, length, map, Bool, true, false, not, nat_lt, if◌then◌else◌, Option, Some, None, option_map, option_and_then, is_none, codes}
+use Rattle.topology_reader.specs.Prelude.{list_any, range_with_len, option_map_or, option_to_list, bytes_eq, first_some, most_tasks_in_all, most_weight, GroupingPart, Input, Operation, Split, Project, Filter, Set, Len, Route, BoltPart, StatePart, FileParts, TopoFault, WrongKind, OutOfRange, Twice, NoSource, Cycle, FieldsDiffer, NoField, NotExactlyOnce, Weight, tasks_in_all, weight_of, Feed, feeds_at, by_depth}
+use Rattle.std.specs.List.{find}
 use Rattle.std.specs.Cmp.Lexicographic.{pointwise}
-use Rattle.std.specs.Str.{bytes_eq}
-use Rattle.storm_values.specs.Lines.{first_some}
-use Rattle.storm_values.specs.Limits.{most_tasks_in_all, most_weight}
 use Rattle.topology_plan.specs.declared.parts.Kind.{Kind}
 use Rattle.topology_plan.specs.declared.parts.Kind.TheVariants.{Transactional, Opaque}
-use Rattle.topology_form.specs.declared.parts.GroupingPart.{GroupingPart}
 use Rattle.topology_form.specs.declared.parts.GroupingPart.TheVariants as said
-use Rattle.topology_form.specs.declared.parts.Input.{Input}
-use Rattle.topology_form.specs.declared.parts.Operation.{Operation}
-use Rattle.topology_form.specs.declared.parts.Operation.TheVariants.{Split, Project, Filter, Set, Len, Route}
-use Rattle.topology_form.specs.declared.parts.BoltPart.{BoltPart}
-use Rattle.topology_form.specs.declared.parts.StatePart.{StatePart}
-use Rattle.topology_form.specs.declared.parts.FileParts.{FileParts}
-use Rattle.topology_form.specs.declared.fault.TopoFault.{TopoFault}
-use Rattle.topology_form.specs.declared.fault.TopoFault.TheVariants.{WrongKind, OutOfRange, Twice, NoSource, Cycle, FieldsDiffer, NoField, NotExactlyOnce, Weight}
-use Rattle.topology_plan.specs.Topology.{tasks_in_all, weight_of}
-use Rattle.topology_reader.specs.Wiring.{component_names, name_at, source_of, sources_at, reaches, by_depth, fields_of, fields_to, operation_at}
+use Rattle.topology_reader.specs.Wiring.{component_names, name_at, source_of, graph_of, reaches, fields_of, fields_to, operation_at, at_component}
 use Rattle.topology_reader.specs.Planned.{plan_of}
 
 -- the text is among these
@@ -101,8 +88,9 @@ cycle_fault p =
 -- two of the sources have different fields
 abbrev pub differ_fault : FileParts → ℕ → Option TopoFault
 differ_fault p c =
-    if list_any (λ from. not (pointwise bytes_eq (fields_of p from) (fields_to p c)))
-    (sources_at p c) then Some (FieldsDiffer (name_at p c)) else None
+    if list_any
+    (λ (feed : Feed). not (pointwise bytes_eq (fields_of p feed.from) (fields_to p c)))
+    (feeds_at (graph_of p) c) then Some (FieldsDiffer (name_at p c)) else None
 
 -- the first of some names that is no field of what comes to the component
 abbrev pub field_fault : FileParts → ℕ → List (List ℕ) → Option TopoFault
@@ -143,9 +131,8 @@ fields_read _ = []
 -- the fields that a component reads: a bolt's operation, or a state's key and then its amount
 abbrev pub reads_at : FileParts → ℕ → List (List ℕ)
 reads_at p c =
-    slice_index_or
-    (map (λ (bolt : BoltPart). fields_read bolt.operation) p.bolts
-    ++ map (λ (state : StatePart). state.key ++ option_to_list state.amount) p.states) c []
+    at_component (λ (bolt : BoltPart). fields_read bolt.operation)
+    (λ (state : StatePart). state.key ++ option_to_list state.amount) [] p c
 
 -- the field that a length adds is there already, or there are eight without it
 abbrev pub added_fault : List (List ℕ) → Operation → Option TopoFault
@@ -173,13 +160,11 @@ state_fault p c state =
 
 -- the first fault of fields of a component
 abbrev pub component_fault : FileParts → ℕ → Option TopoFault
-component_fault p c =
-    option_map_or (bolt_fault p c) (slice_get p.bolts c)
-    (option_and_then (state_fault p c) (slice_get p.states (c - length p.bolts)))
+component_fault p c = at_component (bolt_fault p c) (state_fault p c) None p c
 
 -- component by component, by depth, then in file order
 abbrev pub fields_fault : FileParts → Option TopoFault
-fields_fault p = first_some (map (component_fault p) (by_depth p))
+fields_fault p = first_some (map (component_fault p) (by_depth (graph_of p)))
 
 -- ---- the whole
 
@@ -198,15 +183,22 @@ replay_fault p Opaque =
 abbrev pub weight_fault : ℕ → Option TopoFault
 weight_fault weight = if nat_lt most_weight weight then Some (Weight weight) else None
 
+-- the tasks in all, and then the weight
+unfoldable pub size_fault : ℕ → ℕ → Option TopoFault
+size_fault tasks weight =
+    first_some
+    (range_fault (codes "tasks in all") (pos tasks) 1 most_tasks_in_all
+    ∷ weight_fault weight ∷ [])
+
+-- the faults that do not ask for the plan's size
+abbrev pub fault_before_size : FileParts → Option TopoFault
+fault_before_size p =
+    first_some
+    (twice_fault p ∷ source_fault p ∷ cycle_fault p ∷ fields_fault p
+    ∷ replay_fault p p.spout.kind ∷ [])
+
 -- the first fault of what a file says, in the order of the checks
 unfoldable pub meaning_fault : FileParts → Option TopoFault
 meaning_fault p =
     first_some
-    (twice_fault p
-    ∷ source_fault p
-    ∷ cycle_fault p
-    ∷ fields_fault p
-    ∷ replay_fault p p.spout.kind
-    ∷ range_fault (codes "tasks in all") (pos (tasks_in_all (plan_of p))) 1 most_tasks_in_all
-    ∷ weight_fault (weight_of (plan_of p))
-    ∷ [])
+    (fault_before_size p ∷ size_fault (tasks_in_all (plan_of p)) (weight_of (plan_of p)) ∷ [])

@@ -1,26 +1,16 @@
 -- The topology of what a file says. It means something where the file has no
 -- fault. This project's own.
 use Rattle.std.specs.Prelude.{ℕ, ◌==◌, List, [], ◌++◌, length, map, filter, Bool, true, false, option_map, unwrap_or, sum, take}
-use Rattle.std.specs.List.{enumerate_from, flat_map}
-use Rattle.std.specs.Option.{option_map_or}
+use Rattle.topology_reader.specs.Prelude.{enumerate_from, flat_map, option_map_or, Origin, GroupingPart, Input, Operation, Split, Project, Filter, Set, Len, Route, Flaky, Mute, Custom, BoltPart, StatePart, FileParts, Topology}
 use Rattle.topology_plan.specs.declared.parts.Body.TheVariants.{Bolt, State}
 use Rattle.topology_plan.specs.declared.parts.Component.{Component}
 use Rattle.topology_plan.specs.declared.parts.Grouping.{Grouping}
 use Rattle.topology_plan.specs.declared.parts.Grouping.TheVariants as grouping
 use Rattle.topology_plan.specs.declared.parts.Op.{Op}
 use Rattle.topology_plan.specs.declared.parts.Op.TheVariants as op
-use Rattle.topology_plan.specs.declared.parts.Origin.{Origin}
 use Rattle.topology_plan.specs.declared.parts.Origin.TheVariants as origin
 use Rattle.topology_plan.specs.declared.parts.Sub.{Sub}
-use Rattle.topology_form.specs.declared.parts.GroupingPart.{GroupingPart}
 use Rattle.topology_form.specs.declared.parts.GroupingPart.TheVariants as said
-use Rattle.topology_form.specs.declared.parts.Input.{Input}
-use Rattle.topology_form.specs.declared.parts.Operation.{Operation}
-use Rattle.topology_form.specs.declared.parts.Operation.TheVariants.{Split, Project, Filter, Set, Len, Route, Flaky, Mute, Custom}
-use Rattle.topology_form.specs.declared.parts.BoltPart.{BoltPart}
-use Rattle.topology_form.specs.declared.parts.StatePart.{StatePart}
-use Rattle.topology_form.specs.declared.parts.FileParts.{FileParts}
-use Rattle.topology_plan.specs.Topology.{Topology}
 use Rattle.topology_reader.specs.Wiring.{place_of, source_of, inputs_by_component, fields_of, fields_to, operation_at}
 
 -- ---- fields by their numbers
@@ -126,19 +116,27 @@ planned_state p numbered =
       });
     }
 
+-- the bolts and then the states
+abbrev pub planned_components : FileParts → List Component
+planned_components p =
+    map (planned_bolt p) (enumerate_from 0 p.bolts)
+    ++ map (planned_state p) (enumerate_from (length p.bolts) p.states)
+
+-- the subscriptions to each component's rows
+abbrev pub planned_component_subs : FileParts → List (List Sub)
+planned_component_subs p =
+    map (λ (numbered : ℕ × List Input). planned_subs p (origin.Component numbered.0))
+    (enumerate_from 0 (inputs_by_component p))
+
 -- the whole plan
 unfoldable pub plan_of : FileParts → Topology
 plan_of p = record {
   spout_fields = p.spout.fields;
   spout_kind = p.spout.kind;
   batch = p.spout.batch;
-  components =
-      map (planned_bolt p) (enumerate_from 0 p.bolts)
-      ++ map (planned_state p) (enumerate_from (length p.bolts) p.states);
+  components = planned_components p;
   spout_subs = planned_subs p origin.Spout;
-  component_subs =
-      map (λ (numbered : ℕ × List Input). planned_subs p (origin.Component numbered.0))
-      (enumerate_from 0 (inputs_by_component p));
+  component_subs = planned_component_subs p;
   ackers = p.ackers;
   pending = p.pending;
   buckets = p.buckets;

@@ -1,6 +1,6 @@
 -- Paths from bolt to bolt. This project's own.
 use Rattle.std.specs.Prelude.{◌≡◌, ◌<◌, ℕ, List, [], ◌∷◌, length, true}
-use Rattle.topology_form.specs.declared.parts.FileParts.{FileParts}
+use Rattle.topology_reader.specs.Prelude.{FileParts}
 use Rattle.topology_reader.specs.Wiring.{feeds}
 
 -- bolt a feeds the first of these bolts, each of them feeds the next, and the last feeds component

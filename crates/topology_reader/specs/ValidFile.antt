@@ -1,25 +1,14 @@
 -- What a file says that has no fault, in its own names. Components are the bolts and then the
 -- states, each in file order. This project's own.
-use Rattle.std.specs.Prelude.{◌≡◌, ◌≢◌, ◌<◌, ◌≤◌, ℕ, List, ◌∷◌, length, All, AllPairs, Some, IfSome, slice_get, sum}
-use Rattle.std.specs.List.{Contains}
-use Rattle.storm_values.specs.Limits.{most_tasks_in_all, most_weight}
+use Rattle.std.specs.Prelude.{◌≡◌, ◌≢◌, ◌<◌, ◌≤◌, ℕ, List, ◌∷◌, length, All, AllPairs, Some, IfSome, slice_get, sum, true, false}
+use Rattle.topology_reader.specs.Prelude.{Contains, most_tasks_in_all, most_weight, Input, StatePart, FileParts, Origin, weight_of, IsBetween, IsInRange, option_map_or}
 use Rattle.topology_plan.specs.declared.parts.Kind.TheVariants.{Opaque}
-use Rattle.topology_plan.specs.declared.parts.Origin.{Origin}
 use Rattle.topology_plan.specs.declared.parts.Origin.TheVariants as origin
 use Rattle.topology_plan.specs.Texts.{IsName}
-use Rattle.topology_plan.specs.Topology.{weight_of}
-use Rattle.topology_plan.specs.Valid.{IsBetween}
 use Rattle.topology_form.specs.declared.parts.GroupingPart.TheVariants as said
-use Rattle.topology_form.specs.declared.parts.Input.{Input}
-use Rattle.topology_form.specs.declared.parts.Operation.{Operation}
-use Rattle.topology_form.specs.declared.parts.Operation.TheVariants.{Route}
-use Rattle.topology_form.specs.declared.parts.BoltPart.{BoltPart}
-use Rattle.topology_form.specs.declared.parts.StatePart.{StatePart}
-use Rattle.topology_form.specs.declared.parts.FileParts.{FileParts}
-use Rattle.topology_reader.specs.Wiring.{component_names, component_count, source_of, inputs_at, fields_after, fields_of, fields_to}
+use Rattle.topology_reader.specs.Wiring.{component_names, component_count, source_of, inputs_at, fields_after, fields_of, fields_to, operation_at}
 use Rattle.topology_reader.specs.Planned.{tasks_by_component, plan_of}
-use Rattle.topology_reader.specs.Meant.{key_of, reads_at}
-use Rattle.topology_form.specs.Ranges.{IsInRange}
+use Rattle.topology_reader.specs.Meant.{key_of, reads_at, is_route}
 
 -- no name stands twice
 abbrev pub AreDistinct : List (List ℕ) → Type 0
@@ -38,16 +27,9 @@ pub record HasFields (p : FileParts) (from : Origin) : Type 0 where
   pub named : All IsName (fields_of p from)
   pub distinct : AreDistinct (fields_of p from)
 
--- the operation chooses the tasks of its rows
-abbrev pub IsRoute : Operation → Type 0
-IsRoute (Route field) = Unit {0}
-IsRoute _ = ⊥
-
 -- the source is a bolt that chooses the tasks of its rows
 abbrev pub IsRouteAt : FileParts → Origin → Type 0
-IsRouteAt p origin.Spout = ⊥
-IsRouteAt p (origin.Component b) =
-    (bolt : BoltPart) × (slice_get p.bolts b ≡ Some bolt) × IsRoute bolt.operation
+IsRouteAt p from = option_map_or is_route (operation_at p from) false ≡ true
 
 -- ---- components
 

@@ -1,19 +1,9 @@
 -- Who feeds whom in what a topology file says, and which fields a source has. Components are the
 -- bolts and then the states, each in file order. This project's own.
-use Rattle.std.specs.Prelude.{ℕ, zero, suc, ◌+◌, ◌==◌, ◌&&◌, ◌||◌, List, [], ◌∷◌, ◌++◌, length, map, filter, Bool, false, if◌then◌else◌, Option, Some, None, option_map, slice_get, slice_index_or}
-use Rattle.std.specs.List.{list_any, filter_map, range_with_len, flat_map}
-use Rattle.std.specs.Option.{option_map_or}
-use Rattle.std.specs.Str.{bytes_eq}
-use Rattle.topology_plan.specs.declared.parts.Origin.{Origin}
+use Rattle.std.specs.Prelude.{◌-◌, ℕ, zero, suc, ◌==◌, ◌&&◌, ◌||◌, List, [], ◌∷◌, ◌++◌, length, map, Bool, false, if◌then◌else◌, Option, Some, None, option_map, slice_get, slice_index_or}
+use Rattle.topology_reader.specs.Prelude.{list_any, filter_map, option_map_or, bytes_eq, Origin, GroupingPart, Input, Operation, Split, Project, Len, BoltPart, StatePart, FileParts, Feed, Rule, fed, feeds_at, value_of}
 use Rattle.topology_plan.specs.declared.parts.Origin.TheVariants as origin
 use Rattle.topology_form.specs.declared.parts.GroupingPart.TheVariants as said
-use Rattle.topology_form.specs.declared.parts.Input.{Input}
-use Rattle.topology_form.specs.declared.parts.Operation.{Operation}
-use Rattle.topology_form.specs.declared.parts.Operation.TheVariants.{Split, Project, Len}
-use Rattle.topology_form.specs.declared.parts.BoltPart.{BoltPart}
-use Rattle.topology_form.specs.declared.parts.StatePart.{StatePart}
-use Rattle.topology_form.specs.declared.parts.FileParts.{FileParts}
-use Rattle.topology_plan.specs.Topology.{greatest}
 
 -- ---- names
 
@@ -25,9 +15,16 @@ bolt_names p = map (λ (bolt : BoltPart). bolt.name) p.bolts
 abbrev pub component_names : FileParts → List (List ℕ)
 component_names p = bolt_names p ++ map (λ (state : StatePart). state.name) p.states
 
+-- what is said of a component number: of its bolt, or else of its state
+abbrev pub at_component : {X : Type 0} → (BoltPart → X) → (StatePart → X) → X → FileParts → ℕ → X
+at_component of_bolt of_state nothing p c =
+    option_map_or of_bolt (slice_get p.bolts c)
+    (option_map_or of_state (slice_get p.states (c - length p.bolts)) nothing)
+
 -- the name of a component number
 abbrev pub name_at : FileParts → ℕ → List ℕ
-name_at p c = slice_index_or (component_names p) c []
+name_at p c =
+    at_component (λ (bolt : BoltPart). bolt.name) (λ (state : StatePart). state.name) [] p c
 
 -- how many components there are
 abbrev pub component_count : FileParts → ℕ
@@ -60,9 +57,36 @@ inputs_by_component p = map (λ (bolt : BoltPart). bolt.inputs) p.bolts ++ map s
 abbrev pub inputs_at : FileParts → ℕ → List Input
 inputs_at p c = slice_index_or (inputs_by_component p) c []
 
--- the sources of a component, in the order of its inputs
+-- the sources of some inputs, in their order
+abbrev pub sources_among : FileParts → List Input → List Origin
+sources_among p inputs = filter_map (λ (input : Input). source_of p input.from) inputs
+
+-- the sources of a component
 abbrev pub sources_at : FileParts → ℕ → List Origin
-sources_at p c = filter_map (λ (input : Input). source_of p input.from) (inputs_at p c)
+sources_at p c = sources_among p (inputs_at p c)
+
+-- ---- the graph
+
+-- how many copies of a tuple a consumer with these tasks gets
+abbrev pub copies_said : GroupingPart → ℕ → ℕ
+copies_said said.All tasks = tasks
+copies_said _ tasks = 1
+
+-- the subscription that an input is, where it names a source
+abbrev pub feed_of : FileParts → List ℕ → ℕ → Option Feed
+feed_of p name copies =
+    option_map (λ from. record { from = from; copies = copies }) (source_of p name)
+
+-- the subscriptions of a component with these tasks and inputs
+abbrev pub feeds_of : FileParts → ℕ → List Input → List Feed
+feeds_of p tasks inputs =
+    filter_map (λ (input : Input). feed_of p input.from (copies_said input.grouping tasks)) inputs
+
+-- the subscriptions of each component
+abbrev pub graph_of : FileParts → List (List Feed)
+graph_of p =
+    map (λ (bolt : BoltPart). feeds_of p bolt.tasks bolt.inputs) p.bolts
+    ++ map (λ (state : StatePart). feeds_of p state.parts (state_inputs state)) p.states
 
 -- ---- paths
 
@@ -85,26 +109,6 @@ reaches_over (suc n) p a b = reaches_over n p a b || (reaches_over n p a n && re
 unfoldable pub reaches : FileParts → ℕ → ℕ → Bool
 reaches p a b = reaches_over (length p.bolts) p a b
 
--- The depth of the spout is 0, that of a component 1 more than the greatest of its sources. Where
--- there is no cycle, a path from the spout goes through each component at most once, so as many
--- steps as there are components reach everything.
-abbrev pub depth_in : ℕ → FileParts → Origin → ℕ
-depth_in n p origin.Spout = 0
-depth_in zero p (origin.Component c) = 0
-depth_in (suc n) p (origin.Component c) = 1 + greatest (map (depth_in n p) (sources_at p c))
-
--- the depth of a component, where there is no cycle
-unfoldable pub depth_at : FileParts → ℕ → ℕ
-depth_at p c = depth_in (component_count p) p (origin.Component c)
-
--- the components by their depth, and in file order among equal depth; where there is no
--- cycle, each after its sources
-abbrev pub by_depth : FileParts → List ℕ
-by_depth p =
-    let all = range_with_len 0 (component_count p) in
-    flat_map (λ depth. filter (λ c. depth_at p c == depth) all)
-    (range_with_len 1 (component_count p))
-
 -- ---- fields
 
 -- the fields that an operation leaves
@@ -114,30 +118,28 @@ fields_after (Project names) fields = names
 fields_after (Len field into) fields = fields ++ into ∷ []
 fields_after _ fields = fields
 
--- the first of some sources has these fields
-abbrev pub first_fields : (Origin → List (List ℕ)) → List Origin → List (List ℕ)
-first_fields fields [] = []
-first_fields fields (first ∷ sources) = fields first
+-- what the first of some sources has
+abbrev pub first_of : List (Feed × List (List ℕ)) → List (List ℕ)
+first_of [] = []
+first_of (one ∷ others) = one.1
 
--- the fields of a source: those of the spout, or what a bolt's operation leaves of the fields of
--- its first source, back over at most n bolts
-abbrev pub fields_in : ℕ → FileParts → Origin → List (List ℕ)
-fields_in n p origin.Spout = p.spout.fields
-fields_in zero p (origin.Component c) = []
-fields_in (suc n) p (origin.Component c) =
-    option_map_or
-    (λ (bolt : BoltPart).
-    fields_after bolt.operation (first_fields (fields_in n p) (sources_at p c)))
-    (slice_get p.bolts c) []
+-- a bolt's fields are what its operation leaves of those of its first source
+abbrev pub fields_rule : FileParts → Rule (List (List ℕ))
+fields_rule p = record {
+  spout = p.spout.fields;
+  nothing = [];
+  over = λ c come.
+      option_map_or (λ (bolt : BoltPart). fields_after bolt.operation (first_of come))
+      (slice_get p.bolts c) [];
+}
 
--- the fields of a source, where there is no cycle: a path back from it goes through
--- each bolt at most once then
+-- the fields of a source, where there is no cycle
 unfoldable pub fields_of : FileParts → Origin → List (List ℕ)
-fields_of p from = fields_in (length p.bolts) p from
+fields_of p from = value_of (fields_rule p) (graph_of p) from
 
 -- the fields of what comes to a component
 abbrev pub fields_to : FileParts → ℕ → List (List ℕ)
-fields_to p c = first_fields (fields_of p) (sources_at p c)
+fields_to p c = first_of (fed (fields_of p) (feeds_at (graph_of p) c))
 
 -- the operation of a bolt number
 abbrev pub operation_at : FileParts → Origin → Option Operation

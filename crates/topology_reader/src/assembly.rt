@@ -1,15 +1,11 @@
 //! The plan of a file's parts, where nothing is wrong with what the file says.
 
-ghost use Rattle.std.specs.Prelude.{◌≡◌, ◌≢◌, ◌<◌, ◌^◌, [], ◌∷◌, pos, codes, sum_by, None, Some, IfOk, IfErr};
-ghost use Rattle.storm_values.specs.Limits.{most_tasks_in_all};
-ghost use Rattle.storm_values.specs.Lines.{first_some};
-ghost use Rattle.topology_form.specs.Ranges.{IsInRange};
+ghost use Rattle.std.specs.Prelude.{◌≡◌, ◌≢◌, ◌<◌, ◌^◌, sum_by, None, Some, IfOk, IfErr};
+ghost use Rattle.topology_reader.specs.Prelude.{IsInRange};
 ghost use Rattle.topology_plan.specs.declared.parts.Component.{Component};
-ghost use Rattle.topology_reader.specs.Meant.{range_fault, weight_fault, meaning_fault};
+ghost use Rattle.topology_reader.specs.Meant.{size_fault, fault_before_size, meaning_fault};
 ghost use Rattle.topology_reader.specs.Planned.{plan_of};
-ghost use Rattle.topology_reader.specs.steps.Checks.{Checks};
-ghost use Rattle.topology_reader.specs.steps.Made.{IsMade};
-ghost use Rattle.topology_reader.specs.steps.PlanSteps.{fault_before_size};
+ghost use Rattle.topology_reader.specs.Steps.{Checks, IsMade};
 
 use crate::cycles::{check_cycles, check_replays};
 use crate::fields::Wiring;
@@ -93,10 +89,9 @@ fn tasks_in_all(components: &[Component]) -> u32
     components.iter().map(|component| component.tasks).sum()
 }
 
+#[tactic(auto, unfolding(crate::specs::Meant::size_fault))]
 fn check_size(alloc: Global, tasks: u32, weight: u64) -> Result<(), TopoFault>
-    ensures { Checks result
-        (first_some (range_fault (codes "tasks in all") (pos tasks) 1 most_tasks_in_all
-        ∷ weight_fault weight ∷ [])) }
+    ensures { Checks result (size_fault tasks weight) }
 {
     if tasks < 1 || tasks > MOST_TASKS_IN_ALL {
         let name = Txt::from_str(alloc, "tasks in all")?;

@@ -1,12 +1,11 @@
 //! Bolts that can be reached from themselves, and states that an opaque spout does not allow.
 
-ghost use Rattle.std.specs.Prelude.{◌≡◌, ◌≤◌, ◌<◌, ℕ, if◌then◌else◌, bit_or, length, map, slice_index, option_map, false, IfOk};
-ghost use Rattle.std.specs.List.{find, list_any, range_with_len};
-ghost use Rattle.std.specs.Option.{option_copied, option_map_or};
+ghost use Rattle.std.specs.Prelude.{◌≡◌, ◌≤◌, ◌<◌, ℕ, length, map, slice_index, option_map, false, IfOk};
+ghost use Rattle.std.specs.List.{find};
+ghost use Rattle.topology_reader.specs.Prelude.{list_any, range_with_len, option_copied, option_map_or};
 ghost use Rattle.topology_reader.specs.Meant.{cycle_fault, is_transactional, replay_fault};
-ghost use Rattle.topology_reader.specs.steps.Checks.{Checks};
-ghost use Rattle.topology_reader.specs.steps.Reached.{has, input_sources, AreReached};
-ghost use Rattle.topology_reader.specs.Wiring.{is_component, source_of};
+ghost use Rattle.topology_reader.specs.Steps.{Checks, has, led, AreReached};
+ghost use Rattle.topology_reader.specs.Wiring.{is_component, source_of, sources_among};
 
 use crate::index::Index;
 use crate::sources::Sources;
@@ -15,7 +14,6 @@ use storm_values::{Memory, Txt};
 use topology_form::{FileParts, Input, StatePart, TopoFault};
 use topology_plan::{Kind, Origin};
 
-/// That no bolt can be reached from itself.
 pub(crate) fn check_cycles(alloc: Global, sources: &Sources<'_>) -> Result<(), TopoFault>
     requires few { length sources.now.bolts ≤ 32 }
     ensures { Checks result (cycle_fault sources.now) }
@@ -31,7 +29,6 @@ pub(crate) fn check_cycles(alloc: Global, sources: &Sources<'_>) -> Result<(), T
     }
 }
 
-/// The first set that holds its own number.
 fn own_member(sets: &[u64]) -> Option<usize>
     requires few { length sets.now ≤ 64 }
     ensures { result
@@ -53,24 +50,34 @@ fn reach_sets(alloc: Global, index: &Index<'_>) -> Result<Vec<u64>, Memory>
 {
     let mut sets = direct_sources(alloc, index)?;
     for n in 0..sets.len() {
-        lead_through(&mut sets, n);
+        sets = led_through(alloc, sets.as_slice(), n)?;
     }
     Ok(sets)
 }
 
-/// Lets paths go through bolt n.
-fn lead_through(sets: &mut [u64], n: usize)
-    requires within { n < length sets.old }
-    requires few { length sets.old ≤ 64 }
-    ensures { sets.new
-        ≡ map (λ set. if has set n then bit_or set (slice_index sets.old n) else set) sets.old }
+/// The sets, where paths may go through bolt n too.
+fn led_through(alloc: Global, sets: &[u64], n: usize) -> Result<Vec<u64>, Memory>
+    requires within { n < length sets.now }
+    requires few { length sets.now ≤ 64 }
+    ensures { IfOk result
+        (λ made. made.items ≡ map (led n (slice_index sets.now n)) sets.now) }
 {
-    let before = sets[n];
-    for set in sets.iter_mut() {
-        if has(*set, n) {
-            *set |= before;
-        }
+    let through = sets[n];
+    let mut made = Vec::with_capacity(alloc, sets.len())?;
+    for set in sets {
+        made.push(led(n, through, *set))?;
     }
+    Ok(made)
+}
+
+fn led(n: usize, through: u64, set: u64) -> u64
+    requires { n < 64 }
+    ensures { result ≡ led n through set }
+{
+    if has(set, n) {
+        return set | through;
+    }
+    set
 }
 
 /// For each bolt the set of the bolts that feed it.
@@ -86,11 +93,10 @@ fn direct_sources(alloc: Global, index: &Index<'_>) -> Result<Vec<u64>, Memory>
     Ok(sets)
 }
 
-/// The bolts among the sources of some inputs.
 fn bolt_sources(index: &Index<'_>, inputs: &[Input]) -> u64
     requires few { length index.now.bolts ≤ 32 }
     ensures { (a : ℕ)
-        → has result a ≡ list_any (is_component a) (input_sources index.now inputs.now) }
+        → has result a ≡ list_any (is_component a) (sources_among index.now inputs.now) }
 {
     let mut set = 0;
     for input in inputs {
@@ -99,7 +105,6 @@ fn bolt_sources(index: &Index<'_>, inputs: &[Input]) -> u64
     set
 }
 
-/// The bolt of this name alone, or no bolt.
 fn source_set(index: &Index<'_>, name: &str) -> u64
     requires few { length index.now.bolts ≤ 32 }
     ensures { (a : ℕ)

@@ -1,13 +1,11 @@
 //! Which fields the rows of a source have.
 
-ghost use Rattle.std.specs.Prelude.{◌≡◌, ◌<◌, ◌^◌, [], ◌∷◌, length, IfOk, None};
-ghost use Rattle.topology_form.specs.Ranges.{IsInRange};
+ghost use Rattle.std.specs.Prelude.{◌≡◌, ◌<◌, ◌^◌, [], length, IfOk, None};
+ghost use Rattle.topology_reader.specs.Prelude.{IsInRange, depth_of, weight_of, by_depth, fed};
 ghost use Rattle.topology_graph.specs.Found.{read, fed_by};
-ghost use Rattle.topology_plan.specs.Topology.{depth_of, weight_of};
 ghost use Rattle.topology_reader.specs.Meant.{cycle_fault};
 ghost use Rattle.topology_reader.specs.Planned.{plan_of};
-ghost use Rattle.topology_reader.specs.Wiring.{name_at, by_depth, fields_after, fields_of, fields_to};
-ghost use Rattle.topology_reader.specs.steps.Graph.{first_of, fields_rule};
+ghost use Rattle.topology_reader.specs.Wiring.{name_at, graph_of, fields_after, first_of, fields_rule, fields_of, fields_to};
 
 use crate::sources::Sources;
 use std::alloc::Global;
@@ -75,20 +73,18 @@ pub(crate) struct Wiring<'p> {
 }
 
 impl<'p> Model for Wiring<'p> {
-    ghost use Rattle.topology_form.specs.declared.parts.FileParts.{FileParts};
+    ghost use Rattle.topology_reader.specs.Prelude.{FileParts, IsInRange, by_depth};
+    ghost use Rattle.std.specs.Prelude.{◌≡◌, None};
+    ghost use Rattle.topology_reader.specs.Meant.{cycle_fault};
+    ghost use Rattle.topology_reader.specs.Wiring.{graph_of};
+    ghost use Rattle.topology_reader.specs.Steps.{field_table};
 
     ghost Value = { FileParts };
-
-    ghost use Rattle.std.specs.Prelude.{◌≡◌, None};
-    ghost use Rattle.topology_form.specs.Ranges.{IsInRange};
-    ghost use Rattle.topology_reader.specs.Meant.{cycle_fault};
-    ghost use Rattle.topology_reader.specs.Wiring.{by_depth};
-    ghost use Rattle.topology_reader.specs.steps.Fields.{field_table};
 
     ghost view = { λ w. w.sources };
 
     ghost invariant = { λ w.
-        (w.fields.items ≡ field_table w.sources) × (w.order.items ≡ by_depth w.sources)
+        (w.fields.items ≡ field_table w.sources) × (w.order.items ≡ by_depth (graph_of w.sources))
         × IsInRange w.sources × (cycle_fault w.sources ≡ None) };
 }
 
@@ -132,7 +128,6 @@ impl<'p> Wiring<'p> {
         let _ = &self.order;
     }
 
-    /// The most subscriptions between the spout and a component of the plan.
     pub(crate) fn depth(&self) -> Result<u32, Memory>
         ensures { IfOk result (λ depth. depth ≡ depth_of (plan_of self.now)) }
     {
@@ -140,8 +135,6 @@ impl<'p> Wiring<'p> {
         Ok(depth as u32)
     }
 
-    /// How many tuples one tuple of the spout can make at most in the plan, or 2^64 - 1 where there
-    /// are more.
     pub(crate) fn weight(&self) -> Result<u64, Memory>
         ensures { IfOk result (λ weight. weight ≡ weight_of (plan_of self.now)) }
     {
@@ -149,21 +142,18 @@ impl<'p> Wiring<'p> {
         Ok(weight)
     }
 
-    /// The components by their depth.
     pub(crate) fn order(&self) -> &[usize]
-        ensures { result.now ≡ by_depth self.now }
+        ensures { result.now ≡ by_depth (graph_of self.now) }
     {
         self.order.as_slice()
     }
 
-    /// The name of a component.
     pub(crate) fn name_of(&self, c: usize) -> Result<Txt, Memory>
         ensures { IfOk result (λ name. name ≡ name_at self.now c) }
     {
         Txt::from_str(self.alloc, self.sources.name_at(c))
     }
 
-    /// The fields of a source.
     pub(crate) fn fields_of(&self, from: Origin) -> &[Txt]
         ensures value { result.now ≡ fields_of self.now from }
         ensures few { length result.now < 2 ^ 32 }
@@ -177,19 +167,25 @@ impl<'p> Wiring<'p> {
         }
     }
 
-    /// The fields of what comes to a component.
     pub(crate) fn fields_to(&self, c: usize) -> &[Txt]
         ensures value { result.now ≡ fields_to self.now c }
         ensures few { length result.now < 2 ^ 32 }
     {
-        match self.sources.at(c).first() {
+        self.first_of(self.sources.at(c))
+    }
+
+    /// The fields of the source of the first of some subscriptions.
+    fn first_of(&self, feeds: &[Feed]) -> &[Txt]
+        ensures value { result.now ≡ first_of (fed (fields_of self.now) feeds.now) }
+        ensures few { length result.now < 2 ^ 32 }
+    {
+        match feeds.first() {
             Some(feed) => self.fields_of(feed.from),
             None => &[],
         }
     }
 }
 
-/// The fields that an operation leaves.
 fn fields_after(alloc: Global, operation: &Operation, mut fields: Names) -> Result<Names, Memory>
     ensures { IfOk result (λ after. after ≡ fields_after operation.now fields) }
 {

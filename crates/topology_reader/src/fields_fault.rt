@@ -1,17 +1,11 @@
 //! The faults of fields: what differs, what is not there, and what is there already.
 
 ghost use Rattle.std.specs.Prelude.{◌≡◌, not, find, map};
-ghost use Rattle.std.specs.List.{list_any};
+ghost use Rattle.topology_reader.specs.Prelude.{list_any, option_copied, bytes_eq, first_some, Feed, feeds_at};
 ghost use Rattle.std.specs.Cmp.Lexicographic.{pointwise};
-ghost use Rattle.std.specs.Option.{option_copied, option_to_list};
-ghost use Rattle.std.specs.Str.{bytes_eq};
-ghost use Rattle.storm_values.specs.Lines.{first_some};
-ghost use Rattle.topology_graph.specs.declared.values.Feed.{Feed};
-ghost use Rattle.topology_graph.specs.Graph.{feeds_at};
 ghost use Rattle.topology_reader.specs.Meant.{is_among, differ_fault, field_fault, chooses, direct_fault, input_fault, fields_read, added_fault, bolt_fault, state_fault, component_fault, fields_fault};
-ghost use Rattle.topology_reader.specs.Wiring.{fields_of, fields_to};
-ghost use Rattle.topology_reader.specs.steps.Checks.{Checks};
-ghost use Rattle.topology_reader.specs.steps.Graph.{graph_of};
+ghost use Rattle.topology_reader.specs.Wiring.{graph_of, fields_of, fields_to};
+ghost use Rattle.topology_reader.specs.Steps.{Checks};
 
 use crate::fields::Wiring;
 use crate::names::key_of;
@@ -64,7 +58,6 @@ fn check_state(wiring: &Wiring<'_>, c: usize, state: &StatePart) -> Result<(), T
     }
 }
 
-/// That all sources have the same fields.
 fn check_same(wiring: &Wiring<'_>, c: usize) -> Result<(), TopoFault>
     ensures { Checks result (differ_fault wiring.now c) }
 {
@@ -103,7 +96,6 @@ fn are_same(a: &[Txt], b: &[Txt]) -> bool
     true
 }
 
-/// That each of some names is a field of what comes to a component.
 fn check_there(wiring: &Wiring<'_>, c: usize, names: &[Txt]) -> Result<(), TopoFault>
     ensures { Checks result (field_fault wiring.now c names.now) }
 {
@@ -134,7 +126,6 @@ fn check_inputs(wiring: &Wiring<'_>, c: usize, inputs: &[Input]) -> Result<(), T
     Ok(())
 }
 
-/// First the names of the key, then the source of a direct grouping.
 fn check_input(wiring: &Wiring<'_>, c: usize, input: &Input) -> Result<(), TopoFault>
     ensures { Checks result (input_fault wiring.now c input.now) }
 {
@@ -142,7 +133,6 @@ fn check_input(wiring: &Wiring<'_>, c: usize, input: &Input) -> Result<(), TopoF
     check_direct(wiring, input)
 }
 
-/// That the source of a direct grouping has a route.
 fn check_direct(wiring: &Wiring<'_>, input: &Input) -> Result<(), TopoFault>
     ensures { Checks result (direct_fault wiring.now input.now input.now.grouping) }
 {
@@ -166,7 +156,6 @@ fn chooses(wiring: &Wiring<'_>, input: &Input) -> bool
     )
 }
 
-/// The fields that an operation reads.
 fn fields_read(operation: &Operation) -> &[Txt]
     ensures { result.now ≡ fields_read operation.now }
 {
@@ -181,7 +170,6 @@ fn fields_read(operation: &Operation) -> &[Txt]
     }
 }
 
-/// That the field that a length adds is not there yet, nor eight without it.
 fn check_added(alloc: Global, fields: &[Txt], operation: &Operation) -> Result<(), TopoFault>
     ensures { Checks result (added_fault fields.now operation.now) }
 {

@@ -1,7 +1,7 @@
 //! The sources of names, found by the names' hashes.
 
 ghost use Rattle.std.specs.Prelude.{◌≡◌, length, IfOk};
-ghost use Rattle.topology_reader.specs.steps.Sources.{IsIndexOf, IsNumbered};
+ghost use Rattle.topology_reader.specs.Steps.{IsIndexOf, IsNumbered};
 ghost use Rattle.topology_reader.specs.Wiring.{source_of};
 
 use indexmap::IndexMap;
@@ -20,11 +20,10 @@ pub(crate) struct Index<'p> {
 }
 
 impl<'p> Model for Index<'p> {
-    ghost use Rattle.topology_form.specs.declared.parts.FileParts.{FileParts};
+    ghost use Rattle.topology_reader.specs.Prelude.{FileParts};
+    ghost use Rattle.topology_reader.specs.Steps.{IsIndexOf, IsNumbered};
 
     ghost Value = { FileParts };
-
-    ghost use Rattle.topology_reader.specs.steps.Sources.{IsIndexOf, IsNumbered};
 
     ghost view = { λ i. i.parts.now };
 
@@ -52,7 +51,6 @@ impl<'p> Index<'p> {
         self.parts.bolts.len() as u32
     }
 
-    /// The source of a name.
     pub(crate) fn source_of(&self, name: &str) -> Option<Origin>
         ensures { result ≡ source_of self.now name.now }
     {

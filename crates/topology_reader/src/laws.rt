@@ -1,19 +1,11 @@
 ghost use Rattle.std.specs.Prelude.{◌≡◌, ◌↔◌, ◌<◌, ◌+◌, ℕ, List, length, true, Some, None, take};
 ghost use Rattle.serde_json.specs.Data.{Data};
-ghost use Rattle.storm_values.specs.Json.{json_of};
-ghost use Rattle.storm_values.specs.Limits.{most_topology_bytes};
-ghost use Rattle.topology_plan.specs.Topology.{Topology};
-ghost use Rattle.topology_plan.specs.Valid.{IsValid};
+ghost use Rattle.topology_reader.specs.Prelude.{json_of, most_topology_bytes, TopoFault, FileParts, Topology, IsValid, form_fault, parts_said, IsInRange};
 ghost use Rattle.topology_reader.specs.FirstFault.{first_fault, IsFilePlan};
 ghost use Rattle.topology_form.specs.Faults.{fault_text};
-ghost use Rattle.topology_form.specs.File.{form_fault};
-ghost use Rattle.topology_form.specs.declared.fault.TopoFault.{TopoFault};
 ghost use Rattle.topology_plan.specs.Wired.{IsWired};
-ghost use Rattle.topology_form.specs.File.{parts_said};
 ghost use Rattle.topology_reader.specs.ValidFile.{IsValidFile};
-ghost use Rattle.topology_form.specs.declared.parts.FileParts.{FileParts};
 ghost use Rattle.topology_reader.specs.Meant.{cycle_fault, meaning_fault};
-ghost use Rattle.topology_form.specs.Ranges.{IsInRange};
 ghost use Rattle.topology_reader.specs.Reach.{IsPath};
 ghost use Rattle.topology_reader.specs.Wiring.{name_at, reaches};
 

@@ -3,13 +3,9 @@
 ghost use Rattle.std.specs.Prelude.{◌≡◌, ℕ, List, [], ◌∷◌, map, is_none, IfOk};
 ghost use Rattle.std.specs.Borrow.{Bor};
 ghost use Rattle.std.specs.List.{find};
-ghost use Rattle.std.specs.Option.{option_copied};
-ghost use Rattle.storm_values.specs.Lines.{first_some};
-ghost use Rattle.topology_form.specs.declared.parts.BoltPart.{BoltPart};
-ghost use Rattle.topology_form.specs.declared.parts.Input.{Input};
-ghost use Rattle.topology_form.specs.declared.parts.StatePart.{StatePart};
+ghost use Rattle.topology_reader.specs.Prelude.{option_copied, first_some, BoltPart, Input, StatePart};
 ghost use Rattle.topology_reader.specs.Meant.{first_again, again_fault, key_of, projected, bolt_twice, state_twice, twice_fault, nameless_fault, source_fault};
-ghost use Rattle.topology_reader.specs.steps.Checks.{Checks};
+ghost use Rattle.topology_reader.specs.Steps.{Checks};
 ghost use Rattle.topology_reader.specs.Wiring.{component_names, source_of};
 
 use crate::index::Index;
@@ -50,7 +46,6 @@ impl Named for Input {
     }
 }
 
-/// The first name that an earlier item has too.
 fn first_again<'a, N: Named>(alloc: Global, items: &'a [N]) -> Result<Option<&'a str>, Memory>
     ensures { IfOk result
         (λ again. option_copied again ≡ first_again [] (map N.name_of items.now)) }
@@ -64,7 +59,6 @@ fn first_again<'a, N: Named>(alloc: Global, items: &'a [N]) -> Result<Option<&'a
     Ok(None)
 }
 
-/// That no two of some items have one name.
 fn check_items<N: Named>(alloc: Global, items: &[N]) -> Result<(), TopoFault>
     ensures { Checks result (again_fault (map N.name_of items.now)) }
 {
@@ -80,7 +74,6 @@ fn check_names(alloc: Global, names: &[Txt]) -> Result<(), TopoFault>
     check_items(alloc, names)
 }
 
-/// That no name stands twice where it may not.
 pub(crate) fn check_twice(alloc: Global, parts: &FileParts) -> Result<(), TopoFault>
     ensures { Checks result (twice_fault parts.now) }
 {
@@ -97,7 +90,6 @@ fn check_components(alloc: Global, parts: &FileParts) -> Result<(), TopoFault>
     check_items(alloc, names.as_slice())
 }
 
-/// The names of the spout and the components.
 fn component_names<'a>(alloc: Global, parts: &'a FileParts) -> Result<Vec<&'a str>, Memory>
     ensures { IfOk result (λ names. map (λ (name : Bor (List ℕ)). name.now) names.items
         ≡ parts.now.spout.name ∷ component_names parts.now) }
@@ -152,7 +144,6 @@ fn check_states(alloc: Global, states: &[StatePart]) -> Result<(), TopoFault>
     Ok(())
 }
 
-/// That each input names a source.
 pub(crate) fn check_sources(alloc: Global, index: &Index<'_>) -> Result<(), TopoFault>
     ensures { Checks result (source_fault index.now) }
 {
@@ -188,7 +179,6 @@ fn check_state_sources(
     Ok(())
 }
 
-/// That each of some items has the name of a source.
 fn check_named<N: Named>(alloc: Global, index: &Index<'_>, items: &[N]) -> Result<(), TopoFault>
     ensures { Checks result (nameless_fault index.now (map N.name_of items.now)) }
 {
@@ -198,7 +188,6 @@ fn check_named<N: Named>(alloc: Global, index: &Index<'_>, items: &[N]) -> Resul
     }
 }
 
-/// The first name of some items that no source has.
 fn first_nameless<'a, N: Named>(index: &Index<'_>, items: &'a [N]) -> Option<&'a str>
     ensures { option_copied result
         ≡ find (λ name. is_none (source_of index.now name)) (map N.name_of items.now) }
@@ -211,7 +200,6 @@ fn first_nameless<'a, N: Named>(index: &Index<'_>, items: &'a [N]) -> Option<&'a
     None
 }
 
-/// The key that a grouping names.
 pub(crate) fn key_of(said: &GroupingPart) -> &[Txt]
     ensures { result.now ≡ key_of said.now }
 {
@@ -221,7 +209,6 @@ pub(crate) fn key_of(said: &GroupingPart) -> &[Txt]
     }
 }
 
-/// The fields that an operation leaves alone.
 fn projected(operation: &Operation) -> &[Txt]
     ensures { result.now ≡ projected operation.now }
 {

@@ -1,10 +1,8 @@
 //! What a topology file says, with components and fields by their numbers.
 
 ghost use Rattle.std.specs.Prelude.{◌≡◌, ◌<◌, ◌^◌, ◌++◌, length, map, option_map, IfOk, OnOk, IfSome};
-ghost use Rattle.std.specs.List.{enumerate_from};
-ghost use Rattle.std.specs.Option.{option_map_or};
-ghost use Rattle.topology_reader.specs.steps.PlanSteps.{planned_components};
-ghost use Rattle.topology_reader.specs.Planned.{number_of, numbers_of, planned_operation, route_field, planned_grouping, planned_bolt, planned_state, first_task_of};
+ghost use Rattle.topology_reader.specs.Prelude.{enumerate_from, option_map_or};
+ghost use Rattle.topology_reader.specs.Planned.{number_of, numbers_of, planned_operation, route_field, planned_grouping, planned_bolt, planned_state, planned_components, first_task_of};
 ghost use Rattle.topology_reader.specs.Wiring.{place_of, fields_of, operation_at};
 
 use crate::fields::Wiring;
@@ -22,7 +20,6 @@ fn place_of(fields: &[Txt], name: &Txt) -> Option<usize>
         .position(|field| field.as_str() == name.as_str())
 }
 
-/// The number of a field, 0 where there is none of the name.
 fn number_of(fields: &[Txt], name: &Txt) -> u32
     requires { length fields.now < 2 ^ 32 }
     ensures { result ≡ number_of fields.now name.now }
@@ -74,7 +71,6 @@ fn planned_operation(alloc: Global, fields: &[Txt], operation: &Operation) -> Re
     }
 }
 
-/// The field by which a route chooses, 0 for every other operation.
 fn route_field(fields: &[Txt], operation: &Operation) -> u32
     requires { length fields.now < 2 ^ 32 }
     ensures { result ≡ route_field fields.now operation.now }
@@ -85,7 +81,6 @@ fn route_field(fields: &[Txt], operation: &Operation) -> u32
     }
 }
 
-/// The grouping of a subscription to a source.
 pub(crate) fn planned_grouping(
     alloc: Global,
     wiring: &Wiring<'_>,
@@ -106,7 +101,6 @@ pub(crate) fn planned_grouping(
     }
 }
 
-/// The field by which a source chooses the task.
 fn chosen_field(wiring: &Wiring<'_>, from: Origin) -> u32
     ensures { result
         ≡ option_map_or (route_field (fields_of wiring.now from)) (operation_at wiring.now from) 0 }
@@ -183,7 +177,6 @@ fn amount_number(fields: &[Txt], amount: &Option<Txt>) -> Option<u32>
     }
 }
 
-/// The components, with their tasks numbered through.
 pub(crate) fn planned_components(
     alloc: Global,
     wiring: &Wiring<'_>,

@@ -2,12 +2,10 @@
 
 ghost use Rattle.std.specs.Prelude.{◌≡◌, ◌≢◌, Some, None, IfOk, IfErr};
 ghost use Rattle.serde_json.specs.View.{view};
-ghost use Rattle.storm_values.specs.Json.{json_of};
-ghost use Rattle.topology_plan.specs.Valid.{IsValid};
+ghost use Rattle.topology_reader.specs.Prelude.{json_of, IsValid, parts_said};
 ghost use Rattle.topology_plan.specs.Wired.{IsWired};
 ghost use Rattle.topology_reader.specs.FirstFault.{first_fault, value_fault, IsFilePlan};
 ghost use Rattle.topology_reader.specs.Planned.{plan_of};
-ghost use Rattle.topology_form.specs.File.{parts_said};
 
 use crate::assembly::plan_from;
 use serde_json::Value;
@@ -50,7 +48,6 @@ fn parse(alloc: Global, bytes: &[u8]) -> Result<Value, TopoFault>
     }
 }
 
-/// The plan of a file's value, or the value's first fault of form and then of what it says.
 fn read_value(alloc: Global, value: Value) -> Result<Plan, TopoFault>
     ensures plan { IfOk result (λ plan. (value_fault (Some (view value)) ≡ None)
         × (plan ≡ plan_of (parts_said (view value)))) }

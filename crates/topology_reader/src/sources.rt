@@ -1,14 +1,11 @@
 //! Who feeds whom in what a topology file says, by component numbers.
 
-ghost use Rattle.std.specs.Prelude.{◌≡◌, ◌-◌, ◌++◌, length, map, IfOk, OnOk};
-ghost use Rattle.std.specs.List.{filter_map, slice_get};
-ghost use Rattle.std.specs.Option.{option_copied};
-ghost use Rattle.topology_form.specs.declared.parts.BoltPart.{BoltPart};
-ghost use Rattle.topology_form.specs.declared.parts.StatePart.{StatePart};
-ghost use Rattle.topology_graph.specs.Graph.{feeds_at};
-ghost use Rattle.topology_reader.specs.steps.Graph.{copies_said, feed_of, feeds_of, graph_of};
-ghost use Rattle.topology_reader.specs.steps.Sources.{IsNumbered};
-ghost use Rattle.topology_reader.specs.Wiring.{source_of, component_count, operation_at, name_at};
+ghost use Rattle.std.specs.Prelude.{◌≡◌, ◌-◌, ◌++◌, length, map, None, IfOk, OnOk};
+ghost use Rattle.topology_reader.specs.Prelude.{IsInRange, IsClosed, feeds_at, IsSettled, filter_map, option_copied, BoltPart, StatePart};
+ghost use Rattle.topology_reader.specs.Meant.{cycle_fault};
+ghost use Rattle.std.specs.List.{slice_get};
+ghost use Rattle.topology_reader.specs.Steps.{IsNumbered};
+ghost use Rattle.topology_reader.specs.Wiring.{source_of, component_count, copies_said, feed_of, feeds_of, graph_of, operation_at, name_at};
 
 use crate::index::Index;
 use std::alloc::Global;
@@ -18,7 +15,6 @@ use topology_form::{BoltPart, FileParts, GroupingPart, Operation, StatePart};
 use topology_graph::{Feed, Graph};
 use topology_plan::Origin;
 
-/// How many copies of a tuple a consumer with these tasks gets.
 fn copies_said(said: &GroupingPart, tasks: u32) -> u32
     ensures { result ≡ copies_said said.now tasks }
 {
@@ -28,7 +24,6 @@ fn copies_said(said: &GroupingPart, tasks: u32) -> u32
     }
 }
 
-/// The subscription to a source of this name.
 fn feed_of(index: &Index<'_>, name: &Txt, copies: u32) -> Option<Feed>
     ensures { result ≡ feed_of index.now name.now copies }
 {
@@ -68,12 +63,11 @@ pub(crate) struct Sources<'p> {
 }
 
 impl<'p> Model for Sources<'p> {
-    ghost use Rattle.topology_form.specs.declared.parts.FileParts.{FileParts};
+    ghost use Rattle.topology_reader.specs.Prelude.{FileParts};
+    ghost use Rattle.std.specs.Prelude.{◌≡◌};
+    ghost use Rattle.topology_reader.specs.Wiring.{graph_of};
 
     ghost Value = { FileParts };
-
-    ghost use Rattle.std.specs.Prelude.{◌≡◌};
-    ghost use Rattle.topology_reader.specs.steps.Graph.{graph_of};
 
     ghost view = { λ s. s.index };
 
@@ -108,27 +102,29 @@ impl<'p> Sources<'p> {
         self.index.bolt_count()
     }
 
-    /// How many components there are.
     pub(crate) fn count(&self) -> usize
         ensures { result ≡ component_count self.now }
     {
         self.graph.len()
     }
 
-    /// The source of a name.
     pub(crate) fn of_name(&self, name: &Txt) -> Option<Origin>
         ensures { result ≡ source_of self.now name.now }
     {
         self.index.source_of(name.as_str())
     }
 
+    /// The graph of a file without a cycle.
     pub(crate) fn graph(&self) -> &Graph
-        ensures { result.now ≡ graph_of self.now }
+        requires range { IsInRange self.now }
+        requires acyclic { cycle_fault self.now ≡ None }
+        ensures value { result.now ≡ graph_of self.now }
+        ensures closed { IsClosed result.now }
+        ensures settled { IsSettled result.now }
     {
         &self.graph
     }
 
-    /// The subscriptions of a component, in the order of its inputs.
     pub(crate) fn at(&self, c: usize) -> &[Feed]
         ensures { result.now ≡ feeds_at (graph_of self.now) c }
     {
@@ -138,14 +134,12 @@ impl<'p> Sources<'p> {
         }
     }
 
-    /// The bolt of a number.
     pub(crate) fn bolt_at(&self, c: usize) -> Option<&BoltPart>
         ensures { option_copied result ≡ slice_get self.now.bolts c }
     {
         self.parts().bolts.as_slice().get(c)
     }
 
-    /// The state of a component number.
     pub(crate) fn state_at(&self, c: usize) -> Option<&StatePart>
         ensures { option_copied result ≡ slice_get self.now.states (c - length self.now.bolts) }
     {
@@ -153,7 +147,6 @@ impl<'p> Sources<'p> {
         self.parts().states.as_slice().get(place)
     }
 
-    /// The name of a component, empty where there is none.
     pub(crate) fn name_at(&self, c: usize) -> &str
         ensures { result.now ≡ name_at self.now c }
     {
@@ -166,7 +159,6 @@ impl<'p> Sources<'p> {
         }
     }
 
-    /// The operation of a bolt.
     pub(crate) fn operation_at(&self, from: Origin) -> Option<&Operation>
         ensures { option_copied result ≡ operation_at self.now from }
     {
@@ -180,6 +172,7 @@ impl<'p> Sources<'p> {
     }
 }
 
+#[tactic(auto, using(crate::proofs::SourceLemmas::graph_of_parts))]
 fn graph_of(alloc: Global, index: &Index<'_>) -> Result<Graph, Memory>
     ensures { IfOk result (λ graph. graph ≡ graph_of index.now) }
 {

@@ -1,12 +1,10 @@
 //! The subscriptions of each source, made in one walk over the inputs of the components.
 
 ghost use Rattle.std.specs.Prelude.{◌≡◌, length, map, fold, IfOk, OnOk};
-ghost use Rattle.std.specs.List.{enumerate_from};
-ghost use Rattle.topology_reader.specs.steps.PlanSteps.{planned_component_subs};
-ghost use Rattle.topology_reader.specs.Planned.{planned_subs};
-ghost use Rattle.topology_reader.specs.steps.Subscribed.{items_by, with_sub, with_input, with_inputs, no_subs};
+ghost use Rattle.topology_reader.specs.Prelude.{enumerate_from, BoltPart};
+ghost use Rattle.topology_reader.specs.Planned.{planned_subs, planned_component_subs};
+ghost use Rattle.topology_reader.specs.Steps.{items_by, with_sub, with_input, with_inputs, no_subs};
 ghost use Rattle.topology_reader.specs.Wiring.{state_inputs};
-ghost use Rattle.topology_form.specs.declared.parts.BoltPart.{BoltPart};
 ghost use Rattle.topology_plan.specs.declared.parts.Origin.TheVariants as origin;
 
 use crate::fields::Wiring;
@@ -25,7 +23,7 @@ pub(crate) struct Subs {
 }
 
 impl Model for Subs {
-    ghost use Rattle.topology_reader.specs.steps.Subscribed.{SubTable, items_by};
+    ghost use Rattle.topology_reader.specs.Steps.{SubTable, items_by};
 
     ghost Value = { SubTable };
 
@@ -50,7 +48,6 @@ impl Subs {
         Ok(subs)
     }
 
-    /// Those of the spout, and of each component.
     pub(crate) fn into_vecs(self) -> (Vec<Sub>, Vec<Vec<Sub>>)
         ensures spout { result.0.items ≡ self.from_spout }
         ensures components { items_by result.1.items ≡ self.from_components }

@@ -1,6 +1,6 @@
 use Rattle.std.proofs.Common.{◌≡◌}
 use Rattle.std.specs.Vec.Iter.{into_iter_items}
-use Rattle.serde_json.specs.View.{items_view}
+use Rattle.topology_form.specs.Prelude.{items_view}
 use Rattle.topology_form.specs.Reading.{each}
 use Rattle.topology_form.proofs.Each.{after}
 use Rattle.topology_form.proofs.forms.each.Given as goal

@@ -1,5 +1,4 @@
-use Rattle.std.proofs.Common.{◌≡◌, map, take}
-use Rattle.std.specs.Prelude.{Option, unwrap_or, ℕ}
+use Rattle.std.proofs.Common.{◌≡◌, map, take, Option, unwrap_or, ℕ}
 use Rattle.topology_graph.proofs.numbers.numbers.Given as goal
 
 abbrev pub invariant-loop-number : goal.invariant-loop-number

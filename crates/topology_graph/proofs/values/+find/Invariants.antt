@@ -1,5 +1,4 @@
-use Rattle.std.proofs.Common.{◌≡◌, ℕ, ◌<◌, Some}
-use Rattle.std.specs.Prelude.{slice_get}
+use Rattle.std.proofs.Common.{◌≡◌, ℕ, ◌<◌, Some, slice_get}
 use Rattle.topology_plan.specs.declared.parts.Origin.{Origin}
 use Rattle.topology_graph.specs.declared.values.Feed.{Feed}
 use Rattle.topology_graph.specs.Numbers.{depth_at}

@@ -1,17 +1,14 @@
-use Rattle.std.proofs.Common.{◌+◌, ◌<◌, length, slice_get, slice_index, Some, option_map, ap, sym, ◌∙◌, arith}
-use Rattle.topology_form.specs.declared.fault.TopoFault.TheVariants.{Cycle}
-use Rattle.topology_form.specs.declared.parts.FileParts.{FileParts}
-use Rattle.topology_reader.specs.steps.Reached.{has}
-use Rattle.topology_reader.specs.Meant.{cycle_fault}
-use Rattle.topology_reader.specs.Wiring.{name_at}
-use Rattle.topology_reader.proofs.ReachedSets.{cycle_fault-reached, range-below, name_at-bolt}
+use Rattle.std.proofs.Common.{length, slice_get, slice_index, Some, option_map, ap, sym, ◌∙◌, arith}
+use Rattle.topology_reader.proofs.Common.{Cycle, FileParts, has, cycle_fault, name_at}
+use Rattle.topology_reader.proofs.ReachedSets.{cycle_fault-reached, name_at-bolt}
+use Rattle.topology_reader.proofs.CyclePaths.{found_first}
 use Rattle.topology_reader.proofs.cycles.check_cycles.Goals as goal
 
 pub at-requires : goal.at-requires
 at-requires c =
     let sets = c.as_slice.result.now in
-    let within : c.in-Some.c < 0 + length sets = range-below (λ i. has (slice_index sets i) i) 0 (length sets) c.in-Some.c (sym c.in-Some.ensures) in
-    omega (arith, ap length c.as_slice.ensures.value, c.in_ok-sets.ensures.counted, ap (λ (p : FileParts). length p.bolts) c.parts.ensures)
+    let first = found_first (λ i. has (slice_index sets i) i) 0 (length sets) c.in-Some.c (sym c.in-Some.ensures) in
+    omega (arith, first.0, ap length c.as_slice.ensures.value, c.in_ok-sets.ensures.counted, ap (λ (p : FileParts). length p.bolts) c.parts.ensures)
 
 pub returns-in-Some : goal.returns-in-Some
 returns-in-Some c =

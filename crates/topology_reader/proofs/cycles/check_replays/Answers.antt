@@ -1,12 +1,6 @@
 use Rattle.std.proofs.Common.{◌≡◌, false, Option, Some, None, option_map, refl, ap, sym, ◌∙◌}
-use Rattle.std.proofs.lemmas.Bool.{true≢false}
+use Rattle.topology_reader.proofs.Common.{true≢false, Kind, Transactional, Opaque, FileParts, StatePart, NotExactlyOnce, is_transactional, replay_fault}
 use Rattle.std.specs.List.{find}
-use Rattle.topology_plan.specs.declared.parts.Kind.{Kind}
-use Rattle.topology_plan.specs.declared.parts.Kind.TheVariants.{Transactional, Opaque}
-use Rattle.topology_form.specs.declared.parts.FileParts.{FileParts}
-use Rattle.topology_form.specs.declared.parts.StatePart.{StatePart}
-use Rattle.topology_form.specs.declared.fault.TopoFault.TheVariants.{NotExactlyOnce}
-use Rattle.topology_reader.specs.Meant.{is_transactional, replay_fault}
 use Rattle.topology_reader.proofs.cycles.check_replays.Goals as goal
 
 named : (found : Option StatePart) → option_map NotExactlyOnce (option_map (λ (state : StatePart). state.name) found) ≡ option_map (λ (state : StatePart). NotExactlyOnce state.name) found

@@ -1,6 +1,5 @@
 use Rattle.std.proofs.Common.{◌≡◌, ◌<◌, ℕ, length, slice_index}
-use Rattle.topology_reader.specs.steps.Reached.{has}
-use Rattle.topology_reader.specs.Wiring.{feeds}
+use Rattle.topology_reader.proofs.Common.{has, feeds}
 use Rattle.topology_reader.proofs.cycles.direct_sources.Given as goal
 
 abbrev pub invariant-loop-bolt : goal.invariant-loop-bolt

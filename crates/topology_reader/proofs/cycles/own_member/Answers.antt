@@ -1,5 +1,5 @@
 use Rattle.std.proofs.Common.{slice_index, length, sym, ◌∙◌, arith}
-use Rattle.topology_reader.specs.steps.Reached.{has}
+use Rattle.topology_reader.proofs.Common.{has}
 use Rattle.topology_reader.proofs.ReachedSets.{range-past}
 use Rattle.topology_reader.proofs.cycles.own_member.Goals as goal
 

@@ -1,6 +1,6 @@
 use Rattle.std.proofs.Common.{◌≡◌, ◌-◌, length, slice_index}
-use Rattle.std.specs.List.{find, range_with_len}
-use Rattle.topology_reader.specs.steps.Reached.{has}
+use Rattle.std.specs.List.{find}
+use Rattle.topology_reader.proofs.Common.{range_with_len, has}
 use Rattle.topology_reader.proofs.cycles.own_member.Given as goal
 
 abbrev pub invariant-loop-c : goal.invariant-loop-c

@@ -1,4 +1,4 @@
-use Rattle.topology_reader.specs.steps.Reached.{AreReached}
+use Rattle.topology_reader.proofs.Common.{AreReached}
 use Rattle.topology_reader.proofs.cycles.reach_sets.Given as goal
 
 abbrev pub invariant-loop-n : goal.invariant-loop-n

@@ -1,6 +1,5 @@
 use Rattle.std.proofs.Common.{◌≡◌, drop}
-use Rattle.std.specs.Cmp.Lexicographic.{pointwise}
-use Rattle.std.specs.Str.{bytes_eq}
+use Rattle.topology_reader.proofs.Common.{pointwise, bytes_eq}
 use Rattle.topology_reader.proofs.fields_fault.are_same.Given as goal
 
 abbrev pub invariant-loop-i : goal.invariant-loop-i

@@ -1,6 +1,5 @@
 use Rattle.std.proofs.Common.{◌≡◌, map, drop}
-use Rattle.storm_values.specs.Lines.{first_some}
-use Rattle.topology_reader.specs.Meant.{component_fault, fields_fault}
+use Rattle.topology_reader.proofs.Common.{first_some, component_fault, fields_fault}
 use Rattle.topology_reader.proofs.fields_fault.check_fields.Given as goal
 
 abbrev pub invariant-loop-c : goal.invariant-loop-c

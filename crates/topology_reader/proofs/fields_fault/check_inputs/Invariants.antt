@@ -1,6 +1,5 @@
 use Rattle.std.proofs.Common.{◌≡◌, map, drop}
-use Rattle.storm_values.specs.Lines.{first_some}
-use Rattle.topology_reader.specs.Meant.{input_fault}
+use Rattle.topology_reader.proofs.Common.{first_some, input_fault}
 use Rattle.topology_reader.proofs.fields_fault.check_inputs.Given as goal
 
 abbrev pub invariant-loop-input : goal.invariant-loop-input

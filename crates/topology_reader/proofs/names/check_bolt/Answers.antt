@@ -1,8 +1,5 @@
 use Rattle.std.proofs.Common.{◌≡◌, None, [], ◌∷◌, map, ap, sym, ◌∙◌}
-use Rattle.std.proofs.lemmas.Result.{err_from_is_err_and}
-use Rattle.storm_values.specs.Lines.{first_some}
-use Rattle.topology_form.specs.declared.parts.Input.{Input}
-use Rattle.topology_reader.specs.Meant.{again_fault, key_of, projected}
+use Rattle.topology_reader.proofs.Common.{err_from_is_err_and, first_some, Input, again_fault, key_of, projected}
 use Rattle.topology_reader.proofs.names.check_bolt.Goals as goal
 
 pub returns-in_err-check_keys : goal.returns-in_err-check_keys

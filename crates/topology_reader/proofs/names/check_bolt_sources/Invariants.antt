@@ -1,8 +1,5 @@
 use Rattle.std.proofs.Common.{◌≡◌, map, drop}
-use Rattle.storm_values.specs.Lines.{first_some}
-use Rattle.topology_form.specs.declared.parts.BoltPart.{BoltPart}
-use Rattle.topology_form.specs.declared.parts.Input.{Input}
-use Rattle.topology_reader.specs.Meant.{nameless_fault}
+use Rattle.topology_reader.proofs.Common.{first_some, BoltPart, Input, nameless_fault}
 use Rattle.topology_reader.proofs.names.check_bolt_sources.Given as goal
 
 abbrev pub invariant-loop-bolt : goal.invariant-loop-bolt

@@ -1,6 +1,5 @@
 use Rattle.std.proofs.Common.{◌≡◌, map, drop}
-use Rattle.storm_values.specs.Lines.{first_some}
-use Rattle.topology_reader.specs.Meant.{bolt_twice}
+use Rattle.topology_reader.proofs.Common.{first_some, bolt_twice}
 use Rattle.topology_reader.proofs.names.check_bolts.Given as goal
 
 abbrev pub invariant-loop-bolt : goal.invariant-loop-bolt

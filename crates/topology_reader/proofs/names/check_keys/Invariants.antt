@@ -1,7 +1,5 @@
 use Rattle.std.proofs.Common.{◌≡◌, map, drop}
-use Rattle.storm_values.specs.Lines.{first_some}
-use Rattle.topology_form.specs.declared.parts.Input.{Input}
-use Rattle.topology_reader.specs.Meant.{again_fault, key_of}
+use Rattle.topology_reader.proofs.Common.{first_some, Input, again_fault, key_of}
 use Rattle.topology_reader.proofs.names.check_keys.Given as goal
 
 abbrev pub invariant-loop-input : goal.invariant-loop-input

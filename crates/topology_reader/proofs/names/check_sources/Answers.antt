@@ -1,10 +1,5 @@
 use Rattle.std.proofs.Common.{◌≡◌, [], ◌∷◌, map, ap, sym, ◌∙◌}
-use Rattle.std.proofs.lemmas.Result.{err_from_is_err_and}
-use Rattle.storm_values.specs.Lines.{first_some}
-use Rattle.topology_form.specs.declared.parts.BoltPart.{BoltPart}
-use Rattle.topology_form.specs.declared.parts.Input.{Input}
-use Rattle.topology_form.specs.declared.parts.StatePart.{StatePart}
-use Rattle.topology_reader.specs.Meant.{nameless_fault}
+use Rattle.topology_reader.proofs.Common.{err_from_is_err_and, first_some, BoltPart, Input, StatePart, nameless_fault}
 use Rattle.topology_reader.proofs.FileFaults.{next_alone}
 use Rattle.topology_reader.proofs.names.check_sources.Goals as goal
 

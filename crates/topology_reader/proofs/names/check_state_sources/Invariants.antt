@@ -1,7 +1,5 @@
 use Rattle.std.proofs.Common.{◌≡◌, map, drop}
-use Rattle.storm_values.specs.Lines.{first_some}
-use Rattle.topology_form.specs.declared.parts.StatePart.{StatePart}
-use Rattle.topology_reader.specs.Meant.{nameless_fault}
+use Rattle.topology_reader.proofs.Common.{first_some, StatePart, nameless_fault}
 use Rattle.topology_reader.proofs.names.check_state_sources.Given as goal
 
 abbrev pub invariant-loop-state : goal.invariant-loop-state

@@ -1,10 +1,7 @@
 use Rattle.std.proofs.Common.{rules, tests, Some, List, ℕ}
-use Rattle.std.specs.Borrow.{Bor}
-use Rattle.std.proofs.lemmas.Iterator.{YieldsList-from_slice, YieldsList-from_map_by}
+use Rattle.topology_reader.proofs.Common.{Bor, YieldsList-from_slice, YieldsList-from_map_by, BoltPart, StatePart}
 use Rattle.std.proofs.lemmas.Iterator.Adapters.{YieldsList-from_once}
 use Rattle.std.proofs.lemmas.Iterator.Consumers.{YieldsList-at, YieldsList-from_chain, map_from_collect}
-use Rattle.topology_form.specs.declared.parts.BoltPart.{BoltPart}
-use Rattle.topology_form.specs.declared.parts.StatePart.{StatePart}
 use Rattle.topology_reader.proofs.NameLists.{YieldsList-seen}
 use Rattle.topology_reader.proofs.names.component_names.Goals as goal
 

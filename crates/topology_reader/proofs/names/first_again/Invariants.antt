@@ -1,6 +1,5 @@
 use Rattle.std.proofs.Common.{◌≡◌, ℕ, List, [], map, drop}
-use Rattle.std.specs.Borrow.{Bor}
-use Rattle.topology_reader.specs.Meant.{first_again}
+use Rattle.topology_reader.proofs.Common.{Bor, first_again}
 use Rattle.topology_reader.proofs.NameLists.{again_in}
 use Rattle.topology_reader.proofs.names.first_again.Given as goal
 

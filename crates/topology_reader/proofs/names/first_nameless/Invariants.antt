@@ -1,6 +1,5 @@
-use Rattle.std.proofs.Common.{◌≡◌, map, drop, find}
-use Rattle.std.specs.Prelude.{is_none}
-use Rattle.topology_reader.specs.Wiring.{source_of}
+use Rattle.std.proofs.Common.{◌≡◌, map, drop, find, is_none}
+use Rattle.topology_reader.proofs.Common.{source_of}
 use Rattle.topology_reader.proofs.names.first_nameless.Given as goal
 
 abbrev pub invariant-loop-item : goal.invariant-loop-item

@@ -1,6 +1,5 @@
 use Rattle.std.proofs.Common.{◌≡◌, ◌++◌, map, take}
-use Rattle.std.specs.List.{enumerate_from}
-use Rattle.topology_reader.specs.Planned.{planned_bolt, first_task_of}
+use Rattle.topology_reader.proofs.Common.{enumerate_from, planned_bolt, first_task_of}
 use Rattle.topology_reader.proofs.planned.add_bolts.Given as goal
 
 abbrev pub invariant-loop-c : goal.invariant-loop-c

@@ -1,7 +1,5 @@
 use Rattle.std.proofs.Common.{◌≡◌, ◌+◌, ◌++◌, ◌<◌, length, map, get_or, sym, ap, ◌∙◌, arith}
-use Rattle.std.proofs.lemmas.List.{take_all, append-nil}
-use Rattle.std.specs.List.{enumerate_from}
-use Rattle.topology_reader.specs.Planned.{planned_state, first_task_of}
+use Rattle.topology_reader.proofs.Common.{take_all, append-nil, enumerate_from, planned_state, first_task_of}
 use Rattle.topology_reader.proofs.TaskLemmas.{numbered_next, first_task_after_state, first_task-le}
 use Rattle.topology_reader.proofs.planned.add_states.Goals as goal
 

@@ -1,6 +1,5 @@
 use Rattle.std.proofs.Common.{◌≡◌, ◌+◌, ◌++◌, length, map, take}
-use Rattle.std.specs.List.{enumerate_from}
-use Rattle.topology_reader.specs.Planned.{planned_state, first_task_of}
+use Rattle.topology_reader.proofs.Common.{enumerate_from, planned_state, first_task_of}
 use Rattle.topology_reader.proofs.planned.add_states.Given as goal
 
 abbrev pub invariant-loop-i : goal.invariant-loop-i

@@ -1,5 +1,5 @@
 use Rattle.std.proofs.Common.{◌≡◌, take}
-use Rattle.topology_reader.specs.Planned.{numbers_of}
+use Rattle.topology_reader.proofs.Common.{numbers_of}
 use Rattle.topology_reader.proofs.planned.numbers_of.Given as goal
 
 abbrev pub invariant-loop-name : goal.invariant-loop-name

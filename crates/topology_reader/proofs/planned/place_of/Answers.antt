@@ -1,7 +1,6 @@
 use Rattle.std.proofs.Common.{rules, tests, ◌∙◌, sym}
-use Rattle.std.proofs.lemmas.Iterator.{YieldsList-from_slice}
+use Rattle.topology_reader.proofs.Common.{YieldsList-from_slice, bytes_eq}
 use Rattle.std.proofs.lemmas.Iterator.Search.{position_from_yields_List}
-use Rattle.std.specs.Str.{bytes_eq}
 use Rattle.topology_reader.proofs.PlannedLemmas.{place_of-position}
 use Rattle.topology_reader.proofs.planned.place_of.Goals as goal
 

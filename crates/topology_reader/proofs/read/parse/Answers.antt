@@ -1,4 +1,4 @@
-use Rattle.std.proofs.lemmas.Bool.{false≢true}
+use Rattle.topology_reader.proofs.Common.{false≢true}
 use Rattle.topology_reader.proofs.Texts.{json_of-read, json_of-unread}
 use Rattle.topology_reader.proofs.read.parse.Goals as goal
 use Rattle.topology_reader.proofs.read.parse.Goals.{then-is_memory, else-is_memory}

@@ -1,7 +1,6 @@
 use Rattle.std.proofs.Common.{◌≤◌, Some, length, ap, sym, ◌∙◌, arith}
-use Rattle.std.proofs.lemmas.Result.{err_from_is_err_and, IfOk-weaker}
+use Rattle.topology_reader.proofs.Common.{err_from_is_err_and, IfOk-weaker, value_fault}
 use Rattle.serde_json.specs.View.{view}
-use Rattle.topology_reader.specs.FirstFault.{value_fault}
 use Rattle.topology_reader.proofs.FileFaults.{too_long, of_value, plan_of_read, fault_of_read}
 use Rattle.topology_reader.proofs.FilePlans.{plan_is_valid}
 use Rattle.topology_reader.proofs.read.read_topology.Goals as goal
@@ -18,22 +17,13 @@ returns-in_err-value-clause-fault c =
     let unread = c.in_err-value.ensures.fault other in
     of_value c.args.bytes.now short ∙ (ap value_fault unread.1 ∙ ap Some (sym unread.0)))
 
-pub returns-clause-plan : goal.returns-clause-plan
-returns-clause-plan c =
+pub returns : goal.returns
+returns c =
     let short : length c.args.bytes.now ≤ 65536 = omega arith in
-    plan_of_read c.args.bytes.now (view c.in_ok-value.value) c.read_value.result short c.in_ok-value.ensures.ok c.read_value.ensures.plan
-
-pub returns-clause-fault : goal.returns-clause-fault
-returns-clause-fault c =
-    let short : length c.args.bytes.now ≤ 65536 = omega arith in
-    fault_of_read c.args.bytes.now (view c.in_ok-value.value) c.read_value.result short c.in_ok-value.ensures.ok c.read_value.ensures.fault
-
-pub returns-clause-valid : goal.returns-clause-valid
-returns-clause-valid c =
-    let short : length c.args.bytes.now ≤ 65536 = omega arith in
-    IfOk-weaker c.read_value.result _ _ (λ plan is. (plan_is_valid c.args.bytes.now plan is).0) (plan_of_read c.args.bytes.now (view c.in_ok-value.value) c.read_value.result short c.in_ok-value.ensures.ok c.read_value.ensures.plan)
-
-pub returns-clause-wired : goal.returns-clause-wired
-returns-clause-wired c =
-    let short : length c.args.bytes.now ≤ 65536 = omega arith in
-    IfOk-weaker c.read_value.result _ _ (λ plan is. (plan_is_valid c.args.bytes.now plan is).1) (plan_of_read c.args.bytes.now (view c.in_ok-value.value) c.read_value.result short c.in_ok-value.ensures.ok c.read_value.ensures.plan)
+    let read = plan_of_read c.args.bytes.now (view c.in_ok-value.value) c.read_value.result short c.in_ok-value.ensures.ok c.read_value.ensures.plan in
+    record {
+      plan = read;
+      valid = IfOk-weaker c.read_value.result _ _ (λ plan is. (plan_is_valid c.args.bytes.now plan is).0) read;
+      wired = IfOk-weaker c.read_value.result _ _ (λ plan is. (plan_is_valid c.args.bytes.now plan is).1) read;
+      fault = fault_of_read c.args.bytes.now (view c.in_ok-value.value) c.read_value.result short c.in_ok-value.ensures.ok c.read_value.ensures.fault;
+    }

@@ -1,7 +1,6 @@
 use Rattle.std.proofs.Common.{sym, subst}
 use Rattle.serde_json.specs.View.{view}
-use Rattle.topology_form.specs.Ranges.{IsInRange}
-use Rattle.topology_form.proofs.InRange.{in_range}
+use Rattle.topology_reader.proofs.Common.{IsInRange, in_range}
 use Rattle.topology_reader.proofs.read.read_value.Goals as goal
 
 pub plan_from-requires : goal.plan_from-requires

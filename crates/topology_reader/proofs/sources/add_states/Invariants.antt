@@ -1,7 +1,5 @@
 use Rattle.std.proofs.Common.{◌≡◌, ◌++◌, map, take}
-use Rattle.std.specs.List.{filter_map}
-use Rattle.topology_form.specs.declared.parts.StatePart.{StatePart}
-use Rattle.topology_reader.specs.steps.Graph.{feed_of}
+use Rattle.topology_reader.proofs.Common.{filter_map, StatePart, feed_of}
 use Rattle.topology_reader.proofs.sources.add_states.Given as goal
 
 abbrev pub invariant-loop-state : goal.invariant-loop-state

@@ -1,6 +1,5 @@
 use Rattle.std.proofs.Common.{◌≡◌, map, take}
-use Rattle.topology_form.specs.declared.parts.BoltPart.{BoltPart}
-use Rattle.topology_reader.specs.steps.Graph.{feeds_of}
+use Rattle.topology_reader.proofs.Common.{BoltPart, feeds_of}
 use Rattle.topology_reader.proofs.sources.feeds_of_bolts.Given as goal
 
 abbrev pub invariant-loop-bolt : goal.invariant-loop-bolt

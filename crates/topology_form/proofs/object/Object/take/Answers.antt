@@ -1,5 +1,5 @@
 use Rattle.std.proofs.Common.{option_map, ap, ◌∙◌}
-use Rattle.serde_json.specs.View.{view, members_view}
+use Rattle.topology_form.specs.Prelude.{view, members_view}
 use Rattle.serde_json.proofs.Views.{view-lookup}
 use Rattle.topology_form.proofs.Left.{members_view-remove_entry}
 use Rattle.topology_form.proofs.object.Object.take.Goals as goal

@@ -1,15 +1,13 @@
 use Rattle.std.proofs.Common.{◌≡◌, ℕ, List, length, ap, subst, arith}
 use Rattle.std.proofs.lemmas.Grind.{common_steps}
-use Rattle.std.proofs.lemmas.Option.{gets}
-use Rattle.topology_reader.proofs.FieldLemmas.{fields_of-Spout, fields_of-table}
-use Rattle.topology_form.specs.Ranges.{IsInRange}
+use Rattle.topology_reader.proofs.Common.{gets, IsInRange, fields_of}
+use Rattle.topology_reader.proofs.GraphLemmas.{fields_of_spout, fields_of-table}
 use Rattle.topology_plan.specs.declared.parts.Origin.TheVariants as origin
-use Rattle.topology_reader.specs.Wiring.{fields_of}
 use Rattle.topology_reader.proofs.PlannedLemmas.{few_fields_of}
 use Rattle.topology_reader.proofs.fields.Wiring.fields_of.Goals as goal
 
 pub returns-in-Spout-clause-value : goal.returns-in-Spout-clause-value
-returns-in-Spout-clause-value c = let e = fields_of-Spout c.args.self.now in grind (arith, common_steps)
+returns-in-Spout-clause-value c = let e = fields_of_spout c.args.self.now in grind (arith, common_steps)
 
 pub returns-in-Some-Some-clause-value : goal.returns-in-Some-Some-clause-value
 returns-in-Some-Some-clause-value c = let e = fields_of-table c.args.self.now c.in-Component.c in grind (arith, common_steps, gets)

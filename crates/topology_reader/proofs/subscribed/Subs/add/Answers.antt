@@ -1,7 +1,6 @@
 use Rattle.std.proofs.Common.{◌<◌, length, List, ap, sym, ◌∙◌, arith}
 use Rattle.topology_plan.specs.declared.parts.Origin.TheVariants as origin
-use Rattle.topology_plan.specs.declared.parts.Sub.{Sub}
-use Rattle.topology_reader.specs.steps.Subscribed.{SubTable, with_sub}
+use Rattle.topology_reader.proofs.Common.{Sub, SubTable, with_sub}
 use Rattle.topology_reader.proofs.SubLemmas.{added_at}
 use Rattle.topology_reader.proofs.subscribed.Subs.add.Goals as goal
 

@@ -1,5 +1,5 @@
 use Rattle.std.proofs.Common.{◌≡◌, fold, take}
-use Rattle.topology_reader.specs.steps.Subscribed.{with_input}
+use Rattle.topology_reader.proofs.Common.{with_input}
 use Rattle.topology_reader.proofs.subscribed.Subs.add_bolt.Given as goal
 
 abbrev pub invariant-loop-input : goal.invariant-loop-input

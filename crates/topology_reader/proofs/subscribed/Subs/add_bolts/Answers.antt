@@ -1,8 +1,5 @@
 use Rattle.std.proofs.Common.{◌≡◌, fold, map, ap, ◌∙◌, arith}
-use Rattle.std.proofs.lemmas.List.{take_all}
-use Rattle.std.specs.List.{enumerate_from}
-use Rattle.topology_form.specs.declared.parts.BoltPart.{BoltPart}
-use Rattle.topology_reader.specs.steps.Subscribed.{with_inputs}
+use Rattle.topology_reader.proofs.Common.{take_all, enumerate_from, BoltPart, with_inputs}
 use Rattle.topology_reader.proofs.SubLemmas.{walk_next}
 use Rattle.topology_reader.proofs.subscribed.Subs.add_bolts.Goals as goal
 

@@ -1,7 +1,5 @@
 use Rattle.std.proofs.Common.{◌≡◌, fold, map, take}
-use Rattle.std.specs.List.{enumerate_from}
-use Rattle.topology_form.specs.declared.parts.BoltPart.{BoltPart}
-use Rattle.topology_reader.specs.steps.Subscribed.{with_inputs}
+use Rattle.topology_reader.proofs.Common.{enumerate_from, BoltPart, with_inputs}
 use Rattle.topology_reader.proofs.subscribed.Subs.add_bolts.Given as goal
 
 abbrev pub invariant-loop-c : goal.invariant-loop-c

@@ -1,5 +1,5 @@
 use Rattle.std.proofs.Common.{◌≡◌, fold, map, take}
-use Rattle.topology_reader.specs.steps.Subscribed.{with_input}
+use Rattle.topology_reader.proofs.Common.{with_input}
 use Rattle.topology_reader.proofs.subscribed.Subs.add_names.Given as goal
 
 abbrev pub invariant-loop-name : goal.invariant-loop-name

@@ -1,8 +1,5 @@
 use Rattle.std.proofs.Common.{◌≡◌, ◌+◌, fold, length, map, ap, ◌∙◌, arith}
-use Rattle.std.proofs.lemmas.List.{take_all}
-use Rattle.std.specs.List.{enumerate_from}
-use Rattle.topology_reader.specs.steps.Subscribed.{with_inputs}
-use Rattle.topology_reader.specs.Wiring.{state_inputs}
+use Rattle.topology_reader.proofs.Common.{take_all, enumerate_from, with_inputs, state_inputs}
 use Rattle.topology_reader.proofs.SubLemmas.{walk_next}
 use Rattle.topology_reader.proofs.subscribed.Subs.add_states.Goals as goal
 

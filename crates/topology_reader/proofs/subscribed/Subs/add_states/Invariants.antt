@@ -1,7 +1,5 @@
 use Rattle.std.proofs.Common.{◌≡◌, fold, length, map, take}
-use Rattle.std.specs.List.{enumerate_from}
-use Rattle.topology_reader.specs.steps.Subscribed.{with_inputs}
-use Rattle.topology_reader.specs.Wiring.{state_inputs}
+use Rattle.topology_reader.proofs.Common.{enumerate_from, with_inputs, state_inputs}
 use Rattle.topology_reader.proofs.subscribed.Subs.add_states.Given as goal
 
 abbrev pub invariant-loop-i : goal.invariant-loop-i

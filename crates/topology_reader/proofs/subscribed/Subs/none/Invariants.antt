@@ -1,5 +1,5 @@
 use Rattle.std.proofs.Common.{◌≡◌, [], replicate}
-use Rattle.topology_reader.specs.steps.Subscribed.{items_by}
+use Rattle.topology_reader.proofs.Common.{items_by}
 use Rattle.topology_reader.proofs.subscribed.Subs.none.Given as goal
 
 abbrev pub invariant-loop-c : goal.invariant-loop-c

@@ -1,7 +1,5 @@
 use Rattle.std.proofs.Common.{◌≡◌, ◌∙◌, fold, ap}
-use Rattle.std.specs.List.{enumerate_from}
-use Rattle.topology_reader.specs.steps.Subscribed.{with_inputs, no_subs}
-use Rattle.topology_reader.specs.Wiring.{component_count, inputs_by_component}
+use Rattle.topology_reader.proofs.Common.{enumerate_from, with_inputs, no_subs, component_count, inputs_by_component}
 use Rattle.topology_reader.proofs.SubLemmas.{walk_whole, from_spout-walked, from_components-walked}
 use Rattle.topology_reader.proofs.subscribed.Subs.of.Goals as goal
 

@@ -1,0 +1,21 @@
+-- The names that the definitions cite, passed on from one place. Declares nothing.
+pub use Rattle.serde_json.specs.Data.{string, Data, Members, Items, no_items, item, no_members, member}
+pub use Rattle.serde_json.specs.Events.{items_len}
+pub use Rattle.serde_json.specs.Find.{get_member, as_str, as_number, as_array, as_object, as_i64}
+pub use Rattle.serde_json.specs.View.{members_view, view, items_view}
+pub use Rattle.storm_values.specs.Limits.{most_topology_bytes, most_weight, most_fields, most_batch, most_below, most_tasks, most_bolt_inputs, most_state_inputs, most_bolts, most_states, most_ackers, most_pending, least_buckets, most_buckets, most_attempts}
+pub use Rattle.storm_values.specs.declared.value.Value.{Value}
+pub use Rattle.topology_form.specs.declared.fault.TopoFault.{TopoFault}
+pub use Rattle.topology_form.specs.declared.fault.TopoFault.TheVariants.{Missing, WrongKind, UnknownName, OutOfRange, Memory}
+pub use Rattle.topology_form.specs.declared.parts.BoltPart.{BoltPart}
+pub use Rattle.topology_form.specs.declared.parts.FileParts.{FileParts}
+pub use Rattle.topology_form.specs.declared.parts.GroupingPart.{GroupingPart}
+pub use Rattle.topology_form.specs.declared.parts.Input.{Input}
+pub use Rattle.topology_form.specs.declared.parts.Operation.{Operation}
+pub use Rattle.topology_form.specs.declared.parts.Operation.TheVariants.{Split, Project, Filter, Set, Len, Route, Flaky, Mute, Custom}
+pub use Rattle.topology_form.specs.declared.parts.SpoutPart.{SpoutPart}
+pub use Rattle.topology_form.specs.declared.parts.StatePart.{StatePart}
+pub use Rattle.topology_plan.specs.Texts.{is_name, is_letter, is_name_byte, begins_with_letter}
+unfoldable pub use Rattle.topology_plan.specs.Texts.{IsName}
+pub use Rattle.topology_plan.specs.declared.parts.Fold.{Fold}
+pub use Rattle.topology_plan.specs.declared.parts.Fold.TheVariants.{Count, Sum, Last, Max}

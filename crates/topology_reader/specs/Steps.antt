@@ -1,0 +1,94 @@
+-- What the steps of the checks have done, which no public contract cites.
+use Rattle.std.specs.Prelude.{bit_or, if◌then◌else◌, ◌≡◌, ◌≢◌, ◌<◌, ◌^◌, ◌==◌, ℕ, Bool, List, [], ◌∷◌, ◌++◌, length, map, fold, replicate, slice_index, slice_index_or, slice_set, Option, Some, None, Result, Ok, Err, Vec}
+use Rattle.std.specs.declared.alloc.Global.{Global}
+use Rattle.std.specs.Borrow.{Bor}
+use Rattle.std.specs.Int.{bit_at}
+use Rattle.topology_reader.specs.Prelude.{range_with_len, option_map_or, bytes_eq, Origin, tasks_in_all, depth_of, weight_of, TopoFault, Memory, Input, FileParts, value_of}
+use Rattle.indexmap.specs.IndexMap.{IndexMap, get_by}
+use Rattle.topology_plan.specs.declared.parts.Origin.TheVariants as origin
+use Rattle.topology_plan.specs.declared.parts.Sub.{Sub}
+use Rattle.topology_plan.specs.declared.plan.Made.{Made}
+use Rattle.topology_plan.specs.Inside.{topology_of}
+use Rattle.topology_reader.specs.Planned.{planned_grouping, plan_of}
+use Rattle.topology_reader.specs.Wiring.{source_of, graph_of, reaches_over, fields_rule}
+
+-- a check passes where there is no fault, and otherwise answers it, unless memory ran out
+abbrev pub Checks : {A : Type 0} → Result A TopoFault → Option TopoFault → Type 0
+Checks (Ok x) fault = fault ≡ None
+Checks (Err told) fault = told ≢ Memory → fault ≡ Some told
+
+-- ---- sources
+
+-- the bolts' numbers fit 32 bits
+abbrev pub IsNumbered : FileParts → Type 0
+IsNumbered p = length p.bolts < 2 ^ 32
+
+-- a map from a name to the source of that name
+abbrev pub IsIndexOf : {S : Type 0} → FileParts → IndexMap (Bor (List ℕ)) Origin S → Type 0
+IsIndexOf p m =
+    (name : Bor (List ℕ))
+    → get_by (λ (key : Bor (List ℕ)). bytes_eq name.now key.now) m ≡ source_of p name.now
+
+-- the set of the bits that are 1 has this number
+abbrev pub has : ℕ → ℕ → Bool
+has set a = bit_at set a == 1
+
+-- the set of a bolt, where paths may go through bolt n too, whose set is through
+abbrev pub led : ℕ → ℕ → ℕ → ℕ
+led n through set = if has set n then bit_or set through else set
+
+-- the set of bolt b holds the bolts with a path to b on which the bolts in between are among the
+-- first n
+pub record AreReached (n : ℕ) (p : FileParts) (sets : List ℕ) : Type 0 where
+  pub counted : length sets ≡ length p.bolts
+  pub held : (a b : ℕ) → b < length p.bolts → has (slice_index sets b) a ≡ reaches_over n p a b
+
+-- of each component its fields
+abbrev pub field_table : FileParts → List (Option (List (List ℕ)))
+field_table p =
+    map (λ c. Some (value_of (fields_rule p) (graph_of p) (origin.Component c)))
+    (range_with_len 0 (length (graph_of p)))
+
+-- ---- the plan
+
+-- the lists behind vectors of subscriptions
+abbrev pub items_by : List (Vec Sub Global) → List (List Sub)
+items_by vectors = map (λ (subs : Vec Sub Global). subs.items) vectors
+
+-- the subscriptions of the spout, and of each component
+pub record SubTable : Type 0 where
+  pub from_spout : List Sub
+  pub from_components : List (List Sub)
+
+-- one more at its source, if that is there
+abbrev pub with_sub : SubTable → Origin → Sub → SubTable
+with_sub table origin.Spout sub =
+    record { from_spout = table.from_spout ++ sub ∷ []; from_components = table.from_components }
+with_sub table (origin.Component c) sub = record {
+  from_spout = table.from_spout;
+  from_components =
+      slice_set table.from_components c (slice_index_or table.from_components c [] ++ sub ∷ []);
+}
+
+-- an input of a component, at its source
+abbrev pub with_input : FileParts → ℕ → SubTable → Input → SubTable
+with_input p to table input =
+    option_map_or
+    (λ from. with_sub table from
+    (record { to = to; grouping = planned_grouping p from input.grouping }))
+    (source_of p input.from) table
+
+-- all inputs of a component
+abbrev pub with_inputs : FileParts → SubTable → ℕ × List Input → SubTable
+with_inputs p table component = fold (with_input p component.0) table component.1
+
+-- no subscription yet
+abbrev pub no_subs : ℕ → SubTable
+no_subs count = record { from_spout = []; from_components = replicate count [] }
+
+-- the topology of what a file says, with its numbers
+pub record IsMade (p : FileParts) (made : Made) : Type 0 where
+  pub topology : topology_of made ≡ plan_of p
+  pub tasks : made.tasks ≡ tasks_in_all (plan_of p)
+  pub depth : made.depth ≡ depth_of (plan_of p)
+  pub weight : made.weight ≡ weight_of (plan_of p)
