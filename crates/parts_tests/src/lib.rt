@@ -1,0 +1,7 @@
+//! Tests of the parts of two states over stores that refuse.
+#![tactic(auto)]
+
+#[cfg(test)]
+mod commits;
+#[cfg(test)]
+mod scene;

@@ -1,0 +1,130 @@
+// Two states of two parts each: counts of words, transactional, and sums of numbers, opaque.
+use state_cells::PartFault;
+use state_parts::{Commit, CommitFault, CommitOutcome, Parts};
+use std::alloc::Global;
+use storm_stores::{CallKind, FailAt, MemStore};
+use storm_values::{Bytes, Memory, Root, Txt};
+use topology_plan::Plan;
+use topology_reader::{TopoFault, read_topology};
+use tree_model::{Table, Write, Writes};
+
+const TWO_STATES: &str = r#"{"version":1,
+ "spout":{"name":"lines","kind":"transactional","fields":["word","n"],"batch":2},
+ "bolts":[],
+ "states":[
+  {"name":"counts","kind":"transactional","parts":2,"key":["word"],"fold":"count",
+   "inputs":["lines"]},
+  {"name":"sums","kind":"opaque","parts":2,"key":["word"],"fold":"sum","amount":"n",
+   "inputs":["lines"]}],
+ "ackers":1,"pending":1,"buckets":2,"attempts":1}"#;
+
+// Why a test fails.
+#[derive(Debug, Drop)]
+pub enum Trouble {
+    Topology(TopoFault),
+    Commit(CommitFault),
+    Part(PartFault),
+    Memory,
+    // The commit came to something else.
+    Outcome,
+}
+
+impl From<TopoFault> for Trouble {
+    fn from(fault: TopoFault) -> Self {
+        Trouble::Topology(fault)
+    }
+}
+
+impl From<CommitFault> for Trouble {
+    fn from(fault: CommitFault) -> Self {
+        Trouble::Commit(fault)
+    }
+}
+
+impl From<PartFault> for Trouble {
+    fn from(fault: PartFault) -> Self {
+        Trouble::Part(fault)
+    }
+}
+
+impl From<Memory> for Trouble {
+    fn from(_: Memory) -> Self {
+        Trouble::Memory
+    }
+}
+
+pub fn plan(alloc: Global) -> Result<Plan, TopoFault> {
+    read_topology(alloc, TWO_STATES.as_bytes())
+}
+
+pub fn bytes(alloc: Global, text: &[u8]) -> Result<Bytes, Memory> {
+    Ok(Bytes::from_vec(text.to_vec(alloc)?))
+}
+
+// A put that fails and does nothing.
+pub const FIRST_PUT: FailAt = FailAt {
+    kind: CallKind::Put,
+    number: 1,
+    happened: false,
+};
+
+// State, part, key and amount of each write of the batch. The hash of a key chooses its part.
+const BATCH: [(u32, u32, &str, i64); 6] = [
+    (0, 0, "[\"the\"]", 1),
+    (1, 0, "[\"the\"]", 5),
+    (0, 1, "[\"cat\"]", 1),
+    (1, 1, "[\"cat\"]", -2),
+    (0, 0, "[\"the\"]", 1),
+    (1, 0, "[\"the\"]", 4),
+];
+
+fn commit_of(alloc: Global, txid: u64) -> Result<Commit, Memory> {
+    let mut writes = Writes::new(alloc);
+    for (state, part, key, amount) in BATCH {
+        writes.push(Write {
+            state,
+            part,
+            key: Txt::from_str(alloc, key)?,
+            amount,
+        })?;
+    }
+    Ok(Commit {
+        root: Root { txid, attempt: 1 },
+        writes,
+    })
+}
+
+// Commits the batch as this transaction.
+pub fn commit(
+    alloc: Global,
+    parts: &mut Parts<MemStore>,
+    txid: u64,
+) -> Result<CommitOutcome, Trouble> {
+    Ok(parts.commit_all(commit_of(alloc, txid)?)?)
+}
+
+pub fn is_table(table: &Table, name: &str, rows: &[(&str, i128)]) -> bool {
+    if table.name.as_str() != name || table.pairs.len() != rows.len() {
+        return false;
+    }
+    for (pair, (key, value)) in table.pairs.as_slice().iter().zip(rows) {
+        if pair.key.as_str() != *key || pair.value != *value {
+            return false;
+        }
+    }
+    true
+}
+
+// Whether the tables of the two states have these rows.
+pub fn has_tables(
+    parts: &mut Parts<MemStore>,
+    plan: &Plan,
+    counts: &[(&str, i128)],
+    sums: &[(&str, i128)],
+) -> Result<bool, PartFault> {
+    let tables = parts.tables(plan)?;
+    match tables.as_slice() {
+        [first, second] => Ok(is_table(first, "counts", counts) && is_table(second, "sums", sums)),
+        _ => Ok(false),
+    }
+}
