@@ -23,7 +23,7 @@ use Rattle.topology_plan.specs.declared.parts.Kind.{Kind}
 use Rattle.topology_plan.specs.Topology.{Topology}
 use Rattle.tree_model.specs.declared.write.Pair.{Pair}
 use Rattle.tree_model.specs.declared.write.Table.{Table}
-use Rattle.tree_model.specs.Inside.{pair_of, pairs_of}
+use Rattle.state_parts.specs.Gathered.{pair_of, pairs_of}
 use Rattle.tree_model.specs.Tables.{StateOf, state_at, state_by, value_at}
 use Rattle.state_cells.specs.Rows.{IsBadRow, row_by, rows_of, value_in}
 use Rattle.state_parts.specs.declared.parts.StatePart.{StatePart}

@@ -4,3 +4,4 @@ pub mod Commits
 pub mod Answers
 pub mod PartTables
 pub mod Standing
+pub mod Gathered

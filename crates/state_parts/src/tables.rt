@@ -5,7 +5,7 @@ ghost use Rattle.std.specs.Option.{option_or};
 ghost use Rattle.std.specs.String.{string_cmp};
 ghost use Rattle.storm_outside.specs.Counts.{Rose};
 ghost use Rattle.storm_stores.specs.CellMaps.{CellMap, cell_at};
-ghost use Rattle.tree_model.specs.Inside.{pairs_of};
+ghost use Rattle.state_parts.specs.Gathered.{pairs_of};
 ghost use Rattle.tree_model.specs.Tables.{StateOf, state_by, states_of};
 ghost use Rattle.state_cells.specs.Rows.{IsBadRow};
 ghost use Rattle.state_parts.specs.PartPlans.{plans_of};

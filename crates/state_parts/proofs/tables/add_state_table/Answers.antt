@@ -1,5 +1,5 @@
 use Rattle.std.proofs.Common.{ℕ, refl, sym, ap, ◌∙◌}
-use Rattle.tree_model.specs.Inside.{pairs_of}
+use Rattle.state_parts.specs.Gathered.{pairs_of}
 use Rattle.state_parts.specs.PartTables.{components_of, value_among}
 use Rattle.state_parts.proofs.TableLemmas.{table_of_map}
 use Rattle.state_parts.proofs.tables.add_state_table.Goals as goal
