@@ -50,7 +50,7 @@ fn batches_are_records_one_after_another(rt: HostRuntime) -> Result<(), Fail> {
         (4, u32::MAX, 1, u64::MAX, None),
     ];
     for (records, size, count, txid, want) in table {
-        let batches = Batches::cut(numbered_rows(rt.alloc(), records)?, size);
+        let batches = Batches::cut(numbered_rows(rt.alloc(), records)?, size.max(1));
         assert_eq!(rt; batches.count(), count);
         assert_eq!(rt; batches.rows().len() as i64, records);
         assert_eq!(rt; ends_of(batches.batch(txid)), want);
