@@ -2,7 +2,7 @@
 use crate::scene::{FIRST_PUT, Trouble, bytes, commit, has_tables, plan};
 use state_parts::{CommitFault, CommitOutcome, Parts};
 use std::alloc::Global;
-use storm_stores::{MemMaker, MemStore};
+use storm_stores::MemMaker;
 use storm_values::Memory;
 
 const CAT: &str = "[\"cat\"]";
@@ -27,7 +27,7 @@ fn two_states_are_committed(rt: HostRuntime) -> Result<(), Trouble> {
     Ok(())
 }
 
-// What is told of a batch by the parts over these stores, and whether the other parts have it.
+// What is told of a batch by the parts over these stores.
 fn failed_first(alloc: Global, stores: &mut MemMaker) -> Result<CommitOutcome, Trouble> {
     let mut parts = Parts::make(alloc, &plan(alloc)?, stores)?;
     commit(alloc, &mut parts, 1)
@@ -66,22 +66,6 @@ fn every_part_is_tried(rt: HostRuntime) -> Result<(), Trouble> {
     Ok(())
 }
 
-// Of two stores that refuse the first part's is told.
-#[test]
-fn the_first_failed_part_is_told(rt: HostRuntime) -> Result<(), Trouble> {
-    let alloc = rt.alloc();
-    let mut stores = failing(alloc, 1, 0)?;
-    stores.fail(0, 1, FIRST_PUT)?;
-    let failed = CommitOutcome::Failed {
-        component: 0,
-        part: 1,
-        before: 0,
-        after: 1,
-    };
-    assert!(rt; failed_first(alloc, &mut stores)? == failed);
-    Ok(())
-}
-
 fn is_bad(answer: Result<CommitOutcome, Trouble>, key: &str) -> bool {
     match answer {
         Err(Trouble::Commit(CommitFault::BadCell(bytes))) => bytes.as_slice() == key.as_bytes(),
@@ -97,28 +81,5 @@ fn a_bad_cell_goes_before_a_failed_store(rt: HostRuntime) -> Result<(), Trouble>
     stores.set(1, 1, bytes(alloc, CAT.as_bytes())?, bytes(alloc, &[0])?)?;
     stores.fail(0, 0, FIRST_PUT)?;
     assert!(rt; is_bad(failed_first(alloc, &mut stores), CAT));
-    Ok(())
-}
-
-// The parts go on where they were, after their stores went back to the maker.
-#[test]
-fn stores_that_came_back_are_made_again(rt: HostRuntime) -> Result<(), Trouble> {
-    let alloc = rt.alloc();
-    let plan = plan(alloc)?;
-    let mut stores = failing(alloc, 0, 0)?;
-    let mut parts = Parts::make(alloc, &plan, &mut stores)?;
-    let _ = commit(alloc, &mut parts, 1)?;
-    parts.give_back(&mut stores);
-    assert!(rt; stores.faults() == 1);
-    let mut parts: Parts<MemStore> = Parts::make(alloc, &plan, &mut stores)?;
-    assert!(rt; commit(alloc, &mut parts, 2)? == CommitOutcome::Done);
-    assert!(rt;
-        has_tables(
-            &mut parts,
-            &plan,
-            &[(CAT, 2), (THE, 2)],
-            &[(CAT, -4), (THE, 18)]
-        )?
-    );
     Ok(())
 }
