@@ -1,0 +1,94 @@
+-- The coordinator's state in code, and how its list of pending attempts and the timed roots in
+-- flight go together.
+use Rattle.std.specs.Prelude.{◌≡◌, ◌≤◌, ◌<◌, ℕ, ◌+◌, ◌-◌, List, ◌++◌, map, All, Option, None, Some, length, if◌then◌else◌, Bool, true, ◌&&◌, ◌==◌, is_some, slice_get}
+use Rattle.std.specs.List.{find}
+use Rattle.attempt_fates.specs.declared.fates.Attempt.{Attempt}
+use Rattle.attempt_fates.specs.declared.fates.End.TheVariants.{TimedOut}
+use Rattle.commit_order.specs.Writes.{AreWritesOf}
+use Rattle.commit_turns.specs.declared.wait.Wait.{Wait}
+use Rattle.commit_turns.specs.Desks.{Desk, Progress, is_of_root, is_timed}
+use Rattle.replay_pending.specs.InFlight.{Awaited, InFlight}
+use Rattle.state_parts.specs.declared.answer.Commit.{Commit}
+use Rattle.storm_values.specs.declared.value.Root.{Root}
+use Rattle.topology_plan.specs.Topology.{Topology}
+use Rattle.tree_model.specs.declared.messages.AckMsg.{AckMsg}
+use Rattle.trident_batches.specs.Batches.{Cut, batch_count, first_of, last_of}
+
+-- a plan, its batches, and what the coordinator knows
+pub record Office : Type 0 where
+  pub topology : Topology
+  pub cut : Cut
+  pub desk : Desk
+
+-- a transaction that has a batch
+abbrev pub IsBatch : Cut → ℕ → Type 0
+IsBatch cut txid = (1 ≤ txid) × (txid ≤ batch_count (length cut.records) cut.size)
+
+-- ---- roots in flight
+
+-- a pending attempt as a root in flight, at a tick
+abbrev pub awaits : ℕ → Wait → Awaited
+awaits tick w =
+    record { root = w.root; ticks = if is_timed w then Some (tick - w.start) else None }
+
+-- its batch is there, it began at a tick, and it is not late
+pub record IsInTime (cut : Cut) (buckets tick : ℕ) (w : Wait) : Type 0 where
+  pub there : IsBatch cut w.root.txid
+  pub starts : w.start ≤ tick
+  pub not_late : w.settled ≡ None → tick < w.start + buckets
+
+-- the roots in flight are the pending attempts, with the ticks since their begins
+pub record InStep (t : Topology) (cut : Cut) (tick : ℕ) (flight : InFlight) (pending : List Wait)
+    : Type 0 where
+  pub cap : flight.cap ≡ t.pending
+  pub buckets : flight.buckets ≡ t.buckets
+  pub awaited : flight.pending ≡ map (awaits tick) pending
+  pub in_time : All (IsInTime cut t.buckets tick) pending
+
+-- the attempt at a place is the first that is like this
+abbrev pub IsFoundAt : (Wait → Bool) → List Wait → ℕ → Type 0
+IsFoundAt like pending place =
+    (w : Wait) × (slice_get pending place ≡ Some w) × (find like pending ≡ Some w)
+    × (like w ≡ true)
+
+-- it is of a transaction, and settled
+abbrev pub is_settled_of : ℕ → Wait → Bool
+is_settled_of txid w = (w.root.txid == txid) && is_some w.settled
+
+-- it is of a root, and timed
+abbrev pub is_timed_of : Root → Wait → Bool
+is_timed_of root w = is_of_root root w && is_timed w
+
+-- ---- ends
+
+-- attempts that ended were added to the fates, or the first of them where memory was wanted
+pub record AddsSome (ended old new : List Attempt) : Type 0 where
+  pub done : List Attempt
+  pub rest : List Attempt
+  pub are_first : ended ≡ done ++ rest
+  pub added : new ≡ old ++ done
+
+-- an attempt that was timed out at a tick
+abbrev pub timed_out : Cut → ℕ → ℕ → Root → Attempt
+timed_out cut buckets tick root = record {
+  root = root;
+  first = first_of cut.size root.txid;
+  last = last_of (length cut.records) cut.size root.txid;
+  start = tick - buckets;
+  finish = tick;
+  end = TimedOut;
+}
+
+-- the commit of a pending attempt that is settled
+abbrev pub IsCommitOf : Option Wait → Option Commit → Type 0
+IsCommitOf None commit = commit ≡ None
+IsCommitOf (Some w) None = ⊥
+IsCommitOf (Some w) (Some commit) =
+    (commit.root ≡ w.root)
+    × ((list : List AckMsg) → w.settled ≡ Some list → AreWritesOf list commit.writes)
+
+-- the office goes on to what is known then, and the attempts that ended are added to the fates
+pub record GoesOn (to : Progress) (old : Office) (new : Office) (told : List Attempt)
+    (tells : List Attempt) : Type 0 where
+  pub office : new ≡ record old { desk = to.desk }
+  pub fates : tells ≡ told ++ to.ended

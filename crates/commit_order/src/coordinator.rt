@@ -1,0 +1,246 @@
+ghost use Rattle.std.specs.Prelude.{◌≡◌, ◌++◌, Bool, true, false, None, Some, Ok, Err, IfOk, OnOk, OnErr};
+ghost use Rattle.commit_order.specs.Offices.{AddsSome};
+ghost use Rattle.commit_order.specs.Orders.{Begins, GoesOnWith, IsFirst, TurnsTo, collector_of, comes_to, cut_of, desk_of, office_of, plan_of, wanted_memory};
+ghost use Rattle.commit_order.specs.declared.stop.Stop.TheVariants as stop;
+ghost use Rattle.commit_turns.specs.Turns.{decided, is_finished, turned};
+
+use crate::office::Office;
+use crate::stop::Stop;
+use acker_core::Verdict;
+use attempt_fates::Fates;
+use output_collector::Collector;
+use state_parts::{Commit, CommitOutcome};
+use std::alloc::Global;
+use storm_ids::Ids;
+use storm_values::{Duplicate, Memory, Path, Root, Row, Rows};
+use topology_plan::{Origin, Plan};
+use tree_model::{AckMsg, Init, Parcel, Parcels};
+use trident_batches::Batches;
+
+/// What a turn orders: parcels in the order of the roots that begin, of each the first tuples in
+/// path order and then the init, and a commit.
+#[derive(Debug, Drop)]
+pub struct Orders {
+    pub parcels: Parcels,
+    pub commit: Option<Commit>,
+}
+
+/// Begins the attempts of batches, hears what came of them, and orders their commits in the order
+/// of their transactions.
+#[derive(Drop)]
+pub struct Coordinator<'p, I: Ids> {
+    alloc: Global,
+    office: Office<'p>,
+    collector: Collector<'p, I>,
+    wanted_memory: bool,
+}
+
+impl<'p, I: Ids> Coordinator<'p, I> {
+    /// The coordinator of a plan's batches. It draws one start word for each subscription of the
+    /// spout first.
+    pub fn new(alloc: Global, plan: &'p Plan, batches: Batches, ids: I) -> Result<Self, Memory>
+        ensures { IfOk result (IsFirst I.tells plan.now batches ids) }
+    {
+        let office = Office::new(alloc, plan, batches)?;
+        let collector = Collector::new(alloc, plan, Origin::Spout, plan.tasks(), ids)?;
+        Ok(Coordinator {
+            alloc,
+            office,
+            collector,
+            wanted_memory: false,
+        })
+    }
+
+    /// Whether every batch is committed.
+    pub fn finished(&self) -> bool
+        ensures { result ≡ is_finished (plan_of self.now) (cut_of self.now) (desk_of self.now) }
+    {
+        self.office.is_finished()
+    }
+
+    /// How many batches are committed.
+    pub fn committed_count(&self) -> u64
+        ensures { result ≡ (desk_of self.now).committed }
+    {
+        self.office.committed()
+    }
+
+    /// Whether a commit was ordered whose outcome was not told yet.
+    pub fn has_commit_out(&self) -> bool
+        ensures { result ≡ (desk_of self.now).out }
+    {
+        self.office.is_out()
+    }
+
+    /// A turn: a verdict is heard, the ticks since the last turn pass, the commit of the lowest
+    /// transaction that was not committed is ordered where it is settled, and attempts begin while
+    /// fewer are pending than may be. Attempts that end are added to the fates. Where the last
+    /// attempt of a transaction ends, the turn makes no further tick and no further step. A
+    /// coordinator that stopped answers the same again.
+    pub fn turn(
+        &mut self,
+        fates: &mut Fates,
+        verdict: Option<Verdict>,
+        ticks: u32,
+    ) -> Result<Orders, Stop>
+        requires { (desk_of self.old).out ≡ false }
+        ensures turned { stop_of self.old ≡ None → IfOk result (TurnsTo I.tells
+            (turned (plan_of self.old) (cut_of self.old) verdict ticks (desk_of self.old))
+            self.old self.new) }
+        ensures fates { stop_of self.old ≡ None → OnOk result (fates.new ≡ fates.old ++ (turned
+            (plan_of self.old) (cut_of self.old) verdict ticks (desk_of self.old)).ended) }
+        ensures stops { stop_of self.old ≡ None → (txid : ℕ)
+            → result ≡ Err (stop.Exhausted txid) → StopsAt txid
+            (turned (plan_of self.old) (cut_of self.old) verdict ticks (desk_of self.old)).desk
+            (turned (plan_of self.old) (cut_of self.old) verdict ticks (desk_of self.old)).ended
+            self.old self.new fates.old fates.new }
+        ensures short { stop_of self.old ≡ None → result ≡ Err stop.Memory → RunsShort
+            (turned (plan_of self.old) (cut_of self.old) verdict ticks (desk_of self.old)).ended
+            self.new fates.old fates.new }
+        ensures again { (stop : Stop) → stop_of self.old ≡ Some stop
+            → (result ≡ Err stop) × (self.new ≡ self.old) × (fates.new ≡ fates.old) }
+        ensures no_cell { (key : List ℕ) → result ≡ Err (stop.BadCell key) → ⊥ }
+    {
+        if let Some(stop) = self.stopped() {
+            return Err(stop);
+        }
+        if self.office.listen(verdict, ticks, fates).is_err() {
+            return Err(self.stop_short());
+        }
+        if let Some(txid) = self.office.exhausted() {
+            return Err(Stop::Exhausted(txid));
+        }
+        match self.order_and_fill() {
+            Ok(orders) => Ok(orders),
+            Err(_) => Err(self.stop_short()),
+        }
+    }
+
+    /// The outcome of the commit that was ordered: its attempt ends. A coordinator that stopped
+    /// answers the same again.
+    pub fn committed(&mut self, fates: &mut Fates, how: CommitOutcome) -> Result<(), Stop>
+        requires { (desk_of self.old).out ≡ true }
+        ensures ends { stop_of self.old ≡ None → OnOk result (DecidesTo
+            (decided (plan_of self.old) (cut_of self.old) how (desk_of self.old))
+            self.old self.new fates.old fates.new) }
+        ensures stops { stop_of self.old ≡ None → (txid : ℕ)
+            → result ≡ Err (stop.Exhausted txid) → StopsAt txid
+            (decided (plan_of self.old) (cut_of self.old) how (desk_of self.old)).desk
+            (decided (plan_of self.old) (cut_of self.old) how (desk_of self.old)).ended
+            self.old self.new fates.old fates.new }
+        ensures short { stop_of self.old ≡ None → result ≡ Err stop.Memory → RunsShort
+            (decided (plan_of self.old) (cut_of self.old) how (desk_of self.old)).ended
+            self.new fates.old fates.new }
+        ensures again { (stop : Stop) → stop_of self.old ≡ Some stop
+            → (result ≡ Err stop) × (self.new ≡ self.old) × (fates.new ≡ fates.old) }
+        ensures no_cell { (key : List ℕ) → result ≡ Err (stop.BadCell key) → ⊥ }
+    {
+        if let Some(stop) = self.stopped() {
+            return Err(stop);
+        }
+        if self.office.decide(how, fates).is_err() {
+            return Err(self.stop_short());
+        }
+        match self.office.exhausted() {
+            Some(txid) => Err(Stop::Exhausted(txid)),
+            None => Ok(()),
+        }
+    }
+
+    // Why the coordinator stopped, if it did.
+    fn stopped(&self) -> Option<Stop>
+        ensures { result ≡ stop_of self.now }
+    {
+        if self.wanted_memory {
+            return Some(Stop::Memory);
+        }
+        match self.office.exhausted() {
+            Some(txid) => Some(Stop::Exhausted(txid)),
+            None => None,
+        }
+    }
+
+    // Memory was wanted.
+    fn stop_short(&mut self) -> Stop
+        ensures stop { result ≡ stop.Memory }
+        ensures stopped { wanted_memory self.new ≡ true }
+    {
+        self.wanted_memory = true;
+        Stop::Memory
+    }
+
+    // A commit is ordered, and roots begin.
+    fn order_and_fill(&mut self) -> Result<Orders, Memory>
+        ensures office { OnOk result (office_of self.new ≡ comes_to
+            (filled (plan_of self.old) (cut_of self.old) (plan_of self.old).pending
+            (ordered (plan_of self.old) (cut_of self.old) (desk_of self.old))).desk self.old) }
+        ensures commit { IfOk result (λ orders. IsCommitOf
+            (next_to_commit (plan_of self.old) (cut_of self.old) (desk_of self.old))
+            orders.commit) }
+        ensures begun { IfOk result (λ orders. Begins I.tells (cut_of self.old)
+            (collector_of self.old) (collector_of self.new)
+            (filled (plan_of self.old) (cut_of self.old) (plan_of self.old).pending
+            (ordered (plan_of self.old) (cut_of self.old) (desk_of self.old))).roots
+            orders.parcels) }
+        ensures has_memory { wanted_memory self.new ≡ wanted_memory self.old }
+    {
+        let commit = self.office.order()?;
+        let parcels = self.fill()?;
+        Ok(Orders { parcels, commit })
+    }
+
+    // Roots begin until as many are pending as may be.
+    fn fill(&mut self) -> Result<Parcels, Memory>
+        ensures office { OnOk result (office_of self.new ≡ comes_to
+            (filled (plan_of self.old) (cut_of self.old) (plan_of self.old).pending
+            (desk_of self.old)).desk self.old) }
+        ensures begun { IfOk result (Begins I.tells (cut_of self.old)
+            (collector_of self.old) (collector_of self.new)
+            (filled (plan_of self.old) (cut_of self.old) (plan_of self.old).pending
+            (desk_of self.old)).roots) }
+        ensures has_memory { wanted_memory self.new ≡ wanted_memory self.old }
+    {
+        let mut parcels = Parcels::new(self.alloc);
+        for _ in 0..self.office.most_pending() {
+            match self.office.begin_next()? {
+                Some(root) => self.open(root, &mut parcels)?,
+                None => break,
+            }
+        }
+        Ok(parcels)
+    }
+
+    // The first tuples of a root that begins, and then its init.
+    fn open(&mut self, root: Root, into: &mut Parcels) -> Result<(), Memory>
+        requires { IsBatch (cut_of self.old) root.txid }
+        ensures office { office_of self.new ≡ office_of self.old }
+        ensures has_memory { wanted_memory self.new ≡ wanted_memory self.old }
+        ensures begun { OnOk result (AddsOpening I.tells (cut_of self.old) root
+            (collector_of self.old) (collector_of self.new) into.old into.new) }
+    {
+        let rows = self.copied_batch(root.txid)?;
+        let path = Path::new(self.alloc);
+        let emitted = self.collector.emit(root, &path, rows, into)?;
+        into.push(Parcel::ToAcker(
+            self.office.acker_of(root),
+            AckMsg::Init(Init {
+                root,
+                edges: emitted.edges,
+                draw: emitted.draw,
+            }),
+        ))
+    }
+
+    fn copied_batch(&self, txid: u64) -> Result<Rows, Memory>
+        requires { IsBatch (cut_of self.now) txid }
+        ensures { IfOk result (λ rows. rows ≡ rows_in (cut_of self.now) txid) }
+    {
+        let mut rows = Rows::new(self.alloc);
+        if let Some(batch) = self.office.batch(txid) {
+            for row in batch {
+                rows.push(row.copy()?)?;
+            }
+        }
+        Ok(rows)
+    }
+}

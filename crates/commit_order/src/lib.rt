@@ -1,0 +1,17 @@
+//! The coordinator of batches: which attempts begin, which are settled, and in which order they are
+//! committed.
+#![tactic(auto)]
+
+mod begins;
+mod commits;
+mod coordinator;
+mod hear;
+mod office;
+mod stop;
+mod ticks;
+mod waits;
+mod writes;
+
+pub use attempt_fates::{Attempt, End, Fates};
+pub use coordinator::{Coordinator, Orders};
+pub use stop::Stop;

@@ -1,0 +1,23 @@
+ghost use Rattle.std.specs.Prelude.{◌≡◌};
+ghost use Rattle.commit_order.specs.declared.stop.Stop.TheVariants as stop;
+
+use state_parts::CommitFault;
+use storm_values::{Bytes, Memory};
+
+/// Why a run stops before every batch is committed.
+#[derive(Debug, Drop)]
+pub enum Stop {
+    /// All attempts of this transaction that a plan allows have ended, none by a commit.
+    Exhausted(u64),
+    /// A store has a cell at this key that its part does not take.
+    BadCell(Bytes),
+    Memory,
+}
+
+impl From<Memory> for Stop {
+    ghost from_gives = { λ _ s. s ≡ stop.Memory };
+
+    fn from(_: Memory) -> Self {
+        Stop::Memory
+    }
+}

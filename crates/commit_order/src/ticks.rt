@@ -1,0 +1,112 @@
+ghost use Rattle.std.specs.Prelude.{◌≡◌, ◌++◌, false, map, OnOk, OnErr};
+ghost use Rattle.storm_values.specs.Lines.{first_some};
+ghost use Rattle.commit_turns.specs.Turns.{has_no_tick, heard, one_tick, passed, ticked};
+ghost use Rattle.commit_order.specs.Offices.{AddsSome, AreBatches, GoesOn, timed_out, try_of};
+
+use crate::office::Office;
+use crate::waits::is_late_at;
+use acker_core::Verdict;
+use attempt_fates::{Attempt, End, Fates};
+use replay_pending::Roots;
+use storm_values::Memory;
+
+impl<'p> Office<'p> {
+    /// A verdict is heard, if there is one, and then the ticks pass.
+    pub fn listen(
+        &mut self,
+        verdict: Option<Verdict>,
+        ticks: u32,
+        fates: &mut Fates,
+    ) -> Result<(), Memory>
+        ensures ok { OnOk result (GoesOn
+            (passed self.old.topology self.old.cut ticks
+            (heard self.old.topology self.old.cut verdict self.old.desk))
+            self.old self.new fates.old fates.new) }
+        ensures err { OnErr result (AddsSome
+            (passed self.old.topology self.old.cut ticks
+            (heard self.old.topology self.old.cut verdict self.old.desk)).ended
+            fates.old fates.new) }
+    {
+        if let Some(told) = verdict {
+            self.hear(told, fates)?;
+        }
+        self.pass(ticks, fates)
+    }
+
+    /// So many ticks pass, up to one after which the coordinator stops.
+    pub fn pass(&mut self, ticks: u32, fates: &mut Fates) -> Result<(), Memory>
+        ensures ok { OnOk result (GoesOn
+            (ticked self.old.topology self.old.cut ticks self.old.desk)
+            self.old self.new fates.old fates.new) }
+        ensures err { OnErr result (AddsSome
+            (ticked self.old.topology self.old.cut ticks self.old.desk).ended
+            fates.old fates.new) }
+    {
+        for _ in 0..ticks {
+            if self.has_no_tick() {
+                break;
+            }
+            self.pass_one(fates)?;
+        }
+        Ok(())
+    }
+
+    // Whether a tick changes nothing.
+    fn has_no_tick(&self) -> bool
+        ensures { result ≡ has_no_tick self.now.topology self.now.cut self.now.desk }
+    {
+        self.exhausted.is_some() || self.tick == u64::MAX
+    }
+
+    // One tick passes: the attempts that are late end, in the order of their begins.
+    fn pass_one(&mut self, fates: &mut Fates) -> Result<(), Memory>
+        requires { has_no_tick self.old.topology self.old.cut self.old.desk ≡ false }
+        ensures ok { OnOk result (GoesOn
+            (one_tick self.old.topology self.old.cut self.old.desk)
+            self.old self.new fates.old fates.new) }
+        ensures err { OnErr result (AddsSome
+            (one_tick self.old.topology self.old.cut self.old.desk).ended
+            fates.old fates.new) }
+    {
+        let late = self.flight.tick()?;
+        self.tick += 1;
+        let (buckets, tick) = (self.plan.buckets(), self.tick);
+        self.waits.retain(|wait| !is_late_at(buckets, tick, wait));
+        self.exhausted = self.first_last_try(&late);
+        self.time_out(&late, fates)
+    }
+
+    // The first root that is the last attempt of those that the plan allows.
+    fn first_last_try(&self, roots: &Roots) -> Option<u64>
+        ensures { result ≡ first_some (map (try_of self.now.topology) roots.now) }
+    {
+        roots
+            .as_slice()
+            .iter()
+            .find(|root| root.attempt >= self.plan.attempts())
+            .map(|root| root.txid)
+    }
+
+    // The roots end at the present tick.
+    fn time_out(&self, roots: &Roots, fates: &mut Fates) -> Result<(), Memory>
+        requires { AreBatches self.now.cut roots.now }
+        ensures ok { OnOk result (fates.new ≡ fates.old ++ map
+            (timed_out self.now.cut self.now.topology.buckets self.now.desk.tick) roots.now) }
+        ensures err { OnErr result (AddsSome (map
+            (timed_out self.now.cut self.now.topology.buckets self.now.desk.tick) roots.now)
+            fates.old fates.new) }
+    {
+        for root in roots.as_slice() {
+            let (first, last) = self.records(root.txid);
+            fates.push(Attempt {
+                root: *root,
+                first,
+                last,
+                start: self.tick.saturating_sub(u64::from(self.plan.buckets())),
+                finish: self.tick,
+                end: End::TimedOut,
+            })?;
+        }
+        Ok(())
+    }
+}

@@ -1,0 +1,55 @@
+ghost use Rattle.std.specs.Prelude.{◌≡◌, ◌++◌, IfOk, OnOk, IsPermutation, map};
+ghost use Rattle.commit_order.specs.Writes.{AreInPathOrder, AreWritesOf, done_in, dones_in, writes_in};
+
+use std::alloc::Global;
+use storm_values::{Duplicate, Memory};
+use tree_model::{AckMsg, Done, Notes, Writes};
+
+/// The writes of a list's dones, in the order of the paths that they consume, in time in proportion
+/// to n log n for n messages.
+pub fn writes_in_path_order(alloc: Global, list: &Notes) -> Result<Writes, Memory>
+    ensures { IfOk result (AreWritesOf list.now) }
+{
+    let mut dones = dones_of(alloc, list)?;
+    sort_dones(&mut dones);
+    let writes = copied_writes(alloc, &dones)?;
+    Ok(writes)
+}
+
+fn dones_of<'l>(alloc: Global, list: &'l Notes) -> Result<Vec<&'l Done>, Memory>
+    ensures { IfOk result (λ dones. map (λ d. d.now) dones.items ≡ dones_in list.now) }
+{
+    let mut dones = Vec::new(alloc);
+    for note in list.as_slice() {
+        if let AckMsg::Done(done) = note {
+            dones.push(done)?;
+        }
+    }
+    Ok(dones)
+}
+
+fn sort_dones(dones: &mut Vec<&Done>)
+    ensures same { IsPermutation (map (λ d. d.now) dones.old.items) (map (λ d. d.now) dones.new.items) }
+    ensures ordered { AreInPathOrder (map (λ d. d.now) dones.new.items) }
+{
+    dones.sort_unstable_by(|a, b| a.consumed.path.compare(&b.consumed.path));
+}
+
+fn copied_writes(alloc: Global, dones: &[&Done]) -> Result<Writes, Memory>
+    ensures { IfOk result (λ writes. writes ≡ writes_in (map (λ d. d.now) dones.now)) }
+{
+    let mut writes = Writes::new(alloc);
+    for done in dones {
+        add_copies(&mut writes, &done.writes)?;
+    }
+    Ok(writes)
+}
+
+fn add_copies(into: &mut Writes, writes: &Writes) -> Result<(), Memory>
+    ensures { OnOk result (into.new ≡ into.old ++ writes.now) }
+{
+    for write in writes.as_slice() {
+        into.push(write.copy()?)?;
+    }
+    Ok(())
+}

@@ -1,0 +1,91 @@
+-- What the coordinator knows. Pending attempts and their cap after Storm's documentation,
+-- "Concepts" (max spout pending); that a settled attempt is not timed is this project's own.
+use Rattle.std.specs.Prelude.{ℕ, ◌+◌, ◌==◌, ◌&&◌, ◌||◌, not, Bool, false, if◌then◌else◌, Option, None, Some, is_some, List, [], ◌∷◌, ◌++◌, map, filter, length}
+use Rattle.std.specs.FinMap as fin_map
+use Rattle.std.specs.List.{find, list_any}
+use Rattle.std.specs.Option.{option_map}
+use Rattle.attempt_fates.specs.declared.fates.Attempt.{Attempt}
+use Rattle.attempt_fates.specs.declared.fates.End.{End}
+use Rattle.commit_turns.specs.declared.wait.Wait.{Wait}
+use Rattle.replay_pending.specs.InFlight.{Counts}
+use Rattle.rotating_ledger.specs.Held.{root_eq}
+use Rattle.storm_values.specs.declared.value.Root.{Root}
+use Rattle.topology_plan.specs.Topology.{Topology}
+use Rattle.tree_model.specs.declared.messages.AckMsg.{AckMsg}
+use Rattle.trident_batches.specs.Batches.{Cut, first_of, last_of}
+
+-- The ticks that were counted, how many batches were committed, how many attempts of each
+-- transaction were begun, the pending attempts in the order of their begins, whether a commit was
+-- ordered whose outcome was not told yet, and the transaction whose attempts have run out.
+pub record Desk : Type 0 where
+  pub tick : ℕ
+  pub committed : ℕ
+  pub attempts : Counts
+  pub pending : List Wait
+  pub out : Bool
+  pub exhausted : Option ℕ
+
+-- nothing was counted, begun or committed
+abbrev pub first_desk : Desk
+first_desk = record {
+  tick = 0;
+  committed = 0;
+  attempts = fin_map.empty;
+  pending = [];
+  out = false;
+  exhausted = None;
+}
+
+-- ---- pending attempts
+
+abbrev pub is_of_root : Root → Wait → Bool
+is_of_root root w = root_eq root w.root
+
+abbrev pub is_timed : Wait → Bool
+is_timed w = not (is_some w.settled)
+
+-- a pending attempt that is timed, by its root
+abbrev pub timed_of : Root → List Wait → Option Wait
+timed_of root pending = find (λ (w : Wait). is_of_root root w && is_timed w) pending
+
+-- the others
+abbrev pub without : Root → List Wait → List Wait
+without root pending = filter (λ (w : Wait). not (is_of_root root w)) pending
+
+-- the attempt of a root is settled with a list
+abbrev pub settle_with : Root → List AckMsg → Wait → Wait
+settle_with root list w =
+    if is_of_root root w then record w { settled = Some list } else w
+
+abbrev pub settled : Root → List AckMsg → List Wait → List Wait
+settled root list pending = map (settle_with root list) pending
+
+-- whether an attempt of a transaction is pending
+abbrev pub has_txid : ℕ → List Wait → Bool
+has_txid txid pending = list_any (λ (w : Wait). txid == w.root.txid) pending
+
+-- a timed attempt ends at the tick that is so many after its begin
+abbrev pub is_late : ℕ → ℕ → Wait → Bool
+is_late buckets tick w = is_timed w && (w.start + buckets == tick)
+
+-- ---- ends
+
+-- a pending attempt that ended at a tick
+abbrev pub ended_at : Cut → ℕ → End → Wait → Attempt
+ended_at cut finish end w = record {
+  root = w.root;
+  first = first_of cut.size w.root.txid;
+  last = last_of (length cut.records) cut.size w.root.txid;
+  start = w.start;
+  finish = finish;
+  end = end;
+}
+
+-- what the coordinator knows, and the attempts that ended
+pub record Progress : Type 0 where
+  pub desk : Desk
+  pub ended : List Attempt
+
+-- nothing ended
+abbrev pub still : Desk → Progress
+still d = record { desk = d; ended = [] }

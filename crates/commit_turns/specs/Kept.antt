@@ -1,0 +1,43 @@
+-- What the coordinator keeps from call to call: each batch is committed once at most and in order,
+-- and the attempts of a transaction run one after another. This project's own.
+use Rattle.std.specs.Prelude.{◌≡◌, ◌≢◌, ◌≤◌, ◌<◌, ℕ, ◌+◌, Bool, false, if◌then◌else◌, Option, None, Some, List, length, All, AllPairs}
+use Rattle.attempt_fates.specs.declared.fates.Attempt.{Attempt}
+use Rattle.attempt_fates.specs.Fates.{IsOnce, attempt_numbers, committed_txids}
+use Rattle.commit_turns.specs.declared.wait.Wait.{Wait}
+use Rattle.commit_turns.specs.Desks.{Desk, has_txid}
+use Rattle.replay_pending.specs.InFlight.{attempts_of}
+use Rattle.topology_plan.specs.Topology.{Topology}
+use Rattle.tree_model.specs.Lists.{IsClosed}
+use Rattle.tree_model.specs.declared.messages.AckMsg.{AckMsg}
+use Rattle.trident_batches.specs.Batches.{Cut, batch_count}
+
+-- A pending attempt is the last one that was begun of a batch that is there and not committed. It
+-- began at a tick, and is not late. A list that it was settled with is closed.
+pub record IsWaiting (t : Topology) (cut : Cut) (d : Desk) (w : Wait) : Type 0 where
+  pub number : w.root.attempt ≡ attempts_of w.root.txid d.attempts
+  pub later : d.committed < w.root.txid
+  pub there : w.root.txid ≤ batch_count (length cut.records) cut.size
+  pub starts : w.start ≤ d.tick
+  pub not_late : w.settled ≡ None → d.tick < w.start + t.buckets
+  pub closed : (list : List AckMsg) → w.settled ≡ Some list → IsClosed list
+
+-- The fates of a run so far, and what the coordinator knows.
+pub record IsKept (t : Topology) (cut : Cut) (d : Desk) (fates : List Attempt) : Type 0 where
+  pub once : IsOnce (length cut.records) cut.size d.tick fates
+  pub commits : length (committed_txids fates) ≡ d.committed
+  -- the attempts that were begun ended or are pending
+  pub begun : (txid : ℕ)
+      → attempts_of txid d.attempts
+      ≡ length (attempt_numbers txid fates) + (if has_txid txid d.pending then 1 else 0)
+  pub waits : All (IsWaiting t cut d) d.pending
+  pub apart : AllPairs (λ (a b : Wait). a.root.txid ≢ b.root.txid) d.pending
+  pub few : length d.pending ≤ t.pending
+  -- no more attempts were begun than a plan allows
+  pub most : (txid : ℕ) → attempts_of txid d.attempts ≤ t.attempts
+  -- while the coordinator goes on, more may begin of each that is not committed and not pending
+  pub goes_on : d.exhausted ≡ None
+      → (txid : ℕ) → d.committed < txid → has_txid txid d.pending ≡ false
+      → attempts_of txid d.attempts < t.attempts
+  -- it stops where all attempts of a transaction ended, none by a commit
+  pub ran_out : (txid : ℕ) → d.exhausted ≡ Some txid
+      → (length (attempt_numbers txid fates) ≡ t.attempts) × (d.committed < txid)

@@ -1,0 +1,5 @@
+pub mod Desks
+pub mod Turns
+pub mod Kept
+pub mod Account
+pub mod Outcomes

@@ -1,0 +1,8 @@
+//! What a turn of the coordinator does, as functions of what it knows, and what follows of them.
+#![tactic(auto)]
+
+mod laws;
+mod wait;
+
+pub use laws::{accounts_stay_fit, desks_are_kept};
+pub use wait::Wait;

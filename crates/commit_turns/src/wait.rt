@@ -1,0 +1,11 @@
+use storm_values::Root;
+use tree_model::Notes;
+
+/// A pending attempt, with the number of the tick of its begin and, once it is settled, the list
+/// that it was settled with.
+#[derive(Debug, Drop)]
+pub struct Wait {
+    pub root: Root,
+    pub start: u64,
+    pub settled: Option<Notes>,
+}
