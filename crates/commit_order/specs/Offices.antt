@@ -1,14 +1,18 @@
 -- The coordinator's state in code, and how its list of pending attempts and the timed roots in
 -- flight go together.
-use Rattle.std.specs.Prelude.{◌≡◌, ◌≤◌, ◌<◌, ℕ, ◌+◌, ◌-◌, List, ◌++◌, map, All, Option, None, Some, length, if◌then◌else◌, Bool, true, ◌&&◌, ◌==◌, is_some, slice_get}
-use Rattle.std.specs.List.{find}
+use Rattle.std.specs.Prelude.{◌≡◌, ◌≤◌, ◌<◌, ℕ, ◌+◌, ◌-◌, List, ◌++◌, map, Option, None, Some, length, if◌then◌else◌, Bool, true, ◌&&◌, ◌==◌, is_some, slice_get, [], ◌∷◌, nat_lt}
+use Rattle.std.specs.List.{AllByRecursion, find}
 use Rattle.attempt_fates.specs.declared.fates.Attempt.{Attempt}
 use Rattle.attempt_fates.specs.declared.fates.End.TheVariants.{TimedOut}
 use Rattle.commit_order.specs.Writes.{AreWritesOf}
 use Rattle.commit_turns.specs.declared.wait.Wait.{Wait}
 use Rattle.commit_turns.specs.Desks.{Desk, Progress, is_of_root, is_timed}
+use Rattle.commit_turns.specs.Turns.{and_then, ticked}
 use Rattle.replay_pending.specs.InFlight.{Awaited, InFlight}
 use Rattle.state_parts.specs.declared.answer.Commit.{Commit}
+use Rattle.state_parts.specs.declared.answer.CommitOutcome.{CommitOutcome}
+use Rattle.state_parts.specs.declared.answer.CommitOutcome.TheVariants as outcome
+use Rattle.storm_values.specs.Lines.{first_some}
 use Rattle.storm_values.specs.declared.value.Root.{Root}
 use Rattle.topology_plan.specs.Topology.{Topology}
 use Rattle.tree_model.specs.declared.messages.AckMsg.{AckMsg}
@@ -43,7 +47,7 @@ pub record InStep (t : Topology) (cut : Cut) (tick : ℕ) (flight : InFlight) (p
   pub cap : flight.cap ≡ t.pending
   pub buckets : flight.buckets ≡ t.buckets
   pub awaited : flight.pending ≡ map (awaits tick) pending
-  pub in_time : All (IsInTime cut t.buckets tick) pending
+  pub in_time : AllByRecursion (IsInTime cut t.buckets tick) pending
 
 -- the attempt at a place is the first that is like this
 abbrev pub IsFoundAt : (Wait → Bool) → List Wait → ℕ → Type 0
@@ -51,9 +55,9 @@ IsFoundAt like pending place =
     (w : Wait) × (slice_get pending place ≡ Some w) × (find like pending ≡ Some w)
     × (like w ≡ true)
 
--- it is of a transaction, and settled
-abbrev pub is_settled_of : ℕ → Wait → Bool
-is_settled_of txid w = (w.root.txid == txid) && is_some w.settled
+-- it is of the transaction after this one, and settled
+abbrev pub is_settled_after : ℕ → Wait → Bool
+is_settled_after before w = (w.root.txid == before + 1) && is_some w.settled
 
 -- it is of a root, and timed
 abbrev pub is_timed_of : Root → Wait → Bool
@@ -79,6 +83,20 @@ timed_out cut buckets tick root = record {
   end = TimedOut;
 }
 
+-- the transaction of an attempt that was the last of those that a plan allows
+abbrev pub try_of : Topology → Root → Option ℕ
+try_of t root = if nat_lt root.attempt t.attempts then None else Some root.txid
+
+-- one more is committed, or one more failed to be
+abbrev pub counted_by : Topology → CommitOutcome → Root → Desk → Desk
+counted_by t outcome.Done root d = record d { committed = d.committed + 1 }
+counted_by t (outcome.Failed component part before after) root d =
+    record d { exhausted = first_some (try_of t root ∷ []) }
+
+-- transactions that have batches
+abbrev pub AreBatches : Cut → List Root → Type 0
+AreBatches cut roots = AllByRecursion (λ (root : Root). IsBatch cut root.txid) roots
+
 -- the commit of a pending attempt that is settled
 abbrev pub IsCommitOf : Option Wait → Option Commit → Type 0
 IsCommitOf None commit = commit ≡ None
@@ -92,3 +110,13 @@ pub record GoesOn (to : Progress) (old : Office) (new : Office) (told : List Att
     (tells : List Attempt) : Type 0 where
   pub office : new ≡ record old { desk = to.desk }
   pub fates : tells ≡ told ++ to.ended
+
+-- Of some ticks some passed, and so many are left: all of them come to what they came to, and then
+-- the rest.
+pub record Passes (ticks left : ℕ) (old new : Office) (told tells : List Attempt) : Type 0 where
+  pub ended : List Attempt
+  pub office : new ≡ record old { desk = new.desk }
+  pub fates : tells ≡ told ++ ended
+  pub all : ticked old.topology old.cut ticks old.desk
+      ≡ and_then old.topology old.cut (record { desk = new.desk; ended = ended })
+      (ticked old.topology old.cut left new.desk)

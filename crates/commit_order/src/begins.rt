@@ -1,4 +1,4 @@
-ghost use Rattle.std.specs.Prelude.{◌≡◌, None, Some, Ok, OnErr};
+ghost use Rattle.std.specs.Prelude.{◌≡◌, None, Some, Ok, OnOk};
 ghost use Rattle.commit_turns.specs.Turns.{begun, free_txid, next_root};
 ghost use Rattle.commit_order.specs.Offices.{IsBatch};
 
@@ -35,9 +35,11 @@ impl<'p> Office<'p> {
               self.old.topology self.old.cut root self.old.desk;
         }) }
     {
+        self.plan.facts();
         self.waits.reserve(1)?;
-        if self.flight.begin(root).is_err() {
-            return Err(AllocError);
+        match self.flight.begin(root) {
+            Ok(()) => {}
+            Err(_) => return Err(AllocError),
         }
         self.waits.push_reserved(Wait {
             root,

@@ -1,7 +1,7 @@
-ghost use Rattle.std.specs.Prelude.{◌≡◌, ◌+◌, IfOk, OnOk, OnErr, option_copied};
+ghost use Rattle.std.specs.Prelude.{◌≡◌, ◌+◌, ◌<◌, length, slice_get, Some, IsSome, IfOk, OnOk, OnErr};
+ghost use Rattle.commit_order.specs.Offices.{AddsSome, GoesOn, IsCommitOf, counted_by};
 ghost use Rattle.commit_turns.specs.Desks.{without};
-ghost use Rattle.commit_turns.specs.Turns.{decided, next_to_commit, ordered};
-ghost use Rattle.commit_order.specs.Offices.{AddsSome, GoesOn, IsCommitOf};
+ghost use Rattle.commit_turns.specs.Turns.{decided, end_by, next_to_commit, ordered};
 
 use crate::office::Office;
 use crate::waits::settled_place;
@@ -9,7 +9,9 @@ use crate::writes::writes_in_path_order;
 use attempt_fates::{Attempt, End, Fates};
 use commit_turns::Wait;
 use state_parts::{Commit, CommitOutcome};
-use storm_values::Memory;
+use std::alloc::Global;
+use storm_values::{Memory, Root};
+use tree_model::Notes;
 
 impl<'p> Office<'p> {
     /// The commit of the lowest transaction that was not committed is ordered, where its attempt is
@@ -20,7 +22,7 @@ impl<'p> Office<'p> {
         ensures ok { OnOk result (self.new ≡ record self.old
             { desk = ordered self.old.topology self.old.cut self.old.desk }) }
     {
-        let Some(place) = settled_place(&self.waits, self.committed + 1) else {
+        let Some(place) = settled_place(&self.waits, self.committed) else {
             self.out = false;
             return Ok(None);
         };
@@ -39,16 +41,15 @@ impl<'p> Office<'p> {
             fates.old fates.new) }
     {
         self.out = false;
-        let Some(place) = settled_place(&self.waits, self.committed + 1) else {
+        let Some(place) = settled_place(&self.waits, self.committed) else {
             return Ok(());
         };
+        let (first, last) = self.records(self.waits[place].root.txid);
         let Wait {
             root,
             start,
             settled,
-        } = self.waits.remove(place);
-        self.flight.end(root);
-        let (first, last) = self.records(root.txid);
+        } = self.take(place);
         let end = self.end_by(root, how, settled);
         fates.push(Attempt {
             root,
@@ -59,4 +60,64 @@ impl<'p> Office<'p> {
             end,
         })
     }
+
+    // The pending attempt at a place, which is pending no longer.
+    fn take(&mut self, place: usize) -> Wait
+        requires { place < length self.old.desk.pending }
+        ensures taken { slice_get self.old.desk.pending place ≡ Some result }
+        ensures left { self.new ≡ record self.old {
+          desk = record self.old.desk
+              { pending = without result.root self.old.desk.pending };
+        } }
+    {
+        self.flight.pending_are_few();
+        let wait = self.waits.remove(place);
+        self.flight.end(wait.root);
+        wait
+    }
+
+    // The end of an attempt whose commit came to this, which counts.
+    fn end_by(&mut self, root: Root, how: CommitOutcome, settled: Option<Notes>) -> End
+        requires txid { root.txid ≡ self.old.desk.committed + 1 }
+        requires settled { IsSome settled }
+        ensures end { result ≡ end_by self.old.topology self.old.cut how settled }
+        ensures counted { self.new ≡ record self.old
+            { desk = counted_by self.old.topology how root self.old.desk } }
+    {
+        let Some(list) = settled else { unreachable!() };
+        match how {
+            CommitOutcome::Done => {
+                self.committed = root.txid;
+                End::Committed(list)
+            }
+            CommitOutcome::Failed {
+                component,
+                part,
+                before,
+                after,
+            } => {
+                self.exhausted = self.last_try(root);
+                End::CommitFailed {
+                    component,
+                    part,
+                    before,
+                    after,
+                }
+            }
+        }
+    }
+}
+
+// The commit of a pending attempt that is settled.
+fn commit_of(alloc: Global, wait: &Wait) -> Result<Commit, Memory>
+    requires { IsSome wait.now.settled }
+    ensures { IfOk result (λ commit. IsCommitOf (Some wait.now) (Some commit)) }
+{
+    let Some(list) = &wait.settled else {
+        unreachable!()
+    };
+    Ok(Commit {
+        root: wait.root,
+        writes: writes_in_path_order(alloc, list)?,
+    })
 }

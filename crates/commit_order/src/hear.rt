@@ -3,10 +3,10 @@ ghost use Rattle.attempt_fates.specs.declared.fates.Attempt.{Attempt};
 ghost use Rattle.trident_batches.specs.Batches.{batch_count, first_of, last_of};
 ghost use Rattle.commit_turns.specs.Desks.{settled, timed_of};
 ghost use Rattle.commit_turns.specs.Turns.{complete_timed, end_timed, heard, is_closed, last_try};
-ghost use Rattle.commit_order.specs.Offices.{AddsSome, GoesOn, IsBatch, IsFoundAt, is_timed_of};
+ghost use Rattle.commit_order.specs.Offices.{AddsSome, GoesOn, IsBatch, IsFoundAt, is_timed_of, try_of};
 
 use crate::office::Office;
-use crate::waits::{is_of, timed_place};
+use crate::waits::{remove, timed_place};
 use acker_core::{Check, Verdict, check_list};
 use attempt_fates::{Attempt, End, Fates};
 use storm_values::{Memory, Root};
@@ -81,7 +81,7 @@ impl<'p> Office<'p> {
         let start = self.waits[place].start;
         let (first, last) = self.records(root.txid);
         self.flight.end(root);
-        self.waits.retain(|wait| !is_of(root, wait));
+        remove(&mut self.waits, root);
         self.exhausted = self.last_try(root);
         fates.push(Attempt {
             root,
@@ -94,8 +94,8 @@ impl<'p> Office<'p> {
     }
 
     // The transaction of an attempt that was the last of those that the plan allows.
-    fn last_try(&self, root: Root) -> Option<u64>
-        ensures { (a : Attempt) → a.root ≡ root → result ≡ last_try self.now.topology self.now.cut a }
+    pub fn last_try(&self, root: Root) -> Option<u64>
+        ensures { result ≡ try_of self.now.topology root }
     {
         if root.attempt < self.plan.attempts() {
             None

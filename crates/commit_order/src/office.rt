@@ -34,6 +34,12 @@ impl<'p> Model for Office<'p> {
 
     ghost Value = { Office };
 
+    ghost use Rattle.std.specs.Coded.{codes, coded_ℕ};
+    ghost use Rattle.std.specs.FinMap as fin_map;
+    ghost use Rattle.std.specs.Ordering.{nat_cmp};
+
+    ghost coded = { Prim.hlevel (codes, fin_map.code {R = nat_cmp} coded_ℕ coded_ℕ) };
+
     ghost view = { λ o. record {
       topology = o.plan.now;
       cut = o.batches;
@@ -106,6 +112,7 @@ impl<'p> Office<'p> {
     pub fn acker_of(&self, root: Root) -> u32
         ensures { result ≡ acker_of self.now.topology root }
     {
+        self.plan.facts();
         (root.txid % u64::from(self.plan.ackers())) as u32
     }
 

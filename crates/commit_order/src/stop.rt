@@ -1,7 +1,6 @@
 ghost use Rattle.std.specs.Prelude.{◌≡◌};
 ghost use Rattle.commit_order.specs.declared.stop.Stop.TheVariants as stop;
 
-use state_parts::CommitFault;
 use storm_values::{Bytes, Memory};
 
 /// Why a run stops before every batch is committed.

@@ -1,14 +1,14 @@
-ghost use Rattle.std.specs.Prelude.{◌≡◌, ◌++◌, false, map, OnOk, OnErr};
+ghost use Rattle.std.specs.Prelude.{◌≡◌, ◌++◌, [], ◌∷◌, false, map, OnOk, OnErr};
 ghost use Rattle.storm_values.specs.Lines.{first_some};
 ghost use Rattle.commit_turns.specs.Turns.{has_no_tick, heard, one_tick, passed, ticked};
-ghost use Rattle.commit_order.specs.Offices.{AddsSome, AreBatches, GoesOn, timed_out, try_of};
+ghost use Rattle.commit_order.specs.Offices.{AddsSome, AreBatches, GoesOn, IsBatch, timed_out, try_of};
 
 use crate::office::Office;
-use crate::waits::is_late_at;
+use crate::waits::remove_late;
 use acker_core::Verdict;
 use attempt_fates::{Attempt, End, Fates};
 use replay_pending::Roots;
-use storm_values::Memory;
+use storm_values::{Memory, Root};
 
 impl<'p> Office<'p> {
     /// A verdict is heard, if there is one, and then the ticks pass.
@@ -44,7 +44,7 @@ impl<'p> Office<'p> {
     {
         for _ in 0..ticks {
             if self.has_no_tick() {
-                break;
+                return Ok(());
             }
             self.pass_one(fates)?;
         }
@@ -70,8 +70,7 @@ impl<'p> Office<'p> {
     {
         let late = self.flight.tick()?;
         self.tick += 1;
-        let (buckets, tick) = (self.plan.buckets(), self.tick);
-        self.waits.retain(|wait| !is_late_at(buckets, tick, wait));
+        remove_late(&mut self.waits, self.plan.buckets(), self.tick);
         self.exhausted = self.first_last_try(&late);
         self.time_out(&late, fates)
     }
@@ -80,11 +79,13 @@ impl<'p> Office<'p> {
     fn first_last_try(&self, roots: &Roots) -> Option<u64>
         ensures { result ≡ first_some (map (try_of self.now.topology) roots.now) }
     {
-        roots
-            .as_slice()
-            .iter()
-            .find(|root| root.attempt >= self.plan.attempts())
-            .map(|root| root.txid)
+        for root in roots.as_slice() {
+            let last = self.last_try(*root);
+            if last.is_some() {
+                return last;
+            }
+        }
+        None
     }
 
     // The roots end at the present tick.
@@ -97,16 +98,26 @@ impl<'p> Office<'p> {
             fates.old fates.new) }
     {
         for root in roots.as_slice() {
-            let (first, last) = self.records(root.txid);
-            fates.push(Attempt {
-                root: *root,
-                first,
-                last,
-                start: self.tick.saturating_sub(u64::from(self.plan.buckets())),
-                finish: self.tick,
-                end: End::TimedOut,
-            })?;
+            self.time_out_one(*root, fates)?;
         }
         Ok(())
+    }
+
+    // A root ends at the present tick.
+    fn time_out_one(&self, root: Root, fates: &mut Fates) -> Result<(), Memory>
+        requires { IsBatch self.now.cut root.txid }
+        ensures ok { OnOk result (fates.new ≡ fates.old ++ timed_out self.now.cut
+            self.now.topology.buckets self.now.desk.tick root ∷ []) }
+        ensures err { OnErr result (fates.new ≡ fates.old) }
+    {
+        let (first, last) = self.records(root.txid);
+        fates.push(Attempt {
+            root,
+            first,
+            last,
+            start: self.tick.saturating_sub(u64::from(self.plan.buckets())),
+            finish: self.tick,
+            end: End::TimedOut,
+        })
     }
 }

@@ -1,12 +1,13 @@
-ghost use Rattle.std.specs.Prelude.{◌≡◌, ◌==◌, ◌&&◌, None, IfSome, IsNone, is_some, ◌+◌, slice_get, Some};
-ghost use Rattle.std.specs.List.{find, list_any};
-ghost use Rattle.commit_turns.specs.Desks.{has_txid, is_late, is_of_root, timed_of};
-ghost use Rattle.commit_order.specs.Offices.{IsFoundAt, IsTimedAt};
+ghost use Rattle.std.specs.Prelude.{◌≡◌, ◌==◌, ◌+◌, filter, not};
+ghost use Rattle.std.specs.List.{position};
+ghost use Rattle.commit_turns.specs.declared.wait.Wait.{Wait};
+ghost use Rattle.commit_turns.specs.Desks.{has_txid, is_late, is_of_root, without};
+ghost use Rattle.commit_order.specs.Offices.{is_settled_after, is_timed_of};
 
 use commit_turns::Wait;
 use storm_values::Root;
 
-pub fn is_of(root: Root, wait: &Wait) -> bool
+fn is_of(root: Root, wait: &Wait) -> bool
     ensures { result ≡ is_of_root root wait.now }
 {
     root.txid == wait.root.txid && root.attempt == wait.root.attempt
@@ -14,22 +15,50 @@ pub fn is_of(root: Root, wait: &Wait) -> bool
 
 /// The place of a timed attempt, by its root.
 pub fn timed_place(waits: &[Wait], root: Root) -> Option<usize>
-    ensures some { IfSome result (IsFoundAt (is_timed_of root) waits.now) }
-    ensures none { IsNone result → timed_of root waits.now ≡ None }
+    ensures { result ≡ position (is_timed_of root) waits.now }
 {
-    waits
-        .iter()
-        .position(|wait| is_of(root, wait) && wait.settled.is_none())
+    waits.iter().position(|wait| is_timed_of(root, wait))
 }
 
-/// The place of the settled attempt of a transaction.
-pub fn settled_place(waits: &[Wait], txid: u64) -> Option<usize>
-    ensures some { IfSome result (IsFoundAt (is_settled_of txid) waits.now) }
-    ensures none { IsNone result → find (is_settled_of txid) waits.now ≡ None }
+fn is_timed_of(root: Root, wait: &Wait) -> bool
+    ensures { result ≡ is_timed_of root wait.now }
 {
-    waits
-        .iter()
-        .position(|wait| wait.root.txid == txid && wait.settled.is_some())
+    is_of(root, wait) && wait.settled.is_none()
+}
+
+/// The place of the settled attempt of the transaction after this one.
+pub fn settled_place(waits: &[Wait], before: u64) -> Option<usize>
+    ensures { result ≡ position (is_settled_after before) waits.now }
+{
+    waits.iter().position(|wait| is_settled_after(before, wait))
+}
+
+fn is_settled_after(before: u64, wait: &Wait) -> bool
+    ensures { result ≡ is_settled_after before wait.now }
+{
+    is_after(before, wait.root.txid) && wait.settled.is_some()
+}
+
+// Whether a transaction is the one after another.
+fn is_after(before: u64, txid: u64) -> bool
+    ensures { result ≡ (txid == before + 1) }
+{
+    txid > before && txid - before == 1
+}
+
+/// Removes the attempt of a root.
+pub fn remove(waits: &mut Vec<Wait>, root: Root)
+    ensures { waits.new.items ≡ without root waits.old.items }
+{
+    waits.retain(|wait| !is_of(root, wait));
+}
+
+/// Removes the attempts that end at a tick.
+pub fn remove_late(waits: &mut Vec<Wait>, buckets: u32, tick: u64)
+    ensures { waits.new.items
+        ≡ filter (λ (w : Wait). not (is_late buckets tick w)) waits.old.items }
+{
+    waits.retain(|wait| !is_late_at(buckets, tick, wait));
 }
 
 /// Whether an attempt of a transaction is pending.
@@ -39,10 +68,9 @@ pub fn is_pending(waits: &[Wait], txid: u64) -> bool
     waits.iter().any(|wait| txid == wait.root.txid)
 }
 
-/// Whether a timed attempt ends at a tick.
-pub fn is_late_at(buckets: u32, tick: u64, wait: &Wait) -> bool
-    requires { wait.now.start + buckets ≤ tick ⊎ .. }
+// Whether a timed attempt ends at a tick.
+fn is_late_at(buckets: u32, tick: u64, wait: &Wait) -> bool
     ensures { result ≡ is_late buckets tick wait.now }
 {
-    wait.settled.is_none() && tick - wait.start == u64::from(buckets)
+    wait.settled.is_none() && tick.checked_sub(u64::from(buckets)) == Some(wait.start)
 }

@@ -21,11 +21,22 @@ fn dones_of<'l>(alloc: Global, list: &'l Notes) -> Result<Vec<&'l Done>, Memory>
 {
     let mut dones = Vec::new(alloc);
     for note in list.as_slice() {
-        if let AckMsg::Done(done) = note {
-            dones.push(done)?;
-        }
+        add_done(&mut dones, note)?;
     }
     Ok(dones)
+}
+
+fn add_done<'l>(into: &mut Vec<&'l Done>, note: &'l AckMsg) -> Result<(), Memory>
+    ensures { OnOk result (map (λ d. d.now) into.new.items
+        ≡ map (λ d. d.now) into.old.items ++ done_in note.now) }
+{
+    match note {
+        AckMsg::Done(done) => {
+            into.push(done)?;
+            Ok(())
+        }
+        AckMsg::Init(_) | AckMsg::Failed(_) => Ok(()),
+    }
 }
 
 fn sort_dones(dones: &mut Vec<&Done>)

@@ -1,0 +1,18 @@
+use Rattle.std.proofs.Common.{rules}
+use Rattle.std.specs.Ordering.{is_lt}
+use Rattle.std.proofs.lemmas.Cmp.{nat_list_cmp_total}
+use Rattle.std.proofs.lemmas.List.Sorted.{IsPermutation-map, ranks_by, answers_always, sorted_far}
+use Rattle.storm_values.specs.Order.{path_cmp}
+use Rattle.tree_model.specs.declared.messages.Done.{Done}
+use Rattle.commit_order.proofs.WriteLemmas.{done_at, in-order, path_in}
+use Rattle.commit_order.proofs.writes.sort_dones.Goals as goal
+
+pub returns-clause-same : goal.returns-clause-same
+returns-clause-same c = IsPermutation-map done_at _ _ c.sort_unstable_by.ensures.permutation
+
+pub returns-clause-ordered : goal.returns-clause-ordered
+returns-clause-ordered c =
+    in-order _ (λ i j d le below.
+    sorted_far (λ a b. is_lt (path_cmp (path_in a) (path_in b))) (ranks_by nat_list_cmp_total path_in) _
+    (c.sort_unstable_by.ensures.sorted (λ a b. is_lt (path_cmp (path_in a) (path_in b))) (ranks_by nat_list_cmp_total path_in) (answers_always _ _ _ (λ f a r q k. search rules)))
+    i j d le below)
