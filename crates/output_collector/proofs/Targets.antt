@@ -112,7 +112,7 @@ suits_along t row (sub ∷ subs) [] wired there are each = absurd are
 suits_along t row (sub ∷ subs) (lane ∷ lanes) wired there are each =
     let allowed = recursion_from_All (IsAllowed lane row) (told (targets lane row)) (targets_allowed lane row each.0) in
     let here = suits-replicate t (copies_of t sub) (record { component = sub.to; row = row }) (told (targets lane row)) (length-told t sub lane row are.0)
-      (allowed_tasks t sub lane row wired there.0 are.0 (told (targets lane row)) allowed) in
+    (allowed_tasks t sub lane row wired there.0 are.0 (told (targets lane row)) allowed) in
     suits-append t (copies_at t row sub) (flat_map (copies_at t row) subs) (told (targets lane row)) (tasks_for_row lanes row) here
     (suits_along t row subs lanes wired there.1 are.1 each.1)
 

@@ -1,4 +1,4 @@
-ghost use Rattle.std.specs.Prelude.{◌≡◌, ◌≤◌, ◌+◌, [], ◌∷◌, ◌++◌, All, length, map, IfOk, OnOk};
+ghost use Rattle.std.specs.Prelude.{◌≡◌, ◌≤◌, ◌+◌, ◌-◌, ◌^◌, [], ◌∷◌, ◌++◌, All, length, map, IfOk, OnOk};
 ghost use Rattle.std.specs.List.{range_with_len};
 ghost use Rattle.storm_values.specs.Limits.{most_tasks_in_all};
 ghost use Rattle.groupings.specs.Allowed.{IsLane, told};
@@ -40,6 +40,7 @@ pub struct Emitted {
 }
 
 /// Where the tuples of a call stand: right below a path.
+#[derive(Drop)]
 struct Below<'a> {
     root: Root,
     path: &'a Path,
@@ -102,10 +103,7 @@ impl<'p, I: Ids> Collector<'p, I> {
         ensures source { source_of self.new ≡ source_of self.old }
         ensures kept { BeginsWith into.new into.old }
     {
-        let draw = Draw {
-            source: self.source,
-            first: self.given,
-        };
+        let draw = draw_from(self.source, self.given);
         let mut edges = Edges::new(self.alloc);
         let below = Below { root, path };
         for row in rows.into_vec() {
@@ -126,6 +124,7 @@ impl<'p, I: Ids> Collector<'p, I> {
             (kids_by self.old.outlet.topology self.old.outlet.from row)
             (tasks_for_row self.old.outlet.lanes row)
             (sent self.old edges.old into.old) (sent self.new edges.new into.new)) }
+        ensures lanes { HasItsLanes self.old.outlet }
         ensures outlet { OnOk result (self.new.outlet
             ≡ record self.old.outlet { lanes = map moved self.old.outlet.lanes }) }
         ensures source { self.new.source ≡ self.old.source }
@@ -286,6 +285,17 @@ impl<'p, I: Ids> Collector<'p, I> {
         ensures sound { All IsLane (outlet_of self.now).lanes }
     {
         self.outlet.facts();
+    }
+}
+
+/// The draw of a source's next words, where it gave so many.
+fn draw_from(source: u32, given: u64) -> Draw
+    ensures value { result ≡ draw_from source given }
+    ensures fits { given ≤ 2 ^ 64 - 1 }
+{
+    Draw {
+        source,
+        first: given,
     }
 }
 

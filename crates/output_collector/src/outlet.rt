@@ -43,12 +43,7 @@ pub(crate) struct Route {
 
 impl<'p> Outlet<'p> {
     /// The outlet of a source, with a start word for each of its subscriptions.
-    pub fn new(
-        alloc: Global,
-        plan: &'p Plan,
-        from: Origin,
-        starts: &[u64],
-    ) -> Result<Self, Memory>
+    pub fn new(alloc: Global, plan: &'p Plan, from: Origin, starts: &[u64]) -> Result<Self, Memory>
         requires { length starts.now ≡ length (subs_of plan.now from) }
         ensures topology { IfOk result (λ o. o.topology ≡ plan.now) }
         ensures from { IfOk result (λ o. o.from ≡ from) }
@@ -66,6 +61,7 @@ impl<'p> Outlet<'p> {
     pub fn subs_len(&self) -> u32
         ensures { result ≡ length self.now.lanes }
     {
+        self.plan.facts();
         self.router.subs_len() as u32
     }
 
@@ -81,10 +77,11 @@ impl<'p> Outlet<'p> {
             → self.new
             ≡ record self.old { lanes = slice_set self.old.lanes sub (moved lane) } }
     {
-        let targets = self.router.route(sub, row);
+        self.router.facts();
+        let component = self.plan.subs(self.from)[sub as usize].to;
         Route {
-            component: self.plan.subs(self.from)[sub as usize].to,
-            targets,
+            component,
+            targets: self.router.route(sub, row),
         }
     }
 
@@ -96,7 +93,6 @@ impl<'p> Outlet<'p> {
         ensures sound { All IsLane self.now.lanes }
     {
         self.plan.facts();
-        // brings in the router's own invariant
-        let _ = self.router.subs_len();
+        self.router.facts();
     }
 }
