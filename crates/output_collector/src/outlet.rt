@@ -6,7 +6,7 @@ ghost use Rattle.topology_plan.specs.declared.parts.Sub.{Sub};
 ghost use Rattle.topology_plan.specs.Topology.{subs_of};
 ghost use Rattle.topology_plan.specs.Valid.{IsValid};
 ghost use Rattle.topology_plan.specs.Wired.{IsWired};
-ghost use Rattle.output_collector.specs.Outlets.{HasItsLanes};
+ghost use Rattle.output_collector.specs.Outlets.{HasItsLanes, IsSameSource};
 ghost use Rattle.output_collector.specs.Sending.{AreFew, route_along};
 
 use groupings::{Router, Targets};
@@ -76,6 +76,7 @@ impl<'p> Outlet<'p> {
         ensures moved { (lane : Lane) → slice_get self.old.lanes sub ≡ Some lane
             → self.new
             ≡ record self.old { lanes = slice_set self.old.lanes sub (moved lane) } }
+        ensures same_source { IsSameSource self.new self.old }
     {
         self.router.facts();
         let component = self.plan.subs(self.from)[sub as usize].to;

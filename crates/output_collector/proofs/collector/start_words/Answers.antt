@@ -17,5 +17,5 @@ loop-preserved g c =
     record {
       drawn = rw more
           (Draws-more g.I.Ids.tells c.args.ids.now c.loop.ids c.next.new.self c.loop.words c.next.result c.loop.invariant.drawn c.next.ensures.told);
-      counted = omega (arith, ap length more, length-append c.loop.words (c.next.result ∷ []), c.loop.invariant.counted);
+      counted = rw more (omega (arith, length-append c.loop.words (c.next.result ∷ []), c.loop.invariant.counted));
     }

@@ -20,6 +20,7 @@ loop-row-preserved g c =
           (kids o.topology o.from c.args.rows) (tasks_for o.lanes c.args.rows) (sent c.args.self.now [] c.args.into.now) (sent c.loop-row.self c.loop-row.edges c.loop-row.into) (sent c.emit_row.new.self c.emit_row.new.edges c.emit_row.new.into)
           head c.emit_row.ensures.lanes c.loop-row.invariant.outlet c.in_ok-emit_row.ensures.outlet c.loop-row.invariant.goes c.in_ok-emit_row.ensures.sends;
       outlet = after_more o c.loop-row.self.outlet c.emit_row.new.self.outlet c.args.rows (into_iter_items c.loop-row.row-iterator) more c.in-Some.row head c.loop-row.invariant.outlet c.in_ok-emit_row.ensures.outlet;
+      same_source = record { topology = c.emit_row.ensures.same_source.topology ∙ c.loop-row.invariant.same_source.topology; from = c.emit_row.ensures.same_source.from ∙ c.loop-row.invariant.same_source.from };
       source = c.emit_row.ensures.source ∙ c.loop-row.invariant.source;
       kept = BeginsWith-then c.args.into.now c.loop-row.into c.emit_row.new.into c.loop-row.invariant.kept c.emit_row.ensures.kept;
     }
