@@ -26,11 +26,11 @@ module _ {I : Type 0} where
 
   -- a collector of a source of rows, with one start word for each subscription
   pub record IsStarted (tells : I → (ℕ → ℕ) → ℕ → Type 0) (t : Topology) (from : Origin)
-      (source : ℕ) (ids : I) (made : Collector I) : Type 0 where
+      (number : ℕ) (ids : I) (made : Collector I) : Type 0 where
     pub starts : List ℕ
     pub enough : length starts ≡ length (subs_of t from)
     pub drawn : Draws tells ids starts (ids_in made)
     pub outlet : outlet_of made
         ≡ record { topology = t; from = from; lanes = lanes_of t (subs_of t from) starts }
     pub given : given_by made ≡ length starts
-    pub source : source_of made ≡ source
+    pub source : source_of made ≡ number

@@ -36,6 +36,11 @@ AreLanesOf t from lanes = AllZip (IsLaneOf t) (subs_of t from) lanes
 abbrev pub HasItsLanes : Outlet → Type 0
 HasItsLanes o = AreLanesOf o.topology o.from o.lanes
 
+-- both are of one source of one topology
+pub record IsSameSource (a b : Outlet) : Type 0 where
+  pub topology : a.topology ≡ b.topology
+  pub from : a.from ≡ b.from
+
 -- the tasks that a row goes to
 abbrev pub tasks_for_row : List Lane → List Value → List ℕ
 tasks_for_row lanes row = flat_map (λ lane. told (targets lane row)) lanes

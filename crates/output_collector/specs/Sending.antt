@@ -1,5 +1,5 @@
 -- What a call of `emit` has sent so far. This project's own.
-use Rattle.std.specs.Prelude.{◌≡◌, ◌≤◌, ℕ, ◌+◌, List, ◌++◌, length, map}
+use Rattle.std.specs.Prelude.{◌≡◌, ◌≤◌, ℕ, ◌+◌, ◌-◌, ◌^◌, List, ◌++◌, length, map}
 use Rattle.storm_values.specs.declared.value.Root.{Root}
 use Rattle.storm_values.specs.declared.value.Value.{Value}
 use Rattle.storm_values.specs.Limits.{most_tasks_in_all}
@@ -56,4 +56,4 @@ pub record Sends {I : Type 0} (tells : I → (ℕ → ℕ) → ℕ → Type 0) (
   pub parcels : b.parcels
       ≡ a.parcels ++ to_tasks (tuples_from root path (length a.edges) nodes ids) tasks
   pub drawn : Draws tells a.ids ids b.ids
-  pub given : b.given ≡ given_after a.given (length ids)
+  pub given : a.given ≤ 2 ^ 64 - 1 → b.given ≡ given_after a.given (length ids)

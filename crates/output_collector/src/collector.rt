@@ -1,4 +1,4 @@
-ghost use Rattle.std.specs.Prelude.{◌≡◌, ◌≤◌, ◌+◌, [], ◌∷◌, ◌++◌, All, length, map, IfOk, OnOk};
+ghost use Rattle.std.specs.Prelude.{◌≡◌, ◌≤◌, ◌+◌, ◌-◌, ◌^◌, [], ◌∷◌, ◌++◌, All, length, map, IfOk, OnOk};
 ghost use Rattle.std.specs.List.{range_with_len};
 ghost use Rattle.storm_values.specs.Limits.{most_tasks_in_all};
 ghost use Rattle.groupings.specs.Allowed.{IsLane, told};
@@ -10,7 +10,7 @@ ghost use Rattle.tuple_runs.specs.Issued.{draw_from, edges_of};
 ghost use Rattle.tuple_account.specs.Places.{ids_of};
 ghost use Rattle.output_collector.specs.Collectors.{outlet_of, ids_in, source_of, given_by, IsStarted};
 ghost use Rattle.output_collector.specs.Draws.{Draws, given_after};
-ghost use Rattle.output_collector.specs.Outlets.{HasItsLanes, after_rows, parcels_for, tasks_for_row, tuples_for};
+ghost use Rattle.output_collector.specs.Outlets.{HasItsLanes, IsSameSource, after_rows, parcels_for, tasks_for_row, tuples_for};
 ghost use Rattle.output_collector.specs.Sending.{AreFew, BeginsWith, Sends, nodes_at, sent};
 
 use crate::outlet::{Outlet, Route};
@@ -40,6 +40,7 @@ pub struct Emitted {
 }
 
 /// Where the tuples of a call stand: right below a path.
+#[derive(Drop)]
 struct Below<'a> {
     root: Root,
     path: &'a Path,
@@ -99,13 +100,11 @@ impl<'p, I: Ids> Collector<'p, I> {
         ensures given { IfOk result (λ emitted.
             given_by self.new ≡ given_after (given_by self.old) (length emitted.edges)) }
         ensures outlet { OnOk result (outlet_of self.new ≡ after_rows rows (outlet_of self.old)) }
+        ensures same_source { IsSameSource (outlet_of self.new) (outlet_of self.old) }
         ensures source { source_of self.new ≡ source_of self.old }
         ensures kept { BeginsWith into.new into.old }
     {
-        let draw = Draw {
-            source: self.source,
-            first: self.given,
-        };
+        let draw = draw_from(self.source, self.given);
         let mut edges = Edges::new(self.alloc);
         let below = Below { root, path };
         for row in rows.into_vec() {
@@ -126,8 +125,10 @@ impl<'p, I: Ids> Collector<'p, I> {
             (kids_by self.old.outlet.topology self.old.outlet.from row)
             (tasks_for_row self.old.outlet.lanes row)
             (sent self.old edges.old into.old) (sent self.new edges.new into.new)) }
+        ensures lanes { HasItsLanes self.old.outlet }
         ensures outlet { OnOk result (self.new.outlet
             ≡ record self.old.outlet { lanes = map moved self.old.outlet.lanes }) }
+        ensures same_source { IsSameSource self.new.outlet self.old.outlet }
         ensures source { self.new.source ≡ self.old.source }
         ensures kept { BeginsWith into.new into.old }
     {
@@ -284,8 +285,22 @@ impl<'p, I: Ids> Collector<'p, I> {
         ensures wired { IsWired (outlet_of self.now).topology }
         ensures lanes { HasItsLanes (outlet_of self.now) }
         ensures sound { All IsLane (outlet_of self.now).lanes }
+        ensures fits { given_by self.now ≤ 2 ^ 64 - 1 }
     {
         self.outlet.facts();
+        // brings in that the number fits its type
+        let _ = draw_from(self.source, self.given);
+    }
+}
+
+/// The draw of a source's next words, where it gave so many.
+fn draw_from(source: u32, given: u64) -> Draw
+    ensures value { result ≡ draw_from source given }
+    ensures fits { given ≤ 2 ^ 64 - 1 }
+{
+    Draw {
+        source,
+        first: given,
     }
 }
 

@@ -1,8 +1,8 @@
-ghost use Rattle.std.specs.Prelude.{◌≡◌, ℕ, List, All, length};
+ghost use Rattle.std.specs.Prelude.{◌≡◌, ◌≤◌, ℕ, List, All, length};
 ghost use Rattle.storm_values.specs.declared.value.Root.{Root};
 ghost use Rattle.storm_values.specs.declared.value.Value.{Value};
 ghost use Rattle.topology_plan.specs.declared.parts.Origin.{Origin};
-ghost use Rattle.topology_plan.specs.Topology.{Topology};
+ghost use Rattle.topology_plan.specs.Topology.{Topology, subs_of};
 ghost use Rattle.topology_plan.specs.Valid.{IsValid};
 ghost use Rattle.topology_plan.specs.Wired.{IsWired};
 ghost use Rattle.groupings.specs.declared.lane.Lane.{Lane};
@@ -30,4 +30,10 @@ pub fn emitted_tuples_go_to_their_components()
         → (root : Root) (path : List ℕ) (rows : List (List Value)) (ids : List ℕ)
         → length ids ≡ length (kids t from rows)
         → GoTo t (tuples_from root path 0 (kids t from rows) ids) (tasks_for lanes rows) }
+{}
+
+/// A law: a source has at most 40 subscriptions, and so a collector as many start words.
+pub fn start_words_are_few()
+    ensures { (t : Topology) (from : Origin) → IsValid t → IsWired t
+        → length (subs_of t from) ≤ 40 }
 {}

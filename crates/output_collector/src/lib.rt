@@ -7,4 +7,6 @@ mod laws;
 mod outlet;
 
 pub use collector::{Collector, Emitted};
-pub use laws::{emitted_tuples_go_to_their_components, emitted_tuples_have_tasks};
+pub use laws::{
+    emitted_tuples_go_to_their_components, emitted_tuples_have_tasks, start_words_are_few,
+};

@@ -6,7 +6,7 @@ ghost use Rattle.topology_plan.specs.declared.parts.Sub.{Sub};
 ghost use Rattle.topology_plan.specs.Topology.{subs_of};
 ghost use Rattle.topology_plan.specs.Valid.{IsValid};
 ghost use Rattle.topology_plan.specs.Wired.{IsWired};
-ghost use Rattle.output_collector.specs.Outlets.{HasItsLanes};
+ghost use Rattle.output_collector.specs.Outlets.{HasItsLanes, IsSameSource};
 ghost use Rattle.output_collector.specs.Sending.{AreFew, route_along};
 
 use groupings::{Router, Targets};
@@ -61,6 +61,7 @@ impl<'p> Outlet<'p> {
     pub fn subs_len(&self) -> u32
         ensures { result ≡ length self.now.lanes }
     {
+        self.plan.facts();
         self.router.subs_len() as u32
     }
 
@@ -75,11 +76,13 @@ impl<'p> Outlet<'p> {
         ensures moved { (lane : Lane) → slice_get self.old.lanes sub ≡ Some lane
             → self.new
             ≡ record self.old { lanes = slice_set self.old.lanes sub (moved lane) } }
+        ensures same_source { IsSameSource self.new self.old }
     {
-        let targets = self.router.route(sub, row);
+        self.router.facts();
+        let component = self.plan.subs(self.from)[sub as usize].to;
         Route {
-            component: self.plan.subs(self.from)[sub as usize].to,
-            targets,
+            component,
+            targets: self.router.route(sub, row),
         }
     }
 
@@ -91,7 +94,6 @@ impl<'p> Outlet<'p> {
         ensures sound { All IsLane self.now.lanes }
     {
         self.plan.facts();
-        // brings in the router's own invariant
-        let _ = self.router.subs_len();
+        self.router.facts();
     }
 }
