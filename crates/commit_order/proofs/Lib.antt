@@ -4,3 +4,5 @@ pub mod TickLemmas
 pub mod WriteLemmas
 pub mod Ending
 pub mod Passing
+pub mod Opening
+pub mod Turning

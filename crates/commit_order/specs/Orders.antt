@@ -10,7 +10,7 @@ use Rattle.commit_order.specs.declared.stop.Stop.{Stop}
 use Rattle.commit_order.specs.declared.stop.Stop.TheVariants.{Exhausted, Memory}
 use Rattle.commit_turns.specs.Account.{rows_in}
 use Rattle.commit_turns.specs.Desks.{Desk, Progress, first_desk}
-use Rattle.commit_turns.specs.Turns.{Turned}
+use Rattle.commit_turns.specs.Turns.{Turned, filled}
 use Rattle.output_collector.specs.Collectors.{IsStarted, given_by, ids_in, outlet_of, source_of}
 use Rattle.output_collector.specs.Draws.{Draws, given_after}
 use Rattle.output_collector.specs.Outlets.{Outlet, after_rows, tasks_for}
@@ -55,7 +55,7 @@ abbrev pub OpenFrom : Cut → ℕ → Stand → List Opening → Stand → Type 
 OpenFrom cut source s [] end = end ≡ s
 OpenFrom cut source s (o ∷ openings) end =
     (o ≡ opening_of cut s.outlet source s.given o.begun.root o.begun.ids)
-    × (length o.begun.ids ≡ length (kids s.outlet.topology origin.Spout o.begun.rows))
+    × (length o.begun.ids ≡ length (kids s.outlet.topology s.outlet.from o.begun.rows))
     × OpenFrom cut source (stand_after o s) openings end
 
 abbrev pub ids_drawn : List Opening → List ℕ
@@ -83,6 +83,12 @@ pub record AddsOpening {I : Type 0} (tells : I → (ℕ → ℕ) → ℕ → Typ
 
 -- ---- coordinators
 
+-- want of memory, or the transaction whose attempts have run out
+abbrev pub stop_by : Bool → Option ℕ → Option Stop
+stop_by true exhausted = Some Memory
+stop_by false None = None
+stop_by false (Some txid) = Some (Exhausted txid)
+
 module _ {I : Type 0} where
   abbrev pub office_of : Coordinator I → Office
   office_of c = c.office
@@ -103,6 +109,16 @@ module _ {I : Type 0} where
   abbrev pub cut_of : Coordinator I → Cut
   cut_of c = (office_of c).cut
 
+  -- what it emits are the records of its plan's spout, with ids of the coordinator's source
+  pub record IsOwn (c : Coordinator I) : Type 0 where
+    pub topology : (outlet_of (collector_of c)).topology ≡ plan_of c
+    pub from : (outlet_of (collector_of c)).from ≡ origin.Spout
+    pub source : source_of (collector_of c) ≡ tasks_in_all (plan_of c)
+
+  -- the same, as long as no call wanted memory
+  abbrev pub StaysOwn : Coordinator I → Type 0
+  StaysOwn c = wanted_memory c ≡ false → IsOwn c
+
   -- of a plan and its batches, with nothing begun, and its collector drew the start words
   pub record IsFirst (tells : I → (ℕ → ℕ) → ℕ → Type 0) (t : Topology) (cut : Cut) (ids : I)
       (made : Coordinator I) : Type 0 where
@@ -115,7 +131,8 @@ module _ {I : Type 0} where
   comes_to d c = record (office_of c) { desk = d }
 
   -- a turn came to this, and ordered this
-  pub record TurnsTo (tells : I → (ℕ → ℕ) → ℕ → Type 0) (to : Turned) (old new : Coordinator I)
+  pub record TurnsTo (tells : I → (ℕ → ℕ) → ℕ → Type 0) (t : Topology) (cut : Cut)
+      (to : Turned t cut) (old new : Coordinator I)
       (orders : Orders) : Type 0 where
     pub goes_on : to.desk.exhausted ≡ None
     pub office : office_of new ≡ comes_to to.desk old
@@ -138,11 +155,6 @@ module _ {I : Type 0} where
     pub some : AddsSome ended told tells
     pub stopped : wanted_memory new ≡ true
 
-  abbrev pub stop_by : Bool → Option ℕ → Option Stop
-  stop_by true exhausted = Some Memory
-  stop_by false None = None
-  stop_by false (Some txid) = Some (Exhausted txid)
-
   -- why the coordinator stopped, if it did
   abbrev pub stop_of : Coordinator I → Option Stop
   stop_of c = stop_by (wanted_memory c) (desk_of c).exhausted
@@ -155,3 +167,25 @@ module _ {I : Type 0} where
     pub collector : collector_of new ≡ collector_of old
     pub fates : tells ≡ told ++ to.ended
     pub has_memory : wanted_memory new ≡ false
+
+  -- Roots begin so far, and in so many places at most more begin: all of them are what began, and
+  -- then the rest.
+  pub record Fills (tells : I → (ℕ → ℕ) → ℕ → Type 0) (places left : ℕ) (old new : Coordinator I)
+      (parcels : List Parcel) : Type 0 where
+    pub roots : List Root
+    pub own : IsOwn new
+    pub office : office_of new ≡ comes_to (desk_of new) old
+    pub begun : Begins tells (cut_of old) (collector_of old) (collector_of new) roots parcels
+    pub has_memory : wanted_memory new ≡ wanted_memory old
+    pub desk : (filled (plan_of old) (cut_of old) places (desk_of old)).desk
+        ≡ (filled (plan_of old) (cut_of old) left (desk_of new)).desk
+    pub all : (filled (plan_of old) (cut_of old) places (desk_of old)).roots
+        ≡ roots ++ (filled (plan_of old) (cut_of old) left (desk_of new)).roots
+
+  -- a turn may come: no ordered commit is out, or the coordinator stopped
+  abbrev pub MayTurn : Coordinator I → Type 0
+  MayTurn c = stop_of c ≡ None → (desk_of c).out ≡ false
+
+  -- an outcome may come: an ordered commit is out, or the coordinator stopped
+  abbrev pub MayDecide : Coordinator I → Type 0
+  MayDecide c = stop_of c ≡ None → (desk_of c).out ≡ true

@@ -1,8 +1,10 @@
-ghost use Rattle.std.specs.Prelude.{◌≡◌, ◌++◌, Bool, true, false, None, Some, Ok, Err, IfOk, OnOk, OnErr};
-ghost use Rattle.commit_order.specs.Offices.{AddsSome};
-ghost use Rattle.commit_order.specs.Orders.{Begins, GoesOnWith, IsFirst, TurnsTo, collector_of, comes_to, cut_of, desk_of, office_of, plan_of, wanted_memory};
+ghost use Rattle.std.specs.Prelude.{◌≡◌, ◌++◌, ℕ, List, true, false, None, Some, Err, IfOk, OnOk};
+ghost use Rattle.commit_order.specs.Offices.{IsBatch, IsCommitOf};
+ghost use Rattle.commit_order.specs.Orders.{AddsOpening, Begins, DecidesTo, IsFirst, IsOwn, MayDecide, MayTurn, RunsShort, StaysOwn, StopsAt, TurnsTo, collector_of, comes_to, cut_of, desk_of, office_of, plan_of, stop_of, wanted_memory};
+ghost use Rattle.commit_order.specs.declared.stop.Stop.{Stop};
 ghost use Rattle.commit_order.specs.declared.stop.Stop.TheVariants as stop;
-ghost use Rattle.commit_turns.specs.Turns.{decided, is_finished, turned};
+ghost use Rattle.commit_turns.specs.Account.{rows_in};
+ghost use Rattle.commit_turns.specs.Turns.{decided, filled, is_finished, next_to_commit, ordered, turned};
 
 use crate::office::Office;
 use crate::stop::Stop;
@@ -39,7 +41,8 @@ impl<'p, I: Ids> Coordinator<'p, I> {
     /// The coordinator of a plan's batches. It draws one start word for each subscription of the
     /// spout first.
     pub fn new(alloc: Global, plan: &'p Plan, batches: Batches, ids: I) -> Result<Self, Memory>
-        ensures { IfOk result (IsFirst I.tells plan.now batches ids) }
+        ensures first { IfOk result (IsFirst I.tells plan.now batches ids) }
+        ensures own { IfOk result IsOwn }
     {
         let office = Office::new(alloc, plan, batches)?;
         let collector = Collector::new(alloc, plan, Origin::Spout, plan.tasks(), ids)?;
@@ -83,9 +86,11 @@ impl<'p, I: Ids> Coordinator<'p, I> {
         verdict: Option<Verdict>,
         ticks: u32,
     ) -> Result<Orders, Stop>
-        requires { (desk_of self.old).out ≡ false }
+        requires none_out { MayTurn self.old }
+        requires own { StaysOwn self.old }
+        ensures own { StaysOwn self.new }
         ensures turned { stop_of self.old ≡ None → IfOk result (TurnsTo I.tells
-            (turned (plan_of self.old) (cut_of self.old) verdict ticks (desk_of self.old))
+            (plan_of self.old) (cut_of self.old) (turned (plan_of self.old) (cut_of self.old) verdict ticks (desk_of self.old))
             self.old self.new) }
         ensures fates { stop_of self.old ≡ None → OnOk result (fates.new ≡ fates.old ++ (turned
             (plan_of self.old) (cut_of self.old) verdict ticks (desk_of self.old)).ended) }
@@ -119,7 +124,9 @@ impl<'p, I: Ids> Coordinator<'p, I> {
     /// The outcome of the commit that was ordered: its attempt ends. A coordinator that stopped
     /// answers the same again.
     pub fn committed(&mut self, fates: &mut Fates, how: CommitOutcome) -> Result<(), Stop>
-        requires { (desk_of self.old).out ≡ true }
+        requires one_out { MayDecide self.old }
+        requires own { StaysOwn self.old }
+        ensures own { StaysOwn self.new }
         ensures ends { stop_of self.old ≡ None → OnOk result (DecidesTo
             (decided (plan_of self.old) (cut_of self.old) how (desk_of self.old))
             self.old self.new fates.old fates.new) }
@@ -171,6 +178,8 @@ impl<'p, I: Ids> Coordinator<'p, I> {
 
     // A commit is ordered, and roots begin.
     fn order_and_fill(&mut self) -> Result<Orders, Memory>
+        requires { IsOwn self.old }
+        ensures own { OnOk result (IsOwn self.new) }
         ensures office { OnOk result (office_of self.new ≡ comes_to
             (filled (plan_of self.old) (cut_of self.old) (plan_of self.old).pending
             (ordered (plan_of self.old) (cut_of self.old) (desk_of self.old))).desk self.old) }
@@ -182,7 +191,7 @@ impl<'p, I: Ids> Coordinator<'p, I> {
             (filled (plan_of self.old) (cut_of self.old) (plan_of self.old).pending
             (ordered (plan_of self.old) (cut_of self.old) (desk_of self.old))).roots
             orders.parcels) }
-        ensures has_memory { wanted_memory self.new ≡ wanted_memory self.old }
+        ensures has_memory { OnOk result (wanted_memory self.new ≡ wanted_memory self.old) }
     {
         let commit = self.office.order()?;
         let parcels = self.fill()?;
@@ -191,6 +200,8 @@ impl<'p, I: Ids> Coordinator<'p, I> {
 
     // Roots begin until as many are pending as may be.
     fn fill(&mut self) -> Result<Parcels, Memory>
+        requires { IsOwn self.old }
+        ensures own { OnOk result (IsOwn self.new) }
         ensures office { OnOk result (office_of self.new ≡ comes_to
             (filled (plan_of self.old) (cut_of self.old) (plan_of self.old).pending
             (desk_of self.old)).desk self.old) }
@@ -198,7 +209,7 @@ impl<'p, I: Ids> Coordinator<'p, I> {
             (collector_of self.old) (collector_of self.new)
             (filled (plan_of self.old) (cut_of self.old) (plan_of self.old).pending
             (desk_of self.old)).roots) }
-        ensures has_memory { wanted_memory self.new ≡ wanted_memory self.old }
+        ensures has_memory { OnOk result (wanted_memory self.new ≡ wanted_memory self.old) }
     {
         let mut parcels = Parcels::new(self.alloc);
         for _ in 0..self.office.most_pending() {
@@ -212,9 +223,11 @@ impl<'p, I: Ids> Coordinator<'p, I> {
 
     // The first tuples of a root that begins, and then its init.
     fn open(&mut self, root: Root, into: &mut Parcels) -> Result<(), Memory>
-        requires { IsBatch (cut_of self.old) root.txid }
+        requires batch { IsBatch (cut_of self.old) root.txid }
+        requires own { IsOwn self.old }
+        ensures own { OnOk result (IsOwn self.new) }
         ensures office { office_of self.new ≡ office_of self.old }
-        ensures has_memory { wanted_memory self.new ≡ wanted_memory self.old }
+        ensures has_memory { OnOk result (wanted_memory self.new ≡ wanted_memory self.old) }
         ensures begun { OnOk result (AddsOpening I.tells (cut_of self.old) root
             (collector_of self.old) (collector_of self.new) into.old into.new) }
     {
@@ -235,12 +248,19 @@ impl<'p, I: Ids> Coordinator<'p, I> {
         requires { IsBatch (cut_of self.now) txid }
         ensures { IfOk result (λ rows. rows ≡ rows_in (cut_of self.now) txid) }
     {
-        let mut rows = Rows::new(self.alloc);
-        if let Some(batch) = self.office.batch(txid) {
-            for row in batch {
-                rows.push(row.copy()?)?;
-            }
+        match self.office.batch(txid) {
+            Some(batch) => copied_rows(self.alloc, batch),
+            None => Ok(Rows::new(self.alloc)),
         }
-        Ok(rows)
     }
+}
+
+fn copied_rows(alloc: Global, batch: &[Row]) -> Result<Rows, Memory>
+    ensures { IfOk result (λ rows. rows ≡ batch.now) }
+{
+    let mut rows = Rows::new(alloc);
+    for row in batch {
+        rows.push(row.copy()?)?;
+    }
+    Ok(rows)
 }
