@@ -22,7 +22,7 @@ ghost use Rattle.tuple_account.specs.Sound.{is_about};
 /// commit: each batch is committed once at most and in order, and the attempts of a transaction run
 /// one after another.
 pub fn desks_are_kept()
-    ensures first { (t : Topology) (cut : Cut) → IsKept t cut first_desk [] }
+    ensures first { (t : Topology) (cut : Cut) → IsValid t → IsKept t cut first_desk [] }
     ensures turn { (t : Topology) (cut : Cut) (d : Desk) (fates : List Attempt)
         → IsValid t → 0 < cut.size → d.exhausted ≡ None → IsKept t cut d fates
         → (verdict : Option Verdict) (ticks : ℕ)

@@ -1,0 +1,15 @@
+mod Lists
+mod Tallies
+mod Telling
+mod Holding
+mod Records
+mod Keeping
+mod Closing
+mod Going
+mod Deciding
+mod Passing
+mod Turning
+mod Booking
+mod Accounting
+mod Fitting
+mod LawLemmas
