@@ -1,5 +1,5 @@
 -- What the account keeps in a turn, and in the outcome of a commit.
-use Rattle.std.proofs.Common.{◌≡◌, ◌≢◌, ℕ, ◌+◌, ◌<◌, ◌≤◌, ◌==◌, ◌&&◌, inl, inr, Bool, true, false, cond, not, Option, None, Some, List, [], ◌∷◌, ◌++◌, length, refl, sym, ap, subst, ◌∙◌, arith, eqb-true}
+use Rattle.std.proofs.Common.{◌≡◌, ◌≢◌, ℕ, ◌+◌, ◌≤◌, ◌==◌, inl, inr, Bool, true, false, cond, not, Option, None, Some, List, [], ◌∷◌, ◌++◌, refl, sym, ap, subst, ◌∙◌, arith, eqb-true}
 use Rattle.std.specs.Prelude.{is_some}
 use Rattle.std.specs.List.{AllByRecursion}
 use Rattle.std.specs.Option.{option_to_list}
@@ -10,7 +10,6 @@ use Rattle.acker_core.specs.declared.verdict.Verdict.TheVariants.{Complete, Fail
 use Rattle.attempt_fates.specs.declared.fates.Attempt.{Attempt}
 use Rattle.attempt_fates.specs.declared.fates.End.{End}
 use Rattle.attempt_fates.specs.declared.fates.End.TheVariants as end
-use Rattle.attempt_fates.specs.Fates.{is_committed}
 use Rattle.counted_items.specs.Weights.{weigh}
 use Rattle.counted_items.proofs.Each.{each-back, each-both, each-weaker}
 use Rattle.counted_items.proofs.Weighing.{weigh-append, weigh-push}
@@ -21,7 +20,7 @@ use Rattle.topology_plan.specs.Valid.{IsValid}
 use Rattle.tree_model.specs.Lists.{IsClosed}
 use Rattle.tree_model.specs.declared.messages.AckMsg.{AckMsg}
 use Rattle.trident_batches.specs.Batches.{Cut}
-use Rattle.tuple_account.specs.Ends.{Ended, Ending, commits_by, verdicts_by, verdicts_settled}
+use Rattle.tuple_account.specs.Ends.{Ended, commits_by, verdicts_by, verdicts_settled}
 use Rattle.tuple_account.specs.Fits.{CheckedBy}
 use Rattle.tuple_account.specs.Sound.{is_about}
 use Rattle.state_parts.specs.declared.answer.CommitOutcome.{CommitOutcome}
@@ -30,11 +29,11 @@ use Rattle.commit_turns.specs.declared.wait.Wait.{Wait}
 use Rattle.commit_turns.specs.Account.{ended_of, ending_of}
 use Rattle.commit_turns.specs.Desks.{Desk, ended_at, is_late, is_of_root, is_timed, settled, timed_of, without}
 use Rattle.commit_turns.specs.Outcomes.{IsOutcome}
-use Rattle.commit_turns.specs.Turns.{begun, complete_timed, decided, decided_by, end_by, end_timed, filled, has_no_tick, heard, is_closed, last_try, next_root, next_to_commit, one_tick, ordered, turned}
-use Rattle.commit_turns.proofs.Booking.{Books, IsChecked, IsUnheard, books_begun, books_commit, books_fall, books_heard, books_settled, books_told, unheard_beside, is_root, not_begun, settled_by}
-use Rattle.commit_turns.proofs.Closing.{closed_off, closed_on}
+use Rattle.commit_turns.specs.Turns.{begun, complete_timed, decided, decided_by, end_by, end_timed, filled, heard, is_closed, last_try, next_root, next_to_commit, one_tick, ordered, turned}
+use Rattle.commit_turns.proofs.Booking.{Books, IsChecked, IsUnheard, books_begun, books_commit, books_fall, books_heard, books_settled, books_told, unheard_beside, is_root, not_begun}
+use Rattle.commit_turns.proofs.Closing.{closed_off}
 use Rattle.commit_turns.proofs.Deciding.{is_next, turn_of}
-use Rattle.commit_turns.proofs.Going.{left, going_begun, going_out}
+use Rattle.commit_turns.proofs.Going.{left, going_out}
 use Rattle.commit_turns.proofs.Holding.{IsBegun, or_else}
 use Rattle.commit_turns.proofs.Keeping.{IsGoing}
 use Rattle.commit_turns.proofs.Lists.{Found, found, none_found}
@@ -187,7 +186,7 @@ module _ (t : Topology) (cut : Cut) (roots : List Root) (told : List Verdict) wh
         → IsGoing t cut (filled t cut t.pending (ordered t cut d)).desk fates × HasBooks t (filled t cut t.pending (ordered t cut d)).desk fates (roots ++ (filled t cut t.pending (ordered t cut d)).roots) told
     fill_books d none going b =
         let f = all_begun t cut IsFilling one_begins t.pending (ordered t cut d) []
-            (record { going = going_out t cut d fates (ordered t cut d).out going; none = none; books = subst (λ (rs : List Root). HasBooks t d fates rs told) (sym (append-nil roots)) b }) in
+        (record { going = going_out t cut d fates (ordered t cut d).out going; none = none; books = subst (λ (rs : List Root). HasBooks t d fates rs told) (sym (append-nil roots)) b }) in
         (f.going, f.books)
 
 -- ---- a turn
@@ -202,7 +201,7 @@ turn_books t cut valid d fates none going roots told b verdict ticks quiet =
     (λ e ended new. IsGoing t cut e ended × HasBooks t e ended (roots ++ new) (told ++ option_to_list verdict))
     (going_heard t cut d fates going none verdict, hears_books t cut d fates going none roots told b verdict)
     (λ e ended goes both. (going_tick t cut e ended goes both.0, tick_books t cut roots (told ++ option_to_list verdict) e ended both.1))
-    (λ e ended both. (both.0, subst (λ (rs : List Root). HasBooks t e ended rs (told ++ option_to_list verdict)) (sym (append-nil roots)) both.1))
+    (λ e ended txid is both. (both.0, subst (λ (rs : List Root). HasBooks t e ended rs (told ++ option_to_list verdict)) (sym (append-nil roots)) both.1))
     (λ e ended still_none both. fill_books t cut roots (told ++ option_to_list verdict) valid ended quiet e still_none both.0 both.1)
 
 -- ---- the outcome of a commit
@@ -237,7 +236,7 @@ module _ (t : Topology) (cut : Cut) (d : Desk) (fates : List Attempt) (going : I
     is_checked (Some list) some closed x = closed list refl
 
     its_list : (list : List AckMsg) → w.settled ≡ Some list → IsClosed list
-    its_list = (each-back (IsBegun cut d.attempts d.committed d.tick) at.before (w ∷ at.behind) (subst (AllByRecursion (IsBegun cut d.attempts d.committed d.tick)) at.split going.holds.waits)).0.closed
+    its_list = (each-back (IsBegun t cut d.attempts d.committed d.tick) at.before (w ∷ at.behind) (subst (AllByRecursion (IsBegun t cut d.attempts d.committed d.tick)) at.split going.holds.waits)).0.closed
 
     decide_one : (how : CommitOutcome) → IsOutcome t how → HasBooks t (decided_by t cut how (Some w) d).desk (fates ++ (decided_by t cut how (Some w) d).ended) roots told
     decide_one outcome.Done is =

@@ -1,5 +1,5 @@
 -- The coordinator's account, by weights, and each small step of it.
-use Rattle.std.proofs.Common.{◌≡◌, ◌≢◌, ℕ, ◌+◌, ◌<◌, ◌≤◌, ◌==◌, ◌&&◌, nat_lt, inl, inr, Bool, true, false, cond, Option, None, Some, List, [], ◌∷◌, ◌++◌, length, refl, sym, ap, subst, ◌∙◌, arith, eqb-true}
+use Rattle.std.proofs.Common.{◌≡◌, ℕ, ◌+◌, ◌≤◌, ◌==◌, ◌&&◌, nat_lt, inl, inr, Bool, true, false, cond, None, Some, List, [], ◌∷◌, ◌++◌, refl, sym, ap, subst, ◌∙◌, arith}
 use Rattle.std.specs.FinMap as fin_map
 use Rattle.std.specs.List.{AllByRecursion}
 use Rattle.std.proofs.lemmas.Bool.{cases_eq, eq-eqb, ne_eqb, and_right, le-ltb}
@@ -15,7 +15,7 @@ use Rattle.storm_values.specs.declared.value.Root.{Root}
 use Rattle.topology_plan.specs.Topology.{Topology}
 use Rattle.tree_model.specs.declared.messages.AckMsg.{AckMsg}
 use Rattle.trident_batches.specs.Batches.{Cut}
-use Rattle.tuple_account.specs.Ends.{Ending, commits_by, verdicts_by, verdicts_settled}
+use Rattle.tuple_account.specs.Ends.{commits_by, verdicts_by, verdicts_settled}
 use Rattle.tuple_account.specs.Fits.{CheckedBy, is_tried}
 use Rattle.tuple_account.specs.Sound.{is_about}
 use Rattle.tuple_tickets.specs.Roots.{root_eq}

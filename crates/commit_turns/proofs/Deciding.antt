@@ -1,7 +1,6 @@
 -- The outcome of a commit.
-use Rattle.std.proofs.Common.{◌≡◌, ℕ, ◌+◌, ◌&&◌, ◌==◌, Bool, true, false, Option, None, Some, List, [], ◌∷◌, ◌++◌, refl, sym, ap, subst, ◌∙◌, eqb-true}
+use Rattle.std.proofs.Common.{◌≡◌, ◌+◌, ◌&&◌, ◌==◌, Bool, true, false, Option, None, Some, List, ◌++◌, refl, sym, subst, eqb-true}
 use Rattle.std.specs.Prelude.{is_some}
-use Rattle.std.specs.List.{find}
 use Rattle.std.proofs.lemmas.Bool.{and_parts}
 use Rattle.std.proofs.lemmas.List.{append-nil}
 use Rattle.attempt_fates.specs.declared.fates.Attempt.{Attempt}
@@ -37,7 +36,7 @@ module _ (t : Topology) (cut : Cut) (d : Desk) where
     decided_one outcome.Done w at = going_commit t cut d fates going none (is_next d) w at (end_by t cut outcome.Done w.settled) (done_commits w.settled) (turn_of w at)
     decided_one (outcome.Failed component part before after) w at =
         going_end t cut (record d { out = false }) fates (going_out t cut d fates false going) none (is_next d) w
-        (record { before = at.before; behind = at.behind; split = at.split; passes = at.passes }) (end.CommitFailed component part before after) refl
+        (record { before = at.before; behind = at.behind; split = at.split; passes = at.passes; missed = at.missed }) (end.CommitFailed component part before after) refl (λ fell. turn_of w at)
 
     pub going_decided : (how : CommitOutcome) → IsGoing t cut (decided t cut how d).desk (fates ++ (decided t cut how d).ended)
     going_decided how = by (next_to_commit t cut d) refl

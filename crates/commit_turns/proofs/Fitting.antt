@@ -1,6 +1,5 @@
 -- The account read off the desk and the fates, and back.
-use Rattle.std.proofs.Common.{◌≡◌, ℕ, ◌+◌, ◌≤◌, Bool, true, false, cond, Option, None, Some, List, [], ◌∷◌, ◌++◌, length, map, refl, sym, ap, subst, ◌∙◌, arith}
-use Rattle.std.specs.List.{AllByRecursion}
+use Rattle.std.proofs.Common.{◌≡◌, ℕ, ◌≤◌, None, List, map, sym, subst, ◌∙◌, arith}
 use Rattle.std.proofs.lemmas.List.{length-map}
 use Rattle.std.proofs.lemmas.List.Elements.{recursion_from_All}
 use Rattle.acker_core.specs.declared.verdict.Verdict.{Verdict}
@@ -10,8 +9,6 @@ use Rattle.counted_items.proofs.Each.{each-both, each-map, each-to_map, each-wea
 use Rattle.counted_items.proofs.Weighing.{weigh-append, weigh-flat_map, weigh-map}
 use Rattle.storm_values.specs.declared.value.Root.{Root}
 use Rattle.topology_plan.specs.Topology.{Topology}
-use Rattle.tree_model.specs.Lists.{IsClosed}
-use Rattle.tree_model.specs.declared.messages.AckMsg.{AckMsg}
 use Rattle.trident_batches.specs.Batches.{Cut}
 use Rattle.tuple_account.specs.Ends.{Ended, Waits, commits, verdicts_by, verdicts_of_ends, verdicts_of_waits, verdicts_settled}
 use Rattle.tuple_account.specs.Fits.{Fits, IsEnd, IsWaiting}
@@ -22,7 +19,7 @@ use Rattle.commit_turns.specs.declared.wait.Wait.{Wait}
 use Rattle.commit_turns.specs.Account.{desk_of, ended_of, ends_of, rows_in, waits_of}
 use Rattle.commit_turns.specs.Desks.{Desk}
 use Rattle.commit_turns.proofs.Accounting.{HasBooks}
-use Rattle.commit_turns.proofs.Booking.{IsChecked, IsUnheard, commits_at, ended_by, is_root, settled_by}
+use Rattle.commit_turns.proofs.Booking.{IsChecked, ended_by, is_root, settled_by}
 use Rattle.commit_turns.proofs.Holding.{IsBegun}
 use Rattle.commit_turns.proofs.Keeping.{IsGoing}
 
@@ -82,7 +79,7 @@ module _ (t : Topology) (cut : Cut) (d : Desk) (fates : List Attempt) (h : Histo
         (recursion_from_All (λ (a : Attempt). a.start ≤ a.finish) fates going.holds.told.spans)
         (each-both (λ (a : Attempt). a.finish ≤ d.tick) (IsChecked t) fates (recursion_from_All (λ (a : Attempt). a.finish ≤ d.tick) fates going.holds.told.handed_out) b.checked)));
     waits = each-to_map (IsWaiting (desk_of d)) waits_of d.pending
-        (each-weaker (IsBegun cut d.attempts d.committed d.tick) (λ (w : Wait). IsWaiting (desk_of d) (waits_of w)) (λ w is. record { starts = is.starts; later = is.later; closed = is.closed }) d.pending going.holds.waits);
+        (each-weaker (IsBegun t cut d.attempts d.committed d.tick) (λ (w : Wait). IsWaiting (desk_of d) (waits_of w)) (λ w is. record { starts = is.starts; later = is.later; closed = is.closed }) d.pending going.holds.waits);
     few = subst (λ (n : ℕ). n ≤ t.pending) (sym (length-map d.pending waits_of)) going.holds.few;
     once = λ txid. weigh-map (commits txid) ended_of fates ∙ b.once txid;
   }

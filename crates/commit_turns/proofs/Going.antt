@@ -1,5 +1,6 @@
 -- Small steps between those of a turn.
-use Rattle.std.proofs.Common.{◌≡◌, ℕ, ◌+◌, ◌<◌, ◌≤◌, ◌&&◌, Bool, true, false, Option, None, Some, List, [], ◌∷◌, ◌++◌, length, refl, sym, ap, subst, ◌∙◌, arith}
+use Rattle.std.proofs.Common.{◌≡◌, ℕ, ◌+◌, ◌<◌, ◌≤◌, Bool, true, false, Option, None, Some, List, [], ◌∷◌, ◌++◌, length, refl, sym, ap, subst, ◌∙◌, arith}
+use Rattle.std.specs.Prelude.{IsTrue}
 use Rattle.std.specs.List.{AllByRecursion}
 use Rattle.attempt_fates.specs.declared.fates.Attempt.{Attempt}
 use Rattle.attempt_fates.specs.declared.fates.End.{End}
@@ -14,6 +15,7 @@ use Rattle.tree_model.specs.declared.messages.AckMsg.{AckMsg}
 use Rattle.trident_batches.specs.Batches.{Cut, batch_count}
 use Rattle.commit_turns.specs.declared.wait.Wait.{Wait}
 use Rattle.commit_turns.specs.Desks.{Desk, ended_at, settled, without}
+use Rattle.commit_turns.specs.Kept.{is_failed_commit}
 use Rattle.commit_turns.specs.Turns.{begun, last_try, stopped_by}
 use Rattle.commit_turns.proofs.Holding.{Holds, holds_begun, holds_commit, holds_end, holds_settled, or_else}
 use Rattle.commit_turns.proofs.Keeping.{IsGoing, IsTimely}
@@ -57,12 +59,12 @@ module _ (t : Topology) (cut : Cut) (d : Desk) (fates : List Attempt) (going : I
     left = sym (ap (without w.root) found.split ∙ without-split found.before found.behind w split_holds.one)
 
     -- an attempt ends without a commit
-    pub going_end : (how : End) → is_committed how ≡ false
+    pub going_end : (how : End) → is_committed how ≡ false → (IsTrue (is_failed_commit how) → w.root.txid ≡ d.committed + 1)
         → IsGoing t cut (stopped_by t cut (ended_at cut d.tick how w ∷ []) (record d { pending = without w.root d.pending })) (fates ++ ended_at cut d.tick how w ∷ [])
-    going_end how is = record {
+    going_end how is failed = record {
       holds = subst (λ (e : Option ℕ). Holds t cut (record d { pending = without w.root d.pending; exhausted = e }) (fates ++ ended_at cut d.tick how w ∷ [])) last
           (subst (λ (ps : List Wait). Holds t cut (record d { pending = ps; exhausted = or_else d.exhausted (last_try t cut (ended_at cut d.tick how w)) }) (fates ++ ended_at cut d.tick how w ∷ [])) left
-          (holds_end t cut d fates found.before found.behind w split_holds how is));
+          (holds_end t cut d fates found.before found.behind w split_holds how is failed));
       timely = subst (AllByRecursion (IsTimely t.buckets d.tick)) left timely_beside;
     }
       where
@@ -96,8 +98,8 @@ module _ (t : Topology) (cut : Cut) (d : Desk) (fates : List Attempt) (going : I
 
   -- a root begins
   pub going_begun : (root : Root) → 1 ≤ t.buckets → tally root.txid d.pending ≡ 0 → root.attempt ≡ attempts_of root.txid d.attempts + 1 → root.attempt ≤ t.attempts
-      → length d.pending < t.pending → d.committed < root.txid → root.txid ≤ batch_count (length cut.records) cut.size → IsGoing t cut (begun t cut root d) fates
-  going_begun root some free next allowed room after there = record {
-    holds = holds_begun t cut d fates root going.holds none free next allowed room after there;
+      → length d.pending < t.pending → d.committed < root.txid → root.txid ≤ batch_count (length cut.records) cut.size → root.txid ≤ d.committed + t.pending → IsGoing t cut (begun t cut root d) fates
+  going_begun root some free next allowed room after there near = record {
+    holds = holds_begun t cut d fates root going.holds none free next allowed room after there near;
     timely = each-append (IsTimely t.buckets d.tick) d.pending (record { root = root; start = d.tick; settled = None } ∷ []) going.timely ((λ timed. omega arith), tt);
   }

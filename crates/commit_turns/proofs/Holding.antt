@@ -1,13 +1,13 @@
 -- What holds of the coordinator while a turn goes on, and each small step of it.
-use Rattle.std.proofs.Common.{◌≡◌, ◌≢◌, inl, inr, ℕ, ◌+◌, ◌<◌, ◌≤◌, ◌==◌, Bool, true, false, cond, nat_lt, Option, None, Some, List, [], ◌∷◌, ◌++◌, length, refl, sym, ap, subst, ◌∙◌, arith, eqb-true}
+use Rattle.std.proofs.Common.{◌≡◌, ◌≢◌, inl, inr, ℕ, ◌+◌, ◌<◌, ◌≤◌, Bool, true, false, cond, nat_lt, Option, None, Some, List, [], ◌∷◌, ◌++◌, length, refl, sym, ap, subst, ◌∙◌, arith}
+use Rattle.std.specs.Prelude.{IsTrue}
 use Rattle.std.specs.FinMap as fin_map
 use Rattle.std.specs.List.{AllByRecursion}
-use Rattle.std.proofs.lemmas.List.{append-nil, length-append}
-use Rattle.std.proofs.lemmas.Bool.{ltb-false, ltb-true, cases_lt, cases_eq}
+use Rattle.std.proofs.lemmas.List.{length-append}
+use Rattle.std.proofs.lemmas.Bool.{ltb-false, ltb-true, cases_eq}
 use Rattle.attempt_fates.specs.declared.fates.Attempt.{Attempt}
 use Rattle.attempt_fates.specs.declared.fates.End.{End}
 use Rattle.attempt_fates.specs.Fates.{IsOfBatch, attempt_numbers, is_committed}
-use Rattle.counted_items.specs.Weights.{weigh}
 use Rattle.counted_items.proofs.Each.{each-append, each-front, each-back, each-weaker, each-both}
 use Rattle.counted_items.proofs.Weighing.{weigh-append}
 use Rattle.replay_pending.specs.InFlight.{Counts, attempts_of}
@@ -18,15 +18,17 @@ use Rattle.tree_model.specs.declared.messages.AckMsg.{AckMsg}
 use Rattle.trident_batches.specs.Batches.{Cut, batch_count}
 use Rattle.commit_turns.specs.declared.wait.Wait.{Wait}
 use Rattle.commit_turns.specs.Desks.{Desk, ended_at}
+use Rattle.commit_turns.specs.Kept.{is_failed_commit}
 use Rattle.commit_turns.specs.Turns.{begun, last_try}
-use Rattle.commit_turns.proofs.Tallies.{own, own-few, own-itself, own-none, own-one, own-other, tally, tally-split, others, others-beside, insert-own, insert-other}
+use Rattle.commit_turns.proofs.Tallies.{own, own-few, own-itself, own-other, tally, tally-split, others, others-beside, insert-own, insert-other}
 use Rattle.commit_turns.proofs.Telling.{Told, count_push, one_more, told_push, told_tick}
 
 -- a pending attempt, whether it is late or not
-pub record IsBegun (cut : Cut) (attempts : Counts) (committed tick : ℕ) (w : Wait) : Type 0 where
+pub record IsBegun (t : Topology) (cut : Cut) (attempts : Counts) (committed tick : ℕ) (w : Wait) : Type 0 where
   pub number : w.root.attempt ≡ attempts_of w.root.txid attempts
   pub later : committed < w.root.txid
   pub there : w.root.txid ≤ batch_count (length cut.records) cut.size
+  pub near : w.root.txid ≤ committed + t.pending
   pub starts : w.start ≤ tick
   pub closed : (list : List AckMsg) → w.settled ≡ Some list → IsClosed list
 
@@ -35,7 +37,7 @@ pub record Holds (t : Topology) (cut : Cut) (d : Desk) (fates : List Attempt) : 
   pub told : Told (length cut.records) cut.size d.committed d.tick fates
   pub begun : (txid : ℕ) → attempts_of txid d.attempts ≡ length (attempt_numbers txid fates) + tally txid d.pending
   pub one : (txid : ℕ) → tally txid d.pending ≤ 1
-  pub waits : AllByRecursion (IsBegun cut d.attempts d.committed d.tick) d.pending
+  pub waits : AllByRecursion (IsBegun t cut d.attempts d.committed d.tick) d.pending
   pub few : length d.pending ≤ t.pending
   pub most : (txid : ℕ) → attempts_of txid d.attempts ≤ t.attempts
   pub goes_on : d.exhausted ≡ None → (txid : ℕ) → d.committed < txid → tally txid d.pending ≡ 0 → attempts_of txid d.attempts < t.attempts
@@ -82,13 +84,13 @@ last_some t cut a txid is = by (nat_lt a.root.attempt t.attempts) refl
         (same_some a.root.txid txid (sym e ∙ is), ltb-false a.root.attempt t.attempts off)
 
 module _ (t : Topology) (cut : Cut) (d : Desk) (fates : List Attempt) (before behind : List Wait) (w : Wait) (h : Holds t cut (record d { pending = before ++ w ∷ behind }) fates) where
-  itself : IsBegun cut d.attempts d.committed d.tick w
-  itself = (each-back (IsBegun cut d.attempts d.committed d.tick) before (w ∷ behind) h.waits).0
+  itself : IsBegun t cut d.attempts d.committed d.tick w
+  itself = (each-back (IsBegun t cut d.attempts d.committed d.tick) before (w ∷ behind) h.waits).0
 
-  beside : AllByRecursion (IsBegun cut d.attempts d.committed d.tick) (before ++ behind)
+  beside : AllByRecursion (IsBegun t cut d.attempts d.committed d.tick) (before ++ behind)
   beside =
-      each-append (IsBegun cut d.attempts d.committed d.tick) before behind (each-front (IsBegun cut d.attempts d.committed d.tick) before (w ∷ behind) h.waits)
-      (each-back (IsBegun cut d.attempts d.committed d.tick) before (w ∷ behind) h.waits).1
+      each-append (IsBegun t cut d.attempts d.committed d.tick) before behind (each-front (IsBegun t cut d.attempts d.committed d.tick) before (w ∷ behind) h.waits)
+      (each-back (IsBegun t cut d.attempts d.committed d.tick) before (w ∷ behind) h.waits).1
 
   -- it is the next one of its transaction that ends
   next : w.root.attempt ≡ length (attempt_numbers w.root.txid fates) + 1
@@ -105,8 +107,8 @@ module _ (t : Topology) (cut : Cut) (d : Desk) (fates : List Attempt) (before be
     told = h.told;
     begun = λ txid. (let e = h.begun txid in let s = same txid in omega arith);
     one = λ txid. (let o = h.one txid in let s = same txid in omega arith);
-    waits = each-append (IsBegun cut d.attempts d.committed d.tick) before (record w { settled = Some list } ∷ behind) (each-front (IsBegun cut d.attempts d.committed d.tick) before (w ∷ behind) h.waits)
-        (now, (each-back (IsBegun cut d.attempts d.committed d.tick) before (w ∷ behind) h.waits).1);
+    waits = each-append (IsBegun t cut d.attempts d.committed d.tick) before (record w { settled = Some list } ∷ behind) (each-front (IsBegun t cut d.attempts d.committed d.tick) before (w ∷ behind) h.waits)
+        (now, (each-back (IsBegun t cut d.attempts d.committed d.tick) before (w ∷ behind) h.waits).1);
     few = (let f = h.few in let x = length-split before behind w in let y = length-split before behind (record w { settled = Some list }) in omega arith);
     most = h.most;
     goes_on = λ none txid later free. h.goes_on none txid later (let s = same txid in omega arith);
@@ -118,11 +120,12 @@ module _ (t : Topology) (cut : Cut) (d : Desk) (fates : List Attempt) (before be
           let x = tally-split txid before behind w in
           let y = tally-split txid before behind (record w { settled = Some list }) in omega arith
 
-      now : IsBegun cut d.attempts d.committed d.tick (record w { settled = Some list })
+      now : IsBegun t cut d.attempts d.committed d.tick (record w { settled = Some list })
       now = record {
         number = itself.number;
         later = itself.later;
         there = itself.there;
+        near = itself.near;
         starts = itself.starts;
         closed = λ other is. subst IsClosed (same_some list other is) closed;
       }
@@ -134,9 +137,9 @@ module _ (t : Topology) (cut : Cut) (d : Desk) (fates : List Attempt) (before be
         let there = itself.there in
         let least : 1 ≤ w.root.txid = omega arith in record { is_there = (least, there); first = refl; last = refl }
 
-    told_one : (b : Bool) → is_committed how ≡ b → (b ≡ true → w.root.txid ≡ d.committed + 1)
+    told_one : (b : Bool) → is_committed how ≡ b → (b ≡ true → w.root.txid ≡ d.committed + 1) → (IsTrue (is_failed_commit how) → w.root.txid ≡ d.committed + 1)
         → Told (length cut.records) cut.size (one_more b d.committed) d.tick (fates ++ ended_at cut d.tick how w ∷ [])
-    told_one b is by_turn = told_push (length cut.records) cut.size d.committed d.tick fates h.told (ended_at cut d.tick how w) its_batch itself.starts refl next itself.later b is by_turn
+    told_one b is by_turn failed = told_push (length cut.records) cut.size d.committed d.tick fates h.told (ended_at cut d.tick how w) its_batch itself.starts refl next itself.later b is by_turn failed
 
     begun_one : (txid : ℕ) → attempts_of txid d.attempts ≡ length (attempt_numbers txid (fates ++ ended_at cut d.tick how w ∷ [])) + tally txid (before ++ behind)
     begun_one txid =
@@ -185,10 +188,10 @@ module _ (t : Topology) (cut : Cut) (d : Desk) (fates : List Attempt) (before be
         (subst (λ (k : ℕ). length (attempt_numbers k (fates ++ ended_at cut d.tick how w ∷ [])) ≡ t.attempts) l.0 all, omega arith)
 
     -- an attempt ends, without a commit
-    pub holds_end : is_committed how ≡ false
+    pub holds_end : is_committed how ≡ false → (IsTrue (is_failed_commit how) → w.root.txid ≡ d.committed + 1)
         → Holds t cut (record d { pending = before ++ behind; exhausted = or_else d.exhausted (last_try t cut (ended_at cut d.tick how w)) }) (fates ++ ended_at cut d.tick how w ∷ [])
-    holds_end is = record {
-      told = told_one false is (λ on. absurd (elsewhere on));
+    holds_end is failed = record {
+      told = told_one false is (λ on. absurd (elsewhere on)) failed;
       begun = begun_one;
       one = one_less;
       waits = beside;
@@ -205,11 +208,11 @@ module _ (t : Topology) (cut : Cut) (d : Desk) (fates : List Attempt) (before be
     pub holds_commit : is_committed how ≡ true → w.root.txid ≡ d.committed + 1 → d.exhausted ≡ None
         → Holds t cut (record d { pending = before ++ behind; committed = d.committed + 1; out = false }) (fates ++ ended_at cut d.tick how w ∷ [])
     holds_commit is turn none = record {
-      told = told_one true is (λ on. turn);
+      told = told_one true is (λ on. turn) (λ fell. turn);
       begun = begun_one;
       one = one_less;
-      waits = each-weaker (λ (v : Wait). IsBegun cut d.attempts d.committed d.tick v × (v.root.txid ≢ w.root.txid)) (IsBegun cut d.attempts (d.committed + 1) d.tick) still_later (before ++ behind)
-          (each-both (IsBegun cut d.attempts d.committed d.tick) (λ (v : Wait). v.root.txid ≢ w.root.txid) (before ++ behind) beside (others-beside before behind w h.one));
+      waits = each-weaker (λ (v : Wait). IsBegun t cut d.attempts d.committed d.tick v × (v.root.txid ≢ w.root.txid)) (IsBegun t cut d.attempts (d.committed + 1) d.tick) still_later (before ++ behind)
+          (each-both (IsBegun t cut d.attempts d.committed d.tick) (λ (v : Wait). v.root.txid ≢ w.root.txid) (before ++ behind) beside (others-beside before behind w h.one));
       few = fewer;
       most = h.most;
       goes_on = λ goes txid later free. h.goes_on none txid (omega arith)
@@ -217,11 +220,12 @@ module _ (t : Topology) (cut : Cut) (d : Desk) (fates : List Attempt) (before be
       ran_out = λ txid some. absurd (none_some txid (sym none ∙ some));
     }
       where
-        still_later : (v : Wait) → IsBegun cut d.attempts d.committed d.tick v × (v.root.txid ≢ w.root.txid) → IsBegun cut d.attempts (d.committed + 1) d.tick v
+        still_later : (v : Wait) → IsBegun t cut d.attempts d.committed d.tick v × (v.root.txid ≢ w.root.txid) → IsBegun t cut d.attempts (d.committed + 1) d.tick v
         still_later v both = record {
           number = both.0.number;
           later = (let l = both.0.later in let o : v.root.txid ≢ d.committed + 1 = (λ same. both.1 (same ∙ sym turn)) in omega arith);
           there = both.0.there;
+          near = (let n = both.0.near in omega arith);
           starts = both.0.starts;
           closed = both.0.closed;
         }
@@ -232,25 +236,26 @@ holds_tick t cut d fates h = record {
   told = told_tick (length cut.records) cut.size d.committed d.tick fates h.told;
   begun = h.begun;
   one = h.one;
-  waits = each-weaker (IsBegun cut d.attempts d.committed d.tick) (IsBegun cut d.attempts d.committed (d.tick + 1)) later d.pending h.waits;
+  waits = each-weaker (IsBegun t cut d.attempts d.committed d.tick) (IsBegun t cut d.attempts d.committed (d.tick + 1)) later d.pending h.waits;
   few = h.few;
   most = h.most;
   goes_on = h.goes_on;
   ran_out = h.ran_out;
 }
   where
-    later : (w : Wait) → IsBegun cut d.attempts d.committed d.tick w → IsBegun cut d.attempts d.committed (d.tick + 1) w
+    later : (w : Wait) → IsBegun t cut d.attempts d.committed d.tick w → IsBegun t cut d.attempts d.committed (d.tick + 1) w
     later w is = record {
       number = is.number;
       later = is.later;
       there = is.there;
+      near = is.near;
       starts = (let s = is.starts in omega arith);
       closed = is.closed;
     }
 
 module _ (t : Topology) (cut : Cut) (d : Desk) (fates : List Attempt) (root : Root) (h : Holds t cut d fates) (none : d.exhausted ≡ None) (free : tally root.txid d.pending ≡ 0)
     (next_one : root.attempt ≡ attempts_of root.txid d.attempts + 1) (allowed : root.attempt ≤ t.attempts) (room : length d.pending < t.pending) (after : d.committed < root.txid)
-    (there : root.txid ≤ batch_count (length cut.records) cut.size) where
+    (there : root.txid ≤ batch_count (length cut.records) cut.size) (near : root.txid ≤ d.committed + t.pending) where
   abbrev counts : Counts
   counts = fin_map.insert d.attempts root.txid root.attempt
 
@@ -303,20 +308,22 @@ module _ (t : Topology) (cut : Cut) (d : Desk) (fates : List Attempt) (root : Ro
             let g = h.goes_on none txid later (omega arith) in omega arith
       ]
 
-  stays : (v : Wait) → IsBegun cut d.attempts d.committed d.tick v × (v.root.txid ≢ root.txid) → IsBegun cut counts d.committed d.tick v
+  stays : (v : Wait) → IsBegun t cut d.attempts d.committed d.tick v × (v.root.txid ≢ root.txid) → IsBegun t cut counts d.committed d.tick v
   stays v both = record {
     number = both.0.number ∙ sym (insert-other d.attempts root.txid root.attempt v.root.txid (λ same. both.1 (sym same)));
     later = both.0.later;
     there = both.0.there;
+    near = both.0.near;
     starts = both.0.starts;
     closed = both.0.closed;
   }
 
-  first : IsBegun cut counts d.committed d.tick fresh
+  first : IsBegun t cut counts d.committed d.tick fresh
   first = record {
     number = sym (insert-own d.attempts root.txid root.attempt root.txid refl);
     later = after;
     there = there;
+    near = near;
     starts = omega arith;
     closed = λ list is. absurd (none_some list is);
   }
@@ -327,9 +334,9 @@ module _ (t : Topology) (cut : Cut) (d : Desk) (fates : List Attempt) (root : Ro
     told = h.told;
     begun = begun_more;
     one = one_more_pending;
-    waits = each-append (IsBegun cut counts d.committed d.tick) d.pending (fresh ∷ [])
-        (each-weaker (λ (v : Wait). IsBegun cut d.attempts d.committed d.tick v × (v.root.txid ≢ root.txid)) (IsBegun cut counts d.committed d.tick) stays d.pending
-        (each-both (IsBegun cut d.attempts d.committed d.tick) (λ (v : Wait). v.root.txid ≢ root.txid) d.pending h.waits (others root.txid d.pending free)))
+    waits = each-append (IsBegun t cut counts d.committed d.tick) d.pending (fresh ∷ [])
+        (each-weaker (λ (v : Wait). IsBegun t cut d.attempts d.committed d.tick v × (v.root.txid ≢ root.txid)) (IsBegun t cut counts d.committed d.tick) stays d.pending
+        (each-both (IsBegun t cut d.attempts d.committed d.tick) (λ (v : Wait). v.root.txid ≢ root.txid) d.pending h.waits (others root.txid d.pending free)))
         (first, tt);
     few = (let l = length-append d.pending (fresh ∷ []) in omega arith);
     most = at_most;

@@ -1,16 +1,15 @@
 -- What the coordinator keeps, as what holds while a turn goes on, and back.
-use Rattle.std.proofs.Common.{◌≡◌, ℕ, ◌+◌, ◌<◌, ◌≤◌, Bool, true, false, cond, Option, None, Some, List, [], ◌∷◌, length, map, filter, refl, sym, ap, subst, ◌∙◌, arith}
+use Rattle.std.proofs.Common.{◌≡◌, ℕ, ◌+◌, ◌<◌, ◌≤◌, Bool, true, false, cond, None, List, [], ◌∷◌, length, map, filter, refl, sym, ap, subst, ◌∙◌, arith}
 use Rattle.std.specs.Prelude.{IsTrue}
-use Rattle.std.specs.List.{All, AllByRecursion}
+use Rattle.std.specs.List.{AllByRecursion}
 use Rattle.std.proofs.lemmas.List.Elements.{All-from_recursion, recursion_from_All}
 use Rattle.attempt_fates.specs.declared.fates.Attempt.{Attempt}
-use Rattle.attempt_fates.specs.Fates.{IsOnce, attempt_numbers, committed_txids, is_committed}
+use Rattle.attempt_fates.specs.Fates.{attempt_numbers, committed_txids, is_committed}
 use Rattle.counted_items.proofs.Each.{each-weaker, each-both}
 use Rattle.topology_plan.specs.Topology.{Topology}
-use Rattle.tree_model.specs.Lists.{IsClosed}
 use Rattle.trident_batches.specs.Batches.{Cut}
 use Rattle.commit_turns.specs.declared.wait.Wait.{Wait}
-use Rattle.commit_turns.specs.Desks.{Desk, has_txid}
+use Rattle.commit_turns.specs.Desks.{Desk}
 use Rattle.commit_turns.specs.Kept.{IsKept, IsWaiting}
 use Rattle.commit_turns.proofs.Holding.{Holds, IsBegun}
 use Rattle.commit_turns.proofs.Lists.{range_below}
@@ -61,6 +60,7 @@ module _ (t : Topology) (cut : Cut) (d : Desk) (fates : List Attempt) where
       handed_out = kept.once.handed_out;
       past = past_of d.committed fates
           (subst (AllByRecursion (λ (k : ℕ). k ≤ d.committed)) (sym kept.once.in_order) (range_below 1 (length (committed_txids fates)) d.committed (let c = kept.commits in omega arith)));
+      fails = kept.fails_in_turn;
     }
 
     holds_kept : Holds t cut d fates
@@ -68,8 +68,8 @@ module _ (t : Topology) (cut : Cut) (d : Desk) (fates : List Attempt) where
       told = told;
       begun = λ txid. kept.begun txid ∙ ap (λ (k : ℕ). length (attempt_numbers txid fates) + k) (has-tally txid d.pending (few txid));
       one = few;
-      waits = each-weaker (IsWaiting t cut d) (IsBegun cut d.attempts d.committed d.tick)
-          (λ w is. record { number = is.number; later = is.later; there = is.there; starts = is.starts; closed = is.closed }) d.pending waits;
+      waits = each-weaker (IsWaiting t cut d) (IsBegun t cut d.attempts d.committed d.tick)
+          (λ w is. record { number = is.number; later = is.later; there = is.there; near = is.near; starts = is.starts; closed = is.closed }) d.pending waits;
       few = kept.few;
       most = kept.most;
       goes_on = λ none txid later free. kept.goes_on none txid later (none-has txid d.pending free);
@@ -95,10 +95,11 @@ module _ (t : Topology) (cut : Cut) (d : Desk) (fates : List Attempt) where
       handed_out = h.told.handed_out;
     };
     commits = h.told.commits;
+    fails_in_turn = h.told.fails;
     begun = λ txid. h.begun txid ∙ ap (λ (k : ℕ). length (attempt_numbers txid fates) + k) (sym (has-tally txid d.pending (h.one txid)));
     waits = All-from_recursion (IsWaiting t cut d) d.pending
-        (each-weaker (λ (w : Wait). IsBegun cut d.attempts d.committed d.tick w × IsTimely t.buckets d.tick w) (IsWaiting t cut d) waiting d.pending
-        (each-both (IsBegun cut d.attempts d.committed d.tick) (IsTimely t.buckets d.tick) d.pending h.waits going.timely));
+        (each-weaker (λ (w : Wait). IsBegun t cut d.attempts d.committed d.tick w × IsTimely t.buckets d.tick w) (IsWaiting t cut d) waiting d.pending
+        (each-both (IsBegun t cut d.attempts d.committed d.tick) (IsTimely t.buckets d.tick) d.pending h.waits going.timely));
     apart = apart-of-few d.pending h.one;
     few = h.few;
     most = h.most;
@@ -109,11 +110,12 @@ module _ (t : Topology) (cut : Cut) (d : Desk) (fates : List Attempt) where
       h : Holds t cut d fates
       h = going.holds
 
-      waiting : (w : Wait) → IsBegun cut d.attempts d.committed d.tick w × IsTimely t.buckets d.tick w → IsWaiting t cut d w
+      waiting : (w : Wait) → IsBegun t cut d.attempts d.committed d.tick w × IsTimely t.buckets d.tick w → IsWaiting t cut d w
       waiting w both = record {
         number = both.0.number;
         later = both.0.later;
         there = both.0.there;
+        near = both.0.near;
         starts = both.0.starts;
         not_late = both.1;
         closed = both.0.closed;

@@ -1,5 +1,5 @@
 -- What the laws say.
-use Rattle.std.proofs.Common.{◌≡◌, ℕ, ◌+◌, ◌<◌, ◌≤◌, Bool, true, false, cond, Option, None, Some, List, [], ◌∷◌, ◌++◌, length, map, refl, sym, ap, subst, ◌∙◌, arith}
+use Rattle.std.proofs.Common.{◌≡◌, ℕ, ◌+◌, ◌<◌, ◌≤◌, Bool, true, false, cond, Option, None, Some, List, [], ◌∷◌, ◌++◌, length, refl, sym, ap, subst, ◌∙◌, arith}
 use Rattle.std.specs.Option.{option_to_list}
 use Rattle.std.proofs.lemmas.List.{append-nil, append_assoc, map-append}
 use Rattle.std.proofs.lemmas.List.Elements.{All-nil}
@@ -25,13 +25,14 @@ use Rattle.commit_turns.specs.Account.{desk_of, ends_of, rows_in}
 use Rattle.commit_turns.specs.Desks.{Desk, first_desk, timed_of}
 use Rattle.commit_turns.specs.Kept.{IsKept, IsWaiting}
 use Rattle.commit_turns.specs.Outcomes.{Begin, IsOutcome, hears}
-use Rattle.commit_turns.specs.Turns.{begun, complete_timed, decided, end_timed, filled, heard, is_closed, next_root, ordered, turned}
+use Rattle.commit_turns.specs.Turns.{begun, complete_timed, decided, end_timed, heard, is_closed, next_root, ordered, turned}
 use Rattle.commit_turns.proofs.Accounting.{HasBooks, decide_books, turn_books}
 use Rattle.commit_turns.proofs.Booking.{IsNumbered, is_root, numbered_begun}
 use Rattle.commit_turns.proofs.Deciding.{going_decided}
 use Rattle.commit_turns.proofs.Fitting.{books_of, fits_of, roots_of}
 use Rattle.commit_turns.proofs.Going.{going_out}
 use Rattle.commit_turns.proofs.Keeping.{IsGoing, going, kept_of}
+use Rattle.commit_turns.proofs.Lists.{no_end}
 use Rattle.commit_turns.proofs.Passing.{all_begun, all_turned}
 use Rattle.commit_turns.proofs.Tallies.{attempts-empty}
 use Rattle.commit_turns.proofs.Turning.{begins, going_heard, going_tick, going_turned, next_root_is}
@@ -51,6 +52,7 @@ first_kept t cut valid = record {
     handed_out = All-nil (λ (a : Attempt). a.finish ≤ 0);
   };
   commits = refl;
+  fails_in_turn = λ earlier later a e is. absurd (no_end earlier later a e);
   begun = λ txid. (let e = attempts-empty txid in omega arith);
   waits = All-nil (IsWaiting t cut first_desk);
   apart = λ i j d low high. absurd (omega arith);
@@ -90,7 +92,7 @@ module _ (t : Topology) (cut : Cut) (d : Desk) (fates : List Attempt) (valid : I
         → Fits t (rows_in cut) (desk_of (turned t cut verdict ticks d).desk) (ends_of (fates ++ (turned t cut verdict ticks d).ended)) (joined h (hears verdict openings))
     turn_fits verdict ticks openings begin quiet =
         let few : (root : Root) → weigh (is_about root) (h.heard ++ option_to_list verdict) ≤ weigh (is_root root) (roots_of h.begun) =
-            (λ root. subst (λ (n : ℕ). weigh (is_about root) (h.heard ++ option_to_list verdict) ≤ n) (sym (weigh-map (is_root root) (λ (o : Opening). o.begun.root) h.begun)) (quiet root)) in
+        (λ root. subst (λ (n : ℕ). weigh (is_about root) (h.heard ++ option_to_list verdict) ≤ n) (sym (weigh-map (is_root root) (λ (o : Opening). o.begun.root) h.begun)) (quiet root)) in
         let both = turn_books t cut valid d fates none (going t cut d fates kept) (roots_of h.begun) h.heard (books_of t cut d fates h fits) verdict ticks few in
         fits_of t cut (turned t cut verdict ticks d).desk (fates ++ (turned t cut verdict ticks d).ended) (joined h (hears verdict openings)) both.0
         (subst (λ (rs : List Root). HasBooks t (turned t cut verdict ticks d).desk (fates ++ (turned t cut verdict ticks d).ended) rs (h.heard ++ option_to_list verdict)) (new_roots verdict ticks openings begin) both.1)
@@ -131,11 +133,12 @@ module _ (t : Topology) (cut : Cut) (d : Desk) (fates : List Attempt) (valid : I
     new_numbered : (verdict : Option Verdict) (ticks : ℕ) → IsNumbered (turned t cut verdict ticks d).desk.attempts (roots_of h.begun ++ (turned t cut verdict ticks d).begun)
     new_numbered verdict ticks =
         all_turned t cut verdict ticks d fates
-        (λ e ended. IsGoing t cut e ended × IsNumbered e.attempts (roots_of h.begun)) (λ e ended new. IsNumbered e.attempts (roots_of h.begun ++ new))
-        (going_heard t cut d fates (going t cut d fates kept) none verdict,
-        subst (λ (c : Counts). IsNumbered c (roots_of h.begun)) (sym (heard_attempts verdict)) (books_of t cut d fates h fits).numbered)
+        (λ e ended. IsGoing t cut e ended × IsNumbered e.attempts (roots_of h.begun)) (λ e ended new. IsNumbered e.attempts (roots_of h.begun ++ new)) (
+          going_heard t cut d fates (going t cut d fates kept) none verdict,
+          subst (λ (c : Counts). IsNumbered c (roots_of h.begun)) (sym (heard_attempts verdict)) (books_of t cut d fates h fits).numbered,
+        )
         (λ e ended goes both. (going_tick t cut e ended goes both.0, both.1))
-        (λ e ended both. subst (IsNumbered e.attempts) (sym (append-nil (roots_of h.begun))) both.1)
+        (λ e ended txid is both. subst (IsNumbered e.attempts) (sym (append-nil (roots_of h.begun))) both.1)
         (λ e ended still_none both. (all_begun t cut (IsFilling ended) (one_begins ended) t.pending (ordered t cut e) []
         (record { still = going_out t cut e ended (ordered t cut e).out both.0; none_out = still_none; numbered = subst (IsNumbered e.attempts) (sym (append-nil (roots_of h.begun))) both.1 })).numbered)
 

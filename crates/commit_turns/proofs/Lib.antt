@@ -8,8 +8,10 @@ mod Closing
 mod Going
 mod Deciding
 mod Passing
+mod Counting
 mod Turning
 mod Booking
 mod Accounting
 mod Fitting
+mod Lowest
 mod LawLemmas

@@ -1,8 +1,8 @@
 -- Lists: pairs of items, numbers in order, items that are found, and one more item.
-use Rattle.std.proofs.Common.{◌≡◌, ℕ, zero, suc, ◌+◌, ◌-◌, ◌<◌, ◌≤◌, Bool, true, false, cond, Option, None, Some, List, [], ◌∷◌, ◌++◌, length, map, filter, refl, sym, ap, subst, ◌∙◌, arith}
+use Rattle.std.proofs.Common.{◌≡◌, ◌⊎◌, inl, inr, ℕ, zero, suc, ◌+◌, ◌-◌, ◌≤◌, Bool, true, false, cond, None, Some, List, [], ◌∷◌, ◌++◌, length, map, filter, refl, sym, ap, subst, ◌∙◌, arith}
 use Rattle.std.specs.List.{All, AllPairs, AllByRecursion, find, range_with_len}
 use Rattle.std.specs.List.Sorted.{IsNonDecreasing}
-use Rattle.std.proofs.lemmas.List.{append-nil, map-append, map-id, length-append, length-map, get_or-map}
+use Rattle.std.proofs.lemmas.List.{append-nil, map-append, map-id, length-append}
 use Rattle.std.proofs.lemmas.List.Elements.{All-from_recursion, recursion_from_All, filter-append}
 use Rattle.std.proofs.lemmas.List.FromFn.{map-range_with_len_more, length-range_with_len}
 use Rattle.std.proofs.lemmas.List.Sorted.{IsNonDecreasingBy-push}
@@ -90,6 +90,7 @@ pub record Found {X : Type 0} (test : X → Bool) (xs : List X) (x : X) : Type 0
   pub behind : List X
   pub split : xs ≡ before ++ x ∷ behind
   pub passes : test x ≡ true
+  pub missed : AllByRecursion (λ (y : X). test y ≡ false) before
 
 pub found : {X : Type 0} (test : X → Bool) (xs : List X) (x : X) → find test xs ≡ Some x → Found test xs x
 found test [] x is = absurd (none is)
@@ -101,10 +102,10 @@ found {X} test (y ∷ ys) x is = by (test y) refl is (λ later. found test ys x 
     by : (b : Bool) → test y ≡ b → cond b (Some y) (find test ys) ≡ Some x → (find test ys ≡ Some x → Found test ys x) → Found test (y ∷ ys) x
     by true on here later =
         let same : y ≡ x = cc in
-        record { before = []; behind = ys; split = ap (λ (z : X). z ∷ ys) same; passes = ap test (sym same) ∙ on }
+        record { before = []; behind = ys; split = ap (λ (z : X). z ∷ ys) same; passes = ap test (sym same) ∙ on; missed = tt }
     by false off there later =
         let rest = later there in
-        record { before = y ∷ rest.before; behind = rest.behind; split = ap (λ (zs : List X). y ∷ zs) rest.split; passes = rest.passes }
+        record { before = y ∷ rest.before; behind = rest.behind; split = ap (λ (zs : List X). y ∷ zs) rest.split; passes = rest.passes; missed = (off, rest.missed) }
 
 pub none_found : {X : Type 0} (test : X → Bool) (xs : List X) → find test xs ≡ None → AllByRecursion (λ (x : X). test x ≡ false) xs
 none_found test [] is = tt
@@ -117,3 +118,47 @@ none_found {X} test (y ∷ ys) is = by (test y) refl is (λ later. none_found te
         some : Some y ≡ None → ⊥
         some e = cc
     by false off there later = (off, later there)
+
+-- ---- the last item, or one before it
+
+pub no_end : {X : Type 0} (earlier later : List X) (a : X) → [] ≡ earlier ++ a ∷ later → ⊥
+no_end [] later a e = cc
+no_end (x ∷ earlier) later a e = cc
+
+pub last_or_front : {X : Type 0} (xs earlier later : List X) (x a : X) → xs ++ x ∷ [] ≡ earlier ++ a ∷ later
+    → ((rest : List X) × (xs ≡ earlier ++ a ∷ rest)) ⊎ ((xs ≡ earlier) × (x ≡ a))
+last_or_front [] [] later x a e = inr (refl, first e)
+  where
+    first : x ∷ [] ≡ a ∷ later → x ≡ a
+    first e = cc
+last_or_front [] (y ∷ earlier) later x a e = absurd (no_end earlier later a (rest e))
+  where
+    rest : x ∷ [] ≡ y ∷ (earlier ++ a ∷ later) → [] ≡ earlier ++ a ∷ later
+    rest e = cc
+last_or_front (z ∷ xs) [] later x a e = inl (xs, ap (λ y. y ∷ xs) (first e))
+  where
+    first : z ∷ (xs ++ x ∷ []) ≡ a ∷ later → z ≡ a
+    first e = cc
+last_or_front (z ∷ xs) (y ∷ earlier) later x a e =
+    elim (last_or_front xs earlier later x a (rest e)) [
+      | inl before ↦ inl (before.0, λ i. first e i ∷ before.1 i)
+      | inr last ↦ inr ((λ i. first e i ∷ last.0 i), last.1)
+    ]
+  where
+    first : z ∷ (xs ++ x ∷ []) ≡ y ∷ (earlier ++ a ∷ later) → z ≡ y
+    first e = cc
+
+    rest : z ∷ (xs ++ x ∷ []) ≡ y ∷ (earlier ++ a ∷ later) → xs ++ x ∷ [] ≡ earlier ++ a ∷ later
+    rest e = cc
+
+-- the place of a number in a range
+pub range_place : (a n : ℕ) (before behind : List ℕ) (x : ℕ) → range_with_len a n ≡ before ++ x ∷ behind → x ≡ a + length before
+range_place a zero before behind x e = absurd (no_end before behind x e)
+range_place a (suc n) [] behind x e = let f = first e in omega arith
+  where
+    first : a ∷ range_with_len (a + 1) n ≡ x ∷ behind → x ≡ a
+    first e = cc
+range_place a (suc n) (y ∷ before) behind x e = let f = range_place (a + 1) n before behind x (rest e) in omega arith
+  where
+    rest : a ∷ range_with_len (a + 1) n ≡ y ∷ (before ++ x ∷ behind) → range_with_len (a + 1) n ≡ before ++ x ∷ behind
+    rest e = cc

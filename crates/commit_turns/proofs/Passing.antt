@@ -1,5 +1,5 @@
 -- What each step of ticks and of filling keeps, whatever it is, the whole of them keeps.
-use Rattle.std.proofs.Common.{◌≡◌, ℕ, zero, suc, ◌+◌, Bool, true, false, cond, not, Option, None, Some, List, [], ◌∷◌, ◌++◌, map, filter, refl, sym, ap, subst, ◌∙◌}
+use Rattle.std.proofs.Common.{◌≡◌, ℕ, zero, suc, Bool, true, false, cond, not, Option, None, Some, List, [], ◌∷◌, ◌++◌, map, filter, refl, sym, subst}
 use Rattle.std.proofs.lemmas.List.{append-nil, append_assoc}
 use Rattle.attempt_fates.specs.declared.fates.Attempt.{Attempt}
 use Rattle.attempt_fates.specs.declared.fates.End.TheVariants as end
@@ -9,8 +9,8 @@ use Rattle.storm_values.specs.Lines.{first_some}
 use Rattle.topology_plan.specs.Topology.{Topology}
 use Rattle.trident_batches.specs.Batches.{Cut}
 use Rattle.commit_turns.specs.declared.wait.Wait.{Wait}
-use Rattle.commit_turns.specs.Desks.{Desk, Progress, ended_at, is_late, still}
-use Rattle.commit_turns.specs.Turns.{Filled, begun, fill_more, filled, has_no_tick, heard, last_try, late_at, next_root, one_tick, ordered, passed, ticked, turned, turned_by}
+use Rattle.commit_turns.specs.Desks.{Desk, ended_at, is_late, still}
+use Rattle.commit_turns.specs.Turns.{begun, fill_more, filled, has_no_tick, heard, last_try, late_at, next_root, one_tick, ordered, passed, ticked, turned, turned_by}
 use Rattle.commit_turns.proofs.Holding.{or_else}
 
 module _ (t : Topology) (cut : Cut) where
@@ -93,7 +93,7 @@ module _ (t : Topology) (cut : Cut) where
   module _ (verdict : Option Verdict) (ticks : ℕ) (d : Desk) (fates : List Attempt) (P : Desk → List Attempt → Type 0) (Q : Desk → List Attempt → List Root → Type 0)
       (hear : P (heard t cut verdict d).desk (fates ++ (heard t cut verdict d).ended))
       (step : (e : Desk) (ended : List Attempt) → has_no_tick t cut e ≡ false → P e ended → P (one_tick t cut e).desk (ended ++ (one_tick t cut e).ended))
-      (stop : (e : Desk) (ended : List Attempt) → P e ended → Q e ended [])
+      (stop : (e : Desk) (ended : List Attempt) (txid : ℕ) → e.exhausted ≡ Some txid → P e ended → Q e ended [])
       (fill : (e : Desk) (ended : List Attempt) → e.exhausted ≡ None → P e ended → Q (filled t cut t.pending (ordered t cut e)).desk ended (filled t cut t.pending (ordered t cut e)).roots) where
     after_ticks : P (passed t cut ticks (heard t cut verdict d)).desk (fates ++ (passed t cut ticks (heard t cut verdict d)).ended)
     after_ticks =
@@ -105,5 +105,5 @@ module _ (t : Topology) (cut : Cut) where
       where
         by : (o : Option ℕ) → (passed t cut ticks (heard t cut verdict d)).desk.exhausted ≡ o
             → Q (turned_by t cut o (passed t cut ticks (heard t cut verdict d))).desk (fates ++ (turned_by t cut o (passed t cut ticks (heard t cut verdict d))).ended) (turned_by t cut o (passed t cut ticks (heard t cut verdict d))).begun
-        by (Some txid) is = stop (passed t cut ticks (heard t cut verdict d)).desk (fates ++ (passed t cut ticks (heard t cut verdict d)).ended) after_ticks
+        by (Some txid) is = stop (passed t cut ticks (heard t cut verdict d)).desk (fates ++ (passed t cut ticks (heard t cut verdict d)).ended) txid is after_ticks
         by None is = fill (passed t cut ticks (heard t cut verdict d)).desk (fates ++ (passed t cut ticks (heard t cut verdict d)).ended) is after_ticks

@@ -1,5 +1,5 @@
 -- Batches that are committed in order have the records 1, 2 and on.
-use Rattle.std.proofs.Common.{◌≡◌, ℕ, zero, suc, ◌+◌, ◌-◌, ◌*◌, ◌<◌, ◌≤◌, inl, inr, List, [], ◌∷◌, ◌++◌, length, map, flat_map, refl, sym, ap, subst, ◌∙◌, arith}
+use Rattle.std.proofs.Common.{◌≡◌, ℕ, zero, suc, ◌+◌, ◌-◌, ◌*◌, ◌<◌, ◌≤◌, inl, inr, List, [], ◌∷◌, ◌++◌, length, map, flat_map, refl, sym, ap, ◌∙◌, arith}
 use Rattle.std.specs.Prelude.{min}
 use Rattle.std.specs.List.{All, AllByRecursion, range_with_len}
 use Rattle.std.proofs.Math.Nat.{mul-le-mul_right}
@@ -9,7 +9,7 @@ use Rattle.std.proofs.lemmas.List.{append-nil, length-map}
 use Rattle.std.proofs.lemmas.List.Elements.{All-filter, recursion_from_All}
 use Rattle.attempt_fates.specs.declared.fates.Attempt.{Attempt}
 use Rattle.attempt_fates.specs.Fates.{IsOfBatch, committed, committed_numbers, committed_txids, is_committed, record_numbers}
-use Rattle.trident_batches.specs.Batches.{batch_count, first_of, last_of}
+use Rattle.trident_batches.specs.Batches.{batch_count}
 use Rattle.commit_turns.proofs.Lists.{InOrder, in_order_of}
 
 range_append : (a n m : ℕ) → range_with_len a (n + m) ≡ range_with_len a n ++ range_with_len (a + n) m
@@ -92,5 +92,5 @@ module _ (n size : ℕ) (some : 0 < size) where
       let first : 1 ≡ 0 + 1 = omega arith in
       let start : 0 * size + 1 ≡ 1 = omega arith in
       let r = from (committed fates) 0 (in_order ∙ ap (range_with_len 1) count ∙ ap (λ (j : ℕ). range_with_len j (length (committed fates))) first)
-          (recursion_from_All (IsOfBatch n size) (committed fates) (All-filter (λ (a : Attempt). is_committed a.end) (IsOfBatch n size) fates of)) in
+      (recursion_from_All (IsOfBatch n size) (committed fates) (All-filter (λ (a : Attempt). is_committed a.end) (IsOfBatch n size) fates of)) in
       in_order_of (committed_numbers fates) r.many (r.is ∙ ap (λ (j : ℕ). range_with_len j r.many) start)

@@ -1,18 +1,19 @@
 -- What holds of the attempts that ended, and one more.
-use Rattle.std.proofs.Common.{◌≡◌, ◌≢◌, ℕ, ◌+◌, ◌<◌, ◌≤◌, ◌==◌, Bool, true, false, cond, List, [], ◌∷◌, ◌++◌, length, get_or, map, filter, refl, sym, ap, subst, ◌∙◌, arith, eqb-true}
+use Rattle.std.proofs.Common.{◌≡◌, inl, inr, ℕ, ◌+◌, ◌<◌, ◌≤◌, ◌==◌, Bool, true, false, cond, List, [], ◌∷◌, ◌++◌, length, get_or, map, refl, sym, ap, subst, ◌∙◌, arith, eqb-true}
 use Rattle.std.specs.Prelude.{IsTrue}
-use Rattle.std.specs.List.{All, AllPairs, AllByRecursion, range_with_len}
+use Rattle.std.specs.List.{All, AllPairs, AllByRecursion}
 use Rattle.std.specs.List.Sorted.{IsNonDecreasing}
 use Rattle.std.proofs.lemmas.Bool.{false≢true}
 use Rattle.std.proofs.lemmas.List.{append-nil, map-append, length-append, length-map}
-use Rattle.std.proofs.lemmas.List.Elements.{All-from_recursion, recursion_from_All, All-push, All-map, All-weaker}
+use Rattle.std.proofs.lemmas.List.Elements.{All-from_recursion, All-push, All-map, All-weaker}
 use Rattle.std.proofs.lemmas.List.Quantifiers.{all_pairs_push}
 use Rattle.attempt_fates.specs.declared.fates.Attempt.{Attempt}
-use Rattle.attempt_fates.specs.Fates.{IsOfBatch, IsNoneAfterCommit, IsOnce, attempt_numbers, committed, committed_txids, is_committed}
-use Rattle.counted_items.proofs.Each.{each-append, each-map, each-weaker}
-use Rattle.trident_batches.specs.Batches.{Cut}
-use Rattle.commit_turns.proofs.Lists.{InOrder, in_order_more, kept_push, range_below, rises_push}
-use Rattle.commit_turns.proofs.Tallies.{own, own-itself}
+use Rattle.attempt_fates.specs.Fates.{IsOfBatch, IsNoneAfterCommit, attempt_numbers, committed_txids, is_committed}
+use Rattle.attempt_fates.specs.Fates.{committed as committed_of}
+use Rattle.counted_items.proofs.Each.{each-append, each-weaker}
+use Rattle.commit_turns.specs.Kept.{FailsInTurn, is_failed_commit}
+use Rattle.commit_turns.proofs.Lists.{InOrder, in_order_more, kept_push, last_or_front, rises_push}
+use Rattle.commit_turns.proofs.Tallies.{own}
 
 -- one more where an attempt was committed
 abbrev pub one_more : Bool → ℕ → ℕ
@@ -30,6 +31,7 @@ pub record Told (n size committed tick : ℕ) (fates : List Attempt) : Type 0 wh
   pub finishes : IsNonDecreasing (map (λ (a : Attempt). a.finish) fates)
   pub handed_out : All (λ (a : Attempt). a.finish ≤ tick) fates
   pub past : AllByRecursion (λ (a : Attempt). IsTrue (is_committed a.end) → a.root.txid ≤ committed) fates
+  pub fails : FailsInTurn fates
 
 -- ---- one more attempt
 
@@ -51,7 +53,8 @@ count_push txid fates a =
     one false = refl
 
 module _ (n size committed tick : ℕ) (fates : List Attempt) (told : Told n size committed tick fates) (a : Attempt) (of_batch : IsOfBatch n size a) (starts : a.start ≤ a.finish) (now : a.finish ≡ tick)
-    (next : a.root.attempt ≡ length (attempt_numbers a.root.txid fates) + 1) (later : committed < a.root.txid) (b : Bool) (is : is_committed a.end ≡ b) (by_turn : b ≡ true → a.root.txid ≡ committed + 1) where
+    (next : a.root.attempt ≡ length (attempt_numbers a.root.txid fates) + 1) (later : committed < a.root.txid) (b : Bool) (is : is_committed a.end ≡ b) (by_turn : b ≡ true → a.root.txid ≡ committed + 1)
+    (failed : IsTrue (is_failed_commit a.end) → a.root.txid ≡ committed + 1) where
   txids : committed_txids (fates ++ a ∷ []) ≡ committed_txids fates ++ cond b (a.root.txid ∷ []) []
   txids = txids_push fates a ∙ ap (λ (c : Bool). committed_txids fates ++ cond c (a.root.txid ∷ []) []) is
 
@@ -78,6 +81,18 @@ module _ (n size committed tick : ℕ) (fates : List Attempt) (told : Told n siz
   itself true e turn was = let t = turn refl in omega arith
   itself false e turn was = absurd (false≢true (sym e ∙ was))
 
+  fails_last : FailsInTurn (fates ++ a ∷ [])
+  fails_last earlier later x e is =
+      elim (last_or_front fates earlier later a x e) [
+        | inl front ↦ told.fails earlier front.0 x front.1 is
+        | inr last ↦
+            let here : a.root.txid ≡ committed + 1 = failed (subst (λ (y : Attempt). IsTrue (is_failed_commit y.end)) (sym last.1) is) in
+            let same : x.root.txid ≡ a.root.txid = ap (λ (y : Attempt). y.root.txid) (sym last.1) in
+            let count : length (committed_of earlier) ≡ length (committed_of fates) = ap (λ (ys : List Attempt). length (committed_of ys)) (sym last.0) in
+            let many : length (committed_txids fates) ≡ length (committed_of fates) = length-map (committed_of fates) (λ (y : Attempt). y.root.txid) in
+            let all = told.commits in omega arith
+      ]
+
   pub told_push : Told n size (one_more b committed) tick (fates ++ a ∷ [])
   told_push = record {
     in_order = subst InOrder (sym txids) (in_order_more b (committed_txids fates) a.root.txid told.in_order (λ on. by_turn on ∙ ap (λ (k : ℕ). k + 1) (sym told.commits)));
@@ -94,6 +109,7 @@ module _ (n size committed tick : ℕ) (fates : List Attempt) (told : Told n siz
         (each-weaker (λ (x : Attempt). IsTrue (is_committed x.end) → x.root.txid ≤ committed) (λ (x : Attempt). IsTrue (is_committed x.end) → x.root.txid ≤ one_more b committed)
         (λ x below was. let e = below was in let m = more b in omega arith) fates told.past)
         (itself b is by_turn, tt);
+    fails = fails_last;
   }
 
 -- ---- one more tick
@@ -109,4 +125,5 @@ told_tick n size committed tick fates told = record {
   finishes = told.finishes;
   handed_out = All-weaker (λ (x : Attempt). x.finish ≤ tick) (λ (x : Attempt). x.finish ≤ tick + 1) (λ x below. omega arith) fates told.handed_out;
   past = told.past;
+  fails = told.fails;
 }

@@ -5,7 +5,7 @@ ghost use Rattle.attempt_fates.specs.declared.fates.Attempt.{Attempt};
 ghost use Rattle.bolt_ops.specs.RowOp.{Custom};
 ghost use Rattle.commit_turns.specs.Account.{desk_of, ends_of, rows_in};
 ghost use Rattle.commit_turns.specs.Desks.{Desk, first_desk};
-ghost use Rattle.commit_turns.specs.Kept.{IsKept};
+ghost use Rattle.commit_turns.specs.Kept.{IsKept, HasLowest};
 ghost use Rattle.commit_turns.specs.Outcomes.{IsOutcome, Begin, hears};
 ghost use Rattle.commit_turns.specs.Turns.{decided, turned};
 ghost use Rattle.state_parts.specs.declared.answer.CommitOutcome.{CommitOutcome};
@@ -59,4 +59,13 @@ pub fn accounts_stay_fit()
         → (verdict : Option Verdict) (ticks : ℕ) (openings : List Opening)
         → Begin t cut openings (turned t cut verdict ticks d).begun
         → (root : Root) → weigh (opens root) h.begun + weigh (opens root) openings ≤ 1 }
+{}
+
+/// A law: after each turn that did not stop, with fewer batches committed than there are, an
+/// attempt of the lowest transaction that is not committed is pending.
+pub fn lowest_is_pending()
+    ensures { (t : Topology) (cut : Cut) (d : Desk) (fates : List Attempt)
+        → IsValid t → d.exhausted ≡ None → IsKept t cut d fates
+        → (verdict : Option Verdict) (ticks : ℕ)
+        → HasLowest cut (turned t cut verdict ticks d).desk }
 {}
