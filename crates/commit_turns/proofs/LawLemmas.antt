@@ -16,8 +16,9 @@ use Rattle.storm_values.specs.declared.value.Root.{Root}
 use Rattle.topology_plan.specs.Topology.{Topology}
 use Rattle.topology_plan.specs.Valid.{IsValid}
 use Rattle.trident_batches.specs.Batches.{Cut}
+use Rattle.tuple_account.proofs.Beginning.{fits_first}
 use Rattle.tuple_account.specs.Fits.{Fits, is_tried}
-use Rattle.tuple_account.specs.Histories.{History, Opening, joined, opens}
+use Rattle.tuple_account.specs.Histories.{History, Opening, joined, nothing, opens}
 use Rattle.tuple_account.specs.Sound.{is_about}
 use Rattle.state_parts.specs.declared.answer.CommitOutcome.{CommitOutcome}
 use Rattle.commit_turns.specs.declared.wait.Wait.{Wait}
@@ -64,6 +65,11 @@ first_kept t cut valid = record {
   where
     never : (txid : ℕ) → None ≡ Some txid → ⊥
     never txid e = cc
+
+pub first_account : (t : Topology) (cut : Cut) → Fits t (rows_in cut) (desk_of first_desk) (ends_of []) nothing
+first_account t cut =
+    subst (λ (tries : ℕ → ℕ). Fits t (rows_in cut) (record { tick = 0; committed = 0; tries = tries; pending = [] }) [] nothing) (λ i txid. sym (attempts-empty txid) i)
+    (fits_first t (rows_in cut))
 
 module _ (t : Topology) (cut : Cut) (d : Desk) (fates : List Attempt) (valid : IsValid t) (none : d.exhausted ≡ None) (kept : IsKept t cut d fates) where
   pub turn_kept : 0 < cut.size → (verdict : Option Verdict) (ticks : ℕ) → IsKept t cut (turned t cut verdict ticks d).desk (fates ++ (turned t cut verdict ticks d).ended)

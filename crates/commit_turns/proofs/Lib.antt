@@ -15,3 +15,4 @@ mod Accounting
 mod Fitting
 mod Lowest
 mod LawLemmas
+mod Examples

@@ -15,7 +15,7 @@ ghost use Rattle.topology_plan.specs.Valid.{IsValid};
 ghost use Rattle.trident_batches.specs.Batches.{Cut};
 ghost use Rattle.counted_items.specs.Weights.{weigh};
 ghost use Rattle.tuple_account.specs.Fits.{Fits};
-ghost use Rattle.tuple_account.specs.Histories.{History, Opening, joined, opens};
+ghost use Rattle.tuple_account.specs.Histories.{History, Opening, joined, nothing, opens};
 ghost use Rattle.tuple_account.specs.Sound.{is_about};
 
 /// A law: what the coordinator keeps holds at first, and after each turn and each outcome of a
@@ -37,6 +37,8 @@ pub fn desks_are_kept()
 /// A law: the coordinator's account fits what happened at first, and after each turn, with the
 /// verdict that it heard and the roots that it began, and after each outcome of a commit.
 pub fn accounts_stay_fit()
+    ensures first { (t : Topology) (cut : Cut)
+        → Fits t (rows_in cut) (desk_of first_desk) (ends_of []) nothing }
     ensures turn { (t : Topology) (cut : Cut) (d : Desk) (fates : List Attempt) (h : History)
         → IsValid t → d.exhausted ≡ None → IsKept t cut d fates
         → Fits t (rows_in cut) (desk_of d) (ends_of fates) h

@@ -1,5 +1,8 @@
-use Rattle.commit_turns.proofs.LawLemmas.{outcome_fits, turn_fits, turn_roots}
+use Rattle.commit_turns.proofs.LawLemmas.{first_account, outcome_fits, turn_fits, turn_roots}
 use Rattle.commit_turns.proofs.laws.accounts_stay_fit.Goals as goal
+
+pub returns-clause-first : goal.returns-clause-first
+returns-clause-first c = first_account
 
 pub returns-clause-turn : goal.returns-clause-turn
 returns-clause-turn c = λ t cut d fates h valid none kept fits. turn_fits t cut d fates valid none kept h fits
