@@ -1,8 +1,10 @@
 -- What the coordinator keeps from call to call: each batch is committed once at most and in order,
 -- and the attempts of a transaction run one after another. This project's own.
-use Rattle.std.specs.Prelude.{◌≡◌, ◌≢◌, ◌≤◌, ◌<◌, ℕ, ◌+◌, Bool, false, if◌then◌else◌, Option, None, Some, List, length, All, AllPairs}
+use Rattle.std.specs.Prelude.{◌≡◌, ◌≢◌, ◌≤◌, ◌<◌, ℕ, ◌+◌, Bool, true, false, IsTrue, if◌then◌else◌, None, Some, List, ◌∷◌, ◌++◌, length, All, AllPairs}
 use Rattle.attempt_fates.specs.declared.fates.Attempt.{Attempt}
-use Rattle.attempt_fates.specs.Fates.{IsOnce, attempt_numbers, committed_txids}
+use Rattle.attempt_fates.specs.declared.fates.End.{End}
+use Rattle.attempt_fates.specs.declared.fates.End.TheVariants as end
+use Rattle.attempt_fates.specs.Fates.{IsOnce, attempt_numbers, committed, committed_txids}
 use Rattle.commit_turns.specs.declared.wait.Wait.{Wait}
 use Rattle.commit_turns.specs.Desks.{Desk, has_txid}
 use Rattle.replay_pending.specs.InFlight.{attempts_of}
@@ -11,12 +13,27 @@ use Rattle.tree_model.specs.Lists.{IsClosed}
 use Rattle.tree_model.specs.declared.messages.AckMsg.{AckMsg}
 use Rattle.trident_batches.specs.Batches.{Cut, batch_count}
 
--- A pending attempt is the last one that was begun of a batch that is there and not committed. It
--- began at a tick, and is not late. A list that it was settled with is closed.
+abbrev pub is_failed_commit : End → Bool
+is_failed_commit (end.Committed list) = false
+is_failed_commit (end.Failed path) = false
+is_failed_commit end.TimedOut = false
+is_failed_commit (end.Coincided list) = false
+is_failed_commit (end.CommitFailed component part before after) = true
+
+-- each commit that failed was of the transaction right after those that were committed before it
+abbrev pub FailsInTurn : List Attempt → Type 0
+FailsInTurn fates =
+    (earlier later : List Attempt) (a : Attempt) → fates ≡ earlier ++ a ∷ later
+    → IsTrue (is_failed_commit a.end) → a.root.txid ≡ length (committed earlier) + 1
+
+-- A pending attempt is the last one that was begun of a batch that is there and not committed, and
+-- that is near the next one to be committed. It began at a tick, and is not late. A list that it
+-- was settled with is closed.
 pub record IsWaiting (t : Topology) (cut : Cut) (d : Desk) (w : Wait) : Type 0 where
   pub number : w.root.attempt ≡ attempts_of w.root.txid d.attempts
   pub later : d.committed < w.root.txid
   pub there : w.root.txid ≤ batch_count (length cut.records) cut.size
+  pub near : w.root.txid ≤ d.committed + t.pending
   pub starts : w.start ≤ d.tick
   pub not_late : w.settled ≡ None → d.tick < w.start + t.buckets
   pub closed : (list : List AckMsg) → w.settled ≡ Some list → IsClosed list
@@ -25,6 +42,7 @@ pub record IsWaiting (t : Topology) (cut : Cut) (d : Desk) (w : Wait) : Type 0 w
 pub record IsKept (t : Topology) (cut : Cut) (d : Desk) (fates : List Attempt) : Type 0 where
   pub once : IsOnce (length cut.records) cut.size d.tick fates
   pub commits : length (committed_txids fates) ≡ d.committed
+  pub fails_in_turn : FailsInTurn fates
   -- the attempts that were begun ended or are pending
   pub begun : (txid : ℕ)
       → attempts_of txid d.attempts
@@ -41,3 +59,10 @@ pub record IsKept (t : Topology) (cut : Cut) (d : Desk) (fates : List Attempt) :
   -- it stops where all attempts of a transaction ended, none by a commit
   pub ran_out : (txid : ℕ) → d.exhausted ≡ Some txid
       → (length (attempt_numbers txid fates) ≡ t.attempts) × (d.committed < txid)
+
+-- Unless the coordinator stopped or every batch is committed, an attempt of the lowest transaction
+-- that is not committed is pending.
+abbrev pub HasLowest : Cut → Desk → Type 0
+HasLowest cut d =
+    d.exhausted ≡ None → d.committed < batch_count (length cut.records) cut.size
+    → has_txid (d.committed + 1) d.pending ≡ true

@@ -5,7 +5,7 @@ ghost use Rattle.attempt_fates.specs.declared.fates.Attempt.{Attempt};
 ghost use Rattle.bolt_ops.specs.RowOp.{Custom};
 ghost use Rattle.commit_turns.specs.Account.{desk_of, ends_of, rows_in};
 ghost use Rattle.commit_turns.specs.Desks.{Desk, first_desk};
-ghost use Rattle.commit_turns.specs.Kept.{IsKept};
+ghost use Rattle.commit_turns.specs.Kept.{IsKept, HasLowest};
 ghost use Rattle.commit_turns.specs.Outcomes.{IsOutcome, Begin, hears};
 ghost use Rattle.commit_turns.specs.Turns.{decided, turned};
 ghost use Rattle.state_parts.specs.declared.answer.CommitOutcome.{CommitOutcome};
@@ -15,14 +15,14 @@ ghost use Rattle.topology_plan.specs.Valid.{IsValid};
 ghost use Rattle.trident_batches.specs.Batches.{Cut};
 ghost use Rattle.counted_items.specs.Weights.{weigh};
 ghost use Rattle.tuple_account.specs.Fits.{Fits};
-ghost use Rattle.tuple_account.specs.Histories.{History, Opening, joined, opens};
+ghost use Rattle.tuple_account.specs.Histories.{History, Opening, joined, nothing, opens};
 ghost use Rattle.tuple_account.specs.Sound.{is_about};
 
 /// A law: what the coordinator keeps holds at first, and after each turn and each outcome of a
 /// commit: each batch is committed once at most and in order, and the attempts of a transaction run
 /// one after another.
 pub fn desks_are_kept()
-    ensures first { (t : Topology) (cut : Cut) → IsKept t cut first_desk [] }
+    ensures first { (t : Topology) (cut : Cut) → IsValid t → IsKept t cut first_desk [] }
     ensures turn { (t : Topology) (cut : Cut) (d : Desk) (fates : List Attempt)
         → IsValid t → 0 < cut.size → d.exhausted ≡ None → IsKept t cut d fates
         → (verdict : Option Verdict) (ticks : ℕ)
@@ -37,6 +37,8 @@ pub fn desks_are_kept()
 /// A law: the coordinator's account fits what happened at first, and after each turn, with the
 /// verdict that it heard and the roots that it began, and after each outcome of a commit.
 pub fn accounts_stay_fit()
+    ensures first { (t : Topology) (cut : Cut)
+        → Fits t (rows_in cut) (desk_of first_desk) (ends_of []) nothing }
     ensures turn { (t : Topology) (cut : Cut) (d : Desk) (fates : List Attempt) (h : History)
         → IsValid t → d.exhausted ≡ None → IsKept t cut d fates
         → Fits t (rows_in cut) (desk_of d) (ends_of fates) h
@@ -59,4 +61,13 @@ pub fn accounts_stay_fit()
         → (verdict : Option Verdict) (ticks : ℕ) (openings : List Opening)
         → Begin t cut openings (turned t cut verdict ticks d).begun
         → (root : Root) → weigh (opens root) h.begun + weigh (opens root) openings ≤ 1 }
+{}
+
+/// A law: after each turn that did not stop, with fewer batches committed than there are, an
+/// attempt of the lowest transaction that is not committed is pending.
+pub fn lowest_is_pending()
+    ensures { (t : Topology) (cut : Cut) (d : Desk) (fates : List Attempt)
+        → IsValid t → d.exhausted ≡ None → IsKept t cut d fates
+        → (verdict : Option Verdict) (ticks : ℕ)
+        → HasLowest cut (turned t cut verdict ticks d).desk }
 {}

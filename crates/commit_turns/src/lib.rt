@@ -4,5 +4,5 @@
 mod laws;
 mod wait;
 
-pub use laws::{accounts_stay_fit, desks_are_kept};
+pub use laws::{accounts_stay_fit, desks_are_kept, lowest_is_pending};
 pub use wait::Wait;

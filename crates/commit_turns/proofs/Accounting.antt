@@ -1,0 +1,255 @@
+-- What the account keeps in a turn, and in the outcome of a commit.
+use Rattle.std.proofs.Common.{◌≡◌, ◌≢◌, ℕ, ◌+◌, ◌≤◌, ◌==◌, inl, inr, Bool, true, false, cond, not, Option, None, Some, List, [], ◌∷◌, ◌++◌, refl, sym, ap, subst, ◌∙◌, arith, eqb-true}
+use Rattle.std.specs.Prelude.{is_some}
+use Rattle.std.specs.List.{AllByRecursion}
+use Rattle.std.specs.Option.{option_to_list}
+use Rattle.std.proofs.lemmas.Bool.{and_cases, and_parts}
+use Rattle.std.proofs.lemmas.List.{append-nil, append_assoc}
+use Rattle.acker_core.specs.declared.verdict.Verdict.{Verdict}
+use Rattle.acker_core.specs.declared.verdict.Verdict.TheVariants.{Complete, Fails}
+use Rattle.attempt_fates.specs.declared.fates.Attempt.{Attempt}
+use Rattle.attempt_fates.specs.declared.fates.End.{End}
+use Rattle.attempt_fates.specs.declared.fates.End.TheVariants as end
+use Rattle.counted_items.specs.Weights.{weigh}
+use Rattle.counted_items.proofs.Each.{each-back, each-both, each-weaker}
+use Rattle.counted_items.proofs.Weighing.{weigh-append, weigh-push}
+use Rattle.rotating_ledger.proofs.RootLemmas.{root_eq-same}
+use Rattle.storm_values.specs.declared.value.Root.{Root}
+use Rattle.topology_plan.specs.Topology.{Topology}
+use Rattle.topology_plan.specs.Valid.{IsValid}
+use Rattle.tree_model.specs.Lists.{IsClosed}
+use Rattle.tree_model.specs.declared.messages.AckMsg.{AckMsg}
+use Rattle.trident_batches.specs.Batches.{Cut}
+use Rattle.tuple_account.specs.Ends.{Ended, commits_by, verdicts_by, verdicts_settled}
+use Rattle.tuple_account.specs.Fits.{CheckedBy}
+use Rattle.tuple_account.specs.Sound.{is_about}
+use Rattle.state_parts.specs.declared.answer.CommitOutcome.{CommitOutcome}
+use Rattle.state_parts.specs.declared.answer.CommitOutcome.TheVariants as outcome
+use Rattle.commit_turns.specs.declared.wait.Wait.{Wait}
+use Rattle.commit_turns.specs.Account.{ended_of, ending_of}
+use Rattle.commit_turns.specs.Desks.{Desk, ended_at, is_late, is_of_root, is_timed, settled, timed_of, without}
+use Rattle.commit_turns.specs.Outcomes.{IsOutcome}
+use Rattle.commit_turns.specs.Turns.{begun, complete_timed, decided, decided_by, end_by, end_timed, filled, heard, is_closed, last_try, next_root, next_to_commit, one_tick, ordered, turned}
+use Rattle.commit_turns.proofs.Booking.{Books, IsChecked, IsUnheard, books_begun, books_commit, books_fall, books_heard, books_settled, books_told, unheard_beside, is_root, not_begun}
+use Rattle.commit_turns.proofs.Closing.{closed_off}
+use Rattle.commit_turns.proofs.Deciding.{is_next, turn_of}
+use Rattle.commit_turns.proofs.Going.{left, going_out}
+use Rattle.commit_turns.proofs.Holding.{IsBegun, or_else}
+use Rattle.commit_turns.proofs.Keeping.{IsGoing}
+use Rattle.commit_turns.proofs.Lists.{Found, found, none_found}
+use Rattle.commit_turns.proofs.Passing.{all_begun, all_late, all_turned}
+use Rattle.commit_turns.proofs.Tallies.{other-root, others-beside, settled-split, tally}
+use Rattle.commit_turns.proofs.Turning.{begins, going_heard, going_tick, is_timed_of, next_root_is}
+
+-- the account at a desk
+abbrev pub HasBooks : Topology → Desk → List Attempt → List Root → List Verdict → Type 0
+HasBooks t d fates roots heard = Books t d.committed d.attempts d.pending fates roots heard
+
+-- ---- of others nothing is heard
+
+module _ (v : Verdict) (root : Root) (about : (r : Root) → is_about r v ≡ is_root r root) (heard : List Verdict) where
+  quiet_of : (w : Wait) → is_about w.root v ≡ 0 → IsUnheard heard w → IsUnheard (heard ++ v ∷ []) w
+  quiet_of w none before timed = let e = before timed in let p = weigh-push (is_about w.root) heard v in omega arith
+
+  other_is : (r : Root) → is_of_root root (record { root = r; start = 0; settled = None }) ≡ false → is_about r v ≡ 0
+  other_is r off = about r ∙ ap (λ (c : Bool). cond {A = ℕ} c 1 0) off
+
+  unheard_others : (ws : List Wait) → AllByRecursion (λ (w : Wait). w.root.txid ≢ root.txid) ws → AllByRecursion (IsUnheard heard) ws → AllByRecursion (IsUnheard (heard ++ v ∷ [])) ws
+  unheard_others ws differ all =
+      each-weaker (λ (w : Wait). (w.root.txid ≢ root.txid) × IsUnheard heard w) (IsUnheard (heard ++ v ∷ []))
+      (λ w both. quiet_of w (other_is w.root (other-root root w.root both.0)) both.1) ws (each-both (λ (w : Wait). w.root.txid ≢ root.txid) (IsUnheard heard) ws differ all)
+
+  untimed : (w : Wait) → is_timed_of root w ≡ false → IsUnheard heard w → IsUnheard (heard ++ v ∷ []) w
+  untimed w off before timed =
+      elim (and_cases (is_of_root root w) (is_timed w) off) [
+        | inl other ↦ quiet_of w (other_is w.root other) before timed
+        | inr settled ↦ absurd (never (sym (ap (λ (o : Option (List AckMsg)). not (is_some o)) timed) ∙ settled))
+      ]
+    where
+      never : true ≡ false → ⊥
+      never e = cc
+
+  unheard_untimed : (ws : List Wait) → AllByRecursion (λ (w : Wait). is_timed_of root w ≡ false) ws → AllByRecursion (IsUnheard heard) ws → AllByRecursion (IsUnheard (heard ++ v ∷ [])) ws
+  unheard_untimed ws off all =
+      each-weaker (λ (w : Wait). (is_timed_of root w ≡ false) × IsUnheard heard w) (IsUnheard (heard ++ v ∷ [])) (λ w both. untimed w both.0 both.1) ws
+      (each-both (λ (w : Wait). is_timed_of root w ≡ false) (IsUnheard heard) ws off all)
+
+-- ---- a verdict is heard
+
+module _ (t : Topology) (cut : Cut) (d : Desk) (fates : List Attempt) (going : IsGoing t cut d fates) (none : d.exhausted ≡ None) (roots : List Root) (told : List Verdict) (b : HasBooks t d fates roots told) where
+  module _ (v : Verdict) (root : Root) (about : (r : Root) → is_about r v ≡ is_root r root) where
+    ignored : timed_of root d.pending ≡ None → HasBooks t d (fates ++ []) roots (told ++ v ∷ [])
+    ignored at =
+        subst (λ (ended : List Attempt). HasBooks t d ended roots (told ++ v ∷ [])) (sym (append-nil fates))
+        (books_heard t d.committed d.attempts d.pending fates roots told v b (unheard_untimed v root about told d.pending (none_found (is_timed_of root) d.pending at) b.unheard))
+
+    module _ (w : Wait) (at : Found (is_timed_of root) d.pending w) where
+      abbrev Split : Type 0
+      Split = Books t d.committed d.attempts (at.before ++ w ∷ at.behind) fates roots told
+
+      split : Split
+      split = subst (λ (ps : List Wait). Books t d.committed d.attempts ps fates roots told) at.split b
+
+      same : root ≡ w.root
+      same = root_eq-same root w.root (and_parts (is_of_root root w) (is_timed w) at.passes).0
+
+      beside : AllByRecursion (λ (x : Wait). x.root.txid ≢ root.txid) (at.before ++ at.behind)
+      beside =
+          subst (λ (r : Root). AllByRecursion (λ (x : Wait). x.root.txid ≢ r.txid) (at.before ++ at.behind)) (sym same)
+          (others-beside at.before at.behind w (subst (λ (ps : List Wait). (txid : ℕ) → tally txid ps ≤ 1) at.split going.holds.one))
+
+      unheard : AllByRecursion (IsUnheard (told ++ v ∷ [])) (at.before ++ at.behind)
+      unheard = unheard_others v root about told (at.before ++ at.behind) beside (unheard_beside t cut d.committed d.attempts d.tick at.before at.behind w fates roots told split)
+
+      books_end_now : (how : End) → commits_by (ending_of how) ≡ 0 → ((f : Verdict → ℕ) → weigh f (verdicts_by w.root (ending_of how)) ≡ f v) → IsChecked t (ended_at cut d.tick how w)
+          → HasBooks t (record d { pending = without w.root d.pending }) (fates ++ ended_at cut d.tick how w ∷ []) roots (told ++ v ∷ [])
+      books_end_now how free says checked =
+          subst (λ (ps : List Wait). Books t d.committed d.attempts ps (fates ++ ended_at cut d.tick how w ∷ []) roots (told ++ v ∷ [])) (left t cut d fates going none (is_timed_of root) w at)
+          (books_told t cut d.committed d.attempts d.tick at.before at.behind w fates roots told split how free v says checked unheard)
+
+      books_settle_now : (list : List AckMsg) → ((f : Verdict → ℕ) → weigh f (verdicts_settled w.root (Some list)) ≡ f v) → HasBooks t (record d { pending = settled w.root list d.pending }) fates roots (told ++ v ∷ [])
+      books_settle_now list says =
+          subst (λ (ps : List Wait). Books t d.committed d.attempts ps fates roots (told ++ v ∷ [])) now
+          (books_settled t cut d.committed d.attempts d.tick at.before at.behind w fates roots told split list v says unheard)
+        where
+          now : at.before ++ record w { settled = Some list } ∷ at.behind ≡ settled w.root list d.pending
+          now = sym (ap (settled w.root list) at.split ∙ settled-split at.before at.behind w (subst (λ (ps : List Wait). (txid : ℕ) → tally txid ps ≤ 1) at.split going.holds.one) list)
+
+  fails : (root : Root) (path : List ℕ) (o : Option Wait) → timed_of root d.pending ≡ o
+      → HasBooks t (end_timed t cut (end.Failed path) o d).desk (fates ++ (end_timed t cut (end.Failed path) o d).ended) roots (told ++ Fails root path ∷ [])
+  fails root path None at = ignored (Fails root path) root (λ r. refl) at
+  fails root path (Some w) at =
+      let f = found (is_timed_of root) d.pending w at in
+      books_end_now (Fails root path) root (λ r. refl) w f (end.Failed path) refl
+      (λ g. (let e = ap (λ (r : Root). g (Fails r path)) (same (Fails root path) root (λ r. refl) w f) in omega arith)) tt
+
+  completes : (root : Root) (list : List AckMsg) (c : Bool) → is_closed list ≡ c → (o : Option Wait) → timed_of root d.pending ≡ o
+      → HasBooks t (complete_timed t cut list c o d).desk (fates ++ (complete_timed t cut list c o d).ended) roots (told ++ Complete root list ∷ [])
+  completes root list c is None at = ignored (Complete root list) root (λ r. refl) at
+  completes root list true is (Some w) at =
+      let f = found (is_timed_of root) d.pending w at in
+      subst (λ (ended : List Attempt). HasBooks t (record d { pending = settled w.root list d.pending }) ended roots (told ++ Complete root list ∷ [])) (sym (append-nil fates))
+      (books_settle_now (Complete root list) root (λ r. refl) w f list
+      (λ g. (let e = ap (λ (r : Root). g (Complete r list)) (same (Complete root list) root (λ r. refl) w f) in omega arith)))
+  completes root list false is (Some w) at =
+      let f = found (is_timed_of root) d.pending w at in
+      books_end_now (Complete root list) root (λ r. refl) w f (end.Coincided list) refl
+      (λ g. (let e = ap (λ (r : Root). g (Complete r list)) (same (Complete root list) root (λ r. refl) w f) in omega arith)) (closed_off list is)
+
+  pub hears_books : (verdict : Option Verdict) → HasBooks t (heard t cut verdict d).desk (fates ++ (heard t cut verdict d).ended) roots (told ++ option_to_list verdict)
+  hears_books None =
+      subst (λ (ended : List Attempt). HasBooks t d ended roots (told ++ [])) (sym (append-nil fates))
+      (subst (λ (vs : List Verdict). HasBooks t d fates roots vs) (sym (append-nil told)) b)
+  hears_books (Some (Complete root list)) = completes root list (is_closed list) refl (timed_of root d.pending) refl
+  hears_books (Some (Fails root path)) = fails root path (timed_of root d.pending) refl
+
+-- ---- a tick
+
+module _ (t : Topology) (cut : Cut) (roots : List Root) (told : List Verdict) where
+  module _ (d : Desk) (fates : List Attempt) (b : HasBooks t d fates roots told) where
+    abbrev Ticking : List Wait → Option ℕ → List Attempt → Type 0
+    Ticking ps e done = Books t d.committed d.attempts ps (fates ++ done) roots told
+
+    falls : (before behind : List Wait) (w : Wait) (e : Option ℕ) (done : List Attempt) → is_late t.buckets (d.tick + 1) w ≡ true → Ticking (before ++ w ∷ behind) e done
+        → Ticking (before ++ behind) (or_else e (last_try t cut (ended_at cut (d.tick + 1) end.TimedOut w))) (done ++ ended_at cut (d.tick + 1) end.TimedOut w ∷ [])
+    falls before behind w e done late now =
+        subst (λ (ended : List Attempt). Books t d.committed d.attempts (before ++ behind) ended roots told) (append_assoc fates done (ended_at cut (d.tick + 1) end.TimedOut w ∷ []))
+        (books_fall t cut d.committed d.attempts (d.tick + 1) before behind w (fates ++ done) roots told now end.TimedOut refl (λ f. refl)
+        (sym (eqb-true (w.start + t.buckets) (d.tick + 1) (and_parts (is_timed w) (w.start + t.buckets == d.tick + 1) late).1)))
+
+    pub tick_books : HasBooks t (one_tick t cut d).desk (fates ++ (one_tick t cut d).ended) roots told
+    tick_books = all_late t cut (d.tick + 1) Ticking falls [] d.pending None [] (subst (λ (ended : List Attempt). HasBooks t d ended roots told) (sym (append-nil fates)) b)
+
+  -- ---- roots begin
+
+  module _ (valid : IsValid t) (fates : List Attempt) (quiet : (root : Root) → weigh (is_about root) told ≤ weigh (is_root root) roots) where
+    record IsFilling (d : Desk) (new : List Root) : Type 0 where
+      going : IsGoing t cut d fates
+      none : d.exhausted ≡ None
+      books : HasBooks t d fates (roots ++ new) told
+
+    one_begins : (d : Desk) (new : List Root) (root : Root) → next_root t cut d ≡ Some root → IsFilling d new → IsFilling (begun t cut root d) (new ++ root ∷ [])
+    one_begins d new root some filling =
+        let n = next_root_is t cut d filling.going.holds.one root some in
+        let z = not_begun d.attempts root n.next (roots ++ new) filling.books.numbered in
+        let a = weigh-append (is_root root) roots new in
+        let q = quiet root in
+        let both = begins t cut valid fates d new root some (filling.going, filling.none) in
+        record {
+          going = both.0;
+          none = both.1;
+          books = subst (λ (rs : List Root). HasBooks t (begun t cut root d) fates rs told) (append_assoc roots new (root ∷ []))
+              (books_begun t d.committed d.attempts d.tick d.pending fates (roots ++ new) told filling.books root n.next (omega arith));
+        }
+
+    pub fill_books : (d : Desk) → d.exhausted ≡ None → IsGoing t cut d fates → HasBooks t d fates roots told
+        → IsGoing t cut (filled t cut t.pending (ordered t cut d)).desk fates × HasBooks t (filled t cut t.pending (ordered t cut d)).desk fates (roots ++ (filled t cut t.pending (ordered t cut d)).roots) told
+    fill_books d none going b =
+        let f = all_begun t cut IsFilling one_begins t.pending (ordered t cut d) []
+        (record { going = going_out t cut d fates (ordered t cut d).out going; none = none; books = subst (λ (rs : List Root). HasBooks t d fates rs told) (sym (append-nil roots)) b }) in
+        (f.going, f.books)
+
+-- ---- a turn
+
+pub turn_books : (t : Topology) (cut : Cut) → IsValid t → (d : Desk) (fates : List Attempt) → d.exhausted ≡ None → IsGoing t cut d fates → (roots : List Root) (told : List Verdict) → HasBooks t d fates roots told
+    → (verdict : Option Verdict) (ticks : ℕ) → ((root : Root) → weigh (is_about root) (told ++ option_to_list verdict) ≤ weigh (is_root root) roots)
+    → IsGoing t cut (turned t cut verdict ticks d).desk (fates ++ (turned t cut verdict ticks d).ended)
+    × HasBooks t (turned t cut verdict ticks d).desk (fates ++ (turned t cut verdict ticks d).ended) (roots ++ (turned t cut verdict ticks d).begun) (told ++ option_to_list verdict)
+turn_books t cut valid d fates none going roots told b verdict ticks quiet =
+    all_turned t cut verdict ticks d fates
+    (λ e ended. IsGoing t cut e ended × HasBooks t e ended roots (told ++ option_to_list verdict))
+    (λ e ended new. IsGoing t cut e ended × HasBooks t e ended (roots ++ new) (told ++ option_to_list verdict))
+    (going_heard t cut d fates going none verdict, hears_books t cut d fates going none roots told b verdict)
+    (λ e ended goes both. (going_tick t cut e ended goes both.0, tick_books t cut roots (told ++ option_to_list verdict) e ended both.1))
+    (λ e ended txid is both. (both.0, subst (λ (rs : List Root). HasBooks t e ended rs (told ++ option_to_list verdict)) (sym (append-nil roots)) both.1))
+    (λ e ended still_none both. fill_books t cut roots (told ++ option_to_list verdict) valid ended quiet e still_none both.0 both.1)
+
+-- ---- the outcome of a commit
+
+module _ (t : Topology) (cut : Cut) (d : Desk) (fates : List Attempt) (going : IsGoing t cut d fates) (none : d.exhausted ≡ None) (roots : List Root) (told : List Verdict) (b : HasBooks t d fates roots told) where
+  module _ (w : Wait) (at : Found (is_next d) d.pending w) where
+    split_one : Books t d.committed d.attempts (at.before ++ w ∷ at.behind) fates roots told
+    split_one = subst (λ (ps : List Wait). Books t d.committed d.attempts ps fates roots told) at.split b
+
+    leave : at.before ++ at.behind ≡ without w.root d.pending
+    leave = left t cut d fates going none (is_next d) w at
+
+    is_there : is_some w.settled ≡ true
+    is_there = (and_parts (w.root.txid == d.committed + 1) (is_some w.settled) at.passes).1
+
+    says : (f : Verdict → ℕ) (s : Option (List AckMsg)) → is_some s ≡ true → weigh f (verdicts_by w.root (ending_of (end_by t cut outcome.Done s))) ≡ weigh f (verdicts_settled w.root s)
+    says f None some = absurd (never some)
+      where
+        never : false ≡ true → ⊥
+        never e = cc
+    says f (Some list) some = refl
+
+    counts_one : (s : Option (List AckMsg)) → commits_by (ending_of (end_by t cut outcome.Done s)) ≡ 1
+    counts_one None = refl
+    counts_one (Some list) = refl
+
+    is_checked : (s : Option (List AckMsg)) → is_some s ≡ true → ((list : List AckMsg) → s ≡ Some list → IsClosed list) → (x : Ended) → CheckedBy t x (ending_of (end_by t cut outcome.Done s))
+    is_checked None some closed x = absurd (never some)
+      where
+        never : false ≡ true → ⊥
+        never e = cc
+    is_checked (Some list) some closed x = closed list refl
+
+    its_list : (list : List AckMsg) → w.settled ≡ Some list → IsClosed list
+    its_list = (each-back (IsBegun t cut d.attempts d.committed d.tick) at.before (w ∷ at.behind) (subst (AllByRecursion (IsBegun t cut d.attempts d.committed d.tick)) at.split going.holds.waits)).0.closed
+
+    decide_one : (how : CommitOutcome) → IsOutcome t how → HasBooks t (decided_by t cut how (Some w) d).desk (fates ++ (decided_by t cut how (Some w) d).ended) roots told
+    decide_one outcome.Done is =
+        subst (λ (ps : List Wait). Books t (d.committed + 1) d.attempts ps (fates ++ ended_at cut d.tick (end_by t cut outcome.Done w.settled) w ∷ []) roots told) leave
+        (books_commit t cut d.committed d.attempts d.tick at.before at.behind w fates roots told split_one (end_by t cut outcome.Done w.settled) (counts_one w.settled) (turn_of t cut d w at)
+        (λ f. says f w.settled is_there) (is_checked w.settled is_there its_list (ended_of (ended_at cut d.tick (end_by t cut outcome.Done w.settled) w))))
+    decide_one (outcome.Failed component part before after) is =
+        subst (λ (ps : List Wait). Books t d.committed d.attempts ps (fates ++ ended_at cut d.tick (end.CommitFailed component part before after) w ∷ []) roots told) leave
+        (books_fall t cut d.committed d.attempts d.tick at.before at.behind w fates roots told split_one (end.CommitFailed component part before after) refl (λ f. refl) is)
+
+  pub decide_books : (how : CommitOutcome) → IsOutcome t how → HasBooks t (decided t cut how d).desk (fates ++ (decided t cut how d).ended) roots told
+  decide_books how is = by (next_to_commit t cut d) refl
+    where
+      by : (o : Option Wait) → next_to_commit t cut d ≡ o → HasBooks t (decided_by t cut how o d).desk (fates ++ (decided_by t cut how o d).ended) roots told
+      by None at = subst (λ (ended : List Attempt). HasBooks t d ended roots told) (sym (append-nil fates)) b
+      by (Some w) at = decide_one w (found (is_next d) d.pending w at) how is

@@ -1,0 +1,109 @@
+-- What each step of ticks and of filling keeps, whatever it is, the whole of them keeps.
+use Rattle.std.proofs.Common.{◌≡◌, ℕ, zero, suc, Bool, true, false, cond, not, Option, None, Some, List, [], ◌∷◌, ◌++◌, map, filter, refl, sym, subst}
+use Rattle.std.proofs.lemmas.List.{append-nil, append_assoc}
+use Rattle.attempt_fates.specs.declared.fates.Attempt.{Attempt}
+use Rattle.attempt_fates.specs.declared.fates.End.TheVariants as end
+use Rattle.acker_core.specs.declared.verdict.Verdict.{Verdict}
+use Rattle.storm_values.specs.declared.value.Root.{Root}
+use Rattle.storm_values.specs.Lines.{first_some}
+use Rattle.topology_plan.specs.Topology.{Topology}
+use Rattle.trident_batches.specs.Batches.{Cut}
+use Rattle.commit_turns.specs.declared.wait.Wait.{Wait}
+use Rattle.commit_turns.specs.Desks.{Desk, ended_at, is_late, still}
+use Rattle.commit_turns.specs.Turns.{begun, fill_more, filled, has_no_tick, heard, last_try, late_at, next_root, one_tick, ordered, passed, ticked, turned, turned_by}
+use Rattle.commit_turns.proofs.Holding.{or_else}
+
+module _ (t : Topology) (cut : Cut) where
+  -- ---- the attempts that are late at a tick
+
+  abbrev pub or_all : Option ℕ → List Attempt → Option ℕ
+  or_all e [] = e
+  or_all e (a ∷ ended) = or_all (or_else e (last_try t cut a)) ended
+
+  or_all_some : (txid : ℕ) (ended : List Attempt) → or_all (Some txid) ended ≡ Some txid
+  or_all_some txid [] = refl
+  or_all_some txid (a ∷ ended) = or_all_some txid ended
+
+  pub or_all_none : (ended : List Attempt) → or_all None ended ≡ first_some (map (last_try t cut) ended)
+  or_all_none [] = refl
+  or_all_none (a ∷ ended) = by (last_try t cut a) (or_all_none ended)
+    where
+      by : (o : Option ℕ) → or_all None ended ≡ first_some (map (last_try t cut) ended) → or_all o ended ≡ first_some (o ∷ map (last_try t cut) ended)
+      by None rest = rest
+      by (Some txid) rest = or_all_some txid ended
+
+  module _ (tick : ℕ) (P : List Wait → Option ℕ → List Attempt → Type 0)
+      (step : (before behind : List Wait) (w : Wait) (e : Option ℕ) (done : List Attempt) → is_late t.buckets tick w ≡ true → P (before ++ w ∷ behind) e done
+      → P (before ++ behind) (or_else e (last_try t cut (ended_at cut tick end.TimedOut w))) (done ++ ended_at cut tick end.TimedOut w ∷ [])) where
+    pub all_late : (before rest : List Wait) (e : Option ℕ) (done : List Attempt) → P (before ++ rest) e done
+        → P (before ++ filter (λ (w : Wait). not (is_late t.buckets tick w)) rest) (or_all e (late_at t cut tick rest)) (done ++ late_at t cut tick rest)
+    all_late before [] e done p = subst (P (before ++ []) e) (sym (append-nil done)) p
+    all_late before (w ∷ rest) e done p =
+        by (is_late t.buckets tick w) refl (λ q. all_late before rest (or_else e (last_try t cut (ended_at cut tick end.TimedOut w))) (done ++ ended_at cut tick end.TimedOut w ∷ []) q)
+        (λ q. all_late (before ++ w ∷ []) rest e done q)
+      where
+        by : (b : Bool) → is_late t.buckets tick w ≡ b
+            → (P (before ++ rest) (or_else e (last_try t cut (ended_at cut tick end.TimedOut w))) (done ++ ended_at cut tick end.TimedOut w ∷ [])
+            → P (before ++ filter (λ (v : Wait). not (is_late t.buckets tick v)) rest) (or_all (or_else e (last_try t cut (ended_at cut tick end.TimedOut w))) (late_at t cut tick rest))
+            ((done ++ ended_at cut tick end.TimedOut w ∷ []) ++ late_at t cut tick rest))
+            → (P ((before ++ w ∷ []) ++ rest) e done → P ((before ++ w ∷ []) ++ filter (λ (v : Wait). not (is_late t.buckets tick v)) rest) (or_all e (late_at t cut tick rest)) (done ++ late_at t cut tick rest))
+            → P (before ++ cond (not b) (w ∷ filter (λ (v : Wait). not (is_late t.buckets tick v)) rest) (filter (λ (v : Wait). not (is_late t.buckets tick v)) rest))
+            (or_all e (map (ended_at cut tick end.TimedOut) (cond b (w ∷ filter (is_late t.buckets tick) rest) (filter (is_late t.buckets tick) rest))))
+            (done ++ map (ended_at cut tick end.TimedOut) (cond b (w ∷ filter (is_late t.buckets tick) rest) (filter (is_late t.buckets tick) rest)))
+        by true late ends stays =
+            subst (P (before ++ filter (λ (v : Wait). not (is_late t.buckets tick v)) rest) (or_all (or_else e (last_try t cut (ended_at cut tick end.TimedOut w))) (late_at t cut tick rest)))
+            (append_assoc done (ended_at cut tick end.TimedOut w ∷ []) (late_at t cut tick rest)) (ends (step before rest w e done late p))
+        by false early ends stays =
+            subst (λ (ws : List Wait). P ws (or_all e (late_at t cut tick rest)) (done ++ late_at t cut tick rest))
+            (append_assoc before (w ∷ []) (filter (λ (v : Wait). not (is_late t.buckets tick v)) rest))
+            (stays (subst (λ (ws : List Wait). P ws e done) (sym (append_assoc before (w ∷ []) rest)) p))
+
+  -- ---- ticks
+
+  module _ (P : Desk → List Attempt → Type 0) (step : (d : Desk) (fates : List Attempt) → has_no_tick t cut d ≡ false → P d fates → P (one_tick t cut d).desk (fates ++ (one_tick t cut d).ended)) where
+    pub all_ticks : (n : ℕ) (d : Desk) (fates : List Attempt) → P d fates → P (ticked t cut n d).desk (fates ++ (ticked t cut n d).ended)
+    all_ticks zero d fates p = subst (P d) (sym (append-nil fates)) p
+    all_ticks (suc n) d fates p = by (has_no_tick t cut d) refl (λ q. all_ticks n (one_tick t cut d).desk (fates ++ (one_tick t cut d).ended) q)
+      where
+        by : (b : Bool) → has_no_tick t cut d ≡ b
+            → (P (one_tick t cut d).desk (fates ++ (one_tick t cut d).ended)
+            → P (ticked t cut n (one_tick t cut d).desk).desk ((fates ++ (one_tick t cut d).ended) ++ (ticked t cut n (one_tick t cut d).desk).ended))
+            → P (cond b (still d) (record { desk = (ticked t cut n (one_tick t cut d).desk).desk; ended = (one_tick t cut d).ended ++ (ticked t cut n (one_tick t cut d).desk).ended })).desk
+            (fates ++ (cond b (still d) (record { desk = (ticked t cut n (one_tick t cut d).desk).desk; ended = (one_tick t cut d).ended ++ (ticked t cut n (one_tick t cut d).desk).ended })).ended)
+        by true stays later = subst (P d) (sym (append-nil fates)) p
+        by false goes later =
+            subst (P (ticked t cut n (one_tick t cut d).desk).desk) (append_assoc fates (one_tick t cut d).ended (ticked t cut n (one_tick t cut d).desk).ended) (later (step d fates goes p))
+
+  -- ---- roots that begin
+
+  module _ (P : Desk → List Root → Type 0) (step : (d : Desk) (roots : List Root) (root : Root) → next_root t cut d ≡ Some root → P d roots → P (begun t cut root d) (roots ++ root ∷ [])) where
+    pub all_begun : (places : ℕ) (d : Desk) (roots : List Root) → P d roots → P (filled t cut places d).desk (roots ++ (filled t cut places d).roots)
+    all_begun zero d roots p = subst (P d) (sym (append-nil roots)) p
+    all_begun (suc places) d roots p = by (next_root t cut d) refl (λ root q. all_begun places (begun t cut root d) (roots ++ root ∷ []) q)
+      where
+        by : (o : Option Root) → next_root t cut d ≡ o
+            → ((root : Root) → P (begun t cut root d) (roots ++ root ∷ []) → P (filled t cut places (begun t cut root d)).desk ((roots ++ root ∷ []) ++ (filled t cut places (begun t cut root d)).roots))
+            → P (fill_more t cut (filled t cut places) d o).desk (roots ++ (fill_more t cut (filled t cut places) d o).roots)
+        by None none later = subst (P d) (sym (append-nil roots)) p
+        by (Some root) some later =
+            subst (P (filled t cut places (begun t cut root d)).desk) (append_assoc roots (root ∷ []) (filled t cut places (begun t cut root d)).roots) (later root (step d roots root some p))
+
+  -- ---- a turn
+
+  module _ (verdict : Option Verdict) (ticks : ℕ) (d : Desk) (fates : List Attempt) (P : Desk → List Attempt → Type 0) (Q : Desk → List Attempt → List Root → Type 0)
+      (hear : P (heard t cut verdict d).desk (fates ++ (heard t cut verdict d).ended))
+      (step : (e : Desk) (ended : List Attempt) → has_no_tick t cut e ≡ false → P e ended → P (one_tick t cut e).desk (ended ++ (one_tick t cut e).ended))
+      (stop : (e : Desk) (ended : List Attempt) (txid : ℕ) → e.exhausted ≡ Some txid → P e ended → Q e ended [])
+      (fill : (e : Desk) (ended : List Attempt) → e.exhausted ≡ None → P e ended → Q (filled t cut t.pending (ordered t cut e)).desk ended (filled t cut t.pending (ordered t cut e)).roots) where
+    after_ticks : P (passed t cut ticks (heard t cut verdict d)).desk (fates ++ (passed t cut ticks (heard t cut verdict d)).ended)
+    after_ticks =
+        subst (P (passed t cut ticks (heard t cut verdict d)).desk) (append_assoc fates (heard t cut verdict d).ended (ticked t cut ticks (heard t cut verdict d).desk).ended)
+        (all_ticks P step ticks (heard t cut verdict d).desk (fates ++ (heard t cut verdict d).ended) hear)
+
+    pub all_turned : Q (turned t cut verdict ticks d).desk (fates ++ (turned t cut verdict ticks d).ended) (turned t cut verdict ticks d).begun
+    all_turned = by (passed t cut ticks (heard t cut verdict d)).desk.exhausted refl
+      where
+        by : (o : Option ℕ) → (passed t cut ticks (heard t cut verdict d)).desk.exhausted ≡ o
+            → Q (turned_by t cut o (passed t cut ticks (heard t cut verdict d))).desk (fates ++ (turned_by t cut o (passed t cut ticks (heard t cut verdict d))).ended) (turned_by t cut o (passed t cut ticks (heard t cut verdict d))).begun
+        by (Some txid) is = stop (passed t cut ticks (heard t cut verdict d)).desk (fates ++ (passed t cut ticks (heard t cut verdict d)).ended) txid is after_ticks
+        by None is = fill (passed t cut ticks (heard t cut verdict d)).desk (fates ++ (passed t cut ticks (heard t cut verdict d)).ended) is after_ticks
