@@ -71,12 +71,12 @@ module _ (o : Outlet) (t : Topology) (custom : Custom) (tuple : Tuple) (task at 
       let course : course_of_run t custom run ≡ goes = course_from t custom tuple.root.attempt node within ∙ ap course_of is in
       let kids_is : kids o.topology o.from rows ≡ kids_of t custom node = (λ i. kids (topology i) (from i) rows) ∙ sym (kids_from t custom tuple.root.attempt node rows within is) in
       let children : tuples_for o tuple.root tuple.edge.path rows ids ≡ children_of t custom run =
-        ap (λ ns. tuples_from tuple.root tuple.edge.path 0 ns ids) kids_is ∙ ap (λ c. made_by c (tuples_from tuple.root tuple.edge.path 0 (kids_of t custom node) ids)) (sym course) in
+      ap (λ ns. tuples_from tuple.root tuple.edge.path 0 ns ids) kids_is ∙ ap (λ c. made_by c (tuples_from tuple.root tuple.edge.path 0 (kids_of t custom node) ids)) (sym course) in
       let targets : tasks_for o.lanes rows ≡ tasks_for o.lanes (rows_of t custom tuple) = ap (λ x. tasks_for o.lanes (answered x)) (sym is) in
       let told : to_acker o.topology (Done (record { root = tuple.root; consumed = tuple.edge; produced = edges_of (tuples_for o tuple.root tuple.edge.path rows ids); draw = draw_from task at; writes = option_to_list (write_of t node) })) ∷ []
-            ≡ map (to_acker t) (notes_by t custom run (course_of_run t custom run)) =
-        (λ i. to_acker (topology i) (Done (record { root = tuple.root; consumed = tuple.edge; produced = edges_of (children i); draw = draw_from task at; writes = option_to_list (write_of t node) })) ∷ [])
-        ∙ ap (λ c. map (to_acker t) (notes_by t custom run c)) (sym course) in
+      ≡ map (to_acker t) (notes_by t custom run (course_of_run t custom run)) =
+      (λ i. to_acker (topology i) (Done (record { root = tuple.root; consumed = tuple.edge; produced = edges_of (children i); draw = draw_from task at; writes = option_to_list (write_of t node) })) ∷ [])
+      ∙ ap (λ c. map (to_acker t) (notes_by t custom run c)) (sym course) in
       let sent = go_to o.topology o.from o.lanes valid wired lanes each tuple.root tuple.edge.path rows ids enough in
       let sent_by_plan = subst (λ s. GoTo s (tuples_for o tuple.root tuple.edge.path rows ids) (tasks_for o.lanes rows)) topology sent in
       record {

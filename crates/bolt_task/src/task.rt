@@ -92,9 +92,8 @@ impl<'p, I: Ids> BoltTask<'p, I> {
         let writes = self.writes(&tuple)?;
         let mut parcels = Parcels::new(self.alloc);
         let root = tuple.root;
-        let Emitted { edges, draw } =
-            self.collector
-                .emit(root, &tuple.edge.path, rows, &mut parcels)?;
+        let path = &tuple.edge.path;
+        let Emitted { edges, draw } = self.collector.emit(root, path, rows, &mut parcels)?;
         let done = AckMsg::Done(Done {
             root,
             consumed: tuple.edge,
