@@ -22,4 +22,4 @@ pub use messages::{AckMsg, Done, Draw, FailNote, Init, Notes, Parcel, Parcels, T
 pub use plain::{count_nodes, plain_tables};
 pub use running::RunningTables;
 pub use tuple_tickets::{Edge, Edges};
-pub use write::{Pair, Pairs, Table, Tables, Write, Writes, writes_of};
+pub use write::{Pair, Pairs, Table, Tables, Write, Writes, write_at, writes_of};

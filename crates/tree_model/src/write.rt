@@ -96,7 +96,7 @@ impl Visitor for Writes {
 }
 
 /// What a state with this many parts is to add for a row.
-fn write_at(
+pub fn write_at(
     alloc: Global,
     state: u32,
     parts: u32,

@@ -1,0 +1,6 @@
+//! The task of a bolt or a state: it executes the tuples that come to it, and tells their ackers.
+#![tactic(auto)]
+
+mod task;
+
+pub use task::BoltTask;

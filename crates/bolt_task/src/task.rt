@@ -1,0 +1,150 @@
+ghost use Rattle.std.specs.Prelude.{◌≡◌, ◌<◌, [], ◌∷◌, IfOk};
+ghost use Rattle.std.specs.Option.{option_to_list};
+ghost use Rattle.topology_plan.specs.Topology.{component_of, tasks_in_all};
+ghost use Rattle.tree_model.specs.declared.messages.AckMsg.TheVariants.{Failed};
+ghost use Rattle.tree_model.specs.Trees.{exec_at, write_of};
+ghost use Rattle.tuple_runs.specs.Issued.{node_of};
+ghost use Rattle.tuple_account.specs.Histories.{acker_of, to_acker};
+ghost use Rattle.output_collector.specs.Collectors.{IsStarted};
+ghost use Rattle.bolt_task.specs.Places.{IsPlaced};
+
+use bolt_ops::{Outcome, RowOp, exec};
+use output_collector::{Collector, Emitted};
+use std::alloc::Global;
+use storm_ids::Ids;
+use storm_values::{Memory, Root, Rows};
+use topology_plan::{Body, Origin, Plan};
+use tree_model::{AckMsg, Done, FailNote, Parcel, Parcels, Tuple, Writes, write_at};
+
+/// One task of a bolt, or one part of a state.
+#[derive(Drop)]
+pub struct BoltTask<'p, I: Ids> {
+    alloc: Global,
+    plan: &'p Plan,
+    component: u32,
+    task: u32,
+    collector: Collector<'p, I>,
+    ghost placed: { IsPlaced plan.now component task collector },
+}
+
+impl<'p, I: Ids> BoltTask<'p, I> {
+    ghost use Rattle.bolt_task.specs.Executing.{Executes, GoesOn, IsFor, IsSameTask, collector_in, component_at, number_of, topology_at};
+
+    /// The task of a number, whose source of ids has the same number. It draws the start words of
+    /// its component's subscriptions.
+    pub fn new(alloc: Global, plan: &'p Plan, task: u32, ids: I) -> Result<Self, Memory>
+        requires { task < tasks_in_all plan.now }
+        ensures topology { IfOk result (λ made. topology_at made ≡ plan.now) }
+        ensures component { IfOk result (λ made. component_at made ≡ component_of plan.now task) }
+        ensures number { IfOk result (λ made. number_of made ≡ task) }
+        ensures started { IfOk result (λ made. IsStarted I.tells plan.now
+            (Origin.Component (component_of plan.now task)) task ids (collector_in made)) }
+    {
+        let component = plan.component_of(task);
+        let from = Origin::Component(component);
+        let collector = Collector::new(alloc, plan, from, task, ids)?;
+        Ok(BoltTask {
+            alloc,
+            plan,
+            component,
+            task,
+            collector,
+        })
+    }
+
+    /// Executes a tuple: the tuples that it makes, and then what its acker is told. A failed tuple
+    /// is told, and of a mute one nothing comes. A state makes no tuples and tells its write. What
+    /// the operation costs, and the rows that it makes.
+    pub fn execute<O: RowOp>(&mut self, tuple: Tuple, custom: &O) -> Result<Parcels, Memory>
+        requires { IsFor self.old tuple }
+        ensures executed { IfOk result
+            (Executes I.tells (O.meaning custom.now) tuple self.old self.new) }
+        ensures same_task { IsSameTask self.new self.old }
+    {
+        self.collector.facts();
+        match self.attempt(&tuple, custom)? {
+            Outcome::Rows(rows) => self.go_on(tuple, rows),
+            Outcome::Fail => self.fail(tuple),
+            Outcome::Mute => Ok(Parcels::new(self.alloc)),
+        }
+    }
+
+    /// What an attempt at a tuple comes to.
+    fn attempt<O: RowOp>(&self, tuple: &Tuple, custom: &O) -> Result<Outcome, Memory>
+        requires { IsFor self.now tuple.now }
+        ensures { IfOk result (λ outcome. outcome ≡ exec_at self.now.plan.now
+            (O.meaning custom.now) tuple.now.root.attempt (node_of tuple.now)) }
+    {
+        match &self.plan.component(self.component).body {
+            Body::Bolt(op) => exec(self.alloc, op, &tuple.row, tuple.root.attempt, custom),
+            Body::State(_) => Ok(Outcome::Rows(Rows::new(self.alloc))),
+        }
+    }
+
+    /// Emits the rows of a tuple, and tells that it is done.
+    fn go_on(&mut self, tuple: Tuple, rows: Rows) -> Result<Parcels, Memory>
+        requires { IsFor self.old tuple }
+        ensures goes_on { IfOk result (GoesOn I.tells tuple rows
+            (option_to_list (write_of self.old.plan.now (node_of tuple))) self.old.task
+            self.old.collector self.new.collector) }
+        ensures same_task { IsSameTask self.new self.old }
+    {
+        let writes = self.writes(&tuple)?;
+        let mut parcels = Parcels::new(self.alloc);
+        let root = tuple.root;
+        let path = &tuple.edge.path;
+        let Emitted { edges, draw } = self.collector.emit(root, path, rows, &mut parcels)?;
+        let done = AckMsg::Done(Done {
+            root,
+            consumed: tuple.edge,
+            produced: edges,
+            draw,
+            writes,
+        });
+        parcels.push(Parcel::ToAcker(self.acker_of(root), done))?;
+        Ok(parcels)
+    }
+
+    /// Tells that a tuple failed.
+    fn fail(&self, tuple: Tuple) -> Result<Parcels, Memory>
+        ensures { IfOk result (λ parcels. parcels ≡ to_acker self.now.plan.now
+            (Failed (record { root = tuple.root; path = tuple.edge.path })) ∷ []) }
+    {
+        let mut parcels = Parcels::new(self.alloc);
+        let note = AckMsg::Failed(FailNote {
+            root: tuple.root,
+            path: tuple.edge.path,
+        });
+        parcels.push(Parcel::ToAcker(self.acker_of(tuple.root), note))?;
+        Ok(parcels)
+    }
+
+    /// The write of a tuple, which a state alone makes.
+    fn writes(&self, tuple: &Tuple) -> Result<Writes, Memory>
+        requires { IsFor self.now tuple.now }
+        ensures { IfOk result (λ writes.
+            writes ≡ option_to_list (write_of self.now.plan.now (node_of tuple.now))) }
+    {
+        let component = self.plan.component(self.component);
+        let mut writes = Writes::new(self.alloc);
+        if let Body::State(spec) = &component.body {
+            let write = write_at(
+                self.alloc,
+                self.component,
+                component.tasks,
+                spec,
+                &tuple.row,
+            )?;
+            writes.push(write)?;
+        }
+        Ok(writes)
+    }
+
+    /// The acker of a root.
+    fn acker_of(&self, root: Root) -> u32
+        ensures { result ≡ acker_of self.now.plan.now root }
+    {
+        self.plan.facts();
+        (root.txid % u64::from(self.plan.ackers())) as u32
+    }
+}
