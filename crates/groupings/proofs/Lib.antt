@@ -1,2 +1,2 @@
 mod Even
-mod Choices
+pub mod Choices

@@ -1,4 +1,4 @@
-ghost use Rattle.std.specs.Prelude.{◌≡◌, ◌<◌, length, slice_get, slice_set, Some, IfOk};
+ghost use Rattle.std.specs.Prelude.{◌≡◌, ◌<◌, All, length, slice_get, slice_set, Some, IfOk};
 ghost use Rattle.topology_plan.specs.Topology.{subs_of};
 ghost use Rattle.topology_plan.specs.Valid.{IsTarget};
 ghost use Rattle.groupings.specs.declared.lane.Lane.{Lane};
@@ -44,6 +44,14 @@ impl Router {
             lanes.push(lane(plan, sub, starts[i])?)?;
         }
         Ok(Router { lanes })
+    }
+
+    /// What every router keeps. It does nothing.
+    pub fn facts(&self)
+        ensures { All IsLane self.now }
+    {
+        // brings in the invariant
+        let _ = &self.lanes;
     }
 
     /// How many subscriptions the source has.

@@ -1,0 +1,4 @@
+pub mod Sending
+pub mod Lanes
+pub mod Rows
+pub mod Targets

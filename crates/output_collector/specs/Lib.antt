@@ -1,0 +1,4 @@
+pub mod Draws
+pub mod Outlets
+pub mod Collectors
+pub mod Sending
