@@ -5,3 +5,5 @@ mod TrialLemmas
 mod TableLemmas
 mod StandingLemmas
 mod TableLaw
+mod KeyTexts
+mod TreeWrites

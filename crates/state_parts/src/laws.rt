@@ -1,8 +1,11 @@
 ghost use Rattle.std.specs.Prelude.{◌≡◌, ◌+◌, ◌++◌, ℕ, List, [], All};
 ghost use Rattle.std.specs.List.{AllZip};
+ghost use Rattle.bolt_ops.specs.RowOp.{Custom};
+ghost use Rattle.storm_values.specs.declared.value.Value.{Value};
 ghost use Rattle.topology_plan.specs.Topology.{Topology};
 ghost use Rattle.topology_plan.specs.Wired.{IsWired};
 ghost use Rattle.tree_model.specs.Tables.{AreTables, states_of};
+ghost use Rattle.tree_model.specs.Trees.{writes};
 ghost use Rattle.tree_model.specs.declared.write.Table.{Table};
 ghost use Rattle.tree_model.specs.declared.write.Write.{Write};
 ghost use Rattle.state_parts.specs.Commits.{AreCommitted, ArePerhapsCommitted};
@@ -45,4 +48,15 @@ pub fn tables_of_parts_are_tables_of_writes<C: CellStore>()
         → IsWired t → AreParts t parts → ArePlaced t done → HaveOnePart done
         → AllAreAt C.tells t n done next parts
         → AllZip (IsTableOver C.tells parts) (states_of t) tables → AreTables t done tables }
+{}
+
+/// A law: the writes of the tree of some rows go to the parts that the hashes of their keys choose,
+/// and writes that do, of whatever trees, have one part for one key of a state.
+pub fn writes_of_trees_are_placed()
+    ensures placed { (t : Topology) (custom : Custom) (rows : List (List Value))
+        → ArePlaced t (writes t custom rows) }
+    ensures one_part { (t : Topology) (custom : Custom) (rows : List (List Value))
+        → HaveOnePart (writes t custom rows) }
+    ensures all_have_one_part { (t : Topology) (made : List Write)
+        → ArePlaced t made → HaveOnePart made }
 {}

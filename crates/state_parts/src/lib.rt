@@ -14,5 +14,6 @@ mod tables;
 pub use answer::{Commit, CommitFault, CommitOutcome};
 pub use laws::{
     commits_move_all_parts_on, parts_over_empty_stores_begin, tables_of_parts_are_tables_of_writes,
+    writes_of_trees_are_placed,
 };
 pub use parts::Parts;

@@ -1,10 +1,14 @@
 -- What a file says is in range.
-use Rattle.topology_form.specs.Prelude.{Data, TopoFault, FileParts, Fold, Count, Sum, Last, Max}
-use Rattle.std.proofs.Common.{◌≡◌, codes, None, IsSome, Result, Ok, Err, IfOk, refl, sym, lit≤}
+use Rattle.topology_form.specs.Prelude.{Data, TopoFault, FileParts, Fold, Count, Sum, Last, Max, Input, ComponentPart}
+use Rattle.topology_form.specs.declared.parts.GroupingPart.TheVariants as said
+use Rattle.topology_plan.specs.Valid.{IsBetween}
+use Rattle.std.proofs.Common.{◌≡◌, ℕ, List, [], ◌∷◌, length, All, Bool, true, false, subst, codes, None, IsSome, Result, Ok, Err, IfOk, refl, sym, lit≤}
+use Rattle.std.proofs.lemmas.List.{length-map}
+use Rattle.std.proofs.lemmas.List.Elements.{All-nil, All-cons, All-append, All-weaker}
 use Rattle.std.proofs.lemmas.Option.{none-some}
 use Rattle.topology_form.specs.File.{fault_in, read_or_else, form_fault, parts_said}
-use Rattle.topology_form.specs.Format.{blank, file_of, operations, groupings, key_of, grouping_of, amount_of, amount_for, a_spout, an_operation, an_input, a_bolt, a_state, a_file}
-use Rattle.topology_form.specs.Ranges.{IsSpoutInRange, IsOperationInRange, IsGroupingInRange, IsInputInRange, IsBoltInRange, HasAmount, IsStateInRange, IsInRange}
+use Rattle.topology_form.specs.Format.{blank, file_of, operations, groupings, key_of, grouping_of, amount_of, amount_for, grouped_by, a_spout, an_operation, an_input, a_bolt, a_state, a_file}
+use Rattle.topology_form.specs.Ranges.{IsSpoutInRange, IsOperationInRange, IsGroupingInRange, IsInputInRange, HasAmount, IsComponentInRange, is_bolt, IsInRange}
 use Rattle.topology_form.proofs.Good.{IsOf, Makes, Reads, first, last, had, reads, object_of, chosen_makes, a_member, may_be, number_of, name_of, any_of, names_of, objects_of, constant_of}
 
 pub spout_of : IsOf IsSpoutInRange a_spout
@@ -65,7 +69,12 @@ pub input_of : IsOf IsInputInRange an_input
 unfolding an_input
 input_of = object_of (first (a_member _ any_of) (λ from _. first grouping_reads (λ grouping is. last is)))
 
-pub bolt_of : IsOf IsBoltInRange a_bolt
+-- a component in range that is a bolt, or a state
+pub record IsOfKind (bolt : Bool) (part : ComponentPart) : Type 0 where
+  pub range : IsComponentInRange part
+  pub kind : is_bolt part.body ≡ bolt
+
+pub bolt_of : IsOf (IsOfKind true) a_bolt
 unfolding a_bolt
 bolt_of =
     object_of
@@ -73,7 +82,7 @@ bolt_of =
     first (a_member _ number_of) (λ tasks is.
     first (a_member _ operation_of) (λ operation does.
     first (a_member _ (objects_of input_of)) (λ inputs are.
-    last (record { name = named; tasks = is; operation = does; inputs = are.0; groupings = are.1 }))))))
+    last (record { range = record { name = named; tasks = is; groupings = are.1; body = (does, are.0) }; kind = refl }))))))
 
 -- ---- states
 
@@ -89,18 +98,35 @@ amount_reads Sum = reads named_amount
 amount_reads Last = reads named_amount
 amount_reads Max = reads named_amount
 
-pub state_of : IsOf IsStateInRange a_state
+all_grouped : (P : Input → Type 0) (key names : List (List ℕ)) → ((from : List ℕ) → P (record { from = from; grouping = said.Fields key })) → All P (grouped_by key names)
+all_grouped P key [] each = All-nil P
+all_grouped P key (name ∷ names) each = All-cons P (record { from = name; grouping = said.Fields key }) (grouped_by key names) (each name) (all_grouped P key names each)
+
+count_grouped : (key names : List (List ℕ)) (least most : ℕ) → IsBetween (length names) least most → IsBetween (length (grouped_by key names)) least most
+count_grouped key names least most is =
+    let same : length (grouped_by key names) ≡ length names = length-map {B = Input} names (λ from. record { from = from; grouping = said.Fields key }) in
+    subst (λ n. IsBetween n least most) (sym same) is
+
+pub state_of : IsOf (IsOfKind false) a_state
 unfolding a_state
 state_of =
     object_of
     (first (a_member _ name_of) (λ name named.
     first (a_member _ any_of) (λ kind _.
-    first (a_member _ number_of) (λ parts is.
+    first (a_member _ number_of) (λ tasks is.
     first (a_member _ names_of) (λ key are.
     first (a_member _ any_of) (λ fold _.
     first (amount_reads fold) (λ amount has.
-    first (a_member _ names_of) (λ inputs some.
-    last (record { name = named; parts = is; key = are.0; amount = has; inputs = some.0 })))))))))
+    first (a_member _ names_of) (λ names some.
+    last (record {
+      range = record {
+        name = named;
+        tasks = is;
+        groupings = all_grouped IsInputInRange key names (λ from. are.0);
+        body = (has, count_grouped key names _ _ some.0, are.0, all_grouped (λ (input : Input). input.grouping ≡ said.Fields key) key names (λ from. refl));
+      };
+      kind = refl;
+    })))))))))
 
 -- ---- the file
 
@@ -119,9 +145,12 @@ file_in_range =
     last (record {
       spout = good;
       bolts = are.0.1;
-      each_bolt = are.1;
+      are_bolts = All-weaker (IsOfKind true) (λ (part : ComponentPart). is_bolt part.body ≡ true) (λ part of. of.kind) bolts are.1;
       states = some.0;
-      each_state = some.1;
+      are_states = All-weaker (IsOfKind false) (λ (part : ComponentPart). is_bolt part.body ≡ false) (λ part of. of.kind) states some.1;
+      each =
+          All-append IsComponentInRange bolts states (All-weaker (IsOfKind true) IsComponentInRange (λ part of. of.range) bolts are.1)
+          (All-weaker (IsOfKind false) IsComponentInRange (λ part of. of.range) states some.1);
       ackers = a;
       pending = p;
       buckets = b;

@@ -1,6 +1,6 @@
 -- What the objects of a topology file say. This project's own.
-use Rattle.std.specs.Prelude.{ℕ, List, [], ◌∷◌, Option, Some, None, Result, codes}
-use Rattle.topology_form.specs.Prelude.{Data, Members, most_fields, most_batch, most_below, most_tasks, most_bolt_inputs, most_state_inputs, most_bolts, most_states, most_ackers, most_pending, least_buckets, most_buckets, most_attempts, Value, TopoFault, FileParts, Fold, Count, Sum, Last, Max, GroupingPart, Input, Operation, Split, Project, Filter, Set, Len, Route, Flaky, Mute, Custom, SpoutPart, BoltPart, StatePart}
+use Rattle.std.specs.Prelude.{ℕ, List, [], ◌∷◌, map, Option, Some, None, Result, codes}
+use Rattle.topology_form.specs.Prelude.{Data, Members, most_fields, most_batch, most_below, most_tasks, most_bolt_inputs, most_state_inputs, most_bolts, most_states, most_ackers, most_pending, least_buckets, most_buckets, most_attempts, Value, TopoFault, FileParts, Fold, Count, Sum, Last, Max, GroupingPart, Input, Operation, Split, Project, Filter, Set, Len, Route, Flaky, Mute, Custom, SpoutPart, ComponentPart, Bolt, State}
 use Rattle.topology_plan.specs.declared.parts.Kind.TheVariants.{Transactional, Opaque}
 use Rattle.topology_plan.specs.declared.parts.Kind.{Kind}
 use Rattle.topology_plan.specs.declared.parts.Test.{Test}
@@ -98,13 +98,13 @@ an_input = an_object (do
   ends (record { from = from; grouping = grouping }))
 
 -- a bolt
-unfoldable pub a_bolt : Form BoltPart
+unfoldable pub a_bolt : Form ComponentPart
 a_bolt = an_object (do
   name ← required (codes "name") a_name
   tasks ← required (codes "tasks") (a_number 1 most_tasks)
   operation ← required (codes "op") an_operation
   inputs ← required (codes "inputs") (some_objects 1 most_bolt_inputs an_input)
-  ends (record { name = name; tasks = tasks; operation = operation; inputs = inputs }))
+  ends (record { name = name; tasks = tasks; inputs = inputs; body = Bolt operation }))
 
 -- ---- states
 
@@ -123,24 +123,25 @@ amount_for Sum = amount_of
 amount_for Last = amount_of
 amount_for Max = amount_of
 
+-- inputs from these sources, each grouped by the key
+abbrev pub grouped_by : List (List ℕ) → List (List ℕ) → List Input
+grouped_by key names = map (λ from. record { from = from; grouping = said.Fields key }) names
+
 -- a state
-unfoldable pub a_state : Form StatePart
+unfoldable pub a_state : Form ComponentPart
 a_state = an_object (do
   name ← required (codes "name") a_name
   kind ← required (codes "kind") (a_word kinds)
-  parts ← required (codes "parts") (a_number 1 most_tasks)
+  tasks ← required (codes "parts") (a_number 1 most_tasks)
   key ← required (codes "key") (some_names 1 most_fields)
   fold ← required (codes "fold") (a_word folds)
   amount ← amount_for fold
-  inputs ← required (codes "inputs") (some_names 1 most_state_inputs)
+  names ← required (codes "inputs") (some_names 1 most_state_inputs)
   ends (record {
     name = name;
-    kind = kind;
-    parts = parts;
-    key = key;
-    fold = fold;
-    amount = amount;
-    inputs = inputs;
+    tasks = tasks;
+    inputs = grouped_by key names;
+    body = State (record { kind = kind; key = key; fold = fold; amount = amount });
   }))
 
 -- ---- the file

@@ -7,7 +7,9 @@ pub use Rattle.storm_values.specs.Limits.{most_topology_bytes, most_weight, most
 pub use Rattle.storm_values.specs.declared.value.Value.{Value}
 pub use Rattle.topology_form.specs.declared.fault.TopoFault.{TopoFault}
 pub use Rattle.topology_form.specs.declared.fault.TopoFault.TheVariants.{Missing, WrongKind, UnknownName, OutOfRange, Memory}
-pub use Rattle.topology_form.specs.declared.parts.BoltPart.{BoltPart}
+pub use Rattle.topology_form.specs.declared.parts.BodyPart.{BodyPart}
+pub use Rattle.topology_form.specs.declared.parts.BodyPart.TheVariants.{Bolt, State}
+pub use Rattle.topology_form.specs.declared.parts.ComponentPart.{ComponentPart}
 pub use Rattle.topology_form.specs.declared.parts.FileParts.{FileParts}
 pub use Rattle.topology_form.specs.declared.parts.GroupingPart.{GroupingPart}
 pub use Rattle.topology_form.specs.declared.parts.Input.{Input}

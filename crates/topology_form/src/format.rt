@@ -1,20 +1,23 @@
 //! One decoder an object: its members in the order of the format's lines, each taken out by its
 //! form, and then the first member that is left over.
 
+ghost use Rattle.std.specs.Prelude.{◌≡◌, IfOk};
 ghost use Rattle.topology_form.specs.Left.{left_in};
 ghost use Rattle.topology_form.specs.Reading.{Takes};
-ghost use Rattle.topology_form.specs.Format.{a_spout, an_operation, key_of, grouping_of, an_input, a_bolt, amount_for, a_state, a_file};
+ghost use Rattle.topology_form.specs.Format.{a_spout, an_operation, key_of, grouping_of, an_input, a_bolt, amount_for, grouped_by, a_state, a_file};
 
 use crate::fault::TopoFault;
 use crate::forms::Form;
 use crate::object::Object;
-use crate::parts::{BoltPart, FileParts, GroupingPart, Input, Operation, SpoutPart, StatePart};
+use crate::parts::{
+    BodyPart, ComponentPart, FileParts, GroupingPart, Input, Operation, SpoutPart, StatePart,
+};
 use serde_json::Value as Json;
 use std::alloc::Global;
 use storm_values::{
     LEAST_BUCKETS, MOST_ACKERS, MOST_ATTEMPTS, MOST_BATCH, MOST_BELOW, MOST_BOLT_INPUTS,
     MOST_BOLTS, MOST_BUCKETS, MOST_FIELDS, MOST_PENDING, MOST_STATE_INPUTS, MOST_STATES,
-    MOST_TASKS, Txt,
+    MOST_TASKS, Memory, Names, Seq, Txt,
 };
 use topology_plan::{Fold, Kind, Test};
 
@@ -24,6 +27,8 @@ const KINDS: [(&str, Kind); 2] = [
 ];
 
 impl Form for SpoutPart {
+    type Part = SpoutPart;
+
     ghost form = { a_spout };
 
     #[tactic(auto, unfolding(crate::specs::Format::a_spout))]
@@ -45,6 +50,8 @@ impl Form for SpoutPart {
 const TESTS: [(&str, Test); 3] = [("eq", Test::Eq), ("ne", Test::Ne), ("lt", Test::Lt)];
 
 impl Form for Operation {
+    type Part = Operation;
+
     ghost form = { an_operation };
 
     #[tactic(auto, unfolding(crate::specs::Format::an_operation))]
@@ -118,6 +125,8 @@ fn grouping_from(object: &mut Object) -> Result<GroupingPart, TopoFault>
 }
 
 impl Form for Input {
+    type Part = Input;
+
     ghost form = { an_input };
 
     #[tactic(auto, unfolding(crate::specs::Format::an_input))]
@@ -129,21 +138,25 @@ impl Form for Input {
     }
 }
 
-impl Form for BoltPart {
+struct Bolt;
+
+impl Form for Bolt {
+    type Part = ComponentPart;
+
     ghost form = { a_bolt };
 
     #[tactic(auto, unfolding(crate::specs::Format::a_bolt))]
-    fn from_value(alloc: Global, name: &str, value: Json) -> Result<BoltPart, TopoFault> {
+    fn from_value(alloc: Global, name: &str, value: Json) -> Result<ComponentPart, TopoFault> {
         let mut object = Object::from_value(alloc, name, value)?;
         let name = object.name("name")?;
         let tasks = object.number("tasks", 1, MOST_TASKS)?;
-        let operation = object.required("op")?;
-        let inputs = object.objects("inputs", 1, MOST_BOLT_INPUTS)?;
-        object.end(BoltPart {
+        let body = BodyPart::Bolt(object.required::<Operation>("op")?);
+        let inputs = object.objects::<Input>("inputs", 1, MOST_BOLT_INPUTS)?;
+        object.end(ComponentPart {
             name,
             tasks,
-            operation,
             inputs,
+            body,
         })
     }
 }
@@ -165,41 +178,61 @@ fn amount_from(object: &mut Object, fold: Fold) -> Result<Option<Txt>, TopoFault
     }
 }
 
-impl Form for StatePart {
+fn grouped_by(alloc: Global, key: &Names, names: Names) -> Result<Seq<Input>, Memory>
+    ensures { IfOk result (λ inputs. inputs ≡ grouped_by key.now names) }
+{
+    let mut inputs = Seq::new(alloc);
+    for from in names.into_vec() {
+        let grouping = GroupingPart::Fields(key.copy()?);
+        inputs.push(Input { from, grouping })?;
+    }
+    Ok(inputs)
+}
+
+struct State;
+
+impl Form for State {
+    type Part = ComponentPart;
+
     ghost form = { a_state };
 
     #[tactic(auto, unfolding(crate::specs::Format::a_state))]
-    fn from_value(alloc: Global, name: &str, value: Json) -> Result<StatePart, TopoFault> {
+    fn from_value(alloc: Global, name: &str, value: Json) -> Result<ComponentPart, TopoFault> {
         let mut object = Object::from_value(alloc, name, value)?;
         let name = object.name("name")?;
         let kind = object.word("kind", &KINDS)?;
-        let parts = object.number("parts", 1, MOST_TASKS)?;
+        let tasks = object.number("parts", 1, MOST_TASKS)?;
         let key = object.names("key", 1, MOST_FIELDS)?;
         let fold = object.word("fold", &FOLDS)?;
         let amount = amount_from(&mut object, fold)?;
-        let inputs = object.names("inputs", 1, MOST_STATE_INPUTS)?;
-        object.end(StatePart {
+        let names = object.names("inputs", 1, MOST_STATE_INPUTS)?;
+        let inputs = grouped_by(alloc, &key, names)?;
+        object.end(ComponentPart {
             name,
-            kind,
-            parts,
-            key,
-            fold,
-            amount,
+            tasks,
             inputs,
+            body: BodyPart::State(StatePart {
+                kind,
+                key,
+                fold,
+                amount,
+            }),
         })
     }
 }
 
 impl Form for FileParts {
+    type Part = FileParts;
+
     ghost form = { a_file };
 
     #[tactic(auto, unfolding(crate::specs::Format::a_file))]
     fn from_value(alloc: Global, name: &str, value: Json) -> Result<FileParts, TopoFault> {
         let mut object = Object::from_value(alloc, name, value)?;
         object.number("version", 1, 1)?;
-        let spout = object.required("spout")?;
-        let bolts = object.objects("bolts", 0, MOST_BOLTS)?;
-        let states = object.objects("states", 1, MOST_STATES)?;
+        let spout = object.required::<SpoutPart>("spout")?;
+        let bolts = object.objects::<Bolt>("bolts", 0, MOST_BOLTS)?;
+        let states = object.objects::<State>("states", 1, MOST_STATES)?;
         let ackers = object.number_or(1, "ackers", 1, MOST_ACKERS)?;
         let pending = object.number_or(1, "pending", 1, MOST_PENDING)?;
         let buckets = object.number_or(3, "buckets", LEAST_BUCKETS, MOST_BUCKETS)?;

@@ -10,11 +10,13 @@ use serde_json::Value as Json;
 use std::alloc::Global;
 use storm_values::{MOST_CONSTANT_BYTES, MOST_NAME_BYTES, Names, Seq, Txt, Value};
 
-/// What is read from a member's value.
-pub trait Form: Drop {
-    ghost form: { List ℕ → Data → Result Self TopoFault };
+/// A form of a member's value, and what is read from it.
+pub trait Form {
+    type Part: Drop;
 
-    fn from_value(alloc: Global, name: &str, value: Json) -> Result<Self, TopoFault>
+    ghost form: { List ℕ → Data → Result Self.Part TopoFault };
+
+    fn from_value(alloc: Global, name: &str, value: Json) -> Result<Self::Part, TopoFault>
         ensures { Gives result (form name.now (view value)) };
 }
 
@@ -106,6 +108,8 @@ fn all_name_bytes(bytes: &[u8]) -> bool
 
 /// A name.
 impl Form for Txt {
+    type Part = Txt;
+
     ghost form = { a_name };
 
     fn from_value(alloc: Global, name: &str, value: Json) -> Result<Txt, TopoFault> {
@@ -130,12 +134,12 @@ pub(crate) fn names_from(
     let Json::Array(items) = value else {
         return Err(wrong_kind(alloc, name));
     };
-    let names = each(alloc, name, items)?;
+    let names = each::<Txt>(alloc, name, items)?;
     within(alloc, name, names.len() as i64, least, most)?;
     Ok(names)
 }
 
-fn each<T: Form>(alloc: Global, name: &str, items: Vec<Json>) -> Result<Seq<T>, TopoFault>
+fn each<T: Form>(alloc: Global, name: &str, items: Vec<Json>) -> Result<Seq<T::Part>, TopoFault>
     ensures { Gives result (each T.form name.now (items_view items.items)) }
 {
     let mut read = Seq::new(alloc);
@@ -164,14 +168,14 @@ pub(crate) fn objects_from<T: Form>(
     value: Json,
     least: u32,
     most: u32,
-) -> Result<Seq<T>, TopoFault>
+) -> Result<Seq<T::Part>, TopoFault>
     ensures { Gives result (some_objects least most T.form name.now (view value)) }
 {
     let Json::Array(items) = value else {
         return Err(wrong_kind(alloc, name));
     };
     count_within(alloc, name, &items, least, most)?;
-    each(alloc, name, items)
+    each::<T>(alloc, name, items)
 }
 
 pub(crate) fn constant_from(alloc: Global, name: &str, value: Json) -> Result<Value, TopoFault>

@@ -11,7 +11,9 @@ mod parts;
 
 pub use fault::TopoFault;
 pub use file::{files_are_in_range, parts_from};
-pub use parts::{BoltPart, FileParts, GroupingPart, Input, Operation, SpoutPart, StatePart};
+pub use parts::{
+    BodyPart, ComponentPart, FileParts, GroupingPart, Input, Operation, SpoutPart, StatePart,
+};
 
 #[cfg(test)]
 mod tests;

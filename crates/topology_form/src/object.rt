@@ -53,7 +53,7 @@ impl Object {
         }
     }
 
-    pub fn required<T: Form>(&mut self, name: &str) -> Result<T, TopoFault>
+    pub fn required<T: Form>(&mut self, name: &str) -> Result<T::Part, TopoFault>
         ensures { Takes result (left_in self.new) (required name.now T.form (left_in self.old)) }
     {
         let value = self.member(name)?;
@@ -63,7 +63,7 @@ impl Object {
     pub fn name(&mut self, name: &str) -> Result<Txt, TopoFault>
         ensures { Takes result (left_in self.new) (required name.now a_name (left_in self.old)) }
     {
-        self.required(name)
+        self.required::<Txt>(name)
     }
 
     pub fn objects<T: Form>(
@@ -71,12 +71,12 @@ impl Object {
         name: &str,
         least: u32,
         most: u32,
-    ) -> Result<Seq<T>, TopoFault>
+    ) -> Result<Seq<T::Part>, TopoFault>
         ensures { Takes result (left_in self.new)
             (required name.now (some_objects least most T.form) (left_in self.old)) }
     {
         let value = self.member(name)?;
-        objects_from(self.alloc, name, value, least, most)
+        objects_from::<T>(self.alloc, name, value, least, most)
     }
 
     pub fn text(&mut self, name: &str) -> Result<Txt, TopoFault>

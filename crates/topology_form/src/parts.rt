@@ -61,30 +61,35 @@ pub struct SpoutPart {
 }
 
 #[derive(Debug, Drop)]
-pub struct BoltPart {
-    pub name: Txt,
-    pub tasks: u32,
-    pub operation: Operation,
-    pub inputs: Seq<Input>,
-}
-
-#[derive(Debug, Drop)]
 pub struct StatePart {
-    pub name: Txt,
     pub kind: Kind,
-    pub parts: u32,
     pub key: Names,
     pub fold: Fold,
     pub amount: Option<Txt>,
-    pub inputs: Names,
+}
+
+#[derive(Debug, Drop)]
+pub enum BodyPart {
+    Bolt(Operation),
+    State(StatePart),
+}
+
+/// A bolt or a state. Each input of a state is grouped by the state's key.
+#[derive(Debug, Drop)]
+pub struct ComponentPart {
+    pub name: Txt,
+    /// A state's are its parts.
+    pub tasks: u32,
+    pub inputs: Seq<Input>,
+    pub body: BodyPart,
 }
 
 /// All that a file says.
 #[derive(Debug, Drop)]
 pub struct FileParts {
     pub spout: SpoutPart,
-    pub bolts: Seq<BoltPart>,
-    pub states: Seq<StatePart>,
+    pub bolts: Seq<ComponentPart>,
+    pub states: Seq<ComponentPart>,
     pub ackers: u32,
     pub pending: u32,
     pub buckets: u32,

@@ -1,14 +1,22 @@
 -- The first fault of a file, step by step.
-use Rattle.std.proofs.Common.{◌≡◌, ◌<◌, ◌≤◌, ℕ, List, [], ◌∷◌, length, true, false, leb, Option, Some, None, Result, Ok, Err, IfOk, IfErr, ◌≢◌, refl, sym, ap, subst, ◌∙◌, arith}
+use Rattle.std.proofs.Common.{◌≡◌, ◌<◌, ◌≤◌, ℕ, ◌+◌, List, [], ◌∷◌, length, map, drop, slice_get, true, false, leb, Option, Some, None, Result, Ok, Err, IfOk, IfErr, ◌≢◌, refl, sym, ap, subst, ◌∙◌, arith}
 use Rattle.std.proofs.lemmas.Bool.Decides.{nat_tests}
 use Rattle.topology_reader.proofs.Common.{Data, json_of, first_some, TopoFault, TooLong, Topology, first_fault, value_fault, IsFilePlan, plan_of}
 use Rattle.topology_form.specs.declared.fault.TopoFault.TheVariants as topo_fault
 use Rattle.topology_form.specs.File.{parts_said}
+use Rattle.topology_reader.proofs.Numbered.{drop_at}
 
 -- a fault that is the first of one, or the next
 pub next_alone : {X : Type 0} (fault : Option X) → first_some (fault ∷ []) ≡ fault
 next_alone None = refl
 next_alone (Some x) = refl
+
+-- of items that are checked in turn one more has no fault, or is the first that has one
+pub next_passed : {X F : Type 0} (f : X → Option F) (xs : List X) (c : ℕ) (x : X) (whole : Option F) → slice_get xs c ≡ Some x → f x ≡ None → first_some (map f (drop c xs)) ≡ whole → first_some (map f (drop (c + 1) xs)) ≡ whole
+next_passed f xs c x whole is none so_far = sym (ap (λ ys. first_some (map f ys)) (drop_at xs c x is) ∙ ap (λ o. first_some (o ∷ map f (drop (c + 1) xs))) none) ∙ so_far
+
+pub next_told : {X F : Type 0} (f : X → Option F) (xs : List X) (c : ℕ) (x : X) (fault : F) (whole : Option F) → slice_get xs c ≡ Some x → f x ≡ Some fault → first_some (map f (drop c xs)) ≡ whole → whole ≡ Some fault
+next_told f xs c x fault whole is told so_far = sym so_far ∙ (ap (λ ys. first_some (map f ys)) (drop_at xs c x is) ∙ ap (λ o. first_some (o ∷ map f (drop (c + 1) xs))) told)
 
 pub too_long : (bytes : List ℕ) → 65536 < length bytes → first_fault bytes ≡ Some (TooLong (length bytes))
 unfolding first_fault

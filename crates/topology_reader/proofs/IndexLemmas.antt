@@ -1,6 +1,6 @@
 -- The sources of names, as they are put into a map one bolt after the other.
 use Rattle.std.proofs.Common.{◌≡◌, ℕ, zero, suc, ◌+◌, ◌<◌, Bool, true, false, cond, List, [], ◌∷◌, ◌++◌, map, length, take, get_or, Option, Some, None, option_map, unwrap_or, refl, sym, ap, ◌∙◌, inl, inr, arith}
-use Rattle.topology_reader.proofs.Common.{cases_Bool, take_more, map_push, length-map, length-take-le, Bor, option_or, bytes_eq, Origin, BoltPart, place_of}
+use Rattle.topology_reader.proofs.Common.{cases_Bool, take_more, map_push, length-map, length-take-le, Bor, option_or, bytes_eq, Origin, ComponentPart, place_of}
 use Rattle.indexmap.specs.IndexMap.{IndexMap, get_by}
 use Rattle.topology_plan.specs.declared.parts.Origin.TheVariants as origin
 use Rattle.topology_reader.proofs.Distinct.{bytes_same}
@@ -47,17 +47,17 @@ source_push spout names last name =
           rw (place_of-push names last name, other, or_none (place_of names name)) refl
     ]
 
-abbrev names_to : List BoltPart → ℕ → List (List ℕ)
-names_to bolts i = map (λ (bolt : BoltPart). bolt.name) (take i bolts)
+abbrev names_to : List ComponentPart → ℕ → List (List ℕ)
+names_to bolts i = map (λ (bolt : ComponentPart). bolt.name) (take i bolts)
 
-source_more : (spout : List ℕ) (bolts : List BoltPart) (i : ℕ) (bolt : BoltPart) → i < length bolts → bolt ≡ get_or bolts i bolt → (name : List ℕ)
+source_more : (spout : List ℕ) (bolts : List ComponentPart) (i : ℕ) (bolt : ComponentPart) → i < length bolts → bolt ≡ get_or bolts i bolt → (name : List ℕ)
     → source_among spout (names_to bolts (i + 1)) name ≡ cond (bytes_eq bolt.name name) (Some (unwrap_or (source_among spout (names_to bolts i) bolt.name) (origin.Component i))) (source_among spout (names_to bolts i) name)
 source_more spout bolts i bolt below is name =
     let names = names_to bolts i in
     let done : take (i + 1) bolts ≡ take i bolts ++ bolt ∷ [] = take_more bolts i bolt below ∙ ap (λ x. take i bolts ++ x ∷ []) (sym is) in
-    let many : length names ≡ i = length-map (take i bolts) (λ (b : BoltPart). b.name) ∙ length-take-le i bolts (omega arith) in
-    ap (λ bs. source_among spout (map (λ (b : BoltPart). b.name) bs) name) done
-    ∙ ap (λ ns. source_among spout ns name) (map_push (λ (b : BoltPart). b.name) (take i bolts) bolt)
+    let many : length names ≡ i = length-map (take i bolts) (λ (b : ComponentPart). b.name) ∙ length-take-le i bolts (omega arith) in
+    ap (λ bs. source_among spout (map (λ (b : ComponentPart). b.name) bs) name) done
+    ∙ ap (λ ns. source_among spout ns name) (map_push (λ (b : ComponentPart). b.name) (take i bolts) bolt)
     ∙ source_push spout names bolt.name name
     ∙ ap (λ n. cond (bytes_eq bolt.name name) (Some (unwrap_or (source_among spout names bolt.name) (origin.Component n))) (source_among spout names name)) many
 
@@ -67,11 +67,11 @@ abbrev source_in : {S : Type 0} → IndexMap (Bor (List ℕ)) Origin S → Bor (
 source_in m name = get_by (λ (key : Bor (List ℕ)). bytes_eq name.now key.now) m
 
 -- the map holds the sources among the spout and the first bolts
-abbrev pub HoldsSources : {S : Type 0} → List ℕ → List BoltPart → ℕ → IndexMap (Bor (List ℕ)) Origin S → Type 0
+abbrev pub HoldsSources : {S : Type 0} → List ℕ → List ComponentPart → ℕ → IndexMap (Bor (List ℕ)) Origin S → Type 0
 HoldsSources spout bolts i m = (name : Bor (List ℕ)) → source_in m name ≡ source_among spout (names_to bolts i) name.now
 
 -- one bolt more, which counts where its name is new
-pub holds_more : {S : Type 0} (spout : List ℕ) (bolts : List BoltPart) (i : ℕ) (bolt : BoltPart) → i < length bolts → bolt ≡ get_or bolts i bolt
+pub holds_more : {S : Type 0} (spout : List ℕ) (bolts : List ComponentPart) (i : ℕ) (bolt : ComponentPart) → i < length bolts → bolt ≡ get_or bolts i bolt
     → (old new : IndexMap (Bor (List ℕ)) Origin S) → HoldsSources spout bolts i old
     → (key : Bor (List ℕ)) → key.now ≡ bolt.name → (source : Origin) → source ≡ unwrap_or (source_in old key) (origin.Component i)
     → ((name : Bor (List ℕ)) → source_in new name ≡ cond (bytes_eq key.now name.now) (Some source) (source_in old name))

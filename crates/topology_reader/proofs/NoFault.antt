@@ -1,15 +1,15 @@
 -- A file that says what is valid has no fault in what it says.
-use Rattle.std.proofs.Common.{◌≡◌, ◌≢◌, ◌↔◌, ℕ, zero, suc, ◌+◌, ◌<◌, ◌≤◌, ◌==◌, ◌&&◌, ◌∷◌, List, [], ◌++◌, pos, length, map, filter, All, AllPairs, true, false, not, nat_lt, int_le, Option, Some, None, IfSome, option_map, option_and_then, slice_get, is_none, option_to_list, codes, inl, inr, refl, sym, ◌∙◌, ap, subst, arith}
-use Rattle.topology_reader.proofs.Common.{Contains, list_any, range_with_len, option_map_or, bytes_eq, first_some, Origin, tasks_in_all, IsBetween, WrongKind, OutOfRange, Twice, NoSource, FieldsDiffer, NoField, NotExactlyOnce, Weight, GroupingPart, Input, Operation, Split, Project, Filter, Set, Len, Route, Flaky, Mute, Custom, BoltPart, StatePart, FileParts, IsInRange, IsStateInRange, feeds_at, Feed, pointwise, pointwise_decides, cond-true, cond-false, false≢true, false_from_ne_true, and_from, eqb-true, le-leb, le-ltb, map-id, same_Some, get_or_from_slice_get, slice_get_within, Kind, Transactional, Opaque, depth_at, by_depth, is_among, range_fault, first_again, again_fault, key_of, projected, bolt_twice, state_twice, twice_fault, nameless_fault, source_fault, cycle_fault, differ_fault, field_fault, is_route, chooses, direct_fault, input_fault, fields_read, added_fault, component_fault, fields_fault, is_transactional, replay_fault, weight_fault, meaning_fault, fault_before_size, size_fault, component_names, component_count, name_at, source_of, state_inputs, inputs_by_component, inputs_at, sources_at, is_component, feeds, fields_after, fields_of, fields_to, operation_at, graph_of, plan_of, IsPathThrough, AreDistinct, HasFields, IsValidInput, IsValidComponent, IsValidFile, list_any_none}
+use Rattle.std.proofs.Common.{◌≡◌, ◌≢◌, ◌↔◌, ℕ, zero, suc, ◌+◌, ◌<◌, ◌≤◌, ◌==◌, ◌&&◌, ◌∷◌, List, [], ◌++◌, pos, length, map, filter, All, AllPairs, true, false, not, nat_lt, int_le, Option, Some, None, IfSome, option_map, option_and_then, slice_get, is_none, codes, inl, inr, refl, sym, ◌∙◌, ap, subst, arith}
+use Rattle.topology_reader.proofs.Common.{Contains, list_any, range_with_len, option_map_or, bytes_eq, first_some, Origin, tasks_in_all, IsBetween, WrongKind, OutOfRange, Twice, NoSource, FieldsDiffer, NoField, NotExactlyOnce, Weight, GroupingPart, Input, Split, Project, Filter, Set, Len, Route, Flaky, Mute, Custom, BodyPart, Bolt, State, ComponentPart, components_of, FileParts, IsInRange, IsBodyInRange, IsComponentInRange, is_bolt, feeds_at, Feed, pointwise, pointwise_decides, cond-true, cond-false, false≢true, false_from_ne_true, and_from, eqb-true, le-leb, le-ltb, map-id, same_Some, slice_get_within, Kind, Transactional, Opaque, depth_at, by_depth, is_among, range_fault, first_again, again_fault, key_of, own_key, projected, component_twice, twice_fault, nameless_fault, source_fault, cycle_fault, differ_fault, field_fault, is_route, chooses, direct_fault, input_fault, fields_read, amount_read, added_fault, part_fault, component_fault, fields_fault, keeps_exact, replay_fault, weight_fault, meaning_fault, fault_before_size, size_fault, component_names, component_count, name_at, source_of, inputs_at, sources_at, is_component, feeds, fields_after, fields_of, fields_to, body_of, graph_of, plan_of, IsPathThrough, AreDistinct, HasFields, IsValidInput, IsValidComponent, IsValidFile, list_any_none}
 use Rattle.topology_plan.specs.Topology.{weight_of}
 use Rattle.std.proofs.lemmas.List.{length-append}
 use Rattle.topology_plan.specs.declared.parts.Origin.TheVariants as origin
 use Rattle.topology_form.specs.declared.parts.GroupingPart.TheVariants as said
-use Rattle.topology_reader.proofs.Listed.{IsIn, All-from_in, All-at_in, in_map, to_map, to_left, to_right, in_flat_map, in_filter, in_range, in_any, find_none, none_first, none_first_map}
+use Rattle.topology_reader.proofs.Listed.{IsIn, All-from_in, All-at_in, in_map, to_left, to_right, in_flat_map, in_filter, in_range, in_any, find_none, none_first, none_first_map}
 use Rattle.topology_reader.proofs.Distinct.{bytes_same, bytes_itself, among_in, in_among, AreApart}
-use Rattle.topology_reader.proofs.Numbered.{IsBoltAt, cases_component, inputs_at_bolt, inputs_at_state, reads_at_bolt, reads_at_state}
-use Rattle.topology_reader.proofs.SourceLemmas.{length_inputs, in_sources, length_names, length_graph, froms_of_state}
-use Rattle.topology_reader.proofs.Columns.{fault_of_bolt, fault_of_state, some_in}
+use Rattle.topology_reader.proofs.Numbered.{IsAt, part_there, inputs_are, range_at, bolt_below}
+use Rattle.topology_reader.proofs.SourceLemmas.{in_sources, length_graph}
+use Rattle.topology_reader.proofs.Columns.{twice_in, faults_of, some_in}
 use Rattle.topology_reader.proofs.ValidFile.{contains_from_in, sum_of_tasks, valid_file}
 use Rattle.topology_reader.proofs.CyclePaths.{no_cycle_by_paths}
 use Rattle.topology_reader.proofs.GraphLemmas.{feed_listed}
@@ -78,115 +78,89 @@ module _ (p : FileParts) (valid : IsValidFile p) where
 
   -- ---- the inputs of a component
 
-  counted : (c : ℕ) (inputs : List Input) → slice_get (inputs_by_component p) c ≡ Some inputs → c < component_count p
-  counted c inputs is = omega (arith, slice_get_within (inputs_by_component p) c inputs is, length_inputs p, length_names p)
+  within_at : (c : ℕ) (part : ComponentPart) → IsAt p c part → c < component_count p
+  within_at c part is = slice_get_within (components_of p) c part is
 
-  inputs_are : (c : ℕ) (inputs : List Input) → slice_get (inputs_by_component p) c ≡ Some inputs → inputs_at p c ≡ inputs
-  inputs_are c inputs is = get_or_from_slice_get (inputs_by_component p) c inputs [] is
+  input_valid : (c : ℕ) (part : ComponentPart) (input : Input) → IsAt p c part → IsIn input part.inputs → IsValidInput p (fields_to p c) input
+  input_valid c part input is at =
+      All-at_in (IsValidInput p (fields_to p c)) part.inputs
+      (subst (All (IsValidInput p (fields_to p c))) (inputs_are p c part is) (IsValidComponent.inputs (valid.components c (within_at c part is)))) input at
 
-  froms_apart : (c : ℕ) (inputs : List Input) → slice_get (inputs_by_component p) c ≡ Some inputs → AreApart (map (λ (input : Input). input.from) inputs)
-  froms_apart c inputs is =
-      apart_from_pairs (λ (input : Input). input.from) inputs
-      (subst (AllPairs (λ (a b : Input). a.from ≢ b.from)) (inputs_are c inputs is) (IsValidComponent.distinct (valid.components c (counted c inputs is))))
-
-  input_valid : (c : ℕ) (inputs : List Input) (input : Input) → slice_get (inputs_by_component p) c ≡ Some inputs → IsIn input inputs → IsValidInput p (fields_to p c) input
-  input_valid c inputs input is at =
-      All-at_in (IsValidInput p (fields_to p c)) inputs
-      (subst (All (IsValidInput p (fields_to p c))) (inputs_are c inputs is) (IsValidComponent.inputs (valid.components c (counted c inputs is)))) input at
-
-  key_apart_of : (c : ℕ) (inputs : List Input) (input : Input) → slice_get (inputs_by_component p) c ≡ Some inputs → IsIn input inputs → AreApart (key_of input.grouping)
-  key_apart_of c inputs input is at = apart_from_distinct (key_of input.grouping) (IsValidInput.key (input_valid c inputs input is at))
+  key_apart_of : (c : ℕ) (part : ComponentPart) (input : Input) → IsAt p c part → IsIn input part.inputs → AreApart (key_of input.grouping)
+  key_apart_of c part input is at = apart_from_distinct (key_of input.grouping) (IsValidInput.key (input_valid c part input is at))
 
   -- ---- names that stand twice
 
-  fields_made : (c : ℕ) (bolt : BoltPart) → IsBoltAt p c bolt → fields_of p (origin.Component c) ≡ fields_after bolt.operation (fields_to p c)
-  fields_made c bolt is = subst (λ there. IfSome there (λ (bolt : BoltPart). fields_of p (origin.Component c) ≡ fields_after bolt.operation (fields_to p c))) is (valid.bolt_fields c)
+  fields_are : (c : ℕ) (part : ComponentPart) → IsAt p c part → fields_of p (origin.Component c) ≡ fields_after part.body (fields_to p c)
+  fields_are c part is = subst (λ there. IfSome there (λ (part : ComponentPart). fields_of p (origin.Component c) ≡ fields_after part.body (fields_to p c))) is (valid.component_fields c)
 
-  bolt_has : (c : ℕ) (bolt : BoltPart) → IsBoltAt p c bolt → HasFields p (origin.Component c)
-  bolt_has c bolt is = valid.fields (origin.Component c) (slice_get_within p.bolts c bolt is)
+  has_fields : (c : ℕ) (part : ComponentPart) → IsAt p c part → is_bolt part.body ≡ true → HasFields p (origin.Component c)
+  has_fields c part is bolt = valid.fields (origin.Component c) (bolt_below p c part valid.range is bolt)
 
-  projected_by : (fields come : List (List ℕ)) (operation : Operation) → fields ≡ fields_after operation come → AreDistinct fields → AreApart (projected operation)
-  projected_by fields come (Split field into) is distinct = tt
-  projected_by fields come (Project names) is distinct = apart_from_distinct names (subst AreDistinct is distinct)
-  projected_by fields come (Filter field test value) is distinct = tt
-  projected_by fields come (Set field value) is distinct = tt
-  projected_by fields come (Len field into) is distinct = tt
-  projected_by fields come (Route field) is distinct = tt
-  projected_by fields come (Flaky below) is distinct = tt
-  projected_by fields come (Mute below) is distinct = tt
-  projected_by fields come Custom is distinct = tt
+  projected_by : (fields come : List (List ℕ)) (body : BodyPart) → fields ≡ fields_after body come → (is_bolt body ≡ true → AreDistinct fields) → AreApart (projected body)
+  projected_by fields come (Bolt (Split field into)) is distinct = tt
+  projected_by fields come (Bolt (Project names)) is distinct = apart_from_distinct names (subst AreDistinct is (distinct refl))
+  projected_by fields come (Bolt (Filter field test value)) is distinct = tt
+  projected_by fields come (Bolt (Set field value)) is distinct = tt
+  projected_by fields come (Bolt (Len field into)) is distinct = tt
+  projected_by fields come (Bolt (Route field)) is distinct = tt
+  projected_by fields come (Bolt (Flaky below)) is distinct = tt
+  projected_by fields come (Bolt (Mute below)) is distinct = tt
+  projected_by fields come (Bolt Custom) is distinct = tt
+  projected_by fields come (State state) is distinct = tt
+
+  -- a state's key is that of its first input
+  own_key_apart : (c : ℕ) (part : ComponentPart) (body : BodyPart) → IsAt p c part → part.body ≡ body → AreApart (own_key body)
+  own_key_apart c part (Bolt operation) is body = tt
+  own_key_apart c part (State state) is body =
+      let limits : IsBodyInRange (State state) part.inputs = subst (λ (b : BodyPart). IsBodyInRange b part.inputs) body (IsComponentInRange.body (range_at p c part valid.range is)) in
+      let first = some_in part.inputs limits.1.0 in
+      subst (λ by. AreApart (key_of by)) (All-at_in (λ (input : Input). input.grouping ≡ said.Fields state.key) part.inputs limits.3 first.0 first.1) (key_apart_of c part first.0 is first.1)
 
   once : (names : List (List ℕ)) → AreApart names → again_fault names ≡ None
   once names apart = ap (option_map Twice) (none_again [] names apart (λ name listed before. elim before [ ]))
 
-  bolt_once : (bolt : BoltPart) → IsIn bolt p.bolts → bolt_twice bolt ≡ None
-  bolt_once bolt at =
-      let place = place_in p.bolts bolt at in
-      let inputs : slice_get (inputs_by_component p) place.0 ≡ Some bolt.inputs = inputs_at_bolt p place.0 bolt place.1 in
-      none_first (again_fault (map (λ (input : Input). input.from) bolt.inputs) ∷ first_some (map (λ (input : Input). again_fault (key_of input.grouping)) bolt.inputs) ∷ again_fault (projected bolt.operation) ∷ []) (
-        once (map (λ (input : Input). input.from) bolt.inputs) (froms_apart place.0 bolt.inputs inputs),
+  part_once : (part : ComponentPart) → IsIn part (components_of p) → component_twice part ≡ None
+  part_once part at =
+      let place = place_in (components_of p) part at in
+      let froms : AreApart (map (λ (input : Input). input.from) part.inputs) =
+      apart_from_pairs (λ (input : Input). input.from) part.inputs
+      (subst (AllPairs (λ (a b : Input). a.from ≢ b.from)) (inputs_are p place.0 part place.1) (IsValidComponent.distinct (valid.components place.0 (within_at place.0 part place.1))))
+      in
+      none_first (twice_in part) (
+        once (own_key part.body) (own_key_apart place.0 part part.body place.1 refl),
         (
-          none_first_map (λ (input : Input). again_fault (key_of input.grouping)) bolt.inputs (λ input listed. once (key_of input.grouping) (key_apart_of place.0 bolt.inputs input inputs listed)),
-          (once (projected bolt.operation) (projected_by (fields_of p (origin.Component place.0)) (fields_to p place.0) bolt.operation (fields_made place.0 bolt place.1) (HasFields.distinct (bolt_has place.0 bolt place.1))), tt),
+          once (map (λ (input : Input). input.from) part.inputs) froms,
+          (
+            none_first_map (λ (input : Input). again_fault (key_of input.grouping)) part.inputs (λ input listed. once (key_of input.grouping) (key_apart_of place.0 part input place.1 listed)),
+            (
+              once (projected part.body) (projected_by (fields_of p (origin.Component place.0)) (fields_to p place.0) part.body (fields_are place.0 part place.1) (λ bolt. HasFields.distinct (has_fields place.0 part place.1 bolt))),
+              tt,
+            ),
+          ),
         ),
       )
 
-  state_once : (state : StatePart) → IsIn state p.states → state_twice state ≡ None
-  state_once state at =
-      let place = place_in p.states state at in
-      let c : ℕ = length p.bolts + place.0 in
-      let inputs : slice_get (inputs_by_component p) c ≡ Some (state_inputs state) = inputs_at_state p c state (record { place = place.0; number = refl; is = place.1 }) in
-      let limits : IsStateInRange state = All-at_in IsStateInRange p.states (valid.range).each_state state at in
-      let first = some_in state.inputs (limits.inputs).0 in
-      let input : Input = record { from = first.0; grouping = said.Fields state.key } in
-      let listed : IsIn input (state_inputs state) = to_map (λ from. record { from = from; grouping = said.Fields state.key }) state.inputs first.0 first.1 in
-      none_first (again_fault state.key ∷ again_fault state.inputs ∷ []) (once state.key (key_apart_of c (state_inputs state) input inputs listed), (once state.inputs (subst AreApart (froms_of_state state) (froms_apart c (state_inputs state) inputs)), tt))
-
   twice_none : twice_fault p ≡ None
   twice_none =
-      none_first (again_fault (p.spout.name ∷ component_names p) ∷ again_fault p.spout.fields ∷ first_some (map bolt_twice p.bolts) ∷ first_some (map state_twice p.states) ∷ []) (
+      none_first (again_fault (p.spout.name ∷ component_names p) ∷ again_fault p.spout.fields ∷ first_some (map component_twice (components_of p)) ∷ []) (
         once (p.spout.name ∷ component_names p) (apart_from_distinct (p.spout.name ∷ component_names p) valid.names),
         (
           once p.spout.fields (subst AreApart valid.spout_fields (apart_from_distinct (fields_of p origin.Spout) (HasFields.distinct (valid.fields origin.Spout tt)))),
-          (none_first_map bolt_twice p.bolts bolt_once, (none_first_map state_twice p.states state_once, tt)),
+          (none_first_map component_twice (components_of p) part_once, tt),
         ),
       )
 
   -- ---- sources
 
-  named : (names : List (List ℕ)) → ((name : List ℕ) → IsIn name names → (from : Origin) × (source_of p name ≡ Some from)) → nameless_fault p names ≡ None
-  named names each =
-      ap (option_map NoSource)
-      (find_none (λ name. is_none (source_of p name)) names (λ name at. ap (λ (there : Option Origin). is_none there) (each name at).1))
-
   source_none : source_fault p ≡ None
   source_none =
-      let of_bolt = λ (bolt : BoltPart). nameless_fault p (map (λ (input : Input). input.from) bolt.inputs) in
-      let of_state = λ (state : StatePart). nameless_fault p state.inputs in
-      none_first (first_some (map of_bolt p.bolts) ∷ first_some (map of_state p.states) ∷ []) (
-        none_first_map of_bolt p.bolts
-            (λ bolt at.
-            let place = place_in p.bolts bolt at in
-            named (map (λ (input : Input). input.from) bolt.inputs)
-            (λ name listed.
-            let input = in_map (λ (input : Input). input.from) bolt.inputs name listed in
-            let has : IsValidInput p (fields_to p place.0) input.0 = input_valid place.0 bolt.inputs input.0 (inputs_at_bolt p place.0 bolt place.1) input.1 in
-            (has.from, ap (source_of p) (sym input.2) ∙ has.named))),
-        (
-          none_first_map of_state p.states
-              (λ state at.
-              let place = place_in p.states state at in
-              let c : ℕ = length p.bolts + place.0 in
-              named state.inputs
-              (λ name listed.
-              let input : Input = record { from = name; grouping = said.Fields state.key } in
-              let has : IsValidInput p (fields_to p c) input =
-              input_valid c (state_inputs state) input (inputs_at_state p c state (record { place = place.0; number = refl; is = place.1 })) (to_map (λ from. record { from = from; grouping = said.Fields state.key }) state.inputs name listed)
-              in
-              (has.from, has.named))),
-          tt,
-        ),
-      )
+      none_first_map (nameless_fault p) (components_of p)
+      (λ part at.
+      let place = place_in (components_of p) part at in
+      ap (option_map (λ (input : Input). NoSource input.from))
+      (find_none (λ (input : Input). is_none (source_of p input.from)) part.inputs
+      (λ input listed. ap (λ (there : Option Origin). is_none there) (IsValidInput.named (input_valid place.0 part input place.1 listed)))))
 
   -- ---- fields
 
@@ -219,7 +193,7 @@ module _ (p : FileParts) (valid : IsValidFile p) where
   direct_none c input said.Global has is = refl
   direct_none c input said.Direct has is =
       let chosen : chooses p input ≡ true =
-      ap (λ there. option_map_or is_route (option_and_then (operation_at p) there) false) has.named ∙ has.direct (is refl)
+      ap (λ there. option_map_or is_route (option_and_then (body_of p) there) false) has.named ∙ has.direct (is refl)
       in
       cond-true (chooses p input) None (Some (WrongKind (codes "grouping"))) chosen
 
@@ -244,50 +218,48 @@ new_last (first ∷ names) name apart at =
     last_in [] name = inl refl
     last_in (first ∷ names) name = inr (last_in names name)
 
-added_none : (fields come : List (List ℕ)) (operation : Operation) → fields ≡ fields_after operation come → AreDistinct fields → IsBetween (length fields) 1 8 → added_fault come operation ≡ None
-added_none fields come (Split field into) is distinct count = refl
-added_none fields come (Project names) is distinct count = refl
-added_none fields come (Filter field test value) is distinct count = refl
-added_none fields come (Set field value) is distinct count = refl
-added_none fields come (Len field into) is distinct count =
-    let apart : AreApart (come ++ into ∷ []) = apart_from_distinct (come ++ into ∷ []) (subst AreDistinct is distinct) in
+added_none : (fields come : List (List ℕ)) (body : BodyPart) → fields ≡ fields_after body come → (is_bolt body ≡ true → AreDistinct fields × IsBetween (length fields) 1 8) → added_fault come body ≡ None
+added_none fields come (Bolt (Split field into)) is has = refl
+added_none fields come (Bolt (Project names)) is has = refl
+added_none fields come (Bolt (Filter field test value)) is has = refl
+added_none fields come (Bolt (Set field value)) is has = refl
+added_none fields come (Bolt (Len field into)) is has =
+    let apart : AreApart (come ++ into ∷ []) = apart_from_distinct (come ++ into ∷ []) (subst AreDistinct is (has refl).0) in
     let new : is_among come into ≡ false = false_from_ne_true (is_among come into) (λ among. new_last come into apart (among_in come into among)) in
     let more : length fields ≡ length come + 1 = ap (λ (names : List (List ℕ)). length names) is ∙ length-append come (into ∷ []) in
     cond-false (is_among come into) (Some (Twice into)) (range_fault (codes "fields") (pos (length come + 1)) 1 8) new
-    ∙ within_range (codes "fields") (length come + 1) 1 8 (subst (λ n. IsBetween n 1 8) more count)
-added_none fields come (Route field) is distinct count = refl
-added_none fields come (Flaky below) is distinct count = refl
-added_none fields come (Mute below) is distinct count = refl
-added_none fields come Custom is distinct count = refl
+    ∙ within_range (codes "fields") (length come + 1) 1 8 (subst (λ n. IsBetween n 1 8) more (has refl).1)
+added_none fields come (Bolt (Route field)) is has = refl
+added_none fields come (Bolt (Flaky below)) is has = refl
+added_none fields come (Bolt (Mute below)) is has = refl
+added_none fields come (Bolt Custom) is has = refl
+added_none fields come (State state) is has = refl
 
 module _ (p : FileParts) (valid : IsValidFile p) where
   component_none : (c : ℕ) → c < component_count p → component_fault p c ≡ None
   component_none c within =
-      let reads = IsValidComponent.reads (valid.components c within) in
-      elim (cases_component p c (omega (arith, length_names p))) [
-        | inl bolt ↦
-            let has : HasFields p (origin.Component c) = bolt_has p valid c bolt.0 bolt.1 in
-            let inputs : inputs_at p c ≡ bolt.0.inputs = inputs_are p valid c bolt.0.inputs (inputs_at_bolt p c bolt.0 bolt.1) in
-            fault_of_bolt p c bolt.0 bolt.1
-            ∙ none_first (differ_fault p c ∷ first_some (map (input_fault p c) bolt.0.inputs) ∷ field_fault p c (fields_read bolt.0.operation) ∷ added_fault (fields_to p c) bolt.0.operation ∷ []) (
-              same_none p valid c within,
-              (
-                none_first_map (input_fault p c) bolt.0.inputs (λ input at. input_none p valid c input (here_valid p valid c input within (subst (IsIn input) (sym inputs) at))),
-                (
-                  there_none p valid c (fields_read bolt.0.operation) (subst (All (Contains (fields_to p c))) (reads_at_bolt p c bolt.0 bolt.1) reads),
-                  (added_none (fields_of p (origin.Component c)) (fields_to p c) bolt.0.operation (fields_made p valid c bolt.0 bolt.1) has.distinct has.count, tt),
-                ),
-              ),
-            )
-        | inr state ↦
-            let each : All (Contains (fields_to p c)) (state.0.key ++ option_to_list state.0.amount) = subst (All (Contains (fields_to p c))) (reads_at_state p c state.0 state.1) reads in
-            let part = λ (names : List (List ℕ)) (from : (name : List ℕ) → IsIn name names → IsIn name (state.0.key ++ option_to_list state.0.amount)).
-            there_none p valid c names (All-from_in (Contains (fields_to p c)) names (λ name at. All-at_in (Contains (fields_to p c)) (state.0.key ++ option_to_list state.0.amount) each name (from name at)))
-            in
-            fault_of_state p c state.0 state.1
-            ∙ none_first (differ_fault p c ∷ field_fault p c state.0.key ∷ field_fault p c (option_to_list state.0.amount) ∷ [])
-            (same_none p valid c within, (part state.0.key (to_left state.0.key (option_to_list state.0.amount)), (part (option_to_list state.0.amount) (to_right state.0.key (option_to_list state.0.amount)), tt)))
-      ]
+      let part = part_there p c within in
+      let reads : All (Contains (fields_to p c)) (fields_read part.0.body ++ amount_read part.0.body) =
+      subst (λ there. All (Contains (fields_to p c)) (option_map_or (λ (part : ComponentPart). fields_read part.body ++ amount_read part.body) there [])) part.1 (IsValidComponent.reads (valid.components c within))
+      in
+      let some = λ (names : List (List ℕ)) (from : (name : List ℕ) → IsIn name names → IsIn name (fields_read part.0.body ++ amount_read part.0.body)).
+      there_none p valid c names (All-from_in (Contains (fields_to p c)) names (λ name at. All-at_in (Contains (fields_to p c)) (fields_read part.0.body ++ amount_read part.0.body) reads name (from name at)))
+      in
+      let has = λ (bolt : is_bolt part.0.body ≡ true). has_fields p valid c part.0 part.1 bolt in
+      ap (option_and_then (part_fault p c)) part.1
+      ∙ none_first (faults_of p c part.0) (
+        same_none p valid c within,
+        (
+          none_first_map (input_fault p c) part.0.inputs (λ input at. input_none p valid c input (input_valid p valid c part.0 input part.1 at)),
+          (
+            some (fields_read part.0.body) (to_left (fields_read part.0.body) (amount_read part.0.body)),
+            (
+              some (amount_read part.0.body) (to_right (fields_read part.0.body) (amount_read part.0.body)),
+              (added_none (fields_of p (origin.Component c)) (fields_to p c) part.0.body (fields_are p valid c part.0 part.1) (λ bolt. (HasFields.distinct (has bolt), HasFields.count (has bolt))), tt),
+            ),
+          ),
+        ),
+      )
 
   depth_within : (c : ℕ) → IsIn c (by_depth (graph_of p)) → c < component_count p
   unfolding by_depth
@@ -295,23 +267,19 @@ module _ (p : FileParts) (valid : IsValidFile p) where
       let depth = in_flat_map (λ depth. filter (λ d. depth_at (graph_of p) (origin.Component d) == depth) (range_with_len 0 (length (graph_of p)))) (range_with_len 1 (length (graph_of p))) c at in
       let kept = in_filter (λ d. depth_at (graph_of p) (origin.Component d) == depth.0) (range_with_len 0 (length (graph_of p))) c depth.2 in
       let bounds = in_range 0 (length (graph_of p)) c kept.0 in
-      omega (arith, bounds.1, length_graph p, length_names p)
+      omega (arith, bounds.1, length_graph p)
 
   fields_none : fields_fault p ≡ None
   fields_none = none_first_map (component_fault p) (by_depth (graph_of p)) (λ c at. component_none c (depth_within c at))
 
   -- ---- the whole
 
-  opaque_only : (kind : Kind) → kind ≡ Opaque → is_transactional kind ≡ false
-  opaque_only Transactional is = cc
-  opaque_only Opaque is = refl
-
   replay_none : (kind : Kind) → p.spout.kind ≡ kind → replay_fault p kind ≡ None
   replay_none Transactional is = refl
   replay_none Opaque is =
-      ap (option_map (λ (state : StatePart). NotExactlyOnce state.name))
-      (find_none (λ (state : StatePart). is_transactional state.kind) p.states
-      (λ state at. opaque_only state.kind (All-at_in (λ (s : StatePart). s.kind ≡ Opaque) p.states (valid.replays is) state at)))
+      ap (option_map (λ (part : ComponentPart). NotExactlyOnce part.name))
+      (find_none (λ (part : ComponentPart). keeps_exact part.body) p.states
+      (λ part at. All-at_in (λ (state : ComponentPart). keeps_exact state.body ≡ false) p.states (valid.replays is) part at))
 
 light : (weight : ℕ) → weight ≤ 256 → weight_fault weight ≡ None
 light weight few = cond-false (nat_lt 256 weight) (Some (Weight weight)) None (le-ltb 256 weight few)

@@ -1,8 +1,7 @@
--- Which bolt or state a component number is, and what stands in its place in the lists that go over all components.
-use Rattle.std.proofs.Common.{◌≡◌, ℕ, zero, suc, ◌+◌, ◌-◌, ◌<◌, List, [], ◌∷◌, ◌++◌, length, map, Some, option_map, option_to_list, slice_get, ◌⊎◌, inl, inr, refl, ◌∙◌, ap, arith}
-use Rattle.topology_reader.proofs.Common.{enumerate_from, BoltPart, StatePart, FileParts, option_map_or, cases_lt, length-map, length-enumerate_from, none-some, slice_get-map, slice_get_past, inputs_by_component, state_inputs, at_component, planned_bolt, planned_state, plan_of, fields_read, reads_at}
-use Rattle.topology_plan.specs.declared.parts.Component.{Component}
-use Rattle.topology_reader.proofs.PartLemmas.{map_parts}
+-- What stands at the number of a component in the lists that go over all components.
+use Rattle.std.proofs.Common.{◌≡◌, ℕ, zero, suc, ◌+◌, ◌-◌, ◌<◌, ◌≤◌, true, false, List, [], ◌∷◌, ◌++◌, length, map, take, drop, Some, option_map, slice_get, inl, inr, refl, sym, ◌∙◌, ap, subst, arith, length-append}
+use Rattle.topology_reader.proofs.Common.{enumerate_from, FileParts, ComponentPart, BodyPart, Bolt, State, Operation, IsInRange, IsComponentInRange, components_of, component_count, component_at, is_bolt, none-some, cases_lt, false≢true, slice_get-map, get_or_from_slice_get, inputs_by_component, inputs_at, planned_component, plan_of}
+use Rattle.topology_reader.proofs.Listed.{All-at_in, in_place}
 
 -- ---- places in lists
 
@@ -36,80 +35,65 @@ some_there [] k within = absurd (omega arith)
 some_there (x ∷ xs) zero within = (x, refl)
 some_there (x ∷ xs) (suc k) within = some_there xs k (omega arith)
 
+pub drop_at : {X : Type 0} (xs : List X) (k : ℕ) (x : X) → slice_get xs k ≡ Some x → drop k xs ≡ x ∷ drop (k + 1) xs
+drop_at [] k x is = absurd (none-some x is)
+drop_at (y ∷ ys) zero x is = let same : Some y ≡ Some x = is in cc
+drop_at (y ∷ ys) (suc k) x is = let next : suc k + 1 ≡ suc (k + 1) = omega arith in rw next (drop_at ys k x is)
+
+pub take_at : {X : Type 0} (xs : List X) (k : ℕ) (x : X) → slice_get xs k ≡ Some x → take (k + 1) xs ≡ take k xs ++ x ∷ []
+take_at [] k x is = absurd (none-some x is)
+take_at (y ∷ ys) zero x is = let same : Some y ≡ Some x = is in cc
+take_at (y ∷ ys) (suc k) x is = let next : suc k + 1 ≡ suc (k + 1) = omega arith in rw next (ap (λ zs. y ∷ zs) (take_at ys k x is))
+
+-- ---- components
+
+abbrev pub IsAt : FileParts → ℕ → ComponentPart → Type 0
+IsAt p c part = component_at p c ≡ Some part
+
+pub count_parts : (p : FileParts) → component_count p ≡ length p.bolts + length p.states
+count_parts p = length-append p.bolts p.states
+
+pub part_there : (p : FileParts) (c : ℕ) → c < component_count p → (part : ComponentPart) × IsAt p c part
+part_there p c within = some_there (components_of p) c within
+
+pub inputs_at_part : (p : FileParts) (c : ℕ) (part : ComponentPart) → IsAt p c part → slice_get (inputs_by_component p) c ≡ Some part.inputs
+inputs_at_part p c part is = place_mapped (λ (part : ComponentPart). part.inputs) (components_of p) c part is
+
+pub inputs_are : (p : FileParts) (c : ℕ) (part : ComponentPart) → IsAt p c part → inputs_at p c ≡ part.inputs
+inputs_are p c part is = get_or_from_slice_get (inputs_by_component p) c part.inputs [] (inputs_at_part p c part is)
+
+-- what is planned of a component
+pub planned_at : (p : FileParts) (c : ℕ) (part : ComponentPart) → IsAt p c part → slice_get (plan_of p).components c ≡ Some (planned_component p (c, part))
+unfolding plan_of
+planned_at p c part is =
+    place_mapped (planned_component p) (enumerate_from 0 (components_of p)) c (c, part) (place_enumerated 0 (components_of p) c c part (omega arith) is)
+
 -- ---- bolts and states
 
--- component c is this state
-pub record IsStateAt (p : FileParts) (c : ℕ) (state : StatePart) : Type 0 where
-  pub place : ℕ
-  pub number : c ≡ length p.bolts + place
-  pub is : slice_get p.states place ≡ Some state
+pub range_at : (p : FileParts) (c : ℕ) (part : ComponentPart) → IsInRange p → IsAt p c part → IsComponentInRange part
+range_at p c part range is = All-at_in IsComponentInRange (components_of p) range.each part (in_place (components_of p) c part is)
 
-abbrev pub IsBoltAt : FileParts → ℕ → BoltPart → Type 0
-IsBoltAt p c bolt = slice_get p.bolts c ≡ Some bolt
+pub is_bolt_at : (p : FileParts) (c : ℕ) (part : ComponentPart) → IsInRange p → IsAt p c part → c < length p.bolts → is_bolt part.body ≡ true
+is_bolt_at p c part range is within =
+    let bolt = some_there p.bolts c within in
+    let same : Some bolt.0 ≡ Some part = sym (place_left p.bolts p.states c bolt.0 bolt.1) ∙ is in
+    let one : bolt.0 ≡ part = cc in
+    subst (λ (part : ComponentPart). is_bolt part.body ≡ true) one (All-at_in (λ (part : ComponentPart). is_bolt part.body ≡ true) p.bolts range.are_bolts bolt.0 (in_place p.bolts c bolt.0 bolt.1))
 
--- each number below the number of components is that of a bolt or of a state
-pub cases_component : (p : FileParts) (c : ℕ) → c < length p.bolts + length p.states → ((bolt : BoltPart) × IsBoltAt p c bolt) ⊎ ((state : StatePart) × IsStateAt p c state)
-cases_component p c within =
-    elim (cases_lt c (length p.bolts)) [
-      | inl bolt ↦ inl (some_there p.bolts c bolt)
-      | inr past ↦
-          let state = some_there p.states (c - length p.bolts) (omega arith) in
-          inr (state.0, record { place = c - length p.bolts; number = omega arith; is = state.1 })
-    ]
+pub is_state_at : (p : FileParts) (c : ℕ) (part : ComponentPart) → IsInRange p → IsAt p c part → length p.bolts ≤ c → is_bolt part.body ≡ false
+is_state_at p c part range is past =
+    let place : c ≡ length p.bolts + (c - length p.bolts) = omega arith in
+    All-at_in (λ (part : ComponentPart). is_bolt part.body ≡ false) p.states range.are_states part
+    (in_place p.states (c - length p.bolts) part (sym (place_right p.bolts p.states c (c - length p.bolts) place) ∙ is))
 
--- a list over the bolts and then the states
-pub part_at_bolt : {X : Type 0} (f : BoltPart → X) (g : StatePart → X) (p : FileParts) (c : ℕ) (bolt : BoltPart) → IsBoltAt p c bolt → slice_get (map f p.bolts ++ map g p.states) c ≡ Some (f bolt)
-part_at_bolt f g p c bolt is = place_left (map f p.bolts) (map g p.states) c (f bolt) (place_mapped f p.bolts c bolt is)
+pub the_operation : (body : BodyPart) → is_bolt body ≡ true → (operation : Operation) × (body ≡ Bolt operation)
+the_operation (Bolt operation) is = (operation, refl)
+the_operation (State state) is = absurd (false≢true is)
 
-pub part_at_state : {X : Type 0} (f : BoltPart → X) (g : StatePart → X) (p : FileParts) (c : ℕ) (state : StatePart) → IsStateAt p c state → slice_get (map f p.bolts ++ map g p.states) c ≡ Some (g state)
-part_at_state f g p c state at =
-    place_right (map f p.bolts) (map g p.states) c at.place (omega (arith, at.number, length-map p.bolts f))
-    ∙ place_mapped g p.states at.place state at.is
+pub bolt_below : (p : FileParts) (c : ℕ) (part : ComponentPart) → IsInRange p → IsAt p c part → is_bolt part.body ≡ true → c < length p.bolts
+bolt_below p c part range at is =
+    elim (cases_lt c (length p.bolts)) [ inl within ↦ within | inr past ↦ absurd (false≢true (sym (is_state_at p c part range at past) ∙ is)) ]
 
-pub inputs_at_bolt : (p : FileParts) (c : ℕ) (bolt : BoltPart) → IsBoltAt p c bolt → slice_get (inputs_by_component p) c ≡ Some bolt.inputs
-inputs_at_bolt p c bolt is = part_at_bolt (λ (b : BoltPart). b.inputs) state_inputs p c bolt is
-
-pub inputs_at_state : (p : FileParts) (c : ℕ) (state : StatePart) → IsStateAt p c state → slice_get (inputs_by_component p) c ≡ Some (state_inputs state)
-inputs_at_state p c state at = part_at_state (λ (b : BoltPart). b.inputs) state_inputs p c state at
-
--- what is said of a component number
-pub at_bolt : {X : Type 0} (f : BoltPart → X) (g : StatePart → X) (nothing : X) (p : FileParts) (c : ℕ) (bolt : BoltPart) → IsBoltAt p c bolt → at_component f g nothing p c ≡ f bolt
-at_bolt f g nothing p c bolt is = ap (λ there. option_map_or f there (option_map_or g (slice_get p.states (c - length p.bolts)) nothing)) is
-
-pub at_state : {X : Type 0} (f : BoltPart → X) (g : StatePart → X) (nothing : X) (p : FileParts) (c : ℕ) (state : StatePart) → IsStateAt p c state → at_component f g nothing p c ≡ g state
-at_state f g nothing p c state at =
-    let place : c - length p.bolts ≡ at.place = omega (arith, at.number) in
-    ap (λ there. option_map_or f there (option_map_or g (slice_get p.states (c - length p.bolts)) nothing)) (slice_get_past p.bolts c (omega (arith, at.number)))
-    ∙ ap (λ there. option_map_or g there nothing) (ap (slice_get p.states) place ∙ at.is)
-
-pub reads_at_bolt : (p : FileParts) (c : ℕ) (bolt : BoltPart) → IsBoltAt p c bolt → reads_at p c ≡ fields_read bolt.operation
-reads_at_bolt = at_bolt (λ (b : BoltPart). fields_read b.operation) (λ (s : StatePart). s.key ++ option_to_list s.amount) []
-
-pub reads_at_state : (p : FileParts) (c : ℕ) (state : StatePart) → IsStateAt p c state → reads_at p c ≡ state.key ++ option_to_list state.amount
-reads_at_state = at_state (λ (b : BoltPart). fields_read b.operation) (λ (s : StatePart). s.key ++ option_to_list s.amount) []
-
--- ---- components of the plan
-
-pub component_at_bolt : (p : FileParts) (c : ℕ) (bolt : BoltPart) → IsBoltAt p c bolt → slice_get (plan_of p).components c ≡ Some (planned_bolt p (c, bolt))
-unfolding plan_of
-component_at_bolt p c bolt is =
-    place_left (map (planned_bolt p) (enumerate_from 0 p.bolts)) (map (planned_state p) (enumerate_from (length p.bolts) p.states)) c (planned_bolt p (c, bolt))
-    (place_mapped (planned_bolt p) (enumerate_from 0 p.bolts) c (c, bolt) (place_enumerated 0 p.bolts c c bolt (omega arith) is))
-
-pub component_at_state : (p : FileParts) (c : ℕ) (state : StatePart) → IsStateAt p c state → slice_get (plan_of p).components c ≡ Some (planned_state p (c, state))
-unfolding plan_of
-component_at_state p c state at =
-    place_right (map (planned_bolt p) (enumerate_from 0 p.bolts)) (map (planned_state p) (enumerate_from (length p.bolts) p.states)) c at.place
-    (omega (arith, at.number, length-map (enumerate_from 0 p.bolts) (planned_bolt p), length-enumerate_from 0 p.bolts))
-    ∙ place_mapped (planned_state p) (enumerate_from (length p.bolts) p.states) at.place (c, state) (place_enumerated (length p.bolts) p.states at.place c state at.number at.is)
-
--- what is made of each component, from the bolts and the states
-pub map_components : {X : Type 0} (h : Component → X) (f : BoltPart → X) (g : StatePart → X) (p : FileParts)
-    → ((c : ℕ) (bolt : BoltPart) → h (planned_bolt p (c, bolt)) ≡ f bolt)
-    → ((c : ℕ) (state : StatePart) → h (planned_state p (c, state)) ≡ g state)
-    → map h (plan_of p).components ≡ map f p.bolts ++ map g p.states
-unfolding plan_of
-map_components h f g p of_bolt of_state =
-    map_parts h (planned_bolt p) (planned_state p) (enumerate_from 0 p.bolts) (enumerate_from (length p.bolts) p.states)
-    ∙ ap (λ ys. ys ++ map (λ (numbered : ℕ × StatePart). h (planned_state p numbered)) (enumerate_from (length p.bolts) p.states)) (map_enumerated (λ numbered. h (planned_bolt p numbered)) f of_bolt 0 p.bolts)
-    ∙ ap (λ ys. map f p.bolts ++ ys) (map_enumerated (λ numbered. h (planned_state p numbered)) g of_state (length p.bolts) p.states)
+pub state_past : (p : FileParts) (c : ℕ) (part : ComponentPart) → IsInRange p → IsAt p c part → is_bolt part.body ≡ false → length p.bolts ≤ c
+state_past p c part range at is =
+    elim (cases_lt c (length p.bolts)) [ inl within ↦ absurd (false≢true (sym is ∙ is_bolt_at p c part range at within)) | inr past ↦ past ]

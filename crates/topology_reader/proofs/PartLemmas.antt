@@ -1,15 +1,6 @@
--- Lists over the bolts and then the states: how long they are, and what is made of them.
-use Rattle.std.proofs.Common.{◌≡◌, ℕ, ◌+◌, List, [], ◌∷◌, ◌++◌, length, map, refl, ap, ◌∙◌, arith, length-append}
-use Rattle.topology_reader.proofs.Common.{length-map, map-append, map-map, enumerate_from}
-
-pub length_parts : {X Y Z : Type 0} (f : X → Z) (g : Y → Z) (xs : List X) (ys : List Y) → length (map f xs ++ map g ys) ≡ length xs + length ys
-length_parts f g xs ys = length-append (map f xs) (map g ys) ∙ omega (arith, length-map xs f, length-map ys g)
-
-pub map_parts : {X Y Z V : Type 0} (h : Z → V) (f : X → Z) (g : Y → Z) (xs : List X) (ys : List Y) → map h (map f xs ++ map g ys) ≡ map (λ x. h (f x)) xs ++ map (λ y. h (g y)) ys
-map_parts h f g xs ys =
-    map-append h (map f xs) (map g ys)
-    ∙ ap (λ zs. zs ++ map h (map g ys)) (map-map h f xs)
-    ∙ ap (λ zs. map (λ x. h (f x)) xs ++ zs) (map-map h g ys)
+-- Lists that are made of others.
+use Rattle.std.proofs.Common.{◌≡◌, ℕ, ◌+◌, List, [], ◌∷◌, ◌++◌, length, map, refl, ap, ◌∙◌, arith}
+use Rattle.topology_reader.proofs.Common.{enumerate_from}
 
 pub map_same : {A B : Type 0} (f g : A → B) → ((a : A) → f a ≡ g a) → (xs : List A) → map f xs ≡ map g xs
 map_same f g same [] = refl

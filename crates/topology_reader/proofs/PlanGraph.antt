@@ -1,13 +1,13 @@
 -- The depth and the weight of the plan are those of the file's graph: what is gathered from the subscriptions to a component is
 -- the same source by source as input by input.
 use Rattle.std.proofs.Common.{◌≡◌, ◌≢◌, ℕ, zero, suc, ◌+◌, ◌*◌, ◌<◌, ◌≤◌, ◌^◌, ◌==◌, true, false, List, [], ◌∷◌, ◌++◌, length, map, filter, min, max, Option, Some, None, option_map, slice_index_or, inl, inr, refl, sym, ◌∙◌, ap, arith, append_assoc}
-use Rattle.topology_reader.proofs.Common.{cons_option, enumerate_from, flat_map, range_with_len, option_map_or, Origin, BoltPart, FileParts, GroupingPart, Input, StatePart, Feed, fed, feeds_at, value_in, value_of, cases_eq, cases_lt, cond-true, cond-false, eqb-true, eq-eqb, false_from_ne_true, append-nil, map-append, get_or_past, filter-append, get_or_from_slice_get, map-map, Sub, tasks_of, copies_by, copies_of, origins, inputs_of, subs_of, greatest, depth_within, plan_depth, weight_end, ended_sum, tuples_within, plan_weight, depth_rule, tuples_rule, depth_in_within, greatest_within, source_of, state_inputs, inputs_by_component, inputs_at, copies_said, feeds_of, graph_of, is_origin, is_from, planned_grouping, subs_of_component, planned_subs, plan_of}
+use Rattle.topology_reader.proofs.Common.{cons_option, enumerate_from, flat_map, range_with_len, option_map_or, Origin, ComponentPart, components_of, component_count, FileParts, GroupingPart, Input, Feed, fed, feeds_at, value_in, value_of, cases_eq, cases_lt, cond-true, cond-false, eqb-true, eq-eqb, false_from_ne_true, append-nil, map-append, get_or_past, filter-append, get_or_from_slice_get, map-map, Sub, tasks_of, copies_by, copies_of, origins, inputs_of, subs_of, greatest, depth_within, plan_depth, weight_end, ended_sum, tuples_within, plan_weight, depth_rule, tuples_rule, depth_in_within, greatest_within, source_of, inputs_by_component, inputs_at, copies_said, feeds_of, graph_of, is_origin, is_from, planned_grouping, subs_of_component, planned_subs, plan_of}
 use Rattle.topology_graph.specs.Numbers.{depth_of, weight_of}
 use Rattle.topology_plan.specs.declared.parts.Component.{Component}
 use Rattle.topology_plan.specs.declared.parts.Origin.TheVariants as origin
 use Rattle.topology_form.specs.declared.parts.GroupingPart.TheVariants as said
 use Rattle.topology_reader.proofs.Listed.{IsIn, in_map, in_flat_map, in_enumerated, in_range}
-use Rattle.topology_reader.proofs.Numbered.{cases_component, part_at_bolt, part_at_state, inputs_at_bolt, inputs_at_state, component_at_bolt, component_at_state}
+use Rattle.topology_reader.proofs.Numbered.{count_parts, part_there, place_mapped, inputs_are, planned_at}
 use Rattle.topology_reader.proofs.PartLemmas.{map_same}
 use Rattle.topology_reader.proofs.SubFacts.{none_kept}
 use Rattle.topology_reader.proofs.SourceLemmas.{source_within, length_inputs, length_graph}
@@ -184,19 +184,13 @@ inputs_planned p c f =
 
 feeds_planned : (p : FileParts) (c : ℕ) → feeds_at (graph_of p) c ≡ feeds_of p (tasks_of (plan_of p) c) (inputs_at p c)
 feeds_planned p c =
-    let bolt_feeds = λ (bolt : BoltPart). feeds_of p bolt.tasks bolt.inputs in
-    let state_feeds = λ (state : StatePart). feeds_of p state.parts (state_inputs state) in
-    elim (cases_lt c (length p.bolts + length p.states)) [
-      | inl within ↦ elim (cases_component p c within) [
-        | inl bolt ↦
-            get_or_from_slice_get (graph_of p) c (bolt_feeds bolt.0) [] (part_at_bolt bolt_feeds state_feeds p c bolt.0 bolt.1)
-            ∙ ap (λ there. feeds_of p (option_map_or (λ (component : Component). component.tasks) there 0) bolt.0.inputs) (sym (component_at_bolt p c bolt.0 bolt.1))
-            ∙ ap (feeds_of p (tasks_of (plan_of p) c)) (sym (get_or_from_slice_get (inputs_by_component p) c bolt.0.inputs [] (inputs_at_bolt p c bolt.0 bolt.1)))
-        | inr state ↦
-            get_or_from_slice_get (graph_of p) c (state_feeds state.0) [] (part_at_state bolt_feeds state_feeds p c state.0 state.1)
-            ∙ ap (λ there. feeds_of p (option_map_or (λ (component : Component). component.tasks) there 0) (state_inputs state.0)) (sym (component_at_state p c state.0 state.1))
-            ∙ ap (feeds_of p (tasks_of (plan_of p) c)) (sym (get_or_from_slice_get (inputs_by_component p) c (state_inputs state.0) [] (inputs_at_state p c state.0 state.1)))
-      ]
+    let feeds = λ (part : ComponentPart). feeds_of p part.tasks part.inputs in
+    elim (cases_lt c (component_count p)) [
+      | inl within ↦
+          let part = part_there p c within in
+          get_or_from_slice_get (graph_of p) c (feeds part.0) [] (place_mapped feeds (components_of p) c part.0 part.1)
+          ∙ ap (λ there. feeds_of p (option_map_or (λ (component : Component). component.tasks) there 0) part.0.inputs) (sym (planned_at p c part.0 part.1))
+          ∙ ap (feeds_of p (tasks_of (plan_of p) c)) (sym (inputs_are p c part.0 part.1))
       | inr past ↦
           get_or_past (graph_of p) c [] (omega (arith, length_graph p))
           ∙ ap (feeds_of p (tasks_of (plan_of p) c)) (sym (get_or_past (inputs_by_component p) c [] (omega (arith, length_inputs p))))
@@ -207,7 +201,7 @@ gathered : (gather : List ℕ → ℕ) (more : ℕ → ℕ → ℕ) → IsGather
     → gather (map g (feeds_at (graph_of p) c)) ≡ gather (map (λ (input : Origin × Sub). f input.0 input.1) (inputs_of (plan_of p) c))
 gathered gather more gathers p c f g same =
     ap (λ feeds. gather (map g feeds)) (feeds_planned p c)
-    ∙ sym (by_inputs gather more gathers p (length (plan_of p).components) (tasks_of (plan_of p) c) (λ from input. f from (sub_of p c from input)) g (omega (arith, length_components p)) same (inputs_at p c))
+    ∙ sym (by_inputs gather more gathers p (length (plan_of p).components) (tasks_of (plan_of p) c) (λ from input. f from (sub_of p c from input)) g (omega (arith, length_components p, count_parts p)) same (inputs_at p c))
     ∙ ap gather (sym (inputs_planned p c f))
 
 -- ---- depth

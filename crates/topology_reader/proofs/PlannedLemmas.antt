@@ -1,7 +1,8 @@
 -- Fields by their numbers, and how many fields a source can have.
 use Rattle.std.proofs.Common.{◌≡◌, ℕ, zero, suc, ◌+◌, ◌≤◌, Bool, true, false, not, cond, List, [], ◌∷◌, length, All, Option, Some, None, option_map, position, nat_lt, slice_get, refl, ap, arith, rules, tests, length-append}
-use Rattle.topology_reader.proofs.Common.{position_or_len, bytes_eq, IsInRange, IsOperationInRange, IsBoltInRange, Origin, Operation, Split, Project, Filter, Set, Len, Route, Flaky, Mute, Custom, BoltPart, FileParts, option_map_or, feeds_at, fed, value_in, value_of, Feed, All-head, All-tail, place_of, fields_after, fields_of, fields_rule, first_of, graph_of}
+use Rattle.topology_reader.proofs.Common.{position_or_len, bytes_eq, IsInRange, IsBodyInRange, IsComponentInRange, Origin, Split, Project, Filter, Set, Len, Route, Flaky, Mute, Custom, BodyPart, Bolt, State, ComponentPart, components_of, Input, FileParts, option_map_or, feeds_at, fed, value_in, value_of, Feed, All-head, All-tail, place_of, fields_after, fields_of, fields_rule, first_of, graph_of}
 use Rattle.topology_plan.specs.declared.parts.Origin.TheVariants as origin
+use Rattle.topology_reader.proofs.Numbered.{count_parts}
 use Rattle.topology_reader.proofs.SourceLemmas.{length_graph}
 
 place_below : (below : Bool) (m : ℕ) → option_map suc (cond below (Some m) None) ≡ cond below (Some (1 + m)) None
@@ -22,23 +23,24 @@ place_of-position (field ∷ fields) name =
 
 -- ---- how many fields there are
 
-few_after : (operation : Operation) (fields : List (List ℕ)) (most : ℕ) → IsOperationInRange operation → 8 ≤ most → length fields ≤ most → length (fields_after operation fields) ≤ most + 1
-few_after (Split field into) fields most range eight few = omega arith
-few_after (Project names) fields most range eight few = omega (arith, range.0.1)
-few_after (Filter field test value) fields most range eight few = omega arith
-few_after (Set field value) fields most range eight few = omega arith
-few_after (Len field into) fields most range eight few = rw length-append (omega arith)
-few_after (Route field) fields most range eight few = omega arith
-few_after (Flaky below) fields most range eight few = omega arith
-few_after (Mute below) fields most range eight few = omega arith
-few_after Custom fields most range eight few = omega arith
+few_after : (body : BodyPart) (inputs : List Input) (fields : List (List ℕ)) (most : ℕ) → IsBodyInRange body inputs → 8 ≤ most → length fields ≤ most → length (fields_after body fields) ≤ most + 1
+few_after (Bolt (Split field into)) inputs fields most range eight few = omega arith
+few_after (Bolt (Project names)) inputs fields most range eight few = omega (arith, range.0.0.1)
+few_after (Bolt (Filter field test value)) inputs fields most range eight few = omega arith
+few_after (Bolt (Set field value)) inputs fields most range eight few = omega arith
+few_after (Bolt (Len field into)) inputs fields most range eight few = rw length-append (omega arith)
+few_after (Bolt (Route field)) inputs fields most range eight few = omega arith
+few_after (Bolt (Flaky below)) inputs fields most range eight few = omega arith
+few_after (Bolt (Mute below)) inputs fields most range eight few = omega arith
+few_after (Bolt Custom) inputs fields most range eight few = omega arith
+few_after (State state) inputs fields most range eight few = omega arith
 
-few_behind : (bolts : List BoltPart) (c : ℕ) (before : List (List ℕ)) (most : ℕ) → All IsBoltInRange bolts → 8 ≤ most → length before ≤ most → length (option_map_or (λ (bolt : BoltPart). fields_after bolt.operation before) (slice_get bolts c) []) ≤ most + 1
+few_behind : (parts : List ComponentPart) (c : ℕ) (before : List (List ℕ)) (most : ℕ) → All IsComponentInRange parts → 8 ≤ most → length before ≤ most → length (option_map_or (λ (part : ComponentPart). fields_after part.body before) (slice_get parts c) []) ≤ most + 1
 few_behind [] c before most ranges eight few = omega arith
-few_behind (bolt ∷ bolts) zero before most ranges eight few =
-    few_after bolt.operation before most (IsBoltInRange.operation (All-head IsBoltInRange bolt bolts ranges)) eight few
-few_behind (bolt ∷ bolts) (suc c) before most ranges eight few =
-    few_behind bolts c before most (All-tail IsBoltInRange bolt bolts ranges) eight few
+few_behind (part ∷ parts) zero before most ranges eight few =
+    few_after part.body part.inputs before most (IsComponentInRange.body (All-head IsComponentInRange part parts ranges)) eight few
+few_behind (part ∷ parts) (suc c) before most ranges eight few =
+    few_behind parts c before most (All-tail IsComponentInRange part parts ranges) eight few
 
 few_first : (fields : Origin → List (List ℕ)) (most : ℕ) → ((from : Origin) → length (fields from) ≤ most) → (feeds : List Feed) → length (first_of (fed fields feeds)) ≤ most
 few_first fields most few [] = omega arith
@@ -48,8 +50,8 @@ few_fields_in : (n : ℕ) (p : FileParts) → IsInRange p → (from : Origin) �
 few_fields_in n p range origin.Spout = omega (arith, range.spout.fields.1)
 few_fields_in zero p range (origin.Component c) = omega arith
 few_fields_in (suc n) p range (origin.Component c) =
-    omega (arith, few_behind p.bolts c (first_of (fed (value_in n (fields_rule p) (graph_of p)) (feeds_at (graph_of p) c))) (8 + n) range.each_bolt (omega arith) (few_first (value_in n (fields_rule p) (graph_of p)) (8 + n) (few_fields_in n p range) (feeds_at (graph_of p) c)))
+    omega (arith, few_behind (components_of p) c (first_of (fed (value_in n (fields_rule p) (graph_of p)) (feeds_at (graph_of p) c))) (8 + n) range.each (omega arith) (few_first (value_in n (fields_rule p) (graph_of p)) (8 + n) (few_fields_in n p range) (feeds_at (graph_of p) c)))
 
 pub few_fields_of : (p : FileParts) → IsInRange p → (from : Origin) → length (fields_of p from) ≤ 48
 unfolding fields_of value_of
-few_fields_of p range from = omega (arith, few_fields_in (length (graph_of p)) p range from, length_graph p, range.bolts, range.states.1)
+few_fields_of p range from = omega (arith, few_fields_in (length (graph_of p)) p range from, length_graph p, count_parts p, range.bolts, range.states.1)

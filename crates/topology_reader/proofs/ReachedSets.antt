@@ -1,12 +1,11 @@
 -- Sets of bolts as words of bits, and the paths that they hold.
-use Rattle.std.proofs.Common.{◌≡◌, ℕ, zero, suc, ◌+◌, ◌-◌, ◌*◌, ◌%◌, ◌^◌, max, ◌<◌, ◌==◌, Bool, true, false, ◌||◌, ◌&&◌, cond, List, [], ◌∷◌, ◌++◌, map, length, take, get_or, slice_get, slice_index, bit_or, Option, Some, None, option_map, refl, sym, ap, ◌∙◌, inl, inr, w64, add-one, arith}
-use Rattle.topology_reader.proofs.Common.{cond-false, cases_eq, eq-eqb, ne_eqb, take_more, length-map, get_or-map, filter_map-append, cons_option, list_any, range_with_len, option_map_or, Origin, Input, BoltPart, StatePart, FileParts, Cycle, name_at, source_of, is_component, reaches_over, reaches, sources_among, cycle_fault, has, AreReached, led, list_any-append}
+use Rattle.std.proofs.Common.{◌≡◌, ℕ, zero, suc, ◌+◌, ◌-◌, ◌*◌, ◌%◌, ◌^◌, max, ◌<◌, ◌==◌, Bool, true, false, ◌||◌, ◌&&◌, cond, List, [], ◌∷◌, ◌++◌, map, length, take, get_or, slice_index, bit_or, Option, Some, None, option_map, refl, sym, ap, ◌∙◌, inl, inr, w64, add-one, arith}
+use Rattle.topology_reader.proofs.Common.{cond-false, cases_eq, eq-eqb, ne_eqb, take_more, length-map, get_or-map, filter_map-append, cons_option, list_any, range_with_len, option_map_or, Origin, Input, FileParts, Cycle, name_at, source_of, is_component, reaches_over, reaches, sources_among, cycle_fault, has, AreReached, led, list_any-append}
 use Rattle.std.specs.List.{find}
 use Rattle.std.proofs.lemmas.Nat.Bits.{bit_at_or, bit_at-lt, bit_at-zero, bit_at_set_same, bit_at_set_other}
 use Rattle.std.specs.Int.{bit_at}
 use Rattle.topology_plan.specs.declared.parts.Origin.TheVariants as origin
 use Rattle.std.proofs.Math.Bool.{and_comm, or-true, or-false}
-use Rattle.topology_reader.proofs.Numbered.{at_bolt}
 
 -- ---- one word
 
@@ -88,9 +87,6 @@ range-same left right first (suc n) same =
     ∙ ap (cond (right first) (Some first)) (range-same left right (first + 1) n (λ c below. same c (omega arith)))
 
 -- ---- cycles
-
-pub name_at-bolt : (p : FileParts) (c : ℕ) (bolt : BoltPart) → slice_get p.bolts c ≡ Some bolt → name_at p c ≡ bolt.name
-name_at-bolt = at_bolt (λ (b : BoltPart). b.name) (λ (s : StatePart). s.name) []
 
 pub cycle_fault-reached : (p : FileParts) (sets : List ℕ) → AreReached (length p.bolts) p sets → cycle_fault p ≡ option_map (λ c. Cycle (name_at p c)) (find (λ c. has (slice_index sets c) c) (range_with_len 0 (length sets)))
 unfolding reaches

@@ -1,11 +1,10 @@
 -- The sources of names, and the graph of a file as the program makes it.
-use Rattle.std.proofs.Common.{inl, inr, ◌≡◌, ℕ, zero, suc, ◌+◌, ◌<◌, List, [], ◌∷◌, ◌++◌, length, map, Bool, true, false, cond, Option, Some, None, option_map, slice_get, slice_index_or, refl, sym, ap, subst, ◌∙◌, arith}
-use Rattle.topology_reader.proofs.Common.{eq-eqb, length-map, map-id, none-some, same_Some, slice_get_within, get_or_from_slice_get, filter_map, cons_option, bytes_eq, Origin, BoltPart, Input, FileParts, StatePart, Feed, feeds_at, IsSource, component_count, bolt_names, place_of, source_of, state_inputs, inputs_by_component, inputs_at, sources_among, sources_at, is_component, feeds, feed_of, feeds_of, graph_of, copies_said, map-map}
+use Rattle.std.proofs.Common.{◌≡◌, ℕ, zero, suc, ◌<◌, List, [], ◌∷◌, length, map, Bool, true, false, cond, Option, Some, None, option_map, slice_get, slice_index_or, refl, sym, ap, subst, ◌∙◌, arith}
+use Rattle.topology_reader.proofs.Common.{eq-eqb, length-map, none-some, same_Some, slice_get_within, get_or_from_slice_get, cons_option, bytes_eq, Origin, ComponentPart, components_of, Input, FileParts, Feed, feeds_at, IsSource, component_count, bolt_names, place_of, source_of, inputs_by_component, inputs_at, sources_among, sources_at, is_component, feeds, feeds_of, graph_of, copies_said, map-map}
 use Rattle.topology_plan.specs.declared.parts.Origin.TheVariants as origin
-use Rattle.topology_form.specs.declared.parts.GroupingPart.TheVariants as said
 use Rattle.topology_reader.proofs.Distinct.{bytes_same, place_named}
-use Rattle.topology_reader.proofs.Listed.{IsIn, in_append, in_map, in_filter_map, to_filter_map, to_any}
-use Rattle.topology_reader.proofs.PartLemmas.{length_parts, map_parts, map_same}
+use Rattle.topology_reader.proofs.Listed.{IsIn, in_map, in_filter_map, to_filter_map, to_any}
+use Rattle.topology_reader.proofs.PartLemmas.{map_same}
 
 -- ---- the source of a name
 
@@ -26,7 +25,7 @@ source_named p name from is = named_by p name from (bytes_eq p.spout.name name) 
 -- a source that is a component is a bolt
 pub source_within : (p : FileParts) (name : List ℕ) (c : ℕ) → source_of p name ≡ Some (origin.Component c) → c < length p.bolts
 source_within p name c is =
-    omega (arith, slice_get_within (bolt_names p) c name (source_named p name (origin.Component c) is), length-map p.bolts (λ (bolt : BoltPart). bolt.name))
+    omega (arith, slice_get_within (bolt_names p) c name (source_named p name (origin.Component c) is), length-map p.bolts (λ (part : ComponentPart). part.name))
 
 -- ---- the sources of a component
 
@@ -46,52 +45,19 @@ source_there p c (origin.Component b) at = let input = in_sources p c (origin.Co
 pub feeds_from_source : (p : FileParts) (c b : ℕ) → IsIn (origin.Component b) (sources_at p c) → feeds p b c ≡ true
 feeds_from_source p c b at = to_any (is_component b) (sources_at p c) (origin.Component b) at (eq-eqb b b refl)
 
--- what holds of the inputs of each bolt and of each state holds of those of every component
-pub of_inputs : (p : FileParts) (P : List Input → Type 0) → ((bolt : BoltPart) → IsIn bolt p.bolts → P bolt.inputs) → ((state : StatePart) → IsIn state p.states → P (state_inputs state))
-    → (inputs : List Input) → IsIn inputs (inputs_by_component p) → P inputs
-of_inputs p P of_bolt of_state inputs at =
-    elim (in_append (map (λ (bolt : BoltPart). bolt.inputs) p.bolts) (map state_inputs p.states) inputs at) [
-      | inl left ↦ let bolt = in_map (λ (bolt : BoltPart). bolt.inputs) p.bolts inputs left in subst P bolt.2 (of_bolt bolt.0 bolt.1)
-      | inr right ↦ let state = in_map state_inputs p.states inputs right in subst P state.2 (of_state state.0 state.1)
-    ]
-
--- the same of each input
-pub of_each_input : (p : FileParts) (P : Input → Type 0) → ((bolt : BoltPart) → IsIn bolt p.bolts → (input : Input) → IsIn input bolt.inputs → P input)
-    → ((state : StatePart) → IsIn state p.states → (from : List ℕ) → IsIn from state.inputs → P (record { from = from; grouping = said.Fields state.key }))
-    → (inputs : List Input) → IsIn inputs (inputs_by_component p) → (input : Input) → IsIn input inputs → P input
-of_each_input p P of_bolt of_state =
-    of_inputs p (λ (inputs : List Input). (input : Input) → IsIn input inputs → P input) of_bolt
-    (λ state at input listed.
-    let made = in_map (λ from. record { from = from; grouping = said.Fields state.key }) state.inputs input listed in
-    subst P made.2 (of_state state at made.0 made.1))
-
--- the inputs of a state name its sources
-pub froms_of_state : (state : StatePart) → map (λ (input : Input). input.from) (state_inputs state) ≡ state.inputs
-froms_of_state state = map-map (λ (input : Input). input.from) (λ from. record { from = from; grouping = said.Fields state.key }) state.inputs ∙ map-id state.inputs
+-- what holds of the inputs of each part holds of those of every component
+pub of_inputs : (p : FileParts) (P : List Input → Type 0) → ((part : ComponentPart) → IsIn part (components_of p) → P part.inputs) → (inputs : List Input) → IsIn inputs (inputs_by_component p) → P inputs
+of_inputs p P of_part inputs at = let part = in_map (λ (part : ComponentPart). part.inputs) (components_of p) inputs at in subst P part.2 (of_part part.0 part.1)
 
 -- ---- lists over all components
 
-pub length_names : (p : FileParts) → component_count p ≡ length p.bolts + length p.states
-length_names p = length_parts (λ (bolt : BoltPart). bolt.name) (λ (state : StatePart). state.name) p.bolts p.states
+pub length_inputs : (p : FileParts) → length (inputs_by_component p) ≡ component_count p
+length_inputs p = length-map (components_of p) (λ (part : ComponentPart). part.inputs)
 
-pub length_inputs : (p : FileParts) → length (inputs_by_component p) ≡ length p.bolts + length p.states
-length_inputs p = length_parts (λ (bolt : BoltPart). bolt.inputs) state_inputs p.bolts p.states
-
-pub length_graph : (p : FileParts) → length (graph_of p) ≡ length p.bolts + length p.states
-length_graph p = length_parts (λ (bolt : BoltPart). feeds_of p bolt.tasks bolt.inputs) (λ (state : StatePart). feeds_of p state.parts (state_inputs state)) p.bolts p.states
+pub length_graph : (p : FileParts) → length (graph_of p) ≡ component_count p
+length_graph p = length-map (components_of p) (λ (part : ComponentPart). feeds_of p part.tasks part.inputs)
 
 -- ---- the graph
-
--- each input of a state gets one copy
-feeds_of-state_inputs : (p : FileParts) (tasks : ℕ) (key names : List (List ℕ)) → feeds_of p tasks (map (λ from. record { from = from; grouping = said.Fields key }) names) ≡ filter_map (λ name. feed_of p name 1) names
-feeds_of-state_inputs p tasks key [] = refl
-feeds_of-state_inputs p tasks key (name ∷ names) = ap (cons_option (feed_of p name 1)) (feeds_of-state_inputs p tasks key names)
-
--- bolt by bolt, and then state by state
-pub graph_of_parts : (p : FileParts) → graph_of p ≡ map (λ (bolt : BoltPart). feeds_of p bolt.tasks bolt.inputs) p.bolts ++ map (λ (state : StatePart). filter_map (λ name. feed_of p name 1) state.inputs) p.states
-graph_of_parts p =
-    ap (λ rows. map (λ (bolt : BoltPart). feeds_of p bolt.tasks bolt.inputs) p.bolts ++ rows)
-    (map_same (λ (state : StatePart). feeds_of p state.parts (state_inputs state)) (λ (state : StatePart). filter_map (λ name. feed_of p name 1) state.inputs) (λ state. feeds_of-state_inputs p state.parts state.key state.inputs) p.states)
 
 abbrev pub froms : List Feed → List Origin
 froms feeds = map (λ (feed : Feed). feed.from) feeds
@@ -113,14 +79,9 @@ index_mapped f (x ∷ xs) (suc c) default = index_mapped f xs c default
 
 froms_of_all : (p : FileParts) → map froms (graph_of p) ≡ map (sources_among p) (inputs_by_component p)
 froms_of_all p =
-    let bolt_feeds = λ (bolt : BoltPart). feeds_of p bolt.tasks bolt.inputs in
-    let state_feeds = λ (state : StatePart). feeds_of p state.parts (state_inputs state) in
-    map_parts froms bolt_feeds state_feeds p.bolts p.states
-    ∙ ap (λ rows. rows ++ map (λ (state : StatePart). froms (state_feeds state)) p.states)
-    (map_same (λ (bolt : BoltPart). froms (bolt_feeds bolt)) (λ bolt. sources_among p bolt.inputs) (λ bolt. froms_of p bolt.tasks bolt.inputs) p.bolts)
-    ∙ ap (λ rows. map (λ (bolt : BoltPart). sources_among p bolt.inputs) p.bolts ++ rows)
-    (map_same (λ (state : StatePart). froms (state_feeds state)) (λ state. sources_among p (state_inputs state)) (λ state. froms_of p state.parts (state_inputs state)) p.states)
-    ∙ sym (map_parts (sources_among p) (λ (bolt : BoltPart). bolt.inputs) state_inputs p.bolts p.states)
+    map-map froms (λ (part : ComponentPart). feeds_of p part.tasks part.inputs) (components_of p)
+    ∙ map_same (λ (part : ComponentPart). froms (feeds_of p part.tasks part.inputs)) (λ part. sources_among p part.inputs) (λ part. froms_of p part.tasks part.inputs) (components_of p)
+    ∙ sym (map-map (sources_among p) (λ (part : ComponentPart). part.inputs) (components_of p))
 
 -- the sources of a component's subscriptions are its sources
 pub froms_at : (p : FileParts) (c : ℕ) → froms (feeds_at (graph_of p) c) ≡ sources_at p c

@@ -1,18 +1,17 @@
 -- The subscriptions of the plan of a file without a fault: at most one of a component to a source, with a grouping by fields that are there.
 use Rattle.std.proofs.Common.{◌≡◌, ℕ, ◌+◌, ◌<◌, List, [], ◌∷◌, ◌++◌, length, map, filter, All, Bool, true, false, Option, Some, None, option_map, option_and_then, slice_get, unwrap_or, codes, ◌⊎◌, inl, inr, refl, sym, ◌∙◌, ap, subst, arith}
-use Rattle.topology_reader.proofs.Common.{enumerate_from, flat_map, option_map_or, Origin, WrongKind, GroupingPart, Input, Operation, Split, Project, Filter, Set, Len, Route, Flaky, Mute, Custom, BoltPart, FileParts, IsBetween, IsInRange, IsGroupingInRange, IsInputInRange, IsBoltInRange, IsStateInRange, cases_Bool, cases_lt, cond-true, cond-false, false≢true, false_from_ne_true, length-map, map-id, none-some, same_Some, slice_get_within, Sub, subs_of, plan_fields, width_of, AreWithin, IsRouteOf, IsFrom, source_of, inputs_by_component, inputs_at, sources_at, fields_after, fields_of, fields_to, operation_at, number_of, numbers_of, planned_operation, route_field, planned_grouping, is_from, subs_of_component, planned_subs, planned_bolt, plan_of, key_of, is_route, chooses, direct_fault, fields_read, twice_fault, IsSource}
+use Rattle.topology_reader.proofs.Common.{enumerate_from, flat_map, option_map_or, Origin, WrongKind, GroupingPart, Input, Split, Project, Filter, Set, Len, Route, Flaky, Mute, Custom, BodyPart, Bolt, State, ComponentPart, components_of, FileParts, IsBetween, IsInRange, IsGroupingInRange, IsInputInRange, IsComponentInRange, cases_Bool, cases_lt, cond-true, cond-false, false≢true, false_from_ne_true, length-map, map-id, none-some, same_Some, slice_get_within, Sub, subs_of, plan_fields, width_of, AreWithin, IsRouteOf, IsFrom, source_of, inputs_by_component, inputs_at, sources_at, fields_after, fields_of, fields_to, body_of, number_of, numbers_of, planned_body, route_field, planned_grouping, is_from, subs_of_component, planned_subs, planned_component, plan_of, key_of, is_route, chooses, direct_fault, fields_read, amount_read, twice_fault, IsSource}
 use Rattle.std.specs.List.Sorted.{IsStrictlyIncreasing}
-use Rattle.topology_plan.specs.declared.parts.Body.TheVariants.{Bolt}
 use Rattle.topology_plan.specs.declared.parts.Component.{Component}
 use Rattle.topology_plan.specs.declared.parts.Origin.TheVariants as origin
 use Rattle.topology_form.specs.declared.parts.GroupingPart.TheVariants as said
-use Rattle.topology_reader.proofs.Listed.{IsIn, All-from_in, All-at_in, in_map, to_map, in_place}
+use Rattle.topology_reader.proofs.Listed.{IsIn, All-from_in, All-at_in, in_map, to_map, to_left, in_place}
 use Rattle.topology_reader.proofs.Distinct.{place_named, place_within, place_there, AreApart, AllPairs-from_apart, IsRising, rising_above, increasing_from_rising}
-use Rattle.topology_reader.proofs.Numbered.{some_there, reads_at_bolt, component_at_bolt}
+use Rattle.topology_reader.proofs.Numbered.{count_parts, part_there, planned_at}
 use Rattle.topology_reader.proofs.ValidPlan.{HasNoFault, is_source, IsPlanned, planned_in_plan, subs_of_plan, no_subs_past, planned_source}
-use Rattle.topology_reader.proofs.SourceLemmas.{length_inputs, in_inputs_at, source_there, IsNamed, source_named, of_each_input, froms_of_state, of_inputs}
-use Rattle.topology_reader.proofs.GraphLemmas.{fields_of_spout, fields_of_bolt}
-use Rattle.topology_reader.proofs.Columns.{HasNoFaultAt, froms_once, key_once, state_key_once, state_froms_once, no_fault_here}
+use Rattle.topology_reader.proofs.SourceLemmas.{length_inputs, in_inputs_at, source_there, IsNamed, source_named, of_inputs}
+use Rattle.topology_reader.proofs.GraphLemmas.{fields_of_spout, fields_of_part}
+use Rattle.topology_reader.proofs.Columns.{HasNoFaultAt, froms_once, key_once, no_fault_here}
 
 -- ---- one name of a source
 
@@ -61,9 +60,7 @@ rising_subs p from n (inputs ∷ all) apart =
     ]
 
 pub inputs_apart : (p : FileParts) (inputs : List Input) → twice_fault p ≡ None → IsIn inputs (inputs_by_component p) → AreApart (map (λ (input : Input). input.from) inputs)
-inputs_apart p inputs none =
-    of_inputs p (λ (is : List Input). AreApart (map (λ (input : Input). input.from) is)) (froms_once p none)
-    (λ state at. subst AreApart (sym (froms_of_state state)) (state_froms_once p none state at)) inputs
+inputs_apart p inputs none = of_inputs p (λ (is : List Input). AreApart (map (λ (input : Input). input.from) is)) (froms_once p none) inputs
 
 once_from : (p : FileParts) (from : Origin) → twice_fault p ≡ None → IsStrictlyIncreasing (map (λ (sub : Sub). sub.to) (planned_subs p from))
 once_from p from none =
@@ -117,8 +114,8 @@ pub fields_planned : (p : FileParts) (from : Origin) → IsSource p from → pla
 unfolding plan_of
 fields_planned p origin.Spout there = sym (fields_of_spout p)
 fields_planned p (origin.Component c) there =
-    let bolt = some_there p.bolts c there in
-    ap (λ (component : Option Component). option_map_or (λ (c : Component). c.fields) component []) (component_at_bolt p c bolt.0 bolt.1)
+    let part = part_there p c (omega (arith, count_parts p)) in
+    ap (λ (component : Option Component). option_map_or (λ (c : Component). c.fields) component []) (planned_at p c part.0 part.1)
 
 width_planned : (p : FileParts) (from : Origin) → IsSource p from → width_of (plan_of p) from ≡ length (fields_of p from)
 width_planned p from there = ap (λ (fields : List (List ℕ)). length fields) (fields_planned p from there)
@@ -126,32 +123,33 @@ width_planned p from there = ap (λ (fields : List (List ℕ)). length fields) (
 -- ---- routes
 
 -- a route by a field
-pub routed : (operation : Operation) → is_route operation ≡ true → (field : List ℕ) × (operation ≡ Route field)
-routed (Split field into) route = absurd (false≢true route)
-routed (Project names) route = absurd (false≢true route)
-routed (Filter field test value) route = absurd (false≢true route)
-routed (Set field value) route = absurd (false≢true route)
-routed (Len field into) route = absurd (false≢true route)
-routed (Route field) route = (field, refl)
-routed (Flaky below) route = absurd (false≢true route)
-routed (Mute below) route = absurd (false≢true route)
-routed Custom route = absurd (false≢true route)
+pub routed : (body : BodyPart) → is_route body ≡ true → (field : List ℕ) × (body ≡ Bolt (Route field))
+routed (Bolt (Split field into)) route = absurd (false≢true route)
+routed (Bolt (Project names)) route = absurd (false≢true route)
+routed (Bolt (Filter field test value)) route = absurd (false≢true route)
+routed (Bolt (Set field value)) route = absurd (false≢true route)
+routed (Bolt (Len field into)) route = absurd (false≢true route)
+routed (Bolt (Route field)) route = (field, refl)
+routed (Bolt (Flaky below)) route = absurd (false≢true route)
+routed (Bolt (Mute below)) route = absurd (false≢true route)
+routed (Bolt Custom) route = absurd (false≢true route)
+routed (State state) route = absurd (false≢true route)
 
-route_of : (fields : List (List ℕ)) (operation : Operation) → is_route operation ≡ true → IsRouteOf (Bolt (planned_operation fields operation)) (route_field fields operation)
-route_of fields operation route = let by = routed operation route in subst (λ (o : Operation). IsRouteOf (Bolt (planned_operation fields o)) (route_field fields o)) (sym by.1) refl
+route_of : (fields : List (List ℕ)) (body : BodyPart) → is_route body ≡ true → IsRouteOf (planned_body fields body) (route_field fields body)
+route_of fields body route = let by = routed body route in subst (λ (b : BodyPart). IsRouteOf (planned_body fields b) (route_field fields b)) (sym by.1) refl
 
-route_keeps : (fields : List (List ℕ)) (operation : Operation) → is_route operation ≡ true → fields_after operation fields ≡ fields
-route_keeps fields operation route = let by = routed operation route in ap (λ (o : Operation). fields_after o fields) by.1
+route_keeps : (fields : List (List ℕ)) (body : BodyPart) → is_route body ≡ true → fields_after body fields ≡ fields
+route_keeps fields body route = let by = routed body route in ap (λ (b : BodyPart). fields_after b fields) by.1
 
-route_within : (fields : List (List ℕ)) (operation : Operation) → is_route operation ≡ true → ((name : List ℕ) → IsIn name (fields_read operation) → IsIn name fields) → route_field fields operation < length fields
-route_within fields operation route there =
-    let by = routed operation route in
-    subst (λ (o : Operation). route_field fields o < length fields) (sym by.1) (number_within fields by.0 (there by.0 (subst (λ (o : Operation). IsIn by.0 (fields_read o)) (sym by.1) (inl refl))))
+route_within : (fields : List (List ℕ)) (body : BodyPart) → is_route body ≡ true → ((name : List ℕ) → IsIn name (fields_read body) → IsIn name fields) → route_field fields body < length fields
+route_within fields body route there =
+    let by = routed body route in
+    subst (λ (b : BodyPart). route_field fields b < length fields) (sym by.1) (number_within fields by.0 (there by.0 (subst (λ (b : BodyPart). IsIn by.0 (fields_read b)) (sym by.1) (inl refl))))
 
-pub chosen_by_route : (p : FileParts) (input : Input) (from : Origin) → source_of p input.from ≡ Some from → direct_fault p input said.Direct ≡ None → option_map_or is_route (operation_at p from) false ≡ true
+pub chosen_by_route : (p : FileParts) (input : Input) (from : Origin) → source_of p input.from ≡ Some from → direct_fault p input said.Direct ≡ None → option_map_or is_route (body_of p from) false ≡ true
 chosen_by_route p input from source none =
     elim (cases_Bool (chooses p input)) [
-      | inl chosen ↦ subst (λ there. option_map_or is_route (option_and_then (operation_at p) there) false ≡ true) source chosen
+      | inl chosen ↦ subst (λ there. option_map_or is_route (option_and_then (body_of p) there) false ≡ true) source chosen
       | inr other ↦ absurd (none-some (WrongKind (codes "grouping")) (sym none ∙ cond-false (chooses p input) None (Some (WrongKind (codes "grouping"))) other))
     ]
 
@@ -159,38 +157,34 @@ chosen_by_route p input from source none =
 
 said_in_range : (p : FileParts) (inputs : List Input) (input : Input) → IsInRange p → IsIn inputs (inputs_by_component p) → IsIn input inputs → IsGroupingInRange input.grouping
 said_in_range p inputs input range at =
-    of_each_input p (λ (input : Input). IsGroupingInRange input.grouping)
-    (λ bolt at. All-at_in IsInputInRange bolt.inputs (IsBoltInRange.groupings (All-at_in IsBoltInRange p.bolts range.each_bolt bolt at)))
-    (λ state at from listed. IsStateInRange.key (All-at_in IsStateInRange p.states range.each_state state at))
-    inputs at input
+    of_inputs p (λ (is : List Input). (input : Input) → IsIn input is → IsGroupingInRange input.grouping)
+    (λ part at. All-at_in IsInputInRange part.inputs (IsComponentInRange.groupings (All-at_in IsComponentInRange (components_of p) range.each part at))) inputs at input
 
 -- no name stands twice in a key
 pub key_apart : (p : FileParts) (inputs : List Input) (input : Input) → twice_fault p ≡ None → IsIn inputs (inputs_by_component p) → IsIn input inputs → AreApart (key_of input.grouping)
-key_apart p inputs input none at =
-    of_each_input p (λ (input : Input). AreApart (key_of input.grouping)) (key_once p none) (λ state at from listed. state_key_once p none state at) inputs at input
+key_apart p inputs input none at = of_inputs p (λ (is : List Input). (input : Input) → IsIn input is → AreApart (key_of input.grouping)) (key_once p none) inputs at input
 
 module _ (p : FileParts) (range : IsInRange p) (faultless : HasNoFault p) where
   -- a direct grouping comes from a route
-  direct_planned : (c : ℕ) → c < length p.bolts → option_map_or is_route (operation_at p (origin.Component c)) false ≡ true → IsFrom (plan_of p) (origin.Component c) (planned_grouping p (origin.Component c) said.Direct)
+  direct_planned : (c : ℕ) → c < length p.bolts → option_map_or is_route (body_of p (origin.Component c)) false ≡ true → IsFrom (plan_of p) (origin.Component c) (planned_grouping p (origin.Component c) said.Direct)
   direct_planned c within chosen =
-      let bolt = some_there p.bolts c within in
-      let here : HasNoFaultAt p c = no_fault_here p range faultless c (omega arith) in
-      let route : is_route bolt.0.operation ≡ true = subst (λ (there : Option BoltPart). option_map_or is_route (option_map (λ (b : BoltPart). b.operation) there) false ≡ true) bolt.1 chosen in
-      let fields : fields_of p (origin.Component c) ≡ fields_to p c = fields_of_bolt p c bolt.0 range faultless.cycle bolt.1 ∙ route_keeps (fields_to p c) bolt.0.operation route in
-      let field : option_map_or (route_field (fields_of p (origin.Component c))) (operation_at p (origin.Component c)) 0 ≡ route_field (fields_to p c) bolt.0.operation =
-      ap (λ (there : Option BoltPart). option_map_or (route_field (fields_of p (origin.Component c))) (option_map (λ (b : BoltPart). b.operation) there) 0) bolt.1
-      ∙ ap (λ names. route_field names bolt.0.operation) fields
-      in
-      let reads : (name : List ℕ) → IsIn name (fields_read bolt.0.operation) → IsIn name (fields_to p c) = λ name at. here.reads name (subst (IsIn name) (sym (reads_at_bolt p c bolt.0 bolt.1)) at) in (
-        planned_bolt p (c, bolt.0),
-        component_at_bolt p c bolt.0 bolt.1,
-        subst (IsRouteOf (Bolt (planned_operation (fields_to p c) bolt.0.operation))) (sym field) (route_of (fields_to p c) bolt.0.operation route),
+      let part = part_there p c (omega (arith, count_parts p)) in
+      let here : HasNoFaultAt p c = no_fault_here p range faultless c part.0 part.1 in
+      let route : is_route part.0.body ≡ true = subst (λ (there : Option ComponentPart). option_map_or is_route (option_map (λ (b : ComponentPart). b.body) there) false ≡ true) part.1 chosen in
+      let fields : fields_of p (origin.Component c) ≡ fields_to p c = fields_of_part p c part.0 range faultless.cycle part.1 ∙ route_keeps (fields_to p c) part.0.body route in
+      let field : option_map_or (route_field (fields_of p (origin.Component c))) (body_of p (origin.Component c)) 0 ≡ route_field (fields_to p c) part.0.body =
+      ap (λ (there : Option ComponentPart). option_map_or (route_field (fields_of p (origin.Component c))) (option_map (λ (b : ComponentPart). b.body) there) 0) part.1
+      ∙ ap (λ names. route_field names part.0.body) fields
+      in (
+        planned_component p (c, part.0),
+        planned_at p c part.0 part.1,
+        subst (IsRouteOf (planned_body (fields_to p c) part.0.body)) (sym field) (route_of (fields_to p c) part.0.body route),
         subst (λ n. n < length (fields_of p (origin.Component c))) (sym field)
-            (subst (λ (names : List (List ℕ)). route_field (fields_to p c) bolt.0.operation < length names) (sym fields) (route_within (fields_to p c) bolt.0.operation route reads)),
+            (subst (λ (names : List (List ℕ)). route_field (fields_to p c) part.0.body < length names) (sym fields) (route_within (fields_to p c) part.0.body route (λ name at. here.reads part.0 part.1 name (to_left (fields_read part.0.body) (amount_read part.0.body) name at)))),
       )
 
   said_planned : (from : Origin) (by : GroupingPart) → IsSource p from → IsGroupingInRange by → AreApart (key_of by) → ((name : List ℕ) → IsIn name (key_of by) → IsIn name (fields_of p from))
-      → (by ≡ said.Direct → option_map_or is_route (operation_at p from) false ≡ true) → IsFrom (plan_of p) from (planned_grouping p from by)
+      → (by ≡ said.Direct → option_map_or is_route (body_of p from) false ≡ true) → IsFrom (plan_of p) from (planned_grouping p from by)
   said_planned from said.Shuffle there limits apart keys direct = tt
   said_planned from (said.Fields key) there limits apart keys direct =
       subst (AreWithin (numbers_of (fields_of p from) key)) (sym (width_planned p from there)) (numbers_within (fields_of p from) key limits apart keys)
@@ -201,8 +195,8 @@ module _ (p : FileParts) (range : IsInRange p) (faultless : HasNoFault p) where
 
   pub grouping_planned : (from : Origin) (sub : Sub) → IsPlanned p from sub → IsFrom (plan_of p) from sub.grouping
   grouping_planned from sub planned =
-      let within : sub.to < length p.bolts + length p.states = omega (arith, slice_get_within (inputs_by_component p) sub.to planned.inputs planned.consumer, length_inputs p) in
-      let here : HasNoFaultAt p sub.to = no_fault_here p range faultless sub.to within in
+      let part = part_there p sub.to (omega (arith, slice_get_within (inputs_by_component p) sub.to planned.inputs planned.consumer, length_inputs p)) in
+      let here : HasNoFaultAt p sub.to = no_fault_here p range faultless sub.to part.0 part.1 in
       let listed : IsIn planned.input (inputs_at p sub.to) = in_inputs_at p sub.to planned.inputs planned.input planned.consumer planned.listed in
       let source : IsIn from (sources_at p sub.to) = planned_source p from sub planned in
       let same : fields_of p from ≡ fields_to p sub.to = here.same from source in

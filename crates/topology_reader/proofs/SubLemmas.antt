@@ -1,9 +1,10 @@
 -- The subscriptions of all sources, made in one walk over the inputs.
 use Rattle.std.proofs.Common.{◌≡◌, ◌≢◌, ℕ, ◌+◌, ◌<◌, ◌==◌, Bool, true, false, cond, inl, inr, List, [], ◌∷◌, ◌++◌, length, map, filter, take, get_or, set, fold, Option, Some, None, Vec, refl, sym, ap, ◌∙◌, subst, arith, append_assoc}
-use Rattle.topology_reader.proofs.Common.{cases_Bool, eqb-true, eqb-false, map-set, get_or-map, append-nil, take_more, length-take-le, map-append, length-map, length-set, length-replicate, get_or-replicate, get_or-set_same, get_or-set_other, fill_by_all, fold_push, fold-append, enumerate_from, flat_map, range_with_len, Origin, BoltPart, Input, FileParts, Sub, is_origin, is_from, planned_grouping, subs_of_component, planned_subs, SubTable, with_sub, with_input, with_inputs, no_subs, items_by, source_of, state_inputs, inputs_by_component, component_count}
+use Rattle.topology_reader.proofs.Common.{cases_Bool, eqb-true, eqb-false, map-set, get_or-map, append-nil, length-take-le, slice_get_within, length-set, length-replicate, get_or-replicate, get_or-set_same, get_or-set_other, fill_by_all, fold_push, enumerate_from, flat_map, range_with_len, Origin, ComponentPart, Input, FileParts, Sub, is_origin, is_from, planned_grouping, subs_of_component, planned_subs, SubTable, with_sub, with_input, with_inputs, no_subs, items_by, source_of, inputs_by_component, component_count}
 use Rattle.std.specs.declared.alloc.Global.{Global}
 use Rattle.topology_plan.specs.declared.parts.Origin.TheVariants as origin
-use Rattle.topology_reader.proofs.SourceLemmas.{length_inputs, length_names}
+use Rattle.topology_reader.proofs.Numbered.{IsAt, inputs_at_part, take_at}
+use Rattle.topology_reader.proofs.SourceLemmas.{length_inputs}
 use Rattle.topology_reader.proofs.PartLemmas.{enumerate_append}
 
 -- a vector of the table with one more subscription
@@ -20,30 +21,18 @@ map-enumerate g n [] = refl
 map-enumerate g n (x ∷ xs) = ap (λ ys. g n ∷ ys) (map-enumerate g (n + 1) xs)
 
 -- one component more
-pub walk_next : {X : Type 0} (p : FileParts) (rows : X → List Input) (n : ℕ) (xs : List X) (i : ℕ) (x : X) (start old new : SubTable) → i < length xs → x ≡ get_or xs i x → old ≡ fold (with_inputs p) start (enumerate_from n (map rows (take i xs))) → new ≡ with_inputs p old (n + i, rows x) → new ≡ fold (with_inputs p) start (enumerate_from n (map rows (take (i + 1) xs)))
-walk_next p rows n xs i x start old new below is so_far added =
-    let whole : take (i + 1) xs ≡ take i xs ++ x ∷ [] = take_more xs i x below ∙ ap (λ z. take i xs ++ z ∷ []) (sym is) in
-    let count : n + i ≡ n + length (map rows (take i xs)) = omega (arith, length-map (take i xs) rows, length-take-le i xs (omega arith)) in
-    let numbered : enumerate_from n (map rows (take (i + 1) xs)) ≡ enumerate_from n (map rows (take i xs)) ++ (n + i, rows x) ∷ [] =
-    ap (λ ys. enumerate_from n (map rows ys)) whole
-    ∙ ap (enumerate_from n) (map-append rows (take i xs) (x ∷ []))
-    ∙ enumerate_append n (map rows (take i xs)) (rows x ∷ [])
-    ∙ ap (λ k. enumerate_from n (map rows (take i xs)) ++ (k, rows x) ∷ []) (sym count) in
+pub walk_next : (p : FileParts) (c : ℕ) (part : ComponentPart) (start old new : SubTable) → IsAt p c part → old ≡ fold (with_inputs p) start (enumerate_from 0 (take c (inputs_by_component p))) → new ≡ with_inputs p old (c, part.inputs)
+    → new ≡ fold (with_inputs p) start (enumerate_from 0 (take (c + 1) (inputs_by_component p)))
+walk_next p c part start old new at so_far added =
+    let rows = inputs_by_component p in
+    let is = inputs_at_part p c part at in
+    let count : c ≡ 0 + length (take c rows) = omega (arith, length-take-le c rows (omega (arith, slice_get_within rows c part.inputs is))) in
+    let numbered : enumerate_from 0 (take (c + 1) rows) ≡ enumerate_from 0 (take c rows) ++ (c, part.inputs) ∷ [] =
+    ap (enumerate_from 0) (take_at rows c part.inputs is) ∙ enumerate_append 0 (take c rows) (part.inputs ∷ []) ∙ ap (λ k. enumerate_from 0 (take c rows) ++ (k, part.inputs) ∷ []) (sym count) in
     added
-    ∙ ap (λ table. with_inputs p table (n + i, rows x)) so_far
-    ∙ sym (fold_push (with_inputs p) start (enumerate_from n (map rows (take i xs))) (n + i, rows x))
+    ∙ ap (λ table. with_inputs p table (c, part.inputs)) so_far
+    ∙ sym (fold_push (with_inputs p) start (enumerate_from 0 (take c rows)) (c, part.inputs))
     ∙ ap (fold (with_inputs p) start) (sym numbered)
-
--- the bolts and then the states are all components
-pub walk_whole : (p : FileParts) (start middle end : SubTable) → middle ≡ fold (with_inputs p) start (enumerate_from 0 (map (λ (bolt : BoltPart). bolt.inputs) p.bolts)) → end ≡ fold (with_inputs p) middle (enumerate_from (length p.bolts) (map state_inputs p.states)) → end ≡ fold (with_inputs p) start (enumerate_from 0 (inputs_by_component p))
-walk_whole p start middle end first second =
-    let bolts = map (λ (bolt : BoltPart). bolt.inputs) p.bolts in
-    let count : length p.bolts ≡ 0 + length bolts = omega (arith, length-map p.bolts (λ (bolt : BoltPart). bolt.inputs)) in
-    second
-    ∙ ap (λ table. fold (with_inputs p) table (enumerate_from (length p.bolts) (map state_inputs p.states))) first
-    ∙ sym (fold-append (with_inputs p) start (enumerate_from 0 bolts) (enumerate_from (length p.bolts) (map state_inputs p.states)))
-    ∙ ap (λ k. fold (with_inputs p) start (enumerate_from 0 bolts ++ enumerate_from k (map state_inputs p.states))) count
-    ∙ ap (fold (with_inputs p) start) (sym (enumerate_append 0 bolts (map state_inputs p.states)))
 
 -- ---- what a table holds
 
@@ -156,5 +145,5 @@ module _ (p : FileParts) (table : SubTable) (walked : table ≡ fold (with_input
   pub from_components-walked : table.from_components ≡ map (λ (numbered : ℕ × List Input). planned_subs p (origin.Component numbered.0)) (enumerate_from 0 (inputs_by_component p))
   from_components-walked =
       fill_by_all (λ c. planned_subs p (origin.Component c)) table.from_components (component_count p) [] whole.count whole.each
-      ∙ ap (λ n. map (λ c. planned_subs p (origin.Component c)) (range_with_len 0 n)) (length_names p ∙ sym (length_inputs p))
+      ∙ ap (λ n. map (λ c. planned_subs p (origin.Component c)) (range_with_len 0 n)) (sym (length_inputs p))
       ∙ sym (map-enumerate (λ c. planned_subs p (origin.Component c)) 0 (inputs_by_component p))

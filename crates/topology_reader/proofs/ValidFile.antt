@@ -1,19 +1,18 @@
 -- What a file without a fault says is valid.
-use Rattle.std.proofs.Common.{◌≡◌, ◌≢◌, ℕ, zero, suc, ◌+◌, ◌<◌, List, [], ◌∷◌, length, All, AllPairs, Some, None, IfSome, slice_get, sum, inl, inr, sym, ◌∙◌, ap, subst, arith}
-use Rattle.topology_reader.proofs.Common.{Contains, Origin, tasks_in_all, IsValid, NotExactlyOnce, GroupingPart, Input, BoltPart, StatePart, FileParts, IsInRange, cases_lt, map-id, sum-map, get_or_from_slice_get, slice_get_past, Opaque, component_names, component_count, source_of, inputs_by_component, inputs_at, fields_after, fields_of, fields_to, sources_at, tasks_by_component, plan_of, key_of, direct_fault, reads_at, is_transactional, replay_fault, meaning_fault, AreDistinct, IsSource, HasFields, IsValidInput, IsValidComponent, IsNumbered, IsValidFile}
-use Rattle.std.specs.List.{find}
+use Rattle.std.proofs.Common.{◌≡◌, ◌≢◌, ℕ, zero, suc, ◌<◌, List, [], ◌∷◌, ◌++◌, All, AllPairs, false, Some, None, IfSome, sum, inl, inr, sym, ◌∙◌, ap, subst, arith}
+use Rattle.topology_reader.proofs.Common.{Contains, Origin, tasks_in_all, IsValid, GroupingPart, Input, ComponentPart, components_of, component_at, FileParts, IsInRange, option_map_or, cases_lt, map-id, sum-map, slice_get_past, component_names, component_count, source_of, inputs_at, fields_after, fields_of, fields_to, sources_at, tasks_by_component, plan_of, key_of, fields_read, amount_read, direct_fault, keeps_exact, meaning_fault, AreDistinct, IsSource, HasFields, IsValidInput, IsValidComponent, IsNumbered, IsValidFile}
 use Rattle.topology_plan.specs.declared.parts.Component.{Component}
 use Rattle.topology_plan.specs.declared.parts.Origin.TheVariants as origin
 use Rattle.topology_reader.proofs.Ranks.{rank, rank_grows}
-use Rattle.topology_reader.proofs.Listed.{IsIn, All-from_in, in_place, none_mapped, none_found}
+use Rattle.topology_reader.proofs.Listed.{IsIn, All-from_in, in_place}
 use Rattle.topology_reader.proofs.Distinct.{AreApart, AllPairs-from_apart}
-use Rattle.topology_reader.proofs.Numbered.{some_there}
+use Rattle.topology_reader.proofs.Numbered.{IsAt, part_there, inputs_are}
 use Rattle.topology_reader.proofs.ValidPlan.{HasNoFault, no_fault, valid_plan}
-use Rattle.topology_reader.proofs.SourceLemmas.{source_within, to_sources, feeds_from_source, length_names, source_there}
-use Rattle.topology_reader.proofs.GraphLemmas.{fields_of_spout, fields_of_bolt}
-use Rattle.topology_reader.proofs.Columns.{HasNoFaultAt, names_once, some_inputs, named_source, AreFields, no_fault_here, fields_of_source}
-use Rattle.topology_reader.proofs.SubFacts.{inputs_apart, key_apart, chosen_by_route}
-use Rattle.topology_reader.proofs.WiredPlan.{tasks_planned, opaque_kind}
+use Rattle.topology_reader.proofs.SourceLemmas.{source_within, to_sources, feeds_from_source, source_there}
+use Rattle.topology_reader.proofs.GraphLemmas.{fields_of_spout, fields_of_part}
+use Rattle.topology_reader.proofs.Columns.{HasNoFaultAt, names_once, froms_once, key_once, named_source, AreFields, no_fault_here, fields_of_source}
+use Rattle.topology_reader.proofs.SubFacts.{chosen_by_route}
+use Rattle.topology_reader.proofs.WiredPlan.{tasks_planned, replays_said}
 
 -- ---- lists
 
@@ -36,11 +35,11 @@ module _ (p : FileParts) (range : IsInRange p) (faultless : HasNoFault p) where
 
   -- ---- components
 
-  valid_input : (c : ℕ) (inputs : List Input) (input : Input) → c < length p.bolts + length p.states → slice_get (inputs_by_component p) c ≡ Some inputs → IsIn input inputs → IsValidInput p (fields_to p c) input
-  valid_input c inputs input within consumer listed =
-      let here : HasNoFaultAt p c = no_fault_here p range faultless c within in
-      let at : IsIn input (inputs_at p c) = subst (IsIn input) (sym (get_or_from_slice_get (inputs_by_component p) c inputs [] consumer)) listed in
-      let from = named_source p c inputs input faultless.sources consumer listed in
+  valid_input : (c : ℕ) (part : ComponentPart) (input : Input) → IsAt p c part → IsIn input part.inputs → IsValidInput p (fields_to p c) input
+  valid_input c part input is listed =
+      let here : HasNoFaultAt p c = no_fault_here p range faultless c part is in
+      let at : IsIn input (inputs_at p c) = subst (IsIn input) (sym (inputs_are p c part is)) listed in
+      let from = named_source p part input faultless.sources (in_place (components_of p) c part is) listed in
       let source : IsIn from.0 (sources_at p c) = to_sources p c input from.0 at from.1 in
       let there : IsSource p from.0 = source_there p c from.0 source in
       record {
@@ -48,25 +47,26 @@ module _ (p : FileParts) (range : IsInRange p) (faultless : HasNoFault p) where
         named = from.1;
         source = there;
         comes = here.same from.0 source;
-        key = distinct_from_apart (key_of input.grouping) (key_apart p inputs input faultless.twice (in_place (inputs_by_component p) c inputs consumer) listed);
+        key = distinct_from_apart (key_of input.grouping) (key_once p faultless.twice part (in_place (components_of p) c part is) input listed);
         key_fields = All-from_in (Contains (fields_to p c)) (key_of input.grouping) (λ name named. contains_from_in (fields_to p c) name (here.keys input at name named));
         direct = λ direct. chosen_by_route p input from.0 from.1 (subst (λ (by : GroupingPart). direct_fault p input by ≡ None) direct (here.direct input at));
       }
 
   valid_component : (c : ℕ) → c < component_count p → IsValidComponent p c
   valid_component c counted =
-      let within : c < length p.bolts + length p.states = omega (arith, length_names p) in
-      let here : HasNoFaultAt p c = no_fault_here p range faultless c within in
-      let inputs = some_inputs p c range within in
-      let same : inputs_at p c ≡ inputs.0 = get_or_from_slice_get (inputs_by_component p) c inputs.0 [] inputs.1 in
+      let part = part_there p c counted in
+      let here : HasNoFaultAt p c = no_fault_here p range faultless c part.0 part.1 in
+      let same : inputs_at p c ≡ part.0.inputs = inputs_are p c part.0 part.1 in
       record {
         distinct =
             subst (AllPairs (λ (a b : Input). a.from ≢ b.from)) (sym same)
-            (AllPairs-from_apart (λ (input : Input). input.from) inputs.0 (inputs_apart p inputs.0 faultless.twice (in_place (inputs_by_component p) c inputs.0 inputs.1)));
+            (AllPairs-from_apart (λ (input : Input). input.from) part.0.inputs (froms_once p faultless.twice part.0 (in_place (components_of p) c part.0 part.1)));
         inputs =
             subst (All (IsValidInput p (fields_to p c))) (sym same)
-            (All-from_in (IsValidInput p (fields_to p c)) inputs.0 (λ input listed. valid_input c inputs.0 input within inputs.1 listed));
-        reads = All-from_in (Contains (fields_to p c)) (reads_at p c) (λ name at. contains_from_in (fields_to p c) name (here.reads name at));
+            (All-from_in (IsValidInput p (fields_to p c)) part.0.inputs (λ input listed. valid_input c part.0 input part.1 listed));
+        reads =
+            subst (λ there. All (Contains (fields_to p c)) (option_map_or (λ (part : ComponentPart). fields_read part.body ++ amount_read part.body) there [])) (sym part.1)
+            (All-from_in (Contains (fields_to p c)) (fields_read part.0.body ++ amount_read part.0.body) (λ name at. contains_from_in (fields_to p c) name (here.reads part.0 part.1 name at)));
       }
 
   -- ---- the file
@@ -79,20 +79,13 @@ module _ (p : FileParts) (range : IsInRange p) (faultless : HasNoFault p) where
         (λ input at is. rank_grows p b c faultless.cycle (source_within p input.from b is) (feeds_from_source p c b (to_sources p c input (origin.Component b) at is)));
   }
 
-  bolt_made : (c : ℕ) → IfSome (slice_get p.bolts c) (λ bolt. fields_of p (origin.Component c) ≡ fields_after bolt.operation (fields_to p c))
-  bolt_made c =
-      let made = λ (bolt : BoltPart). fields_of p (origin.Component c) ≡ fields_after bolt.operation (fields_to p c) in
-      elim (cases_lt c (length p.bolts)) [
-        | inl within ↦ let bolt = some_there p.bolts c within in subst (λ there. IfSome there made) (sym bolt.1) (fields_of_bolt p c bolt.0 range faultless.cycle bolt.1)
-        | inr past ↦ subst (λ there. IfSome there made) (sym (slice_get_past p.bolts c past)) tt
+  fields_made : (c : ℕ) → IfSome (component_at p c) (λ part. fields_of p (origin.Component c) ≡ fields_after part.body (fields_to p c))
+  fields_made c =
+      let made = λ (part : ComponentPart). fields_of p (origin.Component c) ≡ fields_after part.body (fields_to p c) in
+      elim (cases_lt c (component_count p)) [
+        | inl within ↦ let part = part_there p c within in subst (λ there. IfSome there made) (sym part.1) (fields_of_part p c part.0 range faultless.cycle part.1)
+        | inr past ↦ subst (λ there. IfSome there made) (sym (slice_get_past (components_of p) c past)) tt
       ]
-
-  replays_said : p.spout.kind ≡ Opaque → All (λ (state : StatePart). state.kind ≡ Opaque) p.states
-  replays_said opaque =
-      let searched : replay_fault p Opaque ≡ None = subst (λ kind. replay_fault p kind ≡ None) opaque faultless.replay in
-      let found : find (λ (state : StatePart). is_transactional state.kind) p.states ≡ None = none_mapped (λ (state : StatePart). NotExactlyOnce state.name) (find (λ (state : StatePart). is_transactional state.kind) p.states) searched in
-      All-from_in (λ (state : StatePart). state.kind ≡ Opaque) p.states
-      (λ state at. opaque_kind state.kind (none_found (λ (s : StatePart). is_transactional s.kind) p.states found state at))
 
 pub sum_of_tasks : (p : FileParts) → sum (tasks_by_component p) ≡ tasks_in_all (plan_of p)
 sum_of_tasks p = ap sum (sym (tasks_planned p)) ∙ sum-map (λ (c : Component). c.tasks) (plan_of p).components
@@ -106,10 +99,10 @@ valid_file p range none =
       names = distinct_from_apart (p.spout.name ∷ component_names p) (names_once p faultless.twice);
       numbered = numbered p range faultless;
       spout_fields = fields_of_spout p;
-      bolt_fields = bolt_made p range faultless;
+      component_fields = fields_made p range faultless;
       fields = fields_there p range faultless;
       components = valid_component p range faultless;
-      replays = replays_said p range faultless;
+      replays = λ opaque. All-from_in (λ (state : ComponentPart). keeps_exact state.body ≡ false) p.states (replays_said p faultless.replay opaque);
       tasks = rw (sum_of_tasks p) plan.tasks;
       weight = plan.weight;
     }

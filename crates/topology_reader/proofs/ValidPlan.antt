@@ -1,13 +1,12 @@
 -- A file without a fault has a valid plan.
-use Rattle.std.proofs.Common.{◌≡◌, ℕ, ◌+◌, ◌<◌, ◌≤◌, ◌&&◌, pos, List, [], ◌∷◌, length, map, filter, All, true, false, nat_lt, int_le, Option, Some, None, slice_get, codes, zero-add, inl, inr, refl, sym, ◌∙◌, ap, subst, arith, IfSome}
-use Rattle.topology_reader.proofs.Common.{enumerate_from, option_map_or, Origin, OutOfRange, Weight, Input, FileParts, BoltPart, StatePart, tasks_in_all, subs_of, IsBetween, IsValid, IsTarget, IsRanked, IsInRange, cases_Bool, cases_lt, cond-true, cond-false, and_parts, ltb-false, eqb-true, eq-eqb, false≢true, leb-true, length-map, get_or-map, get_or_past, length-enumerate_from, get_or-enumerate_from, none-some, slice_get_within, slice_get_past, Sub, range_fault, twice_fault, source_fault, cycle_fault, fields_fault, replay_fault, weight_fault, meaning_fault, fault_before_size, size_fault, source_of, inputs_by_component, sources_at, is_origin, is_from, planned_grouping, subs_of_component, planned_subs, planned_bolt, planned_state, plan_of}
+use Rattle.std.proofs.Common.{◌≡◌, ℕ, ◌<◌, ◌≤◌, ◌&&◌, pos, List, [], ◌∷◌, length, map, filter, All, true, false, nat_lt, int_le, Option, Some, None, slice_get, codes, zero-add, inl, inr, refl, sym, ◌∙◌, ap, subst, arith, IfSome}
+use Rattle.topology_reader.proofs.Common.{enumerate_from, option_map_or, Origin, OutOfRange, Weight, Input, FileParts, ComponentPart, components_of, component_count, tasks_in_all, subs_of, IsBetween, IsValid, IsTarget, IsRanked, IsInRange, cases_Bool, cases_lt, cond-true, cond-false, and_parts, ltb-false, eqb-true, eq-eqb, false≢true, leb-true, length-map, get_or-map, get_or_past, length-enumerate_from, get_or-enumerate_from, none-some, slice_get_within, slice_get_past, Sub, range_fault, twice_fault, source_fault, cycle_fault, fields_fault, replay_fault, weight_fault, meaning_fault, fault_before_size, size_fault, source_of, inputs_by_component, sources_at, is_origin, is_from, planned_grouping, subs_of_component, planned_subs, planned_component, plan_of}
 use Rattle.topology_plan.specs.Topology.{weight_of}
 use Rattle.topology_plan.specs.declared.parts.Origin.TheVariants as origin
 use Rattle.topology_reader.proofs.Ranks.{rank, rank_grows}
 use Rattle.topology_reader.proofs.Listed.{IsIn, All-from_in, in_map, to_map, in_flat_map, to_flat_map, in_filter, to_filter, in_enumerated, to_enumerated, none_each}
 use Rattle.topology_reader.proofs.SourceLemmas.{feeds_from_source, in_inputs_at, length_inputs, source_within, to_sources}
-use Rattle.topology_reader.proofs.PartLemmas.{length_parts}
-use Rattle.topology_reader.proofs.Numbered.{IsBoltAt, IsStateAt, cases_component, component_at_bolt, component_at_state}
+use Rattle.topology_reader.proofs.Numbered.{IsAt, count_parts, part_there, planned_at}
 use Rattle.topology_plan.specs.declared.parts.Component.{Component}
 
 -- ---- each fault is none
@@ -127,7 +126,7 @@ pub planned_to_plan : (p : FileParts) (from : Origin) (c : ℕ) (inputs : List I
 unfolding plan_of
 planned_to_plan p origin.Spout c inputs input consumer listed is = planned_from p origin.Spout c inputs input consumer listed is
 planned_to_plan p (origin.Component b) c inputs input consumer listed is =
-    let within : b < length (inputs_by_component p) = omega (arith, source_within p input.from b is, length_inputs p) in
+    let within : b < length (inputs_by_component p) = omega (arith, source_within p input.from b is, length_inputs p, count_parts p) in
     subst (IsIn (record { to = c; grouping = planned_grouping p (origin.Component b) input.grouping })) (sym (subs_of_plan p b within)) (planned_from p (origin.Component b) c inputs input consumer listed is)
 
 -- the source of a subscription is a source of its consumer
@@ -136,21 +135,15 @@ planned_source p from sub planned = to_sources p sub.to planned.input from (in_i
 
 -- ---- the components
 
-pub length_components : (p : FileParts) → length (plan_of p).components ≡ length p.bolts + length p.states
+pub length_components : (p : FileParts) → length (plan_of p).components ≡ component_count p
 unfolding plan_of
-length_components p =
-    length_parts (planned_bolt p) (planned_state p) (enumerate_from 0 p.bolts) (enumerate_from (length p.bolts) p.states)
-    ∙ omega (arith, length-enumerate_from 0 p.bolts, length-enumerate_from (length p.bolts) p.states)
+length_components p = length-map (enumerate_from 0 (components_of p)) (planned_component p) ∙ length-enumerate_from 0 (components_of p)
 
--- what holds of what is planned of each bolt and of each state holds of every component
-pub each_component : (p : FileParts) (P : ℕ → Component → Type 0) → ((c : ℕ) (bolt : BoltPart) → IsBoltAt p c bolt → P c (planned_bolt p (c, bolt)))
-    → ((c : ℕ) (state : StatePart) → IsStateAt p c state → P c (planned_state p (c, state))) → (c : ℕ) → IfSome (slice_get (plan_of p).components c) (P c)
-each_component p P of_bolt of_state c =
-    elim (cases_lt c (length p.bolts + length p.states)) [
-      | inl within ↦ elim (cases_component p c within) [
-        | inl bolt ↦ subst (λ there. IfSome there (P c)) (sym (component_at_bolt p c bolt.0 bolt.1)) (of_bolt c bolt.0 bolt.1)
-        | inr state ↦ subst (λ there. IfSome there (P c)) (sym (component_at_state p c state.0 state.1)) (of_state c state.0 state.1)
-      ]
+-- what holds of what is planned of each part holds of every component
+pub each_component : (p : FileParts) (P : ℕ → Component → Type 0) → ((c : ℕ) (part : ComponentPart) → IsAt p c part → P c (planned_component p (c, part))) → (c : ℕ) → IfSome (slice_get (plan_of p).components c) (P c)
+each_component p P of_part c =
+    elim (cases_lt c (component_count p)) [
+      | inl within ↦ let part = part_there p c within in subst (λ there. IfSome there (P c)) (sym (planned_at p c part.0 part.1)) (of_part c part.0 part.1)
       | inr past ↦
           let none : slice_get (plan_of p).components c ≡ None = slice_get_past (plan_of p).components c (omega (arith, length_components p)) in
           subst (λ there. IfSome there (P c)) (sym none) tt
@@ -193,7 +186,7 @@ valid_plan p range none =
       pending = range.pending;
       buckets = range.buckets;
       attempts = range.attempts;
-      components = (omega (arith, length_components p, range.states.0), omega (arith, length_components p, range.states.1, range.bolts));
+      components = (omega (arith, length_components p, count_parts p, range.states.0), omega (arith, length_components p, count_parts p, range.states.1, range.bolts));
       tasks = between_from_range (codes "tasks in all") (tasks_in_all (plan_of p)) 1 256 faultless.tasks;
       sources = length_sources p;
       targets = targets_planned p;

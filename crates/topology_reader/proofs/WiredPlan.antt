@@ -1,9 +1,9 @@
 -- The plan of a file without a fault is wired: its components take rows with the fields that they name.
-use Rattle.std.proofs.Common.{◌≡◌, ◌≢◌, ℕ, ◌+◌, ◌<◌, ◌≤◌, ◌==◌, List, [], ◌∷◌, ◌++◌, length, map, filter, All, AllPairs, false, Option, Some, None, IsSome, IfSome, option_map, option_to_list, slice_get, sum, take, inl, inr, refl, sym, ◌∙◌, ap, subst, arith}
-use Rattle.topology_reader.proofs.Common.{enumerate_from, range_with_len, option_map_or, Origin, NotExactlyOnce, Input, Operation, Split, Project, Filter, Set, Len, Route, Flaky, Mute, Custom, BoltPart, StatePart, FileParts, Topology, subs_of, origins, inputs_of, IsInRange, SaysAmount, IsOperationInRange, IsBoltInRange, IsStateInRange, eqb-true, eq-eqb, false≢true, length-map, map-id, All-nil, same_Some, slice_get_within, Kind, Transactional, Opaque, Sub, plan_fields, plan_fields_to, width_to, IsFed, width_after, IsWithin, HasAmount, IsComponent, IsPlaced, IsLaidOut, MayFollowOpaque, IsWired, component_names, inputs_by_component, sources_at, state_inputs, fields_after, fields_of, fields_to, number_of, numbers_of, planned_operation, planned_grouping, tasks_by_component, planned_bolt, planned_state, plan_of, projected, fields_read, twice_fault, is_transactional, replay_fault, meaning_fault, IsSource}
+use Rattle.std.proofs.Common.{◌≡◌, ◌≢◌, ℕ, ◌<◌, ◌≤◌, ◌==◌, List, [], ◌∷◌, ◌++◌, length, map, filter, All, AllPairs, true, false, Option, Some, None, IsSome, IfSome, option_map, option_to_list, slice_get, sum, take, inl, inr, refl, sym, ◌∙◌, ap, subst, arith}
+use Rattle.topology_reader.proofs.Common.{enumerate_from, range_with_len, option_map_or, Origin, NotExactlyOnce, Input, Operation, Split, Project, Filter, Set, Len, Route, Flaky, Mute, Custom, BodyPart, Bolt, State, ComponentPart, components_of, FileParts, Topology, subs_of, origins, inputs_of, IsInRange, SaysAmount, IsOperationInRange, IsBodyInRange, IsComponentInRange, is_bolt, eqb-true, eq-eqb, false≢true, length-map, map-id, map-map, All-nil, same_Some, Kind, Transactional, Opaque, Sub, plan_fields, plan_fields_to, IsFed, width_after, IsWithin, HasAmount, IsComponent, IsPlaced, IsLaidOut, MayFollowOpaque, IsWired, component_names, inputs_by_component, sources_at, fields_after, fields_of, fields_to, number_of, numbers_of, planned_operation, planned_body, planned_grouping, tasks_by_component, planned_component, plan_of, own_key, projected, fields_read, amount_read, twice_fault, is_transactional, keeps_exact, replay_fault, meaning_fault, IsSource}
 use Rattle.std.specs.List.{find}
 use Rattle.std.proofs.lemmas.List.{length-append}
-use Rattle.topology_plan.specs.declared.parts.Body.TheVariants.{Bolt}
+use Rattle.topology_form.specs.declared.parts.StatePart.{StatePart}
 use Rattle.topology_plan.specs.declared.parts.Component.{Component}
 use Rattle.topology_plan.specs.declared.parts.Fold.{Fold}
 use Rattle.topology_plan.specs.declared.parts.Fold.TheVariants.{Count, Sum, Last, Max}
@@ -13,30 +13,34 @@ use Rattle.topology_form.specs.declared.parts.GroupingPart.TheVariants as said
 use Rattle.topology_plan.specs.Texts.{IsName}
 use Rattle.topology_reader.proofs.Listed.{IsIn, All-from_in, All-at_in, in_map, to_map, in_flat_map, to_flat_map, in_filter, to_filter, in_append, in_enumerated, in_place, none_mapped, none_found, to_left, to_right, to_range}
 use Rattle.topology_reader.proofs.Distinct.{AreApart, AllPairs-from_apart}
-use Rattle.topology_reader.proofs.Numbered.{IsBoltAt, IsStateAt, inputs_at_state, reads_at_bolt, reads_at_state, map_components}
+use Rattle.topology_reader.proofs.Numbered.{IsAt, count_parts, inputs_at_part, map_enumerated, range_at, bolt_below, state_past}
 use Rattle.topology_reader.proofs.ValidPlan.{HasNoFault, no_fault, IsPlanned, planned_to_plan, planned_in_plan, length_components, planned_source, each_component}
 use Rattle.topology_reader.proofs.SourceLemmas.{source_within, to_sources, in_inputs_at, source_there}
-use Rattle.topology_reader.proofs.GraphLemmas.{fields_of_bolt}
-use Rattle.topology_reader.proofs.Columns.{HasNoFaultAt, names_once, spout_once, projected_once, state_key_once, HasSource, some_source, AreFields, no_fault_here, fields_of_source}
+use Rattle.topology_reader.proofs.GraphLemmas.{fields_of_part}
+use Rattle.topology_reader.proofs.Columns.{HasNoFaultAt, names_once, spout_once, own_key_once, projected_once, HasSource, some_source, AreFields, no_fault_here, fields_of_source}
 use Rattle.topology_reader.proofs.SubFacts.{once_planned, number_within, numbers_within, fields_planned, groupings_planned}
 
 -- ---- names and tasks
 
 names_planned : (p : FileParts) → twice_fault p ≡ None → AllPairs (λ (a b : Component). a.name ≢ b.name) (plan_of p).components
+unfolding plan_of
 names_planned p none =
     let names : map (λ (c : Component). c.name) (plan_of p).components ≡ component_names p =
-    map_components (λ (c : Component). c.name) (λ (bolt : BoltPart). bolt.name) (λ (state : StatePart). state.name) p (λ c bolt. refl) (λ c state. refl)
+    map-map (λ (c : Component). c.name) (planned_component p) (enumerate_from 0 (components_of p))
+    ∙ map_enumerated (λ numbered. (planned_component p numbered).name) (λ (part : ComponentPart). part.name) (λ c part. refl) 0 (components_of p)
     in
     let apart : AreApart (p.spout.name ∷ component_names p) = names_once p none in
     AllPairs-from_apart (λ (c : Component). c.name) (plan_of p).components (subst AreApart (sym names) apart.1)
 
 pub tasks_planned : (p : FileParts) → map (λ (c : Component). c.tasks) (plan_of p).components ≡ tasks_by_component p
+unfolding plan_of
 tasks_planned p =
-    map_components (λ (c : Component). c.tasks) (λ (bolt : BoltPart). bolt.tasks) (λ (state : StatePart). state.parts) p (λ c bolt. refl) (λ c state. refl)
+    map-map (λ (c : Component). c.tasks) (planned_component p) (enumerate_from 0 (components_of p))
+    ∙ map_enumerated (λ numbered. (planned_component p numbered).tasks) (λ (part : ComponentPart). part.tasks) (λ c part. refl) 0 (components_of p)
 
 -- ---- operations
 
-operation_within : (fields : List (List ℕ)) (operation : Operation) → IsOperationInRange operation → AreApart (projected operation) → ((name : List ℕ) → IsIn name (fields_read operation) → IsIn name fields) → IsWithin (planned_operation fields operation) (length fields)
+operation_within : (fields : List (List ℕ)) (operation : Operation) → IsOperationInRange operation → AreApart (projected (Bolt operation)) → ((name : List ℕ) → IsIn name (fields_read (Bolt operation)) → IsIn name fields) → IsWithin (planned_operation fields operation) (length fields)
 operation_within fields (Split field into) limits apart there = number_within fields field (there field (inl refl))
 operation_within fields (Project names) limits apart there = numbers_within fields names limits.0 apart there
 operation_within fields (Filter field test value) limits apart there = (number_within fields field (there field (inl refl)), limits)
@@ -47,7 +51,7 @@ operation_within fields (Flaky below) limits apart there = limits
 operation_within fields (Mute below) limits apart there = limits
 operation_within fields Custom limits apart there = tt
 
-width_kept : (fields : List (List ℕ)) (operation : Operation) → length (fields_after operation fields) ≡ width_after (planned_operation fields operation) (length fields)
+width_kept : (fields : List (List ℕ)) (operation : Operation) → length (fields_after (Bolt operation) fields) ≡ width_after (planned_operation fields operation) (length fields)
 width_kept fields (Split field into) = refl
 width_kept fields (Project names) = sym (length-map names (number_of fields))
 width_kept fields (Filter field test value) = refl
@@ -84,14 +88,15 @@ input_planned p c input at =
 origin_there : (p : FileParts) (from : Origin) → IsSource p from → IsIn from (origins (plan_of p))
 origin_there p origin.Spout there = inl refl
 origin_there p (origin.Component c) there =
-    inr (to_map origin.Component (range_with_len 0 (length (plan_of p).components)) c (to_range 0 (length (plan_of p).components) c (omega arith) (omega (arith, length_components p))))
+    inr (to_map origin.Component (range_with_len 0 (length (plan_of p).components)) c (to_range 0 (length (plan_of p).components) c (omega arith) (omega (arith, length_components p, count_parts p))))
 
-source_comes : (p : FileParts) (c : ℕ) → HasSource p c → inputs_of (plan_of p) c ≢ []
-source_comes p c source none =
+source_comes : (p : FileParts) (c : ℕ) (part : ComponentPart) → IsAt p c part → HasSource p c part → inputs_of (plan_of p) c ≢ []
+source_comes p c part is source none =
     let sub : Sub = record { to = c; grouping = planned_grouping p source.from source.input.grouping } in
-    let listed : IsIn source.from (sources_at p c) = to_sources p c source.input source.from (in_inputs_at p c source.inputs source.input source.consumer source.listed) source.is in
+    let inputs = inputs_at_part p c part is in
+    let listed : IsIn source.from (sources_at p c) = to_sources p c source.input source.from (in_inputs_at p c part.inputs source.input inputs source.listed) source.is in
     let there : IsSource p source.from = source_there p c source.from listed in
-    let taken : IsIn sub (subs_of (plan_of p) source.from) = planned_to_plan p source.from c source.inputs source.input source.consumer source.listed source.is in
+    let taken : IsIn sub (subs_of (plan_of p) source.from) = planned_to_plan p source.from c part.inputs source.input inputs source.listed source.is in
     let at : IsIn (source.from, sub) (inputs_of (plan_of p) c) =
     to_flat_map (λ from. map (λ sub. (from, sub)) (filter (λ (sub : Sub). sub.to == c) (subs_of (plan_of p) from))) (origins (plan_of p)) source.from (source.from, sub)
     (origin_there p source.from there)
@@ -122,127 +127,136 @@ of_first t fields (input ∷ inputs) some same = same input (inl refl)
 
 module _ (p : FileParts) (range : IsInRange p) (faultless : HasNoFault p) where
   -- the rows of each source have the fields that come to the component
-  fields_same : (c : ℕ) → c < length p.bolts + length p.states → (input : Origin × Sub) → IsIn input (inputs_of (plan_of p) c) → plan_fields (plan_of p) input.0 ≡ fields_to p c
-  fields_same c within input at =
+  fields_same : (c : ℕ) (part : ComponentPart) → IsAt p c part → (input : Origin × Sub) → IsIn input (inputs_of (plan_of p) c) → plan_fields (plan_of p) input.0 ≡ fields_to p c
+  fields_same c part is input at =
       let planned = input_planned p c input at in
       let source : IsIn input.0 (sources_at p c) = subst (λ k. IsIn input.0 (sources_at p k)) planned.1 (planned_source p input.0 input.1 planned.0) in
-      let here : HasNoFaultAt p c = no_fault_here p range faultless c within in
-      fields_planned p input.0 (source_there p c input.0 source) ∙ here.same input.0 source
+      fields_planned p input.0 (source_there p c input.0 source) ∙ HasNoFaultAt.same (no_fault_here p range faultless c part is) input.0 source
 
-  fields_come : (c : ℕ) → c < length p.bolts + length p.states → plan_fields_to (plan_of p) c ≡ fields_to p c
-  fields_come c within =
-      of_first (plan_of p) (fields_to p c) (inputs_of (plan_of p) c) (source_comes p c (some_source p c range faultless.sources within)) (fields_same c within)
+  some_comes : (c : ℕ) (part : ComponentPart) → IsAt p c part → inputs_of (plan_of p) c ≢ []
+  some_comes c part is = source_comes p c part is (some_source p c part range faultless.sources is)
 
-  sources_same : (c : ℕ) → c < length p.bolts + length p.states → All (λ input. plan_fields (plan_of p) input.0 ≡ plan_fields_to (plan_of p) c) (inputs_of (plan_of p) c)
-  sources_same c within =
-      All-from_in (λ input. plan_fields (plan_of p) input.0 ≡ plan_fields_to (plan_of p) c) (inputs_of (plan_of p) c)
-      (λ input at. fields_same c within input at ∙ sym (fields_come c within))
+  fields_come : (c : ℕ) (part : ComponentPart) → IsAt p c part → plan_fields_to (plan_of p) c ≡ fields_to p c
+  fields_come c part is = of_first (plan_of p) (fields_to p c) (inputs_of (plan_of p) c) (some_comes c part is) (fields_same c part is)
 
-  width_comes : (c : ℕ) → c < length p.bolts + length p.states → length (fields_to p c) ≡ width_to (plan_of p) c
-  width_comes c within = ap (λ (fields : List (List ℕ)). length fields) (sym (fields_come c within))
-
-  bolt_planned : (c : ℕ) (bolt : BoltPart) → IsBoltAt p c bolt → IsComponent (plan_of p) c (planned_bolt p (c, bolt))
-  bolt_planned c bolt is =
-      let within : c < length p.bolts = slice_get_within p.bolts c bolt is in
-      let limits : IsBoltInRange bolt = All-at_in IsBoltInRange p.bolts range.each_bolt bolt (in_place p.bolts c bolt is) in
-      let here : HasNoFaultAt p c = no_fault_here p range faultless c (omega arith) in
-      let fields : AreFields (fields_of p (origin.Component c)) = fields_of_source p range faultless (origin.Component c) within in
-      let left : fields_of p (origin.Component c) ≡ fields_after bolt.operation (fields_to p c) = fields_of_bolt p c bolt range faultless.cycle is in
-      record {
-        name = limits.name;
-        sources = sources_same c (omega arith);
-        some_source = source_comes p c (some_source p c range faultless.sources (omega arith));
-        fed =
-            subst (λ n. IsFed (plan_of p) c n (Bolt (planned_operation (fields_to p c) bolt.operation)) (fields_of p (origin.Component c))) (width_comes c (omega arith)) (
-              operation_within (fields_to p c) bolt.operation limits.operation (projected_once p faultless.twice bolt (in_place p.bolts c bolt is)) (λ name at. here.reads name (subst (IsIn name) (sym (reads_at_bolt p c bolt is)) at)),
-              ap (λ (names : List (List ℕ)). length names) left ∙ width_kept (fields_to p c) bolt.operation,
-              fields.count,
-            );
-        fields = AllPairs-from_apart (λ (name : List ℕ). name) (fields_of p (origin.Component c)) (subst AreApart (sym (map-id (fields_of p (origin.Component c)))) fields.apart);
-        field_names = fields.named;
-        first_task = ap (λ tasks. sum (take c tasks)) (sym (tasks_planned p));
-        tasks = limits.tasks;
-      }
-
-  keyed : (c : ℕ) (state : StatePart) → IsStateAt p c state → All (λ input. (input.1).grouping ≡ grouping.Fields (numbers_of (fields_to p c) state.key)) (inputs_of (plan_of p) c)
-  keyed c state at =
+  -- the inputs of a state are grouped by its key
+  keyed : (c : ℕ) (part : ComponentPart) (state : StatePart) → IsAt p c part → part.body ≡ State state → All (λ input. (input.1).grouping ≡ grouping.Fields (numbers_of (fields_to p c) state.key)) (inputs_of (plan_of p) c)
+  keyed c part state is body =
       All-from_in (λ input. (input.1).grouping ≡ grouping.Fields (numbers_of (fields_to p c) state.key)) (inputs_of (plan_of p) c)
       (λ input listed.
       let planned = input_planned p c input listed in
       let source : IsIn input.0 (sources_at p c) = subst (λ k. IsIn input.0 (sources_at p k)) planned.1 (planned_source p input.0 input.1 planned.0) in
-      let here : HasNoFaultAt p c = no_fault_here p range faultless c (omega (arith, slice_get_within p.states at.place state at.is, at.number)) in
-      let inputs : planned.0.inputs ≡ state_inputs state =
-      same_Some planned.0.inputs (state_inputs state) (sym (subst (λ k. slice_get (inputs_by_component p) k ≡ Some planned.0.inputs) planned.1 planned.0.consumer) ∙ inputs_at_state p c state at)
+      let limits : IsBodyInRange (State state) part.inputs = subst (λ (b : BodyPart). IsBodyInRange b part.inputs) body (IsComponentInRange.body (range_at p c part range is)) in
+      let inputs : planned.0.inputs ≡ part.inputs =
+      same_Some planned.0.inputs part.inputs (sym (subst (λ k. slice_get (inputs_by_component p) k ≡ Some planned.0.inputs) planned.1 planned.0.consumer) ∙ inputs_at_part p c part is)
       in
-      let made = in_map (λ from. record { from = from; grouping = said.Fields state.key }) state.inputs planned.0.input (subst (IsIn planned.0.input) inputs planned.0.listed) in
+      let said : planned.0.input.grouping ≡ said.Fields state.key = All-at_in (λ (input : Input). input.grouping ≡ said.Fields state.key) part.inputs limits.3 planned.0.input (subst (IsIn planned.0.input) inputs planned.0.listed) in
       planned.0.grouping
-      ∙ sym (ap (λ (i : Input). planned_grouping p input.0 i.grouping) made.2)
-      ∙ ap (λ fields. grouping.Fields (numbers_of fields state.key)) (here.same input.0 source))
+      ∙ ap (planned_grouping p input.0) said
+      ∙ ap (λ fields. grouping.Fields (numbers_of fields state.key)) (HasNoFaultAt.same (no_fault_here p range faultless c part is) input.0 source))
 
-  state_planned : (c : ℕ) (state : StatePart) → IsStateAt p c state → IsComponent (plan_of p) c (planned_state p (c, state))
-  state_planned c state at =
-      let place : at.place < length p.states = slice_get_within p.states at.place state at.is in
-      let within : c < length p.bolts + length p.states = omega (arith, at.number) in
-      let limits : IsStateInRange state = All-at_in IsStateInRange p.states range.each_state state (in_place p.states at.place state at.is) in
-      let here : HasNoFaultAt p c = no_fault_here p range faultless c within in
-      let reads : (name : List ℕ) → IsIn name (state.key ++ option_to_list state.amount) → IsIn name (fields_to p c) = λ name read. here.reads name (subst (IsIn name) (sym (reads_at_state p c state at)) read) in
+  -- the fields of a bolt, and the none of a state
+  fields_fed : (c : ℕ) (part : ComponentPart) (body : BodyPart) → IsAt p c part → part.body ≡ body
+      → IsFed (plan_of p) c (length (fields_to p c)) (planned_body (fields_to p c) body) (fields_of p (origin.Component c))
+      × (AreApart (fields_of p (origin.Component c)) × All IsName (fields_of p (origin.Component c)))
+  fields_fed c part (Bolt operation) is body =
+      let fields : AreFields (fields_of p (origin.Component c)) = fields_of_source p range faultless (origin.Component c) (bolt_below p c part range is (ap is_bolt body)) in
+      let limits : IsBodyInRange (Bolt operation) part.inputs = subst (λ (b : BodyPart). IsBodyInRange b part.inputs) body (IsComponentInRange.body (range_at p c part range is)) in
+      let left : fields_of p (origin.Component c) ≡ fields_after (Bolt operation) (fields_to p c) = fields_of_part p c part range faultless.cycle is ∙ ap (λ b. fields_after b (fields_to p c)) body in (
+        (
+          operation_within (fields_to p c) operation limits.0 (subst (λ (b : BodyPart). AreApart (projected b)) body (projected_once p faultless.twice part (in_place (components_of p) c part is)))
+              (λ name at. HasNoFaultAt.reads (no_fault_here p range faultless c part is) part is name
+              (to_left (fields_read part.body) (amount_read part.body) name (subst (λ (b : BodyPart). IsIn name (fields_read b)) (sym body) at))),
+          ap (λ (names : List (List ℕ)). length names) left ∙ width_kept (fields_to p c) operation,
+          fields.count,
+        ),
+        (fields.apart, fields.named),
+      )
+  fields_fed c part (State state) is body =
+      let none : fields_of p (origin.Component c) ≡ [] = fields_of_part p c part range faultless.cycle is ∙ ap (λ b. fields_after b (fields_to p c)) body in
+      let limits : IsBodyInRange (State state) part.inputs = subst (λ (b : BodyPart). IsBodyInRange b part.inputs) body (IsComponentInRange.body (range_at p c part range is)) in
+      let reads : (name : List ℕ) → IsIn name (state.key ++ option_to_list state.amount) → IsIn name (fields_to p c) =
+      λ name read. HasNoFaultAt.reads (no_fault_here p range faultless c part is) part is name (subst (λ (b : BodyPart). IsIn name (fields_read b ++ amount_read b)) (sym body) read)
+      in (
+        (
+          none,
+          no_subs_of_state p c (state_past p c part range is (ap is_bolt body)),
+          numbers_within (fields_to p c) state.key limits.2 (subst (λ (b : BodyPart). AreApart (own_key b)) body (own_key_once p faultless.twice part (in_place (components_of p) c part is))) (λ name read. reads name (to_left state.key (option_to_list state.amount) name read)),
+          amount_planned (fields_to p c) state.fold state.amount limits.0 (λ name read. reads name (to_right state.key (option_to_list state.amount) name read)),
+          keyed c part state is body,
+        ),
+        (subst AreApart (sym none) tt, subst (All IsName) (sym none) (All-nil IsName)),
+      )
+
+  part_planned : (c : ℕ) (part : ComponentPart) → IsAt p c part → IsComponent (plan_of p) c (planned_component p (c, part))
+  part_planned c part is =
+      let limits : IsComponentInRange part = range_at p c part range is in
+      let fed = fields_fed c part part.body is refl in
       record {
         name = limits.name;
-        sources = sources_same c within;
-        some_source = source_comes p c (some_source p c range faultless.sources within);
-        fed =
-            subst (λ n. IsFed (plan_of p) c n (planned_state p (c, state)).body []) (width_comes c within) (
-              refl,
-              no_subs_of_state p c (omega (arith, at.number)),
-              numbers_within (fields_to p c) state.key limits.key (state_key_once p faultless.twice state (in_place p.states at.place state at.is)) (λ name read. reads name (to_left state.key (option_to_list state.amount) name read)),
-              amount_planned (fields_to p c) state.fold state.amount limits.amount (λ name read. reads name (to_right state.key (option_to_list state.amount) name read)),
-              keyed c state at,
-            );
-        fields = λ i j d before under. absurd (omega arith);
-        field_names = All-nil IsName;
+        sources = All-from_in (λ input. plan_fields (plan_of p) input.0 ≡ plan_fields_to (plan_of p) c) (inputs_of (plan_of p) c) (λ input at. fields_same c part is input at ∙ sym (fields_come c part is));
+        some_source = some_comes c part is;
+        fed = subst (λ n. IsFed (plan_of p) c n (planned_body (fields_to p c) part.body) (fields_of p (origin.Component c))) (ap (λ (fields : List (List ℕ)). length fields) (sym (fields_come c part is))) fed.0;
+        fields = AllPairs-from_apart (λ (name : List ℕ). name) (fields_of p (origin.Component c)) (subst AreApart (sym (map-id (fields_of p (origin.Component c)))) fed.1.0);
+        field_names = fed.1.1;
         first_task = ap (λ tasks. sum (take c tasks)) (sym (tasks_planned p));
-        tasks = limits.parts;
+        tasks = limits.tasks;
       }
 
   component_planned : (c : ℕ) → IfSome (slice_get (plan_of p).components c) (IsComponent (plan_of p) c)
-  component_planned = each_component p (IsComponent (plan_of p)) bolt_planned state_planned
+  component_planned = each_component p (IsComponent (plan_of p)) part_planned
 
 -- ---- bolts and then states
 
-placed_planned : (p : FileParts) (c : ℕ) → IfSome (slice_get (plan_of p).components c) (λ component. IsPlaced (length p.bolts) c component.body)
-placed_planned p =
-    each_component p (λ c (component : Component). IsPlaced (length p.bolts) c component.body) (λ c bolt is. slice_get_within p.bolts c bolt is)
-    (λ c state at. let past : length p.bolts ≤ c = omega (arith, at.number) in past)
+placed_body : (bolts c : ℕ) (fields : List (List ℕ)) (body : BodyPart) → (is_bolt body ≡ true → c < bolts) → (is_bolt body ≡ false → bolts ≤ c) → IsPlaced bolts c (planned_body fields body)
+placed_body bolts c fields (Bolt operation) below past = below refl
+placed_body bolts c fields (State state) below past = past refl
 
 layout_planned : (p : FileParts) → IsInRange p → IsLaidOut (plan_of p)
 layout_planned p range = record {
   bolts = length p.bolts;
   few = range.bolts;
-  states = (omega (arith, length_components p, range.states.0), omega (arith, length_components p, range.states.1));
-  placed = placed_planned p;
+  states = (omega (arith, length_components p, count_parts p, range.states.0), omega (arith, length_components p, count_parts p, range.states.1));
+  placed =
+      each_component p (λ c (component : Component). IsPlaced (length p.bolts) c component.body)
+      (λ c part is. placed_body (length p.bolts) c (fields_to p c) part.body (bolt_below p c part range is) (state_past p c part range is));
 }
 
 -- ---- the spout's kind
 
-pub opaque_kind : (kind : Kind) → is_transactional kind ≡ false → kind ≡ Opaque
+opaque_kind : (kind : Kind) → is_transactional kind ≡ false → kind ≡ Opaque
 opaque_kind Transactional other = absurd (false≢true (sym other))
 opaque_kind Opaque other = refl
 
-replays_planned : (p : FileParts) → replay_fault p p.spout.kind ≡ None → (plan_of p).spout_kind ≡ Opaque → All (λ (component : Component). MayFollowOpaque component.body) (plan_of p).components
+may_follow : (fields : List (List ℕ)) (body : BodyPart) → keeps_exact body ≡ false → MayFollowOpaque (planned_body fields body)
+may_follow fields (Bolt operation) other = tt
+may_follow fields (State state) other = opaque_kind state.kind other
+
+none_exact : (body : BodyPart) → is_bolt body ≡ true → keeps_exact body ≡ false
+none_exact (Bolt operation) is = refl
+none_exact (State state) is = absurd (false≢true is)
+
+-- no state is transactional under an opaque spout
+pub replays_said : (p : FileParts) → replay_fault p p.spout.kind ≡ None → p.spout.kind ≡ Opaque → (part : ComponentPart) → IsIn part p.states → keeps_exact part.body ≡ false
+replays_said p none opaque part at =
+    let exact = λ (part : ComponentPart). keeps_exact part.body in
+    none_found exact p.states (none_mapped (λ (part : ComponentPart). NotExactlyOnce part.name) (find exact p.states) (subst (λ kind. replay_fault p kind ≡ None) opaque none)) part at
+
+replays_planned : (p : FileParts) → IsInRange p → replay_fault p p.spout.kind ≡ None → (plan_of p).spout_kind ≡ Opaque → All (λ (component : Component). MayFollowOpaque component.body) (plan_of p).components
 unfolding plan_of
-replays_planned p none opaque =
-    let searched : replay_fault p Opaque ≡ None = subst (λ kind. replay_fault p kind ≡ None) opaque none in
-    let found : find (λ (state : StatePart). is_transactional state.kind) p.states ≡ None = none_mapped (λ (state : StatePart). NotExactlyOnce state.name) (find (λ (state : StatePart). is_transactional state.kind) p.states) searched in
-    All-from_in (λ (component : Component). MayFollowOpaque component.body) (map (planned_bolt p) (enumerate_from 0 p.bolts) ++ map (planned_state p) (enumerate_from (length p.bolts) p.states))
+replays_planned p range none opaque =
+    All-from_in (λ (component : Component). MayFollowOpaque component.body) (map (planned_component p) (enumerate_from 0 (components_of p)))
     (λ component at.
-    elim (in_append (map (planned_bolt p) (enumerate_from 0 p.bolts)) (map (planned_state p) (enumerate_from (length p.bolts) p.states)) component at) [
-      | inl left ↦ let bolt = in_map (planned_bolt p) (enumerate_from 0 p.bolts) component left in subst (λ (made : Component). MayFollowOpaque made.body) bolt.2 tt
-      | inr right ↦
-          let state = in_map (planned_state p) (enumerate_from (length p.bolts) p.states) component right in
-          let place = in_enumerated (length p.bolts) p.states state.0 state.1 in
-          let other : is_transactional (state.0.1).kind ≡ false = none_found (λ (s : StatePart). is_transactional s.kind) p.states found state.0.1 (in_place p.states place.0 state.0.1 place.2) in
-          subst (λ (made : Component). MayFollowOpaque made.body) state.2 (opaque_kind (state.0.1).kind other)
-    ])
+    let made = in_map (planned_component p) (enumerate_from 0 (components_of p)) component at in
+    let place = in_enumerated 0 (components_of p) made.0 made.1 in
+    let part : ComponentPart = made.0.1 in
+    let other : keeps_exact part.body ≡ false =
+    elim (in_append p.bolts p.states part (in_place (components_of p) place.0 part place.2)) [
+      | inl bolt ↦ none_exact part.body (All-at_in (λ (part : ComponentPart). is_bolt part.body ≡ true) p.bolts range.are_bolts part bolt)
+      | inr state ↦ replays_said p none opaque part state
+    ]
+    in
+    subst (λ (made : Component). MayFollowOpaque made.body) made.2 (may_follow (fields_to p made.0.0) part.body other))
 
 pub wired_plan : (p : FileParts) → IsInRange p → meaning_fault p ≡ None → IsWired (plan_of p)
 unfolding plan_of
@@ -256,5 +270,5 @@ wired_plan p range none =
       once = λ from. once_planned p from faultless.twice;
       groupings = groupings_planned p range faultless;
       components = component_planned p range faultless;
-      replays = replays_planned p faultless.replay;
+      replays = replays_planned p range faultless.replay;
     }

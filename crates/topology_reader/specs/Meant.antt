@@ -1,12 +1,12 @@
 -- The faults of what a topology file says, in the order of the checks. This project's own.
 use Rattle.std.specs.Prelude.{ℕ, ◌+◌, ◌&&◌, ℤ, pos, int_le, List, [], ◌∷◌, ◌++◌, length, map, Bool, true, false, not, nat_lt, if◌then◌else◌, Option, Some, None, option_map, option_and_then, is_none, codes}
-use Rattle.topology_reader.specs.Prelude.{list_any, range_with_len, option_map_or, option_to_list, bytes_eq, first_some, most_tasks_in_all, most_weight, GroupingPart, Input, Operation, Split, Project, Filter, Set, Len, Route, BoltPart, StatePart, FileParts, TopoFault, WrongKind, OutOfRange, Twice, NoSource, Cycle, FieldsDiffer, NoField, NotExactlyOnce, Weight, tasks_in_all, weight_of, Feed, feeds_at, by_depth}
+use Rattle.topology_reader.specs.Prelude.{list_any, range_with_len, option_map_or, option_to_list, bytes_eq, first_some, most_tasks_in_all, most_weight, GroupingPart, Input, Split, Project, Filter, Set, Len, Route, BodyPart, Bolt, State, ComponentPart, FileParts, components_of, TopoFault, WrongKind, OutOfRange, Twice, NoSource, Cycle, FieldsDiffer, NoField, NotExactlyOnce, Weight, tasks_in_all, weight_of, Feed, feeds_at, by_depth}
 use Rattle.std.specs.List.{find}
 use Rattle.std.specs.Cmp.Lexicographic.{pointwise}
 use Rattle.topology_plan.specs.declared.parts.Kind.{Kind}
 use Rattle.topology_plan.specs.declared.parts.Kind.TheVariants.{Transactional, Opaque}
 use Rattle.topology_form.specs.declared.parts.GroupingPart.TheVariants as said
-use Rattle.topology_reader.specs.Wiring.{component_names, name_at, source_of, graph_of, reaches, fields_of, fields_to, operation_at, at_component}
+use Rattle.topology_reader.specs.Wiring.{component_names, name_at, source_of, graph_of, reaches, fields_of, fields_to, body_of, component_at}
 use Rattle.topology_reader.specs.Planned.{plan_of}
 
 -- the text is among these
@@ -37,45 +37,44 @@ key_of (said.Fields key) = key
 key_of _ = []
 
 -- the names that an operation puts in the place of the fields
-abbrev pub projected : Operation → List (List ℕ)
-projected (Project names) = names
+abbrev pub projected : BodyPart → List (List ℕ)
+projected (Bolt (Project names)) = names
 projected _ = []
 
--- a bolt names a source twice, or a field in the key of an input, or among the projected
-abbrev pub bolt_twice : BoltPart → Option TopoFault
-bolt_twice bolt =
-    first_some
-    (again_fault (map (λ (input : Input). input.from) bolt.inputs)
-    ∷ first_some (map (λ (input : Input). again_fault (key_of input.grouping)) bolt.inputs)
-    ∷ again_fault (projected bolt.operation) ∷ [])
+-- the key of a state
+abbrev pub own_key : BodyPart → List (List ℕ)
+own_key (State state) = state.key
+own_key _ = []
 
--- a state names a field of its key twice, or a source
-abbrev pub state_twice : StatePart → Option TopoFault
-state_twice state = first_some (again_fault state.key ∷ again_fault state.inputs ∷ [])
+-- a component names twice a field in its own key, a source, a field in the key of an input, or
+-- among the projected
+abbrev pub component_twice : ComponentPart → Option TopoFault
+component_twice part =
+    first_some
+    (again_fault (own_key part.body)
+    ∷ again_fault (map (λ (input : Input). input.from) part.inputs)
+    ∷ first_some (map (λ (input : Input). again_fault (key_of input.grouping)) part.inputs)
+    ∷ again_fault (projected part.body) ∷ [])
 
 -- the first name that stands twice: among the spout and the components, in the spout's fields, in a
--- bolt, in a state
+-- component
 abbrev pub twice_fault : FileParts → Option TopoFault
 twice_fault p =
     first_some
     (again_fault (p.spout.name ∷ component_names p) ∷ again_fault p.spout.fields
-    ∷ first_some (map bolt_twice p.bolts) ∷ first_some (map state_twice p.states) ∷ [])
+    ∷ first_some (map component_twice (components_of p)) ∷ [])
 
 -- ---- sources
 
--- the first of some names that is neither the spout's nor a bolt's
-abbrev pub nameless_fault : FileParts → List (List ℕ) → Option TopoFault
-nameless_fault p names = option_map NoSource (find (λ name. is_none (source_of p name)) names)
+-- the first input of a component that names neither the spout nor a bolt
+abbrev pub nameless_fault : FileParts → ComponentPart → Option TopoFault
+nameless_fault p part =
+    option_map (λ (input : Input). NoSource input.from)
+    (find (λ (input : Input). is_none (source_of p input.from)) part.inputs)
 
--- the first input that names no source
+-- the first input of all that names no source
 abbrev pub source_fault : FileParts → Option TopoFault
-source_fault p =
-    first_some
-    (first_some
-    (map (λ (bolt : BoltPart). nameless_fault p (map (λ (input : Input). input.from) bolt.inputs))
-    p.bolts)
-    ∷ first_some (map (λ (state : StatePart). nameless_fault p state.inputs) p.states)
-    ∷ [])
+source_fault p = first_some (map (nameless_fault p) (components_of p))
 
 -- the first bolt that can be reached from itself
 abbrev pub cycle_fault : FileParts → Option TopoFault
@@ -98,14 +97,14 @@ field_fault p c names =
     option_map (NoField (name_at p c)) (find (λ name. not (is_among (fields_to p c) name)) names)
 
 -- the operation chooses the tasks of its rows
-abbrev pub is_route : Operation → Bool
-is_route (Route field) = true
+abbrev pub is_route : BodyPart → Bool
+is_route (Bolt (Route field)) = true
 is_route _ = false
 
 -- the source chooses the task by a route
 abbrev pub chooses : FileParts → Input → Bool
 chooses p input =
-    option_map_or is_route (option_and_then (operation_at p) (source_of p input.from)) false
+    option_map_or is_route (option_and_then (body_of p) (source_of p input.from)) false
 
 -- a direct grouping of a source that does not choose
 abbrev pub direct_fault : FileParts → Input → GroupingPart → Option TopoFault
@@ -118,49 +117,47 @@ abbrev pub input_fault : FileParts → ℕ → Input → Option TopoFault
 input_fault p c input =
     first_some (field_fault p c (key_of input.grouping) ∷ direct_fault p input input.grouping ∷ [])
 
--- the fields that an operation reads
-abbrev pub fields_read : Operation → List (List ℕ)
-fields_read (Split field into) = field ∷ []
-fields_read (Project names) = names
-fields_read (Filter field test value) = field ∷ []
-fields_read (Set field value) = field ∷ []
-fields_read (Len field into) = field ∷ []
-fields_read (Route field) = field ∷ []
-fields_read _ = []
+-- the fields that a bolt's operation reads, or a state's key
+abbrev pub fields_read : BodyPart → List (List ℕ)
+fields_read (Bolt (Split field into)) = field ∷ []
+fields_read (Bolt (Project names)) = names
+fields_read (Bolt (Filter field test value)) = field ∷ []
+fields_read (Bolt (Set field value)) = field ∷ []
+fields_read (Bolt (Len field into)) = field ∷ []
+fields_read (Bolt (Route field)) = field ∷ []
+fields_read (Bolt _) = []
+fields_read (State state) = state.key
 
--- the fields that a component reads: a bolt's operation, or a state's key and then its amount
+-- the field that a state adds up or keeps, if any
+abbrev pub amount_read : BodyPart → List (List ℕ)
+amount_read (State state) = option_to_list state.amount
+amount_read _ = []
+
+-- the fields that a component reads
 abbrev pub reads_at : FileParts → ℕ → List (List ℕ)
 reads_at p c =
-    at_component (λ (bolt : BoltPart). fields_read bolt.operation)
-    (λ (state : StatePart). state.key ++ option_to_list state.amount) [] p c
+    option_map_or (λ (part : ComponentPart). fields_read part.body ++ amount_read part.body)
+    (component_at p c) []
 
 -- the field that a length adds is there already, or there are eight without it
-abbrev pub added_fault : List (List ℕ) → Operation → Option TopoFault
-added_fault fields (Len field into) =
+abbrev pub added_fault : List (List ℕ) → BodyPart → Option TopoFault
+added_fault fields (Bolt (Len field into)) =
     if is_among fields into then Some (Twice into)
     else range_fault (codes "fields") (pos (length fields + 1)) 1 8
 added_fault fields _ = None
 
--- the first fault of fields of a bolt: its sources, its inputs in order, what it reads, what it
--- adds
-abbrev pub bolt_fault : FileParts → ℕ → BoltPart → Option TopoFault
-bolt_fault p c bolt =
+-- the first fault of fields of a component: its sources, its inputs in order, what it reads, what
+-- it adds
+abbrev pub part_fault : FileParts → ℕ → ComponentPart → Option TopoFault
+part_fault p c part =
     first_some
-    (differ_fault p c ∷ first_some (map (input_fault p c) bolt.inputs)
-    ∷ field_fault p c (fields_read bolt.operation) ∷ added_fault (fields_to p c) bolt.operation
-    ∷ [])
+    (differ_fault p c ∷ first_some (map (input_fault p c) part.inputs)
+    ∷ field_fault p c (fields_read part.body) ∷ field_fault p c (amount_read part.body)
+    ∷ added_fault (fields_to p c) part.body ∷ [])
 
--- the first fault of fields of a state: its sources, its key, which is that of each input, and its
--- amount
-abbrev pub state_fault : FileParts → ℕ → StatePart → Option TopoFault
-state_fault p c state =
-    first_some
-    (differ_fault p c ∷ field_fault p c state.key ∷ field_fault p c (option_to_list state.amount)
-    ∷ [])
-
--- the first fault of fields of a component
+-- the same of a component number
 abbrev pub component_fault : FileParts → ℕ → Option TopoFault
-component_fault p c = at_component (bolt_fault p c) (state_fault p c) None p c
+component_fault p c = option_and_then (part_fault p c) (component_at p c)
 
 -- component by component, by depth, then in file order
 abbrev pub fields_fault : FileParts → Option TopoFault
@@ -172,12 +169,16 @@ abbrev pub is_transactional : Kind → Bool
 is_transactional Transactional = true
 is_transactional Opaque = false
 
+abbrev pub keeps_exact : BodyPart → Bool
+keeps_exact (State state) = is_transactional state.kind
+keeps_exact _ = false
+
 -- an opaque spout, and the first transactional state
 abbrev pub replay_fault : FileParts → Kind → Option TopoFault
 replay_fault p Transactional = None
 replay_fault p Opaque =
-    option_map (λ (state : StatePart). NotExactlyOnce state.name)
-    (find (λ (state : StatePart). is_transactional state.kind) p.states)
+    option_map (λ (part : ComponentPart). NotExactlyOnce part.name)
+    (find (λ (part : ComponentPart). keeps_exact part.body) p.states)
 
 -- a weight above the most
 abbrev pub weight_fault : ℕ → Option TopoFault

@@ -1,8 +1,9 @@
 -- The topology of what a file says. It means something where the file has no
 -- fault. This project's own.
-use Rattle.std.specs.Prelude.{ℕ, ◌==◌, List, [], ◌++◌, length, map, filter, Bool, true, false, option_map, unwrap_or, sum, take}
-use Rattle.topology_reader.specs.Prelude.{enumerate_from, flat_map, option_map_or, Origin, GroupingPart, Input, Operation, Split, Project, Filter, Set, Len, Route, Flaky, Mute, Custom, BoltPart, StatePart, FileParts, Topology}
-use Rattle.topology_plan.specs.declared.parts.Body.TheVariants.{Bolt, State}
+use Rattle.std.specs.Prelude.{ℕ, ◌==◌, List, map, filter, Bool, true, false, option_map, unwrap_or, sum, take}
+use Rattle.topology_reader.specs.Prelude.{enumerate_from, flat_map, option_map_or, Origin, GroupingPart, Input, Operation, Split, Project, Filter, Set, Len, Route, Flaky, Mute, Custom, BodyPart, Bolt, State, ComponentPart, FileParts, components_of, Topology}
+use Rattle.topology_plan.specs.declared.parts.Body.{Body}
+use Rattle.topology_plan.specs.declared.parts.Body.TheVariants as body
 use Rattle.topology_plan.specs.declared.parts.Component.{Component}
 use Rattle.topology_plan.specs.declared.parts.Grouping.{Grouping}
 use Rattle.topology_plan.specs.declared.parts.Grouping.TheVariants as grouping
@@ -11,7 +12,7 @@ use Rattle.topology_plan.specs.declared.parts.Op.TheVariants as op
 use Rattle.topology_plan.specs.declared.parts.Origin.TheVariants as origin
 use Rattle.topology_plan.specs.declared.parts.Sub.{Sub}
 use Rattle.topology_form.specs.declared.parts.GroupingPart.TheVariants as said
-use Rattle.topology_reader.specs.Wiring.{place_of, source_of, inputs_by_component, fields_of, fields_to, operation_at}
+use Rattle.topology_reader.specs.Wiring.{place_of, source_of, inputs_by_component, fields_of, fields_to, body_of}
 
 -- ---- fields by their numbers
 
@@ -35,11 +36,21 @@ planned_operation fields (Flaky below) = op.Flaky below
 planned_operation fields (Mute below) = op.Mute below
 planned_operation fields Custom = op.Custom
 
+-- the same of a body
+abbrev pub planned_body : List (List ℕ) → BodyPart → Body
+planned_body fields (Bolt operation) = body.Bolt (planned_operation fields operation)
+planned_body fields (State state) = body.State (record {
+  kind = state.kind;
+  key = numbers_of fields state.key;
+  amount = option_map (number_of fields) state.amount;
+  fold = state.fold;
+})
+
 -- ---- subscriptions
 
 -- the number of the field by which a route chooses
-abbrev pub route_field : List (List ℕ) → Operation → ℕ
-route_field fields (Route field) = number_of fields field
+abbrev pub route_field : List (List ℕ) → BodyPart → ℕ
+route_field fields (Bolt (Route field)) = number_of fields field
 route_field fields _ = 0
 
 -- the grouping of a subscription to a source, in the numbers of the source's fields
@@ -49,7 +60,7 @@ planned_grouping p from (said.Fields key) = grouping.Fields (numbers_of (fields_
 planned_grouping p from said.All = grouping.All
 planned_grouping p from said.Global = grouping.Global
 planned_grouping p from said.Direct =
-    grouping.Direct (option_map_or (route_field (fields_of p from)) (operation_at p from) 0)
+    grouping.Direct (option_map_or (route_field (fields_of p from)) (body_of p from) 0)
 
 -- the two sources are one
 abbrev pub is_origin : Origin → Origin → Bool
@@ -77,50 +88,25 @@ planned_subs p from = flat_map (subs_of_component p from) (enumerate_from 0 (inp
 
 -- tasks and parts of the components
 abbrev pub tasks_by_component : FileParts → List ℕ
-tasks_by_component p =
-    map (λ (bolt : BoltPart). bolt.tasks) p.bolts
-    ++ map (λ (state : StatePart). state.parts) p.states
+tasks_by_component p = map (λ (part : ComponentPart). part.tasks) (components_of p)
 
 -- tasks are numbered through the components
 abbrev pub first_task_of : FileParts → ℕ → ℕ
 first_task_of p c = sum (take c (tasks_by_component p))
 
--- the component of a bolt and its number
-abbrev pub planned_bolt : FileParts → ℕ × BoltPart → Component
-planned_bolt p numbered =
-    let c = numbered.0 in
-    let bolt = numbered.1 in
-    record {
-      name = bolt.name;
-      first_task = first_task_of p c;
-      tasks = bolt.tasks;
-      fields = fields_of p (origin.Component c);
-      body = Bolt (planned_operation (fields_to p c) bolt.operation);
-    }
-
--- the component of a state and its number
-abbrev pub planned_state : FileParts → ℕ × StatePart → Component
-planned_state p numbered =
-    let c = numbered.0 in
-    let state = numbered.1 in
-    record {
-      name = state.name;
-      first_task = first_task_of p c;
-      tasks = state.parts;
-      fields = [];
-      body = State (record {
-        kind = state.kind;
-        key = numbers_of (fields_to p c) state.key;
-        amount = option_map (number_of (fields_to p c)) state.amount;
-        fold = state.fold;
-      });
-    }
+-- the component of a part and its number
+abbrev pub planned_component : FileParts → ℕ × ComponentPart → Component
+planned_component p numbered = record {
+  name = (numbered.1).name;
+  first_task = first_task_of p numbered.0;
+  tasks = (numbered.1).tasks;
+  fields = fields_of p (origin.Component numbered.0);
+  body = planned_body (fields_to p numbered.0) (numbered.1).body;
+}
 
 -- the bolts and then the states
 abbrev pub planned_components : FileParts → List Component
-planned_components p =
-    map (planned_bolt p) (enumerate_from 0 p.bolts)
-    ++ map (planned_state p) (enumerate_from (length p.bolts) p.states)
+planned_components p = map (planned_component p) (enumerate_from 0 (components_of p))
 
 -- the subscriptions to each component's rows
 abbrev pub planned_component_subs : FileParts → List (List Sub)

@@ -6,10 +6,12 @@ pub use Rattle.storm_values.specs.Json.{json_of}
 pub use Rattle.storm_values.specs.Limits.{most_topology_bytes, most_tasks_in_all, most_weight}
 pub use Rattle.storm_values.specs.Lines.{first_some}
 pub use Rattle.topology_form.specs.File.{form_fault, parts_said}
-pub use Rattle.topology_form.specs.Ranges.{IsInRange}
+pub use Rattle.topology_form.specs.Ranges.{IsInRange, components_of}
 pub use Rattle.topology_form.specs.declared.fault.TopoFault.{TopoFault}
 pub use Rattle.topology_form.specs.declared.fault.TopoFault.TheVariants.{TooLong, NotJson, WrongKind, OutOfRange, Twice, NoSource, Cycle, FieldsDiffer, NoField, NotExactlyOnce, Weight, Memory}
-pub use Rattle.topology_form.specs.declared.parts.BoltPart.{BoltPart}
+pub use Rattle.topology_form.specs.declared.parts.BodyPart.{BodyPart}
+pub use Rattle.topology_form.specs.declared.parts.BodyPart.TheVariants.{Bolt, State}
+pub use Rattle.topology_form.specs.declared.parts.ComponentPart.{ComponentPart}
 pub use Rattle.topology_form.specs.declared.parts.FileParts.{FileParts}
 pub use Rattle.topology_form.specs.declared.parts.GroupingPart.{GroupingPart}
 pub use Rattle.topology_form.specs.declared.parts.Input.{Input}

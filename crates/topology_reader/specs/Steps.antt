@@ -10,7 +10,7 @@ use Rattle.topology_plan.specs.declared.parts.Sub.{Sub}
 use Rattle.topology_plan.specs.declared.plan.Made.{Made}
 use Rattle.topology_plan.specs.Inside.{topology_of}
 use Rattle.topology_reader.specs.Planned.{planned_grouping, plan_of}
-use Rattle.topology_reader.specs.Wiring.{source_of, graph_of, reaches_over, fields_rule}
+use Rattle.topology_reader.specs.Wiring.{component_count, source_of, graph_of, reaches_over, fields_rule}
 
 -- a check passes where there is no fault, and otherwise answers it, unless memory ran out
 abbrev pub Checks : {A : Type 0} → Result A TopoFault → Option TopoFault → Type 0
@@ -19,9 +19,9 @@ Checks (Err told) fault = told ≢ Memory → fault ≡ Some told
 
 -- ---- sources
 
--- the bolts' numbers fit 32 bits
+-- the components' numbers fit 32 bits
 abbrev pub IsNumbered : FileParts → Type 0
-IsNumbered p = length p.bolts < 2 ^ 32
+IsNumbered p = component_count p < 2 ^ 32
 
 -- a map from a name to the source of that name
 abbrev pub IsIndexOf : {S : Type 0} → FileParts → IndexMap (Bor (List ℕ)) Origin S → Type 0

@@ -1,14 +1,14 @@
 -- What a file says that has no fault, in its own names. Components are the bolts and then the
 -- states, each in file order. This project's own.
-use Rattle.std.specs.Prelude.{◌≡◌, ◌≢◌, ◌<◌, ◌≤◌, ℕ, List, ◌∷◌, length, All, AllPairs, Some, IfSome, slice_get, sum, true, false}
-use Rattle.topology_reader.specs.Prelude.{Contains, most_tasks_in_all, most_weight, Input, StatePart, FileParts, Origin, weight_of, IsBetween, IsInRange, option_map_or}
+use Rattle.std.specs.Prelude.{◌≡◌, ◌≢◌, ◌<◌, ◌≤◌, ℕ, List, ◌∷◌, length, All, AllPairs, Some, IfSome, sum, true, false}
+use Rattle.topology_reader.specs.Prelude.{Contains, most_tasks_in_all, most_weight, Input, ComponentPart, FileParts, Origin, weight_of, IsBetween, IsInRange, option_map_or}
 use Rattle.topology_plan.specs.declared.parts.Kind.TheVariants.{Opaque}
 use Rattle.topology_plan.specs.declared.parts.Origin.TheVariants as origin
 use Rattle.topology_plan.specs.Texts.{IsName}
 use Rattle.topology_form.specs.declared.parts.GroupingPart.TheVariants as said
-use Rattle.topology_reader.specs.Wiring.{component_names, component_count, source_of, inputs_at, fields_after, fields_of, fields_to, operation_at}
+use Rattle.topology_reader.specs.Wiring.{component_names, component_count, source_of, inputs_at, fields_after, fields_of, fields_to, body_of, component_at}
 use Rattle.topology_reader.specs.Planned.{tasks_by_component, plan_of}
-use Rattle.topology_reader.specs.Meant.{key_of, reads_at, is_route}
+use Rattle.topology_reader.specs.Meant.{key_of, reads_at, is_route, keeps_exact}
 
 -- no name stands twice
 abbrev pub AreDistinct : List (List ℕ) → Type 0
@@ -29,7 +29,7 @@ pub record HasFields (p : FileParts) (from : Origin) : Type 0 where
 
 -- the source is a bolt that chooses the tasks of its rows
 abbrev pub IsRouteAt : FileParts → Origin → Type 0
-IsRouteAt p from = option_map_or is_route (operation_at p from) false ≡ true
+IsRouteAt p from = option_map_or is_route (body_of p from) false ≡ true
 
 -- ---- components
 
@@ -67,14 +67,15 @@ pub record IsValidFile (p : FileParts) : Type 0 where
   pub names : AreDistinct (p.spout.name ∷ component_names p)
   pub numbered : IsNumbered p
   pub spout_fields : fields_of p origin.Spout ≡ p.spout.fields
-  -- a bolt's operation makes its fields of those that come to it
-  pub bolt_fields : (c : ℕ)
-      → IfSome (slice_get p.bolts c)
-      (λ bolt. fields_of p (origin.Component c) ≡ fields_after bolt.operation (fields_to p c))
+  -- a component's fields are what its body leaves of those that come to it
+  pub component_fields : (c : ℕ)
+      → IfSome (component_at p c)
+      (λ part. fields_of p (origin.Component c) ≡ fields_after part.body (fields_to p c))
   pub fields : (from : Origin) → IsSource p from → HasFields p from
   pub components : (c : ℕ) → c < component_count p → IsValidComponent p c
   -- an opaque spout has no transactional state
-  pub replays : p.spout.kind ≡ Opaque → All (λ (state : StatePart). state.kind ≡ Opaque) p.states
+  pub replays : p.spout.kind ≡ Opaque
+      → All (λ (state : ComponentPart). keeps_exact state.body ≡ false) p.states
   -- tasks and parts of all components
   pub tasks : IsBetween (sum (tasks_by_component p)) 1 most_tasks_in_all
   pub weight : weight_of (plan_of p) ≤ most_weight

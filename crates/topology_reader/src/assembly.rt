@@ -44,9 +44,9 @@ fn checked_wiring<'p>(alloc: Global, parts: &'p FileParts) -> Result<Wiring<'p>,
     ensures fault { IfErr result
         (λ fault. fault ≢ TopoFault.Memory → fault_before_size parts.now ≡ Some fault) }
 {
-    check_twice(alloc, parts)?;
     let sources = Sources::of(alloc, parts)?;
-    check_sources(alloc, sources.index())?;
+    check_twice(alloc, &sources)?;
+    check_sources(&sources)?;
     check_cycles(alloc, &sources)?;
     let wiring = Wiring::of(alloc, sources)?;
     check_fields(&wiring)?;

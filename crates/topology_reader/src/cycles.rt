@@ -2,28 +2,26 @@
 
 ghost use Rattle.std.specs.Prelude.{◌≡◌, ◌≤◌, ◌<◌, ℕ, length, map, slice_index, option_map, false, IfOk};
 ghost use Rattle.std.specs.List.{find};
-ghost use Rattle.topology_reader.specs.Prelude.{list_any, range_with_len, option_copied, option_map_or};
-ghost use Rattle.topology_reader.specs.Meant.{cycle_fault, is_transactional, replay_fault};
+ghost use Rattle.topology_reader.specs.Prelude.{list_any, range_with_len, option_copied, option_map_or, ComponentPart};
+ghost use Rattle.topology_reader.specs.Meant.{cycle_fault, is_transactional, keeps_exact, replay_fault};
 ghost use Rattle.topology_reader.specs.Steps.{Checks, has, led, AreReached};
 ghost use Rattle.topology_reader.specs.Wiring.{is_component, source_of, sources_among};
 
-use crate::index::Index;
 use crate::sources::Sources;
 use std::alloc::Global;
 use storm_values::{Memory, Txt};
-use topology_form::{FileParts, Input, StatePart, TopoFault};
+use topology_form::{BodyPart, ComponentPart, FileParts, Input, TopoFault};
 use topology_plan::{Kind, Origin};
 
 pub(crate) fn check_cycles(alloc: Global, sources: &Sources<'_>) -> Result<(), TopoFault>
     requires few { length sources.now.bolts ≤ 32 }
     ensures { Checks result (cycle_fault sources.now) }
 {
-    let index = sources.index();
-    let sets = reach_sets(alloc, index)?;
+    let sets = reach_sets(alloc, sources)?;
     match own_member(sets.as_slice()) {
         Some(c) => {
-            let name = index.parts().bolts.at(c).name.as_str();
-            Err(TopoFault::Cycle(Txt::from_str(alloc, name)?))
+            let name = sources.component(c).name.copy()?;
+            Err(TopoFault::Cycle(name))
         }
         None => Ok(()),
     }
@@ -44,11 +42,11 @@ fn own_member(sets: &[u64]) -> Option<usize>
 
 /// For each bolt the set of the bolts from which it can be reached. After the look-up of each input
 /// it takes as many steps as the square of the number of bolts.
-fn reach_sets(alloc: Global, index: &Index<'_>) -> Result<Vec<u64>, Memory>
-    requires few { length index.now.bolts ≤ 32 }
-    ensures { IfOk result (λ sets. AreReached (length index.now.bolts) index.now sets.items) }
+fn reach_sets(alloc: Global, sources: &Sources<'_>) -> Result<Vec<u64>, Memory>
+    requires few { length sources.now.bolts ≤ 32 }
+    ensures { IfOk result (λ sets. AreReached (length sources.now.bolts) sources.now sets.items) }
 {
-    let mut sets = direct_sources(alloc, index)?;
+    let mut sets = direct_sources(alloc, sources)?;
     for n in 0..sets.len() {
         sets = led_through(alloc, sets.as_slice(), n)?;
     }
@@ -81,36 +79,37 @@ fn led(n: usize, through: u64, set: u64) -> u64
 }
 
 /// For each bolt the set of the bolts that feed it.
-fn direct_sources(alloc: Global, index: &Index<'_>) -> Result<Vec<u64>, Memory>
-    requires few { length index.now.bolts ≤ 32 }
-    ensures { IfOk result (λ sets. AreReached 0 index.now sets.items) }
+fn direct_sources(alloc: Global, sources: &Sources<'_>) -> Result<Vec<u64>, Memory>
+    requires few { length sources.now.bolts ≤ 32 }
+    ensures { IfOk result (λ sets. AreReached 0 sources.now sets.items) }
 {
-    let bolts = index.parts().bolts.as_slice();
-    let mut sets = Vec::with_capacity(alloc, bolts.len())?;
-    for bolt in bolts {
-        sets.push(bolt_sources(index, bolt.inputs.as_slice()))?;
+    let bolts = sources.parts().bolts.len();
+    let mut sets = Vec::with_capacity(alloc, bolts)?;
+    for c in 0..bolts {
+        let inputs = sources.component(c).inputs.as_slice();
+        sets.push(bolt_sources(sources, inputs))?;
     }
     Ok(sets)
 }
 
-fn bolt_sources(index: &Index<'_>, inputs: &[Input]) -> u64
-    requires few { length index.now.bolts ≤ 32 }
+fn bolt_sources(sources: &Sources<'_>, inputs: &[Input]) -> u64
+    requires few { length sources.now.bolts ≤ 32 }
     ensures { (a : ℕ)
-        → has result a ≡ list_any (is_component a) (sources_among index.now inputs.now) }
+        → has result a ≡ list_any (is_component a) (sources_among sources.now inputs.now) }
 {
     let mut set = 0;
     for input in inputs {
-        set |= source_set(index, input.from.as_str());
+        set |= source_set(sources, &input.from);
     }
     set
 }
 
-fn source_set(index: &Index<'_>, name: &str) -> u64
-    requires few { length index.now.bolts ≤ 32 }
+fn source_set(sources: &Sources<'_>, name: &Txt) -> u64
+    requires few { length sources.now.bolts ≤ 32 }
     ensures { (a : ℕ)
-        → has result a ≡ option_map_or (is_component a) (source_of index.now name.now) false }
+        → has result a ≡ option_map_or (is_component a) (source_of sources.now name.now) false }
 {
-    match index.source_of(name) {
+    match sources.source_of(name) {
         Some(Origin::Component(a)) => 1 << a,
         Some(Origin::Spout) | None => 0,
     }
@@ -130,18 +129,27 @@ pub(crate) fn check_replays(alloc: Global, parts: &FileParts) -> Result<(), Topo
     if is_transactional(parts.spout.kind) {
         return Ok(());
     }
-    match transactional_name(parts.states.as_slice()) {
-        Some(name) => Err(TopoFault::NotExactlyOnce(Txt::from_str(alloc, name)?)),
+    match exact_name(parts.states.as_slice()) {
+        Some(name) => Err(TopoFault::NotExactlyOnce(name.copy()?)),
         None => Ok(()),
     }
 }
 
-fn transactional_name(states: &[StatePart]) -> Option<&str>
-    ensures { option_copied result ≡ option_map (λ (state : StatePart). state.name)
-        (find (λ (state : StatePart). is_transactional state.kind) states.now) }
+fn exact_name(states: &[ComponentPart]) -> Option<&Txt>
+    ensures { option_copied result ≡ option_map (λ (part : ComponentPart). part.name)
+        (find (λ (part : ComponentPart). keeps_exact part.body) states.now) }
 {
-    let state = states.iter().find(|state| is_transactional(state.kind))?;
-    Some(state.name.as_str())
+    let part = states.iter().find(|part| keeps_exact(&part.body))?;
+    Some(&part.name)
+}
+
+fn keeps_exact(body: &BodyPart) -> bool
+    ensures { result ≡ keeps_exact body.now }
+{
+    match body {
+        BodyPart::State(state) => is_transactional(state.kind),
+        BodyPart::Bolt(_) => false,
+    }
 }
 
 fn is_transactional(kind: Kind) -> bool

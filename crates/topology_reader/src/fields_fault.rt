@@ -3,7 +3,7 @@
 ghost use Rattle.std.specs.Prelude.{◌≡◌, not, find, map};
 ghost use Rattle.topology_reader.specs.Prelude.{list_any, option_copied, bytes_eq, first_some, Feed, feeds_at};
 ghost use Rattle.std.specs.Cmp.Lexicographic.{pointwise};
-ghost use Rattle.topology_reader.specs.Meant.{is_among, differ_fault, field_fault, chooses, direct_fault, input_fault, fields_read, added_fault, bolt_fault, state_fault, component_fault, fields_fault};
+ghost use Rattle.topology_reader.specs.Meant.{is_among, differ_fault, field_fault, chooses, direct_fault, input_fault, fields_read, amount_read, added_fault, part_fault, component_fault, fields_fault};
 ghost use Rattle.topology_reader.specs.Wiring.{graph_of, fields_of, fields_to};
 ghost use Rattle.topology_reader.specs.Steps.{Checks};
 
@@ -12,7 +12,9 @@ use crate::names::key_of;
 use std::alloc::Global;
 use std::slice::from_ref;
 use storm_values::Txt;
-use topology_form::{BoltPart, GroupingPart, Input, Operation, StatePart, TopoFault};
+use topology_form::{
+    BodyPart, ComponentPart, GroupingPart, Input, Operation, StatePart, TopoFault,
+};
 
 /// The fields of each component, after those of all of its sources.
 pub(crate) fn check_fields(wiring: &Wiring<'_>) -> Result<(), TopoFault>
@@ -27,35 +29,21 @@ pub(crate) fn check_fields(wiring: &Wiring<'_>) -> Result<(), TopoFault>
 fn check_component(wiring: &Wiring<'_>, c: usize) -> Result<(), TopoFault>
     ensures { Checks result (component_fault wiring.now c) }
 {
-    let sources = wiring.sources();
-    match sources.bolt_at(c) {
-        Some(bolt) => check_bolt(wiring, c, bolt),
-        None => match sources.state_at(c) {
-            Some(state) => check_state(wiring, c, state),
-            None => Ok(()),
-        },
-    }
-}
-
-fn check_bolt(wiring: &Wiring<'_>, c: usize, bolt: &BoltPart) -> Result<(), TopoFault>
-    ensures { Checks result (bolt_fault wiring.now c bolt.now) }
-{
-    check_same(wiring, c)?;
-    check_inputs(wiring, c, bolt.inputs.as_slice())?;
-    check_there(wiring, c, fields_read(&bolt.operation))?;
-    check_added(wiring.alloc(), wiring.fields_to(c), &bolt.operation)
-}
-
-/// The key of each of its inputs is a state's own.
-fn check_state(wiring: &Wiring<'_>, c: usize, state: &StatePart) -> Result<(), TopoFault>
-    ensures { Checks result (state_fault wiring.now c state.now) }
-{
-    check_same(wiring, c)?;
-    check_there(wiring, c, state.key.as_slice())?;
-    match &state.amount {
-        Some(amount) => check_there(wiring, c, from_ref(amount)),
+    match wiring.sources().component_at(c) {
+        Some(part) => check_part(wiring, c, part),
         None => Ok(()),
     }
+}
+
+/// A state adds no field, and the key of each of its inputs is its own.
+fn check_part(wiring: &Wiring<'_>, c: usize, part: &ComponentPart) -> Result<(), TopoFault>
+    ensures { Checks result (part_fault wiring.now c part.now) }
+{
+    check_same(wiring, c)?;
+    check_inputs(wiring, c, part.inputs.as_slice())?;
+    check_there(wiring, c, fields_read(&part.body))?;
+    check_there(wiring, c, amount_read(&part.body))?;
+    check_added(wiring.alloc(), wiring.fields_to(c), &part.body)
 }
 
 fn check_same(wiring: &Wiring<'_>, c: usize) -> Result<(), TopoFault>
@@ -76,8 +64,7 @@ fn differs(wiring: &Wiring<'_>, c: usize) -> bool
 {
     let fields = wiring.fields_to(c);
     wiring
-        .sources()
-        .at(c)
+        .feeds_at(c)
         .iter()
         .any(|feed| !are_same(wiring.fields_of(feed.from), fields))
 }
@@ -147,33 +134,50 @@ fn check_direct(wiring: &Wiring<'_>, input: &Input) -> Result<(), TopoFault>
 fn chooses(wiring: &Wiring<'_>, input: &Input) -> bool
     ensures { result ≡ chooses wiring.now input.now }
 {
-    let Some(from) = wiring.sources().of_name(&input.from) else {
+    let Some(from) = wiring.sources().source_of(&input.from) else {
         return false;
     };
     matches!(
-        wiring.sources().operation_at(from),
-        Some(Operation::Route { .. })
+        wiring.sources().body_of(from),
+        Some(BodyPart::Bolt(Operation::Route { .. }))
     )
 }
 
-fn fields_read(operation: &Operation) -> &[Txt]
-    ensures { result.now ≡ fields_read operation.now }
+fn fields_read(body: &BodyPart) -> &[Txt]
+    ensures { result.now ≡ fields_read body.now }
 {
-    match operation {
-        Operation::Project(names) => names.as_slice(),
-        Operation::Split { field, .. }
-        | Operation::Filter { field, .. }
-        | Operation::Set { field, .. }
-        | Operation::Len { field, .. }
-        | Operation::Route { field } => from_ref(field),
-        Operation::Flaky { .. } | Operation::Mute { .. } | Operation::Custom => &[],
+    match body {
+        BodyPart::Bolt(Operation::Project(names)) => names.as_slice(),
+        BodyPart::Bolt(
+            Operation::Split { field, .. }
+            | Operation::Filter { field, .. }
+            | Operation::Set { field, .. }
+            | Operation::Len { field, .. }
+            | Operation::Route { field },
+        ) => from_ref(field),
+        BodyPart::Bolt(_) => &[],
+        BodyPart::State(state) => state.key.as_slice(),
     }
 }
 
-fn check_added(alloc: Global, fields: &[Txt], operation: &Operation) -> Result<(), TopoFault>
-    ensures { Checks result (added_fault fields.now operation.now) }
+fn amount_read(body: &BodyPart) -> &[Txt]
+    ensures { result.now ≡ amount_read body.now }
 {
-    let Operation::Len { into, .. } = operation else {
+    match body {
+        BodyPart::State(
+            StatePart {
+                amount: Some(amount),
+                ..
+            },
+        ) => from_ref(amount),
+        _ => &[],
+    }
+}
+
+fn check_added(alloc: Global, fields: &[Txt], body: &BodyPart) -> Result<(), TopoFault>
+    ensures { Checks result (added_fault fields.now body.now) }
+{
+    let BodyPart::Bolt(Operation::Len { into, .. }) = body else {
         return Ok(());
     };
     if is_among(fields, into) {

@@ -6,7 +6,6 @@ mod assembly;
 mod cycles;
 mod fields;
 mod fields_fault;
-mod index;
 mod laws;
 mod names;
 mod planned;

@@ -1,18 +1,17 @@
 //! Names that stand twice, and names that no source has.
 
-ghost use Rattle.std.specs.Prelude.{◌≡◌, ℕ, List, [], ◌∷◌, map, is_none, IfOk};
+ghost use Rattle.std.specs.Prelude.{◌≡◌, ℕ, List, [], ◌∷◌, map, IfOk};
 ghost use Rattle.std.specs.Borrow.{Bor};
-ghost use Rattle.std.specs.List.{find};
-ghost use Rattle.topology_reader.specs.Prelude.{option_copied, first_some, BoltPart, Input, StatePart};
-ghost use Rattle.topology_reader.specs.Meant.{first_again, again_fault, key_of, projected, bolt_twice, state_twice, twice_fault, nameless_fault, source_fault};
+ghost use Rattle.topology_reader.specs.Prelude.{option_copied, first_some, Input, components_of};
+ghost use Rattle.topology_reader.specs.Meant.{first_again, again_fault, key_of, own_key, projected, component_twice, twice_fault, nameless_fault, source_fault};
 ghost use Rattle.topology_reader.specs.Steps.{Checks};
-ghost use Rattle.topology_reader.specs.Wiring.{component_names, source_of};
+ghost use Rattle.topology_reader.specs.Wiring.{component_names};
 
-use crate::index::Index;
+use crate::sources::Sources;
 use indexmap::IndexSet;
 use std::alloc::Global;
 use storm_values::{Memory, Txt};
-use topology_form::{BoltPart, FileParts, GroupingPart, Input, Operation, StatePart, TopoFault};
+use topology_form::{BodyPart, ComponentPart, GroupingPart, Input, Operation, TopoFault};
 
 /// What goes by a name.
 trait Named {
@@ -74,54 +73,52 @@ fn check_names(alloc: Global, names: &[Txt]) -> Result<(), TopoFault>
     check_items(alloc, names)
 }
 
-pub(crate) fn check_twice(alloc: Global, parts: &FileParts) -> Result<(), TopoFault>
-    ensures { Checks result (twice_fault parts.now) }
+pub(crate) fn check_twice(alloc: Global, sources: &Sources<'_>) -> Result<(), TopoFault>
+    ensures { Checks result (twice_fault sources.now) }
 {
-    check_components(alloc, parts)?;
-    check_names(alloc, parts.spout.fields.as_slice())?;
-    check_bolts(alloc, parts.bolts.as_slice())?;
-    check_states(alloc, parts.states.as_slice())
+    check_all_names(alloc, sources)?;
+    check_names(alloc, sources.parts().spout.fields.as_slice())?;
+    check_components(alloc, sources)
 }
 
-fn check_components(alloc: Global, parts: &FileParts) -> Result<(), TopoFault>
-    ensures { Checks result (again_fault (parts.now.spout.name ∷ component_names parts.now)) }
+fn check_all_names(alloc: Global, sources: &Sources<'_>) -> Result<(), TopoFault>
+    ensures { Checks result
+        (again_fault (sources.now.spout.name ∷ component_names sources.now)) }
 {
-    let names = component_names(alloc, parts)?;
+    let names = all_names(alloc, sources)?;
     check_items(alloc, names.as_slice())
 }
 
-fn component_names<'a>(alloc: Global, parts: &'a FileParts) -> Result<Vec<&'a str>, Memory>
+/// The names of the spout and of the components.
+fn all_names<'a>(alloc: Global, sources: &'a Sources<'_>) -> Result<Vec<&'a str>, Memory>
     ensures { IfOk result (λ names. map (λ (name : Bor (List ℕ)). name.now) names.items
-        ≡ parts.now.spout.name ∷ component_names parts.now) }
+        ≡ sources.now.spout.name ∷ component_names sources.now) }
 {
-    std::iter::once(parts.spout.name.as_str())
-        .chain(parts.bolts.as_slice().iter().map(|bolt| bolt.name.as_str()))
-        .chain(
-            parts
-                .states
-                .as_slice()
-                .iter()
-                .map(|state| state.name.as_str()),
-        )
-        .collect(alloc)
+    let mut names = Vec::new(alloc);
+    names.push(sources.parts().spout.name.as_str())?;
+    for c in 0..sources.count() {
+        names.push(sources.component(c).name.as_str())?;
+    }
+    Ok(names)
 }
 
-fn check_bolts(alloc: Global, bolts: &[BoltPart]) -> Result<(), TopoFault>
-    ensures { Checks result (first_some (map bolt_twice bolts.now)) }
+fn check_components(alloc: Global, sources: &Sources<'_>) -> Result<(), TopoFault>
+    ensures { Checks result (first_some (map component_twice (components_of sources.now))) }
 {
-    for bolt in bolts {
-        check_bolt(alloc, bolt)?;
+    for c in 0..sources.count() {
+        check_component(alloc, sources.component(c))?;
     }
     Ok(())
 }
 
-fn check_bolt(alloc: Global, bolt: &BoltPart) -> Result<(), TopoFault>
-    ensures { Checks result (bolt_twice bolt.now) }
+fn check_component(alloc: Global, part: &ComponentPart) -> Result<(), TopoFault>
+    ensures { Checks result (component_twice part.now) }
 {
-    let inputs = bolt.inputs.as_slice();
+    let inputs = part.inputs.as_slice();
+    check_names(alloc, own_key(&part.body))?;
     check_items(alloc, inputs)?;
     check_keys(alloc, inputs)?;
-    check_names(alloc, projected(&bolt.operation))
+    check_names(alloc, projected(&part.body))
 }
 
 fn check_keys(alloc: Global, inputs: &[Input]) -> Result<(), TopoFault>
@@ -134,70 +131,24 @@ fn check_keys(alloc: Global, inputs: &[Input]) -> Result<(), TopoFault>
     Ok(())
 }
 
-fn check_states(alloc: Global, states: &[StatePart]) -> Result<(), TopoFault>
-    ensures { Checks result (first_some (map state_twice states.now)) }
+pub(crate) fn check_sources(sources: &Sources<'_>) -> Result<(), TopoFault>
+    ensures { Checks result (source_fault sources.now) }
 {
-    for state in states {
-        check_names(alloc, state.key.as_slice())?;
-        check_names(alloc, state.inputs.as_slice())?;
+    for c in 0..sources.count() {
+        check_named(sources, sources.component(c))?;
     }
     Ok(())
 }
 
-pub(crate) fn check_sources(alloc: Global, index: &Index<'_>) -> Result<(), TopoFault>
-    ensures { Checks result (source_fault index.now) }
+fn check_named(sources: &Sources<'_>, part: &ComponentPart) -> Result<(), TopoFault>
+    ensures { Checks result (nameless_fault sources.now part.now) }
 {
-    check_bolt_sources(alloc, index, index.parts().bolts.as_slice())?;
-    check_state_sources(alloc, index, index.parts().states.as_slice())
-}
-
-fn check_bolt_sources(alloc: Global, index: &Index<'_>, bolts: &[BoltPart]) -> Result<(), TopoFault>
-    ensures { Checks result
-        (first_some
-        (map
-        (λ (bolt : BoltPart).
-        nameless_fault index.now (map (λ (input : Input). input.from) bolt.inputs)) bolts.now)) }
-{
-    for bolt in bolts {
-        check_named(alloc, index, bolt.inputs.as_slice())?;
-    }
-    Ok(())
-}
-
-fn check_state_sources(
-    alloc: Global,
-    index: &Index<'_>,
-    states: &[StatePart],
-) -> Result<(), TopoFault>
-    ensures { Checks result
-        (first_some
-        (map (λ (state : StatePart). nameless_fault index.now state.inputs) states.now)) }
-{
-    for state in states {
-        check_named(alloc, index, state.inputs.as_slice())?;
-    }
-    Ok(())
-}
-
-fn check_named<N: Named>(alloc: Global, index: &Index<'_>, items: &[N]) -> Result<(), TopoFault>
-    ensures { Checks result (nameless_fault index.now (map N.name_of items.now)) }
-{
-    match first_nameless(index, items) {
-        Some(name) => Err(TopoFault::NoSource(Txt::from_str(alloc, name)?)),
-        None => Ok(()),
-    }
-}
-
-fn first_nameless<'a, N: Named>(index: &Index<'_>, items: &'a [N]) -> Option<&'a str>
-    ensures { option_copied result
-        ≡ find (λ name. is_none (source_of index.now name)) (map N.name_of items.now) }
-{
-    for item in items {
-        if index.source_of(item.name()).is_none() {
-            return Some(item.name());
+    for input in part.inputs.as_slice() {
+        if sources.source_of(&input.from).is_none() {
+            return Err(TopoFault::NoSource(input.from.copy()?));
         }
     }
-    None
+    Ok(())
 }
 
 pub(crate) fn key_of(said: &GroupingPart) -> &[Txt]
@@ -209,11 +160,20 @@ pub(crate) fn key_of(said: &GroupingPart) -> &[Txt]
     }
 }
 
-fn projected(operation: &Operation) -> &[Txt]
-    ensures { result.now ≡ projected operation.now }
+fn own_key(body: &BodyPart) -> &[Txt]
+    ensures { result.now ≡ own_key body.now }
 {
-    match operation {
-        Operation::Project(names) => names.as_slice(),
+    match body {
+        BodyPart::State(state) => state.key.as_slice(),
+        BodyPart::Bolt(_) => &[],
+    }
+}
+
+fn projected(body: &BodyPart) -> &[Txt]
+    ensures { result.now ≡ projected body.now }
+{
+    match body {
+        BodyPart::Bolt(Operation::Project(names)) => names.as_slice(),
         _ => &[],
     }
 }

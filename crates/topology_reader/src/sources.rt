@@ -1,19 +1,151 @@
-//! Who feeds whom in what a topology file says, by component numbers.
+//! The components of a topology file by their numbers, the sources of their names, and who feeds
+//! whom.
 
-ghost use Rattle.std.specs.Prelude.{◌≡◌, ◌-◌, ◌++◌, length, map, None, IfOk, OnOk};
-ghost use Rattle.topology_reader.specs.Prelude.{IsInRange, IsClosed, feeds_at, IsSettled, filter_map, option_copied, BoltPart, StatePart};
+ghost use Rattle.std.specs.Prelude.{◌≡◌, ◌<◌, length, slice_get, None, Some, IfOk};
+ghost use Rattle.topology_reader.specs.Prelude.{IsInRange, components_of, IsClosed, IsSettled, option_copied};
 ghost use Rattle.topology_reader.specs.Meant.{cycle_fault};
-ghost use Rattle.std.specs.List.{slice_get};
-ghost use Rattle.topology_reader.specs.Steps.{IsNumbered};
-ghost use Rattle.topology_reader.specs.Wiring.{source_of, component_count, copies_said, feed_of, feeds_of, graph_of, operation_at, name_at};
+ghost use Rattle.topology_reader.specs.Steps.{IsIndexOf, IsNumbered};
+ghost use Rattle.topology_reader.specs.Wiring.{source_of, component_at, component_count, copies_said, feed_of, feeds_of, graph_of, body_of};
 
-use crate::index::Index;
+use indexmap::IndexMap;
 use std::alloc::Global;
 use std::marker::Model;
 use storm_values::{Memory, Seq, Txt};
-use topology_form::{BoltPart, FileParts, GroupingPart, Operation, StatePart};
+use topology_form::{BodyPart, ComponentPart, FileParts, GroupingPart, Input};
 use topology_graph::{Feed, Graph};
 use topology_plan::Origin;
+
+/// The spout and the bolts by their names, found by the names' hashes. Contracts see it as what the
+/// file says.
+#[derive(Drop)]
+pub(crate) struct Sources<'p> {
+    parts: &'p FileParts,
+    /// The first one where a name stands twice.
+    by_name: IndexMap<&'p str, Origin>,
+}
+
+impl<'p> Model for Sources<'p> {
+    ghost use Rattle.topology_reader.specs.Prelude.{FileParts};
+    ghost use Rattle.topology_reader.specs.Steps.{IsIndexOf, IsNumbered};
+
+    ghost Value = { FileParts };
+
+    ghost view = { λ s. s.parts.now };
+
+    ghost invariant = { λ s. IsNumbered s.parts.now × IsIndexOf s.parts.now s.by_name };
+}
+
+impl<'p> Sources<'p> {
+    pub(crate) fn of(alloc: Global, parts: &'p FileParts) -> Result<Self, Memory>
+        requires { IsNumbered parts.now }
+        ensures { IfOk result (λ sources. sources ≡ parts.now) }
+    {
+        let by_name = sources_by_name(alloc, parts)?;
+        Ok(Sources { parts, by_name })
+    }
+
+    pub(crate) fn parts(&self) -> &FileParts
+        ensures { result.now ≡ self.now }
+    {
+        self.parts
+    }
+
+    pub(crate) fn count(&self) -> usize
+        ensures value { result ≡ component_count self.now }
+        ensures few { IsNumbered self.now }
+    {
+        self.parts.bolts.len() + self.parts.states.len()
+    }
+
+    /// The bolts have the first numbers.
+    pub(crate) fn component(&self, c: usize) -> &ComponentPart
+        requires { c < component_count self.now }
+        ensures { component_at self.now c ≡ Some result.now }
+    {
+        let bolts = self.parts.bolts.len();
+        if c < bolts {
+            return self.parts.bolts.at(c);
+        }
+        self.parts.states.at(c - bolts)
+    }
+
+    pub(crate) fn component_at(&self, c: usize) -> Option<&ComponentPart>
+        ensures { option_copied result ≡ component_at self.now c }
+    {
+        if c < self.count() {
+            return Some(self.component(c));
+        }
+        None
+    }
+
+    pub(crate) fn body_of(&self, from: Origin) -> Option<&BodyPart>
+        ensures { option_copied result ≡ body_of self.now from }
+    {
+        match from {
+            Origin::Spout => None,
+            Origin::Component(c) => match self.component_at(c as usize) {
+                Some(part) => Some(&part.body),
+                None => None,
+            },
+        }
+    }
+
+    pub(crate) fn source_of(&self, name: &Txt) -> Option<Origin>
+        ensures { result ≡ source_of self.now name.now }
+    {
+        self.by_name.get(name.as_str()).copied()
+    }
+}
+
+fn sources_by_name(alloc: Global, parts: &FileParts) -> Result<IndexMap<&str, Origin>, Memory>
+    requires { IsNumbered parts.now }
+    ensures { IfOk result (IsIndexOf parts.now) }
+{
+    let mut by_name = IndexMap::new(alloc);
+    by_name.insert(parts.spout.name.as_str(), Origin::Spout)?;
+    for (i, bolt) in parts.bolts.as_slice().iter().enumerate() {
+        let origin = Origin::Component(i as u32);
+        by_name.entry(bolt.name.as_str())?.or_insert(origin);
+    }
+    Ok(by_name)
+}
+
+/// The graph of a file without a cycle.
+pub(crate) fn graph_of(alloc: Global, sources: &Sources<'_>) -> Result<Graph, Memory>
+    requires range { IsInRange sources.now }
+    requires acyclic { cycle_fault sources.now ≡ None }
+    ensures value { IfOk result (λ graph. graph ≡ graph_of sources.now) }
+    ensures closed { IfOk result IsClosed }
+    ensures settled { IfOk result IsSettled }
+{
+    let count = sources.count();
+    let mut graph = Vec::with_capacity(alloc, count)?;
+    for c in 0..count {
+        let feeds = feeds_to(alloc, sources, sources.component(c))?;
+        graph.push(Seq::from_vec(feeds))?;
+    }
+    Ok(Seq::from_vec(graph))
+}
+
+fn feeds_to(alloc: Global, sources: &Sources<'_>, part: &ComponentPart) -> Result<Vec<Feed>, Memory>
+    ensures { IfOk result
+        (λ feeds. feeds.items ≡ feeds_of sources.now part.now.tasks part.now.inputs) }
+{
+    let tasks = part.tasks;
+    part.inputs
+        .as_slice()
+        .iter()
+        .filter_map(|input| feed_of(sources, tasks, input))
+        .collect(alloc)
+}
+
+fn feed_of(sources: &Sources<'_>, tasks: u32, input: &Input) -> Option<Feed>
+    ensures { result ≡ feed_of sources.now tasks input.now }
+{
+    let from = sources.source_of(&input.from)?;
+    let copies = u64::from(copies_said(&input.grouping, tasks));
+    Some(Feed { from, copies })
+}
 
 fn copies_said(said: &GroupingPart, tasks: u32) -> u32
     ensures { result ≡ copies_said said.now tasks }
@@ -22,185 +154,4 @@ fn copies_said(said: &GroupingPart, tasks: u32) -> u32
         GroupingPart::All => tasks,
         _ => 1,
     }
-}
-
-fn feed_of(index: &Index<'_>, name: &Txt, copies: u32) -> Option<Feed>
-    ensures { result ≡ feed_of index.now name.now copies }
-{
-    let from = index.source_of(name.as_str())?;
-    let copies = u64::from(copies);
-    Some(Feed { from, copies })
-}
-
-fn bolt_feeds(alloc: Global, index: &Index<'_>, bolt: &BoltPart) -> Result<Vec<Feed>, Memory>
-    ensures { IfOk result
-        (λ feeds. feeds.items ≡ feeds_of index.now bolt.now.tasks bolt.now.inputs) }
-{
-    let tasks = bolt.tasks;
-    bolt.inputs
-        .as_slice()
-        .iter()
-        .filter_map(|input| feed_of(index, &input.from, copies_said(&input.grouping, tasks)))
-        .collect(alloc)
-}
-
-fn state_feeds(alloc: Global, index: &Index<'_>, state: &StatePart) -> Result<Vec<Feed>, Memory>
-    ensures { IfOk result
-        (λ feeds. feeds.items ≡ filter_map (λ name. feed_of index.now name 1) state.now.inputs) }
-{
-    let inputs = state.inputs.as_slice();
-    inputs
-        .iter()
-        .filter_map(|name| feed_of(index, name, 1))
-        .collect(alloc)
-}
-
-/// The names and the graph of a file, which contracts see as what the file says.
-#[derive(Drop)]
-pub(crate) struct Sources<'p> {
-    index: Index<'p>,
-    graph: Graph,
-}
-
-impl<'p> Model for Sources<'p> {
-    ghost use Rattle.topology_reader.specs.Prelude.{FileParts};
-    ghost use Rattle.std.specs.Prelude.{◌≡◌};
-    ghost use Rattle.topology_reader.specs.Wiring.{graph_of};
-
-    ghost Value = { FileParts };
-
-    ghost view = { λ s. s.index };
-
-    ghost invariant = { λ s. s.graph ≡ graph_of s.index };
-}
-
-impl<'p> Sources<'p> {
-    pub(crate) fn of(alloc: Global, parts: &'p FileParts) -> Result<Self, Memory>
-        requires { IsNumbered parts.now }
-        ensures { IfOk result (λ sources. sources ≡ parts.now) }
-    {
-        let index = Index::of(alloc, parts)?;
-        let graph = graph_of(alloc, &index)?;
-        Ok(Sources { index, graph })
-    }
-
-    pub(crate) fn index(&self) -> &Index<'p>
-        ensures { result.now ≡ self.now }
-    {
-        &self.index
-    }
-
-    pub(crate) fn parts(&self) -> &FileParts
-        ensures { result.now ≡ self.now }
-    {
-        self.index.parts()
-    }
-
-    pub(crate) fn bolt_count(&self) -> u32
-        ensures { result ≡ length self.now.bolts }
-    {
-        self.index.bolt_count()
-    }
-
-    pub(crate) fn count(&self) -> usize
-        ensures { result ≡ component_count self.now }
-    {
-        self.graph.len()
-    }
-
-    pub(crate) fn of_name(&self, name: &Txt) -> Option<Origin>
-        ensures { result ≡ source_of self.now name.now }
-    {
-        self.index.source_of(name.as_str())
-    }
-
-    /// The graph of a file without a cycle.
-    pub(crate) fn graph(&self) -> &Graph
-        requires range { IsInRange self.now }
-        requires acyclic { cycle_fault self.now ≡ None }
-        ensures value { result.now ≡ graph_of self.now }
-        ensures closed { IsClosed result.now }
-        ensures settled { IsSettled result.now }
-    {
-        &self.graph
-    }
-
-    pub(crate) fn at(&self, c: usize) -> &[Feed]
-        ensures { result.now ≡ feeds_at (graph_of self.now) c }
-    {
-        match self.graph.as_slice().get(c) {
-            Some(feeds) => feeds.as_slice(),
-            None => &[],
-        }
-    }
-
-    pub(crate) fn bolt_at(&self, c: usize) -> Option<&BoltPart>
-        ensures { option_copied result ≡ slice_get self.now.bolts c }
-    {
-        self.parts().bolts.as_slice().get(c)
-    }
-
-    pub(crate) fn state_at(&self, c: usize) -> Option<&StatePart>
-        ensures { option_copied result ≡ slice_get self.now.states (c - length self.now.bolts) }
-    {
-        let place = c.saturating_sub(self.parts().bolts.len());
-        self.parts().states.as_slice().get(place)
-    }
-
-    pub(crate) fn name_at(&self, c: usize) -> &str
-        ensures { result.now ≡ name_at self.now c }
-    {
-        match self.bolt_at(c) {
-            Some(bolt) => bolt.name.as_str(),
-            None => match self.state_at(c) {
-                Some(state) => state.name.as_str(),
-                None => "",
-            },
-        }
-    }
-
-    pub(crate) fn operation_at(&self, from: Origin) -> Option<&Operation>
-        ensures { option_copied result ≡ operation_at self.now from }
-    {
-        match from {
-            Origin::Spout => None,
-            Origin::Component(c) => match self.bolt_at(c as usize) {
-                Some(bolt) => Some(&bolt.operation),
-                None => None,
-            },
-        }
-    }
-}
-
-#[tactic(auto, using(crate::proofs::SourceLemmas::graph_of_parts))]
-fn graph_of(alloc: Global, index: &Index<'_>) -> Result<Graph, Memory>
-    ensures { IfOk result (λ graph. graph ≡ graph_of index.now) }
-{
-    let mut feeds = feeds_of_bolts(alloc, index)?;
-    add_states(alloc, index, &mut feeds)?;
-    Ok(Seq::from_vec(feeds))
-}
-
-fn feeds_of_bolts(alloc: Global, index: &Index<'_>) -> Result<Vec<Seq<Feed>>, Memory>
-    ensures { IfOk result (λ feeds. feeds.items
-        ≡ map (λ (bolt : BoltPart). feeds_of index.now bolt.tasks bolt.inputs) index.now.bolts) }
-{
-    let bolts = index.parts().bolts.as_slice();
-    let mut feeds = Vec::with_capacity(alloc, bolts.len())?;
-    for bolt in bolts {
-        feeds.push(Seq::from_vec(bolt_feeds(alloc, index, bolt)?))?;
-    }
-    Ok(feeds)
-}
-
-fn add_states(alloc: Global, index: &Index<'_>, feeds: &mut Vec<Seq<Feed>>) -> Result<(), Memory>
-    ensures { OnOk result (feeds.new.items
-        ≡ feeds.old.items
-        ++ map (λ (state : StatePart). filter_map (λ name. feed_of index.now name 1) state.inputs)
-        index.now.states) }
-{
-    for state in index.parts().states.as_slice() {
-        feeds.push(Seq::from_vec(state_feeds(alloc, index, state)?))?;
-    }
-    Ok(())
 }

@@ -1,18 +1,16 @@
 //! The subscriptions of each source, made in one walk over the inputs of the components.
 
-ghost use Rattle.std.specs.Prelude.{◌≡◌, length, map, fold, IfOk, OnOk};
-ghost use Rattle.topology_reader.specs.Prelude.{enumerate_from, BoltPart};
+ghost use Rattle.std.specs.Prelude.{◌≡◌, IfOk, OnOk};
 ghost use Rattle.topology_reader.specs.Planned.{planned_subs, planned_component_subs};
 ghost use Rattle.topology_reader.specs.Steps.{items_by, with_sub, with_input, with_inputs, no_subs};
-ghost use Rattle.topology_reader.specs.Wiring.{state_inputs};
 ghost use Rattle.topology_plan.specs.declared.parts.Origin.TheVariants as origin;
 
 use crate::fields::Wiring;
 use crate::planned::planned_grouping;
 use std::alloc::Global;
 use std::marker::Model;
-use storm_values::{Memory, Txt};
-use topology_form::{BoltPart, GroupingPart, StatePart};
+use storm_values::Memory;
+use topology_form::Input;
 use topology_plan::{Origin, Sub};
 
 /// The subscriptions of each source.
@@ -42,9 +40,13 @@ impl Subs {
         ensures components { IfOk result
             (λ subs. subs.from_components ≡ planned_component_subs wiring.now) }
     {
-        let mut subs = Subs::none(alloc, wiring.sources().count())?;
-        subs.add_bolts(alloc, wiring)?;
-        subs.add_states(alloc, wiring)?;
+        let sources = wiring.sources();
+        let count = sources.count();
+        let mut subs = Subs::none(alloc, count)?;
+        for c in 0..count {
+            let inputs = sources.component(c).inputs.as_slice();
+            subs.add_inputs(alloc, wiring, c as u32, inputs)?;
+        }
         Ok(subs)
     }
 
@@ -53,35 +55,6 @@ impl Subs {
         ensures components { items_by result.1.items ≡ self.from_components }
     {
         (self.from_spout, self.from_components)
-    }
-
-    fn add_bolts(&mut self, alloc: Global, wiring: &Wiring<'_>) -> Result<(), Memory>
-        ensures { OnOk result (self.new
-            ≡ fold (with_inputs wiring.now) self.old
-            (enumerate_from 0 (map (λ (bolt : BoltPart). bolt.inputs) wiring.now.bolts))) }
-    {
-        // brings in the ranges, by which bolts are few
-        wiring.facts();
-        let bolts = wiring.sources().parts().bolts.as_slice();
-        for (c, bolt) in bolts.iter().enumerate() {
-            self.add_bolt(alloc, wiring, c as u32, bolt)?;
-        }
-        Ok(())
-    }
-
-    fn add_states(&mut self, alloc: Global, wiring: &Wiring<'_>) -> Result<(), Memory>
-        ensures { OnOk result (self.new
-            ≡ fold (with_inputs wiring.now) self.old
-            (enumerate_from (length wiring.now.bolts) (map state_inputs wiring.now.states))) }
-    {
-        // brings in the ranges, by which bolts and states are few
-        wiring.facts();
-        let bolt_count = wiring.sources().bolt_count();
-        let states = wiring.sources().parts().states.as_slice();
-        for (i, state) in states.iter().enumerate() {
-            self.add_state(alloc, wiring, bolt_count + i as u32, state)?;
-        }
-        Ok(())
     }
 
     fn none(alloc: Global, component_count: usize) -> Result<Self, Memory>
@@ -118,62 +91,28 @@ impl Subs {
         alloc: Global,
         wiring: &Wiring<'_>,
         to: u32,
-        name: &Txt,
-        said: &GroupingPart,
+        input: &Input,
     ) -> Result<(), Memory>
-        ensures { OnOk result (self.new
-            ≡ with_input wiring.now to self.old (record { from = name.now; grouping = said.now })) }
+        ensures { OnOk result (self.new ≡ with_input wiring.now to self.old input.now) }
     {
-        if let Some(from) = wiring.sources().of_name(name) {
-            let grouping = planned_grouping(alloc, wiring, from, said)?;
+        if let Some(from) = wiring.sources().source_of(&input.from) {
+            let grouping = planned_grouping(alloc, wiring, from, &input.grouping)?;
             self.add(from, Sub { to, grouping })?;
         }
         Ok(())
     }
 
-    fn add_bolt(
+    fn add_inputs(
         &mut self,
         alloc: Global,
         wiring: &Wiring<'_>,
         to: u32,
-        bolt: &BoltPart,
+        inputs: &[Input],
     ) -> Result<(), Memory>
-        ensures { OnOk result (self.new ≡ with_inputs wiring.now self.old (to, bolt.now.inputs)) }
+        ensures { OnOk result (self.new ≡ with_inputs wiring.now self.old (to, inputs.now)) }
     {
-        for input in bolt.inputs.as_slice() {
-            self.add_input(alloc, wiring, to, &input.from, &input.grouping)?;
-        }
-        Ok(())
-    }
-
-    fn add_state(
-        &mut self,
-        alloc: Global,
-        wiring: &Wiring<'_>,
-        to: u32,
-        state: &StatePart,
-    ) -> Result<(), Memory>
-        ensures { OnOk result
-            (self.new ≡ with_inputs wiring.now self.old (to, state_inputs state.now)) }
-    {
-        let said = GroupingPart::Fields(state.key.copy()?);
-        self.add_names(alloc, wiring, to, state.inputs.as_slice(), &said)
-    }
-
-    fn add_names(
-        &mut self,
-        alloc: Global,
-        wiring: &Wiring<'_>,
-        to: u32,
-        names: &[Txt],
-        said: &GroupingPart,
-    ) -> Result<(), Memory>
-        ensures { OnOk result (self.new
-            ≡ fold (with_input wiring.now to) self.old
-            (map (λ name. record { from = name; grouping = said.now }) names.now)) }
-    {
-        for name in names {
-            self.add_input(alloc, wiring, to, name, said)?;
+        for input in inputs {
+            self.add_input(alloc, wiring, to, input)?;
         }
         Ok(())
     }

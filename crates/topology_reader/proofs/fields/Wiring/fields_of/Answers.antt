@@ -1,22 +1,23 @@
-use Rattle.std.proofs.Common.{◌≡◌, ℕ, List, length, ap, subst, arith}
-use Rattle.std.proofs.lemmas.Grind.{common_steps}
-use Rattle.topology_reader.proofs.Common.{gets, IsInRange, fields_of}
-use Rattle.topology_reader.proofs.GraphLemmas.{fields_of_spout, fields_of-table}
-use Rattle.topology_plan.specs.declared.parts.Origin.TheVariants as origin
+use Rattle.std.proofs.Common.{◌≡◌, ℕ, List, length, [], ap, subst, ◌∙◌, arith}
+use Rattle.topology_reader.proofs.Common.{FileParts, IsInRange, fields_of}
+use Rattle.topology_graph.specs.Found.{read}
+use Rattle.topology_reader.proofs.GraphLemmas.{fields_of-known}
 use Rattle.topology_reader.proofs.PlannedLemmas.{few_fields_of}
 use Rattle.topology_reader.proofs.fields.Wiring.fields_of.Goals as goal
+use Rattle.topology_reader.proofs.fields.Wiring.fields_of.Goals.{After-fields_known}
 
-pub returns-in-Spout-clause-value : goal.returns-in-Spout-clause-value
-returns-in-Spout-clause-value c = let e = fields_of_spout c.args.self.now in grind (arith, common_steps)
+value : (c : After-fields_known) → c.fields_known.result.now ≡ fields_of c.args.self.now c.args.from
+value c =
+    let p = c.self.inside.sources in
+    c.fields_known.ensures
+    ∙ ap (λ (q : FileParts). read q.spout.fields [] c.as_slice.result.now c.args.from) c.parts.ensures
+    ∙ ap (λ known. read p.spout.fields [] known c.args.from) (c.as_slice.ensures.value ∙ c.self.invariant.1)
+    ∙ fields_of-known p c.args.from
+    ∙ ap (λ q. fields_of q c.args.from) c.self.view_is
 
-pub returns-in-Some-Some-clause-value : goal.returns-in-Some-Some-clause-value
-returns-in-Some-Some-clause-value c = let e = fields_of-table c.args.self.now c.in-Component.c in grind (arith, common_steps, gets)
+pub returns-clause-value : goal.returns-clause-value
+returns-clause-value c = value c
 
-pub returns-in_default-clause-value : goal.returns-in_default-clause-value
-returns-in_default-clause-value c = let e = fields_of-table c.args.self.now c.in-Component.c in grind (arith, common_steps, gets)
-
-pub returns-in-Some-Some-clause-few : goal.returns-in-Some-Some-clause-few
-returns-in-Some-Some-clause-few c =
-    let e = fields_of-table c.args.self.now c.in-Component.c in
-    let value : c.as_slice-in-Some-Some.result.now ≡ fields_of c.args.self.now (origin.Component c.in-Component.c) = grind (arith, common_steps, gets) in
-    omega (arith, ap (λ (fields : List (List ℕ)). length fields) value, few_fields_of c.args.self.now (subst IsInRange c.self.view_is c.self.invariant.2) (origin.Component c.in-Component.c))
+pub returns-clause-few : goal.returns-clause-few
+returns-clause-few c =
+    omega (arith, ap (λ (fields : List (List ℕ)). length fields) (value c), few_fields_of c.args.self.now (subst IsInRange c.self.view_is c.self.invariant.3) c.args.from)

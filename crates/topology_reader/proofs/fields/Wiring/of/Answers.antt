@@ -6,10 +6,9 @@ use Rattle.topology_reader.proofs.fields.Wiring.of.Goals as goal
 pub invariant_of-result : goal.invariant_of-result
 invariant_of-result c =
     let p = c.args.sources in (
-      c.in_ok-fields.ensures
-          ∙ ap (λ q. map (λ d. Some (value_of (fields_rule q) c.graph.result.now (origin.Component d))) (range_with_len 0 (length c.graph.result.now))) c.parts.ensures
-          ∙ ap (λ graph. map (λ d. Some (value_of (fields_rule p) graph (origin.Component d))) (range_with_len 0 (length graph))) c.graph.ensures.value,
-      c.in_ok-order.ensures ∙ ap by_depth c.graph-2.ensures.value,
+      c.in_ok-graph.ensures.value,
+      c.in_ok-fields.ensures ∙ ap (λ graph. map (λ d. Some (value_of (fields_rule p) graph (origin.Component d))) (range_with_len 0 (length graph))) c.in_ok-graph.ensures.value,
+      c.in_ok-order.ensures ∙ ap by_depth c.in_ok-graph.ensures.value,
       c.requires.range,
       c.requires.acyclic,
     )
