@@ -1,0 +1,341 @@
+// What a coordinator is told, call by call, and what it is to answer.
+ghost use Rattle.commit_order.specs.Orders.{StaysOwn};
+ghost use Rattle.std.specs.Prelude.{IfOk, All};
+ghost use Rattle.storm_values.specs.Rows.{IsRow};
+
+use acker_core::Verdict;
+use commit_order::{Attempt, Coordinator, End, Fates, Orders, Stop};
+use state_parts::CommitOutcome;
+use std::alloc::Global;
+use storm_ids::{IdMaker, ScriptIds, ScriptSource};
+use storm_values::{Path, Root, Rows, Seq, row_from_line};
+use test_kit::Mismatch;
+use topology_plan::Plan;
+use topology_reader::read_topology;
+use tree_model::{AckMsg, Done, Draw, Init, Notes, Parcel, Parcels, Writes};
+use trident_batches::Batches;
+use tuple_tickets::{Edge, Edges};
+
+/// The verdict of a turn: none, or that of a root, with a list that is closed or that leaves an
+/// edge open, or its failure.
+#[derive(Clone, Copy)]
+pub enum Told {
+    Nothing,
+    Closed(Root),
+    Open(Root),
+    Fails(Root),
+}
+
+/// A call: a turn with a verdict and ticks, or the outcome of a commit.
+#[derive(Clone, Copy)]
+pub enum Call {
+    Turn(Told, u32),
+    Done,
+    CommitFails,
+}
+
+#[derive(Clone, Copy, Debug, PartialEq, Eq)]
+pub enum How {
+    Committed,
+    Failed,
+    TimedOut,
+    Coincided,
+    CommitFailed,
+}
+
+/// An attempt that ended, with the ticks of its begin and its end.
+#[derive(Clone, Copy, Debug, PartialEq, Eq)]
+pub struct Ended {
+    pub root: Root,
+    pub start: u64,
+    pub finish: u64,
+    pub how: How,
+}
+
+/// A call, and what it is to answer: the roots that begin, the commit that is ordered, the attempts
+/// that end, and the transaction at which the coordinator stops.
+#[derive(Clone, Copy)]
+pub struct Step {
+    pub call: Call,
+    pub begun: &'static [Root],
+    pub commit: Option<Root>,
+    pub ended: &'static [Ended],
+    pub stop: Option<u64>,
+}
+
+fn case_of(alloc: Global, of: &str) -> Mismatch {
+    match String::from_str(alloc, of) {
+        Ok(text) => Mismatch::Case(text),
+        Err(_) => Mismatch::Memory,
+    }
+}
+
+fn plan_of(alloc: Global, file: &str) -> Result<Plan, Mismatch> {
+    match read_topology(alloc, file.as_bytes()) {
+        Ok(plan) => Ok(plan),
+        Err(_) => Err(case_of(alloc, file)),
+    }
+}
+
+// So many records of one text.
+fn records(alloc: Global, count: usize) -> Result<Rows, Mismatch> {
+    let mut rows = Rows::new(alloc);
+    for _ in 0..count {
+        match row_from_line(alloc, b"[\"x\"]", 1) {
+            Ok(row) => rows.push(row)?,
+            Err(_) => return Err(case_of(alloc, "record")),
+        }
+    }
+    Ok(rows)
+}
+
+// ---- verdicts
+
+fn edge_of(alloc: Global) -> Result<Edge, Mismatch> {
+    Ok(Edge {
+        path: Path::from_slice(alloc, &[0])?,
+        id: 7,
+    })
+}
+
+fn edges_of(alloc: Global) -> Result<Edges, Mismatch> {
+    let mut edges = Edges::new(alloc);
+    edges.push(edge_of(alloc)?)?;
+    Ok(edges)
+}
+
+const DRAW: Draw = Draw {
+    source: 1,
+    first: 1,
+};
+
+fn init_of(alloc: Global, root: Root) -> Result<AckMsg, Mismatch> {
+    Ok(AckMsg::Init(Init {
+        root,
+        edges: edges_of(alloc)?,
+        draw: DRAW,
+    }))
+}
+
+fn done_of(alloc: Global, root: Root) -> Result<AckMsg, Mismatch> {
+    Ok(AckMsg::Done(Done {
+        root,
+        consumed: edge_of(alloc)?,
+        produced: Edges::new(alloc),
+        draw: DRAW,
+        writes: Writes::new(alloc),
+    }))
+}
+
+fn open_list(alloc: Global, root: Root) -> Result<Notes, Mismatch> {
+    let mut list = Notes::new(alloc);
+    list.push(init_of(alloc, root)?)?;
+    Ok(list)
+}
+
+fn closed_list(alloc: Global, root: Root) -> Result<Notes, Mismatch> {
+    let mut list = open_list(alloc, root)?;
+    list.push(done_of(alloc, root)?)?;
+    Ok(list)
+}
+
+fn verdict_of(alloc: Global, told: Told) -> Result<Option<Verdict>, Mismatch> {
+    match told {
+        Told::Nothing => Ok(None),
+        Told::Closed(root) => Ok(Some(Verdict::Complete {
+            root,
+            list: closed_list(alloc, root)?,
+        })),
+        Told::Open(root) => Ok(Some(Verdict::Complete {
+            root,
+            list: open_list(alloc, root)?,
+        })),
+        Told::Fails(root) => Ok(Some(Verdict::Fails {
+            root,
+            path: Path::from_slice(alloc, &[0])?,
+        })),
+    }
+}
+
+// ---- answers
+
+fn root_begun(parcel: &Parcel) -> Option<Root> {
+    match parcel {
+        Parcel::ToAcker(_, AckMsg::Init(init)) => Some(init.root),
+        _ => None,
+    }
+}
+
+// The roots that begin, by their inits.
+fn roots_begun(alloc: Global, parcels: &Parcels) -> Result<Seq<Root>, Mismatch> {
+    let mut roots = Seq::new(alloc);
+    for parcel in parcels.as_slice() {
+        if let Some(root) = root_begun(parcel) {
+            roots.push(root)?;
+        }
+    }
+    Ok(roots)
+}
+
+fn how_of(end: &End) -> How {
+    match end {
+        End::Committed(_) => How::Committed,
+        End::Failed(_) => How::Failed,
+        End::TimedOut => How::TimedOut,
+        End::Coincided(_) => How::Coincided,
+        End::CommitFailed { .. } => How::CommitFailed,
+    }
+}
+
+fn ended_of(attempt: &Attempt) -> Ended {
+    Ended {
+        root: attempt.root,
+        start: attempt.start,
+        finish: attempt.finish,
+        how: how_of(&attempt.end),
+    }
+}
+
+// The attempts that ended since there were so many.
+fn check_ended(
+    alloc: Global,
+    fates: &Fates,
+    before: usize,
+    want: &[Ended],
+) -> Result<(), Mismatch> {
+    let mut ended = Seq::new(alloc);
+    for attempt in fates.as_slice().iter().skip(before) {
+        ended.push(ended_of(attempt))?;
+    }
+    if ended.as_slice() == want {
+        Ok(())
+    } else {
+        Err(case_of(alloc, "ended"))
+    }
+}
+
+fn check_orders(alloc: Global, orders: &Orders, step: &Step) -> Result<(), Mismatch> {
+    let begun = roots_begun(alloc, &orders.parcels)?;
+    if begun.as_slice() != step.begun {
+        return Err(case_of(alloc, "begun"));
+    }
+    let commit = match &orders.commit {
+        Some(commit) => Some(commit.root),
+        None => None,
+    };
+    if commit == step.commit {
+        Ok(())
+    } else {
+        Err(case_of(alloc, "commit"))
+    }
+}
+
+fn check_stop(alloc: Global, stop: Stop, want: Option<u64>) -> Result<(), Mismatch> {
+    match (stop, want) {
+        (Stop::Exhausted(txid), Some(wanted)) if txid == wanted => Ok(()),
+        _ => Err(case_of(alloc, "stop")),
+    }
+}
+
+// ---- calls
+
+fn take_turn(
+    alloc: Global,
+    coordinator: &mut Coordinator<'_, ScriptSource>,
+    fates: &mut Fates,
+    told: Told,
+    ticks: u32,
+    step: &Step,
+) -> Result<(), Mismatch>
+    requires { StaysOwn coordinator.old }
+    ensures { StaysOwn coordinator.new }
+{
+    let verdict = verdict_of(alloc, told)?;
+    if coordinator.has_commit_out() {
+        return Err(case_of(alloc, "a commit is out"));
+    }
+    match coordinator.turn(fates, verdict, ticks) {
+        Ok(orders) => check_orders(alloc, &orders, step),
+        Err(stop) => check_stop(alloc, stop, step.stop),
+    }
+}
+
+fn take_outcome(
+    alloc: Global,
+    coordinator: &mut Coordinator<'_, ScriptSource>,
+    fates: &mut Fates,
+    how: CommitOutcome,
+    step: &Step,
+) -> Result<(), Mismatch>
+    requires { StaysOwn coordinator.old }
+    ensures { StaysOwn coordinator.new }
+{
+    if !coordinator.has_commit_out() {
+        return Err(case_of(alloc, "no commit is out"));
+    }
+    match coordinator.committed(fates, how) {
+        Ok(()) => Ok(()),
+        Err(stop) => check_stop(alloc, stop, step.stop),
+    }
+}
+
+const FAILED: CommitOutcome = CommitOutcome::Failed {
+    component: 0,
+    part: 0,
+    before: 0,
+    after: 1,
+};
+
+fn make_call(
+    alloc: Global,
+    coordinator: &mut Coordinator<'_, ScriptSource>,
+    fates: &mut Fates,
+    step: &Step,
+) -> Result<(), Mismatch>
+    requires { StaysOwn coordinator.old }
+    ensures { StaysOwn coordinator.new }
+{
+    match step.call {
+        Call::Turn(told, ticks) => take_turn(alloc, coordinator, fates, told, ticks, step),
+        Call::Done => take_outcome(alloc, coordinator, fates, CommitOutcome::Done, step),
+        Call::CommitFails => take_outcome(alloc, coordinator, fates, FAILED, step),
+    }
+}
+
+fn check_step(
+    alloc: Global,
+    coordinator: &mut Coordinator<'_, ScriptSource>,
+    fates: &mut Fates,
+    step: &Step,
+) -> Result<(), Mismatch>
+    requires { StaysOwn coordinator.old }
+    ensures { StaysOwn coordinator.new }
+{
+    let before = fates.len();
+    make_call(alloc, coordinator, fates, step)?;
+    check_ended(alloc, fates, before, step.ended)
+}
+
+/// Makes calls in turn of the coordinator of a file's plan over so many records, and compares what
+/// it answers with what it is to answer. At the end so many batches are to be committed.
+pub fn check_steps(
+    alloc: Global,
+    file: &str,
+    count: usize,
+    steps: &[Step],
+    committed: u64,
+) -> Result<(), Mismatch> {
+    let plan = plan_of(alloc, file)?;
+    let batches = Batches::cut(records(alloc, count)?, plan.batch());
+    let ids = ScriptIds::new(alloc).make(plan.tasks())?;
+    let mut coordinator = Coordinator::new(alloc, &plan, batches, ids)?;
+    let mut fates = Fates::new(alloc);
+    for step in steps {
+        check_step(alloc, &mut coordinator, &mut fates, step)?;
+    }
+    if coordinator.committed_count() == committed {
+        Ok(())
+    } else {
+        Err(case_of(alloc, "committed"))
+    }
+}

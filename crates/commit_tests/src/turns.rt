@@ -1,0 +1,304 @@
+// Turns of the coordinator by hand, from the rule of each step.
+use crate::scenes::{Call, Ended, How, Step, Told, check_steps};
+use storm_values::Root;
+use test_kit::Mismatch;
+
+// Two attempts may be pending, buckets are 3, and a batch has two attempts and one record.
+const TWO_PENDING: &str = r#"{"version":1,
+ "spout":{"name":"words","kind":"transactional","fields":["word"],"batch":1},
+ "bolts":[],
+ "states":[{"name":"counts","kind":"transactional","parts":1,"key":["word"],
+   "fold":"count","inputs":["words"]}],
+ "ackers":1,"pending":2,"buckets":3,"attempts":2}"#;
+
+// One attempt may be pending, and a batch has one attempt.
+const ONE_PENDING: &str = r#"{"version":1,
+ "spout":{"name":"words","kind":"transactional","fields":["word"],"batch":1},
+ "bolts":[],
+ "states":[{"name":"counts","kind":"transactional","parts":1,"key":["word"],
+   "fold":"count","inputs":["words"]}],
+ "ackers":1,"pending":1,"buckets":3,"attempts":1}"#;
+
+const R11: Root = Root {
+    txid: 1,
+    attempt: 1,
+};
+
+const R12: Root = Root {
+    txid: 1,
+    attempt: 2,
+};
+
+const R21: Root = Root {
+    txid: 2,
+    attempt: 1,
+};
+
+const R22: Root = Root {
+    txid: 2,
+    attempt: 2,
+};
+
+const R31: Root = Root {
+    txid: 3,
+    attempt: 1,
+};
+
+// A turn that orders no commit, ends nothing and does not stop.
+fn begins(told: Told, begun: &'static [Root]) -> Step {
+    Step {
+        call: Call::Turn(told, 0),
+        begun,
+        commit: None,
+        ended: &[],
+        stop: None,
+    }
+}
+
+// The first turn of two that may be pending.
+const FIRST: Step = Step {
+    call: Call::Turn(Told::Nothing, 0),
+    begun: &[R11, R21],
+    commit: None,
+    ended: &[],
+    stop: None,
+};
+
+// The second batch completes first. Commits come in the order of transactions, one a turn.
+#[test]
+fn commits_come_in_order_one_a_turn(rt: HostRuntime) -> Result<(), Mismatch> {
+    let steps = [
+        FIRST,
+        begins(Told::Closed(R21), &[]),
+        Step {
+            call: Call::Turn(Told::Closed(R11), 0),
+            begun: &[],
+            commit: Some(R11),
+            ended: &[],
+            stop: None,
+        },
+        Step {
+            call: Call::Done,
+            begun: &[],
+            commit: None,
+            ended: &[Ended {
+                root: R11,
+                start: 0,
+                finish: 0,
+                how: How::Committed,
+            }],
+            stop: None,
+        },
+        Step {
+            call: Call::Turn(Told::Nothing, 0),
+            begun: &[R31],
+            commit: Some(R21),
+            ended: &[],
+            stop: None,
+        },
+        Step {
+            call: Call::Done,
+            begun: &[],
+            commit: None,
+            ended: &[Ended {
+                root: R21,
+                start: 0,
+                finish: 0,
+                how: How::Committed,
+            }],
+            stop: None,
+        },
+    ];
+    check_steps(rt.alloc(), TWO_PENDING, 3, &steps, 2)
+}
+
+// A failed attempt ends, and the next one begins in the same turn. A later complete verdict of the
+// one that ended changes nothing.
+#[test]
+fn a_failed_attempt_begins_again(rt: HostRuntime) -> Result<(), Mismatch> {
+    let steps = [
+        FIRST,
+        Step {
+            call: Call::Turn(Told::Fails(R11), 0),
+            begun: &[R12],
+            commit: None,
+            ended: &[Ended {
+                root: R11,
+                start: 0,
+                finish: 0,
+                how: How::Failed,
+            }],
+            stop: None,
+        },
+        begins(Told::Closed(R11), &[]),
+    ];
+    check_steps(rt.alloc(), TWO_PENDING, 2, &steps, 0)
+}
+
+// A list that leaves an edge open ends the attempt, and the next one begins in the same turn.
+#[test]
+fn a_coincided_attempt_begins_again_in_the_same_turn(rt: HostRuntime) -> Result<(), Mismatch> {
+    let steps = [
+        FIRST,
+        Step {
+            call: Call::Turn(Told::Open(R21), 0),
+            begun: &[R22],
+            commit: None,
+            ended: &[Ended {
+                root: R21,
+                start: 0,
+                finish: 0,
+                how: How::Coincided,
+            }],
+            stop: None,
+        },
+    ];
+    check_steps(rt.alloc(), TWO_PENDING, 2, &steps, 0)
+}
+
+// After a commit that failed the next attempt begins in the next turn.
+#[test]
+fn a_failed_commit_begins_again_in_the_next_turn(rt: HostRuntime) -> Result<(), Mismatch> {
+    let steps = [
+        FIRST,
+        Step {
+            call: Call::Turn(Told::Closed(R11), 0),
+            begun: &[],
+            commit: Some(R11),
+            ended: &[],
+            stop: None,
+        },
+        Step {
+            call: Call::CommitFails,
+            begun: &[],
+            commit: None,
+            ended: &[Ended {
+                root: R11,
+                start: 0,
+                finish: 0,
+                how: How::CommitFailed,
+            }],
+            stop: None,
+        },
+        begins(Told::Nothing, &[R12]),
+    ];
+    check_steps(rt.alloc(), TWO_PENDING, 2, &steps, 0)
+}
+
+// Attempts end at the third tick after their begin; a settled one is not timed.
+#[test]
+fn attempts_time_out_at_their_last_tick(rt: HostRuntime) -> Result<(), Mismatch> {
+    let steps = [
+        FIRST,
+        Step {
+            call: Call::Turn(Told::Closed(R21), 2),
+            begun: &[],
+            commit: None,
+            ended: &[],
+            stop: None,
+        },
+        Step {
+            call: Call::Turn(Told::Nothing, 1),
+            begun: &[R12],
+            commit: None,
+            ended: &[Ended {
+                root: R11,
+                start: 0,
+                finish: 3,
+                how: How::TimedOut,
+            }],
+            stop: None,
+        },
+    ];
+    check_steps(rt.alloc(), TWO_PENDING, 2, &steps, 0)
+}
+
+// The attempts run out at a verdict, and the same stop is answered again.
+#[test]
+fn attempts_run_out_at_a_verdict(rt: HostRuntime) -> Result<(), Mismatch> {
+    let steps = [
+        begins(Told::Nothing, &[R11]),
+        Step {
+            call: Call::Turn(Told::Fails(R11), 5),
+            begun: &[],
+            commit: None,
+            ended: &[Ended {
+                root: R11,
+                start: 0,
+                finish: 0,
+                how: How::Failed,
+            }],
+            stop: Some(1),
+        },
+        Step {
+            call: Call::Turn(Told::Nothing, 5),
+            begun: &[],
+            commit: None,
+            ended: &[],
+            stop: Some(1),
+        },
+    ];
+    check_steps(rt.alloc(), ONE_PENDING, 2, &steps, 0)
+}
+
+// Two roots end at one tick, and the attempts of both have run out. Both ends are told, the stop is
+// of the first, and no further tick passes.
+#[test]
+fn attempts_run_out_at_a_tick(rt: HostRuntime) -> Result<(), Mismatch> {
+    let steps = [
+        FIRST,
+        Step {
+            call: Call::Turn(Told::Nothing, 3),
+            begun: &[R12, R22],
+            commit: None,
+            ended: &[
+                Ended {
+                    root: R11,
+                    start: 0,
+                    finish: 3,
+                    how: How::TimedOut,
+                },
+                Ended {
+                    root: R21,
+                    start: 0,
+                    finish: 3,
+                    how: How::TimedOut,
+                },
+            ],
+            stop: None,
+        },
+        Step {
+            call: Call::Turn(Told::Nothing, 9),
+            begun: &[],
+            commit: None,
+            ended: &[
+                Ended {
+                    root: R12,
+                    start: 3,
+                    finish: 6,
+                    how: How::TimedOut,
+                },
+                Ended {
+                    root: R22,
+                    start: 3,
+                    finish: 6,
+                    how: How::TimedOut,
+                },
+            ],
+            stop: Some(1),
+        },
+    ];
+    check_steps(rt.alloc(), TWO_PENDING, 2, &steps, 0)
+}
+
+// A verdict of a root that never began, and a second one of a root that is settled, change nothing.
+#[test]
+fn verdicts_of_other_roots_change_nothing(rt: HostRuntime) -> Result<(), Mismatch> {
+    let steps = [
+        FIRST,
+        begins(Told::Closed(R21), &[]),
+        begins(Told::Fails(R21), &[]),
+        begins(Told::Fails(R31), &[]),
+    ];
+    check_steps(rt.alloc(), TWO_PENDING, 3, &steps, 0)
+}
