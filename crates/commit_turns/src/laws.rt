@@ -72,8 +72,8 @@ pub fn lowest_is_pending()
         → HasLowest cut (turned t cut verdict ticks d).desk }
 {}
 
-/// A law: the commit that a turn orders is the one whose outcome is told next, and after a turn that
-/// stopped none is out.
+/// A law: the commit that a turn orders is the one whose outcome is told next, and a commit is out
+/// where one was ordered.
 pub fn orders_are_decided()
     ensures ordered { (t : Topology) (cut : Cut) (d : Desk) (verdict : Option Verdict) (ticks : ℕ)
         → (turned t cut verdict ticks d).desk.exhausted ≡ None
