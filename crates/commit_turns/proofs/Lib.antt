@@ -15,4 +15,5 @@ mod Accounting
 mod Fitting
 mod Lowest
 mod LawLemmas
+mod Ordered
 mod Examples

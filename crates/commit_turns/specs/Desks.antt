@@ -1,16 +1,14 @@
 -- What the coordinator knows. Pending attempts and their cap after Storm's documentation,
 -- "Concepts" (max spout pending); that a settled attempt is not timed is this project's own.
-use Rattle.std.specs.Prelude.{ℕ, ◌+◌, ◌==◌, ◌&&◌, ◌||◌, not, Bool, false, if◌then◌else◌, Option, None, Some, is_some, List, [], ◌∷◌, ◌++◌, map, filter, length}
+use Rattle.std.specs.Prelude.{ℕ, ◌+◌, ◌==◌, ◌&&◌, not, Bool, false, if◌then◌else◌, Option, None, Some, is_some, List, [], map, filter, length}
 use Rattle.std.specs.FinMap as fin_map
 use Rattle.std.specs.List.{find, list_any}
-use Rattle.std.specs.Option.{option_map}
 use Rattle.attempt_fates.specs.declared.fates.Attempt.{Attempt}
 use Rattle.attempt_fates.specs.declared.fates.End.{End}
 use Rattle.commit_turns.specs.declared.wait.Wait.{Wait}
 use Rattle.replay_pending.specs.InFlight.{Counts}
 use Rattle.rotating_ledger.specs.Held.{root_eq}
 use Rattle.storm_values.specs.declared.value.Root.{Root}
-use Rattle.topology_plan.specs.Topology.{Topology}
 use Rattle.tree_model.specs.declared.messages.AckMsg.{AckMsg}
 use Rattle.trident_batches.specs.Batches.{Cut, first_of, last_of}
 

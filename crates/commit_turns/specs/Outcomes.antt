@@ -1,6 +1,5 @@
 -- What the coordinator is told of a commit, and what happens in a turn.
-use Rattle.std.specs.Prelude.{◌≡◌, ◌<◌, ℕ, Option, List, map}
-use Rattle.std.specs.List.{AllByRecursion}
+use Rattle.std.specs.Prelude.{◌≡◌, ◌<◌, Option, List, map}
 use Rattle.std.specs.Option.{option_to_list}
 use Rattle.acker_core.specs.declared.verdict.Verdict.{Verdict}
 use Rattle.commit_turns.specs.Account.{rows_in}

@@ -1,17 +1,16 @@
 -- What a turn of the coordinator and the outcome of a commit do. Batches in flight side by side and
 -- commits in the order of transactions after Storm's documentation, "Trident State"; the order of
 -- the steps is this project's own.
-use Rattle.std.specs.Prelude.{◌≡◌, ℕ, zero, suc, ◌+◌, ◌-◌, ◌^◌, ◌==◌, ◌&&◌, nat_lt, ◌%◌, not, Bool, true, false, if◌then◌else◌, Option, None, Some, is_some, List, [], ◌∷◌, ◌++◌, map, filter, length}
+use Rattle.std.specs.Prelude.{ℕ, zero, suc, ◌+◌, ◌-◌, ◌^◌, ◌==◌, ◌&&◌, nat_lt, ◌%◌, not, Bool, true, false, if◌then◌else◌, Option, None, Some, is_some, List, [], ◌∷◌, ◌++◌, map, filter, length}
 use Rattle.std.specs.FinMap as fin_map
 use Rattle.std.specs.List.{find, list_all, range_with_len}
-use Rattle.std.specs.Option.{option_map_or}
 use Rattle.acker_core.specs.declared.verdict.Verdict.{Verdict}
 use Rattle.acker_core.specs.declared.verdict.Verdict.TheVariants.{Complete, Fails}
 use Rattle.attempt_fates.specs.declared.fates.Attempt.{Attempt}
 use Rattle.attempt_fates.specs.declared.fates.End.{End}
 use Rattle.attempt_fates.specs.declared.fates.End.TheVariants as end
 use Rattle.commit_turns.specs.declared.wait.Wait.{Wait}
-use Rattle.commit_turns.specs.Desks.{Desk, Progress, still, ended_at, has_txid, is_late, is_timed, settled, timed_of, without}
+use Rattle.commit_turns.specs.Desks.{Desk, Progress, still, ended_at, has_txid, is_late, settled, timed_of, without}
 use Rattle.replay_pending.specs.InFlight.{attempts_of}
 use Rattle.state_parts.specs.declared.answer.CommitOutcome.{CommitOutcome}
 use Rattle.state_parts.specs.declared.answer.CommitOutcome.TheVariants as outcome

@@ -1,4 +1,4 @@
-ghost use Rattle.std.specs.Prelude.{◌≡◌, ◌≤◌, ◌<◌, ℕ, ◌+◌, ◌++◌, List, [], ◌∷◌, length, map, Option, None, Some};
+ghost use Rattle.std.specs.Prelude.{◌≡◌, ◌≤◌, ◌<◌, ℕ, ◌+◌, ◌++◌, List, [], ◌∷◌, length, map, false, is_some, Option, None, Some};
 ghost use Rattle.std.specs.Option.{option_to_list};
 ghost use Rattle.acker_core.specs.declared.verdict.Verdict.{Verdict};
 ghost use Rattle.attempt_fates.specs.declared.fates.Attempt.{Attempt};
@@ -7,7 +7,7 @@ ghost use Rattle.commit_turns.specs.Account.{desk_of, ends_of, rows_in};
 ghost use Rattle.commit_turns.specs.Desks.{Desk, first_desk};
 ghost use Rattle.commit_turns.specs.Kept.{IsKept, HasLowest};
 ghost use Rattle.commit_turns.specs.Outcomes.{IsOutcome, Begin, hears};
-ghost use Rattle.commit_turns.specs.Turns.{decided, turned};
+ghost use Rattle.commit_turns.specs.Turns.{decided, next_to_commit, turned};
 ghost use Rattle.state_parts.specs.declared.answer.CommitOutcome.{CommitOutcome};
 ghost use Rattle.storm_values.specs.declared.value.Root.{Root};
 ghost use Rattle.topology_plan.specs.Topology.{Topology};
@@ -70,4 +70,17 @@ pub fn lowest_is_pending()
         → IsValid t → d.exhausted ≡ None → IsKept t cut d fates
         → (verdict : Option Verdict) (ticks : ℕ)
         → HasLowest cut (turned t cut verdict ticks d).desk }
+{}
+
+/// A law: the commit that a turn orders is the one whose outcome is told next, and a commit is out
+/// where one was ordered.
+pub fn orders_are_decided()
+    ensures ordered { (t : Topology) (cut : Cut) (d : Desk) (verdict : Option Verdict) (ticks : ℕ)
+        → (turned t cut verdict ticks d).desk.exhausted ≡ None
+        → next_to_commit t cut (turned t cut verdict ticks d).desk
+        ≡ (turned t cut verdict ticks d).commit }
+    ensures out { (t : Topology) (cut : Cut) (d : Desk) (verdict : Option Verdict) (ticks : ℕ)
+        → d.out ≡ false
+        → (turned t cut verdict ticks d).desk.out
+        ≡ is_some (turned t cut verdict ticks d).commit }
 {}

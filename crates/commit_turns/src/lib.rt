@@ -4,5 +4,5 @@
 mod laws;
 mod wait;
 
-pub use laws::{accounts_stay_fit, desks_are_kept, lowest_is_pending};
+pub use laws::{accounts_stay_fit, desks_are_kept, lowest_is_pending, orders_are_decided};
 pub use wait::Wait;

@@ -1,0 +1,78 @@
+-- The commit that a turn orders is the one whose outcome is told next.
+use Rattle.std.proofs.Common.{◌≡◌, ℕ, ◌+◌, ◌==◌, Bool, true, false, cond, Option, None, Some, List, [], ◌∷◌, ◌++◌, refl, sym, ap, ◌∙◌}
+use Rattle.std.specs.Prelude.{is_some}
+use Rattle.std.specs.List.{find}
+use Rattle.std.proofs.lemmas.Bool.{and_right}
+use Rattle.acker_core.specs.declared.verdict.Verdict.{Verdict}
+use Rattle.acker_core.specs.declared.verdict.Verdict.TheVariants.{Complete, Fails}
+use Rattle.attempt_fates.specs.declared.fates.Attempt.{Attempt}
+use Rattle.attempt_fates.specs.declared.fates.End.TheVariants as end
+use Rattle.storm_values.specs.declared.value.Root.{Root}
+use Rattle.topology_plan.specs.Topology.{Topology}
+use Rattle.trident_batches.specs.Batches.{Cut}
+use Rattle.commit_turns.specs.declared.wait.Wait.{Wait}
+use Rattle.commit_turns.specs.Desks.{Desk, Progress, timed_of}
+use Rattle.commit_turns.specs.Turns.{begun, complete_timed, end_timed, filled, heard, is_closed, next_root, next_to_commit, ordered, passed, turned, turned_by}
+use Rattle.commit_turns.proofs.Deciding.{is_next}
+use Rattle.commit_turns.proofs.Passing.{all_begun, all_ticks}
+
+find_push : {X : Type 0} (test : X → Bool) (xs : List X) (x : X) → test x ≡ false → find test (xs ++ x ∷ []) ≡ find test xs
+find_push test [] x off = ap (λ (b : Bool). cond b (Some x) None) off
+find_push test (y ∷ xs) x off = ap (cond (test y) (Some y)) (find_push test xs x off)
+
+some_none : {X : Type 0} (x : X) → Some x ≡ None → ⊥
+some_none x e = cc
+
+module _ (t : Topology) (cut : Cut) where
+  -- ---- roots that begin are not settled
+
+  module _ (d : Desk) where
+    record IsSame (e : Desk) (new : List Root) : Type 0 where
+      next : next_to_commit t cut e ≡ next_to_commit t cut d
+      out : e.out ≡ is_some (next_to_commit t cut d)
+
+    stays : (e : Desk) (new : List Root) (root : Root) → next_root t cut e ≡ Some root → IsSame e new → IsSame (begun t cut root e) (new ++ root ∷ [])
+    stays e new root some same = record {
+      next = find_push (is_next e) e.pending (record { root = root; start = e.tick; settled = None }) (and_right (root.txid == e.committed + 1) false refl) ∙ same.next;
+      out = same.out;
+    }
+
+    after_fill : IsSame (filled t cut t.pending (ordered t cut d)).desk (filled t cut t.pending (ordered t cut d)).roots
+    after_fill = all_begun t cut IsSame stays t.pending (ordered t cut d) [] (record { next = refl; out = refl })
+
+  -- ---- until then no commit is ordered
+
+  heard_out : (verdict : Option Verdict) (d : Desk) → (heard t cut verdict d).desk.out ≡ d.out
+  heard_out None d = refl
+  heard_out (Some (Complete root list)) d = by (is_closed list) (timed_of root d.pending)
+    where
+      by : (c : Bool) (o : Option Wait) → (complete_timed t cut list c o d).desk.out ≡ d.out
+      by c None = refl
+      by true (Some w) = refl
+      by false (Some w) = refl
+  heard_out (Some (Fails root path)) d = by (timed_of root d.pending)
+    where
+      by : (o : Option Wait) → (end_timed t cut (end.Failed path) o d).desk.out ≡ d.out
+      by None = refl
+      by (Some w) = refl
+
+  passed_out : (ticks : ℕ) (p : Progress) (b : Bool) → p.desk.out ≡ b → (passed t cut ticks p).desk.out ≡ b
+  passed_out ticks p b is = all_ticks t cut (λ (e : Desk) (ended : List Attempt). e.out ≡ b) (λ e ended goes same. same) ticks p.desk p.ended is
+
+  -- ---- a turn
+
+  pub order_kept : (d : Desk) (verdict : Option Verdict) (ticks : ℕ) → (turned t cut verdict ticks d).desk.exhausted ≡ None
+      → next_to_commit t cut (turned t cut verdict ticks d).desk ≡ (turned t cut verdict ticks d).commit
+  order_kept d verdict ticks = by (passed t cut ticks (heard t cut verdict d)) (passed t cut ticks (heard t cut verdict d)).desk.exhausted refl
+    where
+      by : (p : Progress) (o : Option ℕ) → p.desk.exhausted ≡ o → (turned_by t cut o p).desk.exhausted ≡ None → next_to_commit t cut (turned_by t cut o p).desk ≡ (turned_by t cut o p).commit
+      by p (Some txid) is none = absurd (some_none txid (sym is ∙ none))
+      by p None is none = (after_fill p.desk).next
+
+  pub order_out : (d : Desk) (verdict : Option Verdict) (ticks : ℕ) → d.out ≡ false → (turned t cut verdict ticks d).desk.out ≡ is_some (turned t cut verdict ticks d).commit
+  order_out d verdict ticks off =
+      by (passed t cut ticks (heard t cut verdict d)) (passed t cut ticks (heard t cut verdict d)).desk.exhausted (passed_out ticks (heard t cut verdict d) false (heard_out verdict d ∙ off))
+    where
+      by : (p : Progress) (o : Option ℕ) → p.desk.out ≡ false → (turned_by t cut o p).desk.out ≡ is_some (turned_by t cut o p).commit
+      by p (Some txid) is = is
+      by p None is = (after_fill p.desk).out
