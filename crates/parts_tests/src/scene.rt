@@ -1,8 +1,13 @@
 // Two states of two parts each: counts of words, transactional, and sums of numbers, opaque.
+ghost use Rattle.std.specs.Prelude.{◌≡◌, ℕ, IfOk};
+ghost use Rattle.storm_stores.specs.MemoryMaker.{HasMade};
+ghost use Rattle.state_parts.specs.Makers.{AreMade};
+ghost use Rattle.state_parts.specs.PartPlans.{plans_of};
+
 use state_cells::PartFault;
 use state_parts::{Commit, CommitFault, CommitOutcome, Parts};
 use std::alloc::Global;
-use storm_stores::{CallKind, FailAt, MemStore};
+use storm_stores::{CallKind, FailAt, MemMaker, MemStore};
 use storm_values::{Bytes, Memory, Root, Txt};
 use topology_plan::Plan;
 use topology_reader::{TopoFault, read_topology};
@@ -99,8 +104,42 @@ pub fn commit(
     alloc: Global,
     parts: &mut Parts<MemStore>,
     txid: u64,
-) -> Result<CommitOutcome, Trouble> {
+) -> Result<CommitOutcome, Trouble>
+    ensures { plans_of parts.new ≡ plans_of parts.old }
+{
     Ok(parts.commit_all(commit_of(alloc, txid)?)?)
+}
+
+// The parts over these stores, after one commit of the batch, whatever came of it.
+pub fn committed(
+    alloc: Global,
+    plan: &Plan,
+    stores: &mut MemMaker,
+) -> Result<Parts<MemStore>, Trouble>
+    ensures { IfOk result (λ parts. AreMade HasMade stores.new (plans_of parts)) }
+{
+    let mut parts = Parts::make(alloc, plan, stores)?;
+    commit(alloc, &mut parts, 1)?;
+    Ok(parts)
+}
+
+// The stores after one commit of the batch by parts that gave them back.
+pub fn commit_and_give_back(
+    alloc: Global,
+    plan: &Plan,
+    stores: &mut MemMaker,
+) -> Result<(), Trouble> {
+    let parts = committed(alloc, plan, stores)?;
+    parts.give_back(stores);
+    Ok(())
+}
+
+// Lets the first put of a part fail, before any store is made.
+pub fn refuse(stores: &mut MemMaker, component: u32, part: u32) -> Result<(), Memory>
+    requires { (c p : ℕ) → HasMade stores.old c p → ⊥ }
+    ensures { (c p : ℕ) → HasMade stores.new c p → ⊥ }
+{
+    stores.fail(component, part, FIRST_PUT)
 }
 
 pub fn is_table(table: &Table, name: &str, rows: &[(&str, i128)]) -> bool {
