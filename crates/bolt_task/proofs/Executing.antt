@@ -1,7 +1,6 @@
 -- What a task sends for a tuple is what the tuple's execution makes.
-use Rattle.std.proofs.Common.{◌≡◌, ◌<◌, ℕ, List, [], ◌∷◌, ◌++◌, length, map, All, Some, slice_get, refl, sym, ap, subst, ◌∙◌, arith}
+use Rattle.std.proofs.Common.{◌≡◌, ◌<◌, ℕ, List, [], ◌∷◌, ◌++◌, length, map, All, sym, ap, subst, ◌∙◌}
 use Rattle.std.specs.Option.{option_map_or, option_to_list}
-use Rattle.bolt_ops.specs.declared.operation.Outcome.{Outcome}
 use Rattle.bolt_ops.specs.declared.operation.Outcome.TheVariants as outcome
 use Rattle.bolt_ops.specs.RowOp.{Custom}
 use Rattle.bolt_ops.proofs.Outcomes.{rows_from_exec_of}
@@ -15,7 +14,7 @@ use Rattle.topology_plan.specs.Valid.{IsValid}
 use Rattle.topology_plan.specs.Wired.{IsWired}
 use Rattle.groupings.specs.Allowed.{IsLane}
 use Rattle.tuple_tickets.specs.Tickets.{made_by}
-use Rattle.tuple_tickets.specs.Trees.{Course, goes, fails, mute}
+use Rattle.tuple_tickets.specs.Trees.{goes, fails, mute}
 use Rattle.tree_model.specs.Courses.{course_of, course_by, course_at}
 use Rattle.tree_model.specs.declared.messages.AckMsg.TheVariants.{Done, Failed}
 use Rattle.tree_model.specs.declared.messages.Parcel.{Parcel}
@@ -93,20 +92,6 @@ module _ (o : Outlet) (t : Topology) (custom : Custom) (tuple : Tuple) (task at 
       let node = node_of tuple in
       let run = run_with [] in
       let course : fails ≡ course_of_run t custom run = sym (course_from t custom tuple.root.attempt node within ∙ ap course_of is) in
-      let made = tuples_from tuple.root tuple.edge.path 0 (kids_of t custom node) [] in
-      record {
-        sent = (λ i. to_tasks (made_by (course i) made) (tasks_for o.lanes (answered (sym is i))) ++ map (to_acker t) (notes_by t custom run (course i)));
-        well = record {
-          ids = ap (λ c. length (made_by c (kids_of t custom node))) course;
-          sent = subst (λ c. GoTo t (made_by c made) (tasks_for o.lanes (rows_of t custom tuple))) course tt;
-        };
-      }
-
-  pub mute_done : exec_at t custom tuple.root.attempt (node_of tuple) ≡ outcome.Mute → IsDone t custom [] (execution_with [])
-  mute_done is =
-      let node = node_of tuple in
-      let run = run_with [] in
-      let course : mute ≡ course_of_run t custom run = sym (course_from t custom tuple.root.attempt node within ∙ ap course_of is) in
       let made = tuples_from tuple.root tuple.edge.path 0 (kids_of t custom node) [] in
       record {
         sent = (λ i. to_tasks (made_by (course i) made) (tasks_for o.lanes (answered (sym is i))) ++ map (to_acker t) (notes_by t custom run (course i)));

@@ -6,7 +6,6 @@ use Rattle.bolt_ops.specs.RowOp.{Custom}
 use Rattle.storm_ids.specs.declared.ids.Ids.{Ghosts}
 use Rattle.storm_values.specs.declared.value.Value.{Value}
 use Rattle.storm_values.specs.Rows.{IsRow}
-use Rattle.topology_plan.specs.declared.parts.Origin.TheVariants as origin
 use Rattle.topology_plan.specs.Topology.{Topology}
 use Rattle.topology_plan.specs.Wired.{width_to}
 use Rattle.tree_model.specs.declared.messages.AckMsg.TheVariants.{Done}

@@ -1,6 +1,8 @@
 ghost use Rattle.std.specs.Prelude.{◌≡◌, ◌<◌, [], ◌∷◌, IfOk};
 ghost use Rattle.std.specs.Option.{option_to_list};
 ghost use Rattle.topology_plan.specs.Topology.{component_of, tasks_in_all};
+ghost use Rattle.topology_plan.specs.Valid.{IsValid};
+ghost use Rattle.topology_plan.specs.Wired.{IsWired};
 ghost use Rattle.tree_model.specs.declared.messages.AckMsg.TheVariants.{Failed};
 ghost use Rattle.tree_model.specs.Trees.{exec_at, write_of};
 ghost use Rattle.tuple_runs.specs.Issued.{node_of};
@@ -67,6 +69,16 @@ impl<'p, I: Ids> BoltTask<'p, I> {
             Outcome::Fail => self.fail(tuple),
             Outcome::Mute => Ok(Parcels::new(self.alloc)),
         }
+    }
+
+    /// What every task keeps. It does nothing.
+    pub fn facts(&self)
+        ensures placed { IsPlaced (topology_at self.now) (component_at self.now)
+            (number_of self.now) (collector_in self.now) }
+        ensures valid { IsValid (topology_at self.now) }
+        ensures wired { IsWired (topology_at self.now) }
+    {
+        self.plan.facts();
     }
 
     /// What an attempt at a tuple comes to.

@@ -1,5 +1,5 @@
 -- The lanes of a source: how many tasks they tell, and what they keep.
-use Rattle.std.proofs.Common.{◌≡◌, ℕ, zero, suc, ◌+◌, ◌%◌, ◌<◌, ◌≤◌, List, [], ◌∷◌, ◌++◌, length, map, replicate, All, Some, slice_get, slice_set, slice_index, slice_index_or, get_or, refl, sym, ap, subst, ◌∙◌, length-append, mod-lt, arith}
+use Rattle.std.proofs.Common.{◌≡◌, ℕ, zero, suc, ◌+◌, ◌<◌, ◌≤◌, List, [], ◌∷◌, length, map, All, Some, slice_get, slice_set, slice_index, slice_index_or, get_or, refl, sym, ap, subst, ◌∙◌, length-append, mod-lt, arith}
 use Rattle.std.specs.List.{flat_map, AllZip, AllByRecursion}
 use Rattle.std.specs.List.Sorted.{IsStrictlyIncreasing}
 use Rattle.std.proofs.lemmas.List.{length-map, length-replicate, get_or-map}
@@ -12,13 +12,13 @@ use Rattle.topology_plan.specs.declared.parts.Grouping.{Grouping}
 use Rattle.topology_plan.specs.declared.parts.Grouping.TheVariants as grouping
 use Rattle.topology_plan.specs.declared.parts.Origin.{Origin}
 use Rattle.topology_plan.specs.declared.parts.Sub.{Sub}
-use Rattle.topology_plan.specs.Topology.{Topology, subs_of, tasks_of, copies_by, copies_of}
+use Rattle.topology_plan.specs.Topology.{Topology, subs_of, copies_by, copies_of}
 use Rattle.topology_plan.specs.Valid.{IsValid, IsTarget}
 use Rattle.topology_plan.specs.Wired.{IsWired}
 use Rattle.groupings.specs.declared.lane.Lane.{Lane}
 use Rattle.groupings.specs.declared.lane.Targets.{Targets}
 use Rattle.groupings.specs.Allowed.{IsLane, told}
-use Rattle.groupings.specs.Routing.{lane_of, lanes_of, moved, targets, targets_by, turn_after}
+use Rattle.groupings.specs.Routing.{lanes_of, moved, targets, targets_by, turn_after}
 use Rattle.tree_model.specs.Trees.{kids, kids_by, copies_at}
 use Rattle.output_collector.specs.Outlets.{IsLaneOf, AreLanesOf, tasks_for_row, tasks_for, lanes_after}
 use Rattle.output_collector.specs.Sending.{AreFew}

@@ -1,20 +1,19 @@
 -- One row's way along the lanes of a source, one after another.
-use Rattle.std.proofs.Common.{◌≡◌, ℕ, zero, suc, ◌+◌, ◌-◌, ◌^◌, ◌<◌, ◌≤◌, List, [], ◌∷◌, ◌++◌, length, map, replicate, drop, Some, slice_get, slice_set, refl, sym, ap, subst, ◌∙◌, append-nil, drop_of_length-le, add-one, arith}
-use Rattle.std.specs.List.{flat_map, AllZip}
+use Rattle.std.proofs.Common.{◌≡◌, ℕ, zero, suc, ◌+◌, ◌<◌, List, [], ◌∷◌, ◌++◌, length, map, replicate, drop, Some, slice_get, slice_set, refl, sym, ap, subst, ◌∙◌, append-nil, drop_of_length-le, add-one, arith}
+use Rattle.std.specs.List.{flat_map}
 use Rattle.std.proofs.lemmas.List.{length-map}
 use Rattle.std.proofs.lemmas.Option.{none-some, same_Some}
 use Rattle.storm_values.specs.declared.value.Root.{Root}
 use Rattle.storm_values.specs.declared.value.Value.{Value}
-use Rattle.topology_plan.specs.declared.parts.Origin.{Origin}
 use Rattle.topology_plan.specs.declared.parts.Sub.{Sub}
-use Rattle.topology_plan.specs.Topology.{Topology, subs_of, copies_of}
+use Rattle.topology_plan.specs.Topology.{Topology, subs_of}
 use Rattle.groupings.specs.declared.lane.Lane.{Lane}
 use Rattle.groupings.specs.Allowed.{told}
 use Rattle.groupings.specs.Routing.{moved, targets}
 use Rattle.tree_model.specs.declared.messages.Parcel.{Parcel}
 use Rattle.tree_model.specs.Trees.{Node, kids, kids_by, copies_at}
 use Rattle.output_collector.specs.declared.outlet.Route.{Route}
-use Rattle.output_collector.specs.Outlets.{Outlet, IsLaneOf, AreLanesOf, HasItsLanes, after_rows, tasks_for_row, tasks_for}
+use Rattle.output_collector.specs.Outlets.{Outlet, IsLaneOf, HasItsLanes, after_rows, tasks_for_row, tasks_for}
 use Rattle.output_collector.specs.Sending.{Sent, Sends, nodes_at, route_along}
 use Rattle.output_collector.proofs.Lanes.{length-told, length-subs, length-tasks_for_row, at_place, lane_at}
 use Rattle.output_collector.proofs.Sending.{Goes, Goes-end, Goes-then, IsSent, Sends-none, sent_whole}

@@ -1,5 +1,5 @@
 -- How the parts of a call of `emit` make the whole.
-use Rattle.std.proofs.Common.{◌≡◌, ℕ, zero, suc, ◌+◌, ◌-◌, ◌^◌, ◌≤◌, min, List, [], ◌∷◌, ◌++◌, Result, Ok, Err, OnOk, length, map, refl, sym, ap, subst, ◌∙◌, append_assoc, append-nil, length-append, add-zero, zero-add, arith}
+use Rattle.std.proofs.Common.{◌≡◌, ℕ, zero, suc, ◌+◌, ◌-◌, ◌^◌, ◌≤◌, List, [], ◌∷◌, ◌++◌, Result, Ok, Err, OnOk, length, map, refl, sym, ap, subst, ◌∙◌, append_assoc, append-nil, length-append, add-zero, arith}
 use Rattle.std.specs.List.{range_with_len}
 use Rattle.std.specs.declared.alloc.AllocError.{AllocError}
 use Rattle.std.proofs.lemmas.List.{length-map, map-append}
@@ -8,7 +8,6 @@ use Rattle.storm_values.specs.declared.value.Value.{Value}
 use Rattle.groupings.specs.declared.lane.Targets.{Targets}
 use Rattle.groupings.specs.declared.lane.Targets.TheVariants.{All}
 use Rattle.groupings.specs.Allowed.{told}
-use Rattle.tuple_tickets.specs.declared.edge.Edge.{Edge}
 use Rattle.tree_model.specs.declared.messages.Parcel.{Parcel}
 use Rattle.tree_model.specs.declared.messages.Parcel.TheVariants.{ToTask}
 use Rattle.tree_model.specs.declared.messages.Tuple.{Tuple}

@@ -11,7 +11,7 @@ use Rattle.storm_values.specs.declared.value.Value.{Value}
 use Rattle.topology_plan.specs.declared.parts.Component.{Component}
 use Rattle.topology_plan.specs.declared.parts.Origin.{Origin}
 use Rattle.topology_plan.specs.declared.parts.Sub.{Sub}
-use Rattle.topology_plan.specs.Topology.{Topology, subs_of, tasks_of, tasks_in_all, component_from, component_of, copies_of}
+use Rattle.topology_plan.specs.Topology.{Topology, subs_of, tasks_of, component_from, component_of, copies_of}
 use Rattle.topology_plan.specs.Valid.{IsValid, IsTarget}
 use Rattle.topology_plan.specs.Wired.{IsWired, IsComponent}
 use Rattle.groupings.specs.declared.lane.Lane.{Lane}

@@ -1,5 +1,4 @@
-use Rattle.std.proofs.Common.{◌≡◌, [], ◌∷◌, length, length-append, arith, sym, subst, ap, ◌∙◌}
-use Rattle.output_collector.specs.Draws.{Draws}
+use Rattle.std.proofs.Common.{◌≡◌, [], ◌∷◌, length, length-append, arith, ap, ◌∙◌}
 use Rattle.output_collector.proofs.Sending.{Draws-none, Draws-more}
 use Rattle.output_collector.proofs.collector.start_words.Goals as goal
 

@@ -1,12 +1,14 @@
-use Rattle.std.proofs.Common.{◌≡◌, ◌<◌, [], length, refl, sym, ap, subst, ◌∙◌, arith}
+use Rattle.std.proofs.Common.{◌≡◌, ◌<◌, [], length, sym, ap, subst, ◌∙◌, arith}
 use Rattle.std.proofs.lemmas.Result.{IfOk-weaker}
 use Rattle.bolt_ops.specs.declared.operation.Outcome.TheVariants as outcome
 use Rattle.topology_plan.specs.declared.parts.Origin.TheVariants as origin
+use Rattle.tree_model.specs.Trees.{exec_at}
+use Rattle.tuple_runs.specs.Issued.{node_of}
 use Rattle.output_collector.proofs.Sending.{Draws-none}
 use Rattle.output_collector.specs.Draws.{given_after}
 use Rattle.output_collector.specs.Outlets.{after_rows}
 use Rattle.bolt_task.specs.Executing.{answered}
-use Rattle.bolt_task.proofs.Executing.{rows_done, fail_done, mute_done}
+use Rattle.bolt_task.proofs.Executing.{rows_done, fail_done}
 use Rattle.bolt_task.proofs.task.BoltTask.execute.Goals as goal
 
 pub returns-in-Rows-clause-executed : goal.returns-in-Rows-clause-executed
@@ -16,7 +18,7 @@ returns-in-Rows-clause-executed g c =
     let custom = g.O.RowOp.meaning c.args.custom.now in
     let from : o.from ≡ origin.Component c.args.tuple.component = b.placed.from ∙ ap origin.Component (sym c.requires.to) in
     let within : c.args.tuple.component < length b.plan.now.components = subst (λ n. n < length b.plan.now.components) (sym c.requires.to) b.placed.within in
-    let is = sym c.in_ok-rows.ensures ∙ c.in-Rows.is in
+    let is : exec_at b.plan.now custom c.args.tuple.root.attempt (node_of c.args.tuple) ≡ outcome.Rows c.in-Rows.rows = sym c.in_ok-rows.ensures ∙ c.in-Rows.is in
     IfOk-weaker c.go_on.result _ _
     (λ parcels done.
     let all = rows_done o b.plan.now custom c.args.tuple b.task b.collector.given b.placed.topology from within c.in-Rows.rows done.ids is c.facts.ensures.valid c.facts.ensures.wired c.facts.ensures.lanes c.facts.ensures.sound done.enough in
@@ -36,7 +38,7 @@ returns-in-Fail-clause-executed g c =
     let custom = g.O.RowOp.meaning c.args.custom.now in
     let from : o.from ≡ origin.Component c.args.tuple.component = b.placed.from ∙ ap origin.Component (sym c.requires.to) in
     let within : c.args.tuple.component < length b.plan.now.components = subst (λ n. n < length b.plan.now.components) (sym c.requires.to) b.placed.within in
-    let is = sym c.in_ok-rows.ensures ∙ c.in-Fail.is in
+    let is : exec_at b.plan.now custom c.args.tuple.root.attempt (node_of c.args.tuple) ≡ outcome.Fail = sym c.in_ok-rows.ensures ∙ c.in-Fail.is in
     let all = fail_done o b.plan.now custom c.args.tuple b.task b.collector.given b.placed.topology from within is in
     IfOk-weaker c.fail.result _ _
     (λ parcels told. record {

@@ -1,7 +1,6 @@
-use Rattle.std.proofs.Common.{◌≡◌, ◌+◌, ◌<◌, ◌≤◌, length, map, Result, Ok, Err, OnOk, refl, sym, ap, subst, ◌∙◌, arith}
+use Rattle.std.proofs.Common.{◌≡◌, ◌+◌, ◌<◌, length, map, Result, Ok, Err, OnOk, refl, subst, ◌∙◌, arith}
 use Rattle.std.specs.declared.alloc.AllocError.{AllocError}
 use Rattle.groupings.specs.Routing.{moved}
-use Rattle.output_collector.specs.Outlets.{Outlet}
 use Rattle.output_collector.specs.Sending.{sent}
 use Rattle.output_collector.proofs.Rows.{with_routed, within_routed, routed_more, routed_whole, nodes_left, tasks_left, part_at, goes_along, sends_last, sends_nowhere}
 use Rattle.output_collector.proofs.Sending.{Goes, Goes-first, BeginsWith-then, BeginsWith-itself}

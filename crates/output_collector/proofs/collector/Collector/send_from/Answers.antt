@@ -1,4 +1,4 @@
-use Rattle.std.proofs.Common.{◌≡◌, ℕ, ◌+◌, ◌-◌, [], ◌∷◌, refl, ap, sym, subst, ◌∙◌, arith}
+use Rattle.std.proofs.Common.{◌≡◌, ◌+◌, ◌-◌, [], ◌∷◌, refl, subst, ◌∙◌, arith}
 use Rattle.output_collector.specs.Sending.{Sends, sent}
 use Rattle.output_collector.proofs.Sending.{Sends-none, Sends-more, BeginsWith-then, BeginsWith-itself}
 use Rattle.output_collector.proofs.collector.Collector.send_from.Goals as goal

@@ -1,4 +1,4 @@
-use Rattle.std.proofs.Common.{◌≡◌, ◌<◌, length, Some, slice_get, ap, sym, ◌∙◌, arith}
+use Rattle.std.proofs.Common.{◌≡◌, ◌<◌, length, Some, slice_get, ap, ◌∙◌, arith}
 use Rattle.topology_plan.specs.Topology.{subs_of}
 use Rattle.output_collector.specs.Outlets.{Outlet}
 use Rattle.output_collector.proofs.Lanes.{length-subs, AreLanesOf-routed, few_targets, index_at}
