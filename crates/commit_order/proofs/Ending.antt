@@ -1,16 +1,16 @@
 -- Attempts that end, are settled or begin, as steps of what is known.
-use Rattle.std.proofs.Common.{◌≡◌, ◌≢◌, ◌≤◌, ◌<◌, ℕ, zero, suc, ◌+◌, ◌-◌, ◌*◌, ◌%◌, ◌==◌, ◌&&◌, ◌||◌, Bool, true, false, not, cond, nat_lt, Option, Some, None, List, [], ◌∷◌, ◌++◌, length, map, filter, take, drop, refl, sym, ap, ap₂, ◌∙◌, arith}
+use Rattle.std.proofs.Common.{◌≡◌, ◌≢◌, ◌≤◌, ◌<◌, ℕ, zero, suc, ◌+◌, ◌-◌, ◌%◌, ◌==◌, ◌&&◌, Bool, true, false, not, cond, nat_lt, Option, Some, None, List, [], ◌∷◌, ◌++◌, length, refl, sym, ap, ap₂, ◌∙◌, arith}
 use Rattle.std.specs.Prelude.{if◌then◌else◌, is_some, slice_get, IsSome, OnOk, OnErr, Result, Ok, Err}
 use Rattle.std.specs.List.{AllByRecursion, find, list_all, position, range_with_len}
 use Rattle.std.proofs.lemmas.Bool.Decides.{nat_tests}
-use Rattle.std.proofs.lemmas.List.{append-nil, map-append, take-append-drop}
+use Rattle.std.proofs.lemmas.List.{append-nil}
 use Rattle.attempt_fates.specs.declared.fates.Attempt.{Attempt}
 use Rattle.attempt_fates.specs.declared.fates.End.{End}
 use Rattle.commit_order.proofs.Places.{found, none_found, passes, true_false, first_of_two}
 use Rattle.commit_order.proofs.Steps.{office_by}
 use Rattle.commit_order.specs.Offices.{AddsSome, GoesOn, IsBatch, IsFoundAt, IsInTime, Office, counted_by, is_settled_after, is_timed_of, try_of}
-use Rattle.commit_turns.specs.Desks.{Desk, Progress, ended_at, has_txid, is_of_root, is_timed, still, timed_of, without}
-use Rattle.commit_turns.specs.Turns.{decided, end_by, end_timed, free_txid, is_closed, last_try, next_attempt, next_by, next_root, next_to_commit, stopped_by}
+use Rattle.commit_turns.specs.Desks.{Desk, ended_at, has_txid, is_timed, still, timed_of, without}
+use Rattle.commit_turns.specs.Turns.{decided, end_by, end_timed, free_txid, is_closed, next_by, next_root, next_to_commit}
 use Rattle.commit_turns.specs.declared.wait.Wait.{Wait}
 use Rattle.replay_pending.specs.InFlight as flight
 use Rattle.replay_pending.specs.InFlight.{InFlight, attempts_of}

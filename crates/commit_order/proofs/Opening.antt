@@ -1,5 +1,5 @@
 -- Roots that begin, one after another.
-use Rattle.std.proofs.Common.{◌≡◌, ℕ, zero, suc, ◌+◌, List, [], ◌∷◌, ◌++◌, length, map, Option, Some, None, refl, sym, ap, ap₂, ◌∙◌}
+use Rattle.std.proofs.Common.{◌≡◌, ℕ, zero, suc, List, [], ◌∷◌, ◌++◌, length, Some, None, refl, sym, ap, ap₂, ◌∙◌}
 use Rattle.std.specs.List.{flat_map}
 use Rattle.std.proofs.lemmas.List.{append-nil, append_assoc, length-map, map-append}
 use Rattle.std.proofs.lemmas.Grind.{flat_map-append}
@@ -11,7 +11,7 @@ use Rattle.commit_turns.specs.Turns.{begun, fill_more, filled, next_root}
 use Rattle.commit_turns.specs.Account.{rows_in}
 use Rattle.output_collector.specs.Collectors.{given_by, ids_in, outlet_of, source_of}
 use Rattle.output_collector.specs.Draws.{Draws, given_after}
-use Rattle.output_collector.specs.Outlets.{Outlet, after_rows, parcels_for, tasks_for, tuples_for}
+use Rattle.output_collector.specs.Outlets.{after_rows, parcels_for, tasks_for, tuples_for}
 use Rattle.output_collector.specs.declared.collector.Collector.{Collector}
 use Rattle.output_collector.proofs.Sending.{Draws-none, Draws-then}
 use Rattle.storm_values.specs.declared.value.Root.{Root}

@@ -1,5 +1,5 @@
 -- Ticks that pass, and attempts that were added before memory was wanted.
-use Rattle.std.proofs.Common.{◌≡◌, ℕ, suc, Bool, true, false, cond, List, [], ◌∷◌, ◌++◌, refl, sym, ap, ap₂, ◌∙◌}
+use Rattle.std.proofs.Common.{◌≡◌, ℕ, suc, Bool, false, cond, List, ◌++◌, sym, ap, ◌∙◌}
 use Rattle.std.specs.Prelude.{OnErr, Result, Ok, Err}
 use Rattle.std.proofs.lemmas.List.{append_assoc}
 use Rattle.attempt_fates.specs.declared.fates.Attempt.{Attempt}

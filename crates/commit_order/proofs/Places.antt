@@ -1,12 +1,12 @@
 -- Pending attempts by their places.
-use Rattle.std.proofs.Common.{◌≡◌, ℕ, zero, suc, ◌+◌, ◌<◌, ◌≤◌, ◌==◌, ◌&&◌, ◌||◌, Bool, true, false, not, cond, nat_lt, get_or, Option, Some, None, List, [], ◌∷◌, ◌++◌, length, map, filter, take, drop, refl, sym, ap, ap₂, ◌∙◌, arith}
-use Rattle.std.specs.Prelude.{is_some, slice_get, slice_set}
+use Rattle.std.proofs.Common.{◌≡◌, ℕ, zero, suc, ◌<◌, ◌≤◌, ◌&&◌, ◌||◌, Bool, true, false, not, cond, nat_lt, get_or, Option, Some, None, List, [], ◌∷◌, ◌++◌, length, map, take, drop, refl, sym, ap, ap₂, ◌∙◌, arith}
+use Rattle.std.specs.Prelude.{slice_get, slice_set}
 use Rattle.std.specs.List.{find, position, position_or_len}
 use Rattle.std.proofs.lemmas.List.Folds.{find_at}
 use Rattle.std.proofs.lemmas.Bool.Decides.{nat_tests}
 use Rattle.std.proofs.lemmas.Option.{get_or_from_slice_get}
 use Rattle.commit_order.specs.Offices.{IsFoundAt, awaits, is_timed_of}
-use Rattle.commit_turns.specs.Desks.{is_of_root, is_timed, settle_with, settled, without}
+use Rattle.commit_turns.specs.Desks.{is_timed, settled, without}
 use Rattle.commit_turns.specs.declared.wait.Wait.{Wait}
 use Rattle.replay_pending.specs.InFlight.{AreDistinct, is_pending}
 use Rattle.rotating_ledger.specs.Held.{root_eq}

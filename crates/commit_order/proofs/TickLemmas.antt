@@ -1,11 +1,10 @@
 -- One tick: the roots that are due are those of the attempts that are late.
-use Rattle.std.proofs.Common.{◌≡◌, ◌≤◌, ◌<◌, ℕ, zero, suc, ◌+◌, ◌-◌, ◌==◌, ◌&&◌, Bool, true, false, not, cond, nat_lt, Option, Some, None, List, [], ◌∷◌, ◌++◌, length, map, filter, refl, sym, ap, ap₂, ◌∙◌, arith}
-use Rattle.std.specs.Prelude.{is_some}
+use Rattle.std.proofs.Common.{◌≡◌, ◌≤◌, ◌<◌, ℕ, ◌+◌, ◌-◌, ◌==◌, ◌&&◌, Bool, true, false, not, cond, nat_lt, Option, Some, None, List, [], ◌∷◌, ◌++◌, map, filter, refl, sym, ap, ap₂, ◌∙◌, arith}
 use Rattle.std.specs.List.{AllByRecursion}
 use Rattle.std.proofs.lemmas.Bool.Decides.{nat_tests}
 use Rattle.attempt_fates.specs.declared.fates.Attempt.{Attempt}
 use Rattle.attempt_fates.specs.declared.fates.End.TheVariants.{TimedOut}
-use Rattle.commit_order.specs.Offices.{AreBatches, GoesOn, InStep, IsBatch, IsInTime, awaits, timed_out, try_of}
+use Rattle.commit_order.specs.Offices.{AreBatches, GoesOn, InStep, IsInTime, awaits, timed_out, try_of}
 use Rattle.commit_turns.specs.Desks.{ended_at, is_late, is_timed}
 use Rattle.commit_turns.specs.Turns.{last_try, late_at, one_tick}
 use Rattle.commit_turns.specs.declared.wait.Wait.{Wait}

@@ -1,5 +1,5 @@
 -- What a turn comes to.
-use Rattle.std.proofs.Common.{◌≡◌, ℕ, zero, suc, Bool, true, false, cond, List, [], ◌∷◌, ◌++◌, Option, Some, None, refl, sym, ap, ap₂, ◌∙◌}
+use Rattle.std.proofs.Common.{◌≡◌, ℕ, zero, suc, Bool, true, false, Option, Some, None, refl, ap, ◌∙◌}
 use Rattle.std.specs.Prelude.{OnOk, Result, Ok, Err}
 use Rattle.std.specs.Result.{is_err}
 use Rattle.acker_core.specs.declared.verdict.Verdict.{Verdict}
@@ -7,7 +7,6 @@ use Rattle.commit_order.specs.Offices.{IsCommitOf, Office}
 use Rattle.commit_order.specs.Orders.{Begins, TurnsTo, collector_of, cut_of, desk_of, office_of, plan_of, stop_by, stop_of, wanted_memory}
 use Rattle.commit_order.specs.declared.coordinator.Coordinator.{Coordinator}
 use Rattle.commit_order.specs.declared.coordinator.Orders.{Orders}
-use Rattle.commit_order.specs.declared.stop.Stop.{Stop}
 use Rattle.commit_turns.specs.Desks.{Desk, Progress}
 use Rattle.commit_turns.specs.Turns.{begun, fill_more, filled, heard, next_root, next_to_commit, ordered, passed, turned, turned_by}
 use Rattle.storm_values.specs.declared.value.Root.{Root}

@@ -1,5 +1,5 @@
 -- Dones in the order of the paths that they consume.
-use Rattle.std.proofs.Common.{◌≡◌, ◌≤◌, ◌<◌, ℕ, suc, Bool, true, false, List, [], ◌∷◌, length, map, get_or, Ordering, Less, Equal, Greater, is_lt, is_gt, refl, ap, ◌∙◌, arith, true≢false, Bor}
+use Rattle.std.proofs.Common.{◌≡◌, ◌≤◌, ◌<◌, ℕ, suc, false, List, [], ◌∷◌, length, map, get_or, Ordering, Less, Equal, Greater, is_lt, is_gt, refl, ap, ◌∙◌, arith, true≢false, Bor}
 use Rattle.std.specs.List.{AllByRecursion}
 use Rattle.std.specs.Ordering.{ordering_reverse}
 use Rattle.std.proofs.lemmas.Cmp.{nat_list_cmp_total}

@@ -1,7 +1,7 @@
 -- What a turn orders: the first tuples and the init of each root that begins, and a commit. This
 -- project's own.
-use Rattle.std.specs.Prelude.{◌≡◌, ◌≢◌, ℕ, ◌++◌, Bool, true, false, List, [], ◌∷◌, length, map, Option, None, Some}
-use Rattle.std.specs.List.{AllByRecursion, flat_map}
+use Rattle.std.specs.Prelude.{◌≡◌, ℕ, ◌++◌, Bool, true, false, List, [], ◌∷◌, length, map, Option, None, Some}
+use Rattle.std.specs.List.{flat_map}
 use Rattle.attempt_fates.specs.declared.fates.Attempt.{Attempt}
 use Rattle.commit_order.specs.Offices.{AddsSome, IsCommitOf, Office}
 use Rattle.commit_order.specs.declared.coordinator.Coordinator.{Coordinator}

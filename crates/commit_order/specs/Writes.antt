@@ -1,5 +1,5 @@
 -- The writes of a list of messages, in path order. This project's own.
-use Rattle.std.specs.Prelude.{◌≡◌, List, [], ◌∷◌, Bool, true, false, IsPermutation}
+use Rattle.std.specs.Prelude.{◌≡◌, List, [], ◌∷◌, false, IsPermutation}
 use Rattle.std.specs.List.{AllByRecursion, flat_map}
 use Rattle.std.specs.Ordering.{is_gt}
 use Rattle.storm_values.specs.Order.{path_cmp}

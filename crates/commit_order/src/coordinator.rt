@@ -90,7 +90,8 @@ impl<'p, I: Ids> Coordinator<'p, I> {
         requires own { StaysOwn self.old }
         ensures own { StaysOwn self.new }
         ensures turned { stop_of self.old ≡ None → IfOk result (TurnsTo I.tells
-            (plan_of self.old) (cut_of self.old) (turned (plan_of self.old) (cut_of self.old) verdict ticks (desk_of self.old))
+            (plan_of self.old) (cut_of self.old)
+            (turned (plan_of self.old) (cut_of self.old) verdict ticks (desk_of self.old))
             self.old self.new) }
         ensures fates { stop_of self.old ≡ None → OnOk result (fates.new ≡ fates.old ++ (turned
             (plan_of self.old) (cut_of self.old) verdict ticks (desk_of self.old)).ended) }

@@ -40,7 +40,8 @@ fn add_done<'l>(into: &mut Vec<&'l Done>, note: &'l AckMsg) -> Result<(), Memory
 }
 
 fn sort_dones(dones: &mut Vec<&Done>)
-    ensures same { IsPermutation (map (λ d. d.now) dones.old.items) (map (λ d. d.now) dones.new.items) }
+    ensures same { IsPermutation (map (λ d. d.now) dones.old.items)
+        (map (λ d. d.now) dones.new.items) }
     ensures ordered { AreInPathOrder (map (λ d. d.now) dones.new.items) }
 {
     dones.sort_unstable_by(|a, b| a.consumed.path.compare(&b.consumed.path));

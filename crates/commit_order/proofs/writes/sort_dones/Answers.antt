@@ -3,7 +3,6 @@ use Rattle.std.specs.Ordering.{is_lt}
 use Rattle.std.proofs.lemmas.Cmp.{nat_list_cmp_total}
 use Rattle.std.proofs.lemmas.List.Sorted.{IsPermutation-map, ranks_by, answers_always, sorted_far}
 use Rattle.storm_values.specs.Order.{path_cmp}
-use Rattle.tree_model.specs.declared.messages.Done.{Done}
 use Rattle.commit_order.proofs.WriteLemmas.{done_at, in-order, path_in}
 use Rattle.commit_order.proofs.writes.sort_dones.Goals as goal
 

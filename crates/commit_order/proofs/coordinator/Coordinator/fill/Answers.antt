@@ -1,8 +1,8 @@
-use Rattle.std.proofs.Common.{◌≡◌, ◌+◌, ◌-◌, ◌<◌, suc, Some, Ok, sym, ap, ◌∙◌, arith}
+use Rattle.std.proofs.Common.{◌≡◌, ◌+◌, ◌-◌, suc, Ok, sym, ap, ◌∙◌, arith}
 use Rattle.commit_order.proofs.Ending.{next_is}
 use Rattle.commit_order.proofs.Opening.{fills_end, fills_more, fills_none, none_more, own_after}
 use Rattle.commit_order.specs.Offices.{Office}
-use Rattle.commit_order.specs.Orders.{collector_of, cut_of, desk_of, plan_of}
+use Rattle.commit_order.specs.Orders.{cut_of, desk_of, plan_of}
 use Rattle.commit_turns.specs.Turns.{filled}
 use Rattle.commit_order.proofs.coordinator.Coordinator.fill.Goals as goal
 use Rattle.commit_order.proofs.coordinator.Coordinator.fill.Goals.{else-loop-test, then-loop-test+in_ok-root+in-None}

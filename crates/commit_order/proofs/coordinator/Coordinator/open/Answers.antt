@@ -1,4 +1,4 @@
-use Rattle.std.proofs.Common.{◌≡◌, sym, ap, ◌∙◌}
+use Rattle.std.proofs.Common.{sym, ap, ◌∙◌}
 use Rattle.commit_order.proofs.Ending.{on_ok}
 use Rattle.commit_order.proofs.Opening.{adds_opening}
 use Rattle.commit_order.specs.Orders.{collector_of, cut_of}

@@ -1,4 +1,4 @@
-use Rattle.std.proofs.Common.{◌≡◌, sym, ap, ◌∙◌}
+use Rattle.std.proofs.Common.{sym, ◌∙◌}
 use Rattle.commit_order.proofs.Turning.{ok_of, turns_to}
 use Rattle.commit_order.proofs.coordinator.Coordinator.turn.Goals as goal
 

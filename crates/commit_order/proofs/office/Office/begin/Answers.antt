@@ -1,4 +1,4 @@
-use Rattle.std.proofs.Common.{◌≡◌, sym, ap, ap₂, ◌∙◌, Some, None, arith}
+use Rattle.std.proofs.Common.{ap, ◌∙◌, arith}
 use Rattle.commit_order.proofs.Ending.{next_is}
 use Rattle.commit_order.proofs.Steps.{begin_step, has_txid-all, office_by}
 use Rattle.replay_pending.specs.InFlight as flight

@@ -1,7 +1,5 @@
-use Rattle.std.proofs.Common.{◌≡◌, refl, sym, ap, ◌∙◌, Some, Ok}
+use Rattle.std.proofs.Common.{refl, sym}
 use Rattle.std.proofs.lemmas.List.{append-nil}
-use Rattle.acker_core.specs.Check.{IsCheckOf}
-use Rattle.acker_core.specs.declared.check.Check.TheVariants.{Left}
 use Rattle.commit_order.proofs.Ending.{closed_true, found_by, left_false, none_by, still_goes, timed_record}
 use Rattle.commit_order.proofs.Places.{first_of_two}
 use Rattle.commit_order.proofs.Steps.{office_by}

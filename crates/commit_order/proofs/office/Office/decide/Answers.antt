@@ -1,7 +1,7 @@
-use Rattle.std.proofs.Common.{◌≡◌, refl, sym, ap, ap₂, ◌∙◌, Some, None, false, length}
+use Rattle.std.proofs.Common.{◌≡◌, refl, sym, ap, ap₂, ◌∙◌, Some, false, length}
 use Rattle.std.proofs.lemmas.List.{append-nil}
 use Rattle.std.proofs.lemmas.Option.{get_or_from_slice_get}
-use Rattle.commit_order.proofs.Ending.{counted_tick, decided_goes, found_by, item_is, next_txid, none_by, on_ok, second_is_some, still_goes}
+use Rattle.commit_order.proofs.Ending.{counted_tick, decided_goes, found_by, item_is, next_txid, none_by, on_ok, second_is_some}
 use Rattle.commit_order.proofs.Places.{some_same}
 use Rattle.commit_order.proofs.Steps.{office_by}
 use Rattle.commit_order.specs.Offices.{Office, counted_by, is_settled_after}

@@ -1,4 +1,4 @@
-use Rattle.std.proofs.Common.{sym, ap, ◌∙◌}
+use Rattle.std.proofs.Common.{ap, ◌∙◌}
 use Rattle.std.proofs.lemmas.Option.{get_or_from_slice_get}
 use Rattle.commit_order.proofs.Ending.{batch_of_found, ended_timed, found_by, none_by, on_ok, still_goes, timed_record}
 use Rattle.commit_order.proofs.Places.{first_of_two}

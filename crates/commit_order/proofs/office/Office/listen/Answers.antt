@@ -1,8 +1,6 @@
-use Rattle.std.proofs.Common.{◌≡◌, Some, sym, ap, ◌∙◌}
-use Rattle.std.proofs.lemmas.List.{append-nil}
+use Rattle.std.proofs.Common.{Some}
 use Rattle.commit_order.proofs.Ending.{on_err}
 use Rattle.commit_order.proofs.Passing.{adds_back, adds_front, on_err_of}
-use Rattle.commit_turns.specs.Desks.{Progress}
 use Rattle.commit_turns.specs.Turns.{heard, ticked}
 use Rattle.commit_order.proofs.office.Office.listen.Goals as goal
 use Rattle.commit_order.proofs.office.Office.listen.Goals.{in-Some+in_ok-hear, in_default}

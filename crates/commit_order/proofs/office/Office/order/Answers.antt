@@ -1,9 +1,9 @@
-use Rattle.std.proofs.Common.{◌≡◌, refl, sym, ap, ◌∙◌, Some, None}
+use Rattle.std.proofs.Common.{refl, sym, ap, ◌∙◌}
 use Rattle.std.specs.Prelude.{is_some}
 use Rattle.std.proofs.lemmas.Option.{get_or_from_slice_get}
 use Rattle.commit_order.proofs.Ending.{found_by, none_by, second_is_some}
 use Rattle.commit_order.proofs.Steps.{office_by}
-use Rattle.commit_order.specs.Offices.{IsCommitOf, is_settled_after}
+use Rattle.commit_order.specs.Offices.{is_settled_after}
 use Rattle.commit_order.proofs.office.Office.order.Goals as goal
 
 pub returns-in_default-clause-commit : goal.returns-in_default-clause-commit

@@ -1,4 +1,4 @@
-use Rattle.std.proofs.Common.{◌≡◌, ◌+◌, ◌-◌, ◌<◌, suc, sym, ap, ◌∙◌, arith}
+use Rattle.std.proofs.Common.{◌≡◌, ◌+◌, ◌-◌, suc, sym, ap, ◌∙◌, arith}
 use Rattle.commit_order.proofs.Ending.{on_err}
 use Rattle.commit_order.proofs.Passing.{short_tick}
 use Rattle.commit_order.specs.Offices.{Office}

@@ -1,4 +1,4 @@
-use Rattle.std.proofs.Common.{◌≡◌, ◌+◌, sym, ap, ◌∙◌, map}
+use Rattle.std.proofs.Common.{ap, ◌∙◌}
 use Rattle.storm_values.specs.Lines.{first_some}
 use Rattle.commit_order.proofs.Ending.{on_ok}
 use Rattle.commit_order.proofs.TickLemmas.{tick_goes, tick_step, tick_tells}

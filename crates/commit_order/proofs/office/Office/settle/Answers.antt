@@ -1,5 +1,4 @@
-use Rattle.std.proofs.Common.{sym, ap, ap₂}
-use Rattle.replay_pending.specs.InFlight.{AreDistinct}
+use Rattle.std.proofs.Common.{ap₂}
 use Rattle.commit_order.proofs.Places.{settled_there}
 use Rattle.commit_order.proofs.Steps.{office_by, settle_step}
 use Rattle.commit_order.proofs.office.Office.settle.Goals as goal

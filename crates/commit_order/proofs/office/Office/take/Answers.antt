@@ -1,4 +1,4 @@
-use Rattle.std.proofs.Common.{◌≡◌, ◌++◌, Some, ap, ap₂, sym, ◌∙◌}
+use Rattle.std.proofs.Common.{Some, ap, ap₂, sym, ◌∙◌}
 use Rattle.std.proofs.lemmas.Option.{slice_get-get_or}
 use Rattle.commit_order.proofs.Places.{without-at}
 use Rattle.commit_order.proofs.Steps.{end_step, office_by}

@@ -1,4 +1,4 @@
-use Rattle.std.proofs.Common.{◌≡◌, ◌++◌, sym, ap, ◌∙◌, take, drop, map}
+use Rattle.std.proofs.Common.{sym, ap, ◌∙◌, take, drop, map}
 use Rattle.std.proofs.lemmas.List.{map-append, take-append-drop}
 use Rattle.commit_order.proofs.Ending.{on_err}
 use Rattle.commit_order.specs.Offices.{timed_out}
