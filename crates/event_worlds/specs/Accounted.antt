@@ -1,0 +1,107 @@
+-- What led to a world: the account of tuples and the coordinator's own account fit it.
+-- This project's own.
+use Rattle.std.specs.Prelude.{◌≡◌, ◌≤◌, ◌<◌, ◌^◌, ℕ, ◌+◌, ◌*◌, List, All, length, map, sum_by}
+use Rattle.std.specs.List.{AllByRecursion}
+use Rattle.acker_core.specs.Entries.{AreSilent}
+use Rattle.attempt_fates.specs.declared.fates.Attempt.{Attempt}
+use Rattle.bolt_ops.specs.RowOp.{Custom}
+use Rattle.commit_turns.specs.Account.{desk_of, ends_of, rows_in}
+use Rattle.commit_turns.specs.Kept.{IsKept}
+use Rattle.counted_items.specs.Weights.{weigh}
+use Rattle.event_worlds.specs.Orderly.{IsOrderly}
+use Rattle.event_worlds.specs.Worlds.{AckerSide, Known, TaskSide, World, ended, task_at}
+use Rattle.rotating_ledger.specs.Held.{Held}
+use Rattle.storm_values.specs.declared.value.Root.{Root}
+use Rattle.storm_values.specs.Rows.{IsRow}
+use Rattle.topology_plan.specs.declared.parts.Origin.TheVariants as origin
+use Rattle.topology_plan.specs.Topology.{Topology, tasks_in_all}
+use Rattle.topology_plan.specs.Valid.{IsValid}
+use Rattle.topology_plan.specs.Wired.{IsWired, width_of}
+use Rattle.tree_model.specs.declared.messages.AckMsg.{AckMsg}
+use Rattle.tree_model.specs.declared.messages.Parcel.TheVariants.{ToTask, ToAcker}
+use Rattle.tree_model.specs.Trees.{node_count}
+use Rattle.trident_batches.specs.Batches.{Cut}
+use Rattle.tuple_account.specs.Drawn.{AreDrawn, started}
+use Rattle.tuple_account.specs.Ends.{HasCause, lists_of}
+use Rattle.tuple_account.specs.Fits.{Fits}
+use Rattle.tuple_account.specs.Histories.{History, Packet, of_parcel, of_verdict, weigh_parcels}
+use Rattle.tuple_account.specs.Moves.{HasDrawn, Reached, Station}
+use Rattle.tuple_account.specs.Parts.{weigh_entries}
+use Rattle.tuple_account.specs.Places.{before}
+
+-- ---- what waits
+
+-- what waits for tasks from a number on, in their boxes, and in their outboxes
+abbrev pub weigh_tasks : (Packet → ℕ) → ℕ → List TaskSide → ℕ
+weigh_tasks f n [] = 0
+weigh_tasks f n (side ∷ sides) =
+    (weigh (λ tuple. f (of_parcel (ToTask n tuple))) side.inbox + weigh_parcels f side.outbox)
+    + weigh_tasks f (n + 1) sides
+
+-- the same for ackers
+abbrev pub weigh_ackers : (Packet → ℕ) → ℕ → List AckerSide → ℕ
+weigh_ackers f n [] = 0
+weigh_ackers f n (side ∷ sides) =
+    (weigh (λ m. f (of_parcel (ToAcker n m))) side.inbox
+    + weigh (λ v. f (of_verdict v)) side.outbox)
+    + weigh_ackers f (n + 1) sides
+
+-- what waits anywhere, what ackers keep, and which words were given
+abbrev pub station_of : Known → Station
+station_of k = record {
+  waiting = λ f.
+      weigh_tasks f 0 k.world.tasks
+      + (weigh_ackers f 0 k.world.ackers
+      + (weigh (λ v. f (of_verdict v)) k.world.verdicts + weigh_parcels f k.world.orders));
+  kept = λ g. weigh (λ (side : AckerSide). weigh_entries g side.entries) k.world.ackers;
+  given = λ s j. before (k.counts s) j;
+}
+
+-- ---- the account of a world
+
+-- Where rows are those of an input: batches are cut by the plan's size, of records that the spout
+-- gives.
+pub record IsInput (t : Topology) (cut : Cut) : Type 0 where
+  pub valid : IsValid t
+  pub wired : IsWired t
+  pub size : cut.size ≡ t.batch
+  pub rows : All (IsRow (width_of t origin.Spout)) cut.records
+
+-- the counts of words in the stands are those that were given, up to 2^64 - 1
+pub record IsCounted (t : Topology) (k : Known) : Type 0 where
+  pub tasks : (n : ℕ) → n < tasks_in_all t
+      → (task_at t n k.world).stand.given ≡ ended (k.counts n)
+  pub spout : k.world.spout.given ≡ ended (k.counts (tasks_in_all t))
+
+-- A history led to a world, where sources have these words.
+pub record LedTo (t : Topology) (custom : Custom) (cut : Cut) (words : ℕ → ℕ → ℕ) (h : History)
+    (k : Known) : Type 0 where
+  pub reached : Reached t custom h (station_of k)
+  pub drawn : HasDrawn words h
+  pub starts : (s : ℕ) → started s h ≤ 40
+  pub orderly : IsOrderly t k.world
+  pub counted : IsCounted t k
+  pub kept : IsKept t cut k.world.desk k.world.fates
+  pub fits : Fits t (rows_in cut) (desk_of k.world.desk) (ends_of k.world.fates) h
+  pub silent : AllByRecursion (λ (side : AckerSide). AreSilent side.entries) k.world.ackers
+  -- the ticks that the coordinator has not counted yet
+  pub ticks : k.world.desk.tick ≤ k.world.tick
+
+-- some history led to it
+abbrev pub Accounted : Topology → Custom → Cut → (ℕ → ℕ → ℕ) → Known → Type 0
+Accounted t custom cut words k = (h : History) × LedTo t custom cut words h k
+
+-- ---- what follows for the fates
+
+-- how many words a source may have given, where these attempts ended
+abbrev pub most_words : Topology → Custom → Cut → List Attempt → ℕ
+most_words t custom cut fates = 40 + (length fates + 64) * node_count t custom cut.records
+
+-- each attempt's end has its cause, where so many ticks were handed out, and the ids of all lists
+-- are drawn: words of their sources, each in one message only
+pub record AreCaused (t : Topology) (custom : Custom) (cut : Cut) (ticks : ℕ)
+    (words : ℕ → ℕ → ℕ) (fates : List Attempt) : Type 0 where
+  pub each : AllByRecursion (HasCause t custom (rows_in cut) ticks) (ends_of fates)
+  pub drawn : most_words t custom cut fates < 2 ^ 64
+      → AreDrawn t custom (λ (root : Root). rows_in cut root.txid) words
+      (most_words t custom cut fates) (lists_of (ends_of fates))

@@ -1,0 +1,48 @@
+ghost use Rattle.std.specs.Prelude.{◌≡◌, ℕ, List, Some, All, slice_get};
+ghost use Rattle.bolt_ops.specs.RowOp.{Custom, IsCustom};
+ghost use Rattle.commit_turns.specs.declared.wait.Wait.{Wait};
+ghost use Rattle.commit_turns.specs.Account.{rows_in};
+ghost use Rattle.commit_turns.specs.Outcomes.{IsOutcome};
+ghost use Rattle.event_worlds.specs.Accounted.{Accounted, AreCaused, IsInput};
+ghost use Rattle.event_worlds.specs.Worlds.{Known, Step, first_known, next, run};
+ghost use Rattle.state_parts.specs.declared.answer.CommitOutcome.{CommitOutcome};
+ghost use Rattle.topology_plan.specs.Topology.{Topology};
+ghost use Rattle.tree_model.specs.declared.messages.AckMsg.{AckMsg};
+ghost use Rattle.tree_model.specs.Lists.{Covers, IsClosed};
+ghost use Rattle.trident_batches.specs.Batches.{Cut};
+ghost use Rattle.tuple_account.specs.Sound.{IsSound};
+
+/// A law: the accounts fit the first world, and each world that steps lead to, whatever the order of
+/// the steps, the words of the sources and the outcomes of commits.
+pub fn worlds_are_accounted()
+    ensures first { (t : Topology) (custom : Custom) (cut : Cut) (words : ℕ → ℕ → ℕ)
+        → IsInput t cut → Accounted t custom cut words (first_known t words) }
+    ensures next { (t : Topology) (custom : Custom) (cut : Cut) (words : ℕ → ℕ → ℕ)
+        (outcomes : List CommitOutcome) (s : Step) (k : Known)
+        → IsInput t cut → IsCustom custom → All (IsOutcome t) outcomes
+        → Accounted t custom cut words k
+        → Accounted t custom cut words (next t custom cut words outcomes s k) }
+    ensures run { (t : Topology) (custom : Custom) (cut : Cut) (words : ℕ → ℕ → ℕ)
+        (outcomes : List CommitOutcome) (steps : List Step) (k : Known)
+        → IsInput t cut → IsCustom custom → All (IsOutcome t) outcomes
+        → Accounted t custom cut words k
+        → Accounted t custom cut words (run t custom cut words outcomes steps k) }
+{}
+
+/// A law: in each such world every end has its cause, and the ids of all lists are drawn.
+pub fn ends_of_worlds_have_causes()
+    ensures { (t : Topology) (custom : Custom) (cut : Cut) (words : ℕ → ℕ → ℕ) (k : Known)
+        → IsInput t cut → Accounted t custom cut words k
+        → AreCaused t custom cut k.world.desk.tick words k.world.fates }
+{}
+
+/// A law: in each such world a list that a pending attempt was settled with is true, single, steady
+/// and closed, and covers the tuple tree of its batch.
+pub fn settled_lists_are_whole()
+    ensures { (t : Topology) (custom : Custom) (cut : Cut) (words : ℕ → ℕ → ℕ) (k : Known)
+        → IsInput t cut → Accounted t custom cut words k
+        → (i : ℕ) (w : Wait) (list : List AckMsg)
+        → slice_get k.world.desk.pending i ≡ Some w → w.settled ≡ Some list
+        → IsSound t custom (rows_in cut w.root.txid) w.root list × IsClosed list
+        × Covers t custom (rows_in cut w.root.txid) list }
+{}

@@ -1,0 +1,7 @@
+//! The world of tasks, ackers and the coordinator with their boxes: what each step does to it, and
+//! what holds of every world.
+#![tactic(auto)]
+
+mod laws;
+
+pub use laws::{ends_of_worlds_have_causes, settled_lists_are_whole, worlds_are_accounted};
