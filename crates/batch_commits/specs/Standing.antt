@@ -53,6 +53,10 @@ pub record HasStrange {S : Type 0} (tells : S → CellMap → Type 0) (parts : L
   pub strange : (cells : CellMap) → tells at.over.store cells
       → (key : List ℕ) × IsStrange at.over.kind key (cell_at cells key)
 
+-- the key of a write is a text
+abbrev pub HasTextKey : Write → Type 0
+HasTextKey write = IsUtf8 write.key
+
 -- ---- counts of faults
 
 -- a count rose from one failure to the next, each of which has the count before it and after it

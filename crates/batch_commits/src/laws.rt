@@ -1,11 +1,11 @@
 ghost use Rattle.std.specs.Prelude.{◌≡◌, ◌<◌, ◌+◌, ℕ, List, All};
 ghost use Rattle.std.specs.List.{AllZip};
-ghost use Rattle.batch_commits.specs.Standing.{HasStrange, PartsStand, batches_in, writes_at};
+ghost use Rattle.batch_commits.specs.Standing.{HasStrange, HasTextKey, PartsStand, batches_in, writes_at};
 ghost use Rattle.bolt_ops.specs.RowOp.{Custom};
 ghost use Rattle.state_parts.specs.Commits.{AreCommitted, ArePerhapsCommitted, IsBadAt};
 ghost use Rattle.state_parts.specs.PartPlans.{AreParts};
-ghost use Rattle.state_parts.specs.PartTables.{AreRead, IsBadRowAt, IsTableOver};
-ghost use Rattle.state_parts.specs.Standing.{ArePlaced, IsEmpty};
+ghost use Rattle.state_parts.specs.PartTables.{IsBadRowAt, IsTableOver};
+ghost use Rattle.state_parts.specs.Standing.{IsEmpty};
 ghost use Rattle.state_parts.specs.declared.parts.StatePart.{StatePart};
 ghost use Rattle.topology_plan.specs.Topology.{Topology};
 ghost use Rattle.topology_plan.specs.Wired.{IsWired};
@@ -45,10 +45,10 @@ pub fn parts_that_stand_have_the_tables<C: CellStore>()
 {}
 
 /// A law: a cell that no part takes, or one at a key that is no text, was there before a commit of
-/// placed writes, whole or broken off; and a fault that tells of a bad cell tells of such a one.
+/// writes whose keys are texts; and a fault that tells of a bad cell tells of such a one.
 pub fn strange_cells_were_there<C: CellStore>()
-    ensures commit { (t : Topology) (txid : ℕ) (made : List Write) (old new : List (StatePart C))
-        → ArePlaced t made → ArePerhapsCommitted C.tells txid made old new
+    ensures commit { (txid : ℕ) (made : List Write) (old new : List (StatePart C))
+        → All HasTextKey made → ArePerhapsCommitted C.tells txid made old new
         → HasStrange C.tells new → HasStrange C.tells old }
     ensures bad_cell { (parts : List (StatePart C)) (key : List ℕ)
         → IsBadAt C.tells parts key → HasStrange C.tells parts }
