@@ -1,12 +1,12 @@
 -- Rows of a plan: each node's is within limits and as wide as its component takes, and where its
 -- tuples go.
-use Rattle.std.proofs.Common.{◌≡◌, ℕ, zero, suc, ◌+◌, ◌<◌, ◌≤◌, List, [], ◌∷◌, length, map, take, drop, replicate, sum, sum_by, All, Option, Some, None, IfSome, slice_get, get_or, sym, subst, refl, ap, ◌∙◌, mod-lt, arith}
-use Rattle.std.specs.List.{flat_map, AllByRecursion}
+use Rattle.std.proofs.Common.{◌≡◌, ℕ, zero, suc, ◌≤◌, List, [], ◌∷◌, length, map, take, replicate, sum, sum_by, All, Option, Some, None, IfSome, slice_get, get_or, sym, subst, refl, ap, ◌∙◌, mod-lt, arith}
+use Rattle.std.specs.List.{AllByRecursion}
 use Rattle.std.specs.Option.{option_map_or}
 use Rattle.std.proofs.lemmas.List.{take-map}
 use Rattle.std.proofs.lemmas.List.Elements.{recursion_from_All, All-from_recursion, All-nil, All-take, All-drop}
 use Rattle.std.proofs.lemmas.List.Sums.{sum-map, sum_by_more_le}
-use Rattle.std.proofs.lemmas.Option.{get_or_from_slice_get, slice_get_within}
+use Rattle.std.proofs.lemmas.Option.{get_or_from_slice_get}
 use Rattle.bolt_ops.specs.RowOp.{Custom, IsCustom}
 use Rattle.bolt_ops.specs.declared.operation.Outcome.{Outcome}
 use Rattle.bolt_ops.specs.declared.operation.Outcome.TheVariants as outcome
@@ -23,7 +23,6 @@ use Rattle.output_collector.proofs.Lanes.{at_place}
 use Rattle.output_collector.proofs.Targets.{go_to}
 use Rattle.storm_values.specs.declared.value.Root.{Root}
 use Rattle.storm_values.specs.declared.value.Value.{Value}
-use Rattle.storm_values.specs.Limits.{most_tasks_in_all}
 use Rattle.storm_values.specs.Rows.{IsRow}
 use Rattle.topology_plan.specs.declared.parts.Body.{Body}
 use Rattle.topology_plan.specs.declared.parts.Body.TheVariants.{Bolt, State}
