@@ -77,7 +77,7 @@ failure_at component part (end.CommitFailed c p before after) =
 -- the same of all attempts, in the order of their ends
 abbrev pub failures_at : ℕ → ℕ → List Attempt → List (ℕ × ℕ)
 failures_at component part fates =
-    flat_map {B = ℕ × ℕ} (λ (a : Attempt). failure_at component part a.end) fates
+    flat_map (λ (a : Attempt). failure_at component part a.end) fates
 
 -- of each part the counts in these fates lie between its store's counts before and after
 abbrev pub FailuresAreCounted : {S : Type 0} → (S → ℕ) → List Attempt → List (StatePart S)

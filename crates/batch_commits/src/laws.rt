@@ -15,7 +15,13 @@ ghost use Rattle.tree_model.specs.declared.write.Table.{Table};
 ghost use Rattle.tree_model.specs.declared.write.Write.{Write};
 ghost use Rattle.trident_batches.specs.Batches.{Cut};
 
+use state_parts::{
+    commits_move_all_parts_on, parts_over_empty_stores_begin, tables_of_parts_are_tables_of_writes,
+    writes_of_trees_are_placed,
+};
 use storm_stores::CellStore;
+use tree_model::writes_of_joined_rows;
+use trident_batches::batches_in_order_are_all_records;
 
 /// A law: parts over empty stores stand at 0 batches, a commit of the next batch's writes that is
 /// done moves them on by one, and one that was broken off leaves them where they stand.
@@ -32,7 +38,12 @@ pub fn commits_of_batches_move_parts<C: CellStore>()
         → PartsStand C.tells t custom cut n old → n < batches_in cut
         → ArePerhapsCommitted C.tells (n + 1) (writes_at t custom cut (n + 1)) old new
         → PartsStand C.tells t custom cut n new }
-{}
+{
+    parts_over_empty_stores_begin::<C>();
+    commits_move_all_parts_on::<C>();
+    writes_of_trees_are_placed();
+    writes_of_joined_rows();
+}
 
 /// A law: where the parts stand at all batches, their tables are those of the writes of all records.
 pub fn parts_that_stand_have_the_tables<C: CellStore>()
@@ -42,7 +53,11 @@ pub fn parts_that_stand_have_the_tables<C: CellStore>()
         → PartsStand C.tells t custom cut (batches_in cut) parts
         → AllZip (IsTableOver C.tells parts) (states_of t) tables
         → AreTables t (writes t custom cut.records) tables }
-{}
+{
+    tables_of_parts_are_tables_of_writes::<C>();
+    writes_of_trees_are_placed();
+    batches_in_order_are_all_records();
+}
 
 /// A law: a cell that no part takes, or one at a key that is no text, was there before a commit of
 /// writes whose keys are texts; and a fault that tells of a bad cell tells of such a one.
