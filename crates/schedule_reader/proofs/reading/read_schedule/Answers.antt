@@ -1,0 +1,46 @@
+use Rattle.std.proofs.Common.{◌≡◌, suc, ◌+◌, [], ◌∷◌, ◌++◌, length, ap, sym, ◌∙◌, arith}
+use Rattle.std.proofs.lemmas.Bool.Decides.{nat_tests}
+use Rattle.std.proofs.lemmas.List.{append_assoc, append-nil, length-append, nil_from_length}
+use Rattle.std.proofs.lemmas.Result.{err_from_is_err_and}
+use Rattle.storm_values.specs.Lines.{lines_of}
+use Rattle.schedule_reader.proofs.ScheduleLemmas.{schedule_fault-TooLong, schedule_fault-lines, bad_line-here, bad_line-later, events-next, events_of-lines, fits-push}
+use Rattle.schedule_reader.proofs.reading.read_schedule.Goals as goal
+
+pub returns-then-bytes-gt-MOST_SCHEDULE_BYTES-clause-fault :
+    goal.returns-then-bytes-gt-MOST_SCHEDULE_BYTES-clause-fault
+returns-then-bytes-gt-MOST_SCHEDULE_BYTES-clause-fault c = λ _. schedule_fault-TooLong c.args.bytes.now c.args.plan.now (omega arith)
+
+pub returns-in_err-event-clause-fault : goal.returns-in_err-event-clause-fault
+returns-in_err-event-clause-fault c =
+    let made = err_from_is_err_and c.from_residual.result c.from_residual.ensures.1 in
+    let whole = schedule_fault-lines c.args.bytes.now c.args.plan.now (omega arith) ∙ sym c.loop-rest.invariant.fault in
+    let number : c.len.result + 1 ≡ suc (length c.loop-rest.events) = omega arith in
+    let here = bad_line-here c.args.plan.now _ c.split_line.result.0.now (lines_of c.split_line.result.1.now) c.in_err-event.field-0.0 (rw number at c.in_err-event.ensures.fault) in
+    rw (made.1, made.2) (λ _. whole ∙ rw c.split_line.ensures.lines here)
+
+pub loop-rest-preserved : goal.loop-rest-preserved
+loop-rest-preserved c =
+    let events = c.loop-rest.events in
+    let event = c.in_ok-event.event in
+    let line = c.split_line.result.0.now in
+    let lines = lines_of c.split_line.result.1.now in
+    let split = c.split_line.ensures.lines in
+    let pushed : c.push.new.self ≡ events ++ event ∷ [] = c.in_ok-push.ensures.ok in
+    let longer : length c.push.new.self ≡ suc (length events) = ap length pushed ∙ length-append events (event ∷ []) ∙ omega arith in
+    let number : c.len.result + 1 ≡ suc (length events) = omega arith in
+    let next = bad_line-later c.args.plan.now (suc (length events)) line lines (rw number at c.in_ok-event.ensures.no_fault) in
+    record {
+      events = rw (pushed, append_assoc) (rw (split, events-next line lines event c.in_ok-event.ensures.good) at c.loop-rest.invariant.events);
+      fault = rw longer (sym next ∙ rw split at c.loop-rest.invariant.fault);
+      fits = rw pushed (fits-push c.args.plan.now events event c.loop-rest.invariant.fits c.in_ok-event.ensures.fits);
+      few = omega arith;
+    }
+
+pub returns-clause-good : goal.returns-clause-good
+returns-clause-good c =
+    let empty : length c.loop-rest.rest.now ≡ 0 = grind (arith, nat_tests) in
+    let done : c.loop-rest.rest.now ≡ [] = nil_from_length c.loop-rest.rest.now empty in
+    let whole = schedule_fault-lines c.args.bytes.now c.args.plan.now (omega arith) in (
+      whole ∙ sym c.loop-rest.invariant.fault ∙ rw done,
+      sym (append-nil c.loop-rest.events) ∙ rw done at c.loop-rest.invariant.events ∙ sym (events_of-lines c.args.bytes.now),
+    )
