@@ -8,15 +8,19 @@ use Rattle.std.proofs.lemmas.Bool.Decides.{nat_tests}
 use Rattle.std.proofs.lemmas.Int.Digits.{digits_value_more}
 use Rattle.std.proofs.lemmas.List.Folds.{list_all_at}
 
-digit_by : (test : Bool) (digits : List ℕ) (i : ℕ) → i < length digits → IsTrue (list_all is_ascii_digit digits) → is_ascii_digit (get_or digits i 0) ≡ test → test ≡ true
+digit_by : (test : Bool) (digits : List ℕ) (i : ℕ) → i < length digits
+    → IsTrue (list_all is_ascii_digit digits) → is_ascii_digit (get_or digits i 0) ≡ test
+    → test ≡ true
 digit_by true digits i within all is = refl
 digit_by false digits i within all is =
-    let other : list_all is_ascii_digit digits ≡ false = list_all_at is_ascii_digit digits i 0 within is in
+    let other = list_all_at is_ascii_digit digits i 0 within is in
     cc
 
 -- each of the digits is one
-digit_at : (digits : List ℕ) (i : ℕ) → i < length digits → IsTrue (list_all is_ascii_digit digits) → is_ascii_digit (get_or digits i 0) ≡ true
-digit_at digits i within all = digit_by (is_ascii_digit (get_or digits i 0)) digits i within all refl
+digit_at : (digits : List ℕ) (i : ℕ) → i < length digits → IsTrue (list_all is_ascii_digit digits)
+    → is_ascii_digit (get_or digits i 0) ≡ true
+digit_at digits i within all =
+    digit_by (is_ascii_digit (get_or digits i 0)) digits i within all refl
 
 digit_within : (byte : ℕ) → is_ascii_digit byte ≡ true → (48 ≤ byte) × (byte ≤ 57)
 digit_within byte is = (grind (arith, nat_tests), grind (arith, nat_tests))
@@ -28,15 +32,18 @@ digit_value-decimal byte least most =
     rw (above, below)
 
 -- one digit more
-pub value_more : (digits : List ℕ) (i : ℕ) → i < length digits → IsTrue (list_all is_ascii_digit digits)
-    → digits_value 10 (take (i + 1) digits) ≡ 10 * digits_value 10 (take i digits) + (get_or digits i 0 - 48)
+pub value_more : (digits : List ℕ) (i : ℕ) → i < length digits
+    → IsTrue (list_all is_ascii_digit digits)
+    → digits_value 10 (take (i + 1) digits)
+    ≡ 10 * digits_value 10 (take i digits) + (get_or digits i 0 - 48)
 value_more digits i within all =
     let digit = digit_within (get_or digits i 0) (digit_at digits i within all) in
     let one = digit_value-decimal (get_or digits i 0) digit.0 digit.1 in
     digits_value_more 10 digits i within ∙ omega (arith, one)
 
 -- it stays below the next power of ten
-pub bound_more : (digits : List ℕ) (value i : ℕ) → i < length digits → IsTrue (list_all is_ascii_digit digits) → value < 10 ^ i
+pub bound_more : (digits : List ℕ) (value i : ℕ) → i < length digits
+    → IsTrue (list_all is_ascii_digit digits) → value < 10 ^ i
     → 10 * value + (get_or digits i 0 - 48) < 10 ^ (i + 1)
 bound_more digits value i within all below =
     let digit = digit_within (get_or digits i 0) (digit_at digits i within all) in

@@ -11,7 +11,8 @@ use Rattle.schedule_reader.specs.declared.event.Event.{Event}
 use Rattle.schedule_reader.specs.declared.fault.ScheduleFault.{ScheduleFault}
 use Rattle.schedule_reader.specs.declared.fault.ScheduleFault.TheVariants.{TooLong}
 
-pub schedule_fault-TooLong : (bytes : List ℕ) (t : Topology) → 1048576 < length bytes → schedule_fault bytes t ≡ Some TooLong
+pub schedule_fault-TooLong : (bytes : List ℕ) (t : Topology) → 1048576 < length bytes
+    → schedule_fault bytes t ≡ Some TooLong
 unfolding schedule_fault
 schedule_fault-TooLong bytes t long =
     let over : ltb 1048576 (length bytes) ≡ true = grind (arith, nat_tests) in
@@ -22,24 +23,28 @@ one None = refl
 one (Some fault) = refl
 
 -- where the length is no fault
-pub schedule_fault-lines : (bytes : List ℕ) (t : Topology) → length bytes ≤ 1048576 → schedule_fault bytes t ≡ bad_line t 1 (lines_of bytes)
+pub schedule_fault-lines : (bytes : List ℕ) (t : Topology) → length bytes ≤ 1048576
+    → schedule_fault bytes t ≡ bad_line t 1 (lines_of bytes)
 unfolding schedule_fault
 schedule_fault-lines bytes t short =
     let within : ltb 1048576 (length bytes) ≡ false = grind (arith, nat_tests) in
     rw within (one (bad_line t 1 (lines_of bytes)))
 
 -- the next line is bad
-pub bad_line-here : (t : Topology) (number : ℕ) (line : List ℕ) (lines : List (List ℕ)) (fault : ScheduleFault) → step_fault t number (event_of line) ≡ Some fault
+pub bad_line-here : (t : Topology) (number : ℕ) (line : List ℕ) (lines : List (List ℕ))
+    → (fault : ScheduleFault) → step_fault t number (event_of line) ≡ Some fault
     → bad_line t number (line ∷ lines) ≡ Some fault
 bad_line-here t number line lines fault bad = rw bad
 
 -- the next line is good
-pub bad_line-later : (t : Topology) (number : ℕ) (line : List ℕ) (lines : List (List ℕ)) → step_fault t number (event_of line) ≡ None
+pub bad_line-later : (t : Topology) (number : ℕ) (line : List ℕ) (lines : List (List ℕ))
+    → step_fault t number (event_of line) ≡ None
     → bad_line t number (line ∷ lines) ≡ bad_line t (suc number) lines
 bad_line-later t number line lines good = rw good
 
 -- the event of the next line
-pub events-next : (line : List ℕ) (lines : List (List ℕ)) (event : Event) → event_of line ≡ Some event
+pub events-next : (line : List ℕ) (lines : List (List ℕ)) (event : Event)
+    → event_of line ≡ Some event
     → filter_map event_of (line ∷ lines) ≡ event ∷ filter_map event_of lines
 events-next line lines event is = rw is
 
@@ -48,14 +53,16 @@ unfolding events_of
 events_of-lines bytes = refl
 
 -- one event more that fits
-pub fits-push : (t : Topology) (events : List Event) (event : Event) → AllByRecursion (FitsEvent t) events → FitsEvent t event
+pub fits-push : (t : Topology) (events : List Event) (event : Event)
+    → AllByRecursion (FitsEvent t) events → FitsEvent t event
     → AllByRecursion (FitsEvent t) (events ++ event ∷ [])
 fits-push t [] event each fits = (fits, tt)
 fits-push t (first ∷ events) event each fits = (each.0, fits-push t events event each.1 fits)
 
 -- ---- one byte more than the limit tells as much as all
 
-taken_fault : (over : Bool) (bytes : List ℕ) (t : Topology) → ltb 1048576 (length bytes) ≡ over → schedule_fault (take 1048577 bytes) t ≡ schedule_fault bytes t
+taken_fault : (over : Bool) (bytes : List ℕ) (t : Topology) → ltb 1048576 (length bytes) ≡ over
+    → schedule_fault (take 1048577 bytes) t ≡ schedule_fault bytes t
 taken_fault true bytes t is =
     let long : 1048576 < length bytes = grind (arith, nat_tests) in
     let taken : 1048576 < length (take 1048577 bytes) = rw length-take (omega arith) in
@@ -64,10 +71,12 @@ taken_fault false bytes t is =
     let short : length bytes ≤ 1048577 = grind (arith, nat_tests) in
     ap (λ all. schedule_fault all t) (take_all 1048577 bytes short)
 
-pub schedule_fault-take : (bytes : List ℕ) (t : Topology) → schedule_fault (take 1048577 bytes) t ≡ schedule_fault bytes t
+pub schedule_fault-take : (bytes : List ℕ) (t : Topology)
+    → schedule_fault (take 1048577 bytes) t ≡ schedule_fault bytes t
 schedule_fault-take bytes t = taken_fault (ltb 1048576 (length bytes)) bytes t refl
 
-taken_events : (over : Bool) (bytes : List ℕ) (t : Topology) → ltb 1048576 (length bytes) ≡ over → schedule_fault bytes t ≡ None → events_of (take 1048577 bytes) ≡ events_of bytes
+taken_events : (over : Bool) (bytes : List ℕ) (t : Topology) → ltb 1048576 (length bytes) ≡ over
+    → schedule_fault bytes t ≡ None → events_of (take 1048577 bytes) ≡ events_of bytes
 taken_events true bytes t is good =
     let long : 1048576 < length bytes = grind (arith, nat_tests) in
     let over = schedule_fault-TooLong bytes t long in
@@ -76,5 +85,6 @@ taken_events false bytes t is good =
     let short : length bytes ≤ 1048577 = grind (arith, nat_tests) in
     ap events_of (take_all 1048577 bytes short)
 
-pub events_of-take : (bytes : List ℕ) (t : Topology) → schedule_fault bytes t ≡ None → events_of (take 1048577 bytes) ≡ events_of bytes
+pub events_of-take : (bytes : List ℕ) (t : Topology) → schedule_fault bytes t ≡ None
+    → events_of (take 1048577 bytes) ≡ events_of bytes
 events_of-take bytes t = taken_events (ltb 1048576 (length bytes)) bytes t refl

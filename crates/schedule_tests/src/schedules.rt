@@ -17,7 +17,11 @@ const EACH_KIND: [Event; 5] = [
 fn lines_are_events(rt: HostRuntime) -> Result<(), Mismatch> {
     let alloc = rt.alloc();
     check_events(alloc, "", &[])?;
-    check_events(alloc, "task 3\nacker 1\ncoord\ntick\nrounds 7\n", &EACH_KIND)?;
+    check_events(
+        alloc,
+        "task 3\nacker 1\ncoord\ntick\nrounds 7\n",
+        &EACH_KIND,
+    )?;
     check_events(alloc, "tick\ncoord", &[Event::Tick, Event::Coord])
 }
 
@@ -90,23 +94,24 @@ fn tasks_and_ackers_have_to_be_there(rt: HostRuntime) -> Result<(), Mismatch> {
 
 const TOO_LONG: &str = "longer than 1048576 bytes";
 
-// A line of six bytes and 209,714 of five, which are 1,048,576 bytes.
-fn longest(alloc: Global) -> Result<Vec<u8>, Memory> {
+// A line of six bytes and 209,714 of five, which are 1,048,576 bytes, and then this.
+fn longest_and(alloc: Global, end: &[u8]) -> Result<Vec<u8>, Memory> {
     let mut bytes = Vec::new(alloc);
     bytes.extend_from_slice(b"coord\n")?;
     for _ in 0..209_714 {
         bytes.extend_from_slice(b"tick\n")?;
     }
+    bytes.extend_from_slice(end)?;
     Ok(bytes)
 }
 
 #[test]
 fn the_length_comes_first(rt: HostRuntime) -> Result<(), Mismatch> {
     let alloc = rt.alloc();
-    let mut bytes = longest(alloc)?;
-    check_bytes(alloc, "as long as may be", bytes.as_slice(), "events 209715")?;
-    bytes.push(b't')?;
-    check_bytes(alloc, "one byte more", bytes.as_slice(), TOO_LONG)?;
+    let longest = longest_and(alloc, b"")?;
+    check_bytes(alloc, "the longest", longest.as_slice(), "events 209715")?;
+    let longer = longest_and(alloc, b"t")?;
+    check_bytes(alloc, "one byte more", longer.as_slice(), TOO_LONG)?;
     let strange = vec![in alloc; b'x'; 1_048_577]?;
     check_bytes(alloc, "a strange line", strange.as_slice(), TOO_LONG)
 }

@@ -7,8 +7,10 @@ use Rattle.schedule_reader.proofs.reading.read_schedule.Given as goal
 
 abbrev pub invariant-loop-rest : goal.invariant-loop-rest
 invariant-loop-rest l = record {
-  events : l.events ++ filter_map event_of (lines_of l.rest) ≡ filter_map event_of (lines_of l.bytes);
-  fault : bad_line l.plan (suc (length l.events)) (lines_of l.rest) ≡ bad_line l.plan 1 (lines_of l.bytes);
+  events : l.events ++ filter_map event_of (lines_of l.rest)
+      ≡ filter_map event_of (lines_of l.bytes);
+  fault : bad_line l.plan (suc (length l.events)) (lines_of l.rest)
+      ≡ bad_line l.plan 1 (lines_of l.bytes);
   fits : AllByRecursion (FitsEvent l.plan) l.events;
   few : length l.events + length l.rest ≤ length l.bytes;
 }
