@@ -1,5 +1,5 @@
 -- Parts move on by the commits of batches.
-use Rattle.std.proofs.Common.{◌≡◌, ◌<◌, ◌≤◌, ℕ, ◌+◌, zero, suc, List, [], ◌∷◌, ◌++◌, All, length, refl, sym, ap, subst, ◌∙◌, arith, append_assoc}
+use Rattle.std.proofs.Common.{◌≡◌, ◌<◌, ℕ, ◌+◌, zero, suc, List, [], ◌++◌, All, length, refl, sym, ap, subst, ◌∙◌, arith, append_assoc}
 use Rattle.std.proofs.lemmas.List.{append-nil}
 use Rattle.std.specs.List.{flat_map, range_with_len, AllZip}
 use Rattle.batch_commits.specs.Standing.{PartsStand, batches_in, writes_at, writes_to}
@@ -17,7 +17,7 @@ use Rattle.topology_plan.specs.Wired.{IsWired}
 use Rattle.tree_model.specs.declared.write.Table.{Table}
 use Rattle.tree_model.specs.declared.write.Write.{Write}
 use Rattle.tree_model.specs.Tables.{AreTables, states_of}
-use Rattle.tree_model.specs.Trees.{writes}
+use Rattle.tree_model.specs.Trees.{nodes_of, writes}
 use Rattle.trident_batches.specs.Batches.{Cut, batch_count, batch_of, batches_joined}
 
 -- what one more number adds
@@ -28,6 +28,10 @@ more_of f a (suc n) =
     ∙ ap (λ zs. f a ++ zs) (more_of f (a + 1) n)
     ∙ sym (append_assoc (f a) (flat_map f (range_with_len (a + 1) n)) (f (a + 1 + n)))
     ∙ ap (λ k. (f a ++ flat_map f (range_with_len (a + 1) n)) ++ f k) (let e : a + 1 + n ≡ a + suc n = omega arith in e)
+
+none_written : (t : Topology) (custom : Custom) → writes t custom [] ≡ []
+unfolding nodes_of
+none_written t custom = refl
 
 -- the laws of the parts, as these lemmas take them
 pub record Laws {S : Type 0} (tells : S → CellMap → Type 0) : Type 0 where
@@ -48,7 +52,8 @@ module _ (t : Topology) (custom : Custom) (cut : Cut) {S : Type 0} (tells : S �
 
   pub stand_first : (laws : Laws tells) (parts : List (StatePart S)) → All (IsEmpty tells) parts → PartsStand tells t custom cut 0 parts
   stand_first laws parts empty =
-      let at : AllAreAt tells t 0 (writes_to t custom cut 0) (writes_at t custom cut 1) parts = laws.begin t (writes_at t custom cut 1) parts empty in
+      let at : AllAreAt tells t 0 (writes_to t custom cut 0) (writes_at t custom cut 1) parts =
+      subst (λ (ws : List Write). AllAreAt tells t 0 ws (writes_at t custom cut 1) parts) (sym (none_written t custom)) (laws.begin t (writes_at t custom cut 1) parts empty) in
       record { stand = laws.stand t 0 (writes_to t custom cut 0) (writes_at t custom cut 1) parts at; at_end = λ _. at }
 
   pub stand_done : (laws : Laws tells) (n : ℕ) (old new : List (StatePart S)) → PartsStand tells t custom cut n old → AreCommitted tells (n + 1) (writes_at t custom cut (n + 1)) old new → PartsStand tells t custom cut (n + 1) new

@@ -1,4 +1,4 @@
-use Rattle.batch_commits.proofs.Moving.{Laws, stand_broken, stand_done, stand_first}
+use Rattle.batch_commits.proofs.Moving.{stand_broken, stand_done, stand_first}
 use Rattle.batch_commits.proofs.laws.commits_of_batches_move_parts.Goals as goal
 
 pub returns-clause-first : goal.returns-clause-first
