@@ -1,1 +1,2 @@
-
+mod AgedLemmas
+mod SeatLemmas

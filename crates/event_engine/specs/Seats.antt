@@ -1,17 +1,19 @@
 -- Seats of the engine, and the sides of the world that they are. This project's own.
-use Rattle.std.specs.Prelude.{◌≡◌, ℕ, suc, List, [], ◌∷◌, ◌++◌, length, Option, Some, slice_get, slice_set}
+use Rattle.std.specs.Prelude.{◌≡◌, ℕ, suc, List, [], ◌∷◌, ◌++◌, length, map, Option, Some, slice_get, slice_index_or, slice_set}
 use Rattle.std.specs.List.{AllByRecursion}
 use Rattle.std.specs.Option.{option_to_list}
+use Rattle.acker_core.specs.declared.verdict.Verdict.{Verdict}
 use Rattle.bolt_ops.specs.RowOp.{Custom}
 use Rattle.bolt_task.specs.Executing.{IsFor, IsSameTask, collector_in, component_at, number_of, topology_at}
 use Rattle.commit_order.specs.Orders.{stand_of}
 use Rattle.event_engine.specs.declared.acker.AckerSeat.{AckerSeat}
 use Rattle.event_engine.specs.declared.task.TaskSeat.{TaskSeat}
-use Rattle.event_worlds.specs.Worlds.{AckerSide, TaskSide, acted, executed, needed_by, task_needs}
+use Rattle.event_worlds.specs.Worlds.{AckerSide, TaskSide, acted, answered, executed, gets_message, needed_by, no_acker, task_needs}
 use Rattle.output_collector.specs.Collectors.{ids_in}
 use Rattle.output_collector.specs.Draws.{Draws}
 use Rattle.storm_ids.specs.declared.ids.Ids.{Ghosts}
 use Rattle.topology_plan.specs.Topology.{Topology, component_of}
+use Rattle.tree_model.specs.declared.messages.AckMsg.{AckMsg}
 use Rattle.tree_model.specs.declared.messages.Parcel.{Parcel}
 use Rattle.tree_model.specs.declared.messages.Tuple.{Tuple}
 
@@ -27,6 +29,26 @@ acker_side s = record {
 
 abbrev pub buckets_in : AckerSeat → ℕ
 buckets_in s = s.acker.buckets
+
+abbrev pub HasBuckets : ℕ → AckerSeat → Type 0
+HasBuckets buckets s = buckets_in s ≡ buckets
+
+-- a message came to the back of a seat's box
+pub record PutsMessage (m : AckMsg) (n : ℕ) (old new : List AckerSeat) : Type 0 where
+  pub sides : map acker_side new
+      ≡ slice_set (map acker_side old) n
+      (gets_message m (slice_index_or (map acker_side old) n no_acker))
+  pub buckets : map buckets_in new ≡ map buckets_in old
+
+-- the acker of a seat handed this over, or rotated and met a message
+pub record AnswersAt (buckets tick n : ℕ) (verdict : Option Verdict) (old new : List AckerSeat)
+    : Type 0 where
+  pub sides : map acker_side new
+      ≡ slice_set (map acker_side old) n
+      (answered buckets tick (slice_index_or (map acker_side old) n no_acker)).side
+  pub sent : verdict
+      ≡ (answered buckets tick (slice_index_or (map acker_side old) n no_acker)).verdict
+  pub buckets : map buckets_in new ≡ map buckets_in old
 
 -- ---- tasks
 

@@ -1,6 +1,7 @@
-ghost use Rattle.std.specs.Prelude.{◌≡◌, ◌≤◌, ◌-◌, [], ◌∷◌, None, IfOk, OnOk};
-ghost use Rattle.event_engine.specs.Seats.{acker_side, buckets_in};
-ghost use Rattle.event_worlds.specs.Worlds.{aged, answered, counted_up, gets_message, meets, no_acker};
+ghost use Rattle.std.specs.Prelude.{◌≡◌, ◌≤◌, ◌<◌, None, length, IfOk, OnOk};
+ghost use Rattle.std.specs.List.{AllByRecursion};
+ghost use Rattle.event_engine.specs.Seats.{AnswersAt, HasBuckets, PutsMessage, acker_side, buckets_in};
+ghost use Rattle.event_worlds.specs.Worlds.{answered, counted_up, gets_message, meets, no_acker};
 
 use acker_core::{Acker, Verdict};
 use std::alloc::Global;
@@ -94,4 +95,30 @@ impl AckerSeat {
             None => Ok(()),
         }
     }
+}
+
+/// Puts a message at the back of an acker's box.
+pub fn put_message(ackers: &mut Vec<AckerSeat>, n: usize, message: AckMsg) -> Result<(), Memory>
+    requires { n < length ackers.old.items }
+    ensures { OnOk result (PutsMessage message n ackers.old.items ackers.new.items) }
+{
+    ackers[n].put(message)?;
+    Ok(())
+}
+
+/// An acker hands over its verdict, or else rotates and meets its front message.
+pub fn answer_at(
+    ackers: &mut Vec<AckerSeat>,
+    n: u32,
+    buckets: u32,
+    tick: u64,
+) -> Result<Option<Verdict>, Memory>
+    requires within { n < length ackers.old.items }
+    requires own { AllByRecursion (HasBuckets buckets) ackers.old.items }
+    requires some { 1 ≤ buckets }
+    ensures { IfOk result (λ verdict. AnswersAt buckets tick n verdict
+        ackers.old.items ackers.new.items) }
+{
+    let verdict = ackers[n as usize].answer(buckets, tick)?;
+    Ok(verdict)
 }

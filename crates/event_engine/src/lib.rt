@@ -3,7 +3,7 @@
 #![tactic(auto)]
 
 mod acker;
+mod engine;
 mod task;
 
-pub use acker::AckerSeat;
-pub use task::{TaskSeat, act_at, put_tuple};
+pub use engine::Engine;
