@@ -1,6 +1,6 @@
 -- What led to a world: the account of tuples and the coordinator's own account fit it.
 -- This project's own.
-use Rattle.std.specs.Prelude.{◌≡◌, ◌≤◌, ◌<◌, ◌^◌, ℕ, ◌+◌, ◌*◌, List, [], ◌∷◌, All, length, map, sum_by}
+use Rattle.std.specs.Prelude.{◌≡◌, ◌≤◌, ◌<◌, ◌^◌, ℕ, ◌+◌, ◌*◌, List, [], ◌∷◌, All, length}
 use Rattle.std.specs.List.{AllByRecursion}
 use Rattle.acker_core.specs.Entries.{AreSilent}
 use Rattle.attempt_fates.specs.declared.fates.Attempt.{Attempt}
