@@ -1,2 +1,3 @@
 mod Rows
 pub mod Orderly
+pub mod Committed
