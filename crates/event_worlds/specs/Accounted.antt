@@ -1,6 +1,6 @@
 -- What led to a world: the account of tuples and the coordinator's own account fit it.
 -- This project's own.
-use Rattle.std.specs.Prelude.{◌≡◌, ◌≤◌, ◌<◌, ◌^◌, ℕ, ◌+◌, ◌*◌, List, All, length, map, sum_by}
+use Rattle.std.specs.Prelude.{◌≡◌, ◌≤◌, ◌<◌, ◌^◌, ℕ, ◌+◌, ◌-◌, ◌*◌, List, [], ◌∷◌, All, length}
 use Rattle.std.specs.List.{AllByRecursion}
 use Rattle.acker_core.specs.Entries.{AreSilent}
 use Rattle.attempt_fates.specs.declared.fates.Attempt.{Attempt}
@@ -84,8 +84,10 @@ pub record LedTo (t : Topology) (custom : Custom) (cut : Cut) (words : ℕ → �
   pub kept : IsKept t cut k.world.desk k.world.fates
   pub fits : Fits t (rows_in cut) (desk_of k.world.desk) (ends_of k.world.fates) h
   pub silent : AllByRecursion (λ (side : AckerSide). AreSilent side.entries) k.world.ackers
-  -- the ticks that the coordinator has not counted yet
+  -- the coordinator counted no ticks but those that were handed out, and counts no more of them
   pub ticks : k.world.desk.tick ≤ k.world.tick
+  pub unheard : ended (k.world.desk.tick + k.world.unheard) ≤ k.world.tick
+  pub last : k.world.tick ≤ 2 ^ 64 - 1
 
 -- some history led to it
 abbrev pub Accounted : Topology → Custom → Cut → (ℕ → ℕ → ℕ) → Known → Type 0
