@@ -1,5 +1,5 @@
 -- An acker's step.
-use Rattle.std.proofs.Common.{◌≡◌, ◌<◌, ◌≤◌, ℕ, zero, suc, ◌+◌, ◌-◌, Bool, true, false, cond, List, [], ◌∷◌, ◌++◌, length, get_or, set, Option, None, Some, refl, sym, ap, subst, ◌∙◌, arith}
+use Rattle.std.proofs.Common.{◌≡◌, ◌<◌, ◌≤◌, ℕ, zero, suc, ◌+◌, ◌-◌, nat_lt, ltb-true, ltb-false, Bool, true, false, cond, List, [], ◌∷◌, ◌++◌, length, get_or, set, Option, None, Some, refl, sym, ap, subst, ◌∙◌, arith}
 use Rattle.std.specs.List.{AllByRecursion}
 use Rattle.std.specs.Option.{option_to_list}
 use Rattle.std.proofs.lemmas.List.{append-nil, get_or_past, set_past}
@@ -171,3 +171,29 @@ module _ (t : Topology) (custom : Custom) (cut : Cut) (words : ℕ → ℕ → �
 
     led-acker_there : LedTo t custom cut words (joined h (acker_adds n t.buckets w.tick side)) (record { world = acker_step t n w; counts = c })
     led-acker_there = by_outbox side.outbox refl
+
+  -- no acker beyond has a step
+  module _ (beyond : length w.ackers ≤ n) where
+    nobody : side ≡ no_acker
+    nobody = get_or_past w.ackers n no_acker beyond
+
+    still : acker_step t n w ≡ w
+    still =
+        ap (λ (x : AckerSide). after (answered t.buckets w.tick x)) nobody
+        ∙ (λ i. record w { ackers = set_past w.ackers n (counted_up t.buckets w.tick no_acker) beyond i; verdicts = append-nil w.verdicts i })
+
+    adds_nothing : acker_adds n t.buckets w.tick side ≡ nothing
+    adds_nothing = ap (acker_adds n t.buckets w.tick) nobody ∙ ap (λ (gone : List (Root × List AckMsg)). record nothing { dropped = gone }) (lost-none t.buckets (w.tick - 0))
+
+    led-acker_beyond : LedTo t custom cut words (joined h (acker_adds n t.buckets w.tick side)) (record { world = acker_step t n w; counts = c })
+    led-acker_beyond =
+        subst (λ (x : World). LedTo t custom cut words (joined h (acker_adds n t.buckets w.tick side)) (record { world = x; counts = c })) (sym still)
+        (subst (λ (k : History). LedTo t custom cut words k (record { world = w; counts = c })) (sym (ap (joined h) adds_nothing ∙ joined-nothing h)) led)
+
+  -- an acker has its step
+  pub led-acker : LedTo t custom cut words (joined h (acker_adds n t.buckets w.tick side)) (record { world = acker_step t n w; counts = c })
+  led-acker = cases (nat_lt n (length w.ackers)) refl
+    where
+      cases : (b : Bool) → nat_lt n (length w.ackers) ≡ b → LedTo t custom cut words (joined h (acker_adds n t.buckets w.tick side)) (record { world = acker_step t n w; counts = c })
+      cases true is = led-acker_there (ltb-true n (length w.ackers) is)
+      cases false is = led-acker_beyond (ltb-false n (length w.ackers) is)

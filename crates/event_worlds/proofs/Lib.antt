@@ -4,3 +4,6 @@ pub mod Waiting
 pub mod Leading
 pub mod Tasking
 pub mod Acking
+pub mod Placing
+pub mod Ticking
+pub mod Turning
