@@ -7,3 +7,4 @@ pub mod Acking
 pub mod Placing
 pub mod Ticking
 pub mod Turning
+pub mod Starting

@@ -1,11 +1,12 @@
 -- What each step adds to what happened: the pieces of work that it does, with the true places of
 -- the words that it draws. This project's own.
-use Rattle.std.specs.Prelude.{ℕ, zero, suc, ◌+◌, ◌-◌, if◌then◌else◌, List, [], ◌∷◌, ◌++◌, length, slice_get}
+use Rattle.std.specs.Prelude.{ℕ, zero, suc, ◌+◌, ◌-◌, if◌then◌else◌, List, [], ◌∷◌, ◌++◌, length, map, slice_get}
+use Rattle.std.specs.List.{range_with_len}
 use Rattle.acker_core.specs.declared.verdict.Verdict.{Verdict}
 use Rattle.bolt_ops.specs.RowOp.{Custom}
 use Rattle.commit_order.specs.Orders.{Stand}
 use Rattle.commit_turns.specs.Outcomes.{hears}
-use Rattle.event_worlds.specs.Worlds.{AckerSide, Known, Step, TaskSide, World, acker_at, aged, execution_by, is_over, next_words, of_acker, of_outcome, of_task, of_tick, of_turn, opened, task_at, task_needs, turn_needs, turned_in}
+use Rattle.event_worlds.specs.Worlds.{AckerSide, Known, Step, TaskSide, World, acker_at, aged, execution_by, first_counts, is_over, next_words, of_acker, of_outcome, of_task, of_tick, of_turn, opened, task_at, task_needs, turn_needs, turned_in}
 use Rattle.rotating_ledger.specs.Held.{Held, dropped}
 use Rattle.storm_values.specs.declared.value.Root.{Root}
 use Rattle.topology_plan.specs.Topology.{Topology, tasks_in_all}
@@ -13,7 +14,7 @@ use Rattle.tree_model.specs.declared.messages.AckMsg.{AckMsg}
 use Rattle.tree_model.specs.declared.messages.Parcel.{Parcel}
 use Rattle.tree_model.specs.declared.messages.Tuple.{Tuple}
 use Rattle.trident_batches.specs.Batches.{Cut}
-use Rattle.tuple_account.specs.Histories.{History, Opening, nothing}
+use Rattle.tuple_account.specs.Histories.{History, Opening, Start, nothing}
 use Rattle.tuple_account.specs.Parts.{executing, meeting}
 
 -- ---- a task
@@ -73,6 +74,16 @@ module _ (t : Topology) (cut : Cut) where
 
   abbrev pub turn_adds : ℕ → List ℕ → World → History
   turn_adds at ids w = turn_adds_past at ids w w.orders
+
+-- ---- at first
+
+-- each source of a task and of the coordinator gave its start words
+abbrev pub first_start : Topology → (ℕ → ℕ → ℕ) → ℕ → Start
+first_start t words n = record { source = n; at = 0; count = first_counts t words n }
+
+abbrev pub first_history : Topology → (ℕ → ℕ → ℕ) → History
+first_history t words =
+    record nothing { starts = map (first_start t words) (range_with_len 0 (tasks_in_all t + 1)) }
 
 -- ---- steps
 
