@@ -8,3 +8,5 @@ pub mod Placing
 pub mod Ticking
 pub mod Turning
 pub mod Starting
+pub mod Ending
+pub mod Led
