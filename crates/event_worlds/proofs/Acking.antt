@@ -1,5 +1,5 @@
 -- An acker's step.
-use Rattle.std.proofs.Common.{◌≡◌, ◌<◌, ◌≤◌, ℕ, zero, suc, ◌+◌, ◌-◌, nat_lt, ltb-true, ltb-false, Bool, true, false, cond, List, [], ◌∷◌, ◌++◌, length, get_or, set, Option, None, Some, refl, sym, ap, subst, ◌∙◌, arith}
+use Rattle.std.proofs.Common.{◌≡◌, ◌<◌, ◌≤◌, ℕ, zero, suc, ◌+◌, ◌-◌, nat_lt, ltb-true, ltb-false, Bool, true, false, List, [], ◌∷◌, ◌++◌, length, set, Option, None, Some, refl, sym, ap, subst, ◌∙◌, arith}
 use Rattle.std.specs.List.{AllByRecursion}
 use Rattle.std.specs.Option.{option_to_list}
 use Rattle.std.proofs.lemmas.List.{append-nil, get_or_past, set_past}
@@ -13,8 +13,8 @@ use Rattle.counted_items.proofs.Weighing.{weigh-append}
 use Rattle.event_worlds.specs.Accounted.{LedTo, station_of}
 use Rattle.event_worlds.specs.Added.{acker_adds, acker_adds_past, lost, meets_front}
 use Rattle.event_worlds.specs.Orderly.{IsOrderly}
-use Rattle.event_worlds.specs.Worlds.{AckerSide, Answered, Known, World, acker_at, acker_step, aged, answered, answered_past, counted_up, meets, no_acker}
-use Rattle.event_worlds.proofs.Leading.{fits-alike, joined-nothing, reached-alike, reached-more, starts-more}
+use Rattle.event_worlds.specs.Worlds.{AckerSide, Answered, World, acker_at, acker_step, aged, answered, answered_past, counted_up, meets, no_acker}
+use Rattle.event_worlds.proofs.Leading.{fits-alike, joined-nothing, reached-more, starts-more}
 use Rattle.event_worlds.proofs.Orderly.{orderly-acker}
 use Rattle.event_worlds.proofs.Waiting.{ackers-set, each-at, each-set, weigh-set, weigh_acker}
 use Rattle.rotating_ledger.specs.Held.{Held, dropped, rotated}
@@ -27,8 +27,8 @@ use Rattle.tree_model.specs.declared.messages.AckMsg.{AckMsg}
 use Rattle.tree_model.specs.declared.messages.Parcel.TheVariants.{ToAcker}
 use Rattle.trident_batches.specs.Batches.{Cut}
 use Rattle.tuple_account.specs.Histories.{History, Packet, Told, joined, nothing, of_parcel, of_verdict}
-use Rattle.tuple_account.specs.Moves.{HasDrawn, IsAlike, Moves, Reached}
-use Rattle.tuple_account.specs.Parts.{meeting, telling, telling_by, weigh_entries}
+use Rattle.tuple_account.specs.Moves.{Moves}
+use Rattle.tuple_account.specs.Parts.{meeting, telling_by, weigh_entries}
 use Rattle.tuple_account.proofs.Entering.{met-weight, rotated-weight, telling_told}
 use Rattle.tuple_account.specs.Places.{HasWords}
 use Rattle.tuple_account.proofs.Moving.{drawn-both}

@@ -1,5 +1,5 @@
 -- What follows for the fates, and for lists that pending attempts were settled with.
-use Rattle.std.proofs.Common.{◌≡◌, ◌≤◌, ◌<◌, ℕ, zero, suc, ◌+◌, ◌-◌, ◌*◌, ◌^◌, List, [], ◌∷◌, ◌++◌, length, map, take, drop, slice_get, Option, None, Some, refl, sym, ap, subst, ◌∙◌, arith}
+use Rattle.std.proofs.Common.{◌≡◌, ◌≤◌, ◌<◌, ℕ, zero, suc, ◌+◌, ◌-◌, ◌*◌, ◌^◌, List, [], ◌∷◌, ◌++◌, length, map, take, drop, slice_get, Option, Some, refl, sym, ap, subst, ◌∙◌, arith}
 use Rattle.std.specs.Prelude.{slice_range}
 use Rattle.std.specs.List.{AllByRecursion}
 use Rattle.std.proofs.lemmas.List.{length-map}
@@ -9,7 +9,7 @@ use Rattle.commit_turns.specs.declared.wait.Wait.{Wait}
 use Rattle.commit_turns.specs.Account.{desk_of, ended_of, ends_of, rows_in, waits_of}
 use Rattle.counted_items.proofs.Each.{each-back, each-map, each-parts, each-weaker}
 use Rattle.counted_items.proofs.Equality.{each-within}
-use Rattle.event_worlds.specs.Accounted.{AreCaused, IsInput, LedTo, most_words, station_of}
+use Rattle.event_worlds.specs.Accounted.{AreCaused, IsInput, LedTo, station_of}
 use Rattle.event_worlds.specs.Worlds.{Known}
 use Rattle.storm_values.specs.declared.value.Root.{Root}
 use Rattle.storm_values.specs.declared.value.Value.{Value}

@@ -1,19 +1,17 @@
 -- What a step of the coordinator's tasks and ackers leaves as it is.
-use Rattle.std.proofs.Common.{◌≡◌, ◌≢◌, ◌<◌, ◌≤◌, ℕ, zero, suc, ◌+◌, ◌-◌, ◌^◌, ◌==◌, nat_lt, Bool, true, false, cond, List, [], ◌∷◌, ◌++◌, length, get_or, set, Option, None, Some, refl, sym, ap, subst, ◌∙◌, eqb-true, eq-eqb, true≢false, arith}
+use Rattle.std.proofs.Common.{◌≡◌, ◌<◌, ◌≤◌, ℕ, ◌+◌, ◌-◌, ◌^◌, ◌==◌, nat_lt, Bool, true, false, cond, List, [], ◌∷◌, ◌++◌, length, get_or, set, None, refl, sym, ap, subst, ◌∙◌, eqb-true, eq-eqb, true≢false, arith}
 use Rattle.std.specs.List.{AllByRecursion}
-use Rattle.std.proofs.lemmas.List.{append-nil, get_or-set_same, get_or-set_other, length-set}
+use Rattle.std.proofs.lemmas.List.{append-nil, get_or-set_same, get_or-set_other}
 use Rattle.acker_core.specs.Entries.{AreSilent}
 use Rattle.bolt_ops.specs.RowOp.{Custom}
 use Rattle.commit_turns.specs.Account.{desk_of, ends_of, rows_in}
 use Rattle.commit_turns.specs.Kept.{IsKept}
 use Rattle.counted_items.specs.Weights.{weigh, Within}
 use Rattle.counted_items.proofs.Weighing.{weigh-append}
-use Rattle.event_worlds.specs.Accounted.{IsCounted, LedTo, station_of, weigh_ackers, weigh_tasks}
+use Rattle.event_worlds.specs.Accounted.{IsCounted, LedTo, station_of}
 use Rattle.event_worlds.specs.Orderly.{FitsParcel, IsOrderly}
-use Rattle.event_worlds.specs.Worlds.{AckerSide, Known, TaskSide, World, acker_at, delivered, drew, ended, gets_message, gets_tuple, no_acker, no_task, task_at, with_acker, with_task}
-use Rattle.event_worlds.proofs.Orderly.{orderly-delivered}
-use Rattle.event_worlds.proofs.Waiting.{ackers-set, drew-here, drew-none, drew-other, each-at, each-set, tasks-set, weigh-set}
-use Rattle.storm_values.specs.declared.value.Root.{Root}
+use Rattle.event_worlds.specs.Worlds.{AckerSide, Known, TaskSide, World, acker_at, delivered, drew, ended, gets_message, gets_tuple, no_acker, no_task, task_at, with_task}
+use Rattle.event_worlds.proofs.Waiting.{ackers-set, each-at, each-set, tasks-set, weigh-set}
 use Rattle.storm_values.specs.declared.value.Value.{Value}
 use Rattle.topology_plan.specs.Topology.{Topology, tasks_in_all}
 use Rattle.tree_model.specs.declared.messages.AckMsg.{AckMsg}
@@ -23,14 +21,14 @@ use Rattle.tree_model.specs.declared.messages.Tuple.{Tuple}
 use Rattle.trident_batches.specs.Batches.{Cut}
 use Rattle.tuple_account.specs.Drawn.{started}
 use Rattle.tuple_account.specs.Ends.{Desk, Ended, Waits, verdicts_of_ends, verdicts_of_waits}
-use Rattle.tuple_account.specs.Fits.{Fits, is_tried}
-use Rattle.tuple_account.specs.Histories.{Execution, History, Opening, Packet, Start, joined, nothing, of_parcel, opens, weigh_parcels}
+use Rattle.tuple_account.specs.Fits.{Fits}
+use Rattle.tuple_account.specs.Histories.{History, Opening, Start, joined, nothing, of_parcel, opens}
 use Rattle.tuple_account.specs.Moves.{AreRows, HasDrawn, IsAlike, Moves, Reached, Station, beside, empty}
 use Rattle.tuple_account.specs.Parts.{holding, weigh_entries}
-use Rattle.tuple_account.specs.Places.{before, spans, HasWords}
+use Rattle.tuple_account.specs.Places.{before, spans}
 use Rattle.tuple_account.specs.Sound.{is_about}
-use Rattle.tuple_account.proofs.Moving.{drawn-both, moves-alike, reached-then}
-use Rattle.tuple_account.proofs.Placing.{before-false, span-is}
+use Rattle.tuple_account.proofs.Moving.{moves-alike, reached-then}
+use Rattle.tuple_account.proofs.Placing.{span-is}
 use Rattle.acker_core.specs.declared.verdict.Verdict.{Verdict}
 
 -- ---- histories

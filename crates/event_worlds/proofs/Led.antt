@@ -1,7 +1,6 @@
 -- Each step leads on, with what it adds to the history.
-use Rattle.std.proofs.Common.{◌≡◌, ◌<◌, ◌≤◌, ℕ, zero, suc, ◌+◌, ◌-◌, nat_lt, ltb-true, ltb-false, Bool, true, false, cond, true≢false, List, [], ◌∷◌, ◌++◌, length, get_or, All, slice_get, slice_index_or, Option, None, Some, refl, sym, ap, subst, ◌∙◌, arith}
+use Rattle.std.proofs.Common.{◌≡◌, ◌<◌, ◌≤◌, ℕ, ◌+◌, nat_lt, ltb-true, ltb-false, Bool, true, false, cond, true≢false, List, [], ◌∷◌, ◌++◌, length, All, slice_get, Option, None, Some, refl, sym, ap, subst, ◌∙◌, arith}
 use Rattle.std.specs.Prelude.{is_some}
-use Rattle.std.specs.List.{AllByRecursion}
 use Rattle.std.specs.Option.{option_to_list}
 use Rattle.std.proofs.lemmas.List.{get_or_past}
 use Rattle.std.proofs.lemmas.List.Elements.{recursion_from_All}
@@ -24,7 +23,7 @@ use Rattle.event_worlds.proofs.Starting.{led-first}
 use Rattle.event_worlds.proofs.Tasking.{led-task}
 use Rattle.event_worlds.proofs.Ticking.{decided-tick, turned-tick}
 use Rattle.event_worlds.proofs.Turning.{TurnsWell, led-outcome, led-tick, led-turn}
-use Rattle.event_worlds.proofs.Waiting.{drew-none}
+use Rattle.event_worlds.proofs.Waiting.{drew-none, each-at}
 use Rattle.state_parts.specs.declared.answer.CommitOutcome.{CommitOutcome}
 use Rattle.state_parts.specs.declared.answer.CommitOutcome.TheVariants.{Done}
 use Rattle.storm_values.specs.declared.value.Root.{Root}
@@ -56,11 +55,6 @@ pub record TurnLaws (t : Topology) (cut : Cut) : Type 0 where
 none_if : {X : Type 0} (o : Option X) (finished : Bool) → cond (is_some o) true finished ≡ false → o ≡ None
 none_if None finished is = refl
 none_if (Some x) finished is = absurd (true≢false is)
-
-at-or : {X : Type 0} (P : X → Type 0) (xs : List X) (i : ℕ) (d : X) → AllByRecursion P xs → P d → P (get_or xs i d)
-at-or P [] i d all none = none
-at-or P (x ∷ xs) zero d all none = all.0
-at-or P (x ∷ xs) (suc i) d all none = at-or P xs i d all.1 none
 
 module _ (t : Topology) (custom : Custom) (cut : Cut) (words : ℕ → ℕ → ℕ) (input : IsInput t cut) (laws : TurnLaws t cut) where
   some_rows : 0 < cut.size
@@ -110,7 +104,7 @@ module _ (t : Topology) (custom : Custom) (cut : Cut) (words : ℕ → ℕ → �
       step-led none of_turn = led-turn t custom cut words input h w c led (turns-well none)
       step-led none of_outcome =
           let how : CommitOutcome = next_outcome outcomes w.fates in
-          let is : IsOutcome t how = at-or (IsOutcome t) outcomes (length (outcomes_of w.fates)) Done (recursion_from_All (IsOutcome t) outcomes fine) tt in
+          let is : IsOutcome t how = each-at (IsOutcome t) outcomes (length (outcomes_of w.fates)) Done (recursion_from_All (IsOutcome t) outcomes fine) tt in
           subst (λ (k : History). LedTo t custom cut words k (record { world = outcome_step t cut how w; counts = c })) (sym (joined-nothing h))
           (led-outcome t custom cut words input h w c led how (laws.kept_outcome w.desk w.fates input.valid some_rows none led.kept how)
           (laws.fits_outcome w.desk w.fates h input.valid none led.kept led.fits how is) (decided-tick t cut how w.desk))

@@ -1,5 +1,5 @@
 -- Openings with the true places of their words.
-use Rattle.std.proofs.Common.{◌≡◌, ℕ, zero, suc, ◌+◌, ◌-◌, ◌^◌, min, List, [], ◌∷◌, ◌++◌, length, get_or, map, drop, flat_map, refl, sym, ap, subst, ◌∙◌, arith}
+use Rattle.std.proofs.Common.{◌≡◌, ℕ, ◌+◌, List, [], ◌∷◌, ◌++◌, length, get_or, map, drop, flat_map, refl, sym, ap, ◌∙◌, arith}
 use Rattle.std.specs.List.{AllByRecursion, range_with_len}
 use Rattle.std.proofs.lemmas.List.{length-append}
 use Rattle.commit_order.specs.Orders.{OpenFrom, Stand, ids_drawn, stand_after}
@@ -11,7 +11,7 @@ use Rattle.storm_values.specs.declared.value.Root.{Root}
 use Rattle.topology_plan.specs.Topology.{Topology}
 use Rattle.tree_model.specs.declared.messages.AckMsg.TheVariants as msg
 use Rattle.trident_batches.specs.Batches.{Cut}
-use Rattle.tuple_account.specs.Histories.{IsOpening, Opening, opening_parcels, opening_spans, opens, to_acker, to_tasks}
+use Rattle.tuple_account.specs.Histories.{IsOpening, Opening, opening_parcels, opening_spans, to_acker, to_tasks}
 use Rattle.tuple_account.specs.Moves.{AreRows}
 use Rattle.tuple_account.specs.Places.{HasWords, spans}
 use Rattle.tuple_account.proofs.Placing.{spans-more}

@@ -1,5 +1,5 @@
 -- The first world.
-use Rattle.std.proofs.Common.{◌≡◌, ◌≢◌, ◌<◌, ◌≤◌, ℕ, zero, suc, ◌+◌, ◌-◌, ◌^◌, ◌==◌, nat_lt, ltb-true, ltb-false, min, Bool, true, false, cond, true≢false, eqb-true, eq-eqb, List, [], ◌∷◌, ◌++◌, length, get_or, map, replicate, Option, None, Some, refl, sym, ap, subst, ◌∙◌, arith}
+use Rattle.std.proofs.Common.{◌≡◌, ◌<◌, ◌≤◌, ℕ, zero, suc, ◌+◌, ◌==◌, nat_lt, ltb-true, ltb-false, Bool, true, false, cond, eqb-true, eq-eqb, [], ◌∷◌, ◌++◌, length, map, replicate, refl, ap, ◌∙◌, arith}
 use Rattle.std.specs.List.{AllByRecursion, range_with_len}
 use Rattle.std.proofs.lemmas.List.FromFn.{get_or-map-range_with_len, map-range_with_len_more}
 use Rattle.acker_core.specs.Entries.{AreSilent}
@@ -11,7 +11,7 @@ use Rattle.counted_items.specs.Weights.{weigh}
 use Rattle.counted_items.proofs.Weighing.{weigh-push}
 use Rattle.event_worlds.specs.Accounted.{IsCounted, IsInput, LedTo, station_of, weigh_ackers, weigh_tasks}
 use Rattle.event_worlds.specs.Added.{first_history, first_start}
-use Rattle.event_worlds.specs.Worlds.{AckerSide, TaskSide, ended, first_counts, first_known, first_task, first_world, no_acker, no_task, origin_of, task_at}
+use Rattle.event_worlds.specs.Worlds.{AckerSide, TaskSide, first_counts, first_known, first_task, first_world, no_acker, no_task, origin_of, task_at}
 use Rattle.event_worlds.proofs.Leading.{fits-alike}
 use Rattle.event_worlds.proofs.Orderly.{orderly-first}
 use Rattle.output_collector.proofs.Lanes.{few_subs}
@@ -19,18 +19,14 @@ use Rattle.storm_values.specs.declared.value.Root.{Root}
 use Rattle.topology_plan.specs.declared.parts.Origin.{Origin}
 use Rattle.topology_plan.specs.declared.parts.Origin.TheVariants as origin
 use Rattle.topology_plan.specs.Topology.{Topology, component_of, subs_of, tasks_in_all}
-use Rattle.topology_plan.specs.Valid.{IsValid}
-use Rattle.topology_plan.specs.Wired.{IsWired}
 use Rattle.tree_model.specs.declared.messages.AckMsg.{AckMsg}
 use Rattle.trident_batches.specs.Batches.{Cut}
 use Rattle.tuple_account.specs.Drawn.{started}
 use Rattle.tuple_account.specs.Fits.{Fits}
-use Rattle.tuple_account.specs.Histories.{History, Packet, Start, nothing, start_spans}
-use Rattle.tuple_account.specs.Moves.{Moves, Reached, empty}
+use Rattle.tuple_account.specs.Histories.{Packet, Start, nothing, start_spans}
+use Rattle.tuple_account.specs.Moves.{Moves, empty}
 use Rattle.tuple_account.specs.Parts.{weigh_entries}
-use Rattle.tuple_account.specs.Places.{before, spans}
 use Rattle.tuple_account.specs.Stretches.{sum_below}
-use Rattle.tuple_account.proofs.Placing.{before-false}
 use Rattle.tuple_account.proofs.Sourcing.{all-sources}
 
 -- ---- sources one after another

@@ -1,35 +1,33 @@
 -- A task's step.
-use Rattle.std.proofs.Common.{◌≡◌, ◌≢◌, ◌<◌, ◌≤◌, ℕ, zero, suc, ◌+◌, ◌-◌, ◌^◌, ◌==◌, nat_lt, min, Bool, true, false, cond, List, [], ◌∷◌, ◌++◌, length, get_or, set, map, Option, None, Some, refl, sym, ap, subst, ◌∙◌, eqb-true, eq-eqb, true≢false, arith}
+use Rattle.std.proofs.Common.{◌≡◌, ◌<◌, ℕ, ◌+◌, ◌==◌, Bool, true, false, cond, List, [], ◌∷◌, ◌++◌, length, get_or, set, map, refl, sym, ap, subst, ◌∙◌, eqb-true, eq-eqb, true≢false, arith}
 use Rattle.std.specs.List.{AllByRecursion, range_with_len}
 use Rattle.std.proofs.lemmas.List.{get_or-set_same, append-nil, get_or-set_other, length-set}
 use Rattle.std.proofs.lemmas.List.FromFn.{length-map-range_with_len}
 use Rattle.bolt_ops.specs.RowOp.{Custom, IsCustom}
-use Rattle.bolt_task.specs.Executing.{rows_of}
 use Rattle.commit_order.specs.Orders.{Stand}
 use Rattle.counted_items.specs.Weights.{weigh}
 use Rattle.event_worlds.specs.Accounted.{IsCounted, IsInput, LedTo, station_of}
 use Rattle.event_worlds.specs.Added.{executes, task_adds, task_adds_past}
 use Rattle.event_worlds.specs.Orderly.{FitsParcel, IsForTask, IsOrderly, IsStandOf, IsTaskOrderly}
-use Rattle.event_worlds.specs.Worlds.{Known, TaskSide, World, acted_past, drew, ended, executed, execution_by, needed_by, needed_past, next_words, no_task, sent, task_at, task_needs, task_step, tuples_made, with_task}
-use Rattle.event_worlds.proofs.Leading.{LedWith, counted-same, counted-set, draw-more, fits-alike, joined-nothing, led-delivered, reached-alike, reached-more, starts-more}
-use Rattle.event_worlds.proofs.Orderly.{executed-well, orderly-task, task-beyond, task-seat}
-use Rattle.event_worlds.proofs.Waiting.{drew-here, drew-none, drew-other, tasks-set, weigh_task}
-use Rattle.storm_values.specs.declared.value.Value.{Value}
+use Rattle.event_worlds.specs.Worlds.{TaskSide, World, acted_past, drew, ended, executed, execution_by, needed_by, needed_past, next_words, no_task, sent, task_at, task_needs, task_step, tuples_made, with_task}
+use Rattle.event_worlds.proofs.Leading.{counted-same, counted-set, draw-more, fits-alike, joined-nothing, led-delivered, reached-alike, reached-more, starts-more}
+use Rattle.event_worlds.proofs.Orderly.{executed-well, orderly-task, task-seat}
+use Rattle.event_worlds.proofs.Waiting.{drew-none, drew-other, tasks-set}
 use Rattle.topology_plan.specs.declared.parts.Origin.TheVariants as origin
 use Rattle.topology_plan.specs.Topology.{Topology, component_of, tasks_in_all}
 use Rattle.tree_model.specs.declared.messages.AckMsg.{AckMsg}
 use Rattle.tree_model.specs.declared.messages.AckMsg.TheVariants as msg
 use Rattle.tree_model.specs.declared.messages.Parcel.{Parcel}
-use Rattle.tree_model.specs.declared.messages.Parcel.TheVariants.{ToTask, ToAcker}
+use Rattle.tree_model.specs.declared.messages.Parcel.TheVariants.{ToTask}
 use Rattle.tree_model.specs.declared.messages.Tuple.{Tuple}
 use Rattle.tree_model.specs.Trees.{write_of}
 use Rattle.trident_batches.specs.Batches.{Cut}
-use Rattle.tuple_account.specs.Histories.{Execution, History, Packet, execution_parcels, joined, nothing, of_parcel, of_verdict, to_acker, to_tasks, weigh_parcels}
-use Rattle.tuple_account.specs.Moves.{HasDrawn, IsAlike, Moves, Reached, beside}
+use Rattle.tuple_account.specs.Histories.{Execution, History, execution_parcels, joined, of_parcel, to_acker, to_tasks, weigh_parcels}
+use Rattle.tuple_account.specs.Moves.{Moves, beside}
 use Rattle.tuple_account.specs.Parts.{executing, holding}
 use Rattle.tuple_account.specs.Places.{before, spans}
 use Rattle.tuple_account.proofs.Moving.{drawn-both}
-use Rattle.tuple_runs.specs.Issued.{Run, children_of, course_of_run, edges_of, node_of, notes_by, notes_of}
+use Rattle.tuple_runs.specs.Issued.{Run, children_of, course_of_run, edges_of, node_of, notes_by}
 use Rattle.tuple_tickets.specs.Trees.{Course, fails, goes, mute}
 use Rattle.std.specs.Option.{option_to_list}
 

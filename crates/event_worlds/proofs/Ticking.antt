@@ -1,18 +1,17 @@
 -- The ticks that the coordinator counts.
-use Rattle.std.proofs.Common.{◌≡◌, ◌≤◌, ℕ, zero, suc, ◌+◌, ◌-◌, ◌^◌, ◌==◌, min, Bool, true, false, cond, Option, None, Some, List, [], ◌∷◌, ◌++◌, refl, sym, ap, ◌∙◌, eq-eqb, true≢false, arith}
+use Rattle.std.proofs.Common.{◌≡◌, ◌≤◌, ℕ, zero, suc, ◌+◌, ◌-◌, ◌^◌, ◌==◌, Bool, true, false, cond, Option, None, Some, ◌++◌, refl, sym, ◌∙◌, eq-eqb, true≢false, arith}
 use Rattle.std.specs.Prelude.{is_some}
 use Rattle.acker_core.specs.declared.verdict.Verdict.{Verdict}
 use Rattle.acker_core.specs.declared.verdict.Verdict.TheVariants.{Complete, Fails}
 use Rattle.attempt_fates.specs.declared.fates.End.TheVariants as end
 use Rattle.commit_turns.specs.declared.wait.Wait.{Wait}
-use Rattle.commit_turns.specs.Desks.{Desk, Progress, still, timed_of}
+use Rattle.commit_turns.specs.Desks.{Desk, still, timed_of}
 use Rattle.commit_turns.specs.Turns.{begun, complete_timed, decided, decided_by, end_timed, fill_more, filled, has_no_tick, heard, is_closed, last_tick, next_root, next_to_commit, one_tick, ordered, passed, ticked, turned, turned_by}
 use Rattle.event_worlds.specs.Worlds.{ended}
 use Rattle.state_parts.specs.declared.answer.CommitOutcome.{CommitOutcome}
 use Rattle.state_parts.specs.declared.answer.CommitOutcome.TheVariants.{Done, Failed}
 use Rattle.storm_values.specs.declared.value.Root.{Root}
 use Rattle.topology_plan.specs.Topology.{Topology}
-use Rattle.tree_model.specs.declared.messages.AckMsg.{AckMsg}
 use Rattle.trident_batches.specs.Batches.{Cut}
 
 not_last : (o tick : Bool) → cond o true tick ≡ false → tick ≡ false

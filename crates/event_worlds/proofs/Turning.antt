@@ -1,5 +1,5 @@
 -- The coordinator's steps, and a tick.
-use Rattle.std.proofs.Common.{◌≡◌, ◌≢◌, ◌<◌, ◌≤◌, ℕ, zero, suc, ◌+◌, ◌-◌, ◌^◌, min, Bool, true, false, cond, List, [], ◌∷◌, ◌++◌, length, map, sum, flat_map, slice_get, drop, Option, None, Some, refl, sym, ap, subst, ◌∙◌, arith}
+use Rattle.std.proofs.Common.{◌≡◌, ◌≤◌, ℕ, ◌+◌, Bool, true, false, cond, List, [], ◌∷◌, ◌++◌, length, map, sum, slice_get, drop, Option, refl, sym, ap, subst, ◌∙◌, arith}
 use Rattle.std.specs.List.{AllByRecursion, range_with_len}
 use Rattle.std.specs.Option.{option_to_list}
 use Rattle.std.proofs.lemmas.List.{append-nil}
@@ -9,7 +9,7 @@ use Rattle.attempt_fates.specs.declared.fates.Attempt.{Attempt}
 use Rattle.bolt_ops.specs.RowOp.{Custom}
 use Rattle.commit_order.specs.Orders.{Stand, ids_drawn}
 use Rattle.commit_turns.specs.Account.{desk_of, ends_of, rows_in}
-use Rattle.commit_turns.specs.Desks.{Desk, Progress}
+use Rattle.commit_turns.specs.Desks.{Progress}
 use Rattle.commit_turns.specs.Kept.{IsKept}
 use Rattle.commit_turns.specs.Outcomes.{Begin, hears}
 use Rattle.commit_turns.specs.Turns.{Turned, decided}
@@ -30,8 +30,8 @@ use Rattle.topology_plan.specs.Topology.{Topology, tasks_in_all}
 use Rattle.tree_model.specs.declared.messages.Parcel.{Parcel}
 use Rattle.trident_batches.specs.Batches.{Cut}
 use Rattle.tuple_account.specs.Fits.{Fits}
-use Rattle.tuple_account.specs.Histories.{History, IsOpening, Opening, Packet, joined, nothing, of_parcel, of_verdict, opening_parcels, opens, weigh_parcels}
-use Rattle.tuple_account.specs.Moves.{Moves, Reached, beside}
+use Rattle.tuple_account.specs.Histories.{History, IsOpening, Opening, joined, of_parcel, of_verdict, opening_parcels, opens, weigh_parcels}
+use Rattle.tuple_account.specs.Moves.{Moves, beside}
 use Rattle.tuple_account.specs.Parts.{holding}
 use Rattle.tuple_account.specs.Places.{HasWords, before, spans}
 use Rattle.tuple_account.specs.Sound.{is_about}

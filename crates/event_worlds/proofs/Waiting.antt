@@ -1,21 +1,15 @@
 -- What waits in changed boxes and outboxes.
-use Rattle.std.proofs.Common.{◌≡◌, ◌≢◌, ◌<◌, ℕ, zero, suc, ◌+◌, ◌-◌, ◌^◌, ◌==◌, Bool, true, false, cond, List, [], ◌∷◌, ◌++◌, length, get_or, set, map, slice_get, slice_set, slice_index_or, drop, Option, None, Some, refl, sym, ap, ◌∙◌, eqb-true, eq-eqb, true≢false, arith}
+use Rattle.std.proofs.Common.{◌≡◌, ◌≢◌, ◌<◌, ℕ, zero, suc, ◌+◌, ◌==◌, Bool, true, false, cond, List, [], ◌∷◌, length, get_or, set, slice_get, drop, refl, ap, eqb-true, eq-eqb, arith}
 use Rattle.std.specs.List.{AllByRecursion}
 use Rattle.std.specs.Option.{option_to_list}
 use Rattle.acker_core.specs.declared.verdict.Verdict.{Verdict}
 use Rattle.counted_items.specs.Weights.{weigh}
-use Rattle.counted_items.proofs.Weighing.{weigh-append}
-use Rattle.event_worlds.specs.Accounted.{station_of, weigh_ackers, weigh_tasks}
-use Rattle.event_worlds.specs.Orderly.{FitsParcel}
-use Rattle.event_worlds.specs.Worlds.{AckerSide, TaskSide, World, acker_at, delivered, drew, ended, gets_message, gets_tuple, no_acker, no_task, task_at, with_acker, with_task}
-use Rattle.storm_values.specs.declared.value.Root.{Root}
-use Rattle.topology_plan.specs.Topology.{Topology, tasks_in_all}
+use Rattle.event_worlds.specs.Accounted.{weigh_ackers, weigh_tasks}
+use Rattle.event_worlds.specs.Worlds.{AckerSide, TaskSide, drew}
 use Rattle.tree_model.specs.declared.messages.AckMsg.{AckMsg}
-use Rattle.tree_model.specs.declared.messages.Parcel.{Parcel}
 use Rattle.tree_model.specs.declared.messages.Parcel.TheVariants.{ToTask, ToAcker}
 use Rattle.tree_model.specs.declared.messages.Tuple.{Tuple}
 use Rattle.tuple_account.specs.Histories.{Packet, of_parcel, of_verdict, weigh_parcels}
-use Rattle.tuple_account.specs.Parts.{weigh_entries}
 
 -- ---- lists with a changed item
 

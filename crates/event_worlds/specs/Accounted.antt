@@ -9,15 +9,13 @@ use Rattle.commit_turns.specs.Account.{desk_of, ends_of, rows_in}
 use Rattle.commit_turns.specs.Kept.{IsKept}
 use Rattle.counted_items.specs.Weights.{weigh}
 use Rattle.event_worlds.specs.Orderly.{IsOrderly}
-use Rattle.event_worlds.specs.Worlds.{AckerSide, Known, TaskSide, World, ended, task_at}
-use Rattle.rotating_ledger.specs.Held.{Held}
+use Rattle.event_worlds.specs.Worlds.{AckerSide, Known, TaskSide, ended, task_at}
 use Rattle.storm_values.specs.declared.value.Root.{Root}
 use Rattle.storm_values.specs.Rows.{IsRow}
 use Rattle.topology_plan.specs.declared.parts.Origin.TheVariants as origin
 use Rattle.topology_plan.specs.Topology.{Topology, tasks_in_all}
 use Rattle.topology_plan.specs.Valid.{IsValid}
 use Rattle.topology_plan.specs.Wired.{IsWired, width_of}
-use Rattle.tree_model.specs.declared.messages.AckMsg.{AckMsg}
 use Rattle.tree_model.specs.declared.messages.Parcel.TheVariants.{ToTask, ToAcker}
 use Rattle.tree_model.specs.Trees.{node_count}
 use Rattle.trident_batches.specs.Batches.{Cut}

@@ -13,6 +13,7 @@ ghost use Rattle.tree_model.specs.Lists.{Covers, IsClosed};
 ghost use Rattle.trident_batches.specs.Batches.{Cut};
 ghost use Rattle.tuple_account.specs.Histories.{History, joined};
 ghost use Rattle.tuple_account.specs.Sound.{IsSound};
+
 use commit_turns::{accounts_stay_fit, desks_are_kept};
 use tree_model::nodes_of_joined_rows;
 
