@@ -17,8 +17,8 @@ ghost use Rattle.tuple_account.specs.Sound.{IsSound};
 use commit_turns::{accounts_stay_fit, desks_are_kept};
 use tree_model::nodes_of_joined_rows;
 
-/// A law: start words alone led to the first world, and each step leads on, with what it adds to the
-/// history, whatever the words of the sources and the outcomes of commits.
+/// A law: start words alone led to the first world, and each step leads on, with what it adds to
+/// the history, whatever the words of the sources and the outcomes of commits.
 pub fn steps_add_to_histories()
     ensures first { (t : Topology) (custom : Custom) (cut : Cut) (words : ℕ → ℕ → ℕ)
         → IsInput t cut
@@ -34,8 +34,8 @@ pub fn steps_add_to_histories()
     accounts_stay_fit();
 }
 
-/// A law: the accounts fit the first world, and each world that steps lead to, whatever the order of
-/// the steps, the words of the sources and the outcomes of commits.
+/// A law: the accounts fit the first world, and each world that steps lead to, whatever the order
+/// of the steps, the words of the sources and the outcomes of commits.
 pub fn worlds_are_accounted()
     ensures first { (t : Topology) (custom : Custom) (cut : Cut) (words : ℕ → ℕ → ℕ)
         → IsInput t cut → Accounted t custom cut words (first_known t words) }
