@@ -1,2 +1,4 @@
 mod AgedLemmas
 mod SeatLemmas
+pub mod GoesLemmas
+mod EngineLemmas

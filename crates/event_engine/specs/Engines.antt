@@ -81,8 +81,8 @@ module _ {I : Type 0} {g : Ghosts I} where
     pub tasks : AreSeats t 0 e.tasks.items
     pub ackers : AllByRecursion (HasBuckets t.buckets) e.ackers.items
     pub own : IsOwn e.coordinator
-    pub topology : topology_in e ≡ t
-    pub cut : cut_in e ≡ cut
+    pub of_topology : topology_in e ≡ t
+    pub of_cut : cut_in e ≡ cut
 
   -- an event may come
   pub record IsReady (t : Topology) (cut : Cut) (e : Engine I g) : Type 0 where

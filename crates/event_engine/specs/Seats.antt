@@ -17,6 +17,11 @@ use Rattle.tree_model.specs.declared.messages.AckMsg.{AckMsg}
 use Rattle.tree_model.specs.declared.messages.Parcel.{Parcel}
 use Rattle.tree_model.specs.declared.messages.Tuple.{Tuple}
 
+-- each item has a property of its number, the first that of this number
+abbrev pub AllFrom : {X : Type 0} → (ℕ → X → Type 0) → ℕ → List X → Type 0
+AllFrom P n [] = Unit {0}
+AllFrom P n (x ∷ xs) = P n x × AllFrom P (suc n) xs
+
 -- ---- ackers
 
 abbrev pub acker_side : AckerSeat → AckerSide
@@ -38,7 +43,7 @@ pub record PutsMessage (m : AckMsg) (n : ℕ) (old new : List AckerSeat) : Type 
   pub sides : map acker_side new
       ≡ slice_set (map acker_side old) n
       (gets_message m (slice_index_or (map acker_side old) n no_acker))
-  pub buckets : map buckets_in new ≡ map buckets_in old
+  pub same_buckets : map buckets_in new ≡ map buckets_in old
 
 -- the acker of a seat handed this over, or rotated and met a message
 pub record AnswersAt (buckets tick n : ℕ) (verdict : Option Verdict) (old new : List AckerSeat)
@@ -48,7 +53,7 @@ pub record AnswersAt (buckets tick n : ℕ) (verdict : Option Verdict) (old new 
       (answered buckets tick (slice_index_or (map acker_side old) n no_acker)).side
   pub sent : verdict
       ≡ (answered buckets tick (slice_index_or (map acker_side old) n no_acker)).verdict
-  pub buckets : map buckets_in new ≡ map buckets_in old
+  pub same_buckets : map buckets_in new ≡ map buckets_in old
 
 -- ---- tasks
 
@@ -72,8 +77,7 @@ module _ {I : Type 0} {g : Ghosts I} where
 
   -- the seats are those of the tasks from a number on
   abbrev pub AreSeats : Topology → ℕ → List (TaskSeat I g) → Type 0
-  AreSeats t n [] = Unit {0}
-  AreSeats t n (s ∷ seats) = IsSeatOf t n s × AreSeats t (suc n) seats
+  AreSeats t n seats = AllFrom (IsSeatOf t) n seats
 
   -- a task takes each tuple in its box
   abbrev pub Takes : TaskSeat I g → Type 0

@@ -8,7 +8,7 @@ ghost use Rattle.event_worlds.specs.Worlds.{acker_step, delivered, of_acker, of_
 ghost use Rattle.topology_plan.specs.Topology.{Topology, tasks_in_all};
 ghost use Rattle.trident_batches.specs.Batches.{Cut};
 
-use crate::acker::AckerSeat;
+use crate::acker::{AckerSeat, answer_at, put_message};
 use crate::task::{TaskSeat, act_at, put_tuple};
 use acker_core::Verdict;
 use attempt_fates::Fates;
@@ -145,8 +145,9 @@ impl<'p, I: Ids> Engine<'p, I> {
         ensures still { IsStill self.old self.new }
     {
         let buckets = self.plan.buckets();
-        if let Some(verdict) = answer_at(&mut self.ackers, n, buckets, self.tick)? {
-            self.verdicts.push_back(verdict)?;
+        match answer_at(&mut self.ackers, n, buckets, self.tick)? {
+            Some(verdict) => self.verdicts.push_back(verdict)?,
+            None => (),
         }
         Ok(())
     }
