@@ -179,6 +179,26 @@ module _ {I : Type 0} {g : Ghosts I} (tells : I → (ℕ → ℕ) → ℕ → Ty
         );
   }
 
+  -- what is given and added by two pieces, one after the other
+  pub then-more : (xs ys : List Step) (a b c : Engine I g) (first : Goes tells t custom cut xs a b) (second : Goes tells t custom cut ys b c) → (goes-then xs ys a b c first second).more ≡ first.more ++ second.more
+  unfolding goes-then
+  then-more xs ys a b c first second = refl
+
+  pub gives-both : (xs ys : List Step) (a b c : Engine I g) (first : Goes tells t custom cut xs a b) (second : Goes tells t custom cut ys b c) (words : ℕ → ℕ → ℕ) (counts : ℕ → ℕ) (outcomes : List CommitOutcome)
+      → Gives words counts (goes-then xs ys a b c first second).given → HasOutcomes outcomes c.fates
+      → Gives words counts first.given × HasOutcomes outcomes b.fates × Gives words (run t custom cut words outcomes xs (record { world = shape a; counts = counts })).counts second.given
+  unfolding goes-then
+  gives-both xs ys a b c first second words counts outcomes gives has =
+      let parts : (s : ℕ) → (map (words s) (range_with_len (counts s) (length (first.given s))) ≡ first.given s) × (map (words s) (range_with_len (counts s + length (first.given s)) (length (second.given s))) ≡ second.given s) =
+      λ s. append-split _ _ _ _ (length-map-range_with_len (words s) (counts s) (length (first.given s)))
+      (sym (words-append (words s) (counts s) (length (first.given s)) (length (second.given s))) ∙ ap (λ (n : ℕ). map (words s) (range_with_len (counts s) n)) (sym (length-append (first.given s) (second.given s))) ∙ gives s) in
+      let has_first = has-first outcomes b.fates second.more c.fates second.added has in
+      let one = first.runs words counts outcomes (λ s. (parts s).0) has_first in (
+        λ s. (parts s).0,
+        has_first,
+        λ s. ap (λ (n : ℕ). map (words s) (range_with_len n (length (second.given s)))) (one.1 s) ∙ (parts s).1,
+      )
+
   -- a step for which source n gave ids
   goes-step : (s : Step) (n : ℕ) (needs : World → ℕ) (change : List ℕ → World → World) (old new : Engine I g)
       → ((words : ℕ → ℕ → ℕ) (outcomes : List CommitOutcome) (k : Known)

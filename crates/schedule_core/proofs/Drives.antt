@@ -5,8 +5,9 @@ use Rattle.std.specs.List.{AllZip, range_with_len}
 use Rattle.attempt_fates.specs.declared.fates.Attempt.{Attempt}
 use Rattle.batch_commits.specs.Standing.{FailuresAreCounted, HasStrange, PartsStand}
 use Rattle.bolt_ops.specs.RowOp.{Custom, IsCustom}
+use Rattle.commit_order.specs.Orders.{desk_of}
 use Rattle.commit_turns.specs.Outcomes.{IsOutcome}
-use Rattle.event_engine.proofs.GoesLemmas.{goes-none, goes-over, goes-then, outcomes-append}
+use Rattle.event_engine.proofs.GoesLemmas.{gives-both, goes-none, goes-over, goes-then, then-more}
 use Rattle.event_engine.specs.declared.engine.Engine.{Engine}
 use Rattle.event_engine.specs.Engines.{Gives, Goes, HasOutcomes, IsStill, shape}
 use Rattle.event_worlds.specs.Accounted.{Accounted, IsInput}
@@ -31,3 +32,42 @@ pub record Laws {S : Type 0} (count : S → ℕ) (t : Topology) (custom : Custom
 none_added : {X : Type 0} (xs ys : List X) → xs ≡ xs ++ ys → ys ≡ []
 none_added [] ys is = sym is
 none_added {X} (x ∷ xs) ys is = none_added xs ys (let e : x ∷ xs ≡ x ∷ (xs ++ ys) = is in cc)
+
+module _ {I S : Type 0} {g : Ghosts I} (tells : I → (ℕ → ℕ) → ℕ → Type 0) (holds : S → CellMap → Type 0) (count : S → ℕ) (t : Topology) (custom : Custom) (cut : Cut) (laws : Laws count t custom cut) where
+  -- steps that leave the coordinator and the fates alone
+  pub drives-still : (steps : List Step) (old new : Engine I g) (parts : List (StatePart S)) → Goes tells t custom cut steps old new → IsStill old new → Drives tells holds count t custom cut steps old new parts parts
+  drives-still steps old new parts goes still = record {
+    goes = goes;
+    plans = refl;
+    outcomes = λ are good. subst (λ (fs : List Attempt). All (IsOutcome t) (outcomes_of fs)) (sym still.fates) good;
+    stands = λ words counts outcomes gives has input keeps good led stand. subst (λ (n : ℕ). PartsStand holds t custom cut n parts) (ap (λ c. (desk_of c).committed) (sym still.coordinator)) stand;
+    strange = λ found. found;
+    counted = subst (λ (xs : List Attempt). FailuresAreCounted count xs parts parts) (sym (none_added old.fates goes.more (sym still.fates ∙ goes.added))) (laws.counts_none parts);
+  }
+
+  pub drives-none : (e : Engine I g) (parts : List (StatePart S)) → Drives tells holds count t custom cut [] e e parts parts
+  drives-none e parts = drives-still [] e e parts (goes-none tells t custom cut e) (record { coordinator = refl; fates = refl })
+
+  pub drives-over : (steps : List Step) (e : Engine I g) (parts : List (StatePart S)) → is_over t cut (shape e) ≡ true → Drives tells holds count t custom cut steps e e parts parts
+  drives-over steps e parts over = drives-still steps e e parts (goes-over tells t custom cut steps e over) (record { coordinator = refl; fates = refl })
+
+  pub drives-then : (xs ys : List Step) (a b c : Engine I g) (p q r : List (StatePart S)) → Drives tells holds count t custom cut xs a b p q → Drives tells holds count t custom cut ys b c q r → Drives tells holds count t custom cut (xs ++ ys) a c p r
+  drives-then xs ys a b c p q r first second = record {
+    goes = goes-then tells t custom cut xs ys a b c first.goes second.goes;
+    plans = second.plans ∙ first.plans;
+    outcomes = λ are good. second.outcomes (first.plans ∙ are) (first.outcomes are good);
+    stands = λ words counts outcomes gives has input keeps good led stand.
+        let both = gives-both tells t custom cut xs ys a b c first.goes second.goes words counts outcomes gives has in
+        let start : Known = record { world = shape a; counts = counts } in
+        let mid : Known = run t custom cut words outcomes xs start in
+        let led_mid : Accounted t custom cut words mid = laws.accounted words outcomes xs start input keeps good led in
+        let world_is = (first.goes.runs words counts outcomes both.0 both.1).0 in
+        let led_next = subst (λ (w : World). Accounted t custom cut words (record { world = w; counts = mid.counts })) world_is led_mid in
+        second.stands words mid.counts outcomes both.2 has input keeps good led_next
+        (first.stands words counts outcomes both.0 both.1 input keeps good led stand);
+    strange = λ found. first.strange (second.strange found);
+    counted = subst (λ (xs : List Attempt). FailuresAreCounted count xs p r) (sym (then-more tells t custom cut xs ys a b c first.goes second.goes)) (laws.counts_then first.goes.more second.goes.more p q r first.plans first.counted second.counted);
+  }
+
+  pub breaks-then : (xs : List Step) (a b c : Engine I g) (p q r : List (StatePart S)) → Drives tells holds count t custom cut xs a b p q → Breaks tells holds count t custom cut b c q r → Breaks tells holds count t custom cut a c p r
+  breaks-then xs a b c p q r first second = record { steps = xs ++ second.steps; drives = drives-then xs second.steps a b c p q r first second.drives; strange = second.strange }

@@ -6,7 +6,7 @@ use Rattle.bolt_ops.specs.RowOp.{Custom, IsCustom}
 use Rattle.commit_turns.specs.Outcomes.{IsOutcome}
 use Rattle.event_engine.specs.declared.engine.Engine.{Engine}
 use Rattle.event_engine.specs.Engines.{Gives, Goes, HasOutcomes, shape}
-use Rattle.event_worlds.specs.Accounted.{Accounted}
+use Rattle.event_worlds.specs.Accounted.{Accounted, IsInput}
 use Rattle.event_worlds.specs.Worlds.{Step, outcomes_of}
 use Rattle.state_parts.specs.declared.answer.CommitOutcome.{CommitOutcome}
 use Rattle.state_parts.specs.declared.parts.StatePart.{StatePart}
@@ -33,7 +33,7 @@ module _ {I S : Type 0} {g : Ghosts I} where
     -- parts that stand at what was committed stand at what is committed
     pub stands : (words : ℕ → ℕ → ℕ) (counts : ℕ → ℕ) (outcomes : List CommitOutcome)
         → Gives words counts goes.given → HasOutcomes outcomes new.fates
-        → IsCustom custom → All (IsOutcome t) outcomes
+        → IsInput t cut → IsCustom custom → All (IsOutcome t) outcomes
         → Accounted t custom cut words (record { world = shape old; counts = counts })
         → PartsStand holds t custom cut (committed_by old) was
         → PartsStand holds t custom cut (committed_by new) is
