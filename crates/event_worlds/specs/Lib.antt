@@ -2,3 +2,4 @@ pub mod Worlds
 pub mod Orderly
 pub mod Accounted
 pub mod Added
+pub mod Rounds

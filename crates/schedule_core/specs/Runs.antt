@@ -18,7 +18,7 @@ use Rattle.state_parts.specs.Standing.{IsEmpty}
 use Rattle.storm_stores.specs.CellMaps.{CellMap}
 use Rattle.topology_plan.specs.Topology.{Topology}
 use Rattle.trident_batches.specs.Batches.{Cut}
-use Rattle.world_progress.specs.Rounds.{ticks_in}
+use Rattle.event_worlds.specs.Rounds.{ticks_in}
 
 -- how many batches the fates say were committed
 abbrev pub committed_count : List Attempt → ℕ
