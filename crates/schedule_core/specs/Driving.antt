@@ -16,11 +16,11 @@ use Rattle.storm_stores.specs.CellMaps.{CellMap}
 use Rattle.topology_plan.specs.Topology.{Topology}
 use Rattle.trident_batches.specs.Batches.{Cut}
 
-module _ {I S : Type 0} {g : Ghosts I} where
-  -- how many batches an engine has committed
-  abbrev pub committed_by : Engine I g → ℕ
-  committed_by e = (shape e).desk.committed
+-- how many batches an engine has committed
+abbrev pub committed_by : {I : Type 0} {g : Ghosts I} → Engine I g → ℕ
+committed_by e = (shape e).desk.committed
 
+module _ {I S : Type 0} {g : Ghosts I} where
   -- An engine goes through these steps, and its commits through the parts.
   pub record Drives (tells : I → (ℕ → ℕ) → ℕ → Type 0) (holds : S → CellMap → Type 0)
       (count : S → ℕ) (t : Topology) (custom : Custom) (cut : Cut) (steps : List Step)
