@@ -1,2 +1,4 @@
+mod Counting
 mod Moving
+mod Numbers
 mod Strange

@@ -8,6 +8,9 @@ use Rattle.attempt_fates.specs.declared.fates.End.TheVariants as end
 use Rattle.bolt_ops.specs.RowOp.{Custom}
 use Rattle.commit_turns.specs.Account.{rows_in}
 use Rattle.state_cells.specs.Turns.{IsBad}
+use Rattle.state_parts.specs.Commits.{IsFailedPart}
+use Rattle.state_parts.specs.declared.answer.CommitOutcome.{CommitOutcome}
+use Rattle.state_parts.specs.declared.answer.CommitOutcome.TheVariants.{Failed}
 use Rattle.state_parts.specs.declared.parts.StatePart.{StatePart}
 use Rattle.state_parts.specs.Standing.{AllAreAt, AllStand}
 use Rattle.storm_outside.specs.Counts.{Rose}
@@ -88,3 +91,10 @@ FailuresAreCounted count fates old new =
     RunsUp (count was.over.store) (failures_at was.component was.part fates)
     (count is.over.store))
     old new
+
+-- where an outcome tells that a part's store failed, that part's count rose as it tells
+abbrev pub TellsFailedPart : {S : Type 0} → (S → ℕ) → List (StatePart S) → List (StatePart S)
+    → CommitOutcome → Type 0
+TellsFailedPart count old new how =
+    (component part before after : ℕ) → how ≡ Failed component part before after
+    → IsFailedPart count old new component part before after

@@ -1,16 +1,22 @@
-ghost use Rattle.std.specs.Prelude.{◌≡◌, ◌<◌, ◌+◌, ℕ, List, All};
+ghost use Rattle.std.specs.Prelude.{◌≡◌, ◌<◌, ◌+◌, ℕ, List, [], ◌∷◌, All, Option};
 ghost use Rattle.std.specs.List.{AllZip};
-ghost use Rattle.batch_commits.specs.Standing.{HasStrange, HasTextKey, PartsStand, batches_in, writes_at};
+ghost use Rattle.attempt_fates.specs.declared.fates.Attempt.{Attempt};
+ghost use Rattle.batch_commits.specs.Standing.{FailuresAreCounted, HasStrange, HasTextKey, PartsStand, TellsFailedPart, batches_in, writes_at};
 ghost use Rattle.bolt_ops.specs.RowOp.{Custom};
-ghost use Rattle.state_parts.specs.Commits.{AreCommitted, ArePerhapsCommitted, IsBadAt};
+ghost use Rattle.commit_turns.specs.Desks.{Desk};
+ghost use Rattle.commit_turns.specs.Outcomes.{IsOutcome};
+ghost use Rattle.commit_turns.specs.Turns.{decided, end_by};
+ghost use Rattle.state_parts.specs.Commits.{AreCommitted, ArePerhapsCommitted, IsBadAt, NoCountFell};
 ghost use Rattle.state_parts.specs.PartPlans.{AreParts};
 ghost use Rattle.state_parts.specs.PartTables.{IsBadRowAt, IsTableOver};
 ghost use Rattle.state_parts.specs.Standing.{IsEmpty};
+ghost use Rattle.state_parts.specs.declared.answer.CommitOutcome.{CommitOutcome};
 ghost use Rattle.state_parts.specs.declared.parts.StatePart.{StatePart};
 ghost use Rattle.topology_plan.specs.Topology.{Topology};
 ghost use Rattle.topology_plan.specs.Wired.{IsWired};
 ghost use Rattle.tree_model.specs.Tables.{AreTables, states_of};
 ghost use Rattle.tree_model.specs.Trees.{writes};
+ghost use Rattle.tree_model.specs.declared.messages.AckMsg.{AckMsg};
 ghost use Rattle.tree_model.specs.declared.write.Table.{Table};
 ghost use Rattle.tree_model.specs.declared.write.Write.{Write};
 ghost use Rattle.trident_batches.specs.Batches.{Cut};
@@ -69,4 +75,21 @@ pub fn strange_cells_were_there<C: CellStore>()
         → IsBadAt C.tells parts key → HasStrange C.tells parts }
     ensures bad_row { (parts : List (StatePart C)) (key : List ℕ)
         → IsBadRowAt C.tells parts key → HasStrange C.tells parts }
+{}
+
+/// A law: of each part the failure that a commit's outcome tells lies between its store's counts
+/// before the commit and after it; and a part at which a commit fails is one of a state.
+pub fn failures_of_commits_are_counted<C: CellStore>()
+    ensures counted { (t : Topology) (cut : Cut) (ended : Attempt) (how : CommitOutcome)
+        (list : Option (List AckMsg)) (old new : List (StatePart C))
+        → AreParts t old → NoCountFell C.fault_count old new
+        → TellsFailedPart C.fault_count old new how → ended.end ≡ end_by t cut how list
+        → FailuresAreCounted C.fault_count (ended ∷ []) old new }
+    ensures decided { (t : Topology) (cut : Cut) (d : Desk) (how : CommitOutcome)
+        (old new : List (StatePart C))
+        → AreParts t old → NoCountFell C.fault_count old new
+        → TellsFailedPart C.fault_count old new how
+        → FailuresAreCounted C.fault_count (decided t cut how d).ended old new }
+    ensures outcome { (t : Topology) (how : CommitOutcome) (old new : List (StatePart C))
+        → AreParts t old → TellsFailedPart C.fault_count old new how → IsOutcome t how }
 {}
