@@ -38,7 +38,7 @@ runs_one low high before after told one from rose to =
     subst (λ (fs : List (ℕ × ℕ)). RunsUp low fs high) (sym one) whole
 
 -- what the end of one attempt tells of a part
-tells_own : (c p before after component part : ℕ) → c ≡ component → p ≡ part → failure_at component part (end.CommitFailed c p before after) ≡ (before, after) ∷ []
+pub tells_own : (c p before after component part : ℕ) → c ≡ component → p ≡ part → failure_at component part (end.CommitFailed c p before after) ≡ (before, after) ∷ []
 tells_own c p before after component part one two =
     let a = eq-eqb c component one in
     let b = eq-eqb p part two in

@@ -1,4 +1,5 @@
 mod Counting
 mod Moving
 mod Numbers
+mod Running
 mod Strange

@@ -1,13 +1,14 @@
-ghost use Rattle.std.specs.Prelude.{◌≡◌, ◌<◌, ◌+◌, ℕ, List, [], ◌∷◌, All, Option};
+ghost use Rattle.std.specs.Prelude.{◌≡◌, ◌<◌, ◌+◌, ℕ, List, [], ◌∷◌, ◌++◌, All, Option};
 ghost use Rattle.std.specs.List.{AllZip};
 ghost use Rattle.attempt_fates.specs.declared.fates.Attempt.{Attempt};
-ghost use Rattle.batch_commits.specs.Standing.{FailuresAreCounted, HasStrange, HasTextKey, PartsStand, TellsFailedPart, batches_in, writes_at};
+ghost use Rattle.batch_commits.specs.Standing.{FailsAtOneOf, FailuresAreCounted, HasStrange, HasTextKey, PartsStand, TellsFailedPart, batches_in, failed_commits, writes_at};
 ghost use Rattle.bolt_ops.specs.RowOp.{Custom};
 ghost use Rattle.commit_turns.specs.Desks.{Desk};
 ghost use Rattle.commit_turns.specs.Outcomes.{IsOutcome};
 ghost use Rattle.commit_turns.specs.Turns.{decided, end_by};
 ghost use Rattle.state_parts.specs.Commits.{AreCommitted, ArePerhapsCommitted, IsBadAt, NoCountFell};
-ghost use Rattle.state_parts.specs.PartPlans.{AreParts};
+ghost use Rattle.state_parts.specs.Makers.{RoseBySum, faults_of};
+ghost use Rattle.state_parts.specs.PartPlans.{AreParts, plans_of};
 ghost use Rattle.state_parts.specs.PartTables.{IsBadRowAt, IsTableOver};
 ghost use Rattle.state_parts.specs.Standing.{IsEmpty};
 ghost use Rattle.state_parts.specs.declared.answer.CommitOutcome.{CommitOutcome};
@@ -92,4 +93,21 @@ pub fn failures_of_commits_are_counted<C: CellStore>()
         → FailuresAreCounted C.fault_count (decided t cut how d).ended old new }
     ensures outcome { (t : Topology) (how : CommitOutcome) (old new : List (StatePart C))
         → AreParts t old → TellsFailedPart C.fault_count old new how → IsOutcome t how }
+{}
+
+/// A law: counts that ran up through the failures of some attempts and then of others ran up
+/// through those of all, and where no attempt ended it is enough that they did not fall. Together
+/// they rose by as many as commits failed, or have come to their end.
+pub fn counts_run_on<C: CellStore>()
+    ensures then { (xs ys : List Attempt) (a b c : List (StatePart C))
+        → plans_of b ≡ plans_of a → FailuresAreCounted C.fault_count xs a b
+        → FailuresAreCounted C.fault_count ys b c
+        → FailuresAreCounted C.fault_count (xs ++ ys) a c }
+    ensures none { (parts : List (StatePart C))
+        → FailuresAreCounted C.fault_count [] parts parts }
+    ensures quiet { (xs : List Attempt) (a b : List (StatePart C))
+        → xs ≡ [] → NoCountFell C.fault_count a b → FailuresAreCounted C.fault_count xs a b }
+    ensures sum { (xs : List Attempt) (a b : List (StatePart C))
+        → All (FailsAtOneOf (plans_of a)) xs → FailuresAreCounted C.fault_count xs a b
+        → RoseBySum (failed_commits xs) (faults_of C.fault_count a) (faults_of C.fault_count b) }
 {}
