@@ -3,14 +3,15 @@ use Rattle.std.proofs.Common.{◌≡◌, ◌≤◌, inl, inr, ⊎_elim, ℕ, zer
 use Rattle.std.proofs.lemmas.Bool.{cases_eq, eq-eqb, ne_eqb}
 use Rattle.std.proofs.lemmas.Option.{none-some, same_Some}
 use Rattle.std.specs.List.{AllZip}
+use Rattle.acker_core.specs.declared.verdict.Verdict.{Verdict}
 use Rattle.attempt_fates.specs.declared.fates.Attempt.{Attempt}
 use Rattle.attempt_fates.specs.declared.fates.End.{End}
 use Rattle.attempt_fates.specs.declared.fates.End.TheVariants as end
-use Rattle.batch_commits.specs.Standing.{FailuresAreCounted, RunsUp, TellsFailedPart, failure_at}
+use Rattle.batch_commits.specs.Standing.{FailuresAreCounted, RunsUp, TellsFailedPart, failure_at, failures_at}
 use Rattle.commit_turns.specs.declared.wait.Wait.{Wait}
 use Rattle.commit_turns.specs.Desks.{Desk, ended_at}
 use Rattle.commit_turns.specs.Outcomes.{IsOutcome}
-use Rattle.commit_turns.specs.Turns.{decided, decided_by, end_by, next_to_commit}
+use Rattle.commit_turns.specs.Turns.{decided, decided_by, end_by, next_to_commit, turned}
 use Rattle.state_parts.specs.Commits.{IsFailedPart, NoCountFell}
 use Rattle.state_parts.specs.declared.answer.CommitOutcome.{CommitOutcome}
 use Rattle.state_parts.specs.declared.answer.CommitOutcome.TheVariants.{Done, Failed}
@@ -22,6 +23,7 @@ use Rattle.tree_model.specs.declared.messages.AckMsg.{AckMsg}
 use Rattle.trident_batches.specs.Batches.{Cut}
 use Rattle.tuple_account.specs.Ends.{IsPart}
 use Rattle.batch_commits.proofs.Numbers.{one_at, planned_apart, planned_is_part}
+use Rattle.batch_commits.proofs.Turning.{none_turned}
 
 -- what is told of each part lies between its store's counts
 abbrev Counted : {S : Type 0} → (S → ℕ) → (ℕ → ℕ → List (ℕ × ℕ)) → List (StatePart S) → List (StatePart S) → Type 0
@@ -88,6 +90,9 @@ module _ {S : Type 0} (count : S → ℕ) where
         runs_none (count x.over.store) (count y.over.store) (told x.component x.part) (none x.component x.part other) up.0,
         one_told told component part before after one none rose place was is of_component of_part from to xs ys was_at is_at apart.1 up.1,
       )
+
+  pub turned_counted : (t : Topology) (cut : Cut) (d : Desk) (verdict : Option Verdict) (ticks : ℕ) (old new : List (StatePart S)) → NoCountFell count old new → FailuresAreCounted count (turned t cut verdict ticks d).ended old new
+  turned_counted t cut d verdict ticks old new up = none_told (λ c p. failures_at c p (turned t cut verdict ticks d).ended) old new (λ c p one. none_turned c p t cut verdict ticks d) up
 
   module _ (t : Topology) (old new : List (StatePart S)) (planned : AreParts t old) where
     outcome_of_part : (c p before after : ℕ) → IsFailedPart count old new c p before after → IsPart t c p × Rose before after

@@ -3,3 +3,4 @@ mod Moving
 mod Numbers
 mod Running
 mod Strange
+mod Turning

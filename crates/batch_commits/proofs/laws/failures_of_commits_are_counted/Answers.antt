@@ -1,4 +1,5 @@
-use Rattle.batch_commits.proofs.Counting.{decided_counted, ended_counted, outcome_is}
+use Rattle.batch_commits.proofs.Counting.{decided_counted, ended_counted, outcome_is, turned_counted}
+use Rattle.batch_commits.proofs.Numbers.{part_stands}
 use Rattle.batch_commits.proofs.laws.failures_of_commits_are_counted.Goals as goal
 
 pub returns-clause-counted : goal.returns-clause-counted
@@ -9,3 +10,9 @@ returns-clause-decided g c = λ t cut d how old new planned up tells. decided_co
 
 pub returns-clause-outcome : goal.returns-clause-outcome
 returns-clause-outcome g c = λ t how old new planned tells. outcome_is g.C.CellStore.fault_count t old new planned how tells
+
+pub returns-clause-turn : goal.returns-clause-turn
+returns-clause-turn g c = λ t cut d verdict ticks old new up. turned_counted g.C.CellStore.fault_count t cut d verdict ticks old new up
+
+pub returns-clause-part : goal.returns-clause-part
+returns-clause-part g c = λ t parts component part planned is. part_stands t parts component part planned is
