@@ -1,2 +1,6 @@
+mod Counting
 mod Moving
+mod Numbers
+mod Running
 mod Strange
+mod Turning

@@ -1,5 +1,5 @@
 -- When all parts stand at the batches that were committed. This project's own.
-use Rattle.std.specs.Prelude.{◌≡◌, ◌≤◌, ◌⊎◌, ◌+◌, ◌==◌, ◌&&◌, if◌then◌else◌, ℕ, List, [], ◌∷◌, IsSome, Option, Some, length, slice_get}
+use Rattle.std.specs.Prelude.{◌≡◌, ◌≤◌, ◌⊎◌, ◌+◌, ◌==◌, ◌&&◌, if◌then◌else◌, ℕ, List, [], ◌∷◌, IsSome, Option, Some, filter, length, slice_get}
 use Rattle.std.specs.List.{AllZip, flat_map}
 use Rattle.std.specs.Str.{IsUtf8}
 use Rattle.attempt_fates.specs.declared.fates.Attempt.{Attempt}
@@ -7,8 +7,13 @@ use Rattle.attempt_fates.specs.declared.fates.End.{End}
 use Rattle.attempt_fates.specs.declared.fates.End.TheVariants as end
 use Rattle.bolt_ops.specs.RowOp.{Custom}
 use Rattle.commit_turns.specs.Account.{rows_in}
+use Rattle.commit_turns.specs.Kept.{is_failed_commit}
 use Rattle.state_cells.specs.Turns.{IsBad}
+use Rattle.state_parts.specs.Commits.{IsFailedPart}
+use Rattle.state_parts.specs.declared.answer.CommitOutcome.{CommitOutcome}
+use Rattle.state_parts.specs.declared.answer.CommitOutcome.TheVariants.{Failed}
 use Rattle.state_parts.specs.declared.parts.StatePart.{StatePart}
+use Rattle.state_parts.specs.PartPlans.{IsOneOf, PartPlan}
 use Rattle.state_parts.specs.Standing.{AllAreAt, AllStand}
 use Rattle.storm_outside.specs.Counts.{Rose}
 use Rattle.storm_stores.specs.CellMaps.{CellMap, cell_at}
@@ -88,3 +93,20 @@ FailuresAreCounted count fates old new =
     RunsUp (count was.over.store) (failures_at was.component was.part fates)
     (count is.over.store))
     old new
+
+-- where the commit of an attempt failed, it failed at one of these parts
+abbrev pub FailsAtOneOf : List PartPlan → Attempt → Type 0
+FailsAtOneOf plans a =
+    (component part before after : ℕ) → a.end ≡ end.CommitFailed component part before after
+    → IsOneOf plans component part
+
+-- how many commits failed
+abbrev pub failed_commits : List Attempt → ℕ
+failed_commits fates = length (filter (λ (a : Attempt). is_failed_commit a.end) fates)
+
+-- where an outcome tells that a part's store failed, that part's count rose as it tells
+abbrev pub TellsFailedPart : {S : Type 0} → (S → ℕ) → List (StatePart S) → List (StatePart S)
+    → CommitOutcome → Type 0
+TellsFailedPart count old new how =
+    (component part before after : ℕ) → how ≡ Failed component part before after
+    → IsFailedPart count old new component part before after

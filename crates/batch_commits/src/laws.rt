@@ -1,19 +1,28 @@
-ghost use Rattle.std.specs.Prelude.{◌≡◌, ◌<◌, ◌+◌, ℕ, List, All};
+ghost use Rattle.std.specs.Prelude.{◌≡◌, ◌<◌, ◌+◌, ℕ, List, [], ◌∷◌, ◌++◌, All, Option};
 ghost use Rattle.std.specs.List.{AllZip};
-ghost use Rattle.batch_commits.specs.Standing.{HasStrange, HasTextKey, PartsStand, batches_in, writes_at};
+ghost use Rattle.acker_core.specs.declared.verdict.Verdict.{Verdict};
+ghost use Rattle.attempt_fates.specs.declared.fates.Attempt.{Attempt};
+ghost use Rattle.batch_commits.specs.Standing.{FailsAtOneOf, FailuresAreCounted, HasStrange, HasTextKey, PartsStand, TellsFailedPart, batches_in, failed_commits, writes_at};
 ghost use Rattle.bolt_ops.specs.RowOp.{Custom};
-ghost use Rattle.state_parts.specs.Commits.{AreCommitted, ArePerhapsCommitted, IsBadAt};
-ghost use Rattle.state_parts.specs.PartPlans.{AreParts};
+ghost use Rattle.commit_turns.specs.Desks.{Desk};
+ghost use Rattle.commit_turns.specs.Outcomes.{IsOutcome};
+ghost use Rattle.commit_turns.specs.Turns.{decided, end_by, turned};
+ghost use Rattle.state_parts.specs.Commits.{AreCommitted, ArePerhapsCommitted, IsBadAt, NoCountFell};
+ghost use Rattle.state_parts.specs.Makers.{RoseBySum, faults_of};
+ghost use Rattle.state_parts.specs.PartPlans.{AreParts, IsOneOf, plans_of};
 ghost use Rattle.state_parts.specs.PartTables.{IsBadRowAt, IsTableOver};
 ghost use Rattle.state_parts.specs.Standing.{IsEmpty};
+ghost use Rattle.state_parts.specs.declared.answer.CommitOutcome.{CommitOutcome};
 ghost use Rattle.state_parts.specs.declared.parts.StatePart.{StatePart};
 ghost use Rattle.topology_plan.specs.Topology.{Topology};
 ghost use Rattle.topology_plan.specs.Wired.{IsWired};
 ghost use Rattle.tree_model.specs.Tables.{AreTables, states_of};
 ghost use Rattle.tree_model.specs.Trees.{writes};
+ghost use Rattle.tree_model.specs.declared.messages.AckMsg.{AckMsg};
 ghost use Rattle.tree_model.specs.declared.write.Table.{Table};
 ghost use Rattle.tree_model.specs.declared.write.Write.{Write};
 ghost use Rattle.trident_batches.specs.Batches.{Cut};
+ghost use Rattle.tuple_account.specs.Ends.{IsPart};
 
 use state_parts::{
     commits_move_all_parts_on, parts_over_empty_stores_begin, tables_of_parts_are_tables_of_writes,
@@ -69,4 +78,45 @@ pub fn strange_cells_were_there<C: CellStore>()
         → IsBadAt C.tells parts key → HasStrange C.tells parts }
     ensures bad_row { (parts : List (StatePart C)) (key : List ℕ)
         → IsBadRowAt C.tells parts key → HasStrange C.tells parts }
+{}
+
+/// A law: of each part the failure that a commit's outcome tells lies between its store's counts
+/// before the commit and after it, and the attempts that end in a turn tell none. A part at which
+/// a commit fails is one of a state, and each of these stands among the parts.
+pub fn failures_of_commits_are_counted<C: CellStore>()
+    ensures counted { (t : Topology) (cut : Cut) (ended : Attempt) (how : CommitOutcome)
+        (list : Option (List AckMsg)) (old new : List (StatePart C))
+        → AreParts t old → NoCountFell C.fault_count old new
+        → TellsFailedPart C.fault_count old new how → ended.end ≡ end_by t cut how list
+        → FailuresAreCounted C.fault_count (ended ∷ []) old new }
+    ensures decided { (t : Topology) (cut : Cut) (d : Desk) (how : CommitOutcome)
+        (old new : List (StatePart C))
+        → AreParts t old → NoCountFell C.fault_count old new
+        → TellsFailedPart C.fault_count old new how
+        → FailuresAreCounted C.fault_count (decided t cut how d).ended old new }
+    ensures turn { (t : Topology) (cut : Cut) (d : Desk) (verdict : Option Verdict) (ticks : ℕ)
+        (old new : List (StatePart C))
+        → NoCountFell C.fault_count old new
+        → FailuresAreCounted C.fault_count (turned t cut verdict ticks d).ended old new }
+    ensures outcome { (t : Topology) (how : CommitOutcome) (old new : List (StatePart C))
+        → AreParts t old → TellsFailedPart C.fault_count old new how → IsOutcome t how }
+    ensures part { (t : Topology) (parts : List (StatePart C)) (component part : ℕ)
+        → AreParts t parts → IsPart t component part → IsOneOf (plans_of parts) component part }
+{}
+
+/// A law: counts that ran up through the failures of some attempts and then of others ran up
+/// through those of all, and where no attempt ended it is enough that they did not fall. Together
+/// they rose by as many as commits failed, or have come to their end.
+pub fn counts_run_on<C: CellStore>()
+    ensures then { (xs ys : List Attempt) (a b c : List (StatePart C))
+        → plans_of b ≡ plans_of a → FailuresAreCounted C.fault_count xs a b
+        → FailuresAreCounted C.fault_count ys b c
+        → FailuresAreCounted C.fault_count (xs ++ ys) a c }
+    ensures none { (parts : List (StatePart C))
+        → FailuresAreCounted C.fault_count [] parts parts }
+    ensures quiet { (xs : List Attempt) (a b : List (StatePart C))
+        → xs ≡ [] → NoCountFell C.fault_count a b → FailuresAreCounted C.fault_count xs a b }
+    ensures sum { (xs : List Attempt) (a b : List (StatePart C))
+        → All (FailsAtOneOf (plans_of a)) xs → FailuresAreCounted C.fault_count xs a b
+        → RoseBySum (failed_commits xs) (faults_of C.fault_count a) (faults_of C.fault_count b) }
 {}

@@ -5,5 +5,6 @@
 mod laws;
 
 pub use laws::{
-    commits_of_batches_move_parts, parts_that_stand_have_the_tables, strange_cells_were_there,
+    commits_of_batches_move_parts, counts_run_on, failures_of_commits_are_counted,
+    parts_that_stand_have_the_tables, strange_cells_were_there,
 };
