@@ -1,1 +1,3 @@
 mod Drives
+mod Quiet
+mod Coordinating

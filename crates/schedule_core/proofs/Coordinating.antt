@@ -1,0 +1,197 @@
+-- The coordinator's steps over the parts.
+use Rattle.std.proofs.Common.{◌≡◌, ◌⊎◌, ◌≤◌, ◌<◌, ℕ, zero, suc, ◌+◌, ◌==◌, ◌&&◌, Bool, true, false, cond, List, [], ◌∷◌, ◌++◌, All, length, map, find, get_or, Option, None, Some, is_some, refl, sym, ap, subst, ◌∙◌, append-nil, inl, inr, arith, true≢false}
+use Rattle.std.specs.Prelude.{slice_get}
+use Rattle.std.specs.List.{AllZip, range_with_len}
+use Rattle.std.proofs.lemmas.List.{append_cancel_left}
+use Rattle.std.proofs.lemmas.List.Elements.{All-append, All-cons, All-nil}
+use Rattle.std.proofs.lemmas.List.FromFn.{fill_by_all}
+use Rattle.std.proofs.lemmas.Option.{get_or_from_slice_get, slice_get_within}
+use Rattle.acker_core.specs.declared.verdict.Verdict.{Verdict}
+use Rattle.attempt_fates.specs.declared.fates.Attempt.{Attempt}
+use Rattle.batch_commits.specs.Standing.{FailuresAreCounted, HasStrange, HasTextKey, PartsStand, TellsFailedPart, batches_in, writes_at}
+use Rattle.bolt_ops.specs.RowOp.{Custom, IsCustom}
+use Rattle.commit_order.specs.Offices.{IsCommitOf}
+use Rattle.commit_turns.specs.Account.{rows_in}
+use Rattle.commit_turns.specs.declared.wait.Wait.{Wait}
+use Rattle.commit_turns.specs.Desks.{Desk}
+use Rattle.commit_turns.specs.Kept.{IsWaiting}
+use Rattle.commit_turns.specs.Outcomes.{IsOutcome}
+use Rattle.commit_turns.specs.Turns.{decided, next_to_commit, turned}
+use Rattle.commit_writes.proofs.Whole.{whole_writes}
+use Rattle.commit_writes.specs.Writes.{AreWritesOf}
+use Rattle.event_engine.proofs.GoesLemmas.{goes-idle, next-told, outcomes-append}
+use Rattle.event_engine.specs.declared.engine.Engine.{Engine}
+use Rattle.event_engine.specs.Engines.{Gives, Goes, HasOutcomes, shape}
+use Rattle.event_worlds.proofs.Committed.{decided-done, decided-failed}
+use Rattle.event_worlds.specs.Accounted.{Accounted, IsInput}
+use Rattle.event_worlds.specs.Worlds.{Known, Step, World, is_over, next_outcome, next_words, of_outcome, of_turn, outcome_step, outcomes_of, run, step, turn_needs, turn_step, with_progress}
+use Rattle.schedule_core.specs.Driving.{Drives, committed_by}
+use Rattle.schedule_core.proofs.Drives.{Laws, drives-still, drives-then}
+use Rattle.schedule_core.proofs.Quiet.{IsQuiet, quiet_nothing, quiet_same, quiet_turn}
+use Rattle.state_parts.specs.Commits.{AreCommitted, ArePerhapsCommitted, NoCountFell}
+use Rattle.state_parts.specs.declared.answer.Commit.{Commit}
+use Rattle.state_parts.specs.declared.answer.CommitOutcome.{CommitOutcome}
+use Rattle.state_parts.specs.declared.answer.CommitOutcome.TheVariants.{Done, Failed}
+use Rattle.state_parts.specs.declared.parts.StatePart.{StatePart}
+use Rattle.state_parts.specs.PartPlans.{AreParts, plans_of}
+use Rattle.storm_ids.specs.declared.ids.Ids.{Ghosts}
+use Rattle.storm_stores.specs.CellMaps.{CellMap}
+use Rattle.topology_plan.specs.Topology.{Topology, tasks_in_all}
+use Rattle.tree_model.specs.declared.messages.AckMsg.{AckMsg}
+use Rattle.tree_model.specs.declared.write.Write.{Write}
+use Rattle.tree_model.specs.Lists.{Covers, IsClosed}
+use Rattle.trident_batches.specs.Batches.{Cut}
+use Rattle.tuple_account.specs.Sound.{IsSound}
+
+-- ---- lists
+
+-- what is found stands at a place
+found_at : {X : Type 0} (p : X → Bool) (xs : List X) (x : X) → find p xs ≡ Some x → (i : ℕ) × (slice_get xs i ≡ Some x) × (p x ≡ true)
+found_at p [] x is = absurd (let e : None ≡ Some x = is in cc)
+found_at {X} p (y ∷ ys) x is = by (p y) refl is (found_at p ys x)
+  where
+    by : (b : Bool) → p y ≡ b → cond b (Some y) (find p ys) ≡ Some x → (find p ys ≡ Some x → (i : ℕ) × (slice_get ys i ≡ Some x) × (p x ≡ true)) → (i : ℕ) × (slice_get (y ∷ ys) i ≡ Some x) × (p x ≡ true)
+    by true here is rest = let same : y ≡ x = (let e : Some y ≡ Some x = is in cc) in (0, is, subst (λ (z : X). p z ≡ true) same here)
+    by false here is rest = let r = rest is in (suc r.0, r.1, r.2)
+
+no_fall : {S : Type 0} (count : S → ℕ) (parts : List (StatePart S)) → NoCountFell count parts parts
+no_fall count [] = tt
+no_fall count (x ∷ xs) = (omega arith, no_fall count xs)
+
+both_true : (a b : Bool) → (a && b) ≡ true → b ≡ true
+both_true true b is = is
+both_true false b is = absurd (true≢false (sym is))
+
+-- ---- worlds
+
+module _ (t : Topology) (custom : Custom) (cut : Cut) (words : ℕ → ℕ → ℕ) (outcomes : List CommitOutcome) (k : Known) where
+  turn_world : (step t custom cut words outcomes of_turn k).world ≡ turn_step t cut (next_words words k.counts (tasks_in_all t) (turn_needs t cut k.world)) k.world
+  unfolding step
+  turn_world = refl
+
+  outcome_world : (step t custom cut words outcomes of_outcome k).world ≡ outcome_step t cut (next_outcome outcomes k.world.fates) k.world
+  unfolding step
+  outcome_world = refl
+
+  turned_quietly : (b : Bool) → is_over t cut k.world ≡ b → IsQuiet t cut k.world (run t custom cut words outcomes (of_turn ∷ []) k).world
+  turned_quietly true is = quiet_nothing t cut k.world _ (ap (λ (b : Bool). (cond b k (step t custom cut words outcomes of_turn k)).world) is)
+  turned_quietly false is =
+      quiet_same t cut k.world _ _ (ap (λ (b : Bool). (cond b k (step t custom cut words outcomes of_turn k)).world) is ∙ turn_world)
+      (quiet_turn t cut (next_words words k.counts (tasks_in_all t) (turn_needs t cut k.world)) k.world)
+
+-- the laws that the coordinator's steps rest on
+pub record CommitLaws {S : Type 0} (holds : S → CellMap → Type 0) (count : S → ℕ) (t : Topology) (custom : Custom) (cut : Cut) : Type 0 where
+  pub done : (n : ℕ) (old new : List (StatePart S)) → PartsStand holds t custom cut n old → AreCommitted holds (n + 1) (writes_at t custom cut (n + 1)) old new → PartsStand holds t custom cut (n + 1) new
+  pub broken_off : (n : ℕ) (old new : List (StatePart S)) → PartsStand holds t custom cut n old → n < batches_in cut → ArePerhapsCommitted holds (n + 1) (writes_at t custom cut (n + 1)) old new → PartsStand holds t custom cut n new
+  pub strange : (txid : ℕ) (made : List Write) (old new : List (StatePart S)) → All HasTextKey made → ArePerhapsCommitted holds txid made old new → HasStrange holds new → HasStrange holds old
+  pub decided_counts : (d : Desk) (how : CommitOutcome) (old new : List (StatePart S)) → AreParts t old → NoCountFell count old new → TellsFailedPart count old new how → FailuresAreCounted count (decided t cut how d).ended old new
+  pub turn_counts : (d : Desk) (verdict : Option Verdict) (ticks : ℕ) (old new : List (StatePart S)) → NoCountFell count old new → FailuresAreCounted count (turned t cut verdict ticks d).ended old new
+  pub outcome : (how : CommitOutcome) (old new : List (StatePart S)) → AreParts t old → TellsFailedPart count old new how → IsOutcome t how
+  pub settled : (words : ℕ → ℕ → ℕ) (k : Known) → IsInput t cut → Accounted t custom cut words k → (i : ℕ) (w : Wait) (list : List AckMsg) → slice_get k.world.desk.pending i ≡ Some w → w.settled ≡ Some list
+      → IsSound t custom (rows_in cut w.root.txid) w.root list × IsClosed list × Covers t custom (rows_in cut w.root.txid) list
+
+-- what came of a commit to all parts
+pub record CommitComes {S : Type 0} (holds : S → CellMap → Type 0) (count : S → ℕ) (txid : ℕ) (made : List Write) (how : CommitOutcome) (was is : List (StatePart S)) : Type 0 where
+  pub plans : plans_of is ≡ plans_of was
+  pub done : how ≡ Done → AreCommitted holds txid made was is
+  pub kept : ArePerhapsCommitted holds txid made was is
+  pub failed : TellsFailedPart count was is how
+  pub never_falls : NoCountFell count was is
+
+module _ {S : Type 0} (holds : S → CellMap → Type 0) (count : S → ℕ) (t : Topology) (custom : Custom) (cut : Cut) where
+  -- the writes of a commit that was ordered are those of its batch
+  ordered_writes : (more : CommitLaws holds count t custom cut) (words : ℕ → ℕ → ℕ) (k : Known) (w : Wait) (commit : Commit) → IsInput t cut → Accounted t custom cut words k → next_to_commit t cut k.world.desk ≡ Some w → IsCommitOf (Some w) (Some commit)
+      → (commit.writes ≡ writes_at t custom cut w.root.txid) × (w.root.txid ≤ batches_in cut)
+  ordered_writes more words k w commit input led next is =
+      let found = found_at (λ (x : Wait). (x.root.txid == k.world.desk.committed + 1) && is_some x.settled) k.world.desk.pending w next in
+      let settled : is_some w.settled ≡ true = both_true (w.root.txid == k.world.desk.committed + 1) (is_some w.settled) found.2 in
+      let waits : IsWaiting t cut k.world.desk w = subst (IsWaiting t cut k.world.desk) (get_or_from_slice_get k.world.desk.pending found.0 w w found.1) (led.1.kept.waits found.0 w (slice_get_within k.world.desk.pending found.0 w found.1)) in
+      (by w.settled refl settled found.0 found.1, waits.there)
+    where
+      by : (o : Option (List AckMsg)) → w.settled ≡ o → is_some o ≡ true → (i : ℕ) → slice_get k.world.desk.pending i ≡ Some w → commit.writes ≡ writes_at t custom cut w.root.txid
+      by None same some i at = absurd (true≢false (sym some))
+      by (Some list) same some i at =
+          let whole = more.settled words k input led i w list at same in
+          whole_writes t custom (rows_in cut w.root.txid) w.root list commit.writes input.valid whole.0.is_true whole.0.is_single whole.2 (is.1 list same)
+
+module _ {I S : Type 0} {g : Ghosts I} (tells : I → (ℕ → ℕ) → ℕ → Type 0) (holds : S → CellMap → Type 0) (count : S → ℕ) (t : Topology) (custom : Custom) (cut : Cut) where
+  -- by some words, an engine goes as a world does
+  pub somewhere : (steps : List Step) (old new : Engine I g) → Goes tells t custom cut steps old new
+      → (words : ℕ → ℕ → ℕ) × ((run t custom cut words (outcomes_of new.fates) steps (record { world = shape old; counts = λ s. 0 })).world ≡ shape new)
+  somewhere steps old new goes =
+      let words : ℕ → ℕ → ℕ = λ s k. get_or (goes.given s) k 0 in (
+        words,
+        (goes.runs words (λ s. 0) (outcomes_of new.fates) (λ s. sym (fill_by_all (words s) (goes.given s) (length (goes.given s)) 0 refl (λ k below. refl))) (record { rest = []; first = sym (append-nil (outcomes_of new.fates)) })).0,
+      )
+
+  turn_quiet : (old mid : Engine I g) → Goes tells t custom cut (of_turn ∷ []) old mid → IsQuiet t cut (shape old) (shape mid)
+  turn_quiet old mid goes =
+      let some = somewhere (of_turn ∷ []) old mid goes in
+      let k : Known = record { world = shape old; counts = λ s. 0 } in
+      quiet_same t cut (shape old) (shape mid) _ (sym some.1) (turned_quietly t custom cut some.0 (outcomes_of mid.fates) k (is_over t cut (shape old)) refl)
+
+  -- a turn leaves the parts alone
+  pub drives-turn : (laws : Laws count t custom cut) (more : CommitLaws holds count t custom cut) (old mid : Engine I g) (parts : List (StatePart S)) → Goes tells t custom cut (of_turn ∷ []) old mid → Drives tells holds count t custom cut (of_turn ∷ []) old mid parts parts
+  drives-turn laws more old mid parts goes =
+      let q = turn_quiet old mid goes in
+      let more_is : goes.more ≡ q.more = append_cancel_left old.fates goes.more q.more (sym goes.added ∙ q.added) in
+      let told : outcomes_of mid.fates ≡ outcomes_of old.fates = ap outcomes_of q.added ∙ outcomes-append old.fates q.more ∙ ap (λ (hs : List CommitOutcome). outcomes_of old.fates ++ hs) q.quiet ∙ append-nil (outcomes_of old.fates) in
+      record {
+        goes = goes;
+        plans = refl;
+        outcomes = λ are good. subst (λ (hs : List CommitOutcome). All (IsOutcome t) hs) (sym told) good;
+        stands = λ words counts outcomes gives has input keeps good led stand. subst (λ (n : ℕ). PartsStand holds t custom cut n parts) (sym q.committed) stand;
+        strange = λ found. found;
+        counted = subst (λ (xs : List Attempt). FailuresAreCounted count xs parts parts) (sym more_is) (counts q.more q.made);
+      }
+    where
+      counts : (xs : List Attempt) → (xs ≡ []) ⊎ ((verdict : Option Verdict) × (ticks : ℕ) × (xs ≡ (turned t cut verdict ticks (shape old).desk).ended)) → FailuresAreCounted count xs parts parts
+      counts xs (inl none) = subst (λ (ys : List Attempt). FailuresAreCounted count ys parts parts) (sym none) (laws.counts_none parts)
+      counts xs (inr made) = subst (λ (ys : List Attempt). FailuresAreCounted count ys parts parts) (sym made.2) (more.turn_counts (shape old).desk made.0 made.1 parts parts (no_fall count parts))
+
+  -- what an outcome makes of an engine
+  outcome_is : (mid new : Engine I g) (how : CommitOutcome) → is_over t cut (shape mid) ≡ false → (shape mid).desk.out ≡ true → outcomes_of new.fates ≡ outcomes_of mid.fates ++ how ∷ [] → Goes tells t custom cut (of_outcome ∷ []) mid new
+      → shape new ≡ with_progress t cut (decided t cut how (shape mid).desk) (shape mid)
+  outcome_is mid new how going out told goes =
+      let some = somewhere (of_outcome ∷ []) mid new goes in
+      let k : Known = record { world = shape mid; counts = λ s. 0 } in
+      let has : HasOutcomes (outcomes_of new.fates) new.fates = record { rest = []; first = sym (append-nil (outcomes_of new.fates)) } in
+      sym some.1
+      ∙ ap (λ (b : Bool). (cond b k (step t custom cut some.0 (outcomes_of new.fates) of_outcome k)).world) going
+      ∙ outcome_world t custom cut some.0 (outcomes_of new.fates) k
+      ∙ ap (λ (h : CommitOutcome). outcome_step t cut h (shape mid)) (next-told (outcomes_of new.fates) mid.fates new.fates how told has)
+      ∙ ap (λ (b : Bool). cond b (with_progress t cut (decided t cut how (shape mid).desk) (shape mid)) (shape mid)) out
+
+  -- the outcome of a commit that was ordered
+  pub drives-outcome : (laws : Laws count t custom cut) (more : CommitLaws holds count t custom cut) (mid new : Engine I g) (was is : List (StatePart S)) (w : Wait) (commit : Commit) (how : CommitOutcome)
+      → is_over t cut (shape mid) ≡ false → (shape mid).desk.out ≡ true → next_to_commit t cut (shape mid).desk ≡ Some w → IsCommitOf (Some w) (Some commit) → commit.root.txid ≡ committed_by mid + 1
+      → All HasTextKey commit.writes → AreParts t was → CommitComes holds count commit.root.txid commit.writes how was is
+      → outcomes_of new.fates ≡ outcomes_of mid.fates ++ how ∷ [] → Goes tells t custom cut (of_outcome ∷ []) mid new → Drives tells holds count t custom cut (of_outcome ∷ []) mid new was is
+  drives-outcome laws more mid new was is w commit how going out next ordered txid texts are comes told goes =
+      let shape_is = outcome_is mid new how going out told goes in
+      let added : new.fates ≡ mid.fates ++ (decided t cut how (shape mid).desk).ended = ap (λ (x : World). x.fates) shape_is in
+      let more_is : goes.more ≡ (decided t cut how (shape mid).desk).ended = append_cancel_left mid.fates goes.more _ (sym goes.added ∙ added) in
+      let desk_is : (shape new).desk ≡ (decided t cut how (shape mid).desk).desk = ap (λ (x : World). x.desk) shape_is in
+      record {
+        goes = goes;
+        plans = comes.plans;
+        outcomes = λ planned good. subst (λ (hs : List CommitOutcome). All (IsOutcome t) hs) (sym told) (All-append (IsOutcome t) (outcomes_of mid.fates) (how ∷ []) good (All-cons (IsOutcome t) how [] (more.outcome how was is planned comes.failed) (All-nil (IsOutcome t))));
+        stands = λ words counts outcomes gives has input keeps good led stand.
+            let k : Known = record { world = shape mid; counts = counts } in
+            let made = ordered_writes holds count t custom cut more words k w commit input led next ordered in
+            let number : w.root.txid ≡ committed_by mid + 1 = sym (ap (λ r. r.txid) ordered.0) ∙ txid in
+            let writes_are : commit.writes ≡ writes_at t custom cut (committed_by mid + 1) = made.0 ∙ ap (writes_at t custom cut) number in
+            subst (λ (n : ℕ). PartsStand holds t custom cut n is) (sym (ap (λ (d : Desk). d.committed) desk_is))
+            (by how comes writes_are (let e = number in let f = made.1 in omega arith) stand);
+        strange = λ found. more.strange commit.root.txid commit.writes was is texts comes.kept found;
+        counted = subst (λ (xs : List Attempt). FailuresAreCounted count xs was is) (sym more_is) (more.decided_counts (shape mid).desk how was is are comes.never_falls comes.failed);
+      }
+    where
+      by : (h : CommitOutcome) → CommitComes holds count commit.root.txid commit.writes h was is → commit.writes ≡ writes_at t custom cut (committed_by mid + 1) → committed_by mid < batches_in cut → PartsStand holds t custom cut (committed_by mid) was
+          → PartsStand holds t custom cut (decided t cut h (shape mid).desk).desk.committed is
+      by Done came writes_are below stand =
+          subst (λ (n : ℕ). PartsStand holds t custom cut n is) (sym (decided-done t cut (shape mid).desk w next))
+          (more.done (committed_by mid) was is stand (subst (λ (ws : List Write). AreCommitted holds (committed_by mid + 1) ws was is) writes_are (subst (λ (n : ℕ). AreCommitted holds n commit.writes was is) txid (came.done refl))))
+      by (Failed component part before after) came writes_are below stand =
+          subst (λ (n : ℕ). PartsStand holds t custom cut n is) (sym (decided-failed t cut (shape mid).desk component part before after))
+          (more.broken_off (committed_by mid) was is stand below (subst (λ (ws : List Write). ArePerhapsCommitted holds (committed_by mid + 1) ws was is) writes_are (subst (λ (n : ℕ). ArePerhapsCommitted holds n commit.writes was is) txid came.kept)))
