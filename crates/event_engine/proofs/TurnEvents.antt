@@ -18,17 +18,17 @@ use Rattle.commit_turns.specs.Kept.{IsKept}
 use Rattle.commit_turns.specs.declared.wait.Wait.{Wait}
 use Rattle.commit_turns.specs.Desks.{Desk, Progress}
 use Rattle.commit_turns.specs.Turns.{Turned, decided, is_finished, last_tick, next_to_commit, turned}
-use Rattle.event_engine.specs.Engines.{Answers, DrawsAt, Goes, Happens, HasOrdered, IsIdle, IsOrder, IsReady, IsSeated, TakesTurn, cut_in, has_ended, shape, sources, topology_in}
+use Rattle.event_engine.specs.Engines.{Answers, DrawsAt, Goes, Happens, HasOrdered, IsIdle, IsOrder, IsReady, IsSeated, IsStill, IsThere, TakesTurn, cut_in, has_ended, shape, sources, topology_in}
 use Rattle.event_engine.specs.Seats.{AreSeats, HasBuckets, acker_side, source_in, task_side}
 use Rattle.event_engine.specs.declared.engine.Engine.{Engine}
 use Rattle.event_engine.specs.declared.task.TaskSeat.{TaskSeat}
-use Rattle.event_engine.proofs.EngineLemmas.{get-front}
+use Rattle.event_engine.proofs.EngineLemmas.{ready_still, seated_by}
 use Rattle.event_engine.proofs.FatesLemmas.{kept_once, short_once}
 use Rattle.event_engine.proofs.GoesLemmas.{goes-outcome}
 use Rattle.event_engine.proofs.OpenLemmas.{AreOf, openings_are}
-use Rattle.event_engine.proofs.SeatLemmas.{draws-none}
+use Rattle.event_engine.proofs.SeatLemmas.{draws-none, fits_there}
 use Rattle.event_engine.proofs.TurnLemmas.{decided_out, decided_tells, decided_tick, goes_on_by, next_follows, no_stop, over_by, stopped_begins, turned_passes}
-use Rattle.event_worlds.specs.Orderly.{IsOrderly}
+use Rattle.event_worlds.specs.Orderly.{FitsParcel, IsOrderly}
 use Rattle.event_worlds.proofs.Orderly.{orderly-outcome, orderly-turn}
 use Rattle.event_worlds.specs.Worlds.{World, delivered, is_over, of_outcome, opened, outcome_step, outcomes_of, stand_past, turn_needs, turn_needs_past, turn_past, turn_step, turned_in, with_progress, with_turn, first_needs}
 use Rattle.output_collector.specs.declared.collector.Collector.{Collector}
@@ -377,6 +377,10 @@ module _ {I : Type 0} {g : Ghosts I} (tells : I → (ℕ → ℕ) → ℕ → Ty
 
 -- ---- an outcome
 
+pub decided_few_of : {I : Type 0} {g : Ghosts I} (t : Topology) (cut : Cut) (e : Engine I g) (how : CommitOutcome) → IsReady t cut e → (decided t cut how (desk_of e.coordinator)).desk.tick ≤ last_tick
+decided_few_of t cut e how ready =
+    subst (λ (n : ℕ). n ≤ last_tick) (sym (decided_tick t cut how (next_to_commit t cut (desk_of e.coordinator)) (desk_of e.coordinator))) ready.ticks
+
 module _ {I : Type 0} {g : Ghosts I} (t : Topology) (cut : Cut) (old new : Engine I g) (how : CommitOutcome) (w : Wait) (ready : IsReady t cut old) (ordered : HasOrdered w old) where
   -- what an outcome needs to be one
   pub record Decides : Type 0 where
@@ -414,12 +418,63 @@ module _ {I : Type 0} {g : Ghosts I} (t : Topology) (cut : Cut) (old new : Engin
     decided_idle on =
         ap (λ (o : Office). o.desk.out) decides.office ∙ decided_out t cut how (next_to_commit t cut (desk_of old.coordinator)) (desk_of old.coordinator)
 
-    pub decided_few : (decided t cut how (desk_of old.coordinator)).desk.tick ≤ last_tick
-    decided_few = subst (λ (n : ℕ). n ≤ last_tick) (sym (decided_tick t cut how (next_to_commit t cut (desk_of old.coordinator)) (desk_of old.coordinator))) ready.ticks
-
     pub decided_ready : IsKept t cut (decided t cut how (desk_of old.coordinator)).desk (old.fates ++ (decided t cut how (desk_of old.coordinator)).ended) → IsReady t cut new
     decided_ready kept =
         ready_on t cut old new (decided t cut how (desk_of old.coordinator)).desk (decided t cut how (desk_of old.coordinator)).ended ready
         (seated_on t cut old new ready.seated decides.plan decides.tasks decides.ackers decides.own (ap (λ (o : Office). o.topology) decides.office) (ap (λ (o : Office). o.cut) decides.office))
         (subst (IsOrderly t) (sym decided_shape) (orderly-outcome t cut (shape old) ready.orderly how))
-        (ap (λ (o : Office). o.desk) decides.office) decides.fates kept decided_few decides.has_memory
+        (ap (λ (o : Office). o.desk) decides.office) decides.fates kept (decided_few_of t cut old how ready) decides.has_memory
+
+-- ---- what the coordinator hands over
+
+-- a list that is its own rest is empty
+pub no_rest : {X : Type 0} (xs ys : List X) → xs ≡ ys → ys ≡ drop 1 xs → xs ≡ []
+no_rest [] ys same is = refl
+no_rest {X} (x ∷ xs) ys same is = absurd (let e = ap (length {A = X}) same in let f = ap (length {A = X}) is in omega arith)
+
+module _ {I : Type 0} {g : Ghosts I} (t : Topology) (cut : Cut) (old mid : Engine I g) where
+  -- an engine that is the same world, with the same coordinator
+  pub record IsAlike : Type 0 where
+    pub shape_is : shape mid ≡ shape old
+    pub coordinator : mid.coordinator ≡ old.coordinator
+    pub plan : mid.plan ≡ old.plan
+    pub tasks : mid.tasks ≡ old.tasks
+    pub ackers : mid.ackers ≡ old.ackers
+
+  pub ready_alike : IsReady t cut old → IsAlike → IsReady t cut mid
+  ready_alike ready alike =
+      ready_still t cut old mid ready (record { coordinator = alike.coordinator; fates = ap (λ (w : World). w.fates) alike.shape_is })
+      (seated_by t cut old mid ready.seated alike.plan alike.coordinator (subst (λ ts. AreSeats t 0 ts) (λ i. (sym alike.tasks i).items) ready.seated.tasks)
+      (subst (λ ss. AllByRecursion (HasBuckets t.buckets) ss) (λ i. (sym alike.ackers i).items) ready.seated.ackers))
+      (subst (IsOrderly t) (sym alike.shape_is) ready.orderly)
+
+  pub happens_alike : (tells : I → (ℕ → ℕ) → ℕ → Type 0) (n : ℕ) (needs : World → ℕ) (change : List ℕ → World → World) (new : Engine I g) → IsAlike → Happens tells n (needs (shape mid)) change mid new → Happens tells n (needs (shape old)) change old new
+  happens_alike tells n needs change new alike done =
+      let source : sources mid ≡ sources old = λ i. map source_in (alike.tasks i).items ++ ids_in (collector_of (alike.coordinator i)) ∷ [] in record {
+        ids = done.ids;
+        enough = done.enough ∙ ap needs alike.shape_is;
+        drawn = subst (λ (ss : List I). DrawsAt tells n done.ids ss (sources new)) source done.drawn;
+        same = done.same ∙ ap (change done.ids) alike.shape_is;
+        more = done.more;
+        added = done.added ∙ ap (λ (w : World). w.fates ++ done.more) alike.shape_is;
+      }
+
+  -- no commit is out that was not
+  pub idle_still : IsIdle old → IsStill old mid → IsIdle mid
+  idle_still idle still =
+      subst (λ (c : Coordinator I). cond (is_some (desk_of c).exhausted) true (is_finished (plan_of c) (cut_of c) (desk_of c)) ≡ false → (desk_of c).out ≡ false) (sym still.coordinator) idle
+
+module _ {I : Type 0} {g : Ghosts I} (t : Topology) (cut : Cut) (old new : Engine I g) (ready : IsReady t cut old) where
+  -- the front parcel of the coordinator's outbox names what is there
+  pub order_there : (parcel : Parcel) (rest : List Parcel) → old.orders.items ≡ parcel ∷ rest → IsThere (length old.tasks.items) (length old.ackers.items) parcel
+  order_there parcel rest front =
+      fits_there t (length old.tasks.items) (length old.ackers.items) parcel (tasks_are t cut old old ready) (sym (length-map old.ackers.items acker_side) ∙ ready.orderly.acker_count)
+      (subst (AllByRecursion (FitsParcel t)) front ready.orderly.orders).0
+
+  pub ready_handed : (tells : I → (ℕ → ℕ) → ℕ → Type 0) → Happens tells (tasks_in_all t) (turn_needs t cut (shape old)) (λ ids w. turn_step t cut ids w) old new → IsStill old new → IsSeated t cut new → IsReady t cut new
+  ready_handed tells done still seated =
+      ready_still t cut old new ready still seated (subst (IsOrderly t) (sym done.same) (orderly-turn t cut (shape old) ready.input ready.orderly done.ids done.enough))
+
+-- the fates of an engine that is ready
+pub ready_once : {I : Type 0} {g : Ghosts I} (t : Topology) (cut : Cut) (e : Engine I g) → IsReady t cut e → IsOnce (length cut.records) cut.size last_tick e.fates
+ready_once t cut e ready = kept_once t cut (desk_of e.coordinator) e.fates ready.kept ready.ticks
