@@ -2,3 +2,7 @@ mod AgedLemmas
 mod SeatLemmas
 pub mod GoesLemmas
 mod EngineLemmas
+mod OpenLemmas
+mod TurnLemmas
+mod TurnEvents
+mod FatesLemmas

@@ -12,13 +12,13 @@ use Rattle.event_engine.specs.Seats.{AreSeats, HasBuckets, acker_side, source_in
 use Rattle.event_engine.specs.declared.engine.Engine.{Engine}
 use Rattle.event_worlds.specs.Accounted.{IsInput}
 use Rattle.event_worlds.specs.Orderly.{IsOrderly}
-use Rattle.event_worlds.specs.Worlds.{Step, World, is_over, outcomes_of, run}
+use Rattle.event_worlds.specs.Worlds.{Step, World, is_over, outcomes_of, run, turn_needs, turn_step}
 use Rattle.output_collector.specs.Collectors.{ids_in}
 use Rattle.output_collector.specs.Draws.{Draws}
 use Rattle.state_parts.specs.declared.answer.Commit.{Commit}
 use Rattle.state_parts.specs.declared.answer.CommitOutcome.{CommitOutcome}
 use Rattle.storm_ids.specs.declared.ids.Ids.{Ghosts}
-use Rattle.topology_plan.specs.Topology.{Topology}
+use Rattle.topology_plan.specs.Topology.{Topology, tasks_in_all}
 use Rattle.tree_model.specs.declared.messages.Parcel.{Parcel}
 use Rattle.tree_model.specs.declared.messages.Parcel.TheVariants.{ToTask, ToAcker}
 use Rattle.trident_batches.specs.Batches.{Cut}
@@ -133,6 +133,14 @@ module _ {I : Type 0} {g : Ghosts I} where
     pub same : shape new ≡ change ids (shape old)
     pub more : List Attempt
     pub added : new.fates ≡ old.fates ++ more
+
+  -- the coordinator had a turn, and answers this
+  pub record TakesTurn (tells : I → (ℕ → ℕ) → ℕ → Type 0) (t : Topology) (cut : Cut)
+      (commit : Option Commit) (old new : Engine I g) : Type 0 where
+    pub happens : Happens tells (tasks_in_all t) (turn_needs t cut (shape old))
+        (λ ids w. turn_step t cut ids w) old new
+    pub ready : IsReady t cut new
+    pub answers : Answers commit new
 
   -- An engine goes through these steps, for which sources gave words, and attempts ended. So does
   -- the world, by any words and outcomes that begin with these.

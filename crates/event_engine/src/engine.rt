@@ -1,10 +1,11 @@
-ghost use Rattle.std.specs.Prelude.{◌≡◌, ◌<◌, ◌≤◌, ◌-◌, ◌∷◌, ◌++◌, ◌^◌, [], ℕ, false, None, length, map, IfOk, OnOk, OnErr};
+ghost use Rattle.std.specs.Prelude.{◌≡◌, ◌≢◌, ◌<◌, ◌≤◌, ◌-◌, ◌∷◌, ◌++◌, ◌^◌, [], ℕ, false, None, length, map, IfOk, OnOk, OnErr};
 ghost use Rattle.std.specs.List.{range_with_len};
 ghost use Rattle.attempt_fates.specs.Fates.{IsOnce};
 ghost use Rattle.bolt_ops.specs.RowOp.{Custom};
 ghost use Rattle.commit_order.specs.Orders.{desk_of};
-ghost use Rattle.event_engine.specs.Engines.{Answers, Goes, Happens, IsIdle, IsReady, IsSeated, IsStill, IsThere, MayDecide, cut_in, has_ended, shape, sources, topology_in};
-ghost use Rattle.event_worlds.specs.Worlds.{acker_step, delivered, of_acker, of_outcome, of_task, of_tick, of_turn, outcomes_of, task_at, task_needs, task_step, tick_step, turn_needs, turn_step};
+ghost use Rattle.commit_order.specs.declared.stop.Stop.TheVariants as stop;
+ghost use Rattle.event_engine.specs.Engines.{Answers, Goes, Happens, IsIdle, IsReady, IsSeated, IsStill, IsThere, MayDecide, TakesTurn, cut_in, has_ended, shape, sources, topology_in};
+ghost use Rattle.event_worlds.specs.Worlds.{acker_step, delivered, of_acker, of_outcome, of_task, of_tick, of_turn, outcomes_of, task_at, task_needs, task_step, tick_step};
 ghost use Rattle.topology_plan.specs.Topology.{Topology, tasks_in_all};
 ghost use Rattle.trident_batches.specs.Batches.{Cut};
 
@@ -13,7 +14,8 @@ use crate::task::{TaskSeat, act_at, put_tuple};
 use acker_core::Verdict;
 use attempt_fates::Fates;
 use bolt_ops::RowOp;
-use commit_order::{Coordinator, Stop};
+use commit_order::{Coordinator, Orders, Stop};
+use commit_turns::{desks_are_kept, orders_are_decided};
 use state_parts::{Commit, CommitOutcome};
 use std::alloc::AllocError;
 use std::collections::VecDeque;
@@ -70,6 +72,91 @@ impl<'p, I: Ids> Engine<'p, I> {
         }
         self.acker_event(n)?;
         Ok(())
+    }
+
+    /// An event of each task, in the order of their numbers.
+    pub fn all_tasks<O: RowOp>(&mut self, custom: &O) -> Result<(), Memory>
+        requires { IsReady (topology_in self.old) (cut_in self.old) self.old }
+        ensures ready { OnOk result
+            (IsReady (topology_in self.old) (cut_in self.old) self.new) }
+        ensures goes { OnOk result (Goes I.tells (topology_in self.old) (O.meaning custom.now)
+            (cut_in self.old) (map of_task (range_with_len 0 (tasks_in_all (topology_in self.old))))
+            self.old self.new) }
+        ensures still { IsStill self.old self.new }
+    {
+        for n in 0..self.plan.tasks() {
+            self.task(n, custom)?;
+        }
+        Ok(())
+    }
+
+    /// An event of each acker, in the order of their numbers.
+    pub fn all_ackers(&mut self) -> Result<(), Memory>
+        requires { IsReady (topology_in self.old) (cut_in self.old) self.old }
+        ensures ready { OnOk result
+            (IsReady (topology_in self.old) (cut_in self.old) self.new) }
+        ensures goes { (custom : Custom) → OnOk result (Goes I.tells (topology_in self.old) custom
+            (cut_in self.old) (map of_acker (range_with_len 0 (topology_in self.old).ackers))
+            self.old self.new) }
+        ensures still { IsStill self.old self.new }
+    {
+        for n in 0..self.plan.ackers() {
+            self.acker(n)?;
+        }
+        Ok(())
+    }
+
+    /// The coordinator's event: it hands over a parcel, or else takes a verdict and has a turn. It
+    /// answers the commit that the turn orders.
+    pub fn turn(&mut self) -> Result<Option<Commit>, Memory>
+        requires ready { IsReady (topology_in self.old) (cut_in self.old) self.old }
+        requires idle { IsIdle self.old }
+        ensures ready { OnOk result
+            (IsReady (topology_in self.old) (cut_in self.old) self.new) }
+        ensures goes { (custom : Custom) → OnOk result (Goes I.tells (topology_in self.old) custom
+            (cut_in self.old) (of_turn ∷ []) self.old self.new) }
+        ensures answers { IfOk result (λ commit. Answers commit self.new) }
+        ensures once { OnErr result (IsOnce (length (cut_in self.old).records)
+            (cut_in self.old).size (2 ^ 64 - 1) self.new.fates) }
+    {
+        if self.is_over() {
+            return Ok(None);
+        }
+        match self.orders.pop_front() {
+            Some(parcel) => {
+                self.deliver(parcel)?;
+                Ok(None)
+            }
+            None => {
+                let commit = self.take_turn()?;
+                Ok(commit)
+            }
+        }
+    }
+
+    /// What came of the commit that was ordered.
+    pub fn decide(&mut self, how: CommitOutcome) -> Result<(), Memory>
+        requires ready { IsReady (topology_in self.old) (cut_in self.old) self.old }
+        requires out { MayDecide self.old }
+        ensures ready { OnOk result
+            (IsReady (topology_in self.old) (cut_in self.old) self.new) }
+        ensures goes { (custom : Custom) → OnOk result (Goes I.tells (topology_in self.old) custom
+            (cut_in self.old) (of_outcome ∷ []) self.old self.new) }
+        ensures idle { OnOk result (IsIdle self.new) }
+        ensures told { OnOk result
+            (outcomes_of self.new.fates ≡ outcomes_of self.old.fates ++ how ∷ []) }
+        ensures once { OnErr result (IsOnce (length (cut_in self.old).records)
+            (cut_in self.old).size (2 ^ 64 - 1) self.new.fates) }
+    {
+        // a law: what is kept
+        desks_are_kept();
+        match self.coordinator.committed(&mut self.fates, how) {
+            Ok(()) => Ok(()),
+            Err(stop) => {
+                fail_without_memory(stop)?;
+                Ok(())
+            }
+        }
     }
 
     /// A tick.
@@ -161,5 +248,47 @@ impl<'p, I: Ids> Engine<'p, I> {
     {
         self.tick = self.tick.saturating_add(1);
         self.unheard = self.unheard.saturating_add(1);
+    }
+
+    // The coordinator takes a verdict and has a turn.
+    fn take_turn(&mut self) -> Result<Option<Commit>, Memory>
+        requires ready { IsReady (topology_in self.old) (cut_in self.old) self.old }
+        requires goes_on { has_ended self.old ≡ false }
+        requires idle { (desk_of self.old.coordinator).out ≡ false }
+        requires empty { self.old.orders.items ≡ [] }
+        ensures taken { IfOk result (λ commit. TakesTurn I.tells (topology_in self.old)
+            (cut_in self.old) commit self.old self.new) }
+        ensures once { OnErr result (IsOnce (length (cut_in self.old).records)
+            (cut_in self.old).size (2 ^ 64 - 1) self.new.fates) }
+    {
+        // laws: what is kept, and what is out
+        desks_are_kept();
+        orders_are_decided();
+        let verdict = self.verdicts.pop_front();
+        let ticks = self.unheard;
+        self.unheard = 0;
+        match self.coordinator.turn(&mut self.fates, verdict, ticks) {
+            Ok(orders) => {
+                let Orders { parcels, commit } = orders;
+                self.orders = VecDeque::from_vec(parcels.into_vec());
+                Ok(commit)
+            }
+            Err(stop) => {
+                fail_without_memory(stop)?;
+                Ok(None)
+            }
+        }
+    }
+}
+
+// Fails where it was want of memory that stopped the coordinator.
+fn fail_without_memory(why: Stop) -> Result<(), Memory>
+    ensures ok { OnOk result (why ≢ stop.Memory) }
+    ensures err { OnErr result (why ≡ stop.Memory) }
+{
+    match why {
+        Stop::Memory => Err(AllocError),
+        Stop::Exhausted(_) => Ok(()),
+        Stop::BadCell(_) => Ok(()),
     }
 }

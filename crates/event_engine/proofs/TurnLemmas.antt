@@ -1,0 +1,155 @@
+-- What a turn of the coordinator and an outcome keep.
+use Rattle.std.proofs.Common.{◌≡◌, ◌≤◌, ℕ, zero, suc, ◌+◌, ◌-◌, ◌^◌, ◌==◌, ◌&&◌, Bool, true, false, cond, true≢false, Option, None, Some, List, [], ◌∷◌, ◌++◌, length, map, refl, sym, ap, subst, ◌∙◌, eq-eqb, eqb-true, arith}
+use Rattle.std.specs.Prelude.{is_some}
+use Rattle.std.specs.List.{filter_map, find}
+use Rattle.acker_core.specs.declared.verdict.Verdict.{Verdict}
+use Rattle.acker_core.specs.declared.verdict.Verdict.TheVariants.{Complete, Fails}
+use Rattle.attempt_fates.specs.declared.fates.Attempt.{Attempt}
+use Rattle.attempt_fates.specs.declared.fates.End.TheVariants as end
+use Rattle.commit_order.specs.Orders.{stop_by}
+use Rattle.commit_order.specs.declared.stop.Stop.{Stop}
+use Rattle.commit_turns.specs.declared.wait.Wait.{Wait}
+use Rattle.commit_turns.specs.Desks.{Desk, Progress, still, timed_of}
+use Rattle.commit_turns.specs.Turns.{Turned, and_then, begun, complete_timed, decided, decided_by, decided_desk, end_by, end_timed, fill_more, filled, has_no_tick, heard, is_closed, is_finished, last_tick, next_root, next_to_commit, one_tick, ordered, passed, ticked, turned, turned_by}
+use Rattle.event_engine.proofs.GoesLemmas.{outcomes-append}
+use Rattle.event_worlds.specs.Worlds.{outcome_by, outcomes_of}
+use Rattle.state_parts.specs.declared.answer.CommitOutcome.{CommitOutcome}
+use Rattle.state_parts.specs.declared.answer.CommitOutcome.TheVariants as outcome
+use Rattle.storm_values.specs.declared.value.Root.{Root}
+use Rattle.topology_plan.specs.Topology.{Topology}
+use Rattle.tree_model.specs.declared.messages.AckMsg.{AckMsg}
+use Rattle.trident_batches.specs.Batches.{Cut}
+
+and_first : (a b : Bool) → (a && b) ≡ true → a ≡ true
+and_first true b is = refl
+and_first false b is = is
+
+some_none : {X : Type 0} (x : X) → Some x ≡ None → ⊥
+some_none x e = cc
+
+-- no more batches are committed, and ticks end at the last number
+pub record Passes (d e : Desk) : Type 0 where
+  pub committed : e.committed ≡ d.committed
+  pub ticks : d.tick ≤ last_tick → e.tick ≤ last_tick
+
+passes-none : (d : Desk) → Passes d d
+passes-none d = record { committed = refl; ticks = λ few. few }
+
+passes-then : (d e f : Desk) → Passes d e → Passes e f → Passes d f
+passes-then d e f one two = record { committed = two.committed ∙ one.committed; ticks = λ few. two.ticks (one.ticks few) }
+
+below_last : (o : Option ℕ) (tick : ℕ) → cond (is_some o) true (tick == last_tick) ≡ false → tick ≤ last_tick → tick + 1 ≤ last_tick
+below_last (Some txid) tick goes few = absurd (true≢false goes)
+below_last None tick goes few = by (tick == last_tick) refl
+  where
+    by : (b : Bool) → (tick == last_tick) ≡ b → tick + 1 ≤ last_tick
+    by true is = absurd (true≢false (sym is ∙ goes))
+    by false is = let other : tick ≡ last_tick → ⊥ = λ e. true≢false (sym (eq-eqb tick last_tick e) ∙ is) in omega (arith, other)
+
+module _ (t : Topology) (cut : Cut) where
+  heard_passes : (verdict : Option Verdict) (d : Desk) → Passes d (heard t cut verdict d).desk
+  heard_passes None d = passes-none d
+  heard_passes (Some (Complete root list)) d = by (is_closed list) (timed_of root d.pending)
+    where
+      by : (c : Bool) (o : Option Wait) → Passes d (complete_timed t cut list c o d).desk
+      by c None = passes-none d
+      by true (Some w) = record { committed = refl; ticks = λ few. few }
+      by false (Some w) = record { committed = refl; ticks = λ few. few }
+  heard_passes (Some (Fails root path)) d = by (timed_of root d.pending)
+    where
+      by : (o : Option Wait) → Passes d (end_timed t cut (end.Failed path) o d).desk
+      by None = passes-none d
+      by (Some w) = record { committed = refl; ticks = λ few. few }
+
+  ticked_passes : (n : ℕ) (d : Desk) → Passes d (ticked t cut n d).desk
+  ticked_passes zero d = passes-none d
+  ticked_passes (suc n) d = by (has_no_tick t cut d) refl (ticked_passes n (one_tick t cut d).desk)
+    where
+      by : (b : Bool) → has_no_tick t cut d ≡ b → Passes (one_tick t cut d).desk (ticked t cut n (one_tick t cut d).desk).desk
+          → Passes d (cond b (still d) (and_then t cut (one_tick t cut d) (ticked t cut n (one_tick t cut d).desk))).desk
+      by true stays rest = passes-none d
+      by false goes rest = record { committed = rest.committed; ticks = λ few. rest.ticks (below_last d.exhausted d.tick goes few) }
+
+  -- beginning roots leaves all else as it is
+  record Fills (d e : Desk) : Type 0 where
+    committed : e.committed ≡ d.committed
+    ticks : e.tick ≡ d.tick
+    exhausted : e.exhausted ≡ d.exhausted
+
+  filled_fills : (places : ℕ) (d : Desk) → Fills d (filled t cut places d).desk
+  filled_fills zero d = record { committed = refl; ticks = refl; exhausted = refl }
+  filled_fills (suc places) d = by (next_root t cut d) (λ root. filled_fills places (begun t cut root d))
+    where
+      by : (o : Option Root) → ((root : Root) → Fills (begun t cut root d) (filled t cut places (begun t cut root d)).desk) → Fills d (fill_more t cut (filled t cut places) d o).desk
+      by None more = record { committed = refl; ticks = refl; exhausted = refl }
+      by (Some root) more = record { committed = (more root).committed; ticks = (more root).ticks; exhausted = (more root).exhausted }
+
+  turned_by_passes : (d : Desk) (o : Option ℕ) (p : Progress) → Passes d p.desk → Passes d (turned_by t cut o p).desk
+  turned_by_passes d (Some txid) p passes = passes
+  turned_by_passes d None p passes =
+      let fills = filled_fills t.pending (ordered t cut p.desk) in record {
+        committed = fills.committed ∙ passes.committed;
+        ticks = λ few. let same : (filled t cut t.pending (ordered t cut p.desk)).desk.tick ≡ p.desk.tick = fills.ticks in let least = passes.ticks few in subst (λ (n : ℕ). n ≤ last_tick) (sym same) least;
+      }
+
+  pub turned_passes : (verdict : Option Verdict) (ticks : ℕ) (d : Desk) → Passes d (turned t cut verdict ticks d).desk
+  turned_passes verdict ticks d =
+      let h : Progress = heard t cut verdict d in
+      turned_by_passes d (passed t cut ticks h).desk.exhausted (passed t cut ticks h) (passes-then d h.desk (ticked t cut ticks h.desk).desk (heard_passes verdict d) (ticked_passes ticks h.desk))
+
+  -- a turn that stops begins none
+  pub stopped_begins : (verdict : Option Verdict) (ticks : ℕ) (d : Desk) (txid : ℕ) → (turned t cut verdict ticks d).desk.exhausted ≡ Some txid → (turned t cut verdict ticks d).begun ≡ []
+  stopped_begins verdict ticks d txid = by (passed t cut ticks (heard t cut verdict d)) (passed t cut ticks (heard t cut verdict d)).desk.exhausted refl
+    where
+      by : (p : Progress) (o : Option ℕ) → p.desk.exhausted ≡ o → (turned_by t cut o p).desk.exhausted ≡ Some txid → (turned_by t cut o p).begun ≡ []
+      by p (Some other) is stops = refl
+      by p None is stops = absurd (some_none txid (sym stops ∙ (filled_fills t.pending (ordered t cut p.desk)).exhausted ∙ is))
+
+  -- ---- the commit of a turn
+
+  find_true : {X : Type 0} (test : X → Bool) (xs : List X) (x : X) → find test xs ≡ Some x → test x ≡ true
+  find_true test [] x is = absurd (some_none x (sym is))
+  find_true test (y ∷ ys) x is = by (test y) refl is (find_true test ys x)
+    where
+      by : (b : Bool) → test y ≡ b → cond b (Some y) (find test ys) ≡ Some x → (find test ys ≡ Some x → test x ≡ true) → test x ≡ true
+      by true so is rest = let same : y ≡ x = cc in ap test (sym same) ∙ so
+      by false so is rest = rest is
+
+  -- the next to be committed comes right after those that were
+  pub next_follows : (d : Desk) (w : Wait) → next_to_commit t cut d ≡ Some w → w.root.txid ≡ d.committed + 1
+  next_follows d w is = eqb-true w.root.txid (d.committed + 1) (and_first (w.root.txid == d.committed + 1) (is_some w.settled) (find_true (λ (v : Wait). (v.root.txid == d.committed + 1) && is_some v.settled) d.pending w is))
+
+  -- ---- an outcome
+
+  -- the fates tell what came of the commit
+  pub decided_tells : (how : CommitOutcome) (w : Wait) (d : Desk) (fates : List Attempt) → next_to_commit t cut d ≡ Some w
+      → outcomes_of (fates ++ (decided t cut how d).ended) ≡ outcomes_of fates ++ how ∷ []
+  decided_tells how w d fates is = ap (λ (o : Option Wait). outcomes_of (fates ++ (decided_by t cut how o d).ended)) is ∙ outcomes-append fates (decided_by t cut how (Some w) d).ended ∙ ap (λ xs. outcomes_of fates ++ xs) (tells how w.settled)
+    where
+      tells : (h : CommitOutcome) (settled : Option (List AckMsg)) → filter_map (λ e. outcome_by e) (end_by t cut h settled ∷ []) ≡ h ∷ []
+      tells outcome.Done None = refl
+      tells outcome.Done (Some list) = refl
+      tells (outcome.Failed component part before after) settled = refl
+
+  -- no commit is out after its outcome
+  pub decided_out : (how : CommitOutcome) (o : Option Wait) (d : Desk) → (decided_by t cut how o d).desk.out ≡ false
+  decided_out how None d = refl
+  decided_out outcome.Done (Some w) d = refl
+  decided_out (outcome.Failed component part before after) (Some w) d = refl
+
+  pub decided_tick : (how : CommitOutcome) (o : Option Wait) (d : Desk) → (decided_by t cut how o d).desk.tick ≡ d.tick
+  decided_tick how None d = refl
+  decided_tick outcome.Done (Some w) d = refl
+  decided_tick (outcome.Failed component part before after) (Some w) d = refl
+
+-- ---- when all is over
+
+pub goes_on_by : (o : Option ℕ) (b : Bool) → cond (is_some o) true b ≡ false → (o ≡ None) × (b ≡ false)
+goes_on_by None b is = (refl, is)
+goes_on_by (Some txid) b is = absurd (true≢false is)
+
+pub over_by : (o : Option ℕ) (txid : ℕ) (b : Bool) → o ≡ Some txid → cond (is_some o) true b ≡ true
+over_by o txid b is = ap (λ (p : Option ℕ). cond (is_some p) true b) is
+
+pub no_stop : (b : Bool) (o : Option ℕ) → b ≡ false → o ≡ None → stop_by b o ≡ None
+no_stop b o memory none = (λ i. stop_by (memory i) (none i))

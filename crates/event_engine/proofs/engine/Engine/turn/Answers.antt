@@ -1,0 +1,39 @@
+use Rattle.std.proofs.Common.{[], ◌∷◌, refl, sym, ap, ◌∙◌}
+use Rattle.event_engine.specs.Engines.{cut_in, shape, topology_in}
+use Rattle.event_engine.proofs.EngineLemmas.{seated_by}
+use Rattle.event_engine.proofs.FatesLemmas.{on_err}
+use Rattle.event_engine.proofs.GoesLemmas.{goes-over, goes-turn}
+use Rattle.event_engine.proofs.TurnEvents.{happens_alike, hands_order, idle_still, no_rest, order_there, ready_alike, ready_handed, ready_once, tasks_are}
+use Rattle.event_worlds.specs.Worlds.{of_turn, turn_needs, turn_step}
+use Rattle.topology_plan.specs.Topology.{tasks_in_all}
+use Rattle.event_engine.proofs.engine.Engine.turn.Goals as goal
+
+pub returns-then-is_over-clause-goes : goal.returns-then-is_over-clause-goes
+returns-then-is_over-clause-goes g c = λ custom.
+    let old = c.args.self.now in
+    goes-over g.I.Ids.tells (topology_in old) custom (cut_in old) (of_turn ∷ []) old (sym c.is_over.ensures ∙ c.if-is_over.true)
+
+pub returns-in_ok-deliver-in-Some : goal.returns-in_ok-deliver-in-Some
+returns-in_ok-deliver-in-Some g c =
+    let old = c.args.self.now in
+    let mid = record old { orders = c.pop_front.new.self } in
+    let new = c.deliver.new.self in
+    let t = topology_in old in
+    let cut = cut_in old in
+    let ready = c.requires.ready in
+    let given = c.in_ok-deliver-in-Some.ensures in
+    let still = c.deliver.ensures.still in
+    let happens =
+    hands_order g.I.Ids.tells t cut old new c.in-Some.parcel mid (tasks_are t cut old old ready) c.in-Some.ensures.items refl refl given.done given.sources still.fates in
+    record {
+      ready = ready_handed t cut old new ready g.I.Ids.tells happens (record { coordinator = still.coordinator; fates = still.fates }) (given.seated t cut (seated_by t cut old mid ready.seated refl refl ready.seated.tasks ready.seated.ackers));
+      goes = λ custom. goes-turn g.I.Ids.tells t custom cut old new (sym c.is_over.ensures ∙ c.if-is_over.false) happens;
+      answers = idle_still t cut old new c.requires.idle (record { coordinator = still.coordinator; fates = still.fates });
+      once = tt;
+    }
+
+pub take_turn-requires-clause-ready : goal.take_turn-requires-clause-ready
+take_turn-requires-clause-ready g c = ?
+
+pub returns-in_ok-commit-in-None-clause-goes : goal.returns-in_ok-commit-in-None-clause-goes
+returns-in_ok-commit-in-None-clause-goes g c = ?
