@@ -5,7 +5,7 @@ use Rattle.batch_commits.specs.Standing.{FailuresAreCounted, HasStrange, PartsSt
 use Rattle.bolt_ops.specs.RowOp.{Custom, IsCustom}
 use Rattle.commit_turns.specs.Outcomes.{IsOutcome}
 use Rattle.event_engine.specs.declared.engine.Engine.{Engine}
-use Rattle.event_engine.specs.Engines.{Gives, Goes, HasOutcomes, shape}
+use Rattle.event_engine.specs.Engines.{Gives, Goes, HasOutcomes, IsIdle, IsReady, cut_in, shape, topology_in}
 use Rattle.event_worlds.specs.Accounted.{Accounted, IsInput}
 use Rattle.event_worlds.specs.Worlds.{Step, outcomes_of}
 use Rattle.state_parts.specs.declared.answer.CommitOutcome.{CommitOutcome}
@@ -19,6 +19,17 @@ use Rattle.trident_batches.specs.Batches.{Cut}
 -- how many batches an engine has committed
 abbrev pub committed_by : {I : Type 0} {g : Ghosts I} → Engine I g → ℕ
 committed_by e = (shape e).desk.committed
+
+module _ {I : Type 0} {g : Ghosts I} where
+  -- an engine is ready for the next event, and no ordered commit is out
+  pub record IsAtRest (e : Engine I g) : Type 0 where
+    pub ready : IsReady (topology_in e) (cut_in e) e
+    pub idle : IsIdle e
+
+  -- both are of one plan and one input
+  pub record IsOfSameRun (old new : Engine I g) : Type 0 where
+    pub topology : topology_in new ≡ topology_in old
+    pub cut : cut_in new ≡ cut_in old
 
 module _ {I S : Type 0} {g : Ghosts I} where
   -- An engine goes through these steps, and its commits through the parts.
