@@ -1,0 +1,75 @@
+// Reports, by hand.
+use crate::ends::{Ended, How, check_report};
+use run_report::Tail;
+use test_kit::Mismatch;
+
+// The list names its edges out of order, and one of them twice.
+const EVERY_END: [Ended; 6] = [
+    (1, 0, 0, How::Failed(&[0])),
+    (2, 0, 1, How::Failed(&[0, 12, 3])),
+    (3, 1, 4, How::TimedOut),
+    (
+        4,
+        4,
+        5,
+        How::Coincided(&[(&[0, 1], 9), (&[0], 5), (&[0, 0], 9), (&[0], 5)]),
+    ),
+    (5, 5, 6, How::CommitFailed(1, 0)),
+    (6, 6, 8, How::Committed),
+];
+
+#[test]
+fn every_end_and_all_records(rt: HostRuntime) -> Result<(), Mismatch> {
+    let tail = Tail::Ok {
+        records: 2,
+        batches: 1,
+    };
+    check_report(
+        rt.alloc(),
+        &EVERY_END,
+        &[("[\"cow\"]", 2), ("[\"moon\"]", -7)],
+        tail,
+        "attempt 1.1 records 1-2 ticks 0-0 failed 0
+attempt 1.2 records 1-2 ticks 0-1 failed 0.12.3
+attempt 1.3 records 1-2 ticks 1-4 timed out
+attempt 1.4 records 1-2 ticks 4-5 coincided 0.0:0000000000000009 0.1:0000000000000009
+attempt 1.5 records 1-2 ticks 5-6 commit failed counts 0
+attempt 1.6 records 1-2 ticks 6-8 committed
+cell counts [\"cow\"] 2
+cell counts [\"moon\"] -7
+ok 2 records 1 batches
+",
+    )
+}
+
+// Ids with every digit, a list that is closed, and a component that is not there.
+#[test]
+fn ends_of_an_exhausted_transaction(rt: HostRuntime) -> Result<(), Mismatch> {
+    check_report(
+        rt.alloc(),
+        &[
+            (
+                1,
+                0,
+                3,
+                How::Coincided(&[
+                    (&[4294967295], 0x0123456789abcdef),
+                    (&[7], 0xfedcba9876543210),
+                ]),
+            ),
+            (2, 3, 3, How::Coincided(&[])),
+            (3, 3, 18446744073709551615, How::CommitFailed(2, 4294967295)),
+        ],
+        &[],
+        Tail::Exhausted(1),
+        "attempt 1.1 records 1-2 ticks 0-3 coincided 7:fedcba9876543210 4294967295:0123456789abcdef
+attempt 1.2 records 1-2 ticks 3-3 coincided \nattempt 1.3 records 1-2 ticks 3-18446744073709551615 commit failed  4294967295
+exhausted 1
+",
+    )
+}
+
+#[test]
+fn nothing_was_committed(rt: HostRuntime) -> Result<(), Mismatch> {
+    check_report(rt.alloc(), &[], &[], Tail::Unfinished(0), "unfinished 0\n")
+}

@@ -1,0 +1,4 @@
+mod Hex
+mod Joined
+mod Left
+mod Lines

@@ -1,0 +1,4 @@
+pub mod Cells
+pub mod Fated
+pub mod Report
+pub mod Steps

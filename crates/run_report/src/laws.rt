@@ -1,0 +1,11 @@
+ghost use Rattle.std.specs.Prelude.{◌≡◌, List};
+ghost use Rattle.topology_plan.specs.Topology.{Topology};
+ghost use Rattle.attempt_fates.specs.declared.fates.Attempt.{Attempt};
+ghost use Rattle.run_report.specs.Fated.{AreLinesOf};
+ghost use Rattle.run_report.specs.Report.{AttemptText};
+
+/// A law: fates have one list of lines.
+pub fn lines_are_one()
+    ensures { (plan : Topology) (fates : List Attempt) (lines others : List AttemptText)
+        → AreLinesOf plan fates lines → AreLinesOf plan fates others → lines ≡ others }
+{}

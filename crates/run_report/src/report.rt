@@ -1,0 +1,79 @@
+ghost use Rattle.std.specs.Prelude.{◌≡◌, ◌++◌, IfOk, OnOk, map, string_bytes};
+ghost use Rattle.std.specs.List.{flat_map};
+ghost use Rattle.run_report.specs.Cells.{cell_of, cells_of};
+ghost use Rattle.run_report.specs.Fated.{IsReportText, tail_of};
+ghost use Rattle.run_report.specs.Report.{cell_text, tail_text};
+
+use crate::attempts::push_attempts;
+use attempt_fates::Attempt;
+use std::alloc::Global;
+use std::fmt::Write;
+use storm_values::Memory;
+use topology_plan::Plan;
+use tree_model::{Pair, Table};
+
+/// How a run ended.
+#[derive(Clone, Copy, Debug, PartialEq, Eq)]
+pub enum Tail {
+    /// All records were committed, in so many batches.
+    Ok { records: u64, batches: u64 },
+    /// No attempt is left of this transaction.
+    Exhausted(u64),
+    /// It was broken off after so many commits.
+    Unfinished(u64),
+}
+
+/// The text of a report. It takes time in proportion to its length, and besides to n log n for
+/// the n edges of each attempt that coincided.
+pub fn report_text(
+    alloc: Global,
+    plan: &Plan,
+    fates: &[Attempt],
+    tables: &[Table],
+    tail: Tail,
+) -> Result<String, Memory>
+    ensures { IfOk result
+        (λ text. IsReportText plan.now fates.now tables.now tail (string_bytes text)) }
+{
+    let mut text = String::new(alloc);
+    push_attempts(alloc, &mut text, plan, fates)?;
+    push_cells(&mut text, tables)?;
+    push_tail(&mut text, tail)?;
+    Ok(text)
+}
+
+fn push_cells(text: &mut String, tables: &[Table]) -> Result<(), Memory>
+    ensures { OnOk result (string_bytes text.new
+        ≡ string_bytes text.old ++ flat_map cell_text (cells_of tables.now)) }
+{
+    for table in tables {
+        push_table(text, table.name.as_str(), table.pairs.as_slice())?;
+    }
+    Ok(())
+}
+
+fn push_table(text: &mut String, name: &str, pairs: &[Pair]) -> Result<(), Memory>
+    ensures { OnOk result (string_bytes text.new
+        ≡ string_bytes text.old ++ flat_map cell_text (map (cell_of name.now) pairs.now)) }
+{
+    for pair in pairs {
+        let key = pair.key.as_str();
+        let value = pair.value;
+        writeln!(text, "cell {name} {key} {value}")?;
+    }
+    Ok(())
+}
+
+fn push_tail(text: &mut String, tail: Tail) -> Result<(), Memory>
+    ensures { OnOk result
+        (string_bytes text.new ≡ string_bytes text.old ++ tail_text (tail_of tail)) }
+{
+    match tail {
+        Tail::Ok { records, batches } => {
+            writeln!(text, "ok {records} records {batches} batches")?;
+        }
+        Tail::Exhausted(txid) => writeln!(text, "exhausted {txid}")?,
+        Tail::Unfinished(committed) => writeln!(text, "unfinished {committed}")?,
+    }
+    Ok(())
+}
