@@ -1,0 +1,4 @@
+mod Lists
+mod Doing
+mod Answering
+mod Turning
