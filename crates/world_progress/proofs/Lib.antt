@@ -2,3 +2,5 @@ mod Lists
 mod Doing
 mod Answering
 mod Turning
+mod Seats
+mod Lasting
