@@ -4,3 +4,4 @@ mod Answering
 mod Turning
 mod Seats
 mod Lasting
+mod Running
