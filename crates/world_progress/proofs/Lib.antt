@@ -5,3 +5,5 @@ mod Turning
 mod Seats
 mod Lasting
 mod Running
+mod Phases
+mod Resting
