@@ -3,7 +3,7 @@ use Rattle.std.proofs.Common.{◌≡◌, ◌≢◌, ◌<◌, ◌≤◌, inl, inr
 use Rattle.std.specs.Prelude.{All, sum_by}
 use Rattle.std.specs.List.{AllByRecursion, flat_map}
 use Rattle.std.specs.Option.{option_map_or}
-use Rattle.std.proofs.lemmas.Bool.{cases_lt, cases_eq, le-ltb, ltb-false, ltb-true}
+use Rattle.std.proofs.lemmas.Bool.{and_parts, cases_lt, cases_eq, le-ltb, ltb-false, ltb-true}
 use Rattle.std.proofs.lemmas.List.Sums.{sum_by-cons}
 use Rattle.std.proofs.lemmas.Option.{slice_get-get_or}
 use Rattle.acker_core.specs.Entries.{AreSilent, tell}
@@ -168,3 +168,107 @@ module _ (t : Topology) (custom : Custom) (can : CanFinish t) where
       by [] below all = absurd (omega arith)
       by (x ∷ xs) below all = subst (λ (o : Option Component). option_map_or (λ (y : Component). course_by custom y.body row attempt) o mute ≢ mute) (sym (slice_get-get_or (x ∷ xs) c x below))
           (body_speaks t custom (get_or (x ∷ xs) c x).body row attempt some (all c x below))
+
+-- ---- runs
+
+module _ (t : Topology) (custom : Custom) (h : History) (b : Station) (reached : Reached t custom h b) where
+  -- each run was at a task of its tuple's component
+  runs_at_home : AllByRecursion (λ (e : Execution). IsTaskOf t e.run.tuple.component e.run.task) h.runs
+  runs_at_home =
+      each-map (IsRouted t) (λ (e : Execution). of_parcel (ToTask e.run.task e.run.tuple)) h.runs
+      (routing.routed t custom h b reached (map (λ (e : Execution). of_parcel (ToTask e.run.task e.run.tuple)) h.runs) within)
+    where
+      within : (f : Packet → ℕ) → weigh f (map (λ (e : Execution). of_parcel (ToTask e.run.task e.run.tuple)) h.runs) ≤ b.waiting f + taken f h
+      within f = let m = weigh-map f (λ (e : Execution). of_parcel (ToTask e.run.task e.run.tuple)) h.runs in omega arith
+
+  -- a tuple that ran was issued
+  pub runs_issued : (f : Tuple → ℕ) → weigh (λ (e : Execution). f e.run.tuple) h.runs ≤ weigh f (tuples.issued t custom (account_of h b))
+  runs_issued f = let p = packets t custom h b reached (on_tuple f) in let i = tuples_weight t custom h b reached f in omega arith
+
+-- the rows of a root that was not begun
+rows_none : (root : Root) (os : List Opening) → weigh (opens root) os ≡ 0 → histories.rows_in os root ≡ []
+rows_none root [] none = refl
+rows_none root (o ∷ os) none = by (root_eq o.begun.root root) refl (λ later. rows_none root os later)
+  where
+    by : (c : Bool) → root_eq o.begun.root root ≡ c → (weigh (opens root) os ≡ 0 → histories.rows_in os root ≡ []) → cond c o.begun.rows (histories.rows_in os root) ≡ []
+    by false is later = later (omega arith)
+    by true is later = let one : opens root o ≡ 1 = ap (λ (c : Bool). cond {A = ℕ} c 1 0) is in absurd (omega arith)
+
+no_nodes : (t : Topology) (custom : Custom) → node_count t custom [] ≡ 0
+unfolding nodes_of
+no_nodes t custom = refl
+
+module _ (t : Topology) (custom : Custom) (h : History) (b : Station) (reached : Reached t custom h b) (valid : IsValid t) where
+  -- the root of an issued tuple was begun
+  pub was_begun : (x : Tuple) → ((f : Tuple → ℕ) → f x ≤ weigh f (tuples.issued t custom (account_of h b))) → 1 ≤ weigh (opens x.root) h.begun
+  was_begun x stands = by (weigh (opens x.root) h.begun) refl
+    where
+      by : (n : ℕ) → weigh (opens x.root) h.begun ≡ n → 1 ≤ n
+      by (suc n) is = omega arith
+      by zero is =
+          let here : is_of x.root x ≡ 1 = ap (λ (c : Bool). cond {A = ℕ} c 1 0) (root_itself x.root x.root refl) in
+          let s = stands (is_of x.root) in
+          let l = few t custom h b reached (histories.rows_in h.begun) (rows_are_found t custom h b reached) valid x.root in
+          let r = ap (node_count t custom) (rows_none x.root h.begun is) ∙ no_nodes t custom in absurd (omega arith)
+
+-- the attempts that were begun have numbers from 1 on
+tried_some : (tries : ℕ → ℕ) (root : Root) → is_tried tries root ≡ true → (1 ≤ root.attempt) × (root.attempt ≤ tries root.txid)
+tried_some tries root is =
+    let both = and_parts (nat_lt 0 root.attempt) (nat_lt root.attempt (tries root.txid + 1)) is in
+    let low = ltb-true 0 root.attempt both.0 in
+    let high = ltb-true root.attempt (tries root.txid + 1) both.1 in (omega arith, omega arith)
+
+pub begun_tried : (tries : ℕ → ℕ) (root : Root) (os : List Opening) → weigh (opens root) os ≡ cond (is_tried tries root) 1 0 → 1 ≤ weigh (opens root) os → (1 ≤ root.attempt) × (root.attempt ≤ tries root.txid)
+begun_tried tries root os is some = by (is_tried tries root) refl is
+  where
+    by : (c : Bool) → is_tried tries root ≡ c → weigh (opens root) os ≡ cond c 1 0 → (1 ≤ root.attempt) × (root.attempt ≤ tries root.txid)
+    by true on e = tried_some tries root on
+    by false off e = absurd (omega arith)
+
+module _ (t : Topology) (custom : Custom) (cut : Cut) (words : ℕ → ℕ → ℕ) (valid : IsValid t) (can : CanFinish t) (h : History) (k : Known) (last : Lasting t custom cut words h k) where
+  abbrev b : Station
+  b = station_of k
+
+  none_mute : AllByRecursion (λ (e : Execution). course_of_run t custom e.run ≢ mute) h.runs
+  none_mute =
+      each-weaker (λ (e : Execution). IsTaskOf t e.run.tuple.component e.run.task × ((f : Execution → ℕ) → f e ≤ weigh f h.runs)) (λ (e : Execution). course_of_run t custom e.run ≢ mute) one h.runs
+      (each-both (λ (e : Execution). IsTaskOf t e.run.tuple.component e.run.task) (λ (e : Execution). (f : Execution → ℕ) → f e ≤ weigh f h.runs) h.runs (runs_at_home t custom h b last.led.reached) (each-weighs h.runs))
+    where
+      one : (e : Execution) → IsTaskOf t e.run.tuple.component e.run.task × ((f : Execution → ℕ) → f e ≤ weigh f h.runs) → course_of_run t custom e.run ≢ mute
+      one e both =
+          let begun = was_begun t custom h b last.led.reached valid e.run.tuple (λ f. let l = both.1 (λ (x : Execution). f x.run.tuple) in let i = runs_issued t custom h b last.led.reached f in omega arith) in
+          let tried = begun_tried (desk_of k.world.desk).tries e.run.tuple.root h.begun (last.led.fits.numbered e.run.tuple.root) begun in
+          let there : e.run.tuple.component < length t.components = subst (λ (c : ℕ). c < length t.components) both.0.belongs (component_in t e.run.task both.0.there) in
+          speaks t custom can e.run.tuple.component e.run.tuple.row e.run.tuple.root.attempt there tried.0
+
+  distinct : (root : Root) → weigh (holds root) (flat_map (λ (side : AckerSide). side.entries) k.world.ackers) ≤ 1
+  distinct root =
+      let f = weigh-flat_map (holds root) (λ (side : AckerSide). side.entries) k.world.ackers in
+      let o = only_there (λ (side : AckerSide). weigh (holds root) side.entries) 0 (acker_of t root) k.world.ackers no_acker (λ i below. (last.seats i).young.once root)
+      (λ i below other. away t i (get_or k.world.ackers i no_acker).counted (get_or k.world.ackers i no_acker).entries root (last.seats i).young (λ e. other (omega arith))) in omega arith
+
+  module _ (empty : IsEmpty t k.world) where
+    none_waits : (f : Packet → ℕ) → b.waiting f ≡ 0
+    none_waits f =
+        let orderly = last.led.orderly in
+        let c = orderly.task_count in
+        let d = orderly.acker_count in
+        let x = tasks-none f 0 k.world.tasks (no_task t) (λ i below. let e = empty.tasks i (omega arith) in (e.inbox, e.outbox)) in
+        let y = ackers-none f 0 k.world.ackers no_acker (λ i below. empty.ackers i (omega arith)) in
+        let u = ap (weigh (λ v. f (of_verdict v))) empty.verdicts in
+        let v = ap (weigh_parcels f) empty.orders in omega arith
+
+    stuck : IsStuck t custom h b (flat_map (λ (side : AckerSide). side.entries) k.world.ackers)
+    stuck = record {
+      none_waits = none_waits;
+      none_mute = none_mute;
+      none_dropped = last.whole;
+      are_kept = λ g. sym (weigh-flat_map (λ (e : Held (List AckMsg)). weigh (g e.root) e.value) (λ (side : AckerSide). side.entries) k.world.ackers);
+      distinct = distinct;
+      silent = each-flat_map (λ (e : Held (List AckMsg)). tell e.root e.value ≡ None) (λ (side : AckerSide). side.entries) k.world.ackers last.led.silent;
+    }
+
+    pub all_settled : AllByRecursion (λ (w : Wait). w.settled ≢ None) k.world.desk.pending
+    all_settled =
+        each-map (λ (w : Waits). w.settled ≢ None) waits_of k.world.desk.pending
+        (settling.settled t custom h b last.led.reached (flat_map (λ (side : AckerSide). side.entries) k.world.ackers) stuck (rows_in cut) (desk_of k.world.desk) (ends_of k.world.fates) last.led.fits)
