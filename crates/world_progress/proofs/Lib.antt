@@ -7,3 +7,5 @@ mod Lasting
 mod Running
 mod Phases
 mod Resting
+mod Tallying
+mod Bounding

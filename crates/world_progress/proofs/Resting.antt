@@ -194,7 +194,7 @@ rows_none root (o ∷ os) none = by (root_eq o.begun.root root) refl (λ later. 
     by false is later = later (omega arith)
     by true is later = let one : opens root o ≡ 1 = ap (λ (c : Bool). cond {A = ℕ} c 1 0) is in absurd (omega arith)
 
-no_nodes : (t : Topology) (custom : Custom) → node_count t custom [] ≡ 0
+pub no_nodes : (t : Topology) (custom : Custom) → node_count t custom [] ≡ 0
 unfolding nodes_of
 no_nodes t custom = refl
 
