@@ -9,3 +9,5 @@ mod Phases
 mod Resting
 mod Tallying
 mod Bounding
+mod Finishing
+mod Rounding

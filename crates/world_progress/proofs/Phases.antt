@@ -232,17 +232,20 @@ module _ (t : Topology) (custom : Custom) (cut : Cut) (words : ℕ → ℕ → �
           out = subst (λ (d : Desk). d.exhausted ≡ None → d.out ≡ is_some (next_to_commit t cut d)) (sym q.desk) (turn_out t cut (slice_get k.world.verdicts 0) k.world.unheard k.world.desk);
         }
 
+    idle_again : (w v : World) → v.tasks ≡ w.tasks → ((m : ℕ) → m < tasks_in_all t → IsIdleTask t m w) → (m : ℕ) → m < tasks_in_all t → IsIdleTask t m v
+    idle_again w v same idle m below =
+        let i = idle m below in record {
+          inbox = ap (λ (sides : List TaskSide). (slice_index_or sides m (no_task t)).inbox) same ∙ i.inbox;
+          outbox = ap (λ (sides : List TaskSide). (slice_index_or sides m (no_task t)).outbox) same ∙ i.outbox;
+        }
+
     round_phase : (ticks : ℕ) (h : History) (k : Known) → StillRun (round_with t ticks) h k → AtRest
     round_phase ticks h k still =
         let a = tasks_phase k.world (tasks_in_all t) 0 (map of_acker (range_with_len 0 t.ackers) ++ (replicate ticks of_tick ++ coordinator_steps)) h k
         (subst (λ (steps : List Step). StillRun steps h k) grouped still) refl (λ m below. absurd (omega arith)) in
         let b = ackers_phase k.world.tasks t.ackers 0 (replicate ticks of_tick ++ coordinator_steps) a.h a.k a.still (ap (λ (w : World). w.tasks) a.same) (λ m below. absurd (omega arith)) in
         let c = ticks_phase k.world.tasks t.ackers ticks coordinator_steps b.h b.k b.still b.same (λ m below. b.idle m (omega arith)) in
-        turn_phase c.h c.k c.still
-        (λ m below. (let i = a.idle m (omega arith) in record {
-          inbox = ap (λ (sides : List TaskSide). (slice_index_or sides m (no_task t)).inbox) c.same ∙ i.inbox;
-          outbox = ap (λ (sides : List TaskSide). (slice_index_or sides m (no_task t)).outbox) c.same ∙ i.outbox;
-        })) c.idle
+        turn_phase c.h c.k c.still (idle_again k.world c.k.world c.same (λ m below. a.idle m (omega arith))) c.idle
       where
         grouped : round_with t ticks ≡ map of_task (range_with_len 0 (tasks_in_all t)) ++ (map of_acker (range_with_len 0 t.ackers) ++ (replicate ticks of_tick ++ coordinator_steps))
         grouped = simp append_assoc
