@@ -146,6 +146,7 @@ module _ {I : Type 0} where
       (told tells : List Attempt) : Type 0 where
     pub exhausted : d.exhausted ≡ Some txid
     pub office : office_of new ≡ comes_to d old
+    pub collector : collector_of new ≡ collector_of old
     pub fates : tells ≡ told ++ ended
     pub has_memory : wanted_memory new ≡ false
 

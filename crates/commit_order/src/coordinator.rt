@@ -68,6 +68,13 @@ impl<'p, I: Ids> Coordinator<'p, I> {
         self.office.committed()
     }
 
+    /// The transaction whose attempts have run out, where the coordinator stopped at one.
+    pub fn exhausted(&self) -> Option<u64>
+        ensures { result ≡ (desk_of self.now).exhausted }
+    {
+        self.office.exhausted()
+    }
+
     /// Whether a commit was ordered whose outcome was not told yet.
     pub fn has_commit_out(&self) -> bool
         ensures { result ≡ (desk_of self.now).out }

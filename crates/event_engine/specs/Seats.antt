@@ -1,14 +1,122 @@
--- Seats of the engine as the sides of the world. This project's own.
-use Rattle.std.specs.Prelude.{◌≡◌, ◌<◌, ℕ, List, length, map, Option, Some, slice_get, slice_set, slice_index_or}
+-- Seats of the engine, and the sides of the world that they are. This project's own.
+use Rattle.std.specs.Prelude.{◌≡◌, ℕ, suc, List, [], ◌∷◌, ◌++◌, length, map, Option, Some, slice_get, slice_index_or, slice_set}
 use Rattle.std.specs.List.{AllByRecursion}
+use Rattle.std.specs.Option.{option_to_list}
+use Rattle.acker_core.specs.declared.verdict.Verdict.{Verdict}
 use Rattle.bolt_ops.specs.RowOp.{Custom}
-use Rattle.bolt_task.specs.Executing.{IsSameTask, collector_in, component_at, number_of, topology_at}
+use Rattle.bolt_task.specs.Executing.{IsFor, IsSameTask, collector_in, component_at, number_of, topology_at}
 use Rattle.commit_order.specs.Orders.{stand_of}
 use Rattle.event_engine.specs.declared.acker.AckerSeat.{AckerSeat}
 use Rattle.event_engine.specs.declared.task.TaskSeat.{TaskSeat}
-use Rattle.event_worlds.specs.Worlds.{AckerSide, TaskSide, acted, no_task, task_needs}
+use Rattle.event_worlds.specs.Worlds.{AckerSide, TaskSide, acted, answered, executed, gets_message, needed_by, no_acker, task_needs}
 use Rattle.output_collector.specs.Collectors.{ids_in}
 use Rattle.output_collector.specs.Draws.{Draws}
 use Rattle.storm_ids.specs.declared.ids.Ids.{Ghosts}
 use Rattle.topology_plan.specs.Topology.{Topology, component_of}
+use Rattle.tree_model.specs.declared.messages.AckMsg.{AckMsg}
 use Rattle.tree_model.specs.declared.messages.Parcel.{Parcel}
+use Rattle.tree_model.specs.declared.messages.Tuple.{Tuple}
+
+-- ---- ackers
+
+abbrev pub acker_side : AckerSeat → AckerSide
+acker_side s = record {
+  inbox = s.inbox.items;
+  outbox = option_to_list s.outbox;
+  entries = s.acker.held;
+  counted = s.counted;
+}
+
+abbrev pub buckets_in : AckerSeat → ℕ
+buckets_in s = s.acker.buckets
+
+abbrev pub HasBuckets : ℕ → AckerSeat → Type 0
+HasBuckets buckets s = buckets_in s ≡ buckets
+
+-- a message came to the back of a seat's box
+pub record PutsMessage (m : AckMsg) (n : ℕ) (old new : List AckerSeat) : Type 0 where
+  pub sides : map acker_side new
+      ≡ slice_set (map acker_side old) n
+      (gets_message m (slice_index_or (map acker_side old) n no_acker))
+  pub buckets : map buckets_in new ≡ map buckets_in old
+
+-- the acker of a seat handed this over, or rotated and met a message
+pub record AnswersAt (buckets tick n : ℕ) (verdict : Option Verdict) (old new : List AckerSeat)
+    : Type 0 where
+  pub sides : map acker_side new
+      ≡ slice_set (map acker_side old) n
+      (answered buckets tick (slice_index_or (map acker_side old) n no_acker)).side
+  pub sent : verdict
+      ≡ (answered buckets tick (slice_index_or (map acker_side old) n no_acker)).verdict
+  pub buckets : map buckets_in new ≡ map buckets_in old
+
+-- ---- tasks
+
+module _ {I : Type 0} {g : Ghosts I} where
+  abbrev pub task_side : TaskSeat I g → TaskSide
+  task_side s = record {
+    inbox = s.inbox.items;
+    outbox = s.outbox.items;
+    stand = stand_of (collector_in s.task);
+  }
+
+  -- where a task's ids come from
+  abbrev pub source_in : TaskSeat I g → I
+  source_in s = ids_in (collector_in s.task)
+
+  -- the seat is that of a task of a topology
+  pub record IsSeatOf (t : Topology) (n : ℕ) (s : TaskSeat I g) : Type 0 where
+    pub topology : topology_at s.task ≡ t
+    pub component : component_at s.task ≡ component_of t n
+    pub number : number_of s.task ≡ n
+
+  -- the seats are those of the tasks from a number on
+  abbrev pub AreSeats : Topology → ℕ → List (TaskSeat I g) → Type 0
+  AreSeats t n [] = Unit {0}
+  AreSeats t n (s ∷ seats) = IsSeatOf t n s × AreSeats t (suc n) seats
+
+  -- a task takes each tuple in its box
+  abbrev pub Takes : TaskSeat I g → Type 0
+  Takes s = AllByRecursion (IsFor s.task) s.inbox.items
+
+  -- so does the task of a number
+  abbrev pub TakesAt : ℕ → List (TaskSeat I g) → Type 0
+  TakesAt n seats = (s : TaskSeat I g) → slice_get seats n ≡ Some s → Takes s
+
+  -- a task executed its front tuple, if there was one, with these ids of its source
+  pub record Works (tells : I → (ℕ → ℕ) → ℕ → Type 0) (t : Topology) (custom : Custom) (n : ℕ)
+      (old new : TaskSeat I g) : Type 0 where
+    pub ids : List ℕ
+    pub enough : length ids ≡ needed_by t custom old.inbox.items
+    pub side : task_side new ≡ executed t custom n ids (task_side old) old.inbox.items
+    pub drawn : Draws tells (source_in old) ids (source_in new)
+    pub same_task : IsSameTask new.task old.task
+
+  -- a task handed this over, or executed its front tuple, with these ids of its source
+  pub record Acts (tells : I → (ℕ → ℕ) → ℕ → Type 0) (t : Topology) (custom : Custom) (n : ℕ)
+      (parcel : Option Parcel) (old new : TaskSeat I g) : Type 0 where
+    pub ids : List ℕ
+    pub enough : length ids ≡ task_needs t custom (task_side old)
+    pub side : task_side new ≡ (acted t custom n ids (task_side old)).side
+    pub sent : parcel ≡ (acted t custom n ids (task_side old)).parcel
+    pub drawn : Draws tells (source_in old) ids (source_in new)
+    pub same_task : IsSameTask new.task old.task
+
+  -- the task of a seat among seats did
+  pub record ActsAt (tells : I → (ℕ → ℕ) → ℕ → Type 0) (custom : Custom) (n : ℕ)
+      (parcel : Option Parcel) (old new : List (TaskSeat I g)) : Type 0 where
+    pub before : TaskSeat I g
+    pub after : TaskSeat I g
+    pub at : slice_get old n ≡ Some before
+    pub acts : Acts tells (topology_at before.task) custom (number_of before.task) parcel before after
+    pub others : new ≡ slice_set old n after
+
+  -- a tuple came to the back of a seat's box
+  pub record Puts (tuple : Tuple) (n : ℕ) (old new : List (TaskSeat I g)) : Type 0 where
+    pub before : TaskSeat I g
+    pub after : TaskSeat I g
+    pub at : slice_get old n ≡ Some before
+    pub inbox : after.inbox.items ≡ before.inbox.items ++ tuple ∷ []
+    pub outbox : after.outbox ≡ before.outbox
+    pub task : after.task ≡ before.task
+    pub others : new ≡ slice_set old n after

@@ -1,7 +1,7 @@
 -- The world of tasks, ackers and the coordinator with their boxes, and what each step does to it.
 -- Tasks and ackers after Storm's documentation, "Concepts" and "Acking framework implementation";
 -- the steps are this project's own.
-use Rattle.std.specs.Prelude.{ℕ, zero, suc, ◌+◌, ◌-◌, ◌^◌, ◌==◌, nat_lt, Bool, true, if◌then◌else◌, min, List, [], ◌∷◌, ◌++◌, length, map, take, drop, sum, Option, None, Some, is_some, unwrap_or, slice_get, slice_set, slice_index_or, replicate}
+use Rattle.std.specs.Prelude.{ℕ, zero, suc, ◌+◌, ◌-◌, ◌^◌, ◌==◌, nat_lt, Bool, true, if◌then◌else◌, min, List, [], ◌∷◌, ◌++◌, length, map, take, drop, sum, Option, None, Some, is_some, slice_get, slice_set, slice_index_or, replicate}
 use Rattle.std.specs.Option.{option_to_list}
 use Rattle.std.specs.List.{filter_map, flat_map, range_with_len}
 use Rattle.acker_core.specs.declared.verdict.Verdict.{Verdict}
@@ -56,7 +56,8 @@ pub record AckerSide : Type 0 where
 
 -- The tasks and the ackers in the order of their numbers, where the spout's rows go, the verdicts
 -- in the coordinator's box, the parcels that it has still to hand over, what it knows, the number
--- of the last tick, the ticks since the coordinator's last turn, and the attempts that ended.
+-- of the last tick, the ticks since the coordinator's last turn, which end at 2^32 - 1, and the
+-- attempts that ended.
 pub record World : Type 0 where
   pub tasks : List TaskSide
   pub ackers : List AckerSide
@@ -279,9 +280,13 @@ module _ (t : Topology) (cut : Cut) where
   abbrev pub outcome_step : CommitOutcome → World → World
   outcome_step how w = if w.desk.out then with_progress (decided t cut how w.desk) w else w
 
+-- a number of ticks that a turn counts ends at 2^32 - 1
+abbrev pub ended_turn : ℕ → ℕ
+ended_turn n = min n (2 ^ 32 - 1)
+
 -- a tick
 abbrev pub tick_step : World → World
-tick_step w = record w { tick = ended (w.tick + 1); unheard = w.unheard + 1 }
+tick_step w = record w { tick = ended (w.tick + 1); unheard = ended_turn (w.unheard + 1) }
 
 -- ---- steps
 

@@ -1,0 +1,2 @@
+mod AgedLemmas
+mod SeatLemmas

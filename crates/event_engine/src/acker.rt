@@ -1,0 +1,124 @@
+ghost use Rattle.std.specs.Prelude.{◌≡◌, ◌≤◌, ◌<◌, None, length, IfOk, OnOk};
+ghost use Rattle.std.specs.List.{AllByRecursion};
+ghost use Rattle.event_engine.specs.Seats.{AnswersAt, HasBuckets, PutsMessage, acker_side, buckets_in};
+ghost use Rattle.event_worlds.specs.Worlds.{answered, counted_up, gets_message, meets, no_acker};
+
+use acker_core::{Acker, Verdict};
+use std::alloc::Global;
+use std::collections::VecDeque;
+use storm_values::Memory;
+use tree_model::AckMsg;
+
+/// An acker with its box, the verdict that it has still to hand over, and the number of the tick up
+/// to which its entries have aged.
+#[derive(Drop)]
+pub struct AckerSeat {
+    pub acker: Acker,
+    pub inbox: VecDeque<AckMsg>,
+    pub outbox: Option<Verdict>,
+    pub counted: u64,
+}
+
+impl AckerSeat {
+    /// No entries, in so many buckets, and nothing to hand over.
+    pub fn new(alloc: Global, buckets: u32) -> Result<Self, Memory>
+        requires least { 2 ≤ buckets }
+        requires most { buckets ≤ 16 }
+        ensures side { IfOk result (λ made. acker_side made ≡ no_acker) }
+        ensures buckets { IfOk result (λ made. buckets_in made ≡ buckets) }
+    {
+        Ok(AckerSeat {
+            acker: Acker::new(alloc, buckets)?,
+            inbox: VecDeque::new(alloc),
+            outbox: None,
+            counted: 0,
+        })
+    }
+
+    /// Puts a message at the back of the box.
+    pub fn put(&mut self, message: AckMsg) -> Result<(), Memory>
+        ensures side { OnOk result (acker_side self.new ≡ gets_message message (acker_side self.old)) }
+        ensures buckets { buckets_in self.new ≡ buckets_in self.old }
+    {
+        self.inbox.push_back(message)?;
+        Ok(())
+    }
+
+    /// Hands over the verdict that is left, or else rotates and meets the front message. It answers
+    /// what it hands over.
+    pub fn answer(&mut self, buckets: u32, tick: u64) -> Result<Option<Verdict>, Memory>
+        requires own { buckets_in self.old ≡ buckets }
+        requires some { 1 ≤ buckets }
+        ensures side { OnOk result
+            (acker_side self.new ≡ (answered buckets tick (acker_side self.old)).side) }
+        ensures verdict { IfOk result
+            (λ verdict. verdict ≡ (answered buckets tick (acker_side self.old)).verdict) }
+        ensures buckets { buckets_in self.new ≡ buckets_in self.old }
+    {
+        match self.outbox.take() {
+            Some(verdict) => Ok(Some(verdict)),
+            None => {
+                self.count_up(buckets, tick);
+                self.meet()?;
+                Ok(None)
+            }
+        }
+    }
+
+    // Rotates for each tick since the last time. After as many rotations as there are buckets
+    // nothing is left.
+    fn count_up(&mut self, buckets: u32, tick: u64)
+        requires own { buckets_in self.old ≡ buckets }
+        requires some { 1 ≤ buckets }
+        ensures side { acker_side self.new ≡ counted_up buckets tick (acker_side self.old) }
+        ensures buckets { buckets_in self.new ≡ buckets_in self.old }
+    {
+        let ticks = tick.saturating_sub(self.counted).min(u64::from(buckets));
+        for _ in 0..ticks {
+            self.acker.tick();
+        }
+        self.counted = tick;
+    }
+
+    // Meets the front message, if there is one.
+    fn meet(&mut self) -> Result<(), Memory>
+        requires empty { self.old.outbox ≡ None }
+        ensures side { OnOk result
+            (acker_side self.new ≡ meets (acker_side self.old) (acker_side self.old).inbox) }
+        ensures buckets { buckets_in self.new ≡ buckets_in self.old }
+    {
+        match self.inbox.pop_front() {
+            Some(message) => {
+                self.outbox = self.acker.step(message)?;
+                Ok(())
+            }
+            None => Ok(()),
+        }
+    }
+}
+
+/// Puts a message at the back of an acker's box.
+pub fn put_message(ackers: &mut Vec<AckerSeat>, n: usize, message: AckMsg) -> Result<(), Memory>
+    requires { n < length ackers.old.items }
+    ensures { OnOk result (PutsMessage message n ackers.old.items ackers.new.items) }
+{
+    ackers[n].put(message)?;
+    Ok(())
+}
+
+/// An acker hands over its verdict, or else rotates and meets its front message.
+pub fn answer_at(
+    ackers: &mut Vec<AckerSeat>,
+    n: u32,
+    buckets: u32,
+    tick: u64,
+) -> Result<Option<Verdict>, Memory>
+    requires within { n < length ackers.old.items }
+    requires own { AllByRecursion (HasBuckets buckets) ackers.old.items }
+    requires some { 1 ≤ buckets }
+    ensures { IfOk result (λ verdict. AnswersAt buckets tick n verdict
+        ackers.old.items ackers.new.items) }
+{
+    let verdict = ackers[n as usize].answer(buckets, tick)?;
+    Ok(verdict)
+}

@@ -1,0 +1,164 @@
+ghost use Rattle.std.specs.Prelude.{◌≡◌, ◌<◌, ◌≤◌, ◌-◌, ◌∷◌, ◌++◌, ◌^◌, [], ℕ, false, None, length, map, IfOk, OnOk, OnErr};
+ghost use Rattle.std.specs.List.{range_with_len};
+ghost use Rattle.attempt_fates.specs.Fates.{IsOnce};
+ghost use Rattle.bolt_ops.specs.RowOp.{Custom};
+ghost use Rattle.commit_order.specs.Orders.{desk_of};
+ghost use Rattle.event_engine.specs.Engines.{Answers, Goes, Happens, IsIdle, IsReady, IsSeated, IsStill, IsThere, MayDecide, cut_in, has_ended, shape, sources, topology_in};
+ghost use Rattle.event_worlds.specs.Worlds.{acker_step, delivered, of_acker, of_outcome, of_task, of_tick, of_turn, outcomes_of, task_at, task_needs, task_step, tick_step, turn_needs, turn_step};
+ghost use Rattle.topology_plan.specs.Topology.{Topology, tasks_in_all};
+ghost use Rattle.trident_batches.specs.Batches.{Cut};
+
+use crate::acker::AckerSeat;
+use crate::task::{TaskSeat, act_at, put_tuple};
+use acker_core::Verdict;
+use attempt_fates::Fates;
+use bolt_ops::RowOp;
+use commit_order::{Coordinator, Stop};
+use state_parts::{Commit, CommitOutcome};
+use std::alloc::AllocError;
+use std::collections::VecDeque;
+use storm_ids::Ids;
+use storm_values::Memory;
+use topology_plan::Plan;
+use tree_model::{AckMsg, Parcel};
+
+/// Tasks, ackers and the coordinator, with their boxes. Each event is a step of the world; when all
+/// is over nothing changes.
+#[derive(Drop)]
+pub struct Engine<'p, I: Ids> {
+    pub(crate) plan: &'p Plan,
+    pub(crate) tasks: Vec<TaskSeat<'p, I>>,
+    pub(crate) ackers: Vec<AckerSeat>,
+    pub(crate) coordinator: Coordinator<'p, I>,
+    pub(crate) verdicts: VecDeque<Verdict>,
+    pub(crate) orders: VecDeque<Parcel>,
+    pub(crate) tick: u64,
+    pub(crate) unheard: u32,
+    pub(crate) fates: Fates,
+}
+
+impl<'p, I: Ids> Engine<'p, I> {
+    /// Task n's event: it hands over a parcel, or else executes a tuple.
+    pub fn task<O: RowOp>(&mut self, n: u32, custom: &O) -> Result<(), Memory>
+        requires there { n < tasks_in_all (topology_in self.old) }
+        requires ready { IsReady (topology_in self.old) (cut_in self.old) self.old }
+        ensures ready { OnOk result
+            (IsReady (topology_in self.old) (cut_in self.old) self.new) }
+        ensures goes { OnOk result (Goes I.tells (topology_in self.old) (O.meaning custom.now)
+            (cut_in self.old) (of_task n ∷ []) self.old self.new) }
+        ensures still { IsStill self.old self.new }
+    {
+        if self.is_over() {
+            return Ok(());
+        }
+        self.task_event(n, custom)?;
+        Ok(())
+    }
+
+    /// Acker n's event: it hands over a verdict, or else rotates and meets a message.
+    pub fn acker(&mut self, n: u32) -> Result<(), Memory>
+        requires there { n < (topology_in self.old).ackers }
+        requires ready { IsReady (topology_in self.old) (cut_in self.old) self.old }
+        ensures ready { OnOk result
+            (IsReady (topology_in self.old) (cut_in self.old) self.new) }
+        ensures goes { (custom : Custom) → OnOk result (Goes I.tells (topology_in self.old) custom
+            (cut_in self.old) (of_acker n ∷ []) self.old self.new) }
+        ensures still { IsStill self.old self.new }
+    {
+        if self.is_over() {
+            return Ok(());
+        }
+        self.acker_event(n)?;
+        Ok(())
+    }
+
+    /// A tick.
+    pub fn tick(&mut self)
+        requires { IsReady (topology_in self.old) (cut_in self.old) self.old }
+        ensures ready { IsReady (topology_in self.old) (cut_in self.old) self.new }
+        ensures goes { (custom : Custom) → Goes I.tells (topology_in self.old) custom
+            (cut_in self.old) (of_tick ∷ []) self.old self.new }
+        ensures still { IsStill self.old self.new }
+    {
+        if self.is_over() {
+            return;
+        }
+        self.tick_event();
+    }
+
+    /// Whether all is over: every batch is committed, or all attempts of one ended without a commit.
+    pub fn is_over(&self) -> bool
+        ensures { result ≡ has_ended self.now }
+    {
+        if self.coordinator.exhausted().is_some() {
+            return true;
+        }
+        self.coordinator.finished()
+    }
+
+    // Puts a parcel at the back of the box that it names.
+    fn deliver(&mut self, parcel: Parcel) -> Result<(), Memory>
+        requires { IsThere (length self.old.tasks.items) (length self.old.ackers.items) parcel }
+        ensures done { OnOk result
+            (shape self.new ≡ delivered (topology_in self.old) parcel (shape self.old)) }
+        ensures sources { OnOk result (sources self.new ≡ sources self.old) }
+        ensures seated { (t : Topology) (cut : Cut) → IsSeated t cut self.old
+            → OnOk result (IsSeated t cut self.new) }
+        ensures still { IsStill self.old self.new }
+    {
+        match parcel {
+            Parcel::ToTask(n, tuple) => put_tuple(&mut self.tasks, n as usize, tuple)?,
+            Parcel::ToAcker(n, message) => put_message(&mut self.ackers, n as usize, message)?,
+        }
+        Ok(())
+    }
+
+    // What a task does at its event.
+    fn task_event<O: RowOp>(&mut self, n: u32, custom: &O) -> Result<(), Memory>
+        requires there { n < tasks_in_all (topology_in self.old) }
+        requires ready { IsReady (topology_in self.old) (cut_in self.old) self.old }
+        ensures done { OnOk result (Happens I.tells n
+            (task_needs (topology_in self.old) (O.meaning custom.now)
+            (task_at (topology_in self.old) n (shape self.old)))
+            (λ ids w. task_step (topology_in self.old) (O.meaning custom.now) n ids w)
+            self.old self.new) }
+        ensures seated { OnOk result
+            (IsSeated (topology_in self.old) (cut_in self.old) self.new) }
+        ensures still { IsStill self.old self.new }
+    {
+        match act_at(&mut self.tasks, n, custom)? {
+            Some(parcel) => self.deliver(parcel)?,
+            None => (),
+        }
+        Ok(())
+    }
+
+    // What an acker does at its event.
+    fn acker_event(&mut self, n: u32) -> Result<(), Memory>
+        requires there { n < (topology_in self.old).ackers }
+        requires ready { IsReady (topology_in self.old) (cut_in self.old) self.old }
+        ensures done { OnOk result
+            (shape self.new ≡ acker_step (topology_in self.old) n (shape self.old)) }
+        ensures sources { OnOk result (sources self.new ≡ sources self.old) }
+        ensures seated { OnOk result
+            (IsSeated (topology_in self.old) (cut_in self.old) self.new) }
+        ensures still { IsStill self.old self.new }
+    {
+        let buckets = self.plan.buckets();
+        if let Some(verdict) = answer_at(&mut self.ackers, n, buckets, self.tick)? {
+            self.verdicts.push_back(verdict)?;
+        }
+        Ok(())
+    }
+
+    fn tick_event(&mut self)
+        ensures done { shape self.new ≡ tick_step (shape self.old) }
+        ensures sources { sources self.new ≡ sources self.old }
+        ensures seated { (t : Topology) (cut : Cut) → IsSeated t cut self.old
+            → IsSeated t cut self.new }
+        ensures still { IsStill self.old self.new }
+    {
+        self.tick = self.tick.saturating_add(1);
+        self.unheard = self.unheard.saturating_add(1);
+    }
+}

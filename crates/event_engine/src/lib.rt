@@ -1,0 +1,9 @@
+//! The engine of tasks, ackers and the coordinator with their boxes: each event is a step of the
+//! world, on one thread.
+#![tactic(auto)]
+
+mod acker;
+mod engine;
+mod task;
+
+pub use engine::Engine;
