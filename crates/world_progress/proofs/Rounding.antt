@@ -5,6 +5,7 @@ use Rattle.std.specs.List.{AllByRecursion}
 use Rattle.std.proofs.lemmas.Bool.{cases_lt}
 use Rattle.std.proofs.lemmas.List.{get_or-replicate, get_or_past, length-replicate}
 use Rattle.bolt_ops.specs.RowOp.{Custom}
+use Rattle.commit_turns.specs.Outcomes.{IsOutcome}
 use Rattle.commit_turns.specs.Turns.{is_finished}
 use Rattle.event_worlds.specs.Accounted.{IsInput, LedTo}
 use Rattle.event_worlds.specs.Added.{added}
@@ -22,6 +23,10 @@ use Rattle.world_progress.proofs.Lasting.{AreSeats, IsSeat, Lasting}
 use Rattle.world_progress.proofs.Phases.{LowestStays, round_stirs}
 use Rattle.world_progress.proofs.Resting.{all_settled}
 use Rattle.world_progress.proofs.Running.{LeadsOn, Starts, Still, comes, goes_all, over_stays, so_far, starts-next, ticks-cons}
+
+-- a commit that is done is an outcome
+pub all_done_fits : (t : Topology) (outcomes : List CommitOutcome) → All (λ (how : CommitOutcome). how ≡ outcome.Done) outcomes → All (IsOutcome t) outcomes
+all_done_fits t outcomes all = λ k d below. subst (IsOutcome t) (sym (all k d below)) tt
 
 pub ticks-append : (a b : List Step) → ticks_in (a ++ b) ≡ ticks_in a + ticks_in b
 ticks-append [] b = omega arith

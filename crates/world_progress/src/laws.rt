@@ -10,6 +10,11 @@ ghost use Rattle.topology_plan.specs.Topology.{Topology};
 ghost use Rattle.trident_batches.specs.Batches.{Cut};
 ghost use Rattle.world_progress.specs.Rounds.{CanFinish, DoesNotCoincide, HasRounds, rounds_needed, ticks_in};
 
+use commit_turns::lowest_is_pending;
+use event_worlds::steps_add_to_histories;
+use tree_model::nodes_of_joined_rows;
+use trident_batches::batches_in_order_are_all_records;
+
 /// A law: where every bolt lets batches through within the attempts of the plan, no commit fails, no
 /// ids coincide and fewer ticks pass than there are buckets, enough whole rounds commit every batch.
 pub fn enough_rounds_finish()
@@ -20,4 +25,9 @@ pub fn enough_rounds_finish()
         → All DoesNotCoincide (world_after t custom cut words outcomes steps).fates
         → HasRounds t (rounds_needed t custom cut) steps → ticks_in steps < t.buckets
         → is_finished t cut (world_after t custom cut words outcomes steps).desk ≡ true }
-{}
+{
+    steps_add_to_histories();
+    lowest_is_pending();
+    nodes_of_joined_rows();
+    batches_in_order_are_all_records();
+}
