@@ -1,17 +1,17 @@
 -- What an acker's step adds to what was done.
-use Rattle.std.proofs.Common.{◌≡◌, ◌≢◌, ◌<◌, ◌≤◌, inl, inr, ℕ, zero, suc, ◌+◌, ◌-◌, List, [], ◌∷◌, ◌++◌, length, get_or, set, slice_index_or, Option, None, Some, refl, sym, ap, ◌∙◌, subst, arith}
+use Rattle.std.proofs.Common.{◌≡◌, ◌<◌, inl, inr, ℕ, suc, ◌-◌, List, [], ◌∷◌, ◌++◌, length, get_or, set, None, Some, refl, sym, ap, subst, arith}
 use Rattle.std.specs.Option.{option_to_list}
 use Rattle.std.proofs.lemmas.Bool.{cases_lt}
 use Rattle.std.proofs.lemmas.List.{append-nil, length-append, get_or_past, set_past}
 use Rattle.acker_core.specs.declared.verdict.Verdict.{Verdict}
-use Rattle.counted_items.specs.Weights.{weigh}
 use Rattle.event_worlds.specs.Added.{acker_adds, acker_adds_past, meets_front, lost}
-use Rattle.event_worlds.specs.Worlds.{AckerSide, Answered, World, acker_at, acker_step, aged, answered, answered_past, counted_up, meets, no_acker}
+use Rattle.event_worlds.specs.Worlds.{AckerSide, Answered, World, acker_at, acker_step, aged, answered_past, counted_up, meets, no_acker}
 use Rattle.topology_plan.specs.Topology.{Topology}
 use Rattle.tree_model.specs.declared.messages.AckMsg.{AckMsg}
 use Rattle.tuple_account.specs.Histories.{History, joined, nothing}
-use Rattle.world_progress.proofs.Doing.{Stepped, rose, kept, done, in_boxes, messages_in, taken_from, taken-joined, begun-joined}
-use Rattle.world_progress.proofs.Lists.{at-set, weigh-set}
+use Rattle.world_progress.proofs.Doing.{Stepped, rose, kept, done, messages_in}
+use Rattle.event_worlds.proofs.Waiting.{weigh-set}
+use Rattle.world_progress.proofs.Lists.{at-set}
 
 -- its box and its outbox are empty
 pub record IsIdleSide (side : AckerSide) : Type 0 where

@@ -1,30 +1,28 @@
 -- What can be done is bounded by the attempts that a plan allows and the nodes of all records.
-use Rattle.std.proofs.Common.{◌≡◌, ◌≢◌, ◌<◌, ◌≤◌, ℕ, zero, suc, ◌+◌, ◌-◌, ◌*◌, ◌==◌, ◌&&◌, Bool, true, false, cond, List, [], ◌∷◌, ◌++◌, length, map, filter, flat_map, refl, sym, ap, ◌∙◌, subst, arith}
+use Rattle.std.proofs.Common.{◌≡◌, ◌<◌, ◌≤◌, ℕ, zero, suc, ◌+◌, ◌*◌, ◌==◌, ◌&&◌, Bool, true, false, cond, List, [], ◌∷◌, ◌++◌, length, filter, flat_map, refl, sym, ap, ◌∙◌, arith}
 use Rattle.std.specs.List.{AllByRecursion, range_with_len}
 use Rattle.std.specs.Cmp.{nat_eq_equiv}
-use Rattle.std.proofs.Math.Nat.{add-mul, mul-add, mul-le-mul_left, mul_assoc}
+use Rattle.std.proofs.Math.Nat.{mul-add, mul_assoc}
 use Rattle.std.proofs.lemmas.List.{length-map}
 use Rattle.attempt_fates.specs.declared.fates.Attempt.{Attempt}
-use Rattle.attempt_fates.specs.Fates.{committed, committed_txids, is_committed}
+use Rattle.attempt_fates.specs.Fates.{committed, is_committed}
 use Rattle.bolt_ops.specs.RowOp.{Custom}
-use Rattle.commit_turns.specs.Account.{desk_of, ended_of, ends_of, rows_in, waits_of}
+use Rattle.commit_turns.specs.Account.{ended_of, rows_in}
 use Rattle.counted_items.specs.Weights.{weigh}
-use Rattle.counted_items.proofs.Each.{each-any, each-both}
 use Rattle.counted_items.proofs.Weighing.{each-weighs, weigh-le, weigh-le_each, weigh-map, weigh-ones, weigh-same, weigh-swap, weigh-zero}
 use Rattle.acker_core.specs.declared.verdict.Verdict.{Verdict}
 use Rattle.event_worlds.specs.Accounted.{IsInput, LedTo, station_of, weigh_ackers, weigh_tasks}
-use Rattle.event_worlds.specs.Worlds.{AckerSide, Known, TaskSide, World}
+use Rattle.event_worlds.specs.Worlds.{AckerSide, Known, TaskSide}
 use Rattle.storm_values.specs.declared.value.Root.{Root}
 use Rattle.storm_values.specs.declared.value.Value.{Value}
 use Rattle.topology_plan.specs.Topology.{Topology}
 use Rattle.topology_plan.specs.Valid.{IsValid}
 use Rattle.tree_model.specs.declared.messages.AckMsg.{AckMsg}
-use Rattle.tree_model.specs.declared.messages.Parcel.TheVariants.{ToTask, ToAcker}
 use Rattle.tree_model.specs.declared.messages.Tuple.{Tuple}
 use Rattle.tree_model.specs.Trees.{node_count}
-use Rattle.trident_batches.specs.Batches.{Cut, batch_count, batch_of, batches_joined}
-use Rattle.tuple_account.specs.Ends.{Ended, Waits}
-use Rattle.tuple_account.specs.Histories.{Execution, History, Opening, Packet, Receipt, Told, of_parcel, of_verdict, on_tuple, opens, taken, weigh_parcels}
+use Rattle.trident_batches.specs.Batches.{Cut, batch_count, batches_joined}
+use Rattle.tuple_account.specs.Ends.{Ended}
+use Rattle.tuple_account.specs.Histories.{Execution, History, Opening, Receipt, Told, on_tuple, opens}
 use Rattle.tuple_account.specs.Moves.{Reached, Station, account_of}
 use Rattle.tuple_account.specs.Sound.{tells}
 use Rattle.tuple_account.proofs.Reading.{few, messages_weight, notes_are, packets, tuples_weight}
@@ -32,7 +30,7 @@ use Rattle.tuple_account.proofs.Sending.{issued_verdicts, on_message, on_verdict
 use Rattle.tuple_account.proofs.Telling.{told_begun}
 use Rattle.tuple_runs.specs.Accounts.{is_of, issued_notes}
 use Rattle.tuple_runs.specs.Accounts as tuples
-use Rattle.tuple_runs.specs.Issued.{Run, course_of_run, init_of, notes_by, notes_of}
+use Rattle.tuple_runs.specs.Issued.{Run, course_of_run, notes_by, notes_of}
 use Rattle.tuple_tickets.specs.Roots.{root_eq}
 use Rattle.tuple_tickets.specs.Trees.{Course, fails, goes, mute}
 use Rattle.tuple_tickets.proofs.Roots.{root_itself}
@@ -153,12 +151,6 @@ filter_few test (x ∷ xs) = by (test x) (filter_few test xs)
     by false rest = omega arith
 
 module _ (t : Topology) (custom : Custom) (cut : Cut) (words : ℕ → ℕ → ℕ) (adds : NodesAdd) (batches_are : BatchesAreAll) (input : IsInput t cut) (h : History) (k : Known) (led : LedTo t custom cut words h k) where
-  abbrev nodes : ℕ
-  nodes = node_count t custom cut.records
-
-  abbrev batches : ℕ
-  batches = batch_count (length cut.records) cut.size
-
   tuples_all : length (tuples.issued t custom (account_of h (station_of k))) ≤ t.attempts * node_count t custom cut.records
   tuples_all =
       let f = tuples_few t custom h (station_of k) led.reached input.valid (rows_in cut) led.fits.rows in

@@ -1,21 +1,19 @@
 -- How much was done: a number that never falls, and what each kind of step adds to it.
-use Rattle.std.proofs.Common.{◌≡◌, ◌≢◌, ◌<◌, ◌≤◌, ℕ, zero, suc, ◌+◌, ◌-◌, ◌*◌, Bool, true, false, cond, List, [], ◌∷◌, ◌++◌, length, get_or, set, slice_get, slice_set, slice_index_or, drop, Option, None, Some, refl, sym, ap, ◌∙◌, subst, arith}
+use Rattle.std.proofs.Common.{◌≡◌, ◌<◌, ◌≤◌, ℕ, ◌+◌, List, [], ◌∷◌, ◌++◌, length, set, refl, sym, ap, ◌∙◌, subst, arith}
 use Rattle.std.specs.List.{AllByRecursion}
-use Rattle.std.specs.Option.{option_to_list}
 use Rattle.std.proofs.lemmas.List.{get_or_past, length-append, length-set, set-get_or, set_past}
-use Rattle.acker_core.specs.declared.verdict.Verdict.{Verdict}
 use Rattle.bolt_ops.specs.RowOp.{Custom}
 use Rattle.counted_items.specs.Weights.{weigh}
-use Rattle.event_worlds.specs.Added.{acker_adds, acker_adds_past, executes, meets_front, lost, task_adds, task_adds_past}
-use Rattle.event_worlds.specs.Orderly.{AreTasksOrderly, FitsParcel, IsOrderly, IsTaskOrderly}
-use Rattle.event_worlds.specs.Worlds.{Acted, AckerSide, Answered, TaskSide, World, acker_at, acker_step, acted, acted_past, aged, answered, answered_past, counted_up, delivered, executed, meets, no_acker, no_task, sent, task_at, task_step, with_acker, with_task}
+use Rattle.event_worlds.specs.Added.{executes, task_adds, task_adds_past}
+use Rattle.event_worlds.specs.Orderly.{FitsParcel, IsOrderly}
+use Rattle.event_worlds.specs.Worlds.{AckerSide, TaskSide, World, acker_at, acted, acted_past, delivered, executed, no_acker, no_task, sent, task_at, task_step, with_task}
 use Rattle.topology_plan.specs.Topology.{Topology, tasks_in_all}
-use Rattle.tree_model.specs.declared.messages.AckMsg.{AckMsg}
 use Rattle.tree_model.specs.declared.messages.Parcel.{Parcel}
 use Rattle.tree_model.specs.declared.messages.Parcel.TheVariants.{ToTask, ToAcker}
 use Rattle.tree_model.specs.declared.messages.Tuple.{Tuple}
 use Rattle.tuple_account.specs.Histories.{History, joined, nothing}
-use Rattle.world_progress.proofs.Lists.{weigh-set}
+use Rattle.event_worlds.proofs.Orderly.{task-seat}
+use Rattle.event_worlds.proofs.Waiting.{weigh-set}
 
 -- ---- the number
 
@@ -76,14 +74,6 @@ pub data Stepped (before after : ℕ) (Quiet : Type 0) : Type 0 where
   rose : (more : before < after) → Stepped before after Quiet
   kept : (same : after ≡ before) (quiet : Quiet) → Stepped before after Quiet
 
-seat_from : (t : Topology) (a : ℕ) (sides : List TaskSide) (i n : ℕ) (d : TaskSide) → AreTasksOrderly t a sides → i < length sides → n ≡ a + i → IsTaskOrderly t n (get_or sides i d)
-seat_from t a [] i n d all below at = absurd (omega arith)
-seat_from t a (side ∷ sides) zero n d all below at = let e : n ≡ a = omega arith in subst (λ (m : ℕ). IsTaskOrderly t m side) (sym e) all.0
-seat_from t a (side ∷ sides) (suc i) n d all below at = seat_from t (suc a) sides i n d all.1 (omega arith) (omega arith)
-
-pub task_seat : (t : Topology) (w : World) → IsOrderly t w → (n : ℕ) → n < tasks_in_all t → IsTaskOrderly t n (task_at t n w)
-task_seat t w is n there = seat_from t 0 w.tasks n n (no_task t) is.tasks (let c = is.task_count in omega arith) (omega arith)
-
 module _ (t : Topology) (custom : Custom) (w : World) (is : IsOrderly t w) (h : History) (n at : ℕ) (ids : List ℕ) where
   abbrev pub DoesTask : Type 0
   DoesTask = Stepped (done h w) (done (joined h (task_adds t custom n at ids (task_at t n w))) (task_step t custom n ids w)) ((task_step t custom n ids w ≡ w) × IsIdleTask t n w)
@@ -95,7 +85,7 @@ module _ (t : Topology) (custom : Custom) (w : World) (is : IsOrderly t w) (h : 
   hands_over : n < tasks_in_all t → (p : Parcel) (rest : List Parcel) → (task_at t n w).outbox ≡ p ∷ rest
       → done (joined h nothing) (delivered t p (with_task n (record (task_at t n w) { outbox = rest }) w)) ≡ done h w + 1
   hands_over there p rest out =
-      let fits : AllByRecursion (FitsParcel t) (p ∷ rest) = subst (AllByRecursion (FitsParcel t)) out (task_seat t w is n there).outbox in
+      let fits : AllByRecursion (FitsParcel t) (p ∷ rest) = subst (AllByRecursion (FitsParcel t)) out (task-seat t w is n there).0.outbox in
       let c = is.task_count in
       let l : length (set w.tasks n (record (task_at t n w) { outbox = rest })) ≡ tasks_in_all t = length-set w.tasks n (record (task_at t n w) { outbox = rest }) ∙ c in
       let b = in_boxes-delivered t p (with_task n (record (task_at t n w) { outbox = rest }) w) l is.acker_count fits.0 in

@@ -1,6 +1,6 @@
 -- Where a run of which nothing is lost is over, every batch is committed: the last attempt of a
 -- transaction does not end without a commit.
-use Rattle.std.proofs.Common.{◌≡◌, ◌≢◌, ◌<◌, ◌≤◌, inl, inr, ℕ, zero, suc, ◌+◌, ◌-◌, ◌==◌, Bool, true, false, cond, List, [], ◌∷◌, ◌++◌, length, get_or, map, filter, slice_get, Option, None, Some, refl, sym, ap, ◌∙◌, subst, arith, eqb-true}
+use Rattle.std.proofs.Common.{◌≡◌, ◌≢◌, ◌<◌, ◌≤◌, inl, inr, ℕ, zero, suc, ◌+◌, ◌==◌, Bool, true, false, cond, List, [], ◌∷◌, length, get_or, filter, slice_get, Option, None, Some, refl, sym, ap, ◌∙◌, subst, arith, eqb-true}
 use Rattle.std.specs.Prelude.{All, is_some}
 use Rattle.std.specs.List.{AllByRecursion, range_with_len}
 use Rattle.std.specs.Option.{option_map_or}
@@ -19,8 +19,8 @@ use Rattle.commit_turns.specs.Desks.{Desk}
 use Rattle.commit_turns.specs.Kept.{IsKept, is_failed_commit}
 use Rattle.commit_turns.specs.Turns.{is_finished}
 use Rattle.counted_items.proofs.Each.{each-both, each-map, each-to_map, each-weaker}
-use Rattle.event_worlds.specs.Accounted.{LedTo, station_of}
-use Rattle.event_worlds.specs.Worlds.{Known, World, is_over}
+use Rattle.event_worlds.specs.Accounted.{station_of}
+use Rattle.event_worlds.specs.Worlds.{Known, is_over}
 use Rattle.storm_values.specs.declared.value.Value.{Value}
 use Rattle.topology_plan.specs.declared.parts.Body.{Body}
 use Rattle.topology_plan.specs.declared.parts.Body.TheVariants.{Bolt, State}
@@ -30,10 +30,10 @@ use Rattle.topology_plan.specs.Valid.{IsValid}
 use Rattle.tree_model.specs.Courses.{course_at, course_by, course_of}
 use Rattle.tree_model.specs.Trees.{Node}
 use Rattle.trident_batches.specs.Batches.{Cut, batch_count}
-use Rattle.tuple_account.specs.Ends.{CauseBy, Ended, HasCause}
+use Rattle.tuple_account.specs.Ends.{CauseBy, HasCause}
 use Rattle.tuple_account.specs.Histories.{History}
 use Rattle.tuple_account.proofs.Ending as ending
-use Rattle.tuple_tickets.specs.Trees.{Course, fails, goes, mute}
+use Rattle.tuple_tickets.specs.Trees.{fails, goes, mute}
 use Rattle.world_progress.specs.Rounds.{CanFinish, DoesNotCoincide, EndsByBody}
 use Rattle.world_progress.proofs.Lasting.{Lasting}
 use Rattle.world_progress.proofs.Resting.{at_last}

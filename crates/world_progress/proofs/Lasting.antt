@@ -1,20 +1,18 @@
 -- Worlds in which nothing was lost: no entry was dropped, and no commit failed.
-use Rattle.std.proofs.Common.{◌≡◌, ◌≢◌, ◌<◌, ◌≤◌, inl, inr, ℕ, zero, suc, ◌+◌, ◌-◌, ◌^◌, Bool, true, false, cond, List, [], ◌∷◌, ◌++◌, length, get_or, set, slice_get, Option, None, Some, refl, sym, ap, ◌∙◌, subst, arith}
+use Rattle.std.proofs.Common.{◌≡◌, ◌<◌, ◌≤◌, inl, inr, ℕ, zero, suc, ◌+◌, ◌-◌, ◌^◌, Bool, true, false, cond, List, [], ◌∷◌, ◌++◌, length, get_or, slice_get, Option, None, Some, refl, sym, ap, ◌∙◌, subst, arith}
 use Rattle.std.specs.List.{AllByRecursion}
 use Rattle.std.proofs.lemmas.Bool.{cases_lt}
 use Rattle.std.proofs.lemmas.List.{append-nil, get_or_past}
 use Rattle.acker_core.specs.declared.verdict.Verdict.{Verdict}
-use Rattle.attempt_fates.specs.declared.fates.Attempt.{Attempt}
 use Rattle.bolt_ops.specs.RowOp.{Custom}
 use Rattle.commit_turns.specs.declared.wait.Wait.{Wait}
-use Rattle.commit_turns.specs.Desks.{Progress}
 use Rattle.commit_turns.specs.Kept.{is_failed_commit}
-use Rattle.commit_turns.specs.Turns.{decided, decided_by, end_by, next_to_commit, turned}
+use Rattle.commit_turns.specs.Turns.{decided_by, end_by, next_to_commit}
 use Rattle.counted_items.specs.Weights.{weigh}
 use Rattle.counted_items.proofs.Each.{each-append}
 use Rattle.event_worlds.specs.Accounted.{LedTo, station_of, weigh_ackers}
-use Rattle.event_worlds.specs.Added.{acker_adds, acker_adds_past, added, executes, lost, meets_front, step_adds, task_adds, task_adds_past, turn_adds, turn_adds_past}
-use Rattle.event_worlds.specs.Worlds.{AckerSide, Answered, Known, Step, TaskSide, World, acker_at, acker_step, acted, acted_past, aged, answered, answered_past, counted_up, delivered, ended, executed, is_over, meets, next, next_outcome, next_words, no_acker, of_acker, of_outcome, of_task, of_tick, of_turn, outcome_step, sent, step, task_at, task_needs, task_step, tick_step, turn_needs, turn_past, turn_step, turned_in, with_progress, with_task}
+use Rattle.event_worlds.specs.Added.{acker_adds, acker_adds_past, added, executes, lost, step_adds, task_adds, task_adds_past, turn_adds, turn_adds_past}
+use Rattle.event_worlds.specs.Worlds.{AckerSide, Known, Step, TaskSide, World, acker_at, acker_step, acted_past, aged, answered, answered_past, counted_up, delivered, executed, is_over, meets, next, next_outcome, next_words, no_acker, of_acker, of_outcome, of_task, of_tick, of_turn, outcome_step, sent, step, task_at, task_needs, task_step, tick_step, turn_needs, turn_past, turn_step, turned_in, with_progress, with_task}
 use Rattle.state_parts.specs.declared.answer.CommitOutcome.{CommitOutcome}
 use Rattle.state_parts.specs.declared.answer.CommitOutcome.TheVariants as outcome
 use Rattle.storm_values.specs.declared.value.Root.{Root}
@@ -25,8 +23,8 @@ use Rattle.tree_model.specs.declared.messages.Parcel.TheVariants.{ToTask, ToAcke
 use Rattle.tree_model.specs.declared.messages.Tuple.{Tuple}
 use Rattle.tree_model.specs.Lists.{root_of}
 use Rattle.trident_batches.specs.Batches.{Cut}
-use Rattle.tuple_account.specs.Histories.{History, Packet, acker_of, joined, nothing, of_parcel, of_verdict, taken}
-use Rattle.tuple_account.specs.Moves.{Reached, Station}
+use Rattle.tuple_account.specs.Histories.{History, Packet, acker_of, joined, nothing, of_parcel, taken}
+use Rattle.tuple_account.specs.Moves.{Reached}
 use Rattle.tuple_account.proofs.Routing as routing
 use Rattle.world_progress.proofs.Lists.{at-set}
 use Rattle.world_progress.proofs.Seats.{AreYoung, young-aged, young-met}

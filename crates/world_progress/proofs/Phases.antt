@@ -1,6 +1,6 @@
 -- A round in which nothing is done finds every box and outbox empty, and a commit out where an
 -- attempt is settled.
-use Rattle.std.proofs.Common.{◌≡◌, ◌≢◌, ◌<◌, ◌≤◌, inl, inr, ℕ, zero, suc, ◌+◌, ◌-◌, ◌==◌, ◌&&◌, ◌||◌, Bool, true, false, cond, List, [], ◌∷◌, ◌++◌, length, map, drop, replicate, slice_get, slice_index_or, Option, None, Some, refl, sym, ap, ◌∙◌, subst, arith}
+use Rattle.std.proofs.Common.{◌≡◌, ◌≢◌, ◌<◌, ◌≤◌, inl, inr, ℕ, zero, suc, ◌+◌, ◌==◌, ◌&&◌, ◌||◌, Bool, true, false, cond, List, [], ◌∷◌, ◌++◌, length, map, drop, replicate, slice_get, slice_index_or, Option, None, Some, refl, sym, ap, ◌∙◌, subst, arith}
 use Rattle.std.specs.Prelude.{All, is_some}
 use Rattle.std.specs.List.{AllByRecursion, find, flat_map, range_with_len}
 use Rattle.std.specs.Cmp.{nat_eq_equiv}
@@ -14,13 +14,12 @@ use Rattle.commit_turns.specs.Desks.{Desk, has_txid}
 use Rattle.commit_turns.specs.Kept.{HasLowest, IsKept}
 use Rattle.commit_turns.specs.Turns.{is_finished, next_to_commit, turned}
 use Rattle.event_worlds.specs.Added.{step_adds}
-use Rattle.event_worlds.specs.Worlds.{AckerSide, Known, Step, TaskSide, World, acker_at, coordinator_steps, is_over, next_outcome, no_acker, no_task, next_words, of_acker, of_outcome, of_task, of_tick, of_turn, opened, outcome_step, outcomes_of, step, task_at, task_needs, turn_needs, turn_past, turn_step, turned_in}
+use Rattle.event_worlds.specs.Worlds.{AckerSide, Known, Step, TaskSide, World, coordinator_steps, no_acker, no_task, next_words, of_acker, of_outcome, of_task, of_tick, of_turn, opened, outcome_step, outcomes_of, step, task_at, task_needs, turn_needs, turn_past, turn_step, turned_in}
 use Rattle.state_parts.specs.declared.answer.CommitOutcome.{CommitOutcome}
 use Rattle.state_parts.specs.declared.answer.CommitOutcome.TheVariants as outcome
 use Rattle.storm_values.specs.declared.value.Root.{Root}
 use Rattle.topology_plan.specs.Topology.{Topology, tasks_in_all}
 use Rattle.topology_plan.specs.Valid.{IsValid}
-use Rattle.tree_model.specs.declared.messages.AckMsg.{AckMsg}
 use Rattle.tree_model.specs.declared.messages.Parcel.{Parcel}
 use Rattle.trident_batches.specs.Batches.{Cut, batch_count}
 use Rattle.tuple_account.specs.Histories.{History, joined, nothing, opening_parcels}

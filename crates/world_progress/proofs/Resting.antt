@@ -1,13 +1,13 @@
 -- Where nothing stands in a world in which nothing was lost, all pending attempts are settled.
-use Rattle.std.proofs.Common.{◌≡◌, ◌≢◌, ◌<◌, ◌≤◌, inl, inr, ℕ, zero, suc, ◌+◌, ◌-◌, ◌==◌, nat_lt, Bool, true, false, cond, List, [], ◌∷◌, ◌++◌, length, get_or, map, slice_get, Option, None, Some, refl, sym, ap, ◌∙◌, subst, arith}
+use Rattle.std.proofs.Common.{◌≡◌, ◌≢◌, ◌<◌, ◌≤◌, inl, inr, ℕ, zero, suc, ◌+◌, ◌-◌, nat_lt, Bool, true, false, cond, List, [], ◌∷◌, length, get_or, map, slice_get, Option, None, refl, sym, ap, ◌∙◌, subst, arith}
 use Rattle.std.specs.Prelude.{All, sum_by}
 use Rattle.std.specs.List.{AllByRecursion, flat_map}
 use Rattle.std.specs.Option.{option_map_or}
-use Rattle.std.proofs.lemmas.Bool.{and_parts, cases_lt, cases_eq, le-ltb, ltb-false, ltb-true}
+use Rattle.std.proofs.lemmas.Bool.{and_parts, cases_eq, le-ltb, ltb-false, ltb-true}
 use Rattle.std.proofs.lemmas.List.Sums.{sum_by-cons}
 use Rattle.std.proofs.lemmas.Option.{slice_get-get_or}
-use Rattle.acker_core.specs.Entries.{AreSilent, tell}
-use Rattle.bolt_ops.specs.Operations.{exec_of, fails_at, is_mute_at, out}
+use Rattle.acker_core.specs.Entries.{tell}
+use Rattle.bolt_ops.specs.Operations.{fails_at, is_mute_at, out}
 use Rattle.bolt_ops.specs.RowOp.{Custom}
 use Rattle.bolt_ops.specs.declared.operation.Outcome.TheVariants as outcome
 use Rattle.commit_turns.specs.declared.wait.Wait.{Wait}
@@ -15,8 +15,8 @@ use Rattle.commit_turns.specs.Account.{desk_of, ends_of, rows_in, waits_of}
 use Rattle.counted_items.specs.Weights.{weigh}
 use Rattle.counted_items.proofs.Each.{each-both, each-flat_map, each-map, each-weaker}
 use Rattle.counted_items.proofs.Weighing.{each-weighs, weigh-flat_map, weigh-map, weigh-le_each, weigh-zero}
-use Rattle.event_worlds.specs.Accounted.{LedTo, station_of, weigh_ackers, weigh_tasks}
-use Rattle.event_worlds.specs.Worlds.{AckerSide, Known, TaskSide, World, no_acker, no_task}
+use Rattle.event_worlds.specs.Accounted.{station_of, weigh_ackers, weigh_tasks}
+use Rattle.event_worlds.specs.Worlds.{AckerSide, Known, TaskSide, no_acker, no_task}
 use Rattle.rotating_ledger.specs.Held.{Held}
 use Rattle.storm_values.specs.declared.value.Root.{Root}
 use Rattle.storm_values.specs.declared.value.Value.{Value}
@@ -31,14 +31,13 @@ use Rattle.tree_model.specs.declared.messages.AckMsg.{AckMsg}
 use Rattle.tree_model.specs.declared.messages.Parcel.TheVariants.{ToTask, ToAcker}
 use Rattle.tree_model.specs.declared.messages.Tuple.{Tuple}
 use Rattle.tree_model.specs.Courses.{course_at, course_by, course_of}
-use Rattle.tree_model.specs.Trees.{Node, node_count, nodes_of}
+use Rattle.tree_model.specs.Trees.{node_count, nodes_of}
 use Rattle.trident_batches.specs.Batches.{Cut}
 use Rattle.tuple_account.specs.Ends.{Waits}
-use Rattle.tuple_account.specs.Fits.{Fits, is_tried}
+use Rattle.tuple_account.specs.Fits.{is_tried}
 use Rattle.tuple_account.specs.Histories.{Execution, History, IsTaskOf, Opening, Packet, acker_of, of_parcel, of_verdict, on_tuple, opens, taken, weigh_parcels}
 use Rattle.tuple_account.specs.Histories as histories
 use Rattle.tuple_account.specs.Moves.{Reached, Station, account_of}
-use Rattle.tuple_account.specs.Parts.{weigh_entries}
 use Rattle.tuple_account.specs.Sound.{IsRouted}
 use Rattle.tuple_account.specs.Stuck.{IsStuck, holds}
 use Rattle.tuple_account.proofs.Reading.{few, packets, rows_are_found, tuples_weight}
@@ -46,15 +45,13 @@ use Rattle.tuple_account.proofs.Routing as routing
 use Rattle.tuple_account.proofs.Settling as settling
 use Rattle.tuple_runs.specs.Accounts.{is_of}
 use Rattle.tuple_runs.specs.Accounts as tuples
-use Rattle.tuple_runs.specs.Issued.{course_of_run, node_of}
+use Rattle.tuple_runs.specs.Issued.{course_of_run}
 use Rattle.tuple_tickets.specs.Roots.{root_eq}
-use Rattle.tuple_tickets.specs.Trees.{Course, fails, goes, mute}
+use Rattle.tuple_tickets.specs.Trees.{fails, goes, mute}
 use Rattle.tuple_tickets.proofs.Roots.{root_itself, same_root}
 use Rattle.world_progress.specs.Rounds.{CanFinish, EndsByBody, EndsByOp}
 use Rattle.world_progress.proofs.Answering.{IsIdleSide}
-use Rattle.world_progress.proofs.Doing.{IsIdleTask}
-use Rattle.world_progress.proofs.Lasting.{AreSeats, IsSeat, Lasting}
-use Rattle.world_progress.proofs.Lists.{each-by}
+use Rattle.world_progress.proofs.Lasting.{Lasting}
 use Rattle.world_progress.proofs.Phases.{IsEmpty}
 use Rattle.world_progress.proofs.Seats.{AreYoung}
 
@@ -90,7 +87,7 @@ only_there f a n (x ∷ xs) d one none =
     elim (cases_eq a n) [
       | inl same ↦ (let l = one 0 (omega arith) in let z = all_zero f xs d (λ i below. none (suc i) (omega arith) (λ e. omega arith)) in omega arith)
       | inr differ ↦ (let z = none 0 (omega arith) (λ e. differ (omega arith)) in
-        let rest = only_there f (a + 1) n xs d (λ i below. one (suc i) (omega arith)) (λ i below other. none (suc i) (omega arith) (λ e. other (omega arith))) in omega arith)
+          let rest = only_there f (a + 1) n xs d (λ i below. one (suc i) (omega arith)) (λ i below other. none (suc i) (omega arith) (λ e. other (omega arith))) in omega arith)
     ]
 
 away : (t : Topology) (n most : ℕ) (es : List (Held (List AckMsg))) (root : Root) → AreYoung t n most es → (n ≡ acker_of t root → ⊥) → weigh (holds root) es ≡ 0

@@ -1,7 +1,6 @@
 -- Each whole round does something until all is over, and what can be done is bounded.
-use Rattle.std.proofs.Common.{◌≡◌, ◌<◌, ◌≤◌, ◌⊎◌, inl, inr, ℕ, zero, suc, ◌+◌, Bool, true, false, List, [], ◌∷◌, ◌++◌, length, get_or, replicate, None, refl, sym, ap, ◌∙◌, subst, arith}
+use Rattle.std.proofs.Common.{◌≡◌, ◌<◌, ◌≤◌, ◌⊎◌, inl, inr, ℕ, zero, suc, ◌+◌, Bool, true, false, List, [], ◌∷◌, ◌++◌, get_or, replicate, refl, sym, ap, ◌∙◌, subst, arith}
 use Rattle.std.specs.Prelude.{All}
-use Rattle.std.specs.List.{AllByRecursion}
 use Rattle.std.proofs.lemmas.Bool.{cases_lt}
 use Rattle.std.proofs.lemmas.List.{get_or-replicate, get_or_past, length-replicate}
 use Rattle.bolt_ops.specs.RowOp.{Custom}
@@ -9,7 +8,7 @@ use Rattle.commit_turns.specs.Outcomes.{IsOutcome}
 use Rattle.commit_turns.specs.Turns.{is_finished}
 use Rattle.event_worlds.specs.Accounted.{IsInput, LedTo}
 use Rattle.event_worlds.specs.Added.{added}
-use Rattle.event_worlds.specs.Worlds.{AckerSide, Known, Step, World, acker_at, first_known, is_over, next, no_acker, run, world_after}
+use Rattle.event_worlds.specs.Worlds.{Known, Step, acker_at, first_known, is_over, next, no_acker, world_after}
 use Rattle.state_parts.specs.declared.answer.CommitOutcome.{CommitOutcome}
 use Rattle.state_parts.specs.declared.answer.CommitOutcome.TheVariants as outcome
 use Rattle.topology_plan.specs.Topology.{Topology}
@@ -19,7 +18,7 @@ use Rattle.world_progress.specs.Rounds.{CanFinish, DoesNotCoincide, HasRounds, r
 use Rattle.world_progress.proofs.Bounding.{BatchesAreAll, NodesAdd, bounded}
 use Rattle.world_progress.proofs.Doing.{done}
 use Rattle.world_progress.proofs.Finishing.{few_commits, finished}
-use Rattle.world_progress.proofs.Lasting.{AreSeats, IsSeat, Lasting}
+use Rattle.world_progress.proofs.Lasting.{IsSeat}
 use Rattle.world_progress.proofs.Phases.{LowestStays, round_stirs}
 use Rattle.world_progress.proofs.Resting.{all_settled}
 use Rattle.world_progress.proofs.Running.{LeadsOn, Starts, Still, comes, goes_all, over_stays, so_far, starts-next, ticks-cons}

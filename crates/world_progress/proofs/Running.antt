@@ -1,13 +1,12 @@
 -- Runs: what was done never falls, and runs in which nothing was done.
-use Rattle.std.proofs.Common.{◌≡◌, ◌≢◌, ◌<◌, ◌≤◌, inl, inr, ℕ, zero, suc, ◌+◌, ◌-◌, ◌==◌, Bool, true, false, cond, List, [], ◌∷◌, ◌++◌, length, get_or, map, filter, replicate, Option, None, Some, refl, sym, ap, ◌∙◌, subst, arith}
-use Rattle.std.specs.Prelude.{All, is_some}
-use Rattle.std.specs.List.{range_with_len}
+use Rattle.std.proofs.Common.{◌≡◌, ◌<◌, ◌≤◌, inl, inr, ℕ, ◌+◌, Bool, true, false, cond, List, [], ◌∷◌, length, get_or, Option, None, Some, refl, sym, ap, ◌∙◌, subst, arith}
+use Rattle.std.specs.Prelude.{All}
 use Rattle.std.proofs.lemmas.Bool.{cases_lt}
-use Rattle.std.proofs.lemmas.List.{append-nil, get_or_past}
+use Rattle.std.proofs.lemmas.List.{get_or_past}
 use Rattle.bolt_ops.specs.RowOp.{Custom}
 use Rattle.event_worlds.specs.Accounted.{LedTo}
 use Rattle.event_worlds.specs.Added.{added, step_adds}
-use Rattle.event_worlds.specs.Worlds.{Known, Step, TaskSide, World, acted_past, delivered, is_over, next, next_outcome, next_words, of_acker, of_outcome, of_task, of_tick, of_turn, outcome_step, outcomes_of, run, sent, step, task_at, task_needs, task_step, tick_step, turn_needs, turn_past, turn_step, with_progress, with_task}
+use Rattle.event_worlds.specs.Worlds.{Known, Step, World, acted_past, delivered, is_over, next, next_outcome, next_words, of_acker, of_outcome, of_task, of_tick, of_turn, outcome_step, outcomes_of, run, sent, step, task_at, task_needs, turn_needs, turn_past, with_progress, with_task}
 use Rattle.commit_turns.specs.Turns.{decided}
 use Rattle.state_parts.specs.declared.answer.CommitOutcome.{CommitOutcome}
 use Rattle.state_parts.specs.declared.answer.CommitOutcome.TheVariants as outcome
@@ -16,7 +15,7 @@ use Rattle.tree_model.specs.declared.messages.Parcel.{Parcel}
 use Rattle.tree_model.specs.declared.messages.Parcel.TheVariants.{ToTask, ToAcker}
 use Rattle.trident_batches.specs.Batches.{Cut}
 use Rattle.tuple_account.specs.Histories.{History, joined, nothing}
-use Rattle.world_progress.specs.Rounds.{is_tick, ticks_in}
+use Rattle.world_progress.specs.Rounds.{ticks_in}
 use Rattle.world_progress.proofs.Answering.{acker_does}
 use Rattle.world_progress.proofs.Doing.{Stepped, begun-joined, done, kept, rose, taken-joined, task_beyond, task_there}
 use Rattle.world_progress.proofs.Lasting.{Lasting, lasting-next}

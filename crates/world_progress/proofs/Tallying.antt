@@ -1,20 +1,18 @@
 -- How many attempts were begun, and what they weigh by their transactions.
-use Rattle.std.proofs.Common.{◌≡◌, ◌≢◌, ◌<◌, ◌≤◌, inl, inr, ℕ, zero, suc, ◌+◌, ◌-◌, ◌*◌, ◌==◌, ◌&&◌, nat_lt, Bool, true, false, cond, not, List, [], ◌∷◌, ◌++◌, length, get_or, map, refl, sym, ap, ◌∙◌, subst, arith, eq-eqb, eqb-true}
-use Rattle.std.specs.Prelude.{All}
+use Rattle.std.proofs.Common.{◌≡◌, ◌<◌, ◌≤◌, inl, inr, ℕ, zero, suc, ◌+◌, ◌*◌, ◌==◌, ◌&&◌, nat_lt, Bool, true, false, cond, List, [], ◌∷◌, length, map, refl, ap, arith, eq-eqb}
 use Rattle.std.specs.List.{AllByRecursion, range_with_len}
 use Rattle.std.proofs.Math.Nat.{mul-add, mul-le-mul_left, mul_comm}
 use Rattle.std.proofs.lemmas.Bool.{and_from, and_parts, cases_eq, lt-ltb, ltb-true}
 use Rattle.std.proofs.lemmas.List.Elements.{recursion_from_All}
 use Rattle.attempt_fates.specs.declared.fates.Attempt.{Attempt}
 use Rattle.attempt_fates.specs.Fates.{IsOfBatch}
-use Rattle.bolt_ops.specs.RowOp.{Custom}
 use Rattle.commit_turns.specs.declared.wait.Wait.{Wait}
 use Rattle.commit_turns.specs.Account.{desk_of, ended_of, ends_of, rows_in, waits_of}
 use Rattle.commit_turns.specs.Desks.{Desk}
 use Rattle.commit_turns.specs.Kept.{IsKept}
 use Rattle.commit_turns.specs.Kept as kept
 use Rattle.counted_items.specs.Weights.{weigh}
-use Rattle.counted_items.proofs.Each.{each-both, each-weaker}
+use Rattle.counted_items.proofs.Each.{each-weaker}
 use Rattle.counted_items.proofs.Weighing.{each-weighs, weigh-le, weigh-le_each, weigh-map, weigh-ones, weigh-same, weigh-swap, weigh-zero}
 use Rattle.storm_values.specs.declared.value.Root.{Root}
 use Rattle.topology_plan.specs.Topology.{Topology}

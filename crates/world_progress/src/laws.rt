@@ -1,5 +1,4 @@
 ghost use Rattle.std.specs.Prelude.{◌≡◌, ◌<◌, ℕ, List, All, true};
-ghost use Rattle.attempt_fates.specs.declared.fates.Attempt.{Attempt};
 ghost use Rattle.bolt_ops.specs.RowOp.{Custom, IsCustom};
 ghost use Rattle.commit_turns.specs.Turns.{is_finished};
 ghost use Rattle.event_worlds.specs.Accounted.{IsInput};
@@ -15,8 +14,9 @@ use event_worlds::steps_add_to_histories;
 use tree_model::nodes_of_joined_rows;
 use trident_batches::batches_in_order_are_all_records;
 
-/// A law: where every bolt lets batches through within the attempts of the plan, no commit fails, no
-/// ids coincide and fewer ticks pass than there are buckets, enough whole rounds commit every batch.
+/// A law: where every bolt lets batches through within the attempts of the plan, no commit fails,
+/// no ids coincide and fewer ticks pass than there are buckets, enough whole rounds commit every
+/// batch.
 pub fn enough_rounds_finish()
     ensures { (t : Topology) (custom : Custom) (cut : Cut) (words : ℕ → ℕ → ℕ)
         (outcomes : List CommitOutcome) (steps : List Step)
