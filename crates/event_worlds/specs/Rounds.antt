@@ -1,8 +1,7 @@
 -- Rounds of steps: each task has a step, each acker, and then the coordinator. This project's own.
-use Rattle.std.specs.Prelude.{◌≡◌, ◌≤◌, ◌<◌, ℕ, zero, suc, ◌+◌, ◌*◌, Bool, true, false, List, [], ◌∷◌, ◌++◌, All, length, map, filter, replicate}
+use Rattle.std.specs.Prelude.{◌≡◌, ◌≤◌, ℕ, zero, suc, ◌+◌, ◌*◌, Bool, true, false, List, ◌++◌, All, length, map, filter, replicate}
 use Rattle.std.specs.List.{range_with_len}
 use Rattle.attempt_fates.specs.declared.fates.Attempt.{Attempt}
-use Rattle.attempt_fates.specs.declared.fates.End.{End}
 use Rattle.attempt_fates.specs.declared.fates.End.TheVariants as end
 use Rattle.bolt_ops.specs.RowOp.{Custom}
 use Rattle.event_worlds.specs.Worlds.{Step, coordinator_steps, of_acker, of_outcome, of_task, of_tick, of_turn}

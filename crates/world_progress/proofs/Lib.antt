@@ -1,0 +1,13 @@
+mod Lists
+mod Doing
+mod Answering
+mod Turning
+mod Seats
+mod Lasting
+mod Running
+mod Phases
+mod Resting
+mod Tallying
+mod Bounding
+mod Finishing
+mod Rounding

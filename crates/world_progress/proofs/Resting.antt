@@ -1,0 +1,271 @@
+-- Where nothing stands in a world in which nothing was lost, all pending attempts are settled.
+use Rattle.std.proofs.Common.{◌≡◌, ◌≢◌, ◌<◌, ◌≤◌, inl, inr, ℕ, zero, suc, ◌+◌, ◌-◌, nat_lt, Bool, true, false, cond, List, [], ◌∷◌, length, get_or, map, slice_get, Option, None, refl, sym, ap, ◌∙◌, subst, arith}
+use Rattle.std.specs.Prelude.{All, sum_by}
+use Rattle.std.specs.List.{AllByRecursion, flat_map}
+use Rattle.std.specs.Option.{option_map_or}
+use Rattle.std.proofs.lemmas.Bool.{and_parts, cases_eq, le-ltb, ltb-false, ltb-true}
+use Rattle.std.proofs.lemmas.List.Sums.{sum_by-cons}
+use Rattle.std.proofs.lemmas.Option.{slice_get-get_or}
+use Rattle.acker_core.specs.Entries.{tell}
+use Rattle.bolt_ops.specs.Operations.{fails_at, is_mute_at, out}
+use Rattle.bolt_ops.specs.RowOp.{Custom}
+use Rattle.bolt_ops.specs.declared.operation.Outcome.TheVariants as outcome
+use Rattle.commit_turns.specs.declared.wait.Wait.{Wait}
+use Rattle.commit_turns.specs.Account.{desk_of, ends_of, rows_in, waits_of}
+use Rattle.counted_items.specs.Weights.{weigh}
+use Rattle.counted_items.proofs.Each.{each-both, each-flat_map, each-map, each-weaker}
+use Rattle.counted_items.proofs.Weighing.{each-weighs, weigh-flat_map, weigh-map, weigh-le_each, weigh-zero}
+use Rattle.event_worlds.specs.Accounted.{station_of, weigh_ackers, weigh_tasks}
+use Rattle.event_worlds.specs.Worlds.{AckerSide, Known, TaskSide, no_acker, no_task}
+use Rattle.rotating_ledger.specs.Held.{Held}
+use Rattle.storm_values.specs.declared.value.Root.{Root}
+use Rattle.storm_values.specs.declared.value.Value.{Value}
+use Rattle.topology_plan.specs.declared.parts.Body.{Body}
+use Rattle.topology_plan.specs.declared.parts.Body.TheVariants.{Bolt, State}
+use Rattle.topology_plan.specs.declared.parts.Component.{Component}
+use Rattle.topology_plan.specs.declared.parts.Op.{Op}
+use Rattle.topology_plan.specs.declared.parts.Op.TheVariants as op
+use Rattle.topology_plan.specs.Topology.{Topology, component_from, component_of, tasks_in_all}
+use Rattle.topology_plan.specs.Valid.{IsValid}
+use Rattle.tree_model.specs.declared.messages.AckMsg.{AckMsg}
+use Rattle.tree_model.specs.declared.messages.Parcel.TheVariants.{ToTask, ToAcker}
+use Rattle.tree_model.specs.declared.messages.Tuple.{Tuple}
+use Rattle.tree_model.specs.Courses.{course_at, course_by, course_of}
+use Rattle.tree_model.specs.Trees.{node_count, nodes_of}
+use Rattle.trident_batches.specs.Batches.{Cut}
+use Rattle.tuple_account.specs.Ends.{Waits}
+use Rattle.tuple_account.specs.Fits.{is_tried}
+use Rattle.tuple_account.specs.Histories.{Execution, History, IsTaskOf, Opening, Packet, acker_of, of_parcel, of_verdict, on_tuple, opens, taken, weigh_parcels}
+use Rattle.tuple_account.specs.Histories as histories
+use Rattle.tuple_account.specs.Moves.{Reached, Station, account_of}
+use Rattle.tuple_account.specs.Sound.{IsRouted}
+use Rattle.tuple_account.specs.Stuck.{IsStuck, holds}
+use Rattle.tuple_account.proofs.Reading.{few, packets, rows_are_found, tuples_weight}
+use Rattle.tuple_account.proofs.Routing as routing
+use Rattle.tuple_account.proofs.Settling as settling
+use Rattle.tuple_runs.specs.Accounts.{is_of}
+use Rattle.tuple_runs.specs.Accounts as tuples
+use Rattle.tuple_runs.specs.Issued.{course_of_run}
+use Rattle.tuple_tickets.specs.Roots.{root_eq}
+use Rattle.tuple_tickets.specs.Trees.{fails, goes, mute}
+use Rattle.tuple_tickets.proofs.Roots.{root_itself, same_root}
+use Rattle.event_worlds.specs.Rounds.{CanFinish, EndsByBody, EndsByOp}
+use Rattle.world_progress.proofs.Answering.{IsIdleSide}
+use Rattle.world_progress.proofs.Lasting.{Lasting}
+use Rattle.world_progress.proofs.Phases.{IsEmpty}
+use Rattle.world_progress.proofs.Seats.{AreYoung}
+
+-- ---- nothing waits
+
+tasks-none : (f : Packet → ℕ) (a : ℕ) (sides : List TaskSide) (d : TaskSide) → ((i : ℕ) → i < length sides → ((get_or sides i d).inbox ≡ []) × ((get_or sides i d).outbox ≡ [])) → weigh_tasks f a sides ≡ 0
+tasks-none f a [] d all = refl
+tasks-none f a (side ∷ sides) d all =
+    let here = all 0 (omega arith) in
+    let x : weigh (λ (tuple : Tuple). f (of_parcel (ToTask a tuple))) side.inbox ≡ 0 = ap (weigh (λ (tuple : Tuple). f (of_parcel (ToTask a tuple)))) here.0 in
+    let y : weigh_parcels f side.outbox ≡ 0 = ap (weigh_parcels f) here.1 in
+    let rest = tasks-none f (a + 1) sides d (λ i below. all (suc i) (omega arith)) in omega arith
+
+ackers-none : (f : Packet → ℕ) (a : ℕ) (sides : List AckerSide) (d : AckerSide) → ((i : ℕ) → i < length sides → IsIdleSide (get_or sides i d)) → weigh_ackers f a sides ≡ 0
+ackers-none f a [] d all = refl
+ackers-none f a (side ∷ sides) d all =
+    let here = all 0 (omega arith) in
+    let x : weigh (λ (m : AckMsg). f (of_parcel (ToAcker a m))) side.inbox ≡ 0 = ap (weigh (λ (m : AckMsg). f (of_parcel (ToAcker a m)))) here.inbox in
+    let y = ap (weigh (λ v. f (of_verdict v))) here.outbox in
+    let rest = ackers-none f (a + 1) sides d (λ i below. all (suc i) (omega arith)) in omega arith
+
+-- ---- each root has one entry at most
+
+all_zero : {X : Type 0} (f : X → ℕ) (xs : List X) (d : X) → ((i : ℕ) → i < length xs → f (get_or xs i d) ≡ 0) → weigh f xs ≡ 0
+all_zero f [] d all = refl
+all_zero f (x ∷ xs) d all = let z = all 0 (omega arith) in let rest = all_zero f xs d (λ i below. all (suc i) (omega arith)) in omega arith
+
+-- items that weigh 1 at most, and only at one number
+only_there : {X : Type 0} (f : X → ℕ) (a n : ℕ) (xs : List X) (d : X) → ((i : ℕ) → i < length xs → f (get_or xs i d) ≤ 1) → ((i : ℕ) → i < length xs → (a + i ≡ n → ⊥) → f (get_or xs i d) ≡ 0)
+    → weigh f xs ≤ 1
+only_there f a n [] d one none = omega arith
+only_there f a n (x ∷ xs) d one none =
+    elim (cases_eq a n) [
+      | inl same ↦ (let l = one 0 (omega arith) in let z = all_zero f xs d (λ i below. none (suc i) (omega arith) (λ e. omega arith)) in omega arith)
+      | inr differ ↦ (let z = none 0 (omega arith) (λ e. differ (omega arith)) in
+          let rest = only_there f (a + 1) n xs d (λ i below. one (suc i) (omega arith)) (λ i below other. none (suc i) (omega arith) (λ e. other (omega arith))) in omega arith)
+    ]
+
+away : (t : Topology) (n most : ℕ) (es : List (Held (List AckMsg))) (root : Root) → AreYoung t n most es → (n ≡ acker_of t root → ⊥) → weigh (holds root) es ≡ 0
+away t n most es root young other =
+    let l = weigh-le_each (holds root) (λ (e : Held (List AckMsg)). 0) (λ (e : Held (List AckMsg)). (e.age ≤ most) × (acker_of t e.root ≡ n)) (λ e is. by e (root_eq e.root root) refl is.1) es young.each in
+    let z = weigh-zero (λ (e : Held (List AckMsg)). 0) (λ e. refl) es in omega arith
+  where
+    by : (e : Held (List AckMsg)) (b : Bool) → root_eq e.root root ≡ b → acker_of t e.root ≡ n → cond {A = ℕ} b 1 0 ≤ 0
+    by e false is here = omega arith
+    by e true is here = absurd (other (sym here ∙ ap (acker_of t) (same_root e.root root is)))
+
+-- ---- no operation stays mute
+
+never_mute : (t : Topology) (o : Op) (attempt : ℕ) → 1 ≤ attempt → EndsByOp t o → is_mute_at o attempt ≡ false
+never_mute t (op.Split field) attempt some ends = refl
+never_mute t (op.Project fields) attempt some ends = refl
+never_mute t (op.Filter field test value) attempt some ends = refl
+never_mute t (op.Set field value) attempt some ends = refl
+never_mute t (op.Len field) attempt some ends = refl
+never_mute t (op.Route field) attempt some ends = refl
+never_mute t (op.Flaky below) attempt some ends = refl
+never_mute t (op.Mute below) attempt some ends = le-ltb attempt below (omega arith)
+never_mute t op.Custom attempt some ends = refl
+
+pub at_last : (t : Topology) (o : Op) (attempt : ℕ) → t.attempts ≤ attempt → EndsByOp t o → fails_at o attempt ≡ false
+at_last t (op.Split field) attempt last ends = refl
+at_last t (op.Project fields) attempt last ends = refl
+at_last t (op.Filter field test value) attempt last ends = refl
+at_last t (op.Set field value) attempt last ends = refl
+at_last t (op.Len field) attempt last ends = refl
+at_last t (op.Route field) attempt last ends = refl
+at_last t (op.Flaky below) attempt last ends = le-ltb attempt below (omega arith)
+at_last t (op.Mute below) attempt last ends = refl
+at_last t op.Custom attempt last ends = refl
+
+goes_mute : goes ≡ mute → ⊥
+goes_mute e = cc
+
+fails_mute : fails ≡ mute → ⊥
+fails_mute e = cc
+
+body_speaks : (t : Topology) (custom : Custom) (body : Body) (row : List Value) (attempt : ℕ) → 1 ≤ attempt → EndsByBody t body → course_by custom body row attempt ≢ mute
+body_speaks t custom (State spec) row attempt some ends = goes_mute
+body_speaks t custom (Bolt o) row attempt some ends = by (fails_at o attempt) (is_mute_at o attempt) (never_mute t o attempt some ends)
+  where
+    by : (f m : Bool) → m ≡ false → course_of (cond f outcome.Fail (cond m outcome.Mute (outcome.Rows (out custom o row)))) ≢ mute
+    by true m off = fails_mute
+    by false false off = goes_mute
+    by false true off = absurd (never off)
+      where
+        never : true ≡ false → ⊥
+        never e = cc
+
+component_there : (c n : ℕ) (components : List Component) → n < sum_by (λ (component : Component). component.tasks) components → component_from c n components < c + length components
+component_there c n [] below = absurd (omega arith)
+component_there c n (component ∷ components) below =
+    by (nat_lt n component.tasks) refl (λ later. component_there (c + 1) (n - component.tasks) components later)
+  where
+    by : (b : Bool) → nat_lt n component.tasks ≡ b → (n - component.tasks < sum_by (λ (other : Component). other.tasks) components → component_from (c + 1) (n - component.tasks) components < (c + 1) + length components)
+        → cond b c (component_from (c + 1) (n - component.tasks) components) < c + suc (length components)
+    by true is later = omega arith
+    by false is later =
+        let past = ltb-false n component.tasks is in
+        let more = sum_by-cons (λ (other : Component). other.tasks) component components in
+        let l = later (omega arith) in omega arith
+
+pub component_in : (t : Topology) (n : ℕ) → n < tasks_in_all t → component_of t n < length t.components
+component_in t n there = let l = component_there 0 n t.components there in omega arith
+
+module _ (t : Topology) (custom : Custom) (can : CanFinish t) where
+  speaks : (c : ℕ) (row : List Value) (attempt : ℕ) → c < length t.components → 1 ≤ attempt → course_at t custom attempt (record { component = c; row = row }) ≢ mute
+  speaks c row attempt there some = by t.components there can
+    where
+      by : (cs : List Component) → c < length cs → All (λ (x : Component). EndsByBody t x.body) cs → option_map_or (λ (x : Component). course_by custom x.body row attempt) (slice_get cs c) mute ≢ mute
+      by [] below all = absurd (omega arith)
+      by (x ∷ xs) below all = subst (λ (o : Option Component). option_map_or (λ (y : Component). course_by custom y.body row attempt) o mute ≢ mute) (sym (slice_get-get_or (x ∷ xs) c x below))
+          (body_speaks t custom (get_or (x ∷ xs) c x).body row attempt some (all c x below))
+
+-- ---- runs
+
+module _ (t : Topology) (custom : Custom) (h : History) (b : Station) (reached : Reached t custom h b) where
+  -- each run was at a task of its tuple's component
+  runs_at_home : AllByRecursion (λ (e : Execution). IsTaskOf t e.run.tuple.component e.run.task) h.runs
+  runs_at_home =
+      each-map (IsRouted t) (λ (e : Execution). of_parcel (ToTask e.run.task e.run.tuple)) h.runs
+      (routing.routed t custom h b reached (map (λ (e : Execution). of_parcel (ToTask e.run.task e.run.tuple)) h.runs) within)
+    where
+      within : (f : Packet → ℕ) → weigh f (map (λ (e : Execution). of_parcel (ToTask e.run.task e.run.tuple)) h.runs) ≤ b.waiting f + taken f h
+      within f = let m = weigh-map f (λ (e : Execution). of_parcel (ToTask e.run.task e.run.tuple)) h.runs in omega arith
+
+  -- a tuple that ran was issued
+  pub runs_issued : (f : Tuple → ℕ) → weigh (λ (e : Execution). f e.run.tuple) h.runs ≤ weigh f (tuples.issued t custom (account_of h b))
+  runs_issued f = let p = packets t custom h b reached (on_tuple f) in let i = tuples_weight t custom h b reached f in omega arith
+
+-- the rows of a root that was not begun
+rows_none : (root : Root) (os : List Opening) → weigh (opens root) os ≡ 0 → histories.rows_in os root ≡ []
+rows_none root [] none = refl
+rows_none root (o ∷ os) none = by (root_eq o.begun.root root) refl (λ later. rows_none root os later)
+  where
+    by : (c : Bool) → root_eq o.begun.root root ≡ c → (weigh (opens root) os ≡ 0 → histories.rows_in os root ≡ []) → cond c o.begun.rows (histories.rows_in os root) ≡ []
+    by false is later = later (omega arith)
+    by true is later = let one : opens root o ≡ 1 = ap (λ (c : Bool). cond {A = ℕ} c 1 0) is in absurd (omega arith)
+
+pub no_nodes : (t : Topology) (custom : Custom) → node_count t custom [] ≡ 0
+unfolding nodes_of
+no_nodes t custom = refl
+
+module _ (t : Topology) (custom : Custom) (h : History) (b : Station) (reached : Reached t custom h b) (valid : IsValid t) where
+  -- the root of an issued tuple was begun
+  pub was_begun : (x : Tuple) → ((f : Tuple → ℕ) → f x ≤ weigh f (tuples.issued t custom (account_of h b))) → 1 ≤ weigh (opens x.root) h.begun
+  was_begun x stands = by (weigh (opens x.root) h.begun) refl
+    where
+      by : (n : ℕ) → weigh (opens x.root) h.begun ≡ n → 1 ≤ n
+      by (suc n) is = omega arith
+      by zero is =
+          let here : is_of x.root x ≡ 1 = ap (λ (c : Bool). cond {A = ℕ} c 1 0) (root_itself x.root x.root refl) in
+          let s = stands (is_of x.root) in
+          let l = few t custom h b reached (histories.rows_in h.begun) (rows_are_found t custom h b reached) valid x.root in
+          let r = ap (node_count t custom) (rows_none x.root h.begun is) ∙ no_nodes t custom in absurd (omega arith)
+
+-- the attempts that were begun have numbers from 1 on
+tried_some : (tries : ℕ → ℕ) (root : Root) → is_tried tries root ≡ true → (1 ≤ root.attempt) × (root.attempt ≤ tries root.txid)
+tried_some tries root is =
+    let both = and_parts (nat_lt 0 root.attempt) (nat_lt root.attempt (tries root.txid + 1)) is in
+    let low = ltb-true 0 root.attempt both.0 in
+    let high = ltb-true root.attempt (tries root.txid + 1) both.1 in (omega arith, omega arith)
+
+pub begun_tried : (tries : ℕ → ℕ) (root : Root) (os : List Opening) → weigh (opens root) os ≡ cond (is_tried tries root) 1 0 → 1 ≤ weigh (opens root) os → (1 ≤ root.attempt) × (root.attempt ≤ tries root.txid)
+begun_tried tries root os is some = by (is_tried tries root) refl is
+  where
+    by : (c : Bool) → is_tried tries root ≡ c → weigh (opens root) os ≡ cond c 1 0 → (1 ≤ root.attempt) × (root.attempt ≤ tries root.txid)
+    by true on e = tried_some tries root on
+    by false off e = absurd (omega arith)
+
+module _ (t : Topology) (custom : Custom) (cut : Cut) (words : ℕ → ℕ → ℕ) (valid : IsValid t) (can : CanFinish t) (h : History) (k : Known) (last : Lasting t custom cut words h k) where
+  abbrev b : Station
+  b = station_of k
+
+  none_mute : AllByRecursion (λ (e : Execution). course_of_run t custom e.run ≢ mute) h.runs
+  none_mute =
+      each-weaker (λ (e : Execution). IsTaskOf t e.run.tuple.component e.run.task × ((f : Execution → ℕ) → f e ≤ weigh f h.runs)) (λ (e : Execution). course_of_run t custom e.run ≢ mute) one h.runs
+      (each-both (λ (e : Execution). IsTaskOf t e.run.tuple.component e.run.task) (λ (e : Execution). (f : Execution → ℕ) → f e ≤ weigh f h.runs) h.runs (runs_at_home t custom h b last.led.reached) (each-weighs h.runs))
+    where
+      one : (e : Execution) → IsTaskOf t e.run.tuple.component e.run.task × ((f : Execution → ℕ) → f e ≤ weigh f h.runs) → course_of_run t custom e.run ≢ mute
+      one e both =
+          let begun = was_begun t custom h b last.led.reached valid e.run.tuple (λ f. let l = both.1 (λ (x : Execution). f x.run.tuple) in let i = runs_issued t custom h b last.led.reached f in omega arith) in
+          let tried = begun_tried (desk_of k.world.desk).tries e.run.tuple.root h.begun (last.led.fits.numbered e.run.tuple.root) begun in
+          let there : e.run.tuple.component < length t.components = subst (λ (c : ℕ). c < length t.components) both.0.belongs (component_in t e.run.task both.0.there) in
+          speaks t custom can e.run.tuple.component e.run.tuple.row e.run.tuple.root.attempt there tried.0
+
+  distinct : (root : Root) → weigh (holds root) (flat_map (λ (side : AckerSide). side.entries) k.world.ackers) ≤ 1
+  distinct root =
+      let f = weigh-flat_map (holds root) (λ (side : AckerSide). side.entries) k.world.ackers in
+      let o = only_there (λ (side : AckerSide). weigh (holds root) side.entries) 0 (acker_of t root) k.world.ackers no_acker (λ i below. (last.seats i).young.once root)
+      (λ i below other. away t i (get_or k.world.ackers i no_acker).counted (get_or k.world.ackers i no_acker).entries root (last.seats i).young (λ e. other (omega arith))) in omega arith
+
+  module _ (empty : IsEmpty t k.world) where
+    none_waits : (f : Packet → ℕ) → b.waiting f ≡ 0
+    none_waits f =
+        let orderly = last.led.orderly in
+        let c = orderly.task_count in
+        let d = orderly.acker_count in
+        let x = tasks-none f 0 k.world.tasks (no_task t) (λ i below. let e = empty.tasks i (omega arith) in (e.inbox, e.outbox)) in
+        let y = ackers-none f 0 k.world.ackers no_acker (λ i below. empty.ackers i (omega arith)) in
+        let u = ap (weigh (λ v. f (of_verdict v))) empty.verdicts in
+        let v = ap (weigh_parcels f) empty.orders in omega arith
+
+    stuck : IsStuck t custom h b (flat_map (λ (side : AckerSide). side.entries) k.world.ackers)
+    stuck = record {
+      none_waits = none_waits;
+      none_mute = none_mute;
+      none_dropped = last.whole;
+      are_kept = λ g. sym (weigh-flat_map (λ (e : Held (List AckMsg)). weigh (g e.root) e.value) (λ (side : AckerSide). side.entries) k.world.ackers);
+      distinct = distinct;
+      silent = each-flat_map (λ (e : Held (List AckMsg)). tell e.root e.value ≡ None) (λ (side : AckerSide). side.entries) k.world.ackers last.led.silent;
+    }
+
+    pub all_settled : AllByRecursion (λ (w : Wait). w.settled ≢ None) k.world.desk.pending
+    all_settled =
+        each-map (λ (w : Waits). w.settled ≢ None) waits_of k.world.desk.pending
+        (settling.settled t custom h b last.led.reached (flat_map (λ (side : AckerSide). side.entries) k.world.ackers) stuck (rows_in cut) (desk_of k.world.desk) (ends_of k.world.fates) last.led.fits)

@@ -1,0 +1,147 @@
+-- Each whole round does something until all is over, and what can be done is bounded.
+use Rattle.std.proofs.Common.{◌≡◌, ◌<◌, ◌≤◌, ◌⊎◌, inl, inr, ℕ, zero, suc, ◌+◌, Bool, true, false, List, [], ◌∷◌, ◌++◌, get_or, replicate, refl, sym, ap, ◌∙◌, subst, arith}
+use Rattle.std.specs.Prelude.{All}
+use Rattle.std.proofs.lemmas.Bool.{cases_lt}
+use Rattle.std.proofs.lemmas.List.{get_or-replicate, get_or_past, length-replicate}
+use Rattle.bolt_ops.specs.RowOp.{Custom}
+use Rattle.commit_turns.specs.Outcomes.{IsOutcome}
+use Rattle.commit_turns.specs.Turns.{is_finished}
+use Rattle.event_worlds.specs.Accounted.{IsInput, LedTo}
+use Rattle.event_worlds.specs.Added.{added}
+use Rattle.event_worlds.specs.Worlds.{Known, Step, acker_at, first_known, is_over, next, no_acker, world_after}
+use Rattle.state_parts.specs.declared.answer.CommitOutcome.{CommitOutcome}
+use Rattle.state_parts.specs.declared.answer.CommitOutcome.TheVariants as outcome
+use Rattle.topology_plan.specs.Topology.{Topology}
+use Rattle.trident_batches.specs.Batches.{Cut}
+use Rattle.tuple_account.specs.Histories.{History, joined}
+use Rattle.event_worlds.specs.Rounds.{CanFinish, DoesNotCoincide, HasRounds, round_with, rounds_needed, ticks_in}
+use Rattle.world_progress.proofs.Bounding.{BatchesAreAll, NodesAdd, bounded}
+use Rattle.world_progress.proofs.Doing.{done}
+use Rattle.world_progress.proofs.Finishing.{few_commits, finished}
+use Rattle.world_progress.proofs.Lasting.{IsSeat}
+use Rattle.world_progress.proofs.Phases.{LowestStays, round_stirs}
+use Rattle.world_progress.proofs.Resting.{all_settled}
+use Rattle.world_progress.proofs.Running.{LeadsOn, Starts, Still, comes, goes_all, over_stays, so_far, starts-next, ticks-cons}
+
+-- a commit that is done is an outcome
+pub all_done_fits : (t : Topology) (outcomes : List CommitOutcome) → All (λ (how : CommitOutcome). how ≡ outcome.Done) outcomes → All (IsOutcome t) outcomes
+all_done_fits t outcomes all = λ k d below. subst (IsOutcome t) (sym (all k d below)) tt
+
+pub ticks-append : (a b : List Step) → ticks_in (a ++ b) ≡ ticks_in a + ticks_in b
+ticks-append [] b = omega arith
+ticks-append (s ∷ a) b = let x = ticks-cons s (a ++ b) in let y = ticks-cons s a in let rest = ticks-append a b in omega arith
+
+module _ (t : Topology) (custom : Custom) (cut : Cut) (words : ℕ → ℕ → ℕ) (outcomes : List CommitOutcome) (leads : LeadsOn t custom cut words outcomes) (all_done : All (λ (how : CommitOutcome). how ≡ outcome.Done) outcomes) where
+  abbrev after : List Step → Known → Known
+  after steps k = goes_all t custom cut words outcomes steps k
+
+  abbrev happened : List Step → History → Known → History
+  happened steps h k = so_far t custom cut words outcomes steps h k
+
+  abbrev StartsRun : List Step → History → Known → Type 0
+  StartsRun steps h k = Starts t custom cut words outcomes leads all_done steps h k
+
+  -- ---- runs in two parts
+
+  run-append : (a b : List Step) (k : Known) → after (a ++ b) k ≡ after b (after a k)
+  run-append [] b k = refl
+  run-append (s ∷ a) b k = run-append a b (next t custom cut words outcomes s k)
+
+  so_far-append : (a b : List Step) (h : History) (k : Known) → happened (a ++ b) h k ≡ happened b (happened a h k) (after a k)
+  so_far-append [] b h k = refl
+  so_far-append (s ∷ a) b h k = so_far-append a b (joined h (added t custom cut words s k)) (next t custom cut words outcomes s k)
+
+  starts-front : (a b : List Step) (h : History) (k : Known) → StartsRun (a ++ b) h k → StartsRun a h k
+  starts-front a b h k is = record { last = is.last; short = (let s = is.short in let x = ticks-append a b in omega arith) }
+
+  starts-back : (a b : List Step) (h : History) (k : Known) → StartsRun (a ++ b) h k → StartsRun b (happened a h k) (after a k)
+  starts-back [] b h k is = is
+  starts-back (s ∷ a) b h k is = starts-back a b (joined h (added t custom cut words s k)) (next t custom cut words outcomes s k) (starts-next t custom cut words outcomes leads all_done s (a ++ b) h k is)
+
+  -- ---- rounds
+
+  -- it is over at the end, or so much more was done
+  abbrev pub OverOrMore : ℕ → List Step → History → Known → Type 0
+  OverOrMore count steps h k = (is_over t cut (after steps k).world ≡ true) ⊎ (count + done h k.world ≤ done (happened steps h k) (after steps k).world)
+
+  -- the same of a run in two parts
+  in_parts : (count : ℕ) (a b : List Step) (h : History) (k : Known)
+      → ((is_over t cut (after b (after a k)).world ≡ true) ⊎ (count + done h k.world ≤ done (happened b (happened a h k) (after a k)) (after b (after a k)).world)) → OverOrMore count (a ++ b) h k
+  in_parts count a b h k (inl over) = inl (ap (λ (j : Known). is_over t cut j.world) (run-append a b k) ∙ over)
+  in_parts count a b h k (inr more) =
+      inr (subst (λ (j : Known). count + done h k.world ≤ done (happened (a ++ b) h k) j.world) (sym (run-append a b k))
+      (subst (λ (x : History). count + done h k.world ≤ done x (after b (after a k)).world) (sym (so_far-append a b h k)) more))
+
+  -- a round does something, or all is over
+  abbrev pub Stirs : Type 0
+  Stirs = (ticks : ℕ) (h : History) (k : Known) → Still t custom cut words outcomes leads all_done (round_with t ticks) h k → ⊥
+
+  module _ (stirs : Stirs) where
+    one_round : (ticks : ℕ) (h : History) (k : Known) → StartsRun (round_with t ticks) h k → OverOrMore 1 (round_with t ticks) h k
+    one_round ticks h k is = by (is_over t cut (after (round_with t ticks) k).world) refl
+      where
+        by : (b : Bool) → is_over t cut (after (round_with t ticks) k).world ≡ b → OverOrMore 1 (round_with t ticks) h k
+        by true over = inl over
+        by false goes_on =
+            elim (cases_lt (done h k.world) (done (happened (round_with t ticks) h k) (after (round_with t ticks) k).world)) [
+              | inl more ↦ inr (omega arith)
+              | inr same ↦ absurd (stirs ticks h k (record { starts = is; same = same; open_end = goes_on }))
+            ]
+
+    -- and then the rest
+    then_rest : (count : ℕ) (a b : List Step) (h : History) (k : Known) → OverOrMore 1 a h k → OverOrMore count b (happened a h k) (after a k) → OverOrMore (suc count) (a ++ b) h k
+    then_rest count a b h k (inl over) rest =
+        in_parts (suc count) a b h k (inl (ap (λ (j : Known). is_over t cut j.world) (over_stays t custom cut words outcomes b (after a k) over) ∙ over))
+    then_rest count a b h k (inr more) (inl over) = in_parts (suc count) a b h k (inl over)
+    then_rest count a b h k (inr more) (inr rest) = in_parts (suc count) a b h k (inr (omega arith))
+
+    -- steps before do not take away
+    before : (count : ℕ) (a b : List Step) (h : History) (k : Known) → StartsRun a h k → OverOrMore count b (happened a h k) (after a k) → OverOrMore count (a ++ b) h k
+    before count a b h k is (inl over) = in_parts count a b h k (inl over)
+    before count a b h k is (inr more) = in_parts count a b h k (inr (let c = comes t custom cut words outcomes leads all_done a h k is in let m = c.more in omega arith))
+
+    pub rounds : (count : ℕ) (steps : List Step) (h : History) (k : Known) → HasRounds t count steps → StartsRun steps h k → OverOrMore count steps h k
+    rounds zero steps h k has is = inr (let c = comes t custom cut words outcomes leads all_done steps h k is in let m = c.more in omega arith)
+    rounds (suc count) steps h k (first, rest, ticks, same, more) is =
+        subst (λ (xs : List Step). OverOrMore (suc count) xs h k) (sym same)
+        (before (suc count) first (round_with t ticks ++ rest) h k (starts-front first (round_with t ticks ++ rest) h k now)
+        (then_rest count (round_with t ticks) rest (happened first h k) (after first k) (one_round ticks (happened first h k) (after first k) (starts-front (round_with t ticks) rest (happened first h k) (after first k) later))
+        (rounds count rest (happened (round_with t ticks) (happened first h k) (after first k)) (after (round_with t ticks) (after first k)) more
+        (starts-back (round_with t ticks) rest (happened first h k) (after first k) later))))
+      where
+        now : StartsRun (first ++ (round_with t ticks ++ rest)) h k
+        now = subst (λ (xs : List Step). StartsRun xs h k) same is
+
+        later : StartsRun (round_with t ticks ++ rest) (happened first h k) (after first k)
+        later = starts-back first (round_with t ticks ++ rest) h k now
+
+  -- ---- the first world
+
+  first_seats : (n : ℕ) → IsSeat t n 0 (acker_at n (first_known t words).world)
+  first_seats n = subst (IsSeat t n 0) (sym none) (record { counted = omega arith; young = record { each = tt; once = λ root. omega arith } })
+    where
+      none : get_or (replicate t.ackers no_acker) n no_acker ≡ no_acker
+      none = elim (cases_lt n t.ackers) [
+        | inl below ↦ get_or-replicate t.ackers n no_acker no_acker below
+        | inr past ↦ get_or_past (replicate t.ackers no_acker) n no_acker (let l = length-replicate t.ackers no_acker in omega arith)
+      ]
+
+  module _ (adds : NodesAdd) (batches_are : BatchesAreAll) (lowest : LowestStays) (input : IsInput t cut) (can : CanFinish t) (h : History) (led : LedTo t custom cut words h (first_known t words)) (whole : h.dropped ≡ []) where
+    stirring : Stirs
+    stirring ticks g k still =
+        round_stirs t custom cut words outcomes leads all_done lowest input.valid (λ x j last empty. all_settled t custom cut words input.valid can x j last empty) (few_commits t cut) ticks g k still
+
+    pub all_finish : (steps : List Step) → HasRounds t (rounds_needed t custom cut) steps → ticks_in steps < t.buckets → All DoesNotCoincide (world_after t custom cut words outcomes steps).fates
+        → is_finished t cut (world_after t custom cut words outcomes steps).desk ≡ true
+    all_finish steps has short apart = by (rounds stirring (rounds_needed t custom cut) steps h (first_known t words) has starts)
+      where
+        starts : StartsRun steps h (first_known t words)
+        starts = record { last = record { led = led; seats = first_seats; whole = whole; fine = tt }; short = omega arith }
+
+        by : OverOrMore (rounds_needed t custom cut) steps h (first_known t words) → is_finished t cut (world_after t custom cut words outcomes steps).desk ≡ true
+        by (inl over) =
+            let c = comes t custom cut words outcomes leads all_done steps h (first_known t words) starts in
+            finished t custom cut words input.valid can (happened steps h (first_known t words)) (after steps (first_known t words)) c.last (let x = c.ticks in omega arith) apart over
+        by (inr more) =
+            let c = comes t custom cut words outcomes leads all_done steps h (first_known t words) starts in
+            let b = bounded t custom cut words adds batches_are input (happened steps h (first_known t words)) (after steps (first_known t words)) c.last.led in absurd (omega arith)

@@ -1,0 +1,198 @@
+-- What a turn of the coordinator and the outcome of a commit add to what was done.
+use Rattle.std.proofs.Common.{◌≡◌, ◌<◌, ℕ, zero, suc, ◌+◌, ◌==◌, ◌&&◌, Bool, true, false, cond, List, [], ◌∷◌, ◌++◌, length, filter, slice_get, Option, None, Some, refl, sym, ap, ◌∙◌, subst, arith}
+use Rattle.std.specs.Prelude.{is_some}
+use Rattle.std.specs.List.{AllByRecursion, find}
+use Rattle.std.specs.Option.{option_to_list}
+use Rattle.std.proofs.lemmas.Bool.{and_right}
+use Rattle.acker_core.specs.declared.verdict.Verdict.{Verdict}
+use Rattle.acker_core.specs.declared.verdict.Verdict.TheVariants.{Complete, Fails}
+use Rattle.attempt_fates.specs.declared.fates.Attempt.{Attempt}
+use Rattle.attempt_fates.specs.declared.fates.End.TheVariants as end
+use Rattle.commit_order.specs.Orders.{Stand}
+use Rattle.commit_turns.specs.declared.wait.Wait.{Wait}
+use Rattle.commit_turns.specs.Desks.{Desk, Progress, ended_at, is_late, still, timed_of}
+use Rattle.commit_turns.specs.Kept.{is_failed_commit}
+use Rattle.commit_turns.specs.Outcomes.{hears}
+use Rattle.commit_turns.specs.Turns.{Turned, and_then, begun, complete_timed, decided, decided_by, end_timed, fill_more, filled, has_no_tick, heard, is_closed, late_at, next_root, next_to_commit, one_tick, ordered, passed, ticked, turned, turned_by}
+use Rattle.counted_items.proofs.Each.{each-any, each-append, each-to_map}
+use Rattle.event_worlds.specs.Added.{placed, turn_adds, turn_adds_past}
+use Rattle.event_worlds.specs.Orderly.{FitsParcel, IsOrderly}
+use Rattle.event_worlds.specs.Worlds.{World, delivered, opened, outcome_step, turn_past, turn_step, turned_in, with_progress, with_turn}
+use Rattle.state_parts.specs.declared.answer.CommitOutcome.TheVariants as outcome
+use Rattle.storm_values.specs.declared.value.Root.{Root}
+use Rattle.topology_plan.specs.Topology.{Topology}
+use Rattle.tree_model.specs.declared.messages.Parcel.{Parcel}
+use Rattle.trident_batches.specs.Batches.{Cut}
+use Rattle.tuple_account.specs.Histories.{History, joined, nothing}
+use Rattle.world_progress.proofs.Doing.{Stepped, rose, kept, done, in_boxes-delivered, committed-delivered, taken-joined, begun-joined}
+use Rattle.world_progress.proofs.Lists.{length-front}
+
+-- the attempt did not end by a commit that failed
+abbrev pub IsFine : Attempt → Type 0
+IsFine a = is_failed_commit a.end ≡ false
+
+some_none : {X : Type 0} (x : X) → Some x ≡ None → ⊥
+some_none x e = cc
+
+find_push : {X : Type 0} (test : X → Bool) (xs : List X) (x : X) → test x ≡ false → find test (xs ++ x ∷ []) ≡ find test xs
+find_push test [] x off = ap (λ (b : Bool). cond b (Some x) None) off
+find_push test (y ∷ xs) x off = ap (cond (test y) (Some y)) (find_push test xs x off)
+
+module _ (t : Topology) (cut : Cut) where
+  -- ---- what a turn leaves
+
+  record IsPlain (count : ℕ) (e : Desk) (ended : List Attempt) : Type 0 where
+    same : e.committed ≡ count
+    fine : AllByRecursion IsFine ended
+
+  heard_plain : (verdict : Option Verdict) (d : Desk) → IsPlain d.committed (heard t cut verdict d).desk (heard t cut verdict d).ended
+  heard_plain None d = record { same = refl; fine = tt }
+  heard_plain (Some (Complete root list)) d = by (is_closed list) (timed_of root d.pending)
+    where
+      by : (c : Bool) (o : Option Wait) → IsPlain d.committed (complete_timed t cut list c o d).desk (complete_timed t cut list c o d).ended
+      by c None = record { same = refl; fine = tt }
+      by true (Some w) = record { same = refl; fine = tt }
+      by false (Some w) = record { same = refl; fine = (refl, tt) }
+  heard_plain (Some (Fails root path)) d = by (timed_of root d.pending)
+    where
+      by : (o : Option Wait) → IsPlain d.committed (end_timed t cut (end.Failed path) o d).desk (end_timed t cut (end.Failed path) o d).ended
+      by None = record { same = refl; fine = tt }
+      by (Some w) = record { same = refl; fine = (refl, tt) }
+
+  late_fine : (tick : ℕ) (ws : List Wait) → AllByRecursion IsFine (late_at t cut tick ws)
+  late_fine tick ws = each-to_map IsFine (ended_at cut tick end.TimedOut) (filter (is_late t.buckets tick) ws) (each-any (λ (w : Wait). IsFine (ended_at cut tick end.TimedOut w)) (λ w. refl) (filter (is_late t.buckets tick) ws))
+
+  ticked_plain : (n : ℕ) (d : Desk) → IsPlain d.committed (ticked t cut n d).desk (ticked t cut n d).ended
+  ticked_plain zero d = record { same = refl; fine = tt }
+  ticked_plain (suc n) d = by (has_no_tick t cut d) (ticked_plain n (one_tick t cut d).desk)
+    where
+      by : (b : Bool) → IsPlain d.committed (ticked t cut n (one_tick t cut d).desk).desk (ticked t cut n (one_tick t cut d).desk).ended
+          → IsPlain d.committed (cond b (still d) (and_then t cut (one_tick t cut d) (ticked t cut n (one_tick t cut d).desk))).desk (cond b (still d) (and_then t cut (one_tick t cut d) (ticked t cut n (one_tick t cut d).desk))).ended
+      by true rest = record { same = refl; fine = tt }
+      by false rest = record { same = rest.same; fine = each-append IsFine (late_at t cut (d.tick + 1) d.pending) (ticked t cut n (one_tick t cut d).desk).ended (late_fine (d.tick + 1) d.pending) rest.fine }
+
+  -- what every begin keeps
+  all_filled : (P : Desk → Type 0) → ((f : Desk) (root : Root) → P f → P (begun t cut root f)) → (places : ℕ) (d : Desk) → P d → P (filled t cut places d).desk
+  all_filled P step zero d p = p
+  all_filled P step (suc places) d p = by (next_root t cut d) (λ root. all_filled P step places (begun t cut root d) (step d root p))
+    where
+      by : (o : Option Root) → ((root : Root) → P (filled t cut places (begun t cut root d)).desk) → P (fill_more t cut (filled t cut places) d o).desk
+      by None later = p
+      by (Some root) later = later root
+
+  turned_plain : (count : ℕ) (o : Option ℕ) (p : Progress) → IsPlain count p.desk p.ended → IsPlain count (turned_by t cut o p).desk (turned_by t cut o p).ended
+  turned_plain count (Some txid) p is = is
+  turned_plain count None p is = record { same = all_filled (λ (f : Desk). f.committed ≡ count) (λ f root same. same) t.pending (ordered t cut p.desk) is.same; fine = is.fine }
+
+  plain_turn : (verdict : Option Verdict) (ticks : ℕ) (d : Desk) → IsPlain d.committed (turned t cut verdict ticks d).desk (turned t cut verdict ticks d).ended
+  plain_turn verdict ticks d =
+      let a = heard_plain verdict d in
+      let b = ticked_plain ticks (heard t cut verdict d).desk in
+      turned_plain d.committed (passed t cut ticks (heard t cut verdict d)).desk.exhausted (passed t cut ticks (heard t cut verdict d))
+      (record { same = b.same ∙ a.same; fine = each-append IsFine (heard t cut verdict d).ended (ticked t cut ticks (heard t cut verdict d).desk).ended a.fine b.fine })
+
+  -- it commits nothing
+  pub turn_committed : (verdict : Option Verdict) (ticks : ℕ) (d : Desk) → (turned t cut verdict ticks d).desk.committed ≡ d.committed
+  turn_committed verdict ticks d = (plain_turn verdict ticks d).same
+
+  -- no end of a turn is a commit that failed
+  pub turn_fine : (verdict : Option Verdict) (ticks : ℕ) (d : Desk) → AllByRecursion IsFine (turned t cut verdict ticks d).ended
+  turn_fine verdict ticks d = (plain_turn verdict ticks d).fine
+
+  -- a commit is out after a turn that did not stop, where an attempt is next
+  pub turn_out : (verdict : Option Verdict) (ticks : ℕ) (d : Desk) → (turned t cut verdict ticks d).desk.exhausted ≡ None
+      → (turned t cut verdict ticks d).desk.out ≡ is_some (next_to_commit t cut (turned t cut verdict ticks d).desk)
+  turn_out verdict ticks d = by (passed t cut ticks (heard t cut verdict d)) (passed t cut ticks (heard t cut verdict d)).desk.exhausted refl
+    where
+      begins : (f : Desk) (root : Root) → f.out ≡ is_some (next_to_commit t cut f) → f.out ≡ is_some (next_to_commit t cut (begun t cut root f))
+      begins f root out =
+          out ∙ ap is_some (sym (find_push (λ (w : Wait). (w.root.txid == f.committed + 1) && is_some w.settled) f.pending (record { root = root; start = f.tick; settled = None }) (and_right (root.txid == f.committed + 1) false refl)))
+
+      by : (p : Progress) (o : Option ℕ) → p.desk.exhausted ≡ o → (turned_by t cut o p).desk.exhausted ≡ None → (turned_by t cut o p).desk.out ≡ is_some (next_to_commit t cut (turned_by t cut o p).desk)
+      by p (Some txid) is none = absurd (some_none txid (sym is ∙ none))
+      by p None is none = all_filled (λ (f : Desk). f.out ≡ is_some (next_to_commit t cut f)) begins t.pending (ordered t cut p.desk) refl
+
+  -- ---- what a turn adds
+
+  pub as_many : (roots : List Root) (s : Stand) (ids : List ℕ) (at : ℕ) → length (placed at (opened t cut s roots ids)) ≡ length roots
+  as_many [] s ids at = refl
+  as_many (root ∷ roots) s ids at = ap suc (as_many roots _ _ _)
+
+  -- nothing was there to be handed over or heard, and no root begins
+  pub record IsQuietTurn (w : World) : Type 0 where
+    pub orders : w.orders ≡ []
+    pub verdicts : w.verdicts ≡ []
+    pub begun : (turned_in t cut w).begun ≡ []
+
+  module _ (w : World) (h : History) (at : ℕ) (ids : List ℕ) where
+    turn_adds_up : (to : Turned t cut) → to.desk.committed ≡ w.desk.committed
+        → done (joined h (hears (slice_get w.verdicts 0) (placed at (opened t cut w.spout to.begun ids)))) (with_turn t cut ids to w)
+        ≡ done h w + (length (option_to_list (slice_get w.verdicts 0)) + length to.begun)
+    turn_adds_up to same =
+        let m = as_many to.begun w.spout ids at in
+        let f = length-front w.verdicts in
+        let x = taken-joined h (hears (slice_get w.verdicts 0) (placed at (opened t cut w.spout to.begun ids))) in
+        let y = begun-joined h (hears (slice_get w.verdicts 0) (placed at (opened t cut w.spout to.begun ids))) in omega arith
+
+    abbrev pub DoesTurn : Type 0
+    DoesTurn = Stepped (done h w) (done (joined h (turn_adds t cut at ids w)) (turn_step t cut ids w)) (IsQuietTurn w)
+
+    turns : (to : Turned t cut) → to ≡ turned_in t cut w → to.desk.committed ≡ w.desk.committed → w.orders ≡ []
+        → Stepped (done h w) (done (joined h (hears (slice_get w.verdicts 0) (placed at (opened t cut w.spout to.begun ids)))) (with_turn t cut ids to w)) (IsQuietTurn w)
+    turns to is same out = by w.verdicts refl to.begun refl
+      where
+        sum : done (joined h (hears (slice_get w.verdicts 0) (placed at (opened t cut w.spout to.begun ids)))) (with_turn t cut ids to w)
+            ≡ done h w + (length (option_to_list (slice_get w.verdicts 0)) + length to.begun)
+        sum = turn_adds_up to same
+
+        front : (vs : List Verdict) → w.verdicts ≡ vs → length (option_to_list (slice_get w.verdicts 0)) ≡ length (option_to_list (slice_get vs 0))
+        front vs e = ap (λ (us : List Verdict). length (option_to_list (slice_get us 0))) e
+
+        by : (vs : List Verdict) → w.verdicts ≡ vs → (roots : List Root) → to.begun ≡ roots
+            → Stepped (done h w) (done (joined h (hears (slice_get w.verdicts 0) (placed at (opened t cut w.spout to.begun ids)))) (with_turn t cut ids to w)) (IsQuietTurn w)
+        by (v ∷ vs) e roots b = rose (let s = sum in let f = front (v ∷ vs) e in omega arith)
+        by [] e (root ∷ roots) b = rose (let s = sum in let l = ap length b in omega arith)
+        by [] e [] b = kept (let s = sum in let f = front [] e in let l = ap length b in omega arith)
+            (record { orders = out; verdicts = e; begun = ap (λ (x : Turned t cut). x.begun) (sym is) ∙ b })
+
+    hands_over : IsOrderly t w → (p : Parcel) (rest : List Parcel) → w.orders ≡ p ∷ rest → done h w < done (joined h nothing) (delivered t p (record w { orders = rest }))
+    hands_over is p rest out =
+        let fits : AllByRecursion (FitsParcel t) (p ∷ rest) = subst (AllByRecursion (FitsParcel t)) out is.orders in
+        let b = in_boxes-delivered t p (record w { orders = rest }) is.task_count is.acker_count fits.0 in
+        let k = committed-delivered t p (record w { orders = rest }) in
+        let x = taken-joined h nothing in
+        let y = begun-joined h nothing in omega arith
+
+    pub turn_does : IsOrderly t w → DoesTurn
+    turn_does is = by w.orders refl
+      where
+        by : (out : List Parcel) → w.orders ≡ out → Stepped (done h w) (done (joined h (turn_adds_past t cut at ids w out)) (turn_past t cut ids w out)) (IsQuietTurn w)
+        by (p ∷ rest) out = rose (hands_over is p rest out)
+        by [] out = turns (turned_in t cut w) refl (turn_committed (slice_get w.verdicts 0) w.unheard w.desk) out
+
+  -- ---- what the outcome of a commit adds
+
+  module _ (w : World) (h : History) where
+    abbrev pub DoesOutcome : Type 0
+    DoesOutcome = Stepped (done h w) (done (joined h nothing) (outcome_step t cut outcome.Done w)) (w.desk.out ≡ true → next_to_commit t cut w.desk ≡ None)
+
+    pub outcome_does : DoesOutcome
+    outcome_does = outer w.desk.out refl
+      where
+        same : (p : Progress) → p.desk.committed ≡ w.desk.committed → done (joined h nothing) (with_progress t cut p w) ≡ done h w
+        same p e = let x = taken-joined h nothing in let y = begun-joined h nothing in omega arith
+
+        more : (p : Progress) → p.desk.committed ≡ w.desk.committed + 1 → done h w < done (joined h nothing) (with_progress t cut p w)
+        more p e = let x = taken-joined h nothing in let y = begun-joined h nothing in omega arith
+
+        inner : (o : Option Wait) → next_to_commit t cut w.desk ≡ o
+            → Stepped (done h w) (done (joined h nothing) (with_progress t cut (decided_by t cut outcome.Done o w.desk) w)) (w.desk.out ≡ true → next_to_commit t cut w.desk ≡ None)
+        inner None is = kept (same (decided_by t cut outcome.Done None w.desk) refl) (λ on. is)
+        inner (Some next) is = rose (more (decided_by t cut outcome.Done (Some next) w.desk) refl)
+
+        off_on : false ≡ true → ⊥
+        off_on e = cc
+
+        outer : (b : Bool) → w.desk.out ≡ b → Stepped (done h w) (done (joined h nothing) (cond b (with_progress t cut (decided t cut outcome.Done w.desk) w) w)) (w.desk.out ≡ true → next_to_commit t cut w.desk ≡ None)
+        outer true is = inner (next_to_commit t cut w.desk) refl
+        outer false is = kept (let x = taken-joined h nothing in let y = begun-joined h nothing in omega arith) (λ on. absurd (off_on (sym is ∙ on)))
