@@ -5,4 +5,5 @@ mod EngineLemmas
 mod OpenLemmas
 mod TurnLemmas
 mod TurnEvents
+pub mod LoopLemmas
 mod FatesLemmas
