@@ -6,4 +6,5 @@ mod OpenLemmas
 mod TurnLemmas
 mod TurnEvents
 pub mod LoopLemmas
+pub mod StartLemmas
 mod FatesLemmas
