@@ -5,4 +5,6 @@ mod EngineLemmas
 mod OpenLemmas
 mod TurnLemmas
 mod TurnEvents
+pub mod LoopLemmas
+pub mod StartLemmas
 mod FatesLemmas

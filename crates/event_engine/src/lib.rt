@@ -4,6 +4,7 @@
 
 mod acker;
 mod engine;
+mod start;
 mod task;
 
 pub use engine::Engine;

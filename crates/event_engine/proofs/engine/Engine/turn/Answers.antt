@@ -33,7 +33,17 @@ returns-in_ok-deliver-in-Some g c =
     }
 
 pub take_turn-requires-clause-ready : goal.take_turn-requires-clause-ready
-take_turn-requires-clause-ready g c = ?
+take_turn-requires-clause-ready g c =
+    let old = c.args.self.now in
+    ready_alike (topology_in old) (cut_in old) old (record old { orders = c.pop_front.new.self }) c.requires.ready
+    (record { shape_is = ap (λ out. record (shape old) { orders = out }) (sym c.in-None.ensures.items); coordinator = refl; plan = refl; tasks = refl; ackers = refl })
 
 pub returns-in_ok-commit-in-None-clause-goes : goal.returns-in_ok-commit-in-None-clause-goes
-returns-in_ok-commit-in-None-clause-goes g c = ?
+returns-in_ok-commit-in-None-clause-goes g c = λ custom.
+    let old = c.args.self.now in
+    let t = topology_in old in
+    let cut = cut_in old in
+    goes-turn g.I.Ids.tells t custom cut old c.take_turn.new.self (sym c.is_over.ensures ∙ c.if-is_over.false)
+    (happens_alike t cut old (record old { orders = c.pop_front.new.self }) g.I.Ids.tells (tasks_in_all t) (turn_needs t cut) (λ ids w. turn_step t cut ids w) c.take_turn.new.self
+    (record { shape_is = ap (λ out. record (shape old) { orders = out }) (sym c.in-None.ensures.items); coordinator = refl; plan = refl; tasks = refl; ackers = refl })
+    c.in_ok-commit-in-None.ensures.taken.happens)
