@@ -7,4 +7,4 @@ mod TurnLemmas
 mod TurnEvents
 pub mod LoopLemmas
 pub mod StartLemmas
-mod FatesLemmas
+pub mod FatesLemmas

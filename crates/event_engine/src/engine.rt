@@ -3,6 +3,7 @@ ghost use Rattle.std.specs.List.{range_with_len};
 ghost use Rattle.attempt_fates.specs.Fates.{IsOnce};
 ghost use Rattle.bolt_ops.specs.RowOp.{Custom};
 ghost use Rattle.commit_order.specs.Orders.{desk_of};
+ghost use Rattle.commit_turns.specs.Turns.{is_finished};
 ghost use Rattle.commit_order.specs.declared.stop.Stop.TheVariants as stop;
 ghost use Rattle.event_engine.specs.Engines.{Answers, Goes, Happens, IsIdle, IsReady, IsSeated, IsStill, IsThere, MayDecide, TakesTurn, cut_in, has_ended, shape, sources, topology_in};
 ghost use Rattle.event_worlds.specs.Worlds.{acker_step, delivered, of_acker, of_outcome, of_task, of_tick, of_turn, outcomes_of, task_at, task_needs, task_step, tick_step};
@@ -181,6 +182,35 @@ impl<'p, I: Ids> Engine<'p, I> {
             return true;
         }
         self.coordinator.finished()
+    }
+
+    /// The transaction whose attempts have all ended without a commit, if there is one.
+    pub fn exhausted(&self) -> Option<u64>
+        ensures { result ≡ (shape self.now).desk.exhausted }
+    {
+        self.coordinator.exhausted()
+    }
+
+    /// Whether every batch is committed.
+    pub fn is_finished(&self) -> bool
+        ensures { result ≡ is_finished (topology_in self.now) (cut_in self.now)
+            (shape self.now).desk }
+    {
+        self.coordinator.finished()
+    }
+
+    /// How many batches are committed.
+    pub fn committed_count(&self) -> u64
+        ensures { result ≡ (shape self.now).desk.committed }
+    {
+        self.coordinator.committed_count()
+    }
+
+    /// The attempts that ended, in the order of their ends.
+    pub fn into_fates(self) -> Fates
+        ensures { result ≡ (shape self.entry).fates }
+    {
+        self.fates
     }
 
     // Puts a parcel at the back of the box that it names.
