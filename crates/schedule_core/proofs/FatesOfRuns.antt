@@ -49,7 +49,10 @@ module _ (n size : ℕ) where
 
   rest-follows : (k : ℕ) (c : Attempt) (cs : List Attempt) → Follow n size k (c ∷ cs)
       → Follow n size (k + 1) cs
-  rest-follows k c cs follow = record { in_order = at follow.in_order; of_batch = follow.of_batch.1 }
+  rest-follows k c cs follow = record {
+    in_order = at follow.in_order;
+    of_batch = follow.of_batch.1;
+  }
     where
       at : map (λ (y : Attempt). y.root.txid) (c ∷ cs) ≡ range_with_len (k + 1) (length (c ∷ cs))
           → map (λ (y : Attempt). y.root.txid) cs ≡ range_with_len (k + 1 + 1) (length cs)
