@@ -1,3 +1,5 @@
 mod Drives
 mod Quiet
 mod Coordinating
+mod FatesOfRuns
+mod TicksOfRuns
