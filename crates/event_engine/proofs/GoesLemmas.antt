@@ -58,7 +58,7 @@ get-set-else (z ∷ zs) zero (suc s) y is = refl
 get-set-else (z ∷ zs) (suc n) zero y is = refl
 get-set-else (z ∷ zs) (suc n) (suc s) y is = get-set-else zs n s y (not_next s n is)
 
-get-after : {X : Type 0} (xs ys : List X) (x d : X) → get_or (xs ++ x ∷ ys) (length xs) d ≡ x
+pub get-after : {X : Type 0} (xs ys : List X) (x d : X) → get_or (xs ++ x ∷ ys) (length xs) d ≡ x
 get-after [] ys x d = refl
 get-after (z ∷ zs) ys x d = get-after zs ys x d
 
