@@ -27,10 +27,10 @@ range-append k (suc m) n =
     ap (λ (j : ℕ). range_with_len k j) (let e : suc m + n ≡ suc (m + n) = omega arith in e) ∙ (λ i. k ∷ range-append (k + 1) m n i)
     ∙ ap (λ (j : ℕ). k ∷ range_with_len (k + 1) m ++ range_with_len j n) (let e : k + 1 + m ≡ k + suc m = omega arith in e)
 
-words-append : (w : ℕ → ℕ) (k m n : ℕ) → map w (range_with_len k (m + n)) ≡ map w (range_with_len k m) ++ map w (range_with_len (k + m) n)
+pub words-append : (w : ℕ → ℕ) (k m n : ℕ) → map w (range_with_len k (m + n)) ≡ map w (range_with_len k m) ++ map w (range_with_len (k + m) n)
 words-append w k m n = ap (map w) (range-append k m n) ∙ map-append w (range_with_len k m) (range_with_len (k + m) n)
 
-append-split : {X : Type 0} (xs xs' ys ys' : List X) → length xs ≡ length xs' → xs ++ ys ≡ xs' ++ ys' → (xs ≡ xs') × (ys ≡ ys')
+pub append-split : {X : Type 0} (xs xs' ys ys' : List X) → length xs ≡ length xs' → xs ++ ys ≡ xs' ++ ys' → (xs ≡ xs') × (ys ≡ ys')
 append-split [] [] ys ys' len is = (refl, is)
 append-split [] (x ∷ xs') ys ys' len is = absurd (omega arith)
 append-split (x ∷ xs) [] ys ys' len is = absurd (omega arith)
@@ -58,7 +58,7 @@ get-set-else (z ∷ zs) zero (suc s) y is = refl
 get-set-else (z ∷ zs) (suc n) zero y is = refl
 get-set-else (z ∷ zs) (suc n) (suc s) y is = get-set-else zs n s y (not_next s n is)
 
-get-after : {X : Type 0} (xs ys : List X) (x d : X) → get_or (xs ++ x ∷ ys) (length xs) d ≡ x
+pub get-after : {X : Type 0} (xs ys : List X) (x d : X) → get_or (xs ++ x ∷ ys) (length xs) d ≡ x
 get-after [] ys x d = refl
 get-after (z ∷ zs) ys x d = get-after zs ys x d
 
@@ -109,6 +109,7 @@ module _ (t : Topology) (custom : Custom) (cut : Cut) where
       → step t custom cut words outcomes (of_task n) k ≡ record { world = task_step t custom n (next_words words k.counts n (task_needs t custom (task_at t n k.world))) k.world; counts = drew n (task_needs t custom (task_at t n k.world)) k.counts }
   unfolding step
   task_law n words outcomes k = refl
+
   turn_law : (words : ℕ → ℕ → ℕ) (outcomes : List CommitOutcome) (k : Known)
       → step t custom cut words outcomes of_turn k ≡ record { world = turn_step t cut (next_words words k.counts (tasks_in_all t) (turn_needs t cut k.world)) k.world; counts = drew (tasks_in_all t) (turn_needs t cut k.world) k.counts }
   unfolding step

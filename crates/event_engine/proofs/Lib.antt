@@ -7,4 +7,5 @@ mod TurnLemmas
 mod TurnEvents
 pub mod LoopLemmas
 pub mod StartLemmas
-pub mod FatesLemmas
+pub mod WorldLemmas
+mod FatesLemmas

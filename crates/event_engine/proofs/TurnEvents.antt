@@ -478,3 +478,6 @@ module _ {I : Type 0} {g : Ghosts I} (t : Topology) (cut : Cut) (old new : Engin
 -- the fates of an engine that is ready
 pub ready_once : {I : Type 0} {g : Ghosts I} (t : Topology) (cut : Cut) (e : Engine I g) → IsReady t cut e → IsOnce (length cut.records) cut.size last_tick e.fates
 ready_once t cut e ready = kept_once t cut (desk_of e.coordinator) e.fates ready.kept ready.ticks
+
+pub once_still : {I : Type 0} {g : Ghosts I} (t : Topology) (cut : Cut) (old new : Engine I g) → IsReady t cut old → IsStill old new → IsOnce (length cut.records) cut.size last_tick new.fates
+once_still t cut old new ready still = subst (IsOnce (length cut.records) cut.size last_tick) (sym still.fates) (ready_once t cut old ready)

@@ -3,8 +3,8 @@ ghost use Rattle.std.specs.List.{range_with_len};
 ghost use Rattle.attempt_fates.specs.Fates.{IsOnce};
 ghost use Rattle.bolt_ops.specs.RowOp.{Custom};
 ghost use Rattle.commit_order.specs.Orders.{desk_of};
-ghost use Rattle.commit_turns.specs.Turns.{is_finished};
 ghost use Rattle.commit_order.specs.declared.stop.Stop.TheVariants as stop;
+ghost use Rattle.commit_turns.specs.Turns.{is_finished};
 ghost use Rattle.event_engine.specs.Engines.{Answers, Goes, Happens, IsIdle, IsReady, IsSeated, IsStill, IsThere, MayDecide, TakesTurn, cut_in, has_ended, shape, sources, topology_in};
 ghost use Rattle.event_worlds.specs.Worlds.{acker_step, delivered, of_acker, of_outcome, of_task, of_tick, of_turn, outcomes_of, task_at, task_needs, task_step, tick_step};
 ghost use Rattle.topology_plan.specs.Topology.{Topology, tasks_in_all};
@@ -50,6 +50,8 @@ impl<'p, I: Ids> Engine<'p, I> {
         ensures goes { OnOk result (Goes I.tells (topology_in self.old) (O.meaning custom.now)
             (cut_in self.old) (of_task n ∷ []) self.old self.new) }
         ensures still { IsStill self.old self.new }
+        ensures once { OnErr result (IsOnce (length (cut_in self.old).records)
+            (cut_in self.old).size (2 ^ 64 - 1) self.new.fates) }
     {
         if self.is_over() {
             return Ok(());
@@ -67,6 +69,8 @@ impl<'p, I: Ids> Engine<'p, I> {
         ensures goes { (custom : Custom) → OnOk result (Goes I.tells (topology_in self.old) custom
             (cut_in self.old) (of_acker n ∷ []) self.old self.new) }
         ensures still { IsStill self.old self.new }
+        ensures once { OnErr result (IsOnce (length (cut_in self.old).records)
+            (cut_in self.old).size (2 ^ 64 - 1) self.new.fates) }
     {
         if self.is_over() {
             return Ok(());
@@ -84,6 +88,8 @@ impl<'p, I: Ids> Engine<'p, I> {
             (cut_in self.old) (map of_task (range_with_len 0 (tasks_in_all (topology_in self.old))))
             self.old self.new) }
         ensures still { IsStill self.old self.new }
+        ensures once { OnErr result (IsOnce (length (cut_in self.old).records)
+            (cut_in self.old).size (2 ^ 64 - 1) self.new.fates) }
     {
         for n in 0..self.plan.tasks() {
             self.task(n, custom)?;
@@ -100,6 +106,8 @@ impl<'p, I: Ids> Engine<'p, I> {
             (cut_in self.old) (map of_acker (range_with_len 0 (topology_in self.old).ackers))
             self.old self.new) }
         ensures still { IsStill self.old self.new }
+        ensures once { OnErr result (IsOnce (length (cut_in self.old).records)
+            (cut_in self.old).size (2 ^ 64 - 1) self.new.fates) }
     {
         for n in 0..self.plan.ackers() {
             self.acker(n)?;
@@ -184,19 +192,19 @@ impl<'p, I: Ids> Engine<'p, I> {
         self.coordinator.finished()
     }
 
-    /// The transaction whose attempts have all ended without a commit, if there is one.
-    pub fn exhausted(&self) -> Option<u64>
-        ensures { result ≡ (shape self.now).desk.exhausted }
-    {
-        self.coordinator.exhausted()
-    }
-
     /// Whether every batch is committed.
     pub fn is_finished(&self) -> bool
         ensures { result ≡ is_finished (topology_in self.now) (cut_in self.now)
             (shape self.now).desk }
     {
         self.coordinator.finished()
+    }
+
+    /// The transaction whose attempts have run out, where all is over by it.
+    pub fn exhausted(&self) -> Option<u64>
+        ensures { result ≡ (shape self.now).desk.exhausted }
+    {
+        self.coordinator.exhausted()
     }
 
     /// How many batches are committed.

@@ -2,8 +2,10 @@ use Rattle.std.proofs.Common.{◌≡◌, ℕ, [], ◌∷◌, ◌∙◌, ap, refl
 use Rattle.std.specs.List.{range_with_len}
 use Rattle.std.proofs.lemmas.List.FromFn.{map-range_with_len_more}
 use Rattle.event_engine.specs.Engines.{Goes, cut_in, topology_in}
+use Rattle.event_engine.proofs.FatesLemmas.{on_err}
 use Rattle.event_engine.proofs.GoesLemmas.{goes-none, goes-then}
 use Rattle.event_engine.proofs.LoopLemmas.{goes_there, ready_here, ready_there, still_then}
+use Rattle.event_engine.proofs.TurnEvents.{once_still}
 use Rattle.event_worlds.specs.Worlds.{of_acker}
 use Rattle.topology_plan.specs.Topology.{Topology}
 use Rattle.event_engine.proofs.engine.Engine.all_ackers.Goals as goal
@@ -40,3 +42,9 @@ returns-clause-goes g c = λ custom.
     let end : c.loop-n.n ≡ t.ackers =
     (let e : c.loop-n.n ≡ c.ackers-n-end.result = let far = c.loop-n-test.false in let near = c.loop-n.auto.n-end in omega arith in e) ∙ c.ackers-n-end.ensures ∙ ap (λ (u : Topology). u.ackers) c.requires.seated.plan in
     subst (λ (k : ℕ). Goes g.I.Ids.tells t custom cut (map of_acker (range_with_len 0 k)) old c.loop-n.self) end (c.loop-n.invariant.goes custom)
+
+pub returns-in_err-acker-clause-once : goal.returns-in_err-acker-clause-once
+returns-in_err-acker-clause-once g c =
+    let old = c.args.self.now in
+    on_err c.from_residual.result
+    (once_still (topology_in old) (cut_in old) old c.acker.new.self c.requires (still_then old c.loop-n.self c.acker.new.self c.loop-n.invariant.still c.acker.ensures.still))

@@ -1,0 +1,62 @@
+-- An engine that was started and went through steps is the world after them.
+use Rattle.std.proofs.Common.{◌≡◌, ◌<◌, ℕ, ◌+◌, List, [], ◌++◌, length, map, Option, None, Some, get_or, sym, refl, ap, subst, ◌∙◌, length-append, arith}
+use Rattle.std.specs.Prelude.{slice_get}
+use Rattle.std.specs.List.{range_with_len}
+use Rattle.std.proofs.lemmas.List.{get_or_append_left}
+use Rattle.std.proofs.lemmas.List.FromFn.{fill_by_all, length-map-range_with_len}
+use Rattle.bolt_ops.specs.RowOp.{Custom}
+use Rattle.event_engine.specs.Engines.{Gives, Goes, HasOutcomes, shape, sources}
+use Rattle.event_engine.specs.Starts.{IsStarted}
+use Rattle.event_engine.specs.declared.engine.Engine.{Engine}
+use Rattle.event_engine.proofs.GoesLemmas.{append-split, words-append}
+use Rattle.event_worlds.specs.Worlds.{Step, World, first_counts, run, world_after}
+use Rattle.state_parts.specs.declared.answer.CommitOutcome.{CommitOutcome}
+use Rattle.storm_ids.specs.declared.ids.Ids.{Ghosts}
+use Rattle.topology_plan.specs.Topology.{Topology}
+use Rattle.trident_batches.specs.Batches.{Cut}
+
+-- words that are the numbers of two lists, one after the other
+joined_words : (first more : ℕ → List ℕ) → ℕ → ℕ → ℕ
+joined_words first more s k = get_or (first s ++ more s) k 0
+
+joined_first : (first more : ℕ → List ℕ) → Gives (joined_words first more) (λ s. 0) first
+unfolding joined_words
+joined_first first more s =
+    sym (fill_by_all (λ k. get_or (first s ++ more s) k 0) (first s) (length (first s)) 0 refl (λ k below. sym (get_or_append_left (first s) (more s) 0 k below)))
+
+joined_more : (first more : ℕ → List ℕ) → Gives (joined_words first more) (λ s. length (first s)) more
+unfolding joined_words
+joined_more first more s =
+    let word : ℕ → ℕ = λ (k : ℕ). get_or (first s ++ more s) k 0 in
+    let all : map word (range_with_len 0 (length (first s ++ more s))) ≡ first s ++ more s = sym (fill_by_all word (first s ++ more s) (length (first s ++ more s)) 0 refl (λ k below. refl)) in
+    let parts : map word (range_with_len 0 (length (first s))) ++ map word (range_with_len (0 + length (first s)) (length (more s))) ≡ first s ++ more s =
+    sym (words-append word 0 (length (first s)) (length (more s))) ∙ ap (λ (n : ℕ). map word (range_with_len 0 n)) (sym (length-append (first s) (more s))) ∙ all in
+    let same : length (first s) ≡ 0 + length (first s) = omega arith in
+    ap (λ (n : ℕ). map word (range_with_len n (length (more s)))) same
+    ∙ (append-split (map word (range_with_len 0 (length (first s)))) (first s) (map word (range_with_len (0 + length (first s)) (length (more s)))) (more s) (length-map-range_with_len word 0 (length (first s))) parts).1
+
+module _ {I : Type 0} {g : Ghosts I} (told : (ℕ → ℕ → ℕ) → Type 0) (tells : I → (ℕ → ℕ) → ℕ → Type 0) (t : Topology) (custom : Custom) (cut : Cut) (steps : List Step) (old new : Engine I g)
+    (started : IsStarted told tells t old) (goes : Goes tells t custom cut steps old new) where
+  from_start : (words : ℕ → ℕ → ℕ) (outcomes : List CommitOutcome) → Gives words (λ s. 0) started.given → Gives words (first_counts t words) goes.given → HasOutcomes outcomes new.fates
+      → shape new ≡ world_after t custom cut words outcomes steps
+  from_start words outcomes begins gives has =
+      sym (goes.runs words (first_counts t words) outcomes gives has).0
+      ∙ ap (λ (w : World). (run t custom cut words outcomes steps (record { world = w; counts = first_counts t words })).world) (started.first words begins)
+
+  -- by words that are told
+  pub told_world : (words : ℕ → ℕ → ℕ) → told words → (outcomes : List CommitOutcome) → HasOutcomes outcomes new.fates → shape new ≡ world_after t custom cut words outcomes steps
+  told_world words is outcomes has = from_start words outcomes (started.gives words is) (λ s. gives s (slice_get (sources old) s) refl) has
+    where
+      gives : (s : ℕ) (found : Option I) → slice_get (sources old) s ≡ found → map (words s) (range_with_len (first_counts t words s) (length (goes.given s))) ≡ goes.given s
+      gives s None off = rw (goes.none s off).0 refl
+      gives s (Some source) at =
+          sym ((goes.draws s source at).2.are_next (words s) (first_counts t words s) (subst (tells source (words s)) (started.counted words s) (started.goes_on words is s source at)))
+
+  -- by some words, whatever the sources tell
+  pub some_world : (words : ℕ → ℕ → ℕ) × ((outcomes : List CommitOutcome) → HasOutcomes outcomes new.fates → shape new ≡ world_after t custom cut words outcomes steps)
+  some_world =
+      let words : ℕ → ℕ → ℕ = joined_words started.given goes.given in (
+        words,
+        λ outcomes has. from_start words outcomes (joined_first started.given goes.given)
+            (λ s. subst (λ (n : ℕ). map (words s) (range_with_len n (length (goes.given s))) ≡ goes.given s) (started.counted words s) (joined_more started.given goes.given s)) has,
+      )
