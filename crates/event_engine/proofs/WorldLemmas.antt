@@ -60,3 +60,12 @@ module _ {I : Type 0} {g : Ghosts I} (told : (ℕ → ℕ → ℕ) → Type 0) (
         λ outcomes has. from_start words outcomes (joined_first started.given goes.given)
             (λ s. subst (λ (n : ℕ). map (words s) (range_with_len n (length (goes.given s))) ≡ goes.given s) (started.counted words s) (joined_more started.given goes.given s)) has,
       )
+
+  -- some words begin with those that were given, at the start and after it
+  pub some_words : (words : ℕ → ℕ → ℕ) × Gives words (λ s. 0) started.given × Gives words (first_counts t words) goes.given
+  some_words =
+      let words : ℕ → ℕ → ℕ = joined_words started.given goes.given in (
+        words,
+        joined_first started.given goes.given,
+        λ s. subst (λ (n : ℕ). map (words s) (range_with_len n (length (goes.given s))) ≡ goes.given s) (started.counted words s) (joined_more started.given goes.given s),
+      )

@@ -3,3 +3,4 @@ mod Quiet
 mod Coordinating
 mod FatesOfRuns
 mod TicksOfRuns
+mod Replaying

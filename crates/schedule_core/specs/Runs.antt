@@ -44,11 +44,13 @@ pub record RunComes {S : Type 0} (tells : S → CellMap → Type 0) (count : S �
     (fates : List Attempt) (old new : List (StatePart S)) : Type 0 where
   -- each batch was committed once at most, and in order
   pub once : IsOnce (length cut.records) cut.size last_tick fates
-  pub in_time : HadMemory answer → IsOnce (length cut.records) cut.size (ticks_in steps) fates
+  pub in_time : IsAnswer answer → IsOnce (length cut.records) cut.size (ticks_in steps) fates
   pub answers : Answers t cut (ticks_in steps) fates answer
   -- each end has its cause
-  pub caused : HadMemory answer
+  pub caused : IsAnswer answer
       → (words : ℕ → ℕ → ℕ) × AreCaused t custom cut (ticks_in steps) words fates
+  pub caused_short : HadMemory answer
+      → (words : ℕ → ℕ → ℕ) × AreCaused t custom cut last_tick words fates
   -- it is the run of a world
   pub of_world : IsAnswer answer
       → (words : ℕ → ℕ → ℕ) × IsOfWorld t custom cut words steps answer fates
@@ -59,4 +61,4 @@ pub record RunComes {S : Type 0} (tells : S → CellMap → Type 0) (count : S �
       → PartsStand tells t custom cut (committed_count fates) new
   -- the failed commits are counted by the stores
   pub counted : HadMemory answer → FailuresAreCounted count fates old new
-  pub plans : plans_of new ≡ plans_of old
+  pub plans : HadMemory answer → plans_of new ≡ plans_of old
