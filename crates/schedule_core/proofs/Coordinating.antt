@@ -1,9 +1,11 @@
 -- The coordinator's steps over the parts.
-use Rattle.std.proofs.Common.{◌≡◌, ◌⊎◌, ◌≤◌, ◌<◌, ℕ, zero, suc, ◌+◌, ◌==◌, ◌&&◌, Bool, true, false, cond, List, [], ◌∷◌, ◌++◌, All, length, map, find, get_or, Option, None, Some, is_some, refl, sym, ap, subst, ◌∙◌, append-nil, inl, inr, arith, true≢false}
+use Rattle.std.proofs.Common.{◌≡◌, ◌⊎◌, ◌≤◌, ◌<◌, ℕ, zero, suc, ◌+◌, ◌==◌, ◌&&◌, Bool, true, false, cond, List, [], ◌∷◌, ◌++◌, All, length, map, find, get_or, slice_index_or, take, Option, None, Some, is_some, Result, Ok, Err, refl, sym, ap, subst, ◌∙◌, append-nil, inl, inr, arith, true≢false}
 use Rattle.std.specs.Prelude.{slice_get}
 use Rattle.std.specs.List.{AllZip, range_with_len}
-use Rattle.std.proofs.lemmas.List.{append_cancel_left}
-use Rattle.std.proofs.lemmas.List.Elements.{All-append, All-cons, All-nil}
+use Rattle.std.specs.Result.{IsErrAnd}
+use Rattle.std.specs.Str.{IsUtf8}
+use Rattle.std.proofs.lemmas.List.{append_cancel_left, take_all}
+use Rattle.std.proofs.lemmas.List.Elements.{All-append, All-cons, All-more, All-nil}
 use Rattle.std.proofs.lemmas.List.FromFn.{fill_by_all}
 use Rattle.std.proofs.lemmas.Option.{get_or_from_slice_get, slice_get_within}
 use Rattle.acker_core.specs.declared.verdict.Verdict.{Verdict}
@@ -20,12 +22,13 @@ use Rattle.commit_turns.specs.Turns.{decided, next_to_commit, turned}
 use Rattle.commit_writes.proofs.Whole.{whole_writes}
 use Rattle.commit_writes.specs.Writes.{AreWritesOf}
 use Rattle.event_engine.proofs.GoesLemmas.{goes-idle, next-told, outcomes-append}
+use Rattle.event_engine.proofs.LoopLemmas.{goes_there}
 use Rattle.event_engine.specs.declared.engine.Engine.{Engine}
-use Rattle.event_engine.specs.Engines.{Gives, Goes, HasOutcomes, shape}
+use Rattle.event_engine.specs.Engines.{Gives, Goes, HasOutcomes, IsIdle, IsOrder, IsReady, cut_in, has_ended, shape, topology_in}
 use Rattle.event_worlds.proofs.Committed.{decided-done, decided-failed}
 use Rattle.event_worlds.specs.Accounted.{Accounted, IsInput}
-use Rattle.event_worlds.specs.Worlds.{Known, Step, World, is_over, next_outcome, next_words, of_outcome, of_turn, outcome_step, outcomes_of, run, step, turn_needs, turn_step, with_progress}
-use Rattle.schedule_core.specs.Driving.{Drives, committed_by}
+use Rattle.event_worlds.specs.Worlds.{Known, Step, World, is_over, next_outcome, next_words, of_outcome, of_turn, coordinator_steps, outcome_step, outcomes_of, run, step, turn_needs, turn_step, with_progress}
+use Rattle.schedule_core.specs.Driving.{Breaks, Drives, committed_by}
 use Rattle.schedule_core.proofs.Drives.{Laws, drives-still, drives-then}
 use Rattle.schedule_core.proofs.Quiet.{IsQuiet, quiet_nothing, quiet_same, quiet_turn}
 use Rattle.state_parts.specs.Commits.{AreCommitted, ArePerhapsCommitted, NoCountFell}
@@ -62,6 +65,25 @@ both_true : (a b : Bool) → (a && b) ≡ true → b ≡ true
 both_true true b is = is
 both_true false b is = absurd (true≢false (sym is))
 
+-- ---- faults that are handed on
+
+-- the fault that is handed on is the one that was met
+pub exit_is : {T E : Type 0} (r : Result T E) (met told : E) → IsErrAnd r (λ e. e ≡ met) → r ≡ Err told → met ≡ told
+exit_is (Ok x) met told exits is = absurd exits
+exit_is (Err e) met told exits is = sym exits ∙ (let same : Err e ≡ Err told = is in cc)
+
+-- ---- keys of writes
+
+-- one more write with a text as its key
+pub texts_more : (writes items : List Write) (i : ℕ) (x : Write) (bytes : List ℕ) → items ≡ writes → i < length items → x ≡ slice_index_or items i x → bytes ≡ x.key → IsUtf8 bytes
+    → All HasTextKey (take i writes) → All HasTextKey (take (i + 1) writes)
+texts_more writes items i x bytes same below at key text so_far =
+    All-more HasTextKey writes i x (subst (λ (ws : List Write). i < length ws) same below) so_far
+    (subst HasTextKey (at ∙ ap (λ (ws : List Write). slice_index_or ws i x) same) (subst (λ (k : List ℕ). IsUtf8 k) key text))
+
+pub texts_end : (writes items : List Write) (i : ℕ) → items ≡ writes → length items ≤ i → All HasTextKey (take i writes) → All HasTextKey writes
+texts_end writes items i same ends all = subst (λ (ws : List Write). All HasTextKey ws) (take_all i writes (subst (λ (ws : List Write). length ws ≤ i) same ends)) all
+
 -- ---- worlds
 
 module _ (t : Topology) (custom : Custom) (cut : Cut) (words : ℕ → ℕ → ℕ) (outcomes : List CommitOutcome) (k : Known) where
@@ -86,6 +108,7 @@ pub record CommitLaws {S : Type 0} (holds : S → CellMap → Type 0) (count : S
   pub strange : (txid : ℕ) (made : List Write) (old new : List (StatePart S)) → All HasTextKey made → ArePerhapsCommitted holds txid made old new → HasStrange holds new → HasStrange holds old
   pub decided_counts : (d : Desk) (how : CommitOutcome) (old new : List (StatePart S)) → AreParts t old → NoCountFell count old new → TellsFailedPart count old new how → FailuresAreCounted count (decided t cut how d).ended old new
   pub turn_counts : (d : Desk) (verdict : Option Verdict) (ticks : ℕ) (old new : List (StatePart S)) → NoCountFell count old new → FailuresAreCounted count (turned t cut verdict ticks d).ended old new
+  pub quiet_counts : (xs : List Attempt) (a b : List (StatePart S)) → xs ≡ [] → NoCountFell count a b → FailuresAreCounted count xs a b
   pub outcome : (how : CommitOutcome) (old new : List (StatePart S)) → AreParts t old → TellsFailedPart count old new how → IsOutcome t how
   pub settled : (words : ℕ → ℕ → ℕ) (k : Known) → IsInput t cut → Accounted t custom cut words k → (i : ℕ) (w : Wait) (list : List AckMsg) → slice_get k.world.desk.pending i ≡ Some w → w.settled ≡ Some list
       → IsSound t custom (rows_in cut w.root.txid) w.root list × IsClosed list × Covers t custom (rows_in cut w.root.txid) list
@@ -130,24 +153,57 @@ module _ {I S : Type 0} {g : Ghosts I} (tells : I → (ℕ → ℕ) → ℕ → 
       let k : Known = record { world = shape old; counts = λ s. 0 } in
       quiet_same t cut (shape old) (shape mid) _ (sym some.1) (turned_quietly t custom cut some.0 (outcomes_of mid.fates) k (is_over t cut (shape old)) refl)
 
-  -- a turn leaves the parts alone
-  pub drives-turn : (laws : Laws count t custom cut) (more : CommitLaws holds count t custom cut) (old mid : Engine I g) (parts : List (StatePart S)) → Goes tells t custom cut (of_turn ∷ []) old mid → Drives tells holds count t custom cut (of_turn ∷ []) old mid parts parts
-  drives-turn laws more old mid parts goes =
+  -- the attempts that end in a turn tell of no failure
+  turn_counted : (more : CommitLaws holds count t custom cut) (old mid : Engine I g) (was is : List (StatePart S)) → NoCountFell count was is → (goes : Goes tells t custom cut (of_turn ∷ []) old mid) → FailuresAreCounted count goes.more was is
+  turn_counted more old mid was is falls goes =
       let q = turn_quiet old mid goes in
       let more_is : goes.more ≡ q.more = append_cancel_left old.fates goes.more q.more (sym goes.added ∙ q.added) in
-      let told : outcomes_of mid.fates ≡ outcomes_of old.fates = ap outcomes_of q.added ∙ outcomes-append old.fates q.more ∙ ap (λ (hs : List CommitOutcome). outcomes_of old.fates ++ hs) q.quiet ∙ append-nil (outcomes_of old.fates) in
-      record {
-        goes = goes;
-        plans = refl;
-        outcomes = λ are good. subst (λ (hs : List CommitOutcome). All (IsOutcome t) hs) (sym told) good;
-        stands = λ words counts outcomes gives has input keeps good led stand. subst (λ (n : ℕ). PartsStand holds t custom cut n parts) (sym q.committed) stand;
-        strange = λ found. found;
-        counted = subst (λ (xs : List Attempt). FailuresAreCounted count xs parts parts) (sym more_is) (counts q.more q.made);
-      }
+      subst (λ (xs : List Attempt). FailuresAreCounted count xs was is) (sym more_is) (counts q.more q.made)
     where
-      counts : (xs : List Attempt) → (xs ≡ []) ⊎ ((verdict : Option Verdict) × (ticks : ℕ) × (xs ≡ (turned t cut verdict ticks (shape old).desk).ended)) → FailuresAreCounted count xs parts parts
-      counts xs (inl none) = subst (λ (ys : List Attempt). FailuresAreCounted count ys parts parts) (sym none) (laws.counts_none parts)
-      counts xs (inr made) = subst (λ (ys : List Attempt). FailuresAreCounted count ys parts parts) (sym made.2) (more.turn_counts (shape old).desk made.0 made.1 parts parts (no_fall count parts))
+      counts : (xs : List Attempt) → (xs ≡ []) ⊎ ((verdict : Option Verdict) × (ticks : ℕ) × (xs ≡ (turned t cut verdict ticks (shape old).desk).ended)) → FailuresAreCounted count xs was is
+      counts xs (inl none) = more.quiet_counts xs was is none falls
+      counts xs (inr made) = subst (λ (ys : List Attempt). FailuresAreCounted count ys was is) (sym made.2) (more.turn_counts (shape old).desk made.0 made.1 was is falls)
+
+  -- and tell no outcome of a commit
+  turn_told : (old mid : Engine I g) → Goes tells t custom cut (of_turn ∷ []) old mid → outcomes_of mid.fates ≡ outcomes_of old.fates
+  turn_told old mid goes =
+      let q = turn_quiet old mid goes in ap outcomes_of q.added ∙ outcomes-append old.fates q.more ∙ ap (λ (hs : List CommitOutcome). outcomes_of old.fates ++ hs) q.quiet ∙ append-nil (outcomes_of old.fates)
+
+  -- a turn leaves the parts alone
+  pub drives-turn : (more : CommitLaws holds count t custom cut) (old mid : Engine I g) (parts : List (StatePart S)) → Goes tells t custom cut (of_turn ∷ []) old mid → Drives tells holds count t custom cut (of_turn ∷ []) old mid parts parts
+  drives-turn more old mid parts goes = record {
+    goes = goes;
+    plans = refl;
+    outcomes = λ are good. subst (λ (hs : List CommitOutcome). All (IsOutcome t) hs) (sym (turn_told old mid goes)) good;
+    stands = λ words counts outcomes gives has input keeps good led stand. subst (λ (n : ℕ). PartsStand holds t custom cut n parts) (sym (turn_quiet old mid goes).committed) stand;
+    strange = λ found. found;
+    counted = turn_counted more old mid parts parts (no_fall count parts) goes;
+  }
+
+  -- a turn, and the commit that it ordered, which was broken off
+  pub drives-broken : (laws : Laws count t custom cut) (more : CommitLaws holds count t custom cut) (old mid : Engine I g) (was is : List (StatePart S)) (w : Wait) (commit : Commit)
+      → next_to_commit t cut (shape mid).desk ≡ Some w → IsCommitOf (Some w) (Some commit) → commit.root.txid ≡ committed_by mid + 1 → All HasTextKey commit.writes
+      → plans_of is ≡ plans_of was → ArePerhapsCommitted holds commit.root.txid commit.writes was is → NoCountFell count was is
+      → Goes tells t custom cut (of_turn ∷ []) old mid → Drives tells holds count t custom cut (of_turn ∷ []) old mid was is
+  drives-broken laws more old mid was is w commit next ordered txid texts plans kept falls goes = record {
+    goes = goes;
+    plans = plans;
+    outcomes = λ are good. subst (λ (hs : List CommitOutcome). All (IsOutcome t) hs) (sym (turn_told old mid goes)) good;
+    stands = λ words counts outcomes gives has input keeps good led stand.
+        let start : Known = record { world = shape old; counts = counts } in
+        let k : Known = run t custom cut words outcomes (of_turn ∷ []) start in
+        let led_mid : Accounted t custom cut words k = laws.accounted words outcomes (of_turn ∷ []) start input keeps good led in
+        let world_is : k.world ≡ shape mid = (goes.runs words counts outcomes gives has).0 in
+        let mid_known : Known = record { world = shape mid; counts = k.counts } in
+        let led_next : Accounted t custom cut words mid_known = subst (λ (x : World). Accounted t custom cut words (record { world = x; counts = k.counts })) world_is led_mid in
+        let made = ordered_writes holds count t custom cut more words mid_known w commit input led_next next ordered in
+        let number : w.root.txid ≡ committed_by mid + 1 = sym (ap (λ r. r.txid) ordered.0) ∙ txid in
+        let writes_are : commit.writes ≡ writes_at t custom cut (committed_by mid + 1) = made.0 ∙ ap (writes_at t custom cut) number in
+        more.broken_off (committed_by mid) was is (subst (λ (n : ℕ). PartsStand holds t custom cut n was) (sym (turn_quiet old mid goes).committed) stand) (let e = number in let f = made.1 in omega arith)
+        (subst (λ (ws : List Write). ArePerhapsCommitted holds (committed_by mid + 1) ws was is) writes_are (subst (λ (n : ℕ). ArePerhapsCommitted holds n commit.writes was is) txid kept));
+    strange = λ found. more.strange commit.root.txid commit.writes was is texts kept found;
+    counted = turn_counted more old mid was is falls goes;
+  }
 
   -- what an outcome makes of an engine
   outcome_is : (mid new : Engine I g) (how : CommitOutcome) → is_over t cut (shape mid) ≡ false → (shape mid).desk.out ≡ true → outcomes_of new.fates ≡ outcomes_of mid.fates ++ how ∷ [] → Goes tells t custom cut (of_outcome ∷ []) mid new
@@ -195,3 +251,38 @@ module _ {I S : Type 0} {g : Ghosts I} (tells : I → (ℕ → ℕ) → ℕ → 
       by (Failed component part before after) came writes_are below stand =
           subst (λ (n : ℕ). PartsStand holds t custom cut n is) (sym (decided-failed t cut (shape mid).desk component part before after))
           (more.broken_off (committed_by mid) was is stand below (subst (λ (ws : List Write). ArePerhapsCommitted holds (committed_by mid + 1) ws was is) writes_are (subst (λ (n : ℕ). ArePerhapsCommitted holds n commit.writes was is) txid came.kept)))
+
+  -- ---- the coordinator's steps as a whole
+
+  -- whether all is over for the engine's own topology and cut
+  ended_here : (mid : Engine I g) → IsReady t cut mid → has_ended mid ≡ is_over t cut (shape mid)
+  ended_here mid ready = ap (λ (u : Topology). is_over u (cut_in mid) (shape mid)) ready.seated.of_topology ∙ ap (λ (k : Cut). is_over t k (shape mid)) ready.seated.of_cut
+
+  next_here : (mid : Engine I g) → IsReady t cut mid → next_to_commit (topology_in mid) (cut_in mid) (shape mid).desk ≡ next_to_commit t cut (shape mid).desk
+  next_here mid ready = ap (λ (u : Topology). next_to_commit u (cut_in mid) (shape mid).desk) ready.seated.of_topology ∙ ap (λ (k : Cut). next_to_commit t k (shape mid).desk) ready.seated.of_cut
+
+  -- no commit was ordered
+  pub drives-unordered : (laws : Laws count t custom cut) (more : CommitLaws holds count t custom cut) (old mid : Engine I g) (parts : List (StatePart S))
+      → Goes tells t custom cut (of_turn ∷ []) old mid → IsReady t cut mid → IsIdle mid → Drives tells holds count t custom cut coordinator_steps old mid parts parts
+  drives-unordered laws more old mid parts goes ready idle =
+      drives-then tells holds count t custom cut laws (of_turn ∷ []) (of_outcome ∷ []) old mid mid parts parts parts (drives-turn more old mid parts goes)
+      (drives-still tells holds count t custom cut laws (of_outcome ∷ []) mid mid parts (goes-idle tells t custom cut mid (λ going. idle (ended_here mid ready ∙ going))) (record { coordinator = refl; fates = refl }))
+
+  -- a commit was ordered, and its outcome was told
+  pub drives-ordered : (laws : Laws count t custom cut) (more : CommitLaws holds count t custom cut) (old mid new : Engine I g) (was is : List (StatePart S)) (commit : Commit) (how : CommitOutcome)
+      → Goes tells t custom cut (of_turn ∷ []) old mid → IsReady t cut mid → IsOrder commit mid → All HasTextKey commit.writes → AreParts t was → CommitComes holds count commit.root.txid commit.writes how was is
+      → outcomes_of new.fates ≡ outcomes_of mid.fates ++ how ∷ [] → Goes tells (topology_in mid) custom (cut_in mid) (of_outcome ∷ []) mid new → Drives tells holds count t custom cut coordinator_steps old new was is
+  drives-ordered laws more old mid new was is commit how goes ready order texts are comes told after =
+      drives-then tells holds count t custom cut laws (of_turn ∷ []) (of_outcome ∷ []) old mid new was was is (drives-turn more old mid was goes)
+      (drives-outcome laws more mid new was is order.wait commit how (sym (ended_here mid ready) ∙ order.ordered.goes_on) order.ordered.out (sym (next_here mid ready) ∙ order.ordered.next) order.is order.txid texts are comes told
+      (goes_there t cut mid ready tells custom (of_outcome ∷ []) new after))
+
+  -- a commit was ordered, and met a bad cell
+  pub breaks-ordered : (laws : Laws count t custom cut) (more : CommitLaws holds count t custom cut) (old mid : Engine I g) (was is : List (StatePart S)) (commit : Commit)
+      → Goes tells t custom cut (of_turn ∷ []) old mid → IsReady t cut mid → IsOrder commit mid → All HasTextKey commit.writes → plans_of is ≡ plans_of was → ArePerhapsCommitted holds commit.root.txid commit.writes was is → NoCountFell count was is
+      → HasStrange holds was → Breaks tells holds count t custom cut old mid was is
+  breaks-ordered laws more old mid was is commit goes ready order texts plans kept falls strange = record {
+    steps = of_turn ∷ [];
+    drives = drives-broken laws more old mid was is order.wait commit (sym (next_here mid ready) ∙ order.ordered.next) order.is order.txid texts plans kept falls goes;
+    strange = strange;
+  }

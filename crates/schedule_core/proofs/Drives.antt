@@ -70,4 +70,4 @@ module _ {I S : Type 0} {g : Ghosts I} (tells : I → (ℕ → ℕ) → ℕ → 
   }
 
   pub breaks-then : (xs : List Step) (a b c : Engine I g) (p q r : List (StatePart S)) → Drives tells holds count t custom cut xs a b p q → Breaks tells holds count t custom cut b c q r → Breaks tells holds count t custom cut a c p r
-  breaks-then xs a b c p q r first second = record { steps = xs ++ second.steps; drives = drives-then xs second.steps a b c p q r first second.drives; strange = second.strange }
+  breaks-then xs a b c p q r first second = record { steps = xs ++ second.steps; drives = drives-then xs second.steps a b c p q r first second.drives; strange = first.strange second.strange }

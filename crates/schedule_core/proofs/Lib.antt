@@ -1,6 +1,7 @@
 mod Drives
 mod Quiet
 mod Coordinating
+mod Resting
 mod FatesOfRuns
 mod TicksOfRuns
 mod Replaying

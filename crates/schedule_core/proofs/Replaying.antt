@@ -150,7 +150,7 @@ short_comes holds count t custom cut steps fates was is once = record {
   caused = λ ok. absurd ok;
   caused_short = λ ok. absurd ok;
   of_world = λ ok. absurd ok;
-  bad_cell = λ key is_bad. absurd (let e : Err {T = Ended} stop.Memory ≡ Err (stop.BadCell key) = is_bad in cc);
+  bad_cell = λ key is_bad. absurd is_bad;
   stands = λ ok. absurd ok;
   counted = λ ok. absurd ok;
   plans = λ ok. absurd ok;

@@ -51,10 +51,10 @@ module _ {I S : Type 0} {g : Ghosts I} where
     pub strange : HasStrange holds is → HasStrange holds was
     pub counted : FailuresAreCounted count goes.more was is
 
-  -- a bad cell was met after some steps
+  -- a bad cell was met after some steps, and a strange one was there before them
   pub record Breaks (tells : I → (ℕ → ℕ) → ℕ → Type 0) (holds : S → CellMap → Type 0)
       (count : S → ℕ) (t : Topology) (custom : Custom) (cut : Cut)
       (old new : Engine I g) (was is : List (StatePart S)) : Type 0 where
     pub steps : List Step
     pub drives : Drives tells holds count t custom cut steps old new was is
-    pub strange : HasStrange holds is
+    pub strange : HasStrange holds was

@@ -13,8 +13,13 @@ ghost use Rattle.schedule_reader.specs.Events.{FitsEvent};
 ghost use Rattle.state_parts.specs.declared.answer.CommitFault.TheVariants as fault;
 ghost use Rattle.state_parts.specs.PartPlans.{AreParts};
 
+use batch_commits::{
+    commits_of_batches_move_parts, counts_run_on, failures_of_commits_are_counted,
+    strange_cells_were_there,
+};
 use bolt_ops::RowOp;
 use event_engine::Engine;
+use event_worlds::{settled_lists_are_whole, worlds_are_accounted};
 use schedule_reader::{Event, Events};
 use state_parts::{CommitFault, Parts};
 use storm_ids::Ids;
@@ -39,6 +44,13 @@ pub(crate) fn coordinate<I: Ids, C: CellStore>(
     ensures once { OnErr result (IsOnce (length (cut_in engine.old).records)
         (cut_in engine.old).size last_tick engine.new.fates) }
 {
+    // laws: of worlds, and of commits to parts
+    worlds_are_accounted();
+    settled_lists_are_whole();
+    commits_of_batches_move_parts::<C>();
+    strange_cells_were_there::<C>();
+    failures_of_commits_are_counted::<C>();
+    counts_run_on::<C>();
     let Some(commit) = engine.turn()? else {
         return Ok(());
     };
@@ -76,6 +88,9 @@ pub(crate) fn round<I: Ids, C: CellStore, O: RowOp>(
     ensures once { OnErr result (IsOnce (length (cut_in engine.old).records)
         (cut_in engine.old).size last_tick engine.new.fates) }
 {
+    // laws: what a world comes to, and how failures add up
+    event_worlds::worlds_are_accounted();
+    batch_commits::counts_run_on::<C>();
     engine.all_tasks(custom)?;
     engine.all_ackers()?;
     coordinate(engine, parts)?;
@@ -133,6 +148,9 @@ fn carry_out<I: Ids, C: CellStore, O: RowOp>(
     ensures once { OnErr result (IsOnce (length (cut_in engine.old).records)
         (cut_in engine.old).size last_tick engine.new.fates) }
 {
+    // laws: what a world comes to, and how failures add up
+    event_worlds::worlds_are_accounted();
+    batch_commits::counts_run_on::<C>();
     match event {
         Event::Task(n) => engine.task(n, custom)?,
         Event::Acker(n) => engine.acker(n)?,
