@@ -118,6 +118,9 @@ fn rounds<I: Ids, C: CellStore, O: RowOp>(
     ensures once { OnErr result (IsOnce (length (cut_in engine.old).records)
         (cut_in engine.old).size last_tick engine.new.fates) }
 {
+    // laws: what a world comes to, and how failures add up
+    event_worlds::worlds_are_accounted();
+    batch_commits::counts_run_on::<C>();
     for done in 0..count {
         if engine.is_over() {
             return Ok(());
@@ -182,6 +185,9 @@ pub(crate) fn carry_out_all<I: Ids, C: CellStore, O: RowOp>(
     ensures once { OnErr result (IsOnce (length (cut_in engine.old).records)
         (cut_in engine.old).size last_tick engine.new.fates) }
 {
+    // laws: what a world comes to, and how failures add up
+    event_worlds::worlds_are_accounted();
+    batch_commits::counts_run_on::<C>();
     for event in events.as_slice() {
         if engine.is_over() {
             return Ok(());

@@ -3,8 +3,8 @@
 
 mod drive;
 mod ended;
-mod replay;
+mod given;
 
 pub use ended::Ended;
-pub use replay::replay;
+pub use given::replay;
 pub use schedule_reader::{Event, Events, ScheduleFault, read_schedule};

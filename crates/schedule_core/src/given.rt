@@ -14,7 +14,7 @@ use crate::ended::Ended;
 use attempt_fates::Fates;
 use bolt_ops::RowOp;
 use commit_order::Stop;
-use event_engine::{Engine, start};
+use event_engine::Engine;
 use schedule_reader::Events;
 use state_parts::{CommitFault, Parts};
 use std::alloc::Global;
@@ -56,7 +56,7 @@ pub fn replay<N: IdMaker, C: CellStore, O: RowOp>(
         → AreCaused plan.now (O.meaning custom.now) batches (ticks_in (all_steps plan.now events.now))
         words fates.new }
 {
-    let mut engine = match start(alloc, plan, batches, ids) {
+    let mut engine = match Engine::start(alloc, plan, batches, ids) {
         Ok(engine) => engine,
         Err(_) => return Err(Stop::Memory),
     };

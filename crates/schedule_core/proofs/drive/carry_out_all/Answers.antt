@@ -1,0 +1,81 @@
+use Rattle.std.proofs.Common.{◌+◌, get_or, sym, take, ◌∙◌}
+use Rattle.event_engine.specs.Engines.{cut_in, topology_in}
+use Rattle.schedule_core.specs.Schedules.{all_steps, steps_of}
+use Rattle.schedule_core.proofs.Drives.{Laws}
+use Rattle.schedule_core.proofs.Looping.{driven-breaks, driven-none, driven-over, driven-then, fault_was, fits_there, on_err, once_there, parts_here, steps_begin, steps_more_as}
+use Rattle.schedule_reader.specs.declared.event.Event.TheVariants.{Task}
+use Rattle.state_parts.specs.declared.answer.CommitFault.TheVariants.{BadCell}
+use Rattle.topology_plan.specs.Topology.{Topology}
+use Rattle.schedule_core.proofs.drive.carry_out_all.Goals as goal
+
+pub loop-event-init : goal.loop-event-init
+loop-event-init g c =
+    let old = c.args.engine.now in
+    let parts = c.args.parts.now in
+    let t = topology_in old in
+    let custom = g.O.RowOp.meaning c.args.custom.now in
+    let laws : Laws g.C.CellStore.fault_count t custom (cut_in old) = record { accounted = c.worlds_are_accounted.ensures.run t custom (cut_in old); counts_none = c.counts_run_on.ensures.none; counts_then = c.counts_run_on.ensures.then } in
+    driven-none g.I.Ids.tells g.C.CellStore.tells g.C.CellStore.fault_count custom old parts laws c.requires.at_rest c.requires.parts
+
+pub returns-then-is_over-clause-at_rest : goal.returns-then-is_over-clause-at_rest
+returns-then-is_over-clause-at_rest g c = c.loop-event.invariant.at_rest
+
+pub returns-then-is_over-clause-same_run : goal.returns-then-is_over-clause-same_run
+returns-then-is_over-clause-same_run g c = c.loop-event.invariant.same_run
+
+pub returns-then-is_over-clause-drives : goal.returns-then-is_over-clause-drives
+returns-then-is_over-clause-drives g c =
+    let old = c.args.engine.now in
+    let parts = c.args.parts.now in
+    let t = topology_in old in
+    let custom = g.O.RowOp.meaning c.args.custom.now in
+    let laws : Laws g.C.CellStore.fault_count t custom (cut_in old) = record { accounted = c.worlds_are_accounted.ensures.run t custom (cut_in old); counts_none = c.counts_run_on.ensures.none; counts_then = c.counts_run_on.ensures.then } in
+    let begun = steps_begin (steps_of t) c.args.events.now c.loop-event.event-index in
+    driven-over g.I.Ids.tells g.C.CellStore.tells g.C.CellStore.fault_count custom old parts laws (all_steps t (take c.loop-event.event-index c.args.events.now)) c.loop-event.engine c.loop-event.parts c.loop-event.invariant (all_steps t c.args.events.now) begun.0 begun.1 (sym c.is_over.ensures ∙ c.if-is_over.true)
+
+pub carry_out-requires-clause-at_rest : goal.carry_out-requires-clause-at_rest
+carry_out-requires-clause-at_rest g c = c.loop-event.invariant.at_rest
+
+pub carry_out-requires-clause-parts : goal.carry_out-requires-clause-parts
+carry_out-requires-clause-parts g c =
+    let old = c.args.engine.now in
+    let parts = c.args.parts.now in
+    let t = topology_in old in
+    let custom = g.O.RowOp.meaning c.args.custom.now in
+    let laws : Laws g.C.CellStore.fault_count t custom (cut_in old) = record { accounted = c.worlds_are_accounted.ensures.run t custom (cut_in old); counts_none = c.counts_run_on.ensures.none; counts_then = c.counts_run_on.ensures.then } in
+    parts_here g.I.Ids.tells g.C.CellStore.tells g.C.CellStore.fault_count custom old parts laws (all_steps t (take c.loop-event.event-index c.args.events.now)) c.loop-event.engine c.loop-event.parts c.loop-event.invariant
+
+pub carry_out-requires-clause-fits : goal.carry_out-requires-clause-fits
+carry_out-requires-clause-fits g c =
+    fits_there c.args.engine.now c.loop-event.engine c.loop-event.invariant.same_run c.as_slice-event-items.result.now c.args.events.now c.loop-event.event-index (Task 0) c.as_slice-event-items.ensures c.requires.fit c.loop-event-test.true
+
+pub returns-in_err-carry_out-clause-bad : goal.returns-in_err-carry_out-clause-bad
+returns-in_err-carry_out-clause-bad g c =
+    let old = c.args.engine.now in
+    let parts = c.args.parts.now in
+    let t = topology_in old in
+    let custom = g.O.RowOp.meaning c.args.custom.now in
+    let laws : Laws g.C.CellStore.fault_count t custom (cut_in old) = record { accounted = c.worlds_are_accounted.ensures.run t custom (cut_in old); counts_none = c.counts_run_on.ensures.none; counts_then = c.counts_run_on.ensures.then } in
+    λ key is.
+    let was = fault_was c.from_residual.result c.carry_out.result c.in_err-carry_out.field-0.0 (BadCell key) c.from_residual.ensures.1 c.in_err-carry_out.was is in
+    driven-breaks g.I.Ids.tells g.C.CellStore.tells g.C.CellStore.fault_count custom old parts laws (all_steps t (take c.loop-event.event-index c.args.events.now)) c.loop-event.engine c.loop-event.parts c.loop-event.invariant c.carry_out.new.engine c.carry_out.new.parts (c.carry_out.ensures.bad key was)
+
+pub returns-in_err-carry_out-clause-once : goal.returns-in_err-carry_out-clause-once
+returns-in_err-carry_out-clause-once g c =
+    on_err c.from_residual.result (once_there c.args.engine.now c.loop-event.engine c.loop-event.invariant.same_run c.carry_out.new.engine c.in_err-carry_out.ensures.once)
+
+pub loop-event-preserved : goal.loop-event-preserved
+loop-event-preserved g c =
+    let old = c.args.engine.now in
+    let parts = c.args.parts.now in
+    let t = topology_in old in
+    let custom = g.O.RowOp.meaning c.args.custom.now in
+    let laws : Laws g.C.CellStore.fault_count t custom (cut_in old) = record { accounted = c.worlds_are_accounted.ensures.run t custom (cut_in old); counts_none = c.counts_run_on.ensures.none; counts_then = c.counts_run_on.ensures.then } in
+    let now = c.in_ok-carry_out.ensures in
+    driven-then g.I.Ids.tells g.C.CellStore.tells g.C.CellStore.fault_count custom old parts laws (all_steps t (take c.loop-event.event-index c.args.events.now)) c.loop-event.engine c.loop-event.parts c.loop-event.invariant (all_steps t (take (c.loop-event.event-index + 1) c.args.events.now)) (λ (u : Topology). steps_of u (get_or c.as_slice-event-items.result.now c.loop-event.event-index (Task 0))) c.carry_out.new.engine c.carry_out.new.parts (steps_more_as (steps_of t) c.as_slice-event-items.result.now c.args.events.now c.loop-event.event-index (Task 0) c.as_slice-event-items.ensures c.loop-event-test.true) now.at_rest now.same_run now.drives
+
+pub returns-clause-at_rest : goal.returns-clause-at_rest
+returns-clause-at_rest g c = c.loop-event.invariant.at_rest
+
+pub returns-clause-same_run : goal.returns-clause-same_run
+returns-clause-same_run g c = c.loop-event.invariant.same_run

@@ -1,0 +1,75 @@
+use Rattle.std.proofs.Common.{◌+◌, sym, ◌∙◌}
+use Rattle.event_engine.specs.Engines.{cut_in, topology_in}
+use Rattle.event_worlds.specs.Worlds.{round_steps, rounds_steps}
+use Rattle.schedule_core.proofs.Drives.{Laws}
+use Rattle.schedule_core.proofs.Looping.{driven-breaks, driven-none, driven-over, driven-then, fault_was, on_err, once_there, parts_here, rounds_begin, rounds_more}
+use Rattle.state_parts.specs.declared.answer.CommitFault.TheVariants.{BadCell}
+use Rattle.schedule_core.proofs.drive.rounds.Goals as goal
+
+pub loop-done-init : goal.loop-done-init
+loop-done-init g c =
+    let old = c.args.engine.now in
+    let parts = c.args.parts.now in
+    let t = topology_in old in
+    let custom = g.O.RowOp.meaning c.args.custom.now in
+    let laws : Laws g.C.CellStore.fault_count t custom (cut_in old) = record { accounted = c.worlds_are_accounted.ensures.run t custom (cut_in old); counts_none = c.counts_run_on.ensures.none; counts_then = c.counts_run_on.ensures.then } in
+    driven-none g.I.Ids.tells g.C.CellStore.tells g.C.CellStore.fault_count custom old parts laws c.requires.at_rest c.requires.parts
+
+pub returns-then-is_over-clause-at_rest : goal.returns-then-is_over-clause-at_rest
+returns-then-is_over-clause-at_rest g c = c.loop-done.invariant.at_rest
+
+pub returns-then-is_over-clause-same_run : goal.returns-then-is_over-clause-same_run
+returns-then-is_over-clause-same_run g c = c.loop-done.invariant.same_run
+
+pub returns-then-is_over-clause-drives : goal.returns-then-is_over-clause-drives
+returns-then-is_over-clause-drives g c =
+    let old = c.args.engine.now in
+    let parts = c.args.parts.now in
+    let t = topology_in old in
+    let custom = g.O.RowOp.meaning c.args.custom.now in
+    let laws : Laws g.C.CellStore.fault_count t custom (cut_in old) = record { accounted = c.worlds_are_accounted.ensures.run t custom (cut_in old); counts_none = c.counts_run_on.ensures.none; counts_then = c.counts_run_on.ensures.then } in
+    let begun = rounds_begin t c.loop-done.done c.args.count c.loop-done.auto.done-end in
+    driven-over g.I.Ids.tells g.C.CellStore.tells g.C.CellStore.fault_count custom old parts laws (rounds_steps t c.loop-done.done) c.loop-done.engine c.loop-done.parts c.loop-done.invariant (rounds_steps t c.args.count) begun.0 begun.1 (sym c.is_over.ensures ∙ c.if-is_over.true)
+
+pub round-requires-clause-at_rest : goal.round-requires-clause-at_rest
+round-requires-clause-at_rest g c = c.loop-done.invariant.at_rest
+
+pub round-requires-clause-parts : goal.round-requires-clause-parts
+round-requires-clause-parts g c =
+    let old = c.args.engine.now in
+    let parts = c.args.parts.now in
+    let t = topology_in old in
+    let custom = g.O.RowOp.meaning c.args.custom.now in
+    let laws : Laws g.C.CellStore.fault_count t custom (cut_in old) = record { accounted = c.worlds_are_accounted.ensures.run t custom (cut_in old); counts_none = c.counts_run_on.ensures.none; counts_then = c.counts_run_on.ensures.then } in
+    parts_here g.I.Ids.tells g.C.CellStore.tells g.C.CellStore.fault_count custom old parts laws (rounds_steps t c.loop-done.done) c.loop-done.engine c.loop-done.parts c.loop-done.invariant
+
+pub returns-in_err-round-clause-bad : goal.returns-in_err-round-clause-bad
+returns-in_err-round-clause-bad g c =
+    let old = c.args.engine.now in
+    let parts = c.args.parts.now in
+    let t = topology_in old in
+    let custom = g.O.RowOp.meaning c.args.custom.now in
+    let laws : Laws g.C.CellStore.fault_count t custom (cut_in old) = record { accounted = c.worlds_are_accounted.ensures.run t custom (cut_in old); counts_none = c.counts_run_on.ensures.none; counts_then = c.counts_run_on.ensures.then } in
+    λ key is.
+    let was = fault_was c.from_residual.result c.round.result c.in_err-round.field-0.0 (BadCell key) c.from_residual.ensures.1 c.in_err-round.was is in
+    driven-breaks g.I.Ids.tells g.C.CellStore.tells g.C.CellStore.fault_count custom old parts laws (rounds_steps t c.loop-done.done) c.loop-done.engine c.loop-done.parts c.loop-done.invariant c.round.new.engine c.round.new.parts (c.round.ensures.bad key was)
+
+pub returns-in_err-round-clause-once : goal.returns-in_err-round-clause-once
+returns-in_err-round-clause-once g c =
+    on_err c.from_residual.result (once_there c.args.engine.now c.loop-done.engine c.loop-done.invariant.same_run c.round.new.engine c.in_err-round.ensures.once)
+
+pub loop-done-preserved : goal.loop-done-preserved
+loop-done-preserved g c =
+    let old = c.args.engine.now in
+    let parts = c.args.parts.now in
+    let t = topology_in old in
+    let custom = g.O.RowOp.meaning c.args.custom.now in
+    let laws : Laws g.C.CellStore.fault_count t custom (cut_in old) = record { accounted = c.worlds_are_accounted.ensures.run t custom (cut_in old); counts_none = c.counts_run_on.ensures.none; counts_then = c.counts_run_on.ensures.then } in
+    let now = c.in_ok-round.ensures in
+    driven-then g.I.Ids.tells g.C.CellStore.tells g.C.CellStore.fault_count custom old parts laws (rounds_steps t c.loop-done.done) c.loop-done.engine c.loop-done.parts c.loop-done.invariant (rounds_steps t (c.loop-done.done + 1)) (round_steps) c.round.new.engine c.round.new.parts (rounds_more t c.loop-done.done) now.at_rest now.same_run now.drives
+
+pub returns-clause-at_rest : goal.returns-clause-at_rest
+returns-clause-at_rest g c = c.loop-done.invariant.at_rest
+
+pub returns-clause-same_run : goal.returns-clause-same_run
+returns-clause-same_run g c = c.loop-done.invariant.same_run
