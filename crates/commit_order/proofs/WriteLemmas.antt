@@ -3,7 +3,7 @@ use Rattle.std.proofs.Common.{◌≡◌, ◌≤◌, ◌<◌, ℕ, suc, false, Li
 use Rattle.std.specs.List.{AllByRecursion}
 use Rattle.std.specs.Ordering.{ordering_reverse}
 use Rattle.std.proofs.lemmas.Cmp.{nat_list_cmp_total}
-use Rattle.commit_order.specs.Writes.{AreInPathOrder}
+use Rattle.commit_writes.specs.Writes.{AreInPathOrder}
 use Rattle.storm_values.specs.Order.{path_cmp}
 use Rattle.tree_model.specs.declared.messages.Done.{Done}
 

@@ -4,7 +4,7 @@ use Rattle.std.specs.Prelude.{◌≡◌, ◌≤◌, ◌<◌, ℕ, ◌+◌, ◌-�
 use Rattle.std.specs.List.{AllByRecursion, find}
 use Rattle.attempt_fates.specs.declared.fates.Attempt.{Attempt}
 use Rattle.attempt_fates.specs.declared.fates.End.TheVariants.{TimedOut}
-use Rattle.commit_order.specs.Writes.{AreWritesOf}
+use Rattle.commit_writes.specs.Writes.{AreWritesOf}
 use Rattle.commit_turns.specs.declared.wait.Wait.{Wait}
 use Rattle.commit_turns.specs.Desks.{Desk, Progress, is_of_root, is_timed}
 use Rattle.commit_turns.specs.Turns.{and_then, ticked}

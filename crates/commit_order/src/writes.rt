@@ -1,5 +1,5 @@
 ghost use Rattle.std.specs.Prelude.{◌≡◌, ◌++◌, IfOk, OnOk, IsPermutation, map};
-ghost use Rattle.commit_order.specs.Writes.{AreInPathOrder, AreWritesOf, done_in, dones_in, writes_in};
+ghost use Rattle.commit_writes.specs.Writes.{AreInPathOrder, AreWritesOf, done_in, dones_in, writes_in};
 
 use std::alloc::Global;
 use storm_values::{Duplicate, Memory};

@@ -1,10 +1,11 @@
 -- What the coordinator is told of a commit, and what happens in a turn.
-use Rattle.std.specs.Prelude.{◌≡◌, ◌<◌, Option, List, map}
+use Rattle.std.specs.Prelude.{◌≡◌, Option, List, map}
 use Rattle.std.specs.Option.{option_to_list}
 use Rattle.acker_core.specs.declared.verdict.Verdict.{Verdict}
 use Rattle.commit_turns.specs.Account.{rows_in}
 use Rattle.state_parts.specs.declared.answer.CommitOutcome.{CommitOutcome}
 use Rattle.state_parts.specs.declared.answer.CommitOutcome.TheVariants.{Done, Failed}
+use Rattle.storm_outside.specs.Counts.{Rose}
 use Rattle.storm_values.specs.declared.value.Root.{Root}
 use Rattle.topology_plan.specs.Topology.{Topology}
 use Rattle.trident_batches.specs.Batches.{Cut}
@@ -15,7 +16,7 @@ use Rattle.tuple_account.specs.Moves.{AreRows}
 -- a commit fails at a part of a state whose store's count of faults rose
 abbrev pub IsOutcome : Topology → CommitOutcome → Type 0
 IsOutcome t Done = Unit {0}
-IsOutcome t (Failed component part before after) = IsPart t component part × (before < after)
+IsOutcome t (Failed component part before after) = IsPart t component part × Rose before after
 
 -- these roots begin, each with the rows of its batch
 pub record Begin (t : Topology) (cut : Cut) (openings : List Opening) (roots : List Root)

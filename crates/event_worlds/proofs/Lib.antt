@@ -1,2 +1,13 @@
-mod Rows
+pub mod Rows
 pub mod Orderly
+pub mod Committed
+pub mod Waiting
+pub mod Leading
+pub mod Tasking
+pub mod Acking
+pub mod Placing
+pub mod Ticking
+pub mod Turning
+pub mod Starting
+pub mod Ending
+pub mod Led

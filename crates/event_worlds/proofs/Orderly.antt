@@ -1,5 +1,5 @@
 -- What is sent fits where it goes, and every step keeps a world orderly.
-use Rattle.std.proofs.Common.{◌≡◌, ℕ, zero, suc, ◌+◌, ◌-◌, ◌<◌, ◌≤◌, Bool, true, false, cond, List, [], ◌∷◌, ◌++◌, length, map, take, drop, sum, Option, Some, None, IfSome, slice_get, slice_set, get_or, sym, subst, refl, ap, ◌∙◌, mod-lt, arith}
+use Rattle.std.proofs.Common.{◌≡◌, ℕ, zero, suc, ◌+◌, ◌<◌, ◌≤◌, Bool, true, false, cond, List, [], ◌∷◌, ◌++◌, length, map, take, drop, sum, Option, Some, None, IfSome, slice_get, slice_set, get_or, sym, subst, refl, ap, ◌∙◌, mod-lt, arith}
 use Rattle.std.specs.List.{flat_map, range_with_len, AllByRecursion}
 use Rattle.std.proofs.lemmas.List.{get_or_past, length-drop, length-replicate, length-set, length-take-le, nil_from_length, set_past, take-append-drop}
 use Rattle.std.proofs.lemmas.List.FromFn.{length-map-range_with_len}

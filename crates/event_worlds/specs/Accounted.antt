@@ -1,6 +1,6 @@
 -- What led to a world: the account of tuples and the coordinator's own account fit it.
 -- This project's own.
-use Rattle.std.specs.Prelude.{◌≡◌, ◌≤◌, ◌<◌, ◌^◌, ℕ, ◌+◌, ◌*◌, List, [], ◌∷◌, All, length}
+use Rattle.std.specs.Prelude.{◌≡◌, ◌≤◌, ◌<◌, ◌^◌, ℕ, ◌+◌, ◌-◌, ◌*◌, List, [], ◌∷◌, All, length}
 use Rattle.std.specs.List.{AllByRecursion}
 use Rattle.acker_core.specs.Entries.{AreSilent}
 use Rattle.attempt_fates.specs.declared.fates.Attempt.{Attempt}
@@ -9,15 +9,13 @@ use Rattle.commit_turns.specs.Account.{desk_of, ends_of, rows_in}
 use Rattle.commit_turns.specs.Kept.{IsKept}
 use Rattle.counted_items.specs.Weights.{weigh}
 use Rattle.event_worlds.specs.Orderly.{IsOrderly}
-use Rattle.event_worlds.specs.Worlds.{AckerSide, Known, TaskSide, World, ended, task_at}
-use Rattle.rotating_ledger.specs.Held.{Held}
+use Rattle.event_worlds.specs.Worlds.{AckerSide, Known, TaskSide, ended, task_at}
 use Rattle.storm_values.specs.declared.value.Root.{Root}
 use Rattle.storm_values.specs.Rows.{IsRow}
 use Rattle.topology_plan.specs.declared.parts.Origin.TheVariants as origin
 use Rattle.topology_plan.specs.Topology.{Topology, tasks_in_all}
 use Rattle.topology_plan.specs.Valid.{IsValid}
 use Rattle.topology_plan.specs.Wired.{IsWired, width_of}
-use Rattle.tree_model.specs.declared.messages.AckMsg.{AckMsg}
 use Rattle.tree_model.specs.declared.messages.Parcel.TheVariants.{ToTask, ToAcker}
 use Rattle.tree_model.specs.Trees.{node_count}
 use Rattle.trident_batches.specs.Batches.{Cut}
@@ -84,8 +82,10 @@ pub record LedTo (t : Topology) (custom : Custom) (cut : Cut) (words : ℕ → �
   pub kept : IsKept t cut k.world.desk k.world.fates
   pub fits : Fits t (rows_in cut) (desk_of k.world.desk) (ends_of k.world.fates) h
   pub silent : AllByRecursion (λ (side : AckerSide). AreSilent side.entries) k.world.ackers
-  -- the ticks that the coordinator has not counted yet
+  -- the coordinator counted no ticks but those that were handed out, and counts no more of them
   pub ticks : k.world.desk.tick ≤ k.world.tick
+  pub unheard : ended (k.world.desk.tick + k.world.unheard) ≤ k.world.tick
+  pub last : k.world.tick ≤ 2 ^ 64 - 1
 
 -- some history led to it
 abbrev pub Accounted : Topology → Custom → Cut → (ℕ → ℕ → ℕ) → Known → Type 0

@@ -1,3 +1,4 @@
 pub mod Worlds
 pub mod Orderly
 pub mod Accounted
+pub mod Added

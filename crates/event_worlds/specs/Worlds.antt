@@ -1,7 +1,7 @@
 -- The world of tasks, ackers and the coordinator with their boxes, and what each step does to it.
 -- Tasks and ackers after Storm's documentation, "Concepts" and "Acking framework implementation";
 -- the steps are this project's own.
-use Rattle.std.specs.Prelude.{ℕ, zero, suc, ◌+◌, ◌-◌, ◌^◌, ◌==◌, nat_lt, Bool, true, if◌then◌else◌, min, List, [], ◌∷◌, ◌++◌, length, map, take, drop, sum, Option, None, Some, is_some, unwrap_or, slice_get, slice_set, slice_index_or, replicate}
+use Rattle.std.specs.Prelude.{ℕ, zero, suc, ◌+◌, ◌-◌, ◌^◌, ◌==◌, nat_lt, Bool, true, if◌then◌else◌, min, List, [], ◌∷◌, ◌++◌, length, map, take, drop, sum, Option, None, Some, is_some, slice_get, slice_set, slice_index_or, replicate}
 use Rattle.std.specs.Option.{option_to_list}
 use Rattle.std.specs.List.{filter_map, flat_map, range_with_len}
 use Rattle.acker_core.specs.declared.verdict.Verdict.{Verdict}

@@ -3,17 +3,39 @@ ghost use Rattle.bolt_ops.specs.RowOp.{Custom, IsCustom};
 ghost use Rattle.commit_turns.specs.declared.wait.Wait.{Wait};
 ghost use Rattle.commit_turns.specs.Account.{rows_in};
 ghost use Rattle.commit_turns.specs.Outcomes.{IsOutcome};
-ghost use Rattle.event_worlds.specs.Accounted.{Accounted, AreCaused, IsInput};
+ghost use Rattle.event_worlds.specs.Accounted.{Accounted, AreCaused, IsInput, LedTo};
+ghost use Rattle.event_worlds.specs.Added.{added, first_history};
 ghost use Rattle.event_worlds.specs.Worlds.{Known, Step, first_known, next, run};
 ghost use Rattle.state_parts.specs.declared.answer.CommitOutcome.{CommitOutcome};
 ghost use Rattle.topology_plan.specs.Topology.{Topology};
 ghost use Rattle.tree_model.specs.declared.messages.AckMsg.{AckMsg};
 ghost use Rattle.tree_model.specs.Lists.{Covers, IsClosed};
 ghost use Rattle.trident_batches.specs.Batches.{Cut};
+ghost use Rattle.tuple_account.specs.Histories.{History, joined};
 ghost use Rattle.tuple_account.specs.Sound.{IsSound};
 
-/// A law: the accounts fit the first world, and each world that steps lead to, whatever the order of
-/// the steps, the words of the sources and the outcomes of commits.
+use commit_turns::{accounts_stay_fit, desks_are_kept};
+use tree_model::nodes_of_joined_rows;
+
+/// A law: start words alone led to the first world, and each step leads on, with what it adds to
+/// the history, whatever the words of the sources and the outcomes of commits.
+pub fn steps_add_to_histories()
+    ensures first { (t : Topology) (custom : Custom) (cut : Cut) (words : ℕ → ℕ → ℕ)
+        → IsInput t cut
+        → LedTo t custom cut words (first_history t words) (first_known t words) }
+    ensures next { (t : Topology) (custom : Custom) (cut : Cut) (words : ℕ → ℕ → ℕ)
+        (outcomes : List CommitOutcome) (s : Step) (h : History) (k : Known)
+        → IsInput t cut → IsCustom custom → All (IsOutcome t) outcomes
+        → LedTo t custom cut words h k
+        → LedTo t custom cut words (joined h (added t custom cut words s k))
+        (next t custom cut words outcomes s k) }
+{
+    desks_are_kept();
+    accounts_stay_fit();
+}
+
+/// A law: the accounts fit the first world, and each world that steps lead to, whatever the order
+/// of the steps, the words of the sources and the outcomes of commits.
 pub fn worlds_are_accounted()
     ensures first { (t : Topology) (custom : Custom) (cut : Cut) (words : ℕ → ℕ → ℕ)
         → IsInput t cut → Accounted t custom cut words (first_known t words) }
@@ -27,14 +49,18 @@ pub fn worlds_are_accounted()
         → IsInput t cut → IsCustom custom → All (IsOutcome t) outcomes
         → Accounted t custom cut words k
         → Accounted t custom cut words (run t custom cut words outcomes steps k) }
-{}
+{
+    steps_add_to_histories();
+}
 
 /// A law: in each such world every end has its cause, and the ids of all lists are drawn.
 pub fn ends_of_worlds_have_causes()
     ensures { (t : Topology) (custom : Custom) (cut : Cut) (words : ℕ → ℕ → ℕ) (k : Known)
         → IsInput t cut → Accounted t custom cut words k
         → AreCaused t custom cut k.world.desk.tick words k.world.fates }
-{}
+{
+    nodes_of_joined_rows();
+}
 
 /// A law: in each such world a list that a pending attempt was settled with is true, single, steady
 /// and closed, and covers the tuple tree of its batch.

@@ -4,4 +4,7 @@
 
 mod laws;
 
-pub use laws::{ends_of_worlds_have_causes, settled_lists_are_whole, worlds_are_accounted};
+pub use laws::{
+    ends_of_worlds_have_causes, settled_lists_are_whole, steps_add_to_histories,
+    worlds_are_accounted,
+};

@@ -5,6 +5,7 @@ use Rattle.std.specs.List.{flat_map}
 use Rattle.acker_core.specs.declared.verdict.Verdict.{Verdict}
 use Rattle.acker_core.specs.declared.verdict.Verdict.TheVariants.{Complete, Fails}
 use Rattle.bolt_ops.specs.RowOp.{Custom}
+use Rattle.storm_outside.specs.Counts.{Rose}
 use Rattle.storm_values.specs.declared.value.Root.{Root}
 use Rattle.storm_values.specs.declared.value.Value.{Value}
 use Rattle.topology_plan.specs.declared.parts.Body.{Body}
@@ -116,7 +117,7 @@ module _ (t : Topology) (custom : Custom) (rows : List (List Value)) where
   CauseBy tick a timed_out = (a.finish ≡ a.start + t.buckets) × (a.finish ≤ tick)
   CauseBy tick a (coincided list) = IsSound t custom rows a.root list × Coincides list
   CauseBy tick a (commit_failed component part before after) =
-      IsPart t component part × (before < after)
+      IsPart t component part × Rose before after
 
 -- the attempt's end has its cause, where batches have these rows and so many ticks were counted
 abbrev pub HasCause : Topology → Custom → (ℕ → List (List Value)) → ℕ → Ended → Type 0

@@ -3,6 +3,7 @@
 use Rattle.std.specs.Prelude.{◌≡◌, ◌≤◌, ◌<◌, ℕ, ◌+◌, ◌&&◌, nat_lt, Bool, if◌then◌else◌, List, ◌++◌, length, None, Some}
 use Rattle.std.specs.List.{AllByRecursion}
 use Rattle.counted_items.specs.Weights.{weigh, Within}
+use Rattle.storm_outside.specs.Counts.{Rose}
 use Rattle.storm_values.specs.declared.value.Root.{Root}
 use Rattle.storm_values.specs.declared.value.Value.{Value}
 use Rattle.topology_plan.specs.Topology.{Topology}
@@ -20,7 +21,7 @@ CheckedBy t a (failed path) = Unit {0}
 CheckedBy t a timed_out = a.finish ≡ a.start + t.buckets
 CheckedBy t a (coincided list) = IsClosed list → ⊥
 CheckedBy t a (commit_failed component part before after) =
-    IsPart t component part × (before < after)
+    IsPart t component part × Rose before after
 
 -- an end by the ticks that were counted
 pub record IsEnd (t : Topology) (tick : ℕ) (a : Ended) : Type 0 where

@@ -1,6 +1,6 @@
 use Rattle.std.proofs.Common.{◌≡◌, ◌++◌, drop, map}
 use Rattle.commit_order.proofs.WriteLemmas.{done_at}
-use Rattle.commit_order.specs.Writes.{writes_in}
+use Rattle.commit_writes.specs.Writes.{writes_in}
 use Rattle.commit_order.proofs.writes.copied_writes.Given as goal
 
 abbrev pub invariant-loop-done : goal.invariant-loop-done

@@ -1,6 +1,6 @@
 use Rattle.std.proofs.Common.{◌≡◌, ◌++◌, drop, map}
 use Rattle.commit_order.proofs.WriteLemmas.{done_at}
-use Rattle.commit_order.specs.Writes.{dones_in}
+use Rattle.commit_writes.specs.Writes.{dones_in}
 use Rattle.commit_order.proofs.writes.dones_of.Given as goal
 
 abbrev pub invariant-loop-note : goal.invariant-loop-note

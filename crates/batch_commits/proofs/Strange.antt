@@ -1,0 +1,105 @@
+-- Cells that no part takes are not made by commits.
+use Rattle.std.proofs.Common.{◌≡◌, ℕ, zero, suc, Bool, true, false, cond, ℤ, List, [], ◌∷◌, All, IsSome, Option, None, Some, map, filter, refl, sym, ap, subst, inl, inr, rules}
+use Rattle.std.specs.Prelude.{slice_get}
+use Rattle.std.proofs.lemmas.List.Elements.{All-head, All-tail}
+use Rattle.std.specs.Cmp.Lexicographic.{bytes_decides}
+use Rattle.std.specs.Str.{IsUtf8, bytes_eq}
+use Rattle.batch_commits.specs.Standing.{HasStrange, HasTextKey, IsStrange}
+use Rattle.cell_format.specs.Commits.{Commits, Holds, IsPerhapsDone, after, amounts_at}
+use Rattle.cell_format.specs.declared.cell.Cell.{Cell}
+use Rattle.cell_format.specs.Layout.{bytes_of}
+use Rattle.state_cells.specs.Rows.{IsBadRow}
+use Rattle.state_cells.specs.Turns.{IsBad}
+use Rattle.state_parts.specs.Commits.{ArePerhapsCommitted, IsBadAt, PerhapsCommitted, is_for_part, own_writes}
+use Rattle.state_parts.specs.declared.parts.StatePart.{StatePart}
+use Rattle.state_parts.specs.PartPlans.{PartPlan}
+use Rattle.state_parts.specs.PartTables.{IsBadRowAt}
+use Rattle.storm_stores.specs.CellMaps.{CellMap, cell_at}
+use Rattle.topology_plan.specs.declared.parts.Fold.{Fold}
+use Rattle.topology_plan.specs.declared.parts.Kind.{Kind}
+use Rattle.tree_model.specs.declared.write.Write.{Write}
+
+-- no write has a key that is no text
+none_at : (c p : ℕ) (made : List Write) → All HasTextKey made → (key : List ℕ) → (IsUtf8 key → ⊥) → amounts_at (filter (is_for_part c p) made) key ≡ []
+none_at c p [] texts key strange = refl
+none_at c p (w ∷ ws) texts key strange = own (none_at c p ws (All-tail HasTextKey w ws texts) key strange) (is_for_part c p w)
+  where
+    at : amounts_at (filter (is_for_part c p) ws) key ≡ [] → (b : Bool) → bytes_eq key w.key ≡ b
+        → map (λ (x : Write). x.amount) (cond b (w ∷ filter (λ (x : Write). bytes_eq key x.key) (filter (is_for_part c p) ws)) (filter (λ (x : Write). bytes_eq key x.key) (filter (is_for_part c p) ws))) ≡ []
+    at rest true is = absurd (strange (subst IsUtf8 (sym ((bytes_decides key w.key).0 is)) (All-head HasTextKey w ws texts)))
+    at rest false is = rest
+
+    own : amounts_at (filter (is_for_part c p) ws) key ≡ [] → (b : Bool) → amounts_at (cond b (w ∷ filter (is_for_part c p) ws) (filter (is_for_part c p) ws)) key ≡ []
+    own rest true = at rest (bytes_eq key w.key) refl
+    own rest false = rest
+
+-- bytes that are some cell's are not refused
+not_bad : (kind : Kind) (held : Option (List ℕ)) (cell : Option Cell) → Holds kind held cell → IsBad kind held → ⊥
+not_bad kind None cell holds bad = bad
+not_bad kind (Some bytes) None holds bad = absurd (let e = holds.bytes in cc)
+not_bad kind (Some bytes) (Some cell) holds bad = bad cell holds.good (let e : Some bytes ≡ Some (bytes_of cell) = holds.bytes in cc)
+
+-- a key with a cell has bytes
+has_some : (kind : Kind) (held : Option (List ℕ)) (cell : Cell) → Holds kind held (Some cell) → IsSome held
+has_some kind None cell holds = absurd (let e : None ≡ Some (bytes_of cell) = holds.bytes in cc)
+has_some kind (Some bytes) cell holds = search rules
+
+-- a key without a cell has none
+has_none : (kind : Kind) (held : Option (List ℕ)) → Holds kind held None → IsSome held → ⊥
+has_none kind None holds some = search rules
+has_none kind (Some bytes) holds some = absurd (let e : Some bytes ≡ None = holds.bytes in cc)
+
+-- where nothing is written, only a key that had a cell has one
+had_some : (kind : Kind) (by : Fold) (txid : ℕ) (old new : Option (List ℕ)) → Commits kind by txid [] old new → IsSome new → IsSome old
+had_some kind by txid old new done some = cases done.cell done.was done.is
+  where
+    cases : (cell : Option Cell) → Holds kind old cell → Holds kind new (after kind by txid [] cell) → IsSome old
+    cases None was is = absurd (has_none kind new is some)
+    cases (Some cell) was is = has_some kind old cell was
+
+-- a commit makes no strange cell
+commit_strange : (kind : Kind) (by : Fold) (txid : ℕ) (amounts : List ℤ) (key : List ℕ) (old new : Option (List ℕ)) → ((IsUtf8 key → ⊥) → amounts ≡ []) → IsPerhapsDone kind by txid amounts old new → IsStrange kind key new → IsStrange kind key old
+commit_strange kind by txid amounts key old new none (inl same) strange = subst (IsStrange kind key) same strange
+commit_strange kind by txid amounts key old new none (inr done) (inl bad) = absurd (not_bad kind new _ done.is bad)
+commit_strange kind by txid amounts key old new none (inr done) (inr strange) =
+    inr (had_some kind by txid old new (subst (λ (xs : List ℤ). Commits kind by txid xs old new) (none strange.1) done) strange.0, strange.1)
+
+module _ {S : Type 0} (tells : S → CellMap → Type 0) where
+  abbrev IsStrangeAt : StatePart S → Type 0
+  IsStrangeAt at = (cells : CellMap) → tells at.over.store cells → (key : List ℕ) × IsStrange at.over.kind key (cell_at cells key)
+
+  part_strange : (txid : ℕ) (made : List Write) (old new : StatePart S) → All HasTextKey made → PerhapsCommitted tells txid (own_writes made old) old new → IsStrangeAt new → IsStrangeAt old
+  part_strange txid made old new texts done strange = λ cells told.
+      let went = done.turns.to cells told in
+      let found = strange went.0 went.1 in
+      let kind : new.over.kind ≡ old.over.kind = ap (λ (p : PartPlan). p.kind) done.plan in (
+        found.0,
+        commit_strange old.over.kind old.over.by txid (amounts_at (own_writes made old) found.0) found.0 (cell_at cells found.0) (cell_at went.0 found.0)
+            (λ odd. none_at old.component old.part made texts found.0 odd)
+            (went.2 found.0)
+            (subst (λ (k : Kind). IsStrange k found.0 (cell_at went.0 found.0)) kind found.1),
+      )
+
+  strange_at : (txid : ℕ) (made : List Write) → All HasTextKey made → (place : ℕ) (old new : List (StatePart S)) → ArePerhapsCommitted tells txid made old new → (at : StatePart S) → slice_get new place ≡ Some at → IsStrangeAt at
+      → (was : StatePart S) × (slice_get old place ≡ Some was) × IsStrangeAt was
+  strange_at txid made texts place old [] done at is strange = absurd (let e : None ≡ Some at = is in cc)
+  strange_at txid made texts place [] (y ∷ ys) done at is strange = absurd done
+  strange_at txid made texts zero (x ∷ xs) (y ∷ ys) done at is strange =
+      let same : at ≡ y = (let e : Some y ≡ Some at = is in cc) in (x, refl, part_strange txid made x y texts done.0 (subst IsStrangeAt same strange))
+  strange_at txid made texts (suc place) (x ∷ xs) (y ∷ ys) done at is strange = strange_at txid made texts place xs ys done.1 at is strange
+
+  pub strange_before : (txid : ℕ) (made : List Write) (old new : List (StatePart S)) → All HasTextKey made → ArePerhapsCommitted tells txid made old new → HasStrange tells new → HasStrange tells old
+  strange_before txid made old new texts done strange =
+      let found = strange_at txid made texts strange.place old new done strange.at strange.is_at strange.strange in
+      record { place = strange.place; at = found.0; is_at = found.1; strange = found.2 }
+
+  pub strange_cell : (parts : List (StatePart S)) (key : List ℕ) → IsBadAt tells parts key → HasStrange tells parts
+  strange_cell parts key bad = record { place = bad.place; at = bad.was; is_at = bad.was_at; strange = λ cells told. (key, inl (bad.bad cells told)) }
+
+  row_strange : (kind : Kind) (key : List ℕ) (held : Option (List ℕ)) → IsBadRow kind key held → IsStrange kind key held
+  row_strange kind key held (inl bad) = inl bad
+  row_strange kind key None (inr odd) = absurd (let e = odd.0 in search rules)
+  row_strange kind key (Some bytes) (inr odd) = inr (search rules, odd.1)
+
+  pub strange_row : (parts : List (StatePart S)) (key : List ℕ) → IsBadRowAt tells parts key → HasStrange tells parts
+  strange_row parts key bad = record { place = bad.place; at = bad.was; is_at = bad.was_at; strange = λ cells told. (key, row_strange bad.was.over.kind key (cell_at cells key) (bad.bad cells told)) }

@@ -1,0 +1,9 @@
+//! What the commits of batches make of the parts of all states: they stand at the batches that were
+//! committed.
+#![tactic(auto)]
+
+mod laws;
+
+pub use laws::{
+    commits_of_batches_move_parts, parts_that_stand_have_the_tables, strange_cells_were_there,
+};

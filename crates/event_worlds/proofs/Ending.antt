@@ -1,0 +1,103 @@
+-- What follows for the fates, and for lists that pending attempts were settled with.
+use Rattle.std.proofs.Common.{◌≡◌, ◌≤◌, ◌<◌, ℕ, zero, suc, ◌+◌, ◌-◌, ◌*◌, ◌^◌, List, [], ◌∷◌, ◌++◌, length, map, take, drop, slice_get, Option, Some, refl, sym, ap, subst, ◌∙◌, arith}
+use Rattle.std.specs.Prelude.{slice_range}
+use Rattle.std.specs.List.{AllByRecursion}
+use Rattle.std.proofs.lemmas.List.{length-map}
+use Rattle.attempt_fates.specs.declared.fates.Attempt.{Attempt}
+use Rattle.bolt_ops.specs.RowOp.{Custom}
+use Rattle.commit_turns.specs.declared.wait.Wait.{Wait}
+use Rattle.commit_turns.specs.Account.{desk_of, ended_of, ends_of, rows_in, waits_of}
+use Rattle.counted_items.proofs.Each.{each-back, each-map, each-parts, each-weaker}
+use Rattle.counted_items.proofs.Equality.{each-within}
+use Rattle.event_worlds.specs.Accounted.{AreCaused, IsInput, LedTo, station_of}
+use Rattle.event_worlds.specs.Worlds.{Known}
+use Rattle.storm_values.specs.declared.value.Root.{Root}
+use Rattle.storm_values.specs.declared.value.Value.{Value}
+use Rattle.topology_plan.specs.Topology.{Topology}
+use Rattle.tree_model.specs.declared.messages.AckMsg.{AckMsg}
+use Rattle.tree_model.specs.Lists.{Covers, IsClosed, IsComplete}
+use Rattle.tree_model.specs.Trees.{node_count}
+use Rattle.tree_model.proofs.ListLaws.{closed_covers}
+use Rattle.trident_batches.specs.Batches.{Cut}
+use Rattle.tuple_account.specs.Drawn.{AreDrawn}
+use Rattle.tuple_account.specs.Ends.{Waits, lists_of, verdicts_of_ends, verdicts_of_waits, verdicts_settled}
+use Rattle.tuple_account.specs.Fits.{IsWaiting}
+use Rattle.tuple_account.specs.Histories.{History, Opening}
+use Rattle.tuple_account.specs.Sound.{IsCaused, IsSound}
+use Rattle.tuple_account.proofs.Ending.{causes, ends_drawn}
+use Rattle.tuple_account.proofs.Routing.{verdict_code}
+use Rattle.tuple_account.proofs.Telling.{heard_causes}
+
+-- what each item of a list has, the one at a place has
+at-place : {X : Type 0} (P : X → Type 0) (xs : List X) (i : ℕ) (x : X) → AllByRecursion P xs → slice_get xs i ≡ Some x → P x
+at-place P [] zero x all is = cc
+at-place P [] (suc i) x all is = cc
+at-place P (y ∷ ys) zero x all is = let same : y ≡ x = cc in subst P same all.0
+at-place P (y ∷ ys) (suc i) x all is = at-place P ys i x all.1 is
+
+-- A batch is a part of the records, and its tree has no more nodes than theirs.
+abbrev pub PartsAreFewer : Topology → Custom → Type 0
+PartsAreFewer t custom = (rows : List (List Value)) (first last : ℕ) → node_count t custom (slice_range rows first last) ≤ node_count t custom rows
+
+module _ (t : Topology) (custom : Custom) (cut : Cut) (words : ℕ → ℕ → ℕ) (input : IsInput t cut) (h : History) (k : Known) (led : LedTo t custom cut words h k) where
+  abbrev fates : List Attempt
+  fates = k.world.fates
+
+  abbrev most : ℕ
+  most = node_count t custom cut.records
+
+  few_nodes : PartsAreFewer t custom → AllByRecursion (λ (o : Opening). node_count t custom o.begun.rows ≤ most) h.begun
+  few_nodes fewer = each-weaker (λ (o : Opening). o.begun.rows ≡ rows_in cut o.begun.root.txid) (λ (o : Opening). node_count t custom o.begun.rows ≤ most) (λ o is. one o is) h.begun led.fits.rows
+    where
+      one : (o : Opening) → o.begun.rows ≡ rows_in cut o.begun.root.txid → node_count t custom o.begun.rows ≤ most
+      one o is =
+          let first : ℕ = (o.begun.root.txid - 1) * cut.size in
+          let size : (first + cut.size) - first ≡ cut.size = omega arith in
+          let part : slice_range cut.records first (first + cut.size) ≡ rows_in cut o.begun.root.txid = ap (λ (n : ℕ). take n (drop first cut.records)) size in
+          subst (λ (rows : List (List Value)). node_count t custom rows ≤ most) (part ∙ sym is) (fewer cut.records first (first + cut.size))
+
+  ends_length : length (ends_of fates) ≡ length fates
+  ends_length = length-map fates ended_of
+
+  abbrev limit : ℕ → ℕ
+  limit n = 40 + (n + 64) * most
+
+  -- each end has its cause, and the ids of all lists are drawn
+  pub ends-caused : PartsAreFewer t custom → AreCaused t custom cut k.world.desk.tick words fates
+  ends-caused fewer = record {
+    each = causes t custom h (station_of k) led.reached (rows_in cut) (desk_of k.world.desk) (ends_of fates) led.fits;
+    drawn = λ small.
+        subst (λ (n : ℕ). AreDrawn t custom (λ (root : Root). rows_in cut root.txid) words (limit n) (lists_of (ends_of fates))) ends_length
+        (ends_drawn t custom h (station_of k) led.reached (rows_in cut) (desk_of k.world.desk) (ends_of fates) led.fits input.valid most (few_nodes fewer) led.starts
+        (subst (λ (n : ℕ). limit n < 2 ^ 64) (sym ends_length) small) k.counts (λ s j. refl) words led.drawn);
+  }
+
+  -- ---- lists that were settled
+
+  abbrev rows_of : Root → List (List Value)
+  rows_of root = rows_in cut root.txid
+
+  -- what the verdict that an attempt was settled by comes from
+  settled_causes : AllByRecursion (λ (w : Wait). AllByRecursion (IsCaused t custom rows_of) (verdicts_settled w.root w.settled)) k.world.desk.pending
+  settled_causes =
+      each-map (λ (w : Waits). AllByRecursion (IsCaused t custom rows_of) (verdicts_settled w.root w.settled)) waits_of k.world.desk.pending
+      (each-parts (IsCaused t custom rows_of) (λ (w : Waits). verdicts_settled w.root w.settled) (map waits_of k.world.desk.pending)
+      (each-back (IsCaused t custom rows_of) (verdicts_of_ends (ends_of fates)) (verdicts_of_waits (map waits_of k.world.desk.pending))
+      (each-within verdict_code (IsCaused t custom rows_of) (verdicts_of_ends (ends_of fates) ++ verdicts_of_waits (map waits_of k.world.desk.pending)) h.heard led.fits.heard
+      (heard_causes t custom h (station_of k) led.reached rows_of led.fits.rows))))
+
+  pub settled-whole : (i : ℕ) (w : Wait) (list : List AckMsg) → slice_get k.world.desk.pending i ≡ Some w → w.settled ≡ Some list
+      → IsSound t custom (rows_in cut w.root.txid) w.root list × IsClosed list × Covers t custom (rows_in cut w.root.txid) list
+  settled-whole i w list at is =
+      let all : AllByRecursion (IsCaused t custom rows_of) (verdicts_settled w.root (Some list)) =
+      subst (λ (o : Option (List AckMsg)). AllByRecursion (IsCaused t custom rows_of) (verdicts_settled w.root o)) is
+      (at-place (λ (v : Wait). AllByRecursion (IsCaused t custom rows_of) (verdicts_settled v.root v.settled)) k.world.desk.pending i w settled_causes at) in
+      let waits : IsWaiting (desk_of k.world.desk) (waits_of w) =
+      at-place (λ (v : Wait). IsWaiting (desk_of k.world.desk) (waits_of v)) k.world.desk.pending i w (each-map (IsWaiting (desk_of k.world.desk)) waits_of k.world.desk.pending led.fits.waits) at in
+      let sound : IsSound t custom (rows_in cut w.root.txid) w.root list = all.0.0 in
+      let complete : IsComplete list = all.0.1 in
+      let closed : IsClosed list = waits.closed list is in (
+        sound,
+        closed,
+        closed_covers t custom (rows_in cut w.root.txid) w.root list sound.is_true closed (let x = complete.begins in let y = sound.is_single.begins in omega arith),
+      )

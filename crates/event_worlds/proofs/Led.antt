@@ -1,0 +1,130 @@
+-- Each step leads on, with what it adds to the history.
+use Rattle.std.proofs.Common.{◌≡◌, ◌<◌, ◌≤◌, ℕ, ◌+◌, nat_lt, ltb-true, ltb-false, Bool, true, false, cond, true≢false, List, [], ◌∷◌, ◌++◌, length, All, slice_get, Option, None, Some, refl, sym, ap, subst, ◌∙◌, arith}
+use Rattle.std.specs.Prelude.{is_some}
+use Rattle.std.specs.Option.{option_to_list}
+use Rattle.std.proofs.lemmas.List.{get_or_past}
+use Rattle.std.proofs.lemmas.List.Elements.{recursion_from_All}
+use Rattle.acker_core.specs.declared.verdict.Verdict.{Verdict}
+use Rattle.attempt_fates.specs.declared.fates.Attempt.{Attempt}
+use Rattle.bolt_ops.specs.RowOp.{Custom, IsCustom}
+use Rattle.commit_turns.specs.Account.{desk_of, ends_of, rows_in}
+use Rattle.commit_turns.specs.Desks.{Desk, first_desk}
+use Rattle.commit_turns.specs.Kept.{IsKept}
+use Rattle.commit_turns.specs.Outcomes.{Begin, IsOutcome, hears}
+use Rattle.commit_turns.specs.Turns.{decided, is_finished, turned}
+use Rattle.counted_items.specs.Weights.{weigh}
+use Rattle.event_worlds.specs.Accounted.{Accounted, IsInput, LedTo}
+use Rattle.event_worlds.specs.Added.{added, first_history, step_adds, task_adds}
+use Rattle.event_worlds.specs.Worlds.{Known, Step, World, drew, first_known, is_over, next, next_outcome, next_words, no_task, of_acker, of_outcome, of_task, of_tick, of_turn, outcome_step, outcomes_of, run, step, task_at, task_needs, task_step, tick_step, turned_in}
+use Rattle.event_worlds.proofs.Acking.{led-acker}
+use Rattle.event_worlds.proofs.Leading.{joined-nothing}
+use Rattle.event_worlds.proofs.Orderly.{task-beyond}
+use Rattle.event_worlds.proofs.Starting.{led-first}
+use Rattle.event_worlds.proofs.Tasking.{led-task}
+use Rattle.event_worlds.proofs.Ticking.{decided-tick, turned-tick}
+use Rattle.event_worlds.proofs.Turning.{TurnsWell, led-outcome, led-tick, led-turn}
+use Rattle.event_worlds.proofs.Waiting.{drew-none, each-at}
+use Rattle.state_parts.specs.declared.answer.CommitOutcome.{CommitOutcome}
+use Rattle.state_parts.specs.declared.answer.CommitOutcome.TheVariants.{Done}
+use Rattle.storm_values.specs.declared.value.Root.{Root}
+use Rattle.topology_plan.specs.Topology.{Topology, tasks_in_all}
+use Rattle.topology_plan.specs.Valid.{IsValid}
+use Rattle.trident_batches.specs.Batches.{Cut}
+use Rattle.tuple_account.specs.Fits.{Fits}
+use Rattle.tuple_account.specs.Histories.{History, Opening, joined, nothing, opens}
+use Rattle.tuple_account.specs.Sound.{is_about}
+
+-- What the laws of the coordinator's turns say.
+pub record TurnLaws (t : Topology) (cut : Cut) : Type 0 where
+  pub kept_first : IsValid t → IsKept t cut first_desk []
+  pub kept_turn : (d : Desk) (fates : List Attempt) → IsValid t → 0 < cut.size → d.exhausted ≡ None → IsKept t cut d fates → (verdict : Option Verdict) (ticks : ℕ)
+      → IsKept t cut (turned t cut verdict ticks d).desk (fates ++ (turned t cut verdict ticks d).ended)
+  pub kept_outcome : (d : Desk) (fates : List Attempt) → IsValid t → 0 < cut.size → d.exhausted ≡ None → IsKept t cut d fates → (how : CommitOutcome)
+      → IsKept t cut (decided t cut how d).desk (fates ++ (decided t cut how d).ended)
+  pub fits_first : Fits t (rows_in cut) (desk_of first_desk) (ends_of []) nothing
+  pub fits_turn : (d : Desk) (fates : List Attempt) (h : History) → IsValid t → d.exhausted ≡ None → IsKept t cut d fates → Fits t (rows_in cut) (desk_of d) (ends_of fates) h
+      → (verdict : Option Verdict) (ticks : ℕ) (openings : List Opening) → Begin t cut openings (turned t cut verdict ticks d).begun
+      → ((root : Root) → weigh (is_about root) (h.heard ++ option_to_list verdict) ≤ weigh (opens root) h.begun)
+      → Fits t (rows_in cut) (desk_of (turned t cut verdict ticks d).desk) (ends_of (fates ++ (turned t cut verdict ticks d).ended)) (joined h (hears verdict openings))
+  pub fits_outcome : (d : Desk) (fates : List Attempt) (h : History) → IsValid t → d.exhausted ≡ None → IsKept t cut d fates → Fits t (rows_in cut) (desk_of d) (ends_of fates) h
+      → (how : CommitOutcome) → IsOutcome t how → Fits t (rows_in cut) (desk_of (decided t cut how d).desk) (ends_of (fates ++ (decided t cut how d).ended)) h
+  pub roots_turn : (d : Desk) (fates : List Attempt) (h : History) → IsValid t → d.exhausted ≡ None → IsKept t cut d fates → Fits t (rows_in cut) (desk_of d) (ends_of fates) h
+      → (verdict : Option Verdict) (ticks : ℕ) (openings : List Opening) → Begin t cut openings (turned t cut verdict ticks d).begun
+      → (root : Root) → weigh (opens root) h.begun + weigh (opens root) openings ≤ 1
+
+none_if : {X : Type 0} (o : Option X) (finished : Bool) → cond (is_some o) true finished ≡ false → o ≡ None
+none_if None finished is = refl
+none_if (Some x) finished is = absurd (true≢false is)
+
+module _ (t : Topology) (custom : Custom) (cut : Cut) (words : ℕ → ℕ → ℕ) (input : IsInput t cut) (laws : TurnLaws t cut) where
+  some_rows : 0 < cut.size
+  some_rows = let s = input.size in let b = input.valid.batch.0 in omega arith
+
+  -- nothing but start words led to the first world
+  pub first-led : LedTo t custom cut words (first_history t words) (first_known t words)
+  first-led = led-first t custom cut words input (laws.kept_first input.valid) laws.fits_first
+
+  module _ (keeps : IsCustom custom) (h : History) (w : World) (c : ℕ → ℕ) (led : LedTo t custom cut words h (record { world = w; counts = c })) where
+    task-led : (n : ℕ) → LedTo t custom cut words (joined h (task_adds t custom n (c n) (next_words words c n (task_needs t custom (task_at t n w))) (task_at t n w)))
+        (record { world = task_step t custom n (next_words words c n (task_needs t custom (task_at t n w))) w; counts = drew n (task_needs t custom (task_at t n w)) c })
+    task-led n = cases (nat_lt n (tasks_in_all t)) refl
+      where
+        ids : List ℕ
+        ids = next_words words c n (task_needs t custom (task_at t n w))
+
+        cases : (b : Bool) → nat_lt n (tasks_in_all t) ≡ b → LedTo t custom cut words (joined h (task_adds t custom n (c n) ids (task_at t n w)))
+            (record { world = task_step t custom n ids w; counts = drew n (task_needs t custom (task_at t n w)) c })
+        cases true is = led-task t custom cut words input keeps h w c led n (ltb-true n (tasks_in_all t) is)
+        cases false is =
+            let beyond = ltb-false n (tasks_in_all t) is in
+            let size = led.orderly.task_count in
+            let still = task-beyond t custom w n beyond led.orderly ids in
+            let nobody : task_at t n w ≡ no_task t = get_or_past w.tasks n (no_task t) (omega arith) in
+            let adds : joined h (task_adds t custom n (c n) ids (task_at t n w)) ≡ h = (ap (λ side. joined h (task_adds t custom n (c n) ids side)) nobody ∙ joined-nothing h) in
+            let counts : (s : ℕ) → drew n (task_needs t custom (task_at t n w)) c s ≡ c s = (λ s. drew-none c n (task_needs t custom (task_at t n w)) s still.1) in
+            let all : LedTo t custom cut words h (record { world = w; counts = c }) = led in
+            subst (λ (k : History). LedTo t custom cut words k (record { world = task_step t custom n ids w; counts = drew n (task_needs t custom (task_at t n w)) c })) (sym adds)
+            (subst (λ (v : World). LedTo t custom cut words h (record { world = v; counts = drew n (task_needs t custom (task_at t n w)) c })) (sym still.0)
+            (subst (λ (d : ℕ → ℕ). LedTo t custom cut words h (record { world = w; counts = d })) (λ i s. sym (counts s) i) all))
+
+    turns-well : w.desk.exhausted ≡ None → TurnsWell t cut h w.fates w.tick (slice_get w.verdicts 0) (turned_in t cut w)
+    turns-well none = record {
+      kept = laws.kept_turn w.desk w.fates input.valid some_rows none led.kept (slice_get w.verdicts 0) w.unheard;
+      fits = laws.fits_turn w.desk w.fates h input.valid none led.kept led.fits (slice_get w.verdicts 0) w.unheard;
+      roots = laws.roots_turn w.desk w.fates h input.valid none led.kept led.fits (slice_get w.verdicts 0) w.unheard;
+      ticks = turned-tick t cut w.tick led.last (slice_get w.verdicts 0) w.unheard w.desk led.ticks led.unheard;
+    }
+
+    module _ (outcomes : List CommitOutcome) (fine : All (IsOutcome t) outcomes) where
+      step-led : w.desk.exhausted ≡ None → (s : Step)
+          → LedTo t custom cut words (joined h (step_adds t custom cut words s (record { world = w; counts = c }))) (step t custom cut words outcomes s (record { world = w; counts = c }))
+      unfolding step
+      step-led none (of_task n) = task-led n
+      step-led none (of_acker n) = led-acker t custom cut words h w c led n
+      step-led none of_turn = led-turn t custom cut words input h w c led (turns-well none)
+      step-led none of_outcome =
+          let how : CommitOutcome = next_outcome outcomes w.fates in
+          let is : IsOutcome t how = each-at (IsOutcome t) outcomes (length (outcomes_of w.fates)) Done (recursion_from_All (IsOutcome t) outcomes fine) tt in
+          subst (λ (k : History). LedTo t custom cut words k (record { world = outcome_step t cut how w; counts = c })) (sym (joined-nothing h))
+          (led-outcome t custom cut words input h w c led how (laws.kept_outcome w.desk w.fates input.valid some_rows none led.kept how)
+          (laws.fits_outcome w.desk w.fates h input.valid none led.kept led.fits how is) (decided-tick t cut how w.desk))
+      step-led none of_tick =
+          subst (λ (k : History). LedTo t custom cut words k (record { world = tick_step w; counts = c })) (sym (joined-nothing h)) (led-tick t custom cut words input h w c led)
+
+      -- a step leads on, with what it adds
+      pub next-led : (s : Step)
+          → LedTo t custom cut words (joined h (added t custom cut words s (record { world = w; counts = c }))) (next t custom cut words outcomes s (record { world = w; counts = c }))
+      next-led s = cases (is_over t cut w) refl
+        where
+          cases : (b : Bool) → is_over t cut w ≡ b
+              → LedTo t custom cut words (joined h (cond b nothing (step_adds t custom cut words s (record { world = w; counts = c })))) (cond b (record { world = w; counts = c }) (step t custom cut words outcomes s (record { world = w; counts = c })))
+          cases true is = subst (λ (k : History). LedTo t custom cut words k (record { world = w; counts = c })) (sym (joined-nothing h)) led
+          cases false is = step-led (none_if w.desk.exhausted (is_finished t cut w.desk) is) s
+
+-- so do all steps
+pub run-accounted : (t : Topology) (custom : Custom) (cut : Cut) (words : ℕ → ℕ → ℕ) (outcomes : List CommitOutcome)
+    → ((s : Step) (h : History) (k : Known) → LedTo t custom cut words h k → LedTo t custom cut words (joined h (added t custom cut words s k)) (next t custom cut words outcomes s k))
+    → (steps : List Step) (k : Known) → Accounted t custom cut words k → Accounted t custom cut words (run t custom cut words outcomes steps k)
+run-accounted t custom cut words outcomes leads [] k accounted = accounted
+run-accounted t custom cut words outcomes leads (s ∷ steps) k accounted =
+    run-accounted t custom cut words outcomes leads steps (next t custom cut words outcomes s k) (joined accounted.0 (added t custom cut words s k), leads s accounted.0 k accounted.1)

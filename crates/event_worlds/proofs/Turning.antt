@@ -1,0 +1,232 @@
+-- The coordinator's steps, and a tick.
+use Rattle.std.proofs.Common.{◌≡◌, ◌≤◌, ℕ, ◌+◌, Bool, true, false, cond, List, [], ◌∷◌, ◌++◌, length, map, sum, slice_get, drop, Option, refl, sym, ap, subst, ◌∙◌, arith}
+use Rattle.std.specs.List.{AllByRecursion, range_with_len}
+use Rattle.std.specs.Option.{option_to_list}
+use Rattle.std.proofs.lemmas.List.{append-nil}
+use Rattle.std.proofs.lemmas.List.FromFn.{length-map-range_with_len}
+use Rattle.acker_core.specs.declared.verdict.Verdict.{Verdict}
+use Rattle.attempt_fates.specs.declared.fates.Attempt.{Attempt}
+use Rattle.bolt_ops.specs.RowOp.{Custom}
+use Rattle.commit_order.specs.Orders.{Stand, ids_drawn}
+use Rattle.commit_turns.specs.Account.{desk_of, ends_of, rows_in}
+use Rattle.commit_turns.specs.Desks.{Progress}
+use Rattle.commit_turns.specs.Kept.{IsKept}
+use Rattle.commit_turns.specs.Outcomes.{Begin, hears}
+use Rattle.commit_turns.specs.Turns.{Turned, decided}
+use Rattle.counted_items.specs.Weights.{weigh}
+use Rattle.counted_items.proofs.Each.{each-weaker}
+use Rattle.counted_items.proofs.Weighing.{weigh-flat_map}
+use Rattle.event_worlds.specs.Accounted.{IsCounted, IsInput, LedTo, station_of}
+use Rattle.event_worlds.specs.Added.{placed, turn_adds, turn_adds_past}
+use Rattle.event_worlds.specs.Orderly.{FitsParcel, IsOrderly}
+use Rattle.event_worlds.specs.Worlds.{World, drew, ended, first_needs, next_words, opened, outcome_step, stand_past, tick_step, turn_needs, turn_needs_past, turn_past, turn_step, turned_in, with_progress, with_turn}
+use Rattle.event_worlds.proofs.Leading.{counted-same, draw-more, joined-nothing, led-delivered, reached-alike, starts-more}
+use Rattle.event_worlds.proofs.Orderly.{AreOpened, opened-fits, orderly-outcome, orderly-tick, orderly-turn}
+use Rattle.event_worlds.proofs.Placing.{AreOf, given-past, placed-parcels, placed-roots, placed-rows, placed-spans, placed-well, placed-words}
+use Rattle.event_worlds.proofs.Waiting.{drew-here, drew-none, drew-other, weigh-front}
+use Rattle.state_parts.specs.declared.answer.CommitOutcome.{CommitOutcome}
+use Rattle.storm_values.specs.declared.value.Root.{Root}
+use Rattle.topology_plan.specs.Topology.{Topology, tasks_in_all}
+use Rattle.tree_model.specs.declared.messages.Parcel.{Parcel}
+use Rattle.trident_batches.specs.Batches.{Cut}
+use Rattle.tuple_account.specs.Fits.{Fits}
+use Rattle.tuple_account.specs.Histories.{History, IsOpening, Opening, joined, of_parcel, of_verdict, opening_parcels, opens, weigh_parcels}
+use Rattle.tuple_account.specs.Moves.{Moves, beside}
+use Rattle.tuple_account.specs.Parts.{holding}
+use Rattle.tuple_account.specs.Places.{HasWords, before, spans}
+use Rattle.tuple_account.specs.Sound.{is_about}
+use Rattle.tuple_account.proofs.Moving.{drawn-both, reached-then}
+use Rattle.tuple_account.proofs.Placing.{spans-more}
+use Rattle.tuple_account.proofs.Telling.{heard_begun}
+
+-- What the coordinator's laws say of a turn that heard this and came to this.
+pub record TurnsWell (t : Topology) (cut : Cut) (h : History) (fates : List Attempt) (tick : ℕ) (verdict : Option Verdict) (to : Turned t cut) : Type 0 where
+  pub kept : IsKept t cut to.desk (fates ++ to.ended)
+  pub fits : (openings : List Opening) → Begin t cut openings to.begun
+      → ((root : Root) → weigh (is_about root) (h.heard ++ option_to_list verdict) ≤ weigh (opens root) h.begun)
+      → Fits t (rows_in cut) (desk_of to.desk) (ends_of (fates ++ to.ended)) (joined h (hears verdict openings))
+  pub roots : (openings : List Opening) → Begin t cut openings to.begun → (root : Root) → weigh (opens root) h.begun + weigh (opens root) openings ≤ 1
+  pub ticks : to.desk.tick ≤ tick
+
+module _ (t : Topology) (custom : Custom) (cut : Cut) (words : ℕ → ℕ → ℕ) (input : IsInput t cut) (h : History) (w : World) (c : ℕ → ℕ) (led : LedTo t custom cut words h (record { world = w; counts = c })) where
+  -- ---- a turn
+
+  abbrev n : ℕ
+  n = tasks_in_all t
+
+  abbrev verdict : Option Verdict
+  verdict = slice_get w.verdicts 0
+
+  -- no more was heard of a root than it was begun, with the front verdict too
+  quiet : (root : Root) → weigh (is_about root) (h.heard ++ option_to_list verdict) ≤ weigh (opens root) h.begun
+  quiet root =
+      let moves : Moves t custom (station_of (record { world = w; counts = c })) (hears verdict []) (station_of (record { world = record w { verdicts = drop 1 w.verdicts }; counts = c })) = record {
+        packets = λ f. let v = weigh-front (λ (x : Verdict). f (of_verdict x)) w.verdicts in omega arith;
+        notes = λ g. omega arith;
+        draws = λ s j. omega arith;
+        well = record { begun = tt; runs = tt; told = tt };
+      } in
+      let reached = reached-then t custom _ _ h (hears verdict []) led.reached moves (λ r. let o = led.reached.once r in omega arith) in
+      subst (λ (begun : List Opening). weigh (is_about root) (h.heard ++ option_to_list verdict) ≤ weigh (opens root) begun) (append-nil h.begun)
+      (heard_begun t custom (joined h (hears verdict [])) _ reached root)
+
+  module _ (to : Turned t cut) (turns : TurnsWell t cut h w.fates w.tick verdict to) (need : ℕ) (needed : need ≡ sum (map (first_needs t cut) to.begun)) (none : w.orders ≡ []) where
+    abbrev ids : List ℕ
+    ids = next_words words c n need
+
+    abbrev now : ℕ → ℕ
+    now = drew n need c
+
+    enough : length ids ≡ need
+    enough = length-map-range_with_len (words n) (c n) need
+
+    abbrev shown : List Opening
+    shown = opened t cut w.spout to.begun ids
+
+    abbrev begun : List Opening
+    begun = placed (c n) shown
+
+    abbrev end : Stand
+    end = stand_past t cut shown w.spout
+
+    are : AreOpened t cut w.spout to.begun ids shown end
+    are = opened-fits t cut input w.spout to.begun ids led.orderly.spout (enough ∙ needed)
+
+    of_source : AreOf n shown
+    of_source = each-weaker (IsOpening t) (λ (o : Opening). o.begun.source ≡ n) (λ o is. is.source) shown are.well
+
+    drawn : length (ids_drawn shown) ≡ need
+    drawn = ap length are.drawn ∙ enough
+
+    begins : Begin t cut begun to.begun
+    begins = record { same = placed-roots (c n) shown ∙ are.begun; rows = placed-rows t cut n (c n) w.spout end shown are.opened }
+
+    moves : Moves t custom (station_of (record { world = w; counts = c })) (hears verdict begun) (station_of (record { world = with_turn t cut ids to w; counts = now }))
+    moves = record {
+      packets = λ f.
+          let v = weigh-front (λ (x : Verdict). f (of_verdict x)) w.verdicts in
+          let o = ap (weigh_parcels f) none in
+          let e = weigh-flat_map (λ (p : Parcel). f (of_parcel p)) (opening_parcels t) begun in
+          let p = ap (weigh_parcels f) (placed-parcels t cut n (c n) w.spout end shown led.counted.spout are.opened) in omega arith;
+      notes = λ g. omega arith;
+      draws = λ s j.
+          let a = placed-spans n (c n) s j shown of_source in
+          let l = ap (λ (k : ℕ). spans n 0 (c n + k) s j) drawn in
+          let m = spans-more n (c n) need s j in
+          let d = draw-more n need c s j in omega arith;
+      well = record { begun = placed-well t (c n) shown are.well; runs = tt; told = tt };
+    }
+
+    has_words : HasWords words n (c n) (ids_drawn shown)
+    has_words =
+        subst (λ (xs : List ℕ). xs ≡ map (words n) (range_with_len (c n) (length xs))) (sym are.drawn)
+        (ap (λ (k : ℕ). map (words n) (range_with_len (c n) k)) (sym enough))
+
+    counted : IsCounted t (record { world = with_turn t cut ids to w; counts = now })
+    counted = record {
+      tasks = λ m there. led.counted.tasks m there ∙ ap ended (sym (drew-other c n need m (λ same. omega arith)));
+      spout = given-past t cut n (c n) w.spout end shown led.counted.spout are.opened ∙ ap (λ (k : ℕ). ended (c n + k)) drawn ∙ ap ended (sym (drew-here c n need));
+    }
+
+    turned_to : IsOrderly t (with_turn t cut ids to w) → LedTo t custom cut words (joined h (hears verdict begun)) (record { world = with_turn t cut ids to w; counts = now })
+    turned_to fit = record {
+      reached = reached-then t custom _ _ h (hears verdict begun) led.reached moves (turns.roots begun begins);
+      drawn = drawn-both words h (hears verdict begun) led.drawn (record { of_begun = placed-words words n (c n) shown of_source has_words; of_runs = tt });
+      starts = starts-more h (hears verdict begun) refl led.starts;
+      orderly = fit;
+      counted = counted;
+      kept = turns.kept;
+      fits = turns.fits begun begins quiet;
+      silent = led.silent;
+      ticks = turns.ticks;
+      unheard = let e = turns.ticks in omega arith;
+      last = led.last;
+    }
+
+  abbrev need_all : ℕ
+  need_all = turn_needs t cut w
+
+  abbrev ids_all : List ℕ
+  ids_all = next_words words c n need_all
+
+  orderly : (orders : List Parcel) → w.orders ≡ orders → IsOrderly t (turn_past t cut ids_all w orders)
+  orderly orders is = subst (λ (xs : List Parcel). IsOrderly t (turn_past t cut ids_all w xs)) is (orderly-turn t cut w input led.orderly ids_all (length-map-range_with_len (words n) (c n) need_all))
+
+  hands_over : (parcel : Parcel) (rest : List Parcel) → w.orders ≡ parcel ∷ rest → LedTo t custom cut words h (record { world = turn_past t cut ids_all w (parcel ∷ rest); counts = drew n need_all c })
+  hands_over parcel rest is =
+      let none : need_all ≡ 0 = ap (turn_needs_past t cut w) is in
+      let fit : FitsParcel t parcel = (subst (AllByRecursion (FitsParcel t)) is led.orderly.orders).0 in
+      let same : (s : ℕ) → drew n need_all c s ≡ c s = (λ s. drew-none c n need_all s none) in
+      led-delivered t custom cut words (record w { orders = rest }) (drew n need_all c) parcel h fit (orderly (parcel ∷ rest) is) (record {
+        reached = reached-alike t custom h (station_of (record { world = w; counts = c })) (beside (holding (of_parcel parcel ∷ [])) (station_of (record { world = record w { orders = rest }; counts = drew n need_all c }))) (record {
+          waiting = λ f. let o = ap (weigh_parcels f) is in omega arith;
+          kept = λ g. omega arith;
+          given = λ s j. let e = ap (λ (k : ℕ). before k j) (same s) in omega arith;
+        }) led.reached;
+        drawn = led.drawn;
+        starts = led.starts;
+        tasks = led.orderly.task_count;
+        ackers = led.orderly.acker_count;
+        counted = counted-same t (record w { orders = rest }) c (drew n need_all c) same (record { tasks = led.counted.tasks; spout = led.counted.spout });
+        kept = led.kept;
+        fits = led.fits;
+        silent = led.silent;
+        ticks = led.ticks;
+        unheard = led.unheard;
+        last = led.last;
+      })
+
+  by_orders : (orders : List Parcel) → w.orders ≡ orders → TurnsWell t cut h w.fates w.tick verdict (turned_in t cut w)
+      → LedTo t custom cut words (joined h (turn_adds_past t cut (c n) ids_all w orders)) (record { world = turn_past t cut ids_all w orders; counts = drew n need_all c })
+  by_orders (parcel ∷ rest) is turns =
+      subst (λ (k : History). LedTo t custom cut words k (record { world = turn_past t cut ids_all w (parcel ∷ rest); counts = drew n need_all c })) (sym (joined-nothing h)) (hands_over parcel rest is)
+  by_orders [] is turns = turned_to (turned_in t cut w) turns need_all (ap (turn_needs_past t cut w) is) is (orderly [] is)
+
+  -- the coordinator has its step
+  pub led-turn : TurnsWell t cut h w.fates w.tick verdict (turned_in t cut w) → LedTo t custom cut words (joined h (turn_adds t cut (c n) ids_all w)) (record { world = turn_step t cut ids_all w; counts = drew n need_all c })
+  led-turn turns = by_orders w.orders refl turns
+
+  -- ---- an outcome
+
+  -- an attempt's commit came to this
+  progressed : (p : Progress) → IsKept t cut p.desk (w.fates ++ p.ended) → Fits t (rows_in cut) (desk_of p.desk) (ends_of (w.fates ++ p.ended)) h → p.desk.tick ≡ w.desk.tick → IsOrderly t (with_progress t cut p w)
+      → LedTo t custom cut words h (record { world = with_progress t cut p w; counts = c })
+  progressed p kept fits tick fit = record {
+    reached = led.reached;
+    drawn = led.drawn;
+    starts = led.starts;
+    orderly = fit;
+    counted = record { tasks = led.counted.tasks; spout = led.counted.spout };
+    kept = kept;
+    fits = fits;
+    silent = led.silent;
+    ticks = let e = led.ticks in omega arith;
+    unheard = let e = led.unheard in omega arith;
+    last = led.last;
+  }
+
+  pub led-outcome : (how : CommitOutcome) → IsKept t cut (decided t cut how w.desk).desk (w.fates ++ (decided t cut how w.desk).ended)
+      → Fits t (rows_in cut) (desk_of (decided t cut how w.desk).desk) (ends_of (w.fates ++ (decided t cut how w.desk).ended)) h → (decided t cut how w.desk).desk.tick ≡ w.desk.tick
+      → LedTo t custom cut words h (record { world = outcome_step t cut how w; counts = c })
+  led-outcome how kept fits tick = cases w.desk.out refl
+    where
+      cases : (b : Bool) → w.desk.out ≡ b → LedTo t custom cut words h (record { world = cond b (with_progress t cut (decided t cut how w.desk) w) w; counts = c })
+      cases true is = progressed (decided t cut how w.desk) kept fits tick (subst (λ (b : Bool). IsOrderly t (cond b (with_progress t cut (decided t cut how w.desk) w) w)) is (orderly-outcome t cut w led.orderly how))
+      cases false is = led
+
+  -- ---- a tick
+
+  pub led-tick : LedTo t custom cut words h (record { world = tick_step w; counts = c })
+  led-tick = record {
+    reached = led.reached;
+    drawn = led.drawn;
+    starts = led.starts;
+    orderly = orderly-tick t w led.orderly;
+    counted = record { tasks = led.counted.tasks; spout = led.counted.spout };
+    kept = led.kept;
+    fits = led.fits;
+    silent = led.silent;
+    ticks = let e = led.ticks in let l = led.last in omega arith;
+    unheard = let e = led.unheard in let l = led.last in omega arith;
+    last = omega arith;
+  }

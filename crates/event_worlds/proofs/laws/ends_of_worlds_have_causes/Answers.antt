@@ -1,0 +1,5 @@
+use Rattle.event_worlds.proofs.Ending.{ends-caused}
+use Rattle.event_worlds.proofs.laws.ends_of_worlds_have_causes.Goals as goal
+
+pub returns : goal.returns
+returns c = λ t custom cut words k input accounted. ends-caused t custom cut words input accounted.0 k accounted.1 (c.nodes_of_joined_rows.ensures.part t custom)

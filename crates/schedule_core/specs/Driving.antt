@@ -1,0 +1,49 @@
+-- What the steps of an engine do to the parts that its commits go to. This project's own.
+use Rattle.std.specs.Prelude.{◌≡◌, ◌≤◌, ◌+◌, ℕ, List, ◌++◌, All, Option, None, Some}
+use Rattle.attempt_fates.specs.declared.fates.Attempt.{Attempt}
+use Rattle.batch_commits.specs.Standing.{FailuresAreCounted, HasStrange, PartsStand}
+use Rattle.bolt_ops.specs.RowOp.{Custom, IsCustom}
+use Rattle.commit_turns.specs.Outcomes.{IsOutcome}
+use Rattle.event_engine.specs.declared.engine.Engine.{Engine}
+use Rattle.event_engine.specs.Engines.{Gives, Goes, HasOutcomes, shape}
+use Rattle.event_worlds.specs.Accounted.{Accounted}
+use Rattle.event_worlds.specs.Worlds.{Step, outcomes_of}
+use Rattle.state_parts.specs.declared.answer.CommitOutcome.{CommitOutcome}
+use Rattle.state_parts.specs.declared.parts.StatePart.{StatePart}
+use Rattle.state_parts.specs.PartPlans.{AreParts, plans_of}
+use Rattle.storm_ids.specs.declared.ids.Ids.{Ghosts}
+use Rattle.storm_stores.specs.CellMaps.{CellMap}
+use Rattle.topology_plan.specs.Topology.{Topology}
+use Rattle.trident_batches.specs.Batches.{Cut}
+
+module _ {I S : Type 0} {g : Ghosts I} where
+  -- how many batches an engine has committed
+  abbrev pub committed_by : Engine I g → ℕ
+  committed_by e = (shape e).desk.committed
+
+  -- An engine goes through these steps, and its commits through the parts.
+  pub record Drives (tells : I → (ℕ → ℕ) → ℕ → Type 0) (holds : S → CellMap → Type 0)
+      (count : S → ℕ) (t : Topology) (custom : Custom) (cut : Cut) (steps : List Step)
+      (old new : Engine I g) (was is : List (StatePart S)) : Type 0 where
+    pub goes : Goes tells t custom cut steps old new
+    pub plans : plans_of is ≡ plans_of was
+    -- the outcomes that were added are such as commits have
+    pub outcomes : AreParts t was → All (IsOutcome t) (outcomes_of old.fates)
+        → All (IsOutcome t) (outcomes_of new.fates)
+    -- parts that stand at what was committed stand at what is committed
+    pub stands : (words : ℕ → ℕ → ℕ) (counts : ℕ → ℕ) (outcomes : List CommitOutcome)
+        → Gives words counts goes.given → HasOutcomes outcomes new.fates
+        → IsCustom custom → All (IsOutcome t) outcomes
+        → Accounted t custom cut words (record { world = shape old; counts = counts })
+        → PartsStand holds t custom cut (committed_by old) was
+        → PartsStand holds t custom cut (committed_by new) is
+    pub strange : HasStrange holds is → HasStrange holds was
+    pub counted : FailuresAreCounted count goes.more was is
+
+  -- a bad cell was met after some steps
+  pub record Breaks (tells : I → (ℕ → ℕ) → ℕ → Type 0) (holds : S → CellMap → Type 0)
+      (count : S → ℕ) (t : Topology) (custom : Custom) (cut : Cut)
+      (old new : Engine I g) (was is : List (StatePart S)) : Type 0 where
+    pub steps : List Step
+    pub drives : Drives tells holds count t custom cut steps old new was is
+    pub strange : HasStrange holds is

@@ -1,0 +1,58 @@
+-- The steps of a schedule's events, and what a world answers. This project's own.
+use Rattle.std.specs.Prelude.{◌≡◌, ◌+◌, ℕ, Bool, true, false, List, [], ◌∷◌, Option, None, Some, Result, Ok, Err, length}
+use Rattle.std.specs.List.{flat_map}
+use Rattle.attempt_fates.specs.declared.fates.Attempt.{Attempt}
+use Rattle.bolt_ops.specs.RowOp.{Custom}
+use Rattle.commit_order.specs.declared.stop.Stop.{Stop}
+use Rattle.commit_order.specs.declared.stop.Stop.TheVariants.{Exhausted, BadCell, Memory}
+use Rattle.commit_turns.specs.Turns.{is_finished}
+use Rattle.event_worlds.specs.Worlds.{Step, World, coordinator_steps, of_acker, of_task, of_tick, outcomes_of, rounds_steps, world_after}
+use Rattle.schedule_core.specs.declared.ended.Ended.{Ended}
+use Rattle.schedule_core.specs.declared.ended.Ended.TheVariants.{All, Unfinished}
+use Rattle.schedule_reader.specs.declared.event.Event.{Event}
+use Rattle.schedule_reader.specs.declared.event.Event.TheVariants as event
+use Rattle.topology_plan.specs.Topology.{Topology}
+use Rattle.trident_batches.specs.Batches.{Cut}
+
+-- the steps of an event
+abbrev pub steps_of : Topology → Event → List Step
+steps_of t (event.Task n) = of_task n ∷ []
+steps_of t (event.Acker n) = of_acker n ∷ []
+steps_of t event.Coord = coordinator_steps
+steps_of t event.Tick = of_tick ∷ []
+steps_of t (event.Rounds count) = rounds_steps t count
+
+abbrev pub all_steps : Topology → List Event → List Step
+all_steps t events = flat_map (steps_of t) events
+
+-- ---- answers
+
+abbrev pub answer_by : Option ℕ → Bool → ℕ → Result Ended Stop
+answer_by (Some txid) finished committed = Err (Exhausted txid)
+answer_by None true committed = Ok All
+answer_by None false committed = Ok (Unfinished committed)
+
+-- all attempts of a transaction ended without a commit, or all batches are committed, or so many are
+abbrev pub answer_of : Topology → Cut → World → Result Ended Stop
+answer_of t cut w = answer_by w.desk.exhausted (is_finished t cut w.desk) w.desk.committed
+
+-- the answer is one that a world gives: it is no want of memory and no bad cell
+abbrev pub IsAnswer : Result Ended Stop → Type 0
+IsAnswer (Ok ending) = Unit {0}
+IsAnswer (Err (Exhausted txid)) = Unit {0}
+IsAnswer (Err (BadCell key)) = ⊥
+IsAnswer (Err Memory) = ⊥
+
+-- it is anything but want of memory
+abbrev pub HadMemory : Result Ended Stop → Type 0
+HadMemory (Ok ending) = Unit {0}
+HadMemory (Err (Exhausted txid)) = Unit {0}
+HadMemory (Err (BadCell key)) = Unit {0}
+HadMemory (Err Memory) = ⊥
+
+-- The answer and the fates are those of the world after these steps, where sources have these words
+-- and commits come to what the fates show.
+pub record IsOfWorld (t : Topology) (custom : Custom) (cut : Cut) (words : ℕ → ℕ → ℕ)
+    (steps : List Step) (answer : Result Ended Stop) (fates : List Attempt) : Type 0 where
+  pub fates_are : fates ≡ (world_after t custom cut words (outcomes_of fates) steps).fates
+  pub answer_is : answer ≡ answer_of t cut (world_after t custom cut words (outcomes_of fates) steps)

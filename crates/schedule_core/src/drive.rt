@@ -1,0 +1,183 @@
+//! Steps of the engine, with the commits that its coordinator orders.
+ghost use Rattle.std.specs.Prelude.{◌≡◌, ◌<◌, ◌≤◌, ◌+◌, ◌-◌, ◌^◌, ℕ, List, All, length, Err, OnOk, OnErr};
+ghost use Rattle.std.specs.List.{AllByRecursion};
+ghost use Rattle.attempt_fates.specs.Fates.{IsOnce};
+ghost use Rattle.batch_commits.specs.Standing.{HasTextKey};
+ghost use Rattle.bolt_ops.specs.RowOp.{Custom};
+ghost use Rattle.commit_turns.specs.Turns.{last_tick};
+ghost use Rattle.event_engine.specs.Engines.{IsIdle, IsReady, cut_in, topology_in};
+ghost use Rattle.event_worlds.specs.Worlds.{coordinator_steps, round_steps, rounds_steps};
+ghost use Rattle.schedule_core.specs.Driving.{Breaks, Drives};
+ghost use Rattle.schedule_core.specs.Schedules.{all_steps, steps_of};
+ghost use Rattle.schedule_reader.specs.Events.{FitsEvent};
+ghost use Rattle.state_parts.specs.declared.answer.CommitFault.TheVariants as fault;
+ghost use Rattle.state_parts.specs.PartPlans.{AreParts};
+
+use bolt_ops::RowOp;
+use event_engine::Engine;
+use schedule_reader::{Event, Events};
+use state_parts::{CommitFault, Parts};
+use storm_ids::Ids;
+use storm_stores::CellStore;
+use tree_model::Writes;
+
+/// The coordinator's step, and the commit that it orders, to all parts.
+pub(crate) fn coordinate<I: Ids, C: CellStore>(
+    engine: &mut Engine<'_, I>,
+    parts: &mut Parts<C>,
+) -> Result<(), CommitFault>
+    requires ready { IsReady (topology_in engine.old) (cut_in engine.old) engine.old }
+    requires idle { IsIdle engine.old }
+    requires parts { AreParts (topology_in engine.old) parts.old }
+    ensures ready { OnOk result
+        (IsReady (topology_in engine.old) (cut_in engine.old) engine.new) }
+    ensures idle { OnOk result (IsIdle engine.new) }
+    ensures drives { (custom : Custom) → OnOk result
+        (Drives I.tells C.tells C.fault_count (topology_in engine.old) custom (cut_in engine.old)
+        coordinator_steps engine.old engine.new parts.old parts.new) }
+    ensures bad { (custom : Custom) (key : List ℕ) → result ≡ Err (fault.BadCell key)
+        → Breaks I.tells C.tells C.fault_count (topology_in engine.old) custom (cut_in engine.old)
+        engine.old engine.new parts.old parts.new }
+    ensures once { OnErr result (IsOnce (length (cut_in engine.old).records)
+        (cut_in engine.old).size last_tick engine.new.fates) }
+{
+    let Some(commit) = engine.turn()? else {
+        return Ok(());
+    };
+    keys_are_texts(&commit.writes);
+    let how = parts.commit_all(commit)?;
+    engine.decide(how)?;
+    Ok(())
+}
+
+/// The keys of writes are texts. It does nothing.
+fn keys_are_texts(writes: &Writes)
+    ensures { All HasTextKey writes.now }
+{
+    for write in writes.as_slice() {
+        let _ = write.key.as_str();
+    }
+}
+
+/// A round: each task, each acker, and then the coordinator.
+pub(crate) fn round<I: Ids, C: CellStore, O: RowOp>(
+    engine: &mut Engine<'_, I>,
+    parts: &mut Parts<C>,
+    custom: &O,
+) -> Result<(), CommitFault>
+    requires ready { IsReady (topology_in engine.old) (cut_in engine.old) engine.old }
+    requires idle { IsIdle engine.old }
+    requires parts { AreParts (topology_in engine.old) parts.old }
+    ensures ready { OnOk result
+        (IsReady (topology_in engine.old) (cut_in engine.old) engine.new) }
+    ensures idle { OnOk result (IsIdle engine.new) }
+    ensures drives { OnOk result (Drives I.tells C.tells C.fault_count (topology_in engine.old)
+        (O.meaning custom.now) (cut_in engine.old) (round_steps (topology_in engine.old))
+        engine.old engine.new parts.old parts.new) }
+    ensures bad { (key : List ℕ) → result ≡ Err (fault.BadCell key)
+        → Breaks I.tells C.tells C.fault_count (topology_in engine.old) (O.meaning custom.now)
+        (cut_in engine.old) engine.old engine.new parts.old parts.new }
+    ensures once { OnErr result (IsOnce (length (cut_in engine.old).records)
+        (cut_in engine.old).size last_tick engine.new.fates) }
+{
+    engine.all_tasks(custom)?;
+    engine.all_ackers()?;
+    coordinate(engine, parts)?;
+    Ok(())
+}
+
+/// So many rounds, until all is over.
+fn rounds<I: Ids, C: CellStore, O: RowOp>(
+    engine: &mut Engine<'_, I>,
+    parts: &mut Parts<C>,
+    custom: &O,
+    count: u32,
+) -> Result<(), CommitFault>
+    requires ready { IsReady (topology_in engine.old) (cut_in engine.old) engine.old }
+    requires idle { IsIdle engine.old }
+    requires parts { AreParts (topology_in engine.old) parts.old }
+    ensures ready { OnOk result
+        (IsReady (topology_in engine.old) (cut_in engine.old) engine.new) }
+    ensures idle { OnOk result (IsIdle engine.new) }
+    ensures drives { OnOk result (Drives I.tells C.tells C.fault_count (topology_in engine.old)
+        (O.meaning custom.now) (cut_in engine.old)
+        (rounds_steps (topology_in engine.old) count)
+        engine.old engine.new parts.old parts.new) }
+    ensures bad { (key : List ℕ) → result ≡ Err (fault.BadCell key)
+        → Breaks I.tells C.tells C.fault_count (topology_in engine.old) (O.meaning custom.now)
+        (cut_in engine.old) engine.old engine.new parts.old parts.new }
+    ensures once { OnErr result (IsOnce (length (cut_in engine.old).records)
+        (cut_in engine.old).size last_tick engine.new.fates) }
+{
+    for done in 0..count {
+        if engine.is_over() {
+            return Ok(());
+        }
+        round(engine, parts, custom)?;
+    }
+    Ok(())
+}
+
+/// An event of a schedule.
+fn carry_out<I: Ids, C: CellStore, O: RowOp>(
+    engine: &mut Engine<'_, I>,
+    parts: &mut Parts<C>,
+    custom: &O,
+    event: Event,
+) -> Result<(), CommitFault>
+    requires ready { IsReady (topology_in engine.old) (cut_in engine.old) engine.old }
+    requires idle { IsIdle engine.old }
+    requires parts { AreParts (topology_in engine.old) parts.old }
+    requires fits { FitsEvent (topology_in engine.old) event }
+    ensures ready { OnOk result
+        (IsReady (topology_in engine.old) (cut_in engine.old) engine.new) }
+    ensures idle { OnOk result (IsIdle engine.new) }
+    ensures drives { OnOk result (Drives I.tells C.tells C.fault_count (topology_in engine.old)
+        (O.meaning custom.now) (cut_in engine.old) (steps_of (topology_in engine.old) event)
+        engine.old engine.new parts.old parts.new) }
+    ensures bad { (key : List ℕ) → result ≡ Err (fault.BadCell key)
+        → Breaks I.tells C.tells C.fault_count (topology_in engine.old) (O.meaning custom.now)
+        (cut_in engine.old) engine.old engine.new parts.old parts.new }
+    ensures once { OnErr result (IsOnce (length (cut_in engine.old).records)
+        (cut_in engine.old).size last_tick engine.new.fates) }
+{
+    match event {
+        Event::Task(n) => engine.task(n, custom)?,
+        Event::Acker(n) => engine.acker(n)?,
+        Event::Coord => coordinate(engine, parts)?,
+        Event::Tick => engine.tick(),
+        Event::Rounds(count) => rounds(engine, parts, custom, count)?,
+    }
+    Ok(())
+}
+
+/// The events of a schedule in order, until all is over.
+pub(crate) fn carry_out_all<I: Ids, C: CellStore, O: RowOp>(
+    engine: &mut Engine<'_, I>,
+    parts: &mut Parts<C>,
+    custom: &O,
+    events: &Events,
+) -> Result<(), CommitFault>
+    requires ready { IsReady (topology_in engine.old) (cut_in engine.old) engine.old }
+    requires idle { IsIdle engine.old }
+    requires parts { AreParts (topology_in engine.old) parts.old }
+    requires fit { AllByRecursion (FitsEvent (topology_in engine.old)) events.now }
+    ensures ready { OnOk result
+        (IsReady (topology_in engine.old) (cut_in engine.old) engine.new) }
+    ensures drives { OnOk result (Drives I.tells C.tells C.fault_count (topology_in engine.old)
+        (O.meaning custom.now) (cut_in engine.old) (all_steps (topology_in engine.old) events.now)
+        engine.old engine.new parts.old parts.new) }
+    ensures bad { (key : List ℕ) → result ≡ Err (fault.BadCell key)
+        → Breaks I.tells C.tells C.fault_count (topology_in engine.old) (O.meaning custom.now)
+        (cut_in engine.old) engine.old engine.new parts.old parts.new }
+    ensures once { OnErr result (IsOnce (length (cut_in engine.old).records)
+        (cut_in engine.old).size last_tick engine.new.fates) }
+{
+    for event in events.as_slice() {
+        if engine.is_over() {
+            return Ok(());
+        }
+        carry_out(engine, parts, custom, *event)?;
+    }
+    Ok(())
+}

@@ -1,0 +1,4 @@
+mod SplitLemmas
+mod NumberLemmas
+mod EventLemmas
+mod ScheduleLemmas

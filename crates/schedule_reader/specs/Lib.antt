@@ -1,0 +1,4 @@
+pub mod Limits
+pub mod Events
+pub mod Schedules
+pub mod Faults

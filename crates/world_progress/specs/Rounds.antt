@@ -1,0 +1,73 @@
+-- Rounds of steps: each task has a step, each acker, and then the coordinator. This project's own.
+use Rattle.std.specs.Prelude.{◌≡◌, ◌≤◌, ◌<◌, ℕ, zero, suc, ◌+◌, ◌*◌, Bool, true, false, List, [], ◌∷◌, ◌++◌, All, length, map, filter, replicate}
+use Rattle.std.specs.List.{range_with_len}
+use Rattle.attempt_fates.specs.declared.fates.Attempt.{Attempt}
+use Rattle.attempt_fates.specs.declared.fates.End.{End}
+use Rattle.attempt_fates.specs.declared.fates.End.TheVariants as end
+use Rattle.bolt_ops.specs.RowOp.{Custom}
+use Rattle.event_worlds.specs.Worlds.{Step, coordinator_steps, of_acker, of_outcome, of_task, of_tick, of_turn}
+use Rattle.topology_plan.specs.declared.parts.Body.{Body}
+use Rattle.topology_plan.specs.declared.parts.Body.TheVariants.{Bolt, State}
+use Rattle.topology_plan.specs.declared.parts.Component.{Component}
+use Rattle.topology_plan.specs.declared.parts.Op.{Op}
+use Rattle.topology_plan.specs.declared.parts.Op.TheVariants as op
+use Rattle.topology_plan.specs.Topology.{Topology, tasks_in_all}
+use Rattle.tree_model.specs.declared.messages.AckMsg.{AckMsg}
+use Rattle.tree_model.specs.Trees.{node_count}
+use Rattle.trident_batches.specs.Batches.{Cut, batch_count}
+
+-- a round in which so many ticks come before the coordinator's step
+abbrev pub round_with : Topology → ℕ → List Step
+round_with t ticks =
+    map of_task (range_with_len 0 (tasks_in_all t))
+    ++ map of_acker (range_with_len 0 t.ackers)
+    ++ replicate ticks of_tick
+    ++ coordinator_steps
+
+-- the steps have so many whole rounds, one after another, with anything between them
+abbrev pub HasRounds : Topology → ℕ → List Step → Type 0
+HasRounds t zero steps = Unit {0}
+HasRounds t (suc count) steps =
+    (first rest : List Step) × (ticks : ℕ)
+    × (steps ≡ first ++ (round_with t ticks ++ rest)) × HasRounds t count rest
+
+abbrev pub is_tick : Step → Bool
+is_tick (of_task n) = false
+is_tick (of_acker n) = false
+is_tick of_turn = false
+is_tick of_outcome = false
+is_tick of_tick = true
+
+-- how many of the steps are ticks
+abbrev pub ticks_in : List Step → ℕ
+ticks_in steps = length (filter is_tick steps)
+
+-- the operation fails at no attempt that is the last a plan allows, and is never mute
+abbrev pub EndsByOp : Topology → Op → Type 0
+EndsByOp t (op.Split field) = Unit {0}
+EndsByOp t (op.Project fields) = Unit {0}
+EndsByOp t (op.Filter field test value) = Unit {0}
+EndsByOp t (op.Set field value) = Unit {0}
+EndsByOp t (op.Len field) = Unit {0}
+EndsByOp t (op.Route field) = Unit {0}
+EndsByOp t (op.Flaky below) = below ≤ t.attempts
+EndsByOp t (op.Mute below) = below ≤ 1
+EndsByOp t op.Custom = Unit {0}
+
+abbrev pub EndsByBody : Topology → Body → Type 0
+EndsByBody t (Bolt o) = EndsByOp t o
+EndsByBody t (State spec) = Unit {0}
+
+-- every bolt lets a batch come through within the attempts of the plan
+abbrev pub CanFinish : Topology → Type 0
+CanFinish t = All (λ (c : Component). EndsByBody t c.body) t.components
+
+-- as many rounds as any run needs in which nothing is lost
+abbrev pub rounds_needed : Topology → Custom → Cut → ℕ
+rounds_needed t custom cut =
+    16 * t.attempts
+    * (node_count t custom cut.records + batch_count (length cut.records) cut.size + 1)
+
+-- no attempt ended because its ids coincide
+abbrev pub DoesNotCoincide : Attempt → Type 0
+DoesNotCoincide a = (list : List AckMsg) → a.end ≡ end.Coincided list → ⊥
