@@ -1,27 +1,24 @@
 -- What the engine's events do, from what its parts do.
-use Rattle.std.proofs.Common.{◌≡◌, ◌≤◌, ◌<◌, ◌-◌, ◌^◌, ℕ, zero, suc, ◌+◌, Bool, true, false, cond, List, [], ◌∷◌, ◌++◌, length, map, append-nil, Option, None, Some, get_or, set, sym, refl, ap, subst, ◌∙◌, arith}
-use Rattle.std.specs.Prelude.{min, slice_get}
+use Rattle.std.proofs.Common.{◌≡◌, ◌<◌, ℕ, zero, suc, List, [], ◌∷◌, ◌++◌, length, map, append-nil, Option, None, Some, get_or, set, sym, refl, ap, subst, ◌∙◌, arith}
+use Rattle.std.specs.Prelude.{slice_get}
 use Rattle.std.specs.List.{AllByRecursion}
 use Rattle.std.specs.Option.{option_to_list}
-use Rattle.std.proofs.lemmas.List.{length-map, length-set, map-set, set_at}
+use Rattle.std.proofs.lemmas.List.{length-map, length-set, map-set}
 use Rattle.acker_core.specs.declared.verdict.Verdict.{Verdict}
-use Rattle.attempt_fates.specs.declared.fates.Attempt.{Attempt}
 use Rattle.bolt_ops.specs.RowOp.{Custom, IsCustom}
 use Rattle.commit_order.specs.Orders.{IsOwn, collector_of, cut_of, desk_of, plan_of, wanted_memory}
 use Rattle.commit_order.specs.declared.coordinator.Coordinator.{Coordinator}
-use Rattle.event_engine.specs.Engines.{DrawsAt, Happens, IsReady, IsSeated, IsStill, IsThere, cut_in, shape, sources, topology_in}
-use Rattle.event_engine.specs.Seats.{Acts, ActsAt, AnswersAt, AreSeats, HasBuckets, IsSeatOf, Puts, PutsMessage, TakesAt, acker_side, buckets_in, source_in, task_side}
-use Rattle.event_engine.specs.declared.acker.AckerSeat.{AckerSeat}
+use Rattle.event_engine.specs.Engines.{Happens, IsReady, IsSeated, IsStill, IsThere, shape, sources}
+use Rattle.event_engine.specs.Seats.{Acts, ActsAt, AnswersAt, AreSeats, HasBuckets, Puts, TakesAt, acker_side, source_in, task_side}
 use Rattle.event_engine.specs.declared.engine.Engine.{Engine}
 use Rattle.event_engine.specs.declared.task.TaskSeat.{TaskSeat}
-use Rattle.event_engine.proofs.SeatLemmas.{acts_of, buckets_kept, fits_there, get-map, get-map_some, handed_fits, seat_at, seats_set, side-same, side-set, takes_of}
-use Rattle.event_worlds.specs.Orderly.{FitsParcel, IsOrderly, IsTaskOrderly}
-use Rattle.event_worlds.specs.Worlds.{AckerSide, TaskSide, World, acker_at, acker_step, acted, answered, delivered, gets_message, gets_tuple, no_acker, no_task, sent, task_at, task_needs, task_step, tick_step, with_task}
+use Rattle.event_engine.proofs.SeatLemmas.{acts_of, fits_there, get-map, get-map_some, handed_fits, seat_at, seats_set, side-same, side-set, takes_of}
+use Rattle.event_worlds.specs.Orderly.{IsOrderly, IsTaskOrderly}
+use Rattle.event_worlds.specs.Worlds.{TaskSide, World, acker_step, acted, delivered, gets_tuple, no_task, sent, task_at, task_needs, task_step, tick_step}
 use Rattle.event_worlds.proofs.Orderly.{orderly-acker, orderly-task, orderly-tick, task-seat}
 use Rattle.output_collector.specs.Collectors.{ids_in}
 use Rattle.storm_ids.specs.declared.ids.Ids.{Ghosts}
 use Rattle.topology_plan.specs.Topology.{Topology, tasks_in_all}
-use Rattle.tree_model.specs.declared.messages.AckMsg.{AckMsg}
 use Rattle.tree_model.specs.declared.messages.Parcel.{Parcel}
 use Rattle.tree_model.specs.declared.messages.Parcel.TheVariants.{ToTask, ToAcker}
 use Rattle.tree_model.specs.declared.messages.Tuple.{Tuple}

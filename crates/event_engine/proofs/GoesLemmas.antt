@@ -1,14 +1,14 @@
 -- An engine's steps, one after another.
-use Rattle.std.proofs.Common.{◌≡◌, ◌<◌, ℕ, zero, suc, ◌+◌, ◌==◌, Bool, true, false, cond, true≢false, List, [], ◌∷◌, ◌++◌, length, map, take, append_assoc, append-nil, None, Some, get_or, set, sym, refl, ap, subst, ◌∙◌, length-append, eq-eqb, eqb-true, arith}
+use Rattle.std.proofs.Common.{◌≡◌, ℕ, zero, suc, ◌+◌, ◌==◌, Bool, true, false, cond, true≢false, List, [], ◌∷◌, ◌++◌, length, map, append_assoc, append-nil, None, Some, get_or, set, sym, refl, ap, subst, ◌∙◌, length-append, eq-eqb, eqb-true, arith}
 use Rattle.std.specs.Prelude.{slice_get}
-use Rattle.std.specs.List.{filter_map, range_with_len}
+use Rattle.std.specs.List.{range_with_len}
 use Rattle.std.proofs.lemmas.List.{map-append}
 use Rattle.std.proofs.lemmas.List.Elements.{filter_map-append}
 use Rattle.std.proofs.lemmas.List.FromFn.{length-map-range_with_len}
 use Rattle.attempt_fates.specs.declared.fates.Attempt.{Attempt}
 use Rattle.bolt_ops.specs.RowOp.{Custom}
 use Rattle.commit_turns.specs.Turns.{decided}
-use Rattle.event_engine.specs.Engines.{DrawsAt, Gives, Goes, Happens, HasOutcomes, cut_in, has_ended, shape, sources, topology_in}
+use Rattle.event_engine.specs.Engines.{Goes, Happens, HasOutcomes, shape, sources}
 use Rattle.event_engine.specs.declared.engine.Engine.{Engine}
 use Rattle.event_engine.proofs.SeatLemmas.{draws-none}
 use Rattle.event_worlds.specs.Worlds.{Known, Step, World, acker_step, drew, is_over, next, next_outcome, next_words, of_acker, of_outcome, of_task, of_tick, of_turn, outcome_by, outcome_step, outcomes_of, run, step, task_at, task_needs, task_step, tick_step, turn_needs, turn_step, with_progress}

@@ -1,5 +1,5 @@
 -- Events of an engine that is ready for a topology and a cut, one after another.
-use Rattle.std.proofs.Common.{◌≡◌, ℕ, List, [], ◌∷◌, ◌++◌, sym, subst, ◌∙◌}
+use Rattle.std.proofs.Common.{ℕ, List, sym, subst, ◌∙◌}
 use Rattle.bolt_ops.specs.RowOp.{Custom}
 use Rattle.event_engine.specs.Engines.{Goes, IsReady, IsStill, cut_in, topology_in}
 use Rattle.event_engine.specs.declared.engine.Engine.{Engine}

@@ -5,8 +5,6 @@ use Rattle.commit_order.specs.Orders.{OpenFrom, Stand, ids_drawn, opening_of, st
 use Rattle.commit_turns.specs.Account.{rows_in}
 use Rattle.event_worlds.specs.Worlds.{first_needs, opened, stand_past}
 use Rattle.storm_values.specs.declared.value.Root.{Root}
-use Rattle.storm_values.specs.declared.value.Value.{Value}
-use Rattle.topology_plan.specs.declared.parts.Origin.{Origin}
 use Rattle.topology_plan.specs.declared.parts.Origin.TheVariants as origin
 use Rattle.topology_plan.specs.Topology.{Topology, tasks_in_all}
 use Rattle.tree_model.specs.Trees.{kids}

@@ -1,32 +1,29 @@
 -- How an engine begins.
-use Rattle.std.proofs.Common.{◌≡◌, ◌<◌, ◌≤◌, ℕ, zero, suc, ◌+◌, ◌-◌, ◌==◌, Bool, true, false, true≢false, cond, nat_lt, List, [], ◌∷◌, ◌++◌, length, map, Option, None, Some, get_or, sym, refl, ap, subst, ◌∙◌, length-append, eq-eqb, eqb-true, arith}
+use Rattle.std.proofs.Common.{◌≡◌, ◌<◌, ◌≤◌, ℕ, zero, suc, ◌+◌, ◌==◌, Bool, true, false, cond, nat_lt, List, [], ◌∷◌, ◌++◌, length, map, None, Some, get_or, sym, refl, ap, subst, ◌∙◌, length-append, eq-eqb, arith}
 use Rattle.std.specs.Prelude.{slice_get, replicate}
 use Rattle.std.specs.List.{AllByRecursion, range_with_len}
-use Rattle.std.proofs.lemmas.List.{map-append}
 use Rattle.std.proofs.lemmas.Bool.Decides.{nat_tests}
 use Rattle.std.proofs.lemmas.List.FromFn.{fill_by_all}
 use Rattle.bolt_task.specs.Executing.{collector_in, component_at, number_of, topology_at}
-use Rattle.bolt_task.specs.declared.task.BoltTask.{BoltTask}
 use Rattle.commit_order.specs.Offices.{Office}
 use Rattle.commit_order.specs.Orders.{IsOwn, Stand, collector_of, desk_of, office_of, stand_of, wanted_memory}
 use Rattle.commit_turns.specs.Desks.{Desk, first_desk}
 use Rattle.commit_turns.specs.Kept.{IsKept}
 use Rattle.commit_turns.specs.Turns.{last_tick}
-use Rattle.event_engine.specs.Engines.{Gives, HaveTold, IsReady, shape, sources}
+use Rattle.event_engine.specs.Engines.{Gives, IsReady, shape}
 use Rattle.event_engine.specs.Seats.{AllFrom, HasBuckets, IsSeatOf, acker_side, source_in, task_side}
-use Rattle.event_engine.specs.Starts.{AreFirstSeats, IsFirstSeat, IsFirstSource, IsStarted, started_stand}
+use Rattle.event_engine.specs.Starts.{AreFirstSeats, IsFirstSeat, IsFirstSource, IsStarted}
 use Rattle.event_engine.specs.declared.engine.Engine.{Engine}
 use Rattle.event_engine.specs.declared.task.TaskSeat.{TaskSeat}
 use Rattle.event_engine.proofs.GoesLemmas.{get-after}
 use Rattle.event_worlds.specs.Accounted.{IsInput}
 use Rattle.event_worlds.specs.Orderly.{IsOrderly}
 use Rattle.event_worlds.proofs.Orderly.{orderly-first}
-use Rattle.event_worlds.specs.Worlds.{TaskSide, World, first_counts, first_stand, first_task, first_world, no_acker}
+use Rattle.event_worlds.specs.Worlds.{first_counts, first_stand, first_task, first_world, no_acker}
 use Rattle.groupings.specs.Routing.{lanes_of}
 use Rattle.output_collector.specs.declared.collector.Collector.{Collector}
 use Rattle.output_collector.specs.Collectors as collector
 use Rattle.output_collector.specs.Collectors.{ids_in}
-use Rattle.output_collector.specs.Draws.{Draws}
 use Rattle.storm_ids.specs.declared.ids.Ids.{Ghosts}
 use Rattle.topology_plan.specs.declared.parts.Origin.{Origin}
 use Rattle.topology_plan.specs.declared.parts.Origin.TheVariants as origin

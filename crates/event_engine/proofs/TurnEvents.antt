@@ -1,5 +1,5 @@
 -- What the coordinator's events do.
-use Rattle.std.proofs.Common.{◌≡◌, ◌≤◌, ◌<◌, ◌-◌, ◌^◌, ℕ, zero, suc, ◌+◌, ◌==◌, Bool, true, false, true≢false, cond, List, [], ◌∷◌, ◌++◌, length, map, drop, sum, append-nil, Option, None, Some, get_or, set, sym, refl, ap, subst, ◌∙◌, arith}
+use Rattle.std.proofs.Common.{◌≡◌, ◌≤◌, ◌<◌, ℕ, zero, suc, ◌+◌, ◌==◌, Bool, true, false, true≢false, cond, List, [], ◌∷◌, ◌++◌, length, map, drop, sum, append-nil, Option, None, Some, sym, refl, ap, subst, ◌∙◌, arith}
 use Rattle.std.specs.Prelude.{Err, Result, is_some, slice_get}
 use Rattle.std.specs.List.{AllByRecursion, flat_map}
 use Rattle.std.specs.Option.{option_to_list}
@@ -9,7 +9,7 @@ use Rattle.attempt_fates.specs.Fates.{IsOnce}
 use Rattle.attempt_fates.specs.declared.fates.Attempt.{Attempt}
 use Rattle.bolt_ops.specs.RowOp.{Custom}
 use Rattle.commit_order.specs.Offices.{IsCommitOf, Office}
-use Rattle.commit_order.specs.Orders.{Begins, IsOwn, OpenFrom, RunsShort, StaysOwn, StopsAt, TurnsTo, collector_of, cut_of, desk_of, ids_drawn, office_of, plan_of, stand_of, stop_by, stop_of, wanted_memory}
+use Rattle.commit_order.specs.Orders.{Begins, IsOwn, OpenFrom, RunsShort, StaysOwn, StopsAt, TurnsTo, collector_of, cut_of, desk_of, ids_drawn, office_of, plan_of, stand_of, stop_of, wanted_memory}
 use Rattle.commit_order.specs.declared.coordinator.Coordinator.{Coordinator}
 use Rattle.commit_order.specs.declared.coordinator.Orders.{Orders}
 use Rattle.commit_order.specs.declared.stop.Stop.{Stop}
@@ -18,10 +18,9 @@ use Rattle.commit_turns.specs.Kept.{IsKept}
 use Rattle.commit_turns.specs.declared.wait.Wait.{Wait}
 use Rattle.commit_turns.specs.Desks.{Desk, Progress}
 use Rattle.commit_turns.specs.Turns.{Turned, decided, is_finished, last_tick, next_to_commit, turned}
-use Rattle.event_engine.specs.Engines.{Answers, DrawsAt, Goes, Happens, HasOrdered, IsIdle, IsOrder, IsReady, IsSeated, IsStill, IsThere, TakesTurn, cut_in, has_ended, shape, sources, topology_in}
+use Rattle.event_engine.specs.Engines.{Answers, DrawsAt, Goes, Happens, HasOrdered, IsIdle, IsReady, IsSeated, IsStill, IsThere, TakesTurn, cut_in, has_ended, shape, sources, topology_in}
 use Rattle.event_engine.specs.Seats.{AreSeats, HasBuckets, acker_side, source_in, task_side}
 use Rattle.event_engine.specs.declared.engine.Engine.{Engine}
-use Rattle.event_engine.specs.declared.task.TaskSeat.{TaskSeat}
 use Rattle.event_engine.proofs.EngineLemmas.{ready_still, seated_by}
 use Rattle.event_engine.proofs.FatesLemmas.{kept_once, short_once}
 use Rattle.event_engine.proofs.GoesLemmas.{goes-outcome}

@@ -1,5 +1,5 @@
 -- What a turn of the coordinator and an outcome keep.
-use Rattle.std.proofs.Common.{◌≡◌, ◌≤◌, ℕ, zero, suc, ◌+◌, ◌-◌, ◌^◌, ◌==◌, ◌&&◌, Bool, true, false, cond, true≢false, Option, None, Some, List, [], ◌∷◌, ◌++◌, length, map, refl, sym, ap, subst, ◌∙◌, eq-eqb, eqb-true, arith}
+use Rattle.std.proofs.Common.{◌≡◌, ◌≤◌, ℕ, zero, suc, ◌+◌, ◌==◌, ◌&&◌, Bool, true, false, cond, true≢false, Option, None, Some, List, [], ◌∷◌, ◌++◌, refl, sym, ap, subst, ◌∙◌, eq-eqb, eqb-true, arith}
 use Rattle.std.specs.Prelude.{is_some}
 use Rattle.std.specs.List.{filter_map, find}
 use Rattle.acker_core.specs.declared.verdict.Verdict.{Verdict}
@@ -7,10 +7,9 @@ use Rattle.acker_core.specs.declared.verdict.Verdict.TheVariants.{Complete, Fail
 use Rattle.attempt_fates.specs.declared.fates.Attempt.{Attempt}
 use Rattle.attempt_fates.specs.declared.fates.End.TheVariants as end
 use Rattle.commit_order.specs.Orders.{stop_by}
-use Rattle.commit_order.specs.declared.stop.Stop.{Stop}
 use Rattle.commit_turns.specs.declared.wait.Wait.{Wait}
 use Rattle.commit_turns.specs.Desks.{Desk, Progress, still, timed_of}
-use Rattle.commit_turns.specs.Turns.{Turned, and_then, begun, complete_timed, decided, decided_by, decided_desk, end_by, end_timed, fill_more, filled, has_no_tick, heard, is_closed, is_finished, last_tick, next_root, next_to_commit, one_tick, ordered, passed, ticked, turned, turned_by}
+use Rattle.commit_turns.specs.Turns.{and_then, begun, complete_timed, decided, decided_by, end_by, end_timed, fill_more, filled, has_no_tick, heard, is_closed, last_tick, next_root, next_to_commit, one_tick, ordered, passed, ticked, turned, turned_by}
 use Rattle.event_engine.proofs.GoesLemmas.{outcomes-append}
 use Rattle.event_worlds.specs.Worlds.{outcome_by, outcomes_of}
 use Rattle.state_parts.specs.declared.answer.CommitOutcome.{CommitOutcome}

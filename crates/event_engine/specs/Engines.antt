@@ -148,7 +148,8 @@ module _ {I : Type 0} {g : Ghosts I} where
       (steps : List Step) (old new : Engine I g) : Type 0 where
     pub given : ℕ → List ℕ
     pub draws : (s : ℕ) (before : I) → slice_get (sources old) s ≡ Some before
-        → (after : I) × (slice_get (sources new) s ≡ Some after) × Draws tells before (given s) after
+        → (after : I) × (slice_get (sources new) s ≡ Some after)
+        × Draws tells before (given s) after
     pub none : (s : ℕ) → slice_get (sources old) s ≡ None
         → (given s ≡ []) × (slice_get (sources new) s ≡ None)
     pub more : List Attempt

@@ -112,7 +112,8 @@ module _ {I : Type 0} {g : Ghosts I} where
     pub before : TaskSeat I g
     pub after : TaskSeat I g
     pub at : slice_get old n ≡ Some before
-    pub acts : Acts tells (topology_at before.task) custom (number_of before.task) parcel before after
+    pub acts : Acts tells (topology_at before.task) custom (number_of before.task) parcel before
+        after
     pub others : new ≡ slice_set old n after
 
   -- a tuple came to the back of a seat's box

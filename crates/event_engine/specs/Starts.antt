@@ -1,8 +1,8 @@
 -- How an engine begins. This project's own.
-use Rattle.std.specs.Prelude.{◌≡◌, ℕ, ◌+◌, List, [], length, map, Some, slice_get}
+use Rattle.std.specs.Prelude.{◌≡◌, ℕ, List, [], length, map}
 use Rattle.std.specs.List.{range_with_len}
 use Rattle.commit_order.specs.Orders.{Stand}
-use Rattle.event_engine.specs.Engines.{Gives, HaveTold, shape, sources}
+use Rattle.event_engine.specs.Engines.{Gives, HaveTold, shape}
 use Rattle.event_engine.specs.Seats.{AllFrom, IsSeatOf, source_in, task_side}
 use Rattle.event_engine.specs.declared.engine.Engine.{Engine}
 use Rattle.event_engine.specs.declared.task.TaskSeat.{TaskSeat}
@@ -11,7 +11,7 @@ use Rattle.groupings.specs.Routing.{lanes_of}
 use Rattle.storm_ids.specs.declared.ids.Ids.{Ghosts}
 use Rattle.topology_plan.specs.declared.parts.Origin.{Origin}
 use Rattle.topology_plan.specs.declared.parts.Origin.TheVariants as origin
-use Rattle.topology_plan.specs.Topology.{Topology, component_of, subs_of, tasks_in_all}
+use Rattle.topology_plan.specs.Topology.{Topology, component_of, subs_of}
 
 -- where the rows of a source go, with these start words
 abbrev pub started_stand : Topology → Origin → List ℕ → Stand

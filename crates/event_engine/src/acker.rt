@@ -37,7 +37,8 @@ impl AckerSeat {
 
     /// Puts a message at the back of the box.
     pub fn put(&mut self, message: AckMsg) -> Result<(), Memory>
-        ensures side { OnOk result (acker_side self.new ≡ gets_message message (acker_side self.old)) }
+        ensures side { OnOk result
+            (acker_side self.new ≡ gets_message message (acker_side self.old)) }
         ensures buckets { buckets_in self.new ≡ buckets_in self.old }
     {
         self.inbox.push_back(message)?;

@@ -182,7 +182,8 @@ impl<'p, I: Ids> Engine<'p, I> {
         self.tick_event();
     }
 
-    /// Whether all is over: every batch is committed, or all attempts of one ended without a commit.
+    /// Whether all is over: every batch is committed, or all attempts of one ended without a
+    /// commit.
     pub fn is_over(&self) -> bool
         ensures { result ≡ has_ended self.now }
     {

@@ -18,7 +18,8 @@ pub struct TaskSeat<'p, I: Ids> {
 }
 
 impl<'p, I: Ids> TaskSeat<'p, I> {
-    /// Hands over the front parcel, or else executes the front tuple. It answers what it hands over.
+    /// Hands over the front parcel, or else executes the front tuple. It answers what it hands
+    /// over.
     pub fn act<O: RowOp>(&mut self, custom: &O) -> Result<Option<Parcel>, Memory>
         requires { Takes self.old }
         ensures { IfOk result (λ parcel. Acts I.tells (topology_at self.old.task)

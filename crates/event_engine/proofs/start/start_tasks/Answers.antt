@@ -1,4 +1,3 @@
-use Rattle.std.proofs.Common.{ap, refl, sym, ◌∙◌}
 use Rattle.event_engine.specs.declared.task.TaskSeat.{TaskSeat}
 use Rattle.event_engine.proofs.StartLemmas.{first_seat, seats_more}
 use Rattle.event_engine.proofs.start.start_tasks.Goals as goal

@@ -1,4 +1,4 @@
-use Rattle.std.proofs.Common.{◌≡◌, ◌-◌, ◌∙◌, ap, arith}
+use Rattle.std.proofs.Common.{◌≡◌, ◌-◌, ◌∙◌, arith}
 use Rattle.std.specs.Prelude.{min}
 use Rattle.event_engine.specs.Seats.{acker_side}
 use Rattle.event_engine.proofs.AgedLemmas.{counted_by}

@@ -1,4 +1,4 @@
-use Rattle.std.proofs.Common.{[], ◌∷◌, ◌∙◌, ap, refl, sym, map, arith}
+use Rattle.std.proofs.Common.{[], ◌∷◌, refl, map, arith}
 use Rattle.std.specs.List.{range_with_len}
 use Rattle.std.proofs.lemmas.List.FromFn.{map-range_with_len_more}
 use Rattle.event_engine.specs.Engines.{cut_in, topology_in}

@@ -1,4 +1,4 @@
-use Rattle.std.proofs.Common.{refl, sym, ap, ◌∙◌}
+use Rattle.std.proofs.Common.{refl, ap, ◌∙◌}
 use Rattle.std.specs.Prelude.{Err}
 use Rattle.commit_order.specs.Orders.{desk_of}
 use Rattle.commit_turns.specs.Turns.{decided}

@@ -1,7 +1,6 @@
 use Rattle.std.proofs.Common.{ap, refl, [], ◌∷◌, ◌++◌}
 use Rattle.commit_order.specs.Orders.{collector_of}
 use Rattle.event_engine.specs.Engines.{shape, topology_in}
-use Rattle.event_engine.specs.Seats.{buckets_in}
 use Rattle.event_engine.proofs.EngineLemmas.{put_seats, put_sides, put_sources, seated_by}
 use Rattle.event_engine.proofs.SeatLemmas.{buckets_kept}
 use Rattle.output_collector.specs.Collectors.{ids_in}

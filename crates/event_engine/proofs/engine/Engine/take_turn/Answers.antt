@@ -1,4 +1,4 @@
-use Rattle.std.proofs.Common.{◌≡◌, ℕ, [], refl, sym, ap, ◌∙◌}
+use Rattle.std.proofs.Common.{refl, ap, ◌∙◌}
 use Rattle.commit_order.specs.Orders.{desk_of}
 use Rattle.event_engine.specs.Engines.{cut_in, topology_in}
 use Rattle.event_engine.proofs.FatesLemmas.{on_err}

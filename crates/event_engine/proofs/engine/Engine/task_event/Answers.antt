@@ -1,6 +1,6 @@
-use Rattle.std.proofs.Common.{rules, refl, sym, ◌∙◌}
-use Rattle.event_engine.specs.Engines.{IsSeated, cut_in, topology_in}
-use Rattle.event_engine.proofs.EngineLemmas.{act_seats, handed_there, seated_by, takes_at, task_happens, task_within}
+use Rattle.std.proofs.Common.{refl}
+use Rattle.event_engine.specs.Engines.{cut_in, topology_in}
+use Rattle.event_engine.proofs.EngineLemmas.{act_seats, handed_there, seated_by, takes_at, task_happens}
 use Rattle.event_engine.proofs.engine.Engine.task_event.Goals as goal
 
 pub act_at-requires-clause-takes : goal.act_at-requires-clause-takes

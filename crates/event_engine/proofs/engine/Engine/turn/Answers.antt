@@ -1,9 +1,8 @@
 use Rattle.std.proofs.Common.{[], ◌∷◌, refl, sym, ap, ◌∙◌}
 use Rattle.event_engine.specs.Engines.{cut_in, shape, topology_in}
 use Rattle.event_engine.proofs.EngineLemmas.{seated_by}
-use Rattle.event_engine.proofs.FatesLemmas.{on_err}
 use Rattle.event_engine.proofs.GoesLemmas.{goes-over, goes-turn}
-use Rattle.event_engine.proofs.TurnEvents.{happens_alike, hands_order, idle_still, no_rest, order_there, ready_alike, ready_handed, ready_once, tasks_are}
+use Rattle.event_engine.proofs.TurnEvents.{happens_alike, hands_order, idle_still, ready_alike, ready_handed, tasks_are}
 use Rattle.event_worlds.specs.Worlds.{of_turn, turn_needs, turn_step}
 use Rattle.topology_plan.specs.Topology.{tasks_in_all}
 use Rattle.event_engine.proofs.engine.Engine.turn.Goals as goal
