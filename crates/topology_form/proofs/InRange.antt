@@ -3,12 +3,13 @@ use Rattle.topology_form.specs.Prelude.{Data, TopoFault, FileParts, Fold, Count,
 use Rattle.topology_form.specs.declared.parts.GroupingPart.TheVariants as said
 use Rattle.topology_plan.specs.Valid.{IsBetween}
 use Rattle.std.proofs.Common.{◌≡◌, ℕ, List, [], ◌∷◌, length, All, Bool, true, false, subst, codes, None, IsSome, Result, Ok, Err, IfOk, refl, sym, lit≤}
+use Rattle.std.specs.Result.{result_err, result_unwrap_or}
 use Rattle.std.proofs.lemmas.List.{length-map}
 use Rattle.std.proofs.lemmas.List.Elements.{All-nil, All-cons, All-append, All-weaker}
 use Rattle.std.proofs.lemmas.Option.{none-some}
-use Rattle.topology_form.specs.File.{fault_in, read_or_else, form_fault, parts_said}
+use Rattle.topology_form.specs.File.{form_fault, parts_said}
 use Rattle.topology_form.specs.Format.{blank, file_of, operations, groupings, key_of, grouping_of, amount_of, amount_for, grouped_by, a_spout, an_operation, an_input, a_bolt, a_state, a_file}
-use Rattle.topology_form.specs.Ranges.{IsSpoutInRange, IsOperationInRange, IsGroupingInRange, IsInputInRange, HasAmount, IsComponentInRange, is_bolt, IsInRange}
+use Rattle.topology_form.specs.Ranges.{IsSpoutInRange, IsOperationInRange, IsGroupingInRange, HasAmount, IsComponentInRange, is_bolt, IsInRange}
 use Rattle.topology_form.proofs.Good.{IsOf, Makes, Reads, first, last, had, reads, object_of, chosen_makes, a_member, may_be, number_of, name_of, any_of, names_of, objects_of, constant_of}
 
 pub spout_of : IsOf IsSpoutInRange a_spout
@@ -65,7 +66,7 @@ grouping_reads =
     chosen_makes groupings word
     (had IsGroupingInRange tt, (key_reads, (had IsGroupingInRange tt, (had IsGroupingInRange tt, (had IsGroupingInRange tt, (had IsGroupingInRange tt, (had IsGroupingInRange tt, tt)))))))))
 
-pub input_of : IsOf IsInputInRange an_input
+pub input_of : IsOf (λ (input : Input). IsGroupingInRange input.grouping) an_input
 unfolding an_input
 input_of = object_of (first (a_member _ any_of) (λ from _. first grouping_reads (λ grouping is. last is)))
 
@@ -122,7 +123,7 @@ state_of =
       range = record {
         name = named;
         tasks = is;
-        groupings = all_grouped IsInputInRange key names (λ from. are.0);
+        groupings = all_grouped (λ (input : Input). IsGroupingInRange input.grouping) key names (λ from. are.0);
         body = (has, count_grouped key names _ _ some.0, are.0, all_grouped (λ (input : Input). input.grouping ≡ said.Fields key) key names (λ from. refl));
       };
       kind = refl;
@@ -157,7 +158,7 @@ file_in_range =
       attempts = t;
     }))))))))))
 
-said_in_range : (read : Result FileParts TopoFault) → IfOk read IsInRange → fault_in read ≡ None → IsInRange (read_or_else blank read)
+said_in_range : (read : Result FileParts TopoFault) → IfOk read IsInRange → result_err read ≡ None → IsInRange (result_unwrap_or read blank)
 said_in_range (Ok parts) good faultless = good
 said_in_range (Err fault) good faultless = absurd (none-some fault (sym faultless))
 

@@ -119,9 +119,7 @@ amount_of = do
 
 abbrev pub amount_for : Fold → Reader (Option (List ℕ))
 amount_for Count = done None
-amount_for Sum = amount_of
-amount_for Last = amount_of
-amount_for Max = amount_of
+amount_for _ = amount_of
 
 -- inputs from these sources, each grouped by the key
 abbrev pub grouped_by : List (List ℕ) → List (List ℕ) → List Input

@@ -17,7 +17,7 @@ pub use Rattle.topology_form.specs.declared.parts.Operation.{Operation}
 pub use Rattle.topology_form.specs.declared.parts.Operation.TheVariants.{Split, Project, Filter, Set, Len, Route, Flaky, Mute, Custom}
 pub use Rattle.topology_form.specs.declared.parts.SpoutPart.{SpoutPart}
 pub use Rattle.topology_form.specs.declared.parts.StatePart.{StatePart}
-pub use Rattle.topology_plan.specs.Texts.{is_name, is_letter, is_name_byte, begins_with_letter}
+pub use Rattle.topology_plan.specs.Texts.{is_name, is_name_byte, begins_with_letter}
 unfoldable pub use Rattle.topology_plan.specs.Texts.{IsName}
 pub use Rattle.topology_plan.specs.declared.parts.Fold.{Fold}
 pub use Rattle.topology_plan.specs.declared.parts.Fold.TheVariants.{Count, Sum, Last, Max}

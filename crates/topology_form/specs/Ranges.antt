@@ -20,19 +20,14 @@ IsOperationInRange (Project fields) = IsBetween (length fields) 1 most_fields ×
 IsOperationInRange (Filter field test value) = IsConstant value
 IsOperationInRange (Set field value) = IsConstant value
 IsOperationInRange (Len field into) = IsName into
-IsOperationInRange (Route field) = Unit {0}
 IsOperationInRange (Flaky below) = IsBetween below 1 most_below
 IsOperationInRange (Mute below) = IsBetween below 1 most_below
-IsOperationInRange Custom = Unit {0}
+IsOperationInRange _ = Unit {0}
 
 -- the names of a key
 abbrev pub IsGroupingInRange : GroupingPart → Type 0
 IsGroupingInRange (said.Fields key) = IsBetween (length key) 1 most_fields
 IsGroupingInRange _ = Unit {0}
-
--- the names of an input's key
-abbrev pub IsInputInRange : Input → Type 0
-IsInputInRange input = IsGroupingInRange input.grouping
 
 -- a count has no amount, and every other fold has one
 abbrev pub HasAmount : Fold → Option (List ℕ) → Type 0
@@ -52,7 +47,7 @@ IsBodyInRange (State state) inputs =
 pub record IsComponentInRange (part : ComponentPart) : Type 0 where
   pub name : IsName part.name
   pub tasks : IsBetween part.tasks 1 most_tasks
-  pub groupings : All IsInputInRange part.inputs
+  pub groupings : All (λ (input : Input). IsGroupingInRange input.grouping) part.inputs
   pub body : IsBodyInRange part.body part.inputs
 
 abbrev pub is_bolt : BodyPart → Bool

@@ -139,7 +139,7 @@ fn chooses(wiring: &Wiring<'_>, input: &Input) -> bool
     };
     matches!(
         wiring.sources().body_of(from),
-        Some(BodyPart::Bolt(Operation::Route { .. }))
+        Some(BodyPart::Bolt(Operation::Route(_)))
     )
 }
 
@@ -150,10 +150,10 @@ fn fields_read(body: &BodyPart) -> &[Txt]
         BodyPart::Bolt(Operation::Project(names)) => names.as_slice(),
         BodyPart::Bolt(
             Operation::Split { field, .. }
-            | Operation::Filter { field, .. }
-            | Operation::Set { field, .. }
+            | Operation::Filter(field, ..)
+            | Operation::Set(field, _)
             | Operation::Len { field, .. }
-            | Operation::Route { field },
+            | Operation::Route(field),
         ) => from_ref(field),
         BodyPart::Bolt(_) => &[],
         BodyPart::State(state) => state.key.as_slice(),

@@ -50,23 +50,23 @@ fn planned_operation(alloc: Global, fields: &[Txt], operation: &Operation) -> Re
             field: number_of(fields, field),
         }),
         Operation::Project(names) => Ok(Op::Project(numbers_of(alloc, fields, names.as_slice())?)),
-        Operation::Filter { field, test, value } => Ok(Op::Filter {
+        Operation::Filter(field, test, value) => Ok(Op::Filter {
             field: number_of(fields, field),
             test: *test,
             value: value.copy()?,
         }),
-        Operation::Set { field, value } => Ok(Op::Set {
+        Operation::Set(field, value) => Ok(Op::Set {
             field: number_of(fields, field),
             value: value.copy()?,
         }),
         Operation::Len { field, .. } => Ok(Op::Len {
             field: number_of(fields, field),
         }),
-        Operation::Route { field } => Ok(Op::Route {
+        Operation::Route(field) => Ok(Op::Route {
             field: number_of(fields, field),
         }),
-        Operation::Flaky { below } => Ok(Op::Flaky { below: *below }),
-        Operation::Mute { below } => Ok(Op::Mute { below: *below }),
+        Operation::Flaky(below) => Ok(Op::Flaky { below: *below }),
+        Operation::Mute(below) => Ok(Op::Mute { below: *below }),
         Operation::Custom => Ok(Op::Custom),
     }
 }
@@ -101,7 +101,7 @@ fn route_field(fields: &[Txt], body: &BodyPart) -> u32
     ensures { result ≡ route_field fields.now body.now }
 {
     match body {
-        BodyPart::Bolt(Operation::Route { field }) => number_of(fields, field),
+        BodyPart::Bolt(Operation::Route(field)) => number_of(fields, field),
         _ => 0,
     }
 }
