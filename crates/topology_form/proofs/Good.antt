@@ -85,7 +85,7 @@ may_be {A} {P} name default {form} fits good = reads_or P (Ok default) name form
 -- ---- forms
 
 within_by : {A : Type 0} (P : A → Type 0) (name : List ℕ) (least most n : ℕ) (next : Result A TopoFault) (test : Bool) → (int_le (pos least) (pos n) && int_le (pos n) (pos most)) ≡ test
-    → (IsBetween n least most → IfOk next P) → IfOk (if test then next else Err (OutOfRange name (pos n) least most)) P
+    → (IsBetween n least most → IfOk next P) → IfOk (option_map_or Err (if test then None else Some (OutOfRange name (pos n) least most)) next) P
 within_by P name least most n next true is good = good (grind (arith, nat_tests))
 within_by P name least most n next false is good = tt
 

@@ -8,7 +8,7 @@ use Rattle.std.proofs.lemmas.List.{length-map}
 use Rattle.std.proofs.lemmas.List.Elements.{All-nil, All-cons, All-append, All-weaker}
 use Rattle.std.proofs.lemmas.Option.{none-some}
 use Rattle.topology_form.specs.File.{form_fault, parts_said}
-use Rattle.topology_form.specs.Format.{blank, file_of, operations, groupings, key_of, grouping_of, amount_of, amount_for, grouped_by, a_spout, an_operation, an_input, a_bolt, a_state, a_file}
+use Rattle.topology_form.specs.Format.{blank, file_of, operations, groupings, grouping_of, amount_of, amount_for, grouped_by, a_spout, an_operation, an_input, a_bolt, a_state, a_file}
 use Rattle.topology_form.specs.Ranges.{IsSpoutInRange, IsOperationInRange, IsGroupingInRange, HasAmount, IsComponentInRange, is_bolt, IsInRange}
 use Rattle.topology_form.proofs.Good.{IsOf, Makes, Reads, first, last, had, reads, object_of, chosen_makes, a_member, may_be, number_of, name_of, any_of, names_of, objects_of, constant_of}
 
@@ -55,16 +55,12 @@ operation_of =
       ),
     )))
 
-key_reads : Makes (λ x. IsGroupingInRange x.0) key_of
-unfolding key_of
-key_reads = first (a_member _ names_of) (λ key are. had IsGroupingInRange are.0)
-
 grouping_reads : Reads IsGroupingInRange grouping_of
 unfolding grouping_of
 grouping_reads =
     reads (first (a_member _ any_of) (λ word _.
     chosen_makes groupings word
-    (had IsGroupingInRange tt, (key_reads, (had IsGroupingInRange tt, (had IsGroupingInRange tt, (had IsGroupingInRange tt, (had IsGroupingInRange tt, (had IsGroupingInRange tt, tt)))))))))
+    (had IsGroupingInRange tt, (first (a_member _ names_of) (λ key are. had IsGroupingInRange are.0), (had IsGroupingInRange tt, (had IsGroupingInRange tt, (had IsGroupingInRange tt, (had IsGroupingInRange tt, (had IsGroupingInRange tt, tt)))))))))
 
 pub input_of : IsOf (λ (input : Input). IsGroupingInRange input.grouping) an_input
 unfolding an_input

@@ -1,8 +1,6 @@
 -- What the objects of a topology file say. This project's own.
 use Rattle.std.specs.Prelude.{ℕ, List, [], ◌∷◌, map, Option, Some, None, Result, codes}
-use Rattle.topology_form.specs.Prelude.{Data, Members, most_fields, most_batch, most_below, most_tasks, most_bolt_inputs, most_state_inputs, most_bolts, most_states, most_ackers, most_pending, least_buckets, most_buckets, most_attempts, Value, TopoFault, FileParts, Fold, Count, Sum, Last, Max, GroupingPart, Input, Operation, Split, Project, Filter, Set, Len, Route, Flaky, Mute, Custom, SpoutPart, ComponentPart, Bolt, State}
-use Rattle.topology_plan.specs.declared.parts.Kind.TheVariants.{Transactional, Opaque}
-use Rattle.topology_plan.specs.declared.parts.Kind.{Kind}
+use Rattle.topology_form.specs.Prelude.{Data, Members, most_fields, most_batch, most_below, most_tasks, most_bolt_inputs, most_state_inputs, most_bolts, most_states, most_ackers, most_pending, least_buckets, most_buckets, most_attempts, Value, TopoFault, FileParts, Fold, Count, Sum, Last, Max, GroupingPart, Input, Operation, Split, Project, Filter, Set, Len, Route, Flaky, Mute, Custom, SpoutPart, ComponentPart, Bolt, State, Kind, Transactional, Opaque}
 use Rattle.topology_plan.specs.declared.parts.Test.{Test}
 use Rattle.topology_plan.specs.declared.parts.Test.TheVariants.{Eq, Ne, Lt}
 use Rattle.topology_form.specs.declared.parts.GroupingPart.TheVariants as said
@@ -67,17 +65,14 @@ an_operation = an_object (do
   word ← required (codes "do") a_text
   chosen operations word)
 
--- the key that grouping by fields has
-unfoldable pub key_of : Reader GroupingPart
-key_of = do
-  key ← required (codes "key") (some_names 1 most_fields)
-  done (said.Fields key)
+abbrev pub a_key : Reader (List (List ℕ))
+a_key = required (codes "key") (some_names 1 most_fields)
 
 -- each word of `grouping`, and what the file says of the grouping by the other members
 abbrev pub groupings : List (List ℕ × Reader GroupingPart)
 groupings =
     (codes "shuffle", done said.Shuffle)
-    ∷ (codes "fields", key_of)
+    ∷ (codes "fields", do key ← a_key; done (said.Fields key))
     ∷ (codes "all", done said.All)
     ∷ (codes "global", done said.Global)
     ∷ (codes "direct", done said.Direct)
@@ -131,7 +126,7 @@ a_state = an_object (do
   name ← required (codes "name") a_name
   kind ← required (codes "kind") (a_word kinds)
   tasks ← required (codes "parts") (a_number 1 most_tasks)
-  key ← required (codes "key") (some_names 1 most_fields)
+  key ← a_key
   fold ← required (codes "fold") (a_word folds)
   amount ← amount_for fold
   names ← required (codes "inputs") (some_names 1 most_state_inputs)

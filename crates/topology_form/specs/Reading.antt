@@ -24,6 +24,11 @@ abbrev pub Takes : {A : Type 0} → Result A TopoFault → Members → Result (A
 Takes (Ok x) rest read = read ≡ Ok (x, rest)
 Takes (Err fault) rest read = fault ≢ Memory → read ≡ Err fault
 
+-- a check passes where there is no fault, and otherwise answers it, unless memory ran out
+abbrev pub Checks : {A : Type 0} → Result A TopoFault → Option TopoFault → Type 0
+Checks (Ok x) fault = fault ≡ None
+Checks (Err told) fault = told ≢ Memory → fault ≡ Some told
+
 -- ---- forms
 
 -- what is read from a member with this name and value
@@ -42,11 +47,15 @@ abbrev pub of_kind : {A B : Type 0} → List ℕ → Option A → (A → Result 
 of_kind name None next = Err (WrongKind name)
 of_kind name (Some x) next = next x
 
--- a number or a length that has to be in a range, and what follows
+-- a number or a length that is out of its range
+abbrev pub range_fault : List ℕ → ℕ → ℕ → ℤ → Option TopoFault
+range_fault name least most found =
+    if int_le (pos least) found && int_le found (pos most) then None
+    else Some (OutOfRange name found least most)
+
+-- one that has to be in its range, and what follows
 abbrev pub within : {A : Type 0} → List ℕ → ℕ → ℕ → ℤ → Result A TopoFault → Result A TopoFault
-within name least most found next =
-    if int_le (pos least) found && int_le found (pos most) then next
-    else Err (OutOfRange name found least most)
+within name least most found next = option_map_or Err (range_fault name least most found) next
 
 -- a number in this range
 abbrev pub a_number : ℕ → ℕ → Form ℕ

@@ -70,7 +70,10 @@ impl TopoFault {
             TopoFault::FieldsDiffer(component) => {
                 format!(in alloc; "fields differ at {}", shown(alloc, component)?)
             }
-            TopoFault::NoField(component, field) => no_field(alloc, component, field),
+            TopoFault::NoField(component, field) => {
+                let field = shown(alloc, field)?;
+                format!(in alloc; "no field {field} at {}", shown(alloc, component)?)
+            }
             TopoFault::NotExactlyOnce(state) => {
                 format!(in alloc; "not exactly once {}", shown(alloc, state)?)
             }
@@ -94,15 +97,6 @@ fn ranged(alloc: Global, name: &Txt, found: i64, least: u32, most: u32) -> Resul
 {
     let name = shown(alloc, name)?;
     format!(in alloc; "{name} is {found}, not from {least} to {most}")
-}
-
-fn no_field(alloc: Global, component: &Txt, field: &Txt) -> Result<String, Memory>
-    ensures { IfOk result
-        (λ made. string_bytes made ≡ fault_text (TopoFault.NoField component.now field.now)) }
-{
-    let field = shown(alloc, field)?;
-    let component = shown(alloc, component)?;
-    format!(in alloc; "no field {field} at {component}")
 }
 
 fn too_heavy(alloc: Global, weight: u64, most: u64) -> Result<String, Memory>

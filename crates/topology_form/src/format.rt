@@ -4,7 +4,7 @@
 ghost use Rattle.std.specs.Prelude.{◌≡◌, ◌≢◌, Some, None, IfOk, IfErr};
 ghost use Rattle.topology_form.specs.Prelude.{Data, view};
 ghost use Rattle.topology_form.specs.File.{form_fault, parts_said};
-ghost use Rattle.topology_form.specs.Format.{a_spout, an_operation, key_of, grouping_of, an_input, a_bolt, amount_for, grouped_by, a_state, a_file};
+ghost use Rattle.topology_form.specs.Format.{a_spout, an_operation, grouping_of, an_input, a_bolt, amount_for, grouped_by, a_state, a_file};
 ghost use Rattle.topology_form.specs.Ranges.{IsInRange};
 ghost use Rattle.topology_form.specs.Reading.{Takes, left_in};
 
@@ -47,7 +47,6 @@ const KINDS: [(&str, Kind); 2] = [
 
 const FIELDS: SomeNames = SomeNames(1, MOST_FIELDS);
 
-#[derive(Drop)]
 struct Spout;
 
 impl Form for Spout {
@@ -59,10 +58,10 @@ impl Form for Spout {
     fn read(&self, alloc: Global, name: &str, value: Json) -> Result<SpoutPart, TopoFault> {
         let mut object = Object::from_value(alloc, name, value)?;
         let spout = SpoutPart {
-            name: object.required("name", Name)?,
-            kind: object.required("kind", Word(&KINDS))?,
-            fields: object.required("fields", FIELDS)?,
-            batch: object.required("batch", Number(1, MOST_BATCH))?,
+            name: object.required("name", &Name)?,
+            kind: object.required("kind", &Word(&KINDS))?,
+            fields: object.required("fields", &FIELDS)?,
+            batch: object.required("batch", &Number(1, MOST_BATCH))?,
         };
         ends(spout, object)
     }
@@ -72,7 +71,6 @@ const TESTS: [(&str, Test); 3] = [("eq", Test::Eq), ("ne", Test::Ne), ("lt", Tes
 
 const BELOW: Number = Number(1, MOST_BELOW);
 
-#[derive(Drop)]
 struct BoltOperation;
 
 impl Form for BoltOperation {
@@ -83,57 +81,50 @@ impl Form for BoltOperation {
     #[tactic(auto, unfolding(crate::specs::Format::an_operation))]
     fn read(&self, alloc: Global, name: &str, value: Json) -> Result<Operation, TopoFault> {
         let mut object = Object::from_value(alloc, name, value)?;
-        let word = object.required("do", Text)?;
+        let word = object.required("do", &Text)?;
         match word.as_str() {
             "split" => {
-                let field = object.required("field", Name)?;
-                let into = object.required("as", Name)?;
+                let field = object.required("field", &Name)?;
+                let into = object.required("as", &Name)?;
                 ends(Operation::Split { field, into }, object)
             }
             "project" => ends(
-                Operation::Project(object.required("fields", FIELDS)?),
+                Operation::Project(object.required("fields", &FIELDS)?),
                 object,
             ),
             "filter" => {
-                let field = object.required("field", Name)?;
-                let test = object.required("test", Word(&TESTS))?;
-                let value = object.required("value", Constant)?;
+                let field = object.required("field", &Name)?;
+                let test = object.required("test", &Word(&TESTS))?;
+                let value = object.required("value", &Constant)?;
                 ends(Operation::Filter(field, test, value), object)
             }
             "set" => {
-                let field = object.required("field", Name)?;
-                let value = object.required("value", Constant)?;
+                let field = object.required("field", &Name)?;
+                let value = object.required("value", &Constant)?;
                 ends(Operation::Set(field, value), object)
             }
             "len" => {
-                let field = object.required("field", Name)?;
-                let into = object.required("as", Name)?;
+                let field = object.required("field", &Name)?;
+                let into = object.required("as", &Name)?;
                 ends(Operation::Len { field, into }, object)
             }
-            "route" => ends(Operation::Route(object.required("field", Name)?), object),
-            "flaky" => ends(Operation::Flaky(object.required("below", BELOW)?), object),
-            "mute" => ends(Operation::Mute(object.required("below", BELOW)?), object),
+            "route" => ends(Operation::Route(object.required("field", &Name)?), object),
+            "flaky" => ends(Operation::Flaky(object.required("below", &BELOW)?), object),
+            "mute" => ends(Operation::Mute(object.required("below", &BELOW)?), object),
             "custom" => ends(Operation::Custom, object),
             _ => Err(TopoFault::UnknownName(word)),
         }
     }
 }
 
-#[tactic(auto, unfolding(crate::specs::Format::key_of))]
-fn key_from(object: &mut Object) -> Result<GroupingPart, TopoFault>
-    ensures { Takes result (left_in object.new) (key_of (left_in object.old)) }
-{
-    Ok(GroupingPart::Fields(object.required("key", FIELDS)?))
-}
-
 #[tactic(auto, unfolding(crate::specs::Format::grouping_of))]
 fn grouping_from(object: &mut Object) -> Result<GroupingPart, TopoFault>
     ensures { Takes result (left_in object.new) (grouping_of (left_in object.old)) }
 {
-    let word = object.required("grouping", Text)?;
+    let word = object.required("grouping", &Text)?;
     match word.as_str() {
         "shuffle" | "none" | "local_or_shuffle" => Ok(GroupingPart::Shuffle),
-        "fields" => key_from(object),
+        "fields" => Ok(GroupingPart::Fields(object.required("key", &FIELDS)?)),
         "all" => Ok(GroupingPart::All),
         "global" => Ok(GroupingPart::Global),
         "direct" => Ok(GroupingPart::Direct),
@@ -141,7 +132,6 @@ fn grouping_from(object: &mut Object) -> Result<GroupingPart, TopoFault>
     }
 }
 
-#[derive(Drop)]
 struct BoltInput;
 
 impl Form for BoltInput {
@@ -153,14 +143,13 @@ impl Form for BoltInput {
     fn read(&self, alloc: Global, name: &str, value: Json) -> Result<Input, TopoFault> {
         let mut object = Object::from_value(alloc, name, value)?;
         let input = Input {
-            from: object.required("from", Name)?,
+            from: object.required("from", &Name)?,
             grouping: grouping_from(&mut object)?,
         };
         ends(input, object)
     }
 }
 
-#[derive(Drop)]
 struct Bolt;
 
 impl Form for Bolt {
@@ -172,10 +161,10 @@ impl Form for Bolt {
     fn read(&self, alloc: Global, name: &str, value: Json) -> Result<ComponentPart, TopoFault> {
         let mut object = Object::from_value(alloc, name, value)?;
         let bolt = ComponentPart {
-            name: object.required("name", Name)?,
-            tasks: object.required("tasks", Number(1, MOST_TASKS))?,
-            body: BodyPart::Bolt(object.required("op", BoltOperation)?),
-            inputs: object.required("inputs", SomeObjects(1, MOST_BOLT_INPUTS, BoltInput))?,
+            name: object.required("name", &Name)?,
+            tasks: object.required("tasks", &Number(1, MOST_TASKS))?,
+            body: BodyPart::Bolt(object.required("op", &BoltOperation)?),
+            inputs: object.required("inputs", &SomeObjects(1, MOST_BOLT_INPUTS, BoltInput))?,
         };
         ends(bolt, object)
     }
@@ -194,7 +183,7 @@ fn amount_from(object: &mut Object, fold: Fold) -> Result<Option<Txt>, TopoFault
 {
     match fold {
         Fold::Count => Ok(None),
-        Fold::Sum | Fold::Last | Fold::Max => Ok(Some(object.required("amount", Name)?)),
+        Fold::Sum | Fold::Last | Fold::Max => Ok(Some(object.required("amount", &Name)?)),
     }
 }
 
@@ -209,7 +198,6 @@ fn grouped_by(alloc: Global, key: &Names, names: Names) -> Result<Seq<Input>, Me
     Ok(inputs)
 }
 
-#[derive(Drop)]
 struct State;
 
 impl Form for State {
@@ -220,13 +208,13 @@ impl Form for State {
     #[tactic(auto, unfolding(crate::specs::Format::a_state))]
     fn read(&self, alloc: Global, name: &str, value: Json) -> Result<ComponentPart, TopoFault> {
         let mut object = Object::from_value(alloc, name, value)?;
-        let name = object.required("name", Name)?;
-        let kind = object.required("kind", Word(&KINDS))?;
-        let tasks = object.required("parts", Number(1, MOST_TASKS))?;
-        let key = object.required("key", FIELDS)?;
-        let fold = object.required("fold", Word(&FOLDS))?;
+        let name = object.required("name", &Name)?;
+        let kind = object.required("kind", &Word(&KINDS))?;
+        let tasks = object.required("parts", &Number(1, MOST_TASKS))?;
+        let key = object.required("key", &FIELDS)?;
+        let fold = object.required("fold", &Word(&FOLDS))?;
         let amount = amount_from(&mut object, fold)?;
-        let names = object.required("inputs", SomeNames(1, MOST_STATE_INPUTS))?;
+        let names = object.required("inputs", &SomeNames(1, MOST_STATE_INPUTS))?;
         let state = ComponentPart {
             name,
             tasks,
@@ -242,7 +230,6 @@ impl Form for State {
     }
 }
 
-#[derive(Drop)]
 struct File;
 
 impl Form for File {
@@ -253,15 +240,15 @@ impl Form for File {
     #[tactic(auto, unfolding(crate::specs::Format::a_file))]
     fn read(&self, alloc: Global, name: &str, value: Json) -> Result<FileParts, TopoFault> {
         let mut object = Object::from_value(alloc, name, value)?;
-        object.required("version", Number(1, 1))?;
+        object.required("version", &Number(1, 1))?;
         let file = FileParts {
-            spout: object.required("spout", Spout)?,
-            bolts: object.required("bolts", SomeObjects(0, MOST_BOLTS, Bolt))?,
-            states: object.required("states", SomeObjects(1, MOST_STATES, State))?,
-            ackers: object.optional("ackers", 1, Number(1, MOST_ACKERS))?,
-            pending: object.optional("pending", 1, Number(1, MOST_PENDING))?,
-            buckets: object.optional("buckets", 3, Number(LEAST_BUCKETS, MOST_BUCKETS))?,
-            attempts: object.optional("attempts", 10, Number(1, MOST_ATTEMPTS))?,
+            spout: object.required("spout", &Spout)?,
+            bolts: object.required("bolts", &SomeObjects(0, MOST_BOLTS, Bolt))?,
+            states: object.required("states", &SomeObjects(1, MOST_STATES, State))?,
+            ackers: object.optional("ackers", 1, &Number(1, MOST_ACKERS))?,
+            pending: object.optional("pending", 1, &Number(1, MOST_PENDING))?,
+            buckets: object.optional("buckets", 3, &Number(LEAST_BUCKETS, MOST_BUCKETS))?,
+            attempts: object.optional("attempts", 10, &Number(1, MOST_ATTEMPTS))?,
         };
         ends(file, object)
     }

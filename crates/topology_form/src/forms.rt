@@ -1,9 +1,9 @@
 //! The forms of members: what a value says, if it is of its form. Texts are moved.
 
-ghost use Rattle.std.specs.Prelude.{◌≡◌, ◌≢◌, ℕ, List, pos, Result, Ok, Err};
+ghost use Rattle.std.specs.Prelude.{◌≡◌, ◌≢◌, ℕ, List, pos, Result};
 ghost use Rattle.std.specs.List.{list_all};
 ghost use Rattle.topology_form.specs.Prelude.{Data, view, items_view, is_name, is_name_byte, begins_with_letter, TopoFault, WrongKind, Memory, items_len};
-ghost use Rattle.topology_form.specs.Reading.{Gives, a_number, a_text, a_name, a_word, some_names, some_objects, a_constant, each, found_in, within, pairs_of};
+ghost use Rattle.topology_form.specs.Reading.{Gives, Checks, a_number, a_text, a_name, a_word, some_names, some_objects, a_constant, each, found_in, range_fault, pairs_of};
 
 use crate::fault::TopoFault;
 use serde_json::Value as Json;
@@ -11,7 +11,7 @@ use std::alloc::Global;
 use storm_values::{MOST_CONSTANT_BYTES, MOST_NAME_BYTES, Names, Seq, Txt, Value};
 
 /// A form of a member's value, and what is read from it.
-pub trait Form: Drop {
+pub trait Form {
     type Part: Drop;
 
     ghost form: { Self → List ℕ → Data → Result Self.Part TopoFault };
@@ -29,8 +29,9 @@ pub(crate) fn wrong_kind(alloc: Global, name: &str) -> TopoFault
     }
 }
 
-fn within(alloc: Global, name: &str, found: i64, least: u32, most: u32) -> Result<(), TopoFault>
-    ensures { Gives result (within name.now least most found (Ok tt)) }
+/// Checks that a number or a length is in its range.
+pub fn within(alloc: Global, name: &str, found: i64, least: u32, most: u32) -> Result<(), TopoFault>
+    ensures { Checks result (range_fault name.now least most found) }
 {
     if i64::from(least) <= found && found <= i64::from(most) {
         return Ok(());
@@ -40,7 +41,6 @@ fn within(alloc: Global, name: &str, found: i64, least: u32, most: u32) -> Resul
 }
 
 /// A number from the least to the most.
-#[derive(Drop)]
 pub struct Number(pub u32, pub u32);
 
 impl Form for Number {
@@ -57,7 +57,6 @@ impl Form for Number {
     }
 }
 
-#[derive(Drop)]
 pub struct Text;
 
 impl Form for Text {
@@ -73,7 +72,6 @@ impl Form for Text {
     }
 }
 
-#[derive(Drop)]
 pub struct Name;
 
 impl Form for Name {
@@ -119,7 +117,6 @@ fn is_name_byte(byte: u8) -> bool
 }
 
 /// Names, this many at least and at most.
-#[derive(Drop)]
 pub struct SomeNames(pub u32, pub u32);
 
 impl Form for SomeNames {
@@ -153,13 +150,12 @@ fn each<F: Form>(
 }
 
 /// Objects of a form, this many at least and at most.
-#[derive(Drop)]
 pub struct SomeObjects<F>(pub u32, pub u32, pub F);
 
 impl<F: Form> SomeObjects<F> {
     fn check_count(&self, alloc: Global, name: &str, items: &Vec<Json>) -> Result<(), TopoFault>
-        ensures { Gives result (within name.now self.now.0 self.now.1
-            (pos (items_len (items_view items.now.items))) (Ok tt)) }
+        ensures { Checks result (range_fault name.now self.now.0 self.now.1
+            (pos (items_len (items_view items.now.items)))) }
     {
         within(alloc, name, items.len() as i64, self.0, self.1)
     }
@@ -180,7 +176,6 @@ impl<F: Form> Form for SomeObjects<F> {
 }
 
 /// A number, or a text that is not too long.
-#[derive(Drop)]
 pub struct Constant;
 
 impl Form for Constant {
@@ -204,7 +199,6 @@ impl Form for Constant {
 }
 
 /// One of the words of a table.
-#[derive(Drop)]
 pub struct Word<'w, T>(pub &'w [(&'w str, T)]);
 
 impl<'w, T: Copy> Form for Word<'w, T> {

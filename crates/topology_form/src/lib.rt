@@ -10,6 +10,7 @@ mod parts;
 
 pub use fault::TopoFault;
 pub use format::{files_are_in_range, parts_from};
+pub use forms::within;
 pub use parts::{
     BodyPart, ComponentPart, FileParts, GroupingPart, Input, Operation, SpoutPart, StatePart,
 };

@@ -37,9 +37,9 @@ impl Object {
     }
 
     /// What a member says that has to be there.
-    pub fn required<F: Form>(&mut self, name: &str, form: F) -> Result<F::Part, TopoFault>
+    pub fn required<F: Form>(&mut self, name: &str, form: &F) -> Result<F::Part, TopoFault>
         ensures { Takes result (left_in self.new)
-            (required name.now (F.form form) (left_in self.old)) }
+            (required name.now (F.form form.now) (left_in self.old)) }
     {
         match self.take(name) {
             Some(value) => form.read(self.alloc, name, value),
@@ -51,10 +51,10 @@ impl Object {
         &mut self,
         name: &str,
         default: F::Part,
-        form: F,
+        form: &F,
     ) -> Result<F::Part, TopoFault>
         ensures { Takes result (left_in self.new)
-            (optional name.now default (F.form form) (left_in self.old)) }
+            (optional name.now default (F.form form.now) (left_in self.old)) }
     {
         match self.take(name) {
             Some(value) => form.read(self.alloc, name, value),
