@@ -13,20 +13,11 @@ use storm_values::{Duplicate, Indexes, Memory, Txt};
 use topology_form::{BodyPart, ComponentPart, GroupingPart, Input, Operation};
 use topology_plan::{Body, Component, Grouping, Op, Origin, StateSpec, Sub};
 
-fn place_of(fields: &[Txt], name: &Txt) -> Option<usize>
-    ensures value { result ≡ place_of fields.now name.now }
-    ensures within { IfSome result (λ place. place < length fields.now) }
-{
-    fields
-        .iter()
-        .position(|field| field.as_str() == name.as_str())
-}
-
 fn number_of(fields: &[Txt], name: &Txt) -> u32
     requires { length fields.now < 2 ^ 32 }
     ensures { result ≡ number_of fields.now name.now }
 {
-    match place_of(fields, name) {
+    match fields.iter().position(|one| one.as_str() == name.as_str()) {
         Some(place) => place as u32,
         None => 0,
     }
@@ -105,11 +96,7 @@ fn route_field(fields: &[Txt], body: &BodyPart) -> u32
     }
 }
 
-fn planned_grouping(
-    wiring: &Wiring<'_>,
-    from: Origin,
-    said: &GroupingPart,
-) -> Result<Grouping, Memory>
+fn grouping_of(wiring: &Wiring<'_>, from: Origin, said: &GroupingPart) -> Result<Grouping, Memory>
     ensures { IfOk result (λ grouping. grouping ≡ planned_grouping wiring.now from said.now) }
 {
     match said {
@@ -172,7 +159,7 @@ fn add_inputs(
 {
     for input in inputs {
         if let Some(from) = wiring.sources().source_of(&input.from) {
-            let grouping = planned_grouping(wiring, from, &input.grouping)?;
+            let grouping = grouping_of(wiring, from, &input.grouping)?;
             add_sub(subs, from, Sub { to, grouping })?;
         }
     }

@@ -186,13 +186,10 @@ impl<'p> Along<Names> for FieldsLeft<'p> {
     ghost rule = { λ s. fields_rule s.sources.now };
 
     fn over(&self, c: usize, feeds: &[Feed], known: &[Option<Names>]) -> Result<Names, Memory> {
+        let alloc = self.sources.alloc();
         match self.sources.component_at(c) {
-            Some(part) => fields_after(
-                self.sources.alloc(),
-                &part.body,
-                self.of_first(feeds, known),
-            ),
-            None => Ok(Names::new(self.sources.alloc())),
+            Some(part) => fields_after(alloc, &part.body, self.of_first(feeds, known)),
+            None => Ok(Names::new(alloc)),
         }
     }
 }
