@@ -13,7 +13,6 @@ use Rattle.topology_form.specs.Ranges.{IsSpoutInRange, IsOperationInRange, IsGro
 use Rattle.topology_form.proofs.Good.{IsOf, Makes, Reads, first, last, had, reads, object_of, chosen_makes, a_member, may_be, number_of, name_of, any_of, names_of, objects_of, constant_of}
 
 pub spout_of : IsOf IsSpoutInRange a_spout
-unfolding a_spout
 spout_of =
     object_of
     (first (a_member _ name_of) (λ name named.
@@ -25,7 +24,6 @@ spout_of =
 -- ---- bolts
 
 pub operation_of : IsOf IsOperationInRange an_operation
-unfolding an_operation
 operation_of =
     object_of
     (first (a_member _ any_of) (λ word _.
@@ -56,14 +54,12 @@ operation_of =
     )))
 
 grouping_reads : Reads IsGroupingInRange grouping_of
-unfolding grouping_of
 grouping_reads =
     reads (first (a_member _ any_of) (λ word _.
     chosen_makes groupings word
     (had IsGroupingInRange tt, (first (a_member _ names_of) (λ key are. had IsGroupingInRange are.0), (had IsGroupingInRange tt, (had IsGroupingInRange tt, (had IsGroupingInRange tt, (had IsGroupingInRange tt, (had IsGroupingInRange tt, tt)))))))))
 
 pub input_of : IsOf (λ (input : Input). IsGroupingInRange input.grouping) an_input
-unfolding an_input
 input_of = object_of (first (a_member _ any_of) (λ from _. first grouping_reads (λ grouping is. last is)))
 
 -- a component in range that is a bolt, or a state
@@ -72,7 +68,6 @@ pub record IsOfKind (bolt : Bool) (part : ComponentPart) : Type 0 where
   pub kind : is_bolt part.body ≡ bolt
 
 pub bolt_of : IsOf (IsOfKind true) a_bolt
-unfolding a_bolt
 bolt_of =
     object_of
     (first (a_member _ name_of) (λ name named.
@@ -86,7 +81,6 @@ bolt_of =
 -- the amount that a fold has
 
 named_amount : Makes (λ x. IsSome x.0) amount_of
-unfolding amount_of
 named_amount = first (a_member _ any_of) (λ amount _. had _ refl)
 
 amount_reads : (fold : Fold) → Reads (HasAmount fold) (amount_for fold)
@@ -105,7 +99,6 @@ count_grouped key names least most is =
     subst (λ n. IsBetween n least most) (sym same) is
 
 pub state_of : IsOf (IsOfKind false) a_state
-unfolding a_state
 state_of =
     object_of
     (first (a_member _ name_of) (λ name named.
@@ -128,7 +121,6 @@ state_of =
 -- ---- the file
 
 file_in_range : IsOf IsInRange a_file
-unfolding a_file
 file_in_range =
     object_of
     (first (a_member _ any_of) (λ version _.

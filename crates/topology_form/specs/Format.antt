@@ -10,7 +10,7 @@ abbrev pub kinds : List (List ℕ × Kind)
 kinds = (codes "transactional", Transactional) ∷ (codes "opaque", Opaque) ∷ []
 
 -- the spout
-unfoldable pub a_spout : Form SpoutPart
+abbrev pub a_spout : Form SpoutPart
 a_spout = an_object (do
   name ← required (codes "name") a_name
   kind ← required (codes "kind") (a_word kinds)
@@ -60,7 +60,7 @@ operations =
     ∷ (codes "custom", ends Custom)
     ∷ []
 
-unfoldable pub an_operation : Form Operation
+abbrev pub an_operation : Form Operation
 an_operation = an_object (do
   word ← required (codes "do") a_text
   chosen operations word)
@@ -80,20 +80,20 @@ groupings =
     ∷ (codes "local_or_shuffle", done said.Shuffle)
     ∷ []
 
-unfoldable pub grouping_of : Reader GroupingPart
+abbrev pub grouping_of : Reader GroupingPart
 grouping_of = do
   word ← required (codes "grouping") a_text
   chosen groupings word
 
 -- an input of a bolt
-unfoldable pub an_input : Form Input
+abbrev pub an_input : Form Input
 an_input = an_object (do
   from ← required (codes "from") a_name
   grouping ← grouping_of
   ends (record { from = from; grouping = grouping }))
 
 -- a bolt
-unfoldable pub a_bolt : Form ComponentPart
+abbrev pub a_bolt : Form ComponentPart
 a_bolt = an_object (do
   name ← required (codes "name") a_name
   tasks ← required (codes "tasks") (a_number 1 most_tasks)
@@ -107,7 +107,7 @@ abbrev pub folds : List (List ℕ × Fold)
 folds = (codes "count", Count) ∷ (codes "sum", Sum) ∷ (codes "last", Last) ∷ (codes "max", Max) ∷ []
 
 -- the amount that every fold but a count has
-unfoldable pub amount_of : Reader (Option (List ℕ))
+abbrev pub amount_of : Reader (Option (List ℕ))
 amount_of = do
   amount ← required (codes "amount") a_name
   done (Some amount)
@@ -121,7 +121,7 @@ abbrev pub grouped_by : List (List ℕ) → List (List ℕ) → List Input
 grouped_by key names = map (λ from. record { from = from; grouping = said.Fields key }) names
 
 -- a state
-unfoldable pub a_state : Form ComponentPart
+abbrev pub a_state : Form ComponentPart
 a_state = an_object (do
   name ← required (codes "name") a_name
   kind ← required (codes "kind") (a_word kinds)
@@ -139,7 +139,7 @@ a_state = an_object (do
 
 -- ---- the file
 
-unfoldable pub a_file : Form FileParts
+abbrev pub a_file : Form FileParts
 a_file = an_object (do
   version ← required (codes "version") (a_number 1 1)
   spout ← required (codes "spout") a_spout

@@ -54,7 +54,6 @@ impl Form for Spout {
 
     ghost form = { λ _. a_spout };
 
-    #[tactic(auto, unfolding(crate::specs::Format::a_spout))]
     fn read(&self, alloc: Global, name: &str, value: Json) -> Result<SpoutPart, TopoFault> {
         let mut object = Object::from_value(alloc, name, value)?;
         let spout = SpoutPart {
@@ -78,7 +77,6 @@ impl Form for BoltOperation {
 
     ghost form = { λ _. an_operation };
 
-    #[tactic(auto, unfolding(crate::specs::Format::an_operation))]
     fn read(&self, alloc: Global, name: &str, value: Json) -> Result<Operation, TopoFault> {
         let mut object = Object::from_value(alloc, name, value)?;
         let word = object.required("do", &Text)?;
@@ -117,7 +115,6 @@ impl Form for BoltOperation {
     }
 }
 
-#[tactic(auto, unfolding(crate::specs::Format::grouping_of))]
 fn grouping_from(object: &mut Object) -> Result<GroupingPart, TopoFault>
     ensures { Takes result (left_in object.new) (grouping_of (left_in object.old)) }
 {
@@ -139,7 +136,6 @@ impl Form for BoltInput {
 
     ghost form = { λ _. an_input };
 
-    #[tactic(auto, unfolding(crate::specs::Format::an_input))]
     fn read(&self, alloc: Global, name: &str, value: Json) -> Result<Input, TopoFault> {
         let mut object = Object::from_value(alloc, name, value)?;
         let input = Input {
@@ -157,7 +153,6 @@ impl Form for Bolt {
 
     ghost form = { λ _. a_bolt };
 
-    #[tactic(auto, unfolding(crate::specs::Format::a_bolt))]
     fn read(&self, alloc: Global, name: &str, value: Json) -> Result<ComponentPart, TopoFault> {
         let mut object = Object::from_value(alloc, name, value)?;
         let bolt = ComponentPart {
@@ -177,7 +172,6 @@ const FOLDS: [(&str, Fold); 4] = [
     ("max", Fold::Max),
 ];
 
-#[tactic(auto, unfolding(crate::specs::Format::amount_of))]
 fn amount_from(object: &mut Object, fold: Fold) -> Result<Option<Txt>, TopoFault>
     ensures { Takes result (left_in object.new) (amount_for fold (left_in object.old)) }
 {
@@ -205,7 +199,6 @@ impl Form for State {
 
     ghost form = { λ _. a_state };
 
-    #[tactic(auto, unfolding(crate::specs::Format::a_state))]
     fn read(&self, alloc: Global, name: &str, value: Json) -> Result<ComponentPart, TopoFault> {
         let mut object = Object::from_value(alloc, name, value)?;
         let name = object.required("name", &Name)?;
@@ -237,7 +230,6 @@ impl Form for File {
 
     ghost form = { λ _. a_file };
 
-    #[tactic(auto, unfolding(crate::specs::Format::a_file))]
     fn read(&self, alloc: Global, name: &str, value: Json) -> Result<FileParts, TopoFault> {
         let mut object = Object::from_value(alloc, name, value)?;
         object.required("version", &Number(1, 1))?;
