@@ -66,8 +66,8 @@ pub fn numbers_by<R: Along<u64>>(alloc: Global, rule: &R, graph: &Graph) -> Resu
     Ok(numbers)
 }
 
-/// The greatest number, or 0 where there is none. Of the depths it is the most subscriptions between
-/// the spout and a component.
+/// The greatest number, or 0 where there is none. Of the depths it is the most subscriptions from
+/// the spout to a component.
 pub fn greatest(numbers: &[u64]) -> u64
     ensures { result ≡ greatest numbers.now }
 {
