@@ -1,15 +1,16 @@
 -- What holds of whatever is read, by how it is read.
-use Rattle.std.proofs.Common.{◌≡◌, ℕ, ◌&&◌, ℤ, pos, negsuc, List, [], ◌∷◌, length, All, Bool, true, false, int_le, if◌then◌else◌, Option, Some, None, option_and_then, Result, Ok, Err, IfOk, suc, refl, ap, sym, subst, arith}
+use Rattle.std.proofs.Common.{◌≡◌, ℕ, ◌&&◌, ℤ, pos, negsuc, List, [], ◌∷◌, length, All, Bool, true, false, int_le, if◌then◌else◌, Option, Some, None, option_and_then, unsigned_abs, Result, Ok, Err, IfOk, suc, refl, ap, sym, subst, arith}
 use Rattle.std.proofs.lemmas.Bool.Decides.{nat_tests}
 use Rattle.std.proofs.lemmas.List.Elements.{All-nil, All-cons}
 use Rattle.std.specs.List.{AllByRecursion}
+use Rattle.std.specs.Option.{option_map_or}
 use Rattle.std.specs.Str.{bytes_eq}
-use Rattle.topology_form.specs.Prelude.{Data, Items, no_items, item, Members, no_members, member, is_name, IsName, TopoFault, WrongKind, OutOfRange, get_member, as_str, as_number, as_array, as_object, as_i64, items_len, Value}
+use Rattle.topology_form.specs.Prelude.{Data, Items, no_items, item, Members, no_members, member, is_name, IsName, TopoFault, Missing, WrongKind, OutOfRange, get_member, as_str, as_number, as_array, as_object, as_i64, items_len, Value}
 use Rattle.storm_values.specs.Json.{value_of}
 use Rattle.storm_values.specs.declared.value.Value.TheVariants.{Int, Text}
 use Rattle.topology_plan.specs.Valid.{IsBetween}
 use Rattle.topology_plan.specs.Wired.{IsConstant}
-use Rattle.topology_form.specs.Reading.{Form, Reader, of_kind, natural, within, with_others, each, counted, some_names, some_objects, a_number, a_name, short, a_constant, an_object, and_then, ◌>>=◌, done, ends, without, beside, read_member, read_or, required, optional, chosen}
+use Rattle.topology_form.specs.Reading.{Form, Reader, of_kind, within, each, some_names, some_objects, a_number, a_name, short, a_constant, an_object, and_then, ◌>>=◌, done, ends, without, read_or, required, optional, found_in, chosen}
 
 -- P holds of what is read by the form
 pub record IsOf {A : Type 0} (P : A → Type 0) (form : Form A) : Type 0 where
@@ -25,14 +26,13 @@ pub record Reads {A : Type 0} (P : A → Type 0) (reader : Reader A) : Type 0 wh
 
 -- ---- steps
 
-and_then_makes : {A C : Type 0} (P : A → Type 0) (Q : C → Type 0) (read : Result (A × Members) TopoFault) (next : A → Members → Result C TopoFault)
-    → IfOk read (λ x. P x.0) → ((x : A) → P x → Makes Q (next x)) → IfOk (and_then read next) Q
-and_then_makes P Q (Ok x) next good later = (later x.0 good).holds x.1
-and_then_makes P Q (Err fault) next good later = tt
+after : {A C : Type 0} (P : A → Type 0) (Q : C → Type 0) (read : Result A TopoFault) (next : A → Result C TopoFault) → IfOk read P → ((x : A) → P x → IfOk (next x) Q) → IfOk (and_then read next) Q
+after P Q (Ok x) next good later = later x good
+after P Q (Err fault) next good later = tt
 
 pub first : {A C : Type 0} {P : A → Type 0} {Q : C → Type 0} {reader : Reader A} {next : A → Members → Result C TopoFault}
     → Reads P reader → ((x : A) → P x → Makes Q (next x)) → Makes Q (reader >>= next)
-first {A} {C} {P} {Q} {reader} {next} good later = record { holds = λ object. and_then_makes P Q (reader object) next (good.holds object) later }
+first {A} {C} {P} {Q} {reader} {next} good later = record { holds = λ object. after (λ x. P x.0) Q (reader object) (λ read. next read.0 read.1) (good.holds object) (λ x holds. (later x.0 holds).holds x.1) }
 
 ended : {A : Type 0} (P : A → Type 0) (x : A) → P x → (object : Members) → IfOk (ends x object) P
 ended P x good no_members = good
@@ -58,51 +58,46 @@ either : {C : Type 0} (P : C → Type 0) (test : Bool) (a b : Result C TopoFault
 either P true a b x y = x
 either P false a b x y = y
 
-chosen_holds : {C : Type 0} (P : C → Type 0) (table : List (List ℕ × (Members → Result C TopoFault))) → AllByRecursion (λ pair. Makes P pair.1) table → (word : List ℕ) (object : Members) → IfOk (chosen table word object) P
-chosen_holds P [] good word object = tt
-chosen_holds P (pair ∷ pairs) good word object = either P (bytes_eq word pair.0) (pair.1 object) (chosen pairs word object) (good.0.holds object) (chosen_holds P pairs good.1 word object)
+in_table : {C : Type 0} (P : C → Type 0) (table : List (List ℕ × (Members → Result C TopoFault))) → AllByRecursion (λ pair. Makes P pair.1) table → (word : List ℕ) → IfOk (found_in table word) (Makes P)
+in_table P [] good word = tt
+in_table P (pair ∷ pairs) good word = either (Makes P) (bytes_eq word pair.0) (Ok pair.1) (found_in pairs word) good.0 (in_table P pairs good.1 word)
 
 pub chosen_makes : {C : Type 0} {P : C → Type 0} (table : List (List ℕ × (Members → Result C TopoFault))) (word : List ℕ) → AllByRecursion (λ pair. Makes P pair.1) table → Makes P (chosen table word)
-chosen_makes {C} {P} table word good = record { holds = λ object. chosen_holds P table good word object }
+chosen_makes {C} {P} table word good = record { holds = λ object. after (Makes P) P (found_in table word) (λ next. next object) (in_table P table good word) (λ next makes. makes.holds object) }
 
 -- ---- members
 
-beside_reads : {A : Type 0} (P : A → Type 0) (rest : Members) (read : Result A TopoFault) → IfOk read P → IfOk (beside rest read) (λ x. P x.0)
-beside_reads P rest (Ok x) good = good
-beside_reads P rest (Err fault) good = tt
+member_or : {A : Type 0} (P : A → Type 0) (other : Result A TopoFault) (name : List ℕ) (form : Form A) → IfOk other P → IsOf P form → (found : Option Data) → IfOk (option_map_or (form name) found other) P
+member_or P other name form fits good None = fits
+member_or P other name form fits good (Some value) = good.holds name value
 
-member_of : {A : Type 0} (P : A → Type 0) (name : List ℕ) (form : Form A) → IsOf P form → (found : Option Data) → IfOk (read_member name form found) P
-member_of P name form good None = tt
-member_of P name form good (Some value) = good.holds name value
+reads_or : {A : Type 0} (P : A → Type 0) (other : Result A TopoFault) (name : List ℕ) (form : Form A) → IfOk other P → IsOf P form → Reads P (read_or other name form)
+reads_or P other name form fits good = record { holds = λ object. after P (λ x. P x.0) _ (λ read. Ok (read, without name object)) (member_or P other name form fits good (get_member name object)) (λ x holds. holds) }
 
 pub a_member : {A : Type 0} {P : A → Type 0} (name : List ℕ) {form : Form A} → IsOf P form → Reads P (required name form)
 unfolding required
-a_member {A} {P} name {form} good = record { holds = λ object. beside_reads P (without name object) _ (member_of P name form good (get_member name object)) }
-
-member_or : {A : Type 0} (P : A → Type 0) (name : List ℕ) (default : A) (form : Form A) → P default → IsOf P form → (found : Option Data) → IfOk (read_or name default form found) P
-member_or P name default form fits good None = fits
-member_or P name default form fits good (Some value) = good.holds name value
+a_member {A} {P} name {form} good = reads_or P (Err (Missing name)) name form tt good
 
 pub may_be : {A : Type 0} {P : A → Type 0} (name : List ℕ) (default : A) {form : Form A} → P default → IsOf P form → Reads P (optional name default form)
 unfolding optional
-may_be {A} {P} name default {form} fits good = record { holds = λ object. beside_reads P (without name object) _ (member_or P name default form fits good (get_member name object)) }
+may_be {A} {P} name default {form} fits good = reads_or P (Ok default) name form fits good
 
 -- ---- forms
 
 within_by : {A : Type 0} (P : A → Type 0) (name : List ℕ) (least most n : ℕ) (next : Result A TopoFault) (test : Bool) → (int_le (pos least) (pos n) && int_le (pos n) (pos most)) ≡ test
-    → (IsBetween n least most → IfOk next P) → IfOk (if test then next else Err (OutOfRange name (pos n) least most)) P
+    → (IsBetween n least most → IfOk next P) → IfOk (option_map_or Err (if test then None else Some (OutOfRange name (pos n) least most)) next) P
 within_by P name least most n next true is good = good (grind (arith, nat_tests))
 within_by P name least most n next false is good = tt
 
 within_makes : {A : Type 0} (P : A → Type 0) (name : List ℕ) (least most n : ℕ) (next : Result A TopoFault) → (IsBetween n least most → IfOk next P) → IfOk (within name least most (pos n) next) P
 within_makes P name least most n next good = within_by P name least most n next (int_le (pos least) (pos n) && int_le (pos n) (pos most)) refl good
 
-number_found : (name : List ℕ) (least most : ℕ) (found : ℤ) → IfOk (within name least most found (Ok (natural found))) (λ n. IsBetween n least most)
+number_found : (name : List ℕ) (least most : ℕ) (found : ℤ) → IfOk (within name least most found (Ok (unsigned_abs found))) (λ n. IsBetween n least most)
 number_found name least most (pos n) = within_makes (λ n. IsBetween n least most) name least most n (Ok n) (λ is. is)
 number_found name least most (negsuc n) = tt
 
 pub number_of : {least most : ℕ} → IsOf (λ n. IsBetween n least most) (a_number least most)
-number_of {least} {most} = record { holds = λ name value. of_kind_makes (λ n. IsBetween n least most) name (option_and_then as_i64 (as_number value)) (λ found. within name least most found (Ok (natural found))) (number_found name least most) }
+number_of {least} {most} = record { holds = λ name value. of_kind_makes (λ n. IsBetween n least most) name (option_and_then as_i64 (as_number value)) (λ found. within name least most found (Ok (unsigned_abs found))) (number_found name least most) }
 
 tested : (name text : List ℕ) (fault : TopoFault) (test : Bool) → (is_name text ≡ test) → IfOk (if test then Ok text else Err fault) IsName
 unfolding IsName
@@ -125,7 +120,7 @@ pub record AreRead {A : Type 0} (P : A → Type 0) (n : ℕ) (xs : List A) : Typ
   pub count : length xs ≡ n
   pub each : All P xs
 
-others_read : {A : Type 0} (P : A → Type 0) (count : ℕ) (first : Result A TopoFault) (others : Result (List A) TopoFault) → IfOk first P → IfOk others (AreRead P count) → IfOk (with_others first others) (AreRead P (suc count))
+others_read : {A : Type 0} (P : A → Type 0) (count : ℕ) (first : Result A TopoFault) (others : Result (List A) TopoFault) → IfOk first P → IfOk others (AreRead P count) → IfOk (and_then first (λ x. and_then others (λ xs. Ok (x ∷ xs)))) (AreRead P (suc count))
 others_read P count (Ok x) (Ok xs) here later = record { count = ap suc later.count; each = All-cons P x xs here later.each }
 others_read P count (Ok x) (Err fault) here later = tt
 others_read P count (Err fault) others here later = tt
@@ -138,12 +133,12 @@ each_read P form good name (item value items) = others_read P (items_len items) 
 abbrev pub AreSome : {A : Type 0} → (A → Type 0) → ℕ → ℕ → List A → Type 0
 AreSome P least most xs = IsBetween (length xs) least most × All P xs
 
-counted_makes : {A : Type 0} (P : A → Type 0) (name : List ℕ) (least most count : ℕ) (read : Result (List A) TopoFault) → IfOk read (AreRead P count) → IfOk (counted name least most read) (AreSome P least most)
-counted_makes P name least most count (Ok xs) good = within_makes (AreSome P least most) name least most (length xs) (Ok xs) (λ is. (is, good.each))
-counted_makes P name least most count (Err fault) good = tt
-
 pub names_of : {least most : ℕ} → IsOf (AreSome IsName least most) (some_names least most)
-names_of {least} {most} = record { holds = λ name value. of_kind_makes (AreSome IsName least most) name (as_array value) (λ items. counted name least most (each a_name name items)) (λ items. counted_makes IsName name least most (items_len items) (each a_name name items) (each_read IsName a_name name_of name items)) }
+names_of {least} {most} = record {
+  holds = λ name value. of_kind_makes (AreSome IsName least most) name (as_array value) (λ items. and_then (each a_name name items) (λ names. within name least most (pos (length names)) (Ok names)))
+      (λ items. after (AreRead IsName (items_len items)) (AreSome IsName least most) (each a_name name items) (λ names. within name least most (pos (length names)) (Ok names)) (each_read IsName a_name name_of name items)
+      (λ names good. within_makes (AreSome IsName least most) name least most (length names) (Ok names) (λ is. (is, good.each))));
+}
 
 so_many : {A : Type 0} (P : A → Type 0) (least most count : ℕ) (read : Result (List A) TopoFault) → IfOk read (AreRead P count) → IsBetween count least most → IfOk read (AreSome P least most)
 so_many P least most count (Ok xs) good is = (subst (λ n. IsBetween n least most) (sym good.count) is, good.each)

@@ -3,16 +3,16 @@ use Rattle.topology_form.specs.Prelude.{Data, TopoFault, FileParts, Fold, Count,
 use Rattle.topology_form.specs.declared.parts.GroupingPart.TheVariants as said
 use Rattle.topology_plan.specs.Valid.{IsBetween}
 use Rattle.std.proofs.Common.{◌≡◌, ℕ, List, [], ◌∷◌, length, All, Bool, true, false, subst, codes, None, IsSome, Result, Ok, Err, IfOk, refl, sym, lit≤}
+use Rattle.std.specs.Result.{result_err, result_unwrap_or}
 use Rattle.std.proofs.lemmas.List.{length-map}
 use Rattle.std.proofs.lemmas.List.Elements.{All-nil, All-cons, All-append, All-weaker}
 use Rattle.std.proofs.lemmas.Option.{none-some}
-use Rattle.topology_form.specs.File.{fault_in, read_or_else, form_fault, parts_said}
-use Rattle.topology_form.specs.Format.{blank, file_of, operations, groupings, key_of, grouping_of, amount_of, amount_for, grouped_by, a_spout, an_operation, an_input, a_bolt, a_state, a_file}
-use Rattle.topology_form.specs.Ranges.{IsSpoutInRange, IsOperationInRange, IsGroupingInRange, IsInputInRange, HasAmount, IsComponentInRange, is_bolt, IsInRange}
+use Rattle.topology_form.specs.File.{form_fault, parts_said}
+use Rattle.topology_form.specs.Format.{blank, file_of, operations, groupings, grouping_of, amount_of, amount_for, grouped_by, a_spout, an_operation, an_input, a_bolt, a_state, a_file}
+use Rattle.topology_form.specs.Ranges.{IsSpoutInRange, IsOperationInRange, IsGroupingInRange, HasAmount, IsComponentInRange, is_bolt, IsInRange}
 use Rattle.topology_form.proofs.Good.{IsOf, Makes, Reads, first, last, had, reads, object_of, chosen_makes, a_member, may_be, number_of, name_of, any_of, names_of, objects_of, constant_of}
 
 pub spout_of : IsOf IsSpoutInRange a_spout
-unfolding a_spout
 spout_of =
     object_of
     (first (a_member _ name_of) (λ name named.
@@ -24,7 +24,6 @@ spout_of =
 -- ---- bolts
 
 pub operation_of : IsOf IsOperationInRange an_operation
-unfolding an_operation
 operation_of =
     object_of
     (first (a_member _ any_of) (λ word _.
@@ -54,19 +53,13 @@ operation_of =
       ),
     )))
 
-key_reads : Makes (λ x. IsGroupingInRange x.0) key_of
-unfolding key_of
-key_reads = first (a_member _ names_of) (λ key are. had IsGroupingInRange are.0)
-
 grouping_reads : Reads IsGroupingInRange grouping_of
-unfolding grouping_of
 grouping_reads =
     reads (first (a_member _ any_of) (λ word _.
     chosen_makes groupings word
-    (had IsGroupingInRange tt, (key_reads, (had IsGroupingInRange tt, (had IsGroupingInRange tt, (had IsGroupingInRange tt, (had IsGroupingInRange tt, (had IsGroupingInRange tt, tt)))))))))
+    (had IsGroupingInRange tt, (first (a_member _ names_of) (λ key are. had IsGroupingInRange are.0), (had IsGroupingInRange tt, (had IsGroupingInRange tt, (had IsGroupingInRange tt, (had IsGroupingInRange tt, (had IsGroupingInRange tt, tt)))))))))
 
-pub input_of : IsOf IsInputInRange an_input
-unfolding an_input
+pub input_of : IsOf (λ (input : Input). IsGroupingInRange input.grouping) an_input
 input_of = object_of (first (a_member _ any_of) (λ from _. first grouping_reads (λ grouping is. last is)))
 
 -- a component in range that is a bolt, or a state
@@ -75,7 +68,6 @@ pub record IsOfKind (bolt : Bool) (part : ComponentPart) : Type 0 where
   pub kind : is_bolt part.body ≡ bolt
 
 pub bolt_of : IsOf (IsOfKind true) a_bolt
-unfolding a_bolt
 bolt_of =
     object_of
     (first (a_member _ name_of) (λ name named.
@@ -89,7 +81,6 @@ bolt_of =
 -- the amount that a fold has
 
 named_amount : Makes (λ x. IsSome x.0) amount_of
-unfolding amount_of
 named_amount = first (a_member _ any_of) (λ amount _. had _ refl)
 
 amount_reads : (fold : Fold) → Reads (HasAmount fold) (amount_for fold)
@@ -108,7 +99,6 @@ count_grouped key names least most is =
     subst (λ n. IsBetween n least most) (sym same) is
 
 pub state_of : IsOf (IsOfKind false) a_state
-unfolding a_state
 state_of =
     object_of
     (first (a_member _ name_of) (λ name named.
@@ -122,7 +112,7 @@ state_of =
       range = record {
         name = named;
         tasks = is;
-        groupings = all_grouped IsInputInRange key names (λ from. are.0);
+        groupings = all_grouped (λ (input : Input). IsGroupingInRange input.grouping) key names (λ from. are.0);
         body = (has, count_grouped key names _ _ some.0, are.0, all_grouped (λ (input : Input). input.grouping ≡ said.Fields key) key names (λ from. refl));
       };
       kind = refl;
@@ -131,7 +121,6 @@ state_of =
 -- ---- the file
 
 file_in_range : IsOf IsInRange a_file
-unfolding a_file
 file_in_range =
     object_of
     (first (a_member _ any_of) (λ version _.
@@ -157,7 +146,7 @@ file_in_range =
       attempts = t;
     }))))))))))
 
-said_in_range : (read : Result FileParts TopoFault) → IfOk read IsInRange → fault_in read ≡ None → IsInRange (read_or_else blank read)
+said_in_range : (read : Result FileParts TopoFault) → IfOk read IsInRange → result_err read ≡ None → IsInRange (result_unwrap_or read blank)
 said_in_range (Ok parts) good faultless = good
 said_in_range (Err fault) good faultless = absurd (none-some fault (sym faultless))
 

@@ -1,8 +1,6 @@
 -- What the objects of a topology file say. This project's own.
 use Rattle.std.specs.Prelude.{ℕ, List, [], ◌∷◌, map, Option, Some, None, Result, codes}
-use Rattle.topology_form.specs.Prelude.{Data, Members, most_fields, most_batch, most_below, most_tasks, most_bolt_inputs, most_state_inputs, most_bolts, most_states, most_ackers, most_pending, least_buckets, most_buckets, most_attempts, Value, TopoFault, FileParts, Fold, Count, Sum, Last, Max, GroupingPart, Input, Operation, Split, Project, Filter, Set, Len, Route, Flaky, Mute, Custom, SpoutPart, ComponentPart, Bolt, State}
-use Rattle.topology_plan.specs.declared.parts.Kind.TheVariants.{Transactional, Opaque}
-use Rattle.topology_plan.specs.declared.parts.Kind.{Kind}
+use Rattle.topology_form.specs.Prelude.{Data, Members, most_fields, most_batch, most_below, most_tasks, most_bolt_inputs, most_state_inputs, most_bolts, most_states, most_ackers, most_pending, least_buckets, most_buckets, most_attempts, Value, TopoFault, FileParts, Fold, Count, Sum, Last, Max, GroupingPart, Input, Operation, Split, Project, Filter, Set, Len, Route, Flaky, Mute, Custom, SpoutPart, ComponentPart, Bolt, State, Kind, Transactional, Opaque}
 use Rattle.topology_plan.specs.declared.parts.Test.{Test}
 use Rattle.topology_plan.specs.declared.parts.Test.TheVariants.{Eq, Ne, Lt}
 use Rattle.topology_form.specs.declared.parts.GroupingPart.TheVariants as said
@@ -12,7 +10,7 @@ abbrev pub kinds : List (List ℕ × Kind)
 kinds = (codes "transactional", Transactional) ∷ (codes "opaque", Opaque) ∷ []
 
 -- the spout
-unfoldable pub a_spout : Form SpoutPart
+abbrev pub a_spout : Form SpoutPart
 a_spout = an_object (do
   name ← required (codes "name") a_name
   kind ← required (codes "kind") (a_word kinds)
@@ -62,22 +60,19 @@ operations =
     ∷ (codes "custom", ends Custom)
     ∷ []
 
-unfoldable pub an_operation : Form Operation
+abbrev pub an_operation : Form Operation
 an_operation = an_object (do
   word ← required (codes "do") a_text
   chosen operations word)
 
--- the key that grouping by fields has
-unfoldable pub key_of : Reader GroupingPart
-key_of = do
-  key ← required (codes "key") (some_names 1 most_fields)
-  done (said.Fields key)
+abbrev pub a_key : Reader (List (List ℕ))
+a_key = required (codes "key") (some_names 1 most_fields)
 
 -- each word of `grouping`, and what the file says of the grouping by the other members
 abbrev pub groupings : List (List ℕ × Reader GroupingPart)
 groupings =
     (codes "shuffle", done said.Shuffle)
-    ∷ (codes "fields", key_of)
+    ∷ (codes "fields", do key ← a_key; done (said.Fields key))
     ∷ (codes "all", done said.All)
     ∷ (codes "global", done said.Global)
     ∷ (codes "direct", done said.Direct)
@@ -85,20 +80,20 @@ groupings =
     ∷ (codes "local_or_shuffle", done said.Shuffle)
     ∷ []
 
-unfoldable pub grouping_of : Reader GroupingPart
+abbrev pub grouping_of : Reader GroupingPart
 grouping_of = do
   word ← required (codes "grouping") a_text
   chosen groupings word
 
 -- an input of a bolt
-unfoldable pub an_input : Form Input
+abbrev pub an_input : Form Input
 an_input = an_object (do
   from ← required (codes "from") a_name
   grouping ← grouping_of
   ends (record { from = from; grouping = grouping }))
 
 -- a bolt
-unfoldable pub a_bolt : Form ComponentPart
+abbrev pub a_bolt : Form ComponentPart
 a_bolt = an_object (do
   name ← required (codes "name") a_name
   tasks ← required (codes "tasks") (a_number 1 most_tasks)
@@ -112,28 +107,26 @@ abbrev pub folds : List (List ℕ × Fold)
 folds = (codes "count", Count) ∷ (codes "sum", Sum) ∷ (codes "last", Last) ∷ (codes "max", Max) ∷ []
 
 -- the amount that every fold but a count has
-unfoldable pub amount_of : Reader (Option (List ℕ))
+abbrev pub amount_of : Reader (Option (List ℕ))
 amount_of = do
   amount ← required (codes "amount") a_name
   done (Some amount)
 
 abbrev pub amount_for : Fold → Reader (Option (List ℕ))
 amount_for Count = done None
-amount_for Sum = amount_of
-amount_for Last = amount_of
-amount_for Max = amount_of
+amount_for _ = amount_of
 
 -- inputs from these sources, each grouped by the key
 abbrev pub grouped_by : List (List ℕ) → List (List ℕ) → List Input
 grouped_by key names = map (λ from. record { from = from; grouping = said.Fields key }) names
 
 -- a state
-unfoldable pub a_state : Form ComponentPart
+abbrev pub a_state : Form ComponentPart
 a_state = an_object (do
   name ← required (codes "name") a_name
   kind ← required (codes "kind") (a_word kinds)
   tasks ← required (codes "parts") (a_number 1 most_tasks)
-  key ← required (codes "key") (some_names 1 most_fields)
+  key ← a_key
   fold ← required (codes "fold") (a_word folds)
   amount ← amount_for fold
   names ← required (codes "inputs") (some_names 1 most_state_inputs)
@@ -146,7 +139,7 @@ a_state = an_object (do
 
 -- ---- the file
 
-unfoldable pub a_file : Form FileParts
+abbrev pub a_file : Form FileParts
 a_file = an_object (do
   version ← required (codes "version") (a_number 1 1)
   spout ← required (codes "spout") a_spout

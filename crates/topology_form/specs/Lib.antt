@@ -4,4 +4,3 @@ pub mod Ranges
 pub mod Faults
 pub mod Format
 pub mod Reading
-pub mod Left

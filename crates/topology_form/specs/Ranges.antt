@@ -1,7 +1,7 @@
 -- How large the numbers and the lists are of what a file says, and what its names are, where it has
 -- no fault of form. This project's own.
 use Rattle.std.specs.Prelude.{◌≡◌, ◌≤◌, ℕ, List, ◌++◌, length, Bool, true, false, Option, None, IsSome, All}
-use Rattle.topology_form.specs.Prelude.{most_fields, most_batch, most_below, most_tasks, most_bolt_inputs, most_state_inputs, most_bolts, most_states, most_ackers, most_pending, least_buckets, most_buckets, most_attempts, FileParts, IsName, Fold, Count, GroupingPart, Input, Operation, Split, Project, Filter, Set, Len, Route, Flaky, Mute, Custom, SpoutPart, BodyPart, Bolt, State, ComponentPart}
+use Rattle.topology_form.specs.Prelude.{most_fields, most_batch, most_below, most_tasks, most_bolt_inputs, most_state_inputs, most_bolts, most_states, most_ackers, most_pending, least_buckets, most_buckets, most_attempts, FileParts, IsName, Fold, Count, GroupingPart, Input, Operation, Split, Project, Filter, Set, Len, Flaky, Mute, SpoutPart, BodyPart, Bolt, State, ComponentPart}
 use Rattle.topology_form.specs.declared.parts.GroupingPart.TheVariants as said
 use Rattle.topology_plan.specs.Valid.{IsBetween}
 use Rattle.topology_plan.specs.Wired.{IsConstant}
@@ -20,19 +20,14 @@ IsOperationInRange (Project fields) = IsBetween (length fields) 1 most_fields ×
 IsOperationInRange (Filter field test value) = IsConstant value
 IsOperationInRange (Set field value) = IsConstant value
 IsOperationInRange (Len field into) = IsName into
-IsOperationInRange (Route field) = Unit {0}
 IsOperationInRange (Flaky below) = IsBetween below 1 most_below
 IsOperationInRange (Mute below) = IsBetween below 1 most_below
-IsOperationInRange Custom = Unit {0}
+IsOperationInRange _ = Unit {0}
 
 -- the names of a key
 abbrev pub IsGroupingInRange : GroupingPart → Type 0
 IsGroupingInRange (said.Fields key) = IsBetween (length key) 1 most_fields
 IsGroupingInRange _ = Unit {0}
-
--- the names of an input's key
-abbrev pub IsInputInRange : Input → Type 0
-IsInputInRange input = IsGroupingInRange input.grouping
 
 -- a count has no amount, and every other fold has one
 abbrev pub HasAmount : Fold → Option (List ℕ) → Type 0
@@ -52,7 +47,7 @@ IsBodyInRange (State state) inputs =
 pub record IsComponentInRange (part : ComponentPart) : Type 0 where
   pub name : IsName part.name
   pub tasks : IsBetween part.tasks 1 most_tasks
-  pub groupings : All IsInputInRange part.inputs
+  pub groupings : All (λ (input : Input). IsGroupingInRange input.grouping) part.inputs
   pub body : IsBodyInRange part.body part.inputs
 
 abbrev pub is_bolt : BodyPart → Bool

@@ -1,30 +1,33 @@
 -- How the members of an object are read, one after the other, and the first fault among
 -- them. This project's own.
-use Rattle.std.specs.Prelude.{◌≡◌, ◌≢◌, ℕ, ◌&&◌, ℤ, pos, negsuc, List, [], ◌∷◌, length, int_le, if◌then◌else◌, Option, Some, None, option_and_then, map, Result, Ok, Err}
+use Rattle.std.specs.Prelude.{◌≡◌, ◌≢◌, ℕ, ◌&&◌, ℤ, pos, List, [], ◌∷◌, length, int_le, unsigned_abs, if◌then◌else◌, Option, Some, None, option_and_then, map, Result, Ok, Err}
 use Rattle.std.specs.Borrow.{Bor}
 use Rattle.std.specs.Ordering.{nat_cmp, is_eq}
 use Rattle.std.specs.Cmp.Lexicographic.{slice_cmp}
+use Rattle.std.specs.Option.{option_map_or}
 use Rattle.std.specs.Str.{bytes_eq}
-use Rattle.topology_form.specs.Prelude.{Data, Items, no_items, item, Members, no_members, member, is_name, TopoFault, Missing, WrongKind, UnknownName, OutOfRange, Memory, get_member, as_str, as_number, as_array, as_object, as_i64, items_len, Value}
+use Rattle.topology_form.specs.Prelude.{Data, Items, no_items, item, Members, no_members, member, is_name, TopoFault, Missing, WrongKind, UnknownName, OutOfRange, Memory, get_member, as_str, as_number, as_array, as_object, as_i64, items_len, Value, members_view}
+use Rattle.topology_form.specs.declared.object.Object.{Object}
 use Rattle.storm_values.specs.Json.{value_of}
 use Rattle.storm_values.specs.declared.value.Value.TheVariants.{Int, Text}
 
 -- ---- what a function gives
 
--- a fault other than want of memory is the one that the reading has
-abbrev pub Fails : {A : Type 0} → TopoFault → Result A TopoFault → Type 0
-Fails fault read = fault ≢ Memory → read ≡ Err fault
-
--- a function gives what the reading gives, unless memory ran out
+-- a function gives what the reading gives: a fault is that of the reading, unless memory ran out
 abbrev pub Gives : {A : Type 0} → Result A TopoFault → Result A TopoFault → Type 0
 Gives (Ok x) read = read ≡ Ok x
-Gives (Err fault) read = Fails fault read
+Gives (Err fault) read = fault ≢ Memory → read ≡ Err fault
 
 -- the same, and these members are left
 abbrev pub Takes : {A : Type 0} → Result A TopoFault → Members → Result (A × Members) TopoFault
     → Type 0
 Takes (Ok x) rest read = read ≡ Ok (x, rest)
-Takes (Err fault) rest read = Fails fault read
+Takes (Err fault) rest read = fault ≢ Memory → read ≡ Err fault
+
+-- a check passes where there is no fault, and otherwise answers it, unless memory ran out
+abbrev pub Checks : {A : Type 0} → Result A TopoFault → Option TopoFault → Type 0
+Checks (Ok x) fault = fault ≡ None
+Checks (Err told) fault = told ≢ Memory → fault ≡ Some told
 
 -- ---- forms
 
@@ -32,28 +35,33 @@ Takes (Err fault) rest read = Fails fault read
 abbrev pub Form : Type 0 → Type 0
 Form A = List ℕ → Data → Result A TopoFault
 
+-- what follows what was read, if it has no fault
+abbrev pub and_then : {A B : Type 0} → Result A TopoFault → (A → Result B TopoFault)
+    → Result B TopoFault
+and_then (Ok x) next = next x
+and_then (Err fault) next = Err fault
+
 -- of the wrong kind, or what follows
 abbrev pub of_kind : {A B : Type 0} → List ℕ → Option A → (A → Result B TopoFault)
     → Result B TopoFault
 of_kind name None next = Err (WrongKind name)
 of_kind name (Some x) next = next x
 
--- a number that is not negative, or 0
-abbrev pub natural : ℤ → ℕ
-natural (pos n) = n
-natural (negsuc n) = 0
+-- a number or a length that is out of its range
+abbrev pub range_fault : List ℕ → ℕ → ℕ → ℤ → Option TopoFault
+range_fault name least most found =
+    if int_le (pos least) found && int_le found (pos most) then None
+    else Some (OutOfRange name found least most)
 
--- a number or a length that has to be in a range, and what follows
+-- one that has to be in its range, and what follows
 abbrev pub within : {A : Type 0} → List ℕ → ℕ → ℕ → ℤ → Result A TopoFault → Result A TopoFault
-within name least most found next =
-    if int_le (pos least) found && int_le found (pos most) then next
-    else Err (OutOfRange name found least most)
+within name least most found next = option_map_or Err (range_fault name least most found) next
 
 -- a number in this range
 abbrev pub a_number : ℕ → ℕ → Form ℕ
 a_number least most name value =
     of_kind name (option_and_then as_i64 (as_number value))
-    (λ n. within name least most n (Ok (natural n)))
+    (λ n. within name least most n (Ok (unsigned_abs n)))
 
 -- a text
 abbrev pub a_text : Form (List ℕ)
@@ -64,29 +72,19 @@ abbrev pub a_name : Form (List ℕ)
 a_name name value =
     of_kind name (as_str value) (λ text. if is_name text then Ok text else Err (WrongKind name))
 
-abbrev pub followed_by : {A : Type 0} → A → Result (List A) TopoFault → Result (List A) TopoFault
-followed_by first (Ok others) = Ok (first ∷ others)
-followed_by first (Err fault) = Err fault
-
-abbrev pub with_others : {A : Type 0} → Result A TopoFault → Result (List A) TopoFault
-    → Result (List A) TopoFault
-with_others (Ok first) others = followed_by first others
-with_others (Err fault) others = Err fault
-
 -- each item of an array by a form, up to the first fault
 abbrev pub each : {A : Type 0} → Form A → List ℕ → Items → Result (List A) TopoFault
 each form name no_items = Ok []
-each form name (item value items) = with_others (form name value) (each form name items)
+each form name (item value items) =
+    and_then (form name value)
+    (λ first. and_then (each form name items) (λ others. Ok (first ∷ others)))
 
 -- an array of names, this many: the form of all items comes before their number
-abbrev pub counted : {A : Type 0} → List ℕ → ℕ → ℕ → Result (List A) TopoFault
-    → Result (List A) TopoFault
-counted name least most (Ok items) = within name least most (pos (length items)) (Ok items)
-counted name least most (Err fault) = Err fault
-
 abbrev pub some_names : ℕ → ℕ → Form (List (List ℕ))
 some_names least most name value =
-    of_kind name (as_array value) (λ items. counted name least most (each a_name name items))
+    of_kind name (as_array value)
+    (λ items. and_then (each a_name name items)
+    (λ names. within name least most (pos (length names)) (Ok names)))
 
 -- a number, or a text of at most 256 bytes
 abbrev pub short : List ℕ → Value → Result Value TopoFault
@@ -121,15 +119,10 @@ a_word words name value = of_kind name (as_str value) (found_in words)
 abbrev pub Reader : Type 0 → Type 0
 Reader A = Members → Result (A × Members) TopoFault
 
-abbrev pub and_then : {A C : Type 0} → Result (A × Members) TopoFault
-    → (A → Members → Result C TopoFault) → Result C TopoFault
-and_then (Ok x) next = next x.0 x.1
-and_then (Err fault) next = Err fault
-
 infixl 10 ◌>>=◌
 abbrev pub ◌>>=◌ : {A C : Type 0} → Reader A → (A → Members → Result C TopoFault) → Members
     → Result C TopoFault
-(first >>= next) object = and_then (first object) next
+(first >>= next) object = and_then (first object) (λ read. next read.0 read.1)
 
 -- what was read, and the members that are left
 abbrev pub done : {A : Type 0} → A → Reader A
@@ -140,6 +133,10 @@ abbrev pub ends : {A : Type 0} → A → Members → Result A TopoFault
 ends x no_members = Ok x
 ends x (member name value rest) = Err (UnknownName name)
 
+-- the members that an object still has
+abbrev pub left_in : Object → Members
+left_in object = members_view object.members.entries
+
 -- the members without the one of this name
 abbrev pub without : List ℕ → Members → Members
 without name no_members = no_members
@@ -147,34 +144,24 @@ without name (member other value members) =
     if is_eq (slice_cmp nat_cmp name other) then members
     else member other value (without name members)
 
-abbrev pub beside : {A : Type 0} → Members → Result A TopoFault → Result (A × Members) TopoFault
-beside rest (Ok x) = Ok (x, rest)
-beside rest (Err fault) = Err fault
-
-abbrev pub read_member : {A : Type 0} → List ℕ → Form A → Option Data → Result A TopoFault
-read_member name form None = Err (Missing name)
-read_member name form (Some value) = form name value
+-- what the member of a name says by its form, or this where there is none, and the other members
+abbrev pub read_or : {A : Type 0} → Result A TopoFault → List ℕ → Form A → Reader A
+read_or other name form object =
+    and_then (option_map_or (form name) (get_member name object) other)
+    (λ read. Ok (read, without name object))
 
 -- a member that has to be there
 unfoldable pub required : {A : Type 0} → List ℕ → Form A → Reader A
-required name form object =
-    beside (without name object) (read_member name form (get_member name object))
-
-abbrev pub read_or : {A : Type 0} → List ℕ → A → Form A → Option Data → Result A TopoFault
-read_or name default form None = Ok default
-read_or name default form (Some value) = form name value
+required name form = read_or (Err (Missing name)) name form
 
 -- a member that may be absent
 unfoldable pub optional : {A : Type 0} → List ℕ → A → Form A → Reader A
-optional name default form object =
-    beside (without name object) (read_or name default form (get_member name object))
+optional name default form = read_or (Ok default) name form
 
 -- what follows a word by a table
 abbrev pub chosen : {C : Type 0} → List (List ℕ × (Members → Result C TopoFault)) → List ℕ → Members
     → Result C TopoFault
-chosen [] word object = Err (UnknownName word)
-chosen (pair ∷ pairs) word object =
-    if bytes_eq word pair.0 then pair.1 object else chosen pairs word object
+chosen table word object = and_then (found_in table word) (λ next. next object)
 
 -- a table as its words and what is beside them
 abbrev pub pairs_of : {A : Type 0} → List (Bor (List ℕ) × A) → List (List ℕ × A)

@@ -59,12 +59,10 @@ impl TopoFault {
             TopoFault::TooLong(_) => format!(in alloc; "longer than {MOST_TOPOLOGY_BYTES} bytes"),
             TopoFault::NotJson => String::from_str(alloc, "no JSON"),
             TopoFault::Missing(member) => format!(in alloc; "missing {}", shown(alloc, member)?),
-            TopoFault::WrongKind(member) => {
-                format!(in alloc; "wrong kind {}", shown(alloc, member)?)
-            }
+            TopoFault::WrongKind(name) => format!(in alloc; "wrong kind {}", shown(alloc, name)?),
             TopoFault::UnknownName(text) => format!(in alloc; "unknown {}", shown(alloc, text)?),
             TopoFault::OutOfRange(member, found, least, most) => {
-                out_of_range(alloc, member, *found, *least, *most)
+                ranged(alloc, member, *found, *least, *most)
             }
             TopoFault::Twice(text) => format!(in alloc; "{} twice", shown(alloc, text)?),
             TopoFault::NoSource(name) => format!(in alloc; "no source {}", shown(alloc, name)?),
@@ -72,7 +70,10 @@ impl TopoFault {
             TopoFault::FieldsDiffer(component) => {
                 format!(in alloc; "fields differ at {}", shown(alloc, component)?)
             }
-            TopoFault::NoField(component, field) => no_field(alloc, component, field),
+            TopoFault::NoField(component, field) => {
+                let field = shown(alloc, field)?;
+                format!(in alloc; "no field {field} at {}", shown(alloc, component)?)
+            }
             TopoFault::NotExactlyOnce(state) => {
                 format!(in alloc; "not exactly once {}", shown(alloc, state)?)
             }
@@ -90,28 +91,12 @@ fn shown(alloc: Global, text: &Txt) -> Result<String, Memory>
     value.to_string(alloc)
 }
 
-fn out_of_range(
-    alloc: Global,
-    member: &Txt,
-    found: i64,
-    least: u32,
-    most: u32,
-) -> Result<String, Memory>
+fn ranged(alloc: Global, name: &Txt, found: i64, least: u32, most: u32) -> Result<String, Memory>
     ensures { IfOk result
-        (λ made. string_bytes made
-        ≡ fault_text (TopoFault.OutOfRange member.now found least most)) }
+        (λ made. string_bytes made ≡ fault_text (TopoFault.OutOfRange name.now found least most)) }
 {
-    let member = shown(alloc, member)?;
-    format!(in alloc; "{member} is {found}, not from {least} to {most}")
-}
-
-fn no_field(alloc: Global, component: &Txt, field: &Txt) -> Result<String, Memory>
-    ensures { IfOk result
-        (λ made. string_bytes made ≡ fault_text (TopoFault.NoField component.now field.now)) }
-{
-    let field = shown(alloc, field)?;
-    let component = shown(alloc, component)?;
-    format!(in alloc; "no field {field} at {component}")
+    let name = shown(alloc, name)?;
+    format!(in alloc; "{name} is {found}, not from {least} to {most}")
 }
 
 fn too_heavy(alloc: Global, weight: u64, most: u64) -> Result<String, Memory>

@@ -1,14 +1,16 @@
 //! One decoder an object: its members in the order of the format's lines, each taken out by its
 //! form, and then the first member that is left over.
 
-ghost use Rattle.std.specs.Prelude.{◌≡◌, IfOk};
-ghost use Rattle.topology_form.specs.Left.{left_in};
-ghost use Rattle.topology_form.specs.Reading.{Takes};
-ghost use Rattle.topology_form.specs.Format.{a_spout, an_operation, key_of, grouping_of, an_input, a_bolt, amount_for, grouped_by, a_state, a_file};
+ghost use Rattle.std.specs.Prelude.{◌≡◌, ◌≢◌, Some, None, IfOk, IfErr};
+ghost use Rattle.topology_form.specs.Prelude.{Data, view};
+ghost use Rattle.topology_form.specs.File.{form_fault, parts_said};
+ghost use Rattle.topology_form.specs.Format.{a_spout, an_operation, grouping_of, an_input, a_bolt, amount_for, grouped_by, a_state, a_file};
+ghost use Rattle.topology_form.specs.Ranges.{IsInRange};
+ghost use Rattle.topology_form.specs.Reading.{Takes, left_in};
 
 use crate::fault::TopoFault;
-use crate::forms::Form;
-use crate::object::Object;
+use crate::forms::{Constant, Form, Name, Number, SomeNames, SomeObjects, Text, Word};
+use crate::object::{Object, ends};
 use crate::parts::{
     BodyPart, ComponentPart, FileParts, GroupingPart, Input, Operation, SpoutPart, StatePart,
 };
@@ -21,102 +23,105 @@ use storm_values::{
 };
 use topology_plan::{Fold, Kind, Test};
 
+/// What a file's value says, or its first fault of form. The value's texts are moved,
+/// and time is linear in it.
+#[tactic(auto, unfolding(crate::specs::File::form_fault, crate::specs::File::parts_said))]
+pub fn parts_from(alloc: Global, value: Json) -> Result<FileParts, TopoFault>
+    ensures said { IfOk result
+        (λ parts. (form_fault (view value) ≡ None) × (parts ≡ parts_said (view value))) }
+    ensures fault { IfErr result
+        (λ fault. fault ≢ TopoFault.Memory → form_fault (view value) ≡ Some fault) }
+{
+    File.read(alloc, "topology", value)
+}
+
+/// A law: what a file without a fault of form says is in range.
+pub fn files_are_in_range()
+    ensures { (value : Data) → form_fault value ≡ None → IsInRange (parts_said value) }
+{}
+
 const KINDS: [(&str, Kind); 2] = [
     ("transactional", Kind::Transactional),
     ("opaque", Kind::Opaque),
 ];
 
-impl Form for SpoutPart {
+const FIELDS: SomeNames = SomeNames(1, MOST_FIELDS);
+
+struct Spout;
+
+impl Form for Spout {
     type Part = SpoutPart;
 
-    ghost form = { a_spout };
+    ghost form = { λ _. a_spout };
 
-    #[tactic(auto, unfolding(crate::specs::Format::a_spout))]
-    fn from_value(alloc: Global, name: &str, value: Json) -> Result<SpoutPart, TopoFault> {
+    fn read(&self, alloc: Global, name: &str, value: Json) -> Result<SpoutPart, TopoFault> {
         let mut object = Object::from_value(alloc, name, value)?;
-        let name = object.name("name")?;
-        let kind = object.word("kind", &KINDS)?;
-        let fields = object.names("fields", 1, MOST_FIELDS)?;
-        let batch = object.number("batch", 1, MOST_BATCH)?;
-        object.end(SpoutPart {
-            name,
-            kind,
-            fields,
-            batch,
-        })
+        let spout = SpoutPart {
+            name: object.required("name", &Name)?,
+            kind: object.required("kind", &Word(&KINDS))?,
+            fields: object.required("fields", &FIELDS)?,
+            batch: object.required("batch", &Number(1, MOST_BATCH))?,
+        };
+        ends(spout, object)
     }
 }
 
 const TESTS: [(&str, Test); 3] = [("eq", Test::Eq), ("ne", Test::Ne), ("lt", Test::Lt)];
 
-impl Form for Operation {
+const BELOW: Number = Number(1, MOST_BELOW);
+
+struct BoltOperation;
+
+impl Form for BoltOperation {
     type Part = Operation;
 
-    ghost form = { an_operation };
+    ghost form = { λ _. an_operation };
 
-    #[tactic(auto, unfolding(crate::specs::Format::an_operation))]
-    fn from_value(alloc: Global, name: &str, value: Json) -> Result<Operation, TopoFault> {
+    fn read(&self, alloc: Global, name: &str, value: Json) -> Result<Operation, TopoFault> {
         let mut object = Object::from_value(alloc, name, value)?;
-        let word = object.text("do")?;
+        let word = object.required("do", &Text)?;
         match word.as_str() {
             "split" => {
-                let field = object.name("field")?;
-                let into = object.name("as")?;
-                object.end(Operation::Split { field, into })
+                let field = object.required("field", &Name)?;
+                let into = object.required("as", &Name)?;
+                ends(Operation::Split { field, into }, object)
             }
-            "project" => {
-                let fields = object.names("fields", 1, MOST_FIELDS)?;
-                object.end(Operation::Project(fields))
-            }
+            "project" => ends(
+                Operation::Project(object.required("fields", &FIELDS)?),
+                object,
+            ),
             "filter" => {
-                let field = object.name("field")?;
-                let test = object.word("test", &TESTS)?;
-                let value = object.constant("value")?;
-                object.end(Operation::Filter { field, test, value })
+                let field = object.required("field", &Name)?;
+                let test = object.required("test", &Word(&TESTS))?;
+                let value = object.required("value", &Constant)?;
+                ends(Operation::Filter(field, test, value), object)
             }
             "set" => {
-                let field = object.name("field")?;
-                let value = object.constant("value")?;
-                object.end(Operation::Set { field, value })
+                let field = object.required("field", &Name)?;
+                let value = object.required("value", &Constant)?;
+                ends(Operation::Set(field, value), object)
             }
             "len" => {
-                let field = object.name("field")?;
-                let into = object.name("as")?;
-                object.end(Operation::Len { field, into })
+                let field = object.required("field", &Name)?;
+                let into = object.required("as", &Name)?;
+                ends(Operation::Len { field, into }, object)
             }
-            "route" => {
-                let field = object.name("field")?;
-                object.end(Operation::Route { field })
-            }
-            "flaky" => {
-                let below = object.number("below", 1, MOST_BELOW)?;
-                object.end(Operation::Flaky { below })
-            }
-            "mute" => {
-                let below = object.number("below", 1, MOST_BELOW)?;
-                object.end(Operation::Mute { below })
-            }
-            "custom" => object.end(Operation::Custom),
+            "route" => ends(Operation::Route(object.required("field", &Name)?), object),
+            "flaky" => ends(Operation::Flaky(object.required("below", &BELOW)?), object),
+            "mute" => ends(Operation::Mute(object.required("below", &BELOW)?), object),
+            "custom" => ends(Operation::Custom, object),
             _ => Err(TopoFault::UnknownName(word)),
         }
     }
 }
 
-#[tactic(auto, unfolding(crate::specs::Format::key_of))]
-fn key_from(object: &mut Object) -> Result<GroupingPart, TopoFault>
-    ensures { Takes result (left_in object.new) (key_of (left_in object.old)) }
-{
-    Ok(GroupingPart::Fields(object.names("key", 1, MOST_FIELDS)?))
-}
-
-#[tactic(auto, unfolding(crate::specs::Format::grouping_of))]
 fn grouping_from(object: &mut Object) -> Result<GroupingPart, TopoFault>
     ensures { Takes result (left_in object.new) (grouping_of (left_in object.old)) }
 {
-    let word = object.text("grouping")?;
+    let word = object.required("grouping", &Text)?;
     match word.as_str() {
         "shuffle" | "none" | "local_or_shuffle" => Ok(GroupingPart::Shuffle),
-        "fields" => key_from(object),
+        "fields" => Ok(GroupingPart::Fields(object.required("key", &FIELDS)?)),
         "all" => Ok(GroupingPart::All),
         "global" => Ok(GroupingPart::Global),
         "direct" => Ok(GroupingPart::Direct),
@@ -124,17 +129,20 @@ fn grouping_from(object: &mut Object) -> Result<GroupingPart, TopoFault>
     }
 }
 
-impl Form for Input {
+struct BoltInput;
+
+impl Form for BoltInput {
     type Part = Input;
 
-    ghost form = { an_input };
+    ghost form = { λ _. an_input };
 
-    #[tactic(auto, unfolding(crate::specs::Format::an_input))]
-    fn from_value(alloc: Global, name: &str, value: Json) -> Result<Input, TopoFault> {
+    fn read(&self, alloc: Global, name: &str, value: Json) -> Result<Input, TopoFault> {
         let mut object = Object::from_value(alloc, name, value)?;
-        let from = object.name("from")?;
-        let grouping = grouping_from(&mut object)?;
-        object.end(Input { from, grouping })
+        let input = Input {
+            from: object.required("from", &Name)?,
+            grouping: grouping_from(&mut object)?,
+        };
+        ends(input, object)
     }
 }
 
@@ -143,21 +151,17 @@ struct Bolt;
 impl Form for Bolt {
     type Part = ComponentPart;
 
-    ghost form = { a_bolt };
+    ghost form = { λ _. a_bolt };
 
-    #[tactic(auto, unfolding(crate::specs::Format::a_bolt))]
-    fn from_value(alloc: Global, name: &str, value: Json) -> Result<ComponentPart, TopoFault> {
+    fn read(&self, alloc: Global, name: &str, value: Json) -> Result<ComponentPart, TopoFault> {
         let mut object = Object::from_value(alloc, name, value)?;
-        let name = object.name("name")?;
-        let tasks = object.number("tasks", 1, MOST_TASKS)?;
-        let body = BodyPart::Bolt(object.required::<Operation>("op")?);
-        let inputs = object.objects::<Input>("inputs", 1, MOST_BOLT_INPUTS)?;
-        object.end(ComponentPart {
-            name,
-            tasks,
-            inputs,
-            body,
-        })
+        let bolt = ComponentPart {
+            name: object.required("name", &Name)?,
+            tasks: object.required("tasks", &Number(1, MOST_TASKS))?,
+            body: BodyPart::Bolt(object.required("op", &BoltOperation)?),
+            inputs: object.required("inputs", &SomeObjects(1, MOST_BOLT_INPUTS, BoltInput))?,
+        };
+        ends(bolt, object)
     }
 }
 
@@ -168,13 +172,12 @@ const FOLDS: [(&str, Fold); 4] = [
     ("max", Fold::Max),
 ];
 
-#[tactic(auto, unfolding(crate::specs::Format::amount_of))]
 fn amount_from(object: &mut Object, fold: Fold) -> Result<Option<Txt>, TopoFault>
     ensures { Takes result (left_in object.new) (amount_for fold (left_in object.old)) }
 {
     match fold {
         Fold::Count => Ok(None),
-        Fold::Sum | Fold::Last | Fold::Max => Ok(Some(object.name("amount")?)),
+        Fold::Sum | Fold::Last | Fold::Max => Ok(Some(object.required("amount", &Name)?)),
     }
 }
 
@@ -194,57 +197,51 @@ struct State;
 impl Form for State {
     type Part = ComponentPart;
 
-    ghost form = { a_state };
+    ghost form = { λ _. a_state };
 
-    #[tactic(auto, unfolding(crate::specs::Format::a_state))]
-    fn from_value(alloc: Global, name: &str, value: Json) -> Result<ComponentPart, TopoFault> {
+    fn read(&self, alloc: Global, name: &str, value: Json) -> Result<ComponentPart, TopoFault> {
         let mut object = Object::from_value(alloc, name, value)?;
-        let name = object.name("name")?;
-        let kind = object.word("kind", &KINDS)?;
-        let tasks = object.number("parts", 1, MOST_TASKS)?;
-        let key = object.names("key", 1, MOST_FIELDS)?;
-        let fold = object.word("fold", &FOLDS)?;
+        let name = object.required("name", &Name)?;
+        let kind = object.required("kind", &Word(&KINDS))?;
+        let tasks = object.required("parts", &Number(1, MOST_TASKS))?;
+        let key = object.required("key", &FIELDS)?;
+        let fold = object.required("fold", &Word(&FOLDS))?;
         let amount = amount_from(&mut object, fold)?;
-        let names = object.names("inputs", 1, MOST_STATE_INPUTS)?;
-        let inputs = grouped_by(alloc, &key, names)?;
-        object.end(ComponentPart {
+        let names = object.required("inputs", &SomeNames(1, MOST_STATE_INPUTS))?;
+        let state = ComponentPart {
             name,
             tasks,
-            inputs,
+            inputs: grouped_by(alloc, &key, names)?,
             body: BodyPart::State(StatePart {
                 kind,
                 key,
                 fold,
                 amount,
             }),
-        })
+        };
+        ends(state, object)
     }
 }
 
-impl Form for FileParts {
+struct File;
+
+impl Form for File {
     type Part = FileParts;
 
-    ghost form = { a_file };
+    ghost form = { λ _. a_file };
 
-    #[tactic(auto, unfolding(crate::specs::Format::a_file))]
-    fn from_value(alloc: Global, name: &str, value: Json) -> Result<FileParts, TopoFault> {
+    fn read(&self, alloc: Global, name: &str, value: Json) -> Result<FileParts, TopoFault> {
         let mut object = Object::from_value(alloc, name, value)?;
-        object.number("version", 1, 1)?;
-        let spout = object.required::<SpoutPart>("spout")?;
-        let bolts = object.objects::<Bolt>("bolts", 0, MOST_BOLTS)?;
-        let states = object.objects::<State>("states", 1, MOST_STATES)?;
-        let ackers = object.number_or(1, "ackers", 1, MOST_ACKERS)?;
-        let pending = object.number_or(1, "pending", 1, MOST_PENDING)?;
-        let buckets = object.number_or(3, "buckets", LEAST_BUCKETS, MOST_BUCKETS)?;
-        let attempts = object.number_or(10, "attempts", 1, MOST_ATTEMPTS)?;
-        object.end(FileParts {
-            spout,
-            bolts,
-            states,
-            ackers,
-            pending,
-            buckets,
-            attempts,
-        })
+        object.required("version", &Number(1, 1))?;
+        let file = FileParts {
+            spout: object.required("spout", &Spout)?,
+            bolts: object.required("bolts", &SomeObjects(0, MOST_BOLTS, Bolt))?,
+            states: object.required("states", &SomeObjects(1, MOST_STATES, State))?,
+            ackers: object.optional("ackers", 1, &Number(1, MOST_ACKERS))?,
+            pending: object.optional("pending", 1, &Number(1, MOST_PENDING))?,
+            buckets: object.optional("buckets", 3, &Number(LEAST_BUCKETS, MOST_BUCKETS))?,
+            attempts: object.optional("attempts", 10, &Number(1, MOST_ATTEMPTS))?,
+        };
+        ends(file, object)
     }
 }

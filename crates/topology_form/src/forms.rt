@@ -1,9 +1,9 @@
 //! The forms of members: what a value says, if it is of its form. Texts are moved.
 
-ghost use Rattle.std.specs.Prelude.{◌≡◌, ◌≢◌, ℕ, List, pos, Result, Ok, Err};
+ghost use Rattle.std.specs.Prelude.{◌≡◌, ◌≢◌, ℕ, List, pos, Result};
 ghost use Rattle.std.specs.List.{list_all};
-ghost use Rattle.topology_form.specs.Prelude.{Data, view, items_view, is_name, is_letter, is_name_byte, begins_with_letter, TopoFault, WrongKind, OutOfRange, Memory, items_len};
-ghost use Rattle.topology_form.specs.Reading.{Gives, a_number, a_text, a_name, a_word, some_names, some_objects, a_constant, each, found_in, within, pairs_of};
+ghost use Rattle.topology_form.specs.Prelude.{Data, view, items_view, is_name, is_name_byte, begins_with_letter, TopoFault, WrongKind, Memory, items_len};
+ghost use Rattle.topology_form.specs.Reading.{Gives, Checks, a_number, a_text, a_name, a_word, some_names, some_objects, a_constant, each, found_in, range_fault, pairs_of};
 
 use crate::fault::TopoFault;
 use serde_json::Value as Json;
@@ -14,10 +14,10 @@ use storm_values::{MOST_CONSTANT_BYTES, MOST_NAME_BYTES, Names, Seq, Txt, Value}
 pub trait Form {
     type Part: Drop;
 
-    ghost form: { List ℕ → Data → Result Self.Part TopoFault };
+    ghost form: { Self → List ℕ → Data → Result Self.Part TopoFault };
 
-    fn from_value(alloc: Global, name: &str, value: Json) -> Result<Self::Part, TopoFault>
-        ensures { Gives result (form name.now (view value)) };
+    fn read(&self, alloc: Global, name: &str, value: Json) -> Result<Self::Part, TopoFault>
+        ensures { Gives result (form self.now name.now (view value)) };
 }
 
 pub(crate) fn wrong_kind(alloc: Global, name: &str) -> TopoFault
@@ -29,14 +29,9 @@ pub(crate) fn wrong_kind(alloc: Global, name: &str) -> TopoFault
     }
 }
 
-pub(crate) fn within(
-    alloc: Global,
-    name: &str,
-    found: i64,
-    least: u32,
-    most: u32,
-) -> Result<(), TopoFault>
-    ensures { Gives result (within name.now least most found (Ok tt)) }
+/// Checks that a number or a length is in its range.
+pub fn within(alloc: Global, name: &str, found: i64, least: u32, most: u32) -> Result<(), TopoFault>
+    ensures { Checks result (range_fault name.now least most found) }
 {
     if i64::from(least) <= found && found <= i64::from(most) {
         return Ok(());
@@ -45,49 +40,52 @@ pub(crate) fn within(
     Err(TopoFault::OutOfRange(name, found, least, most))
 }
 
-pub(crate) fn number_from(
-    alloc: Global,
-    name: &str,
-    value: &Json,
-    least: u32,
-    most: u32,
-) -> Result<u32, TopoFault>
-    ensures { Gives result (a_number least most name.now (view value.now)) }
-{
-    let Some(found) = value.as_i64() else {
-        return Err(wrong_kind(alloc, name));
-    };
-    within(alloc, name, found, least, most)?;
-    Ok(found as u32)
-}
+/// A number from the least to the most.
+pub struct Number(pub u32, pub u32);
 
-pub(crate) fn text_from(alloc: Global, name: &str, value: Json) -> Result<Txt, TopoFault>
-    ensures { Gives result (a_text name.now (view value)) }
-{
-    match value {
-        Json::String(text) => Ok(Txt::from_string(text)),
-        _ => Err(wrong_kind(alloc, name)),
+impl Form for Number {
+    type Part = u32;
+
+    ghost form = { λ number. a_number number.0 number.1 };
+
+    fn read(&self, alloc: Global, name: &str, value: Json) -> Result<u32, TopoFault> {
+        let Some(found) = value.as_i64() else {
+            return Err(wrong_kind(alloc, name));
+        };
+        within(alloc, name, found, self.0, self.1)?;
+        Ok(found as u32)
     }
 }
 
-fn is_letter(byte: u8) -> bool
-    ensures { result ≡ is_letter byte }
-{
-    byte.is_ascii_lowercase()
+pub struct Text;
+
+impl Form for Text {
+    type Part = Txt;
+
+    ghost form = { λ _. a_text };
+
+    fn read(&self, alloc: Global, name: &str, value: Json) -> Result<Txt, TopoFault> {
+        match value {
+            Json::String(text) => Ok(Txt::from_string(text)),
+            _ => Err(wrong_kind(alloc, name)),
+        }
+    }
 }
 
-fn is_name_byte(byte: u8) -> bool
-    ensures { result ≡ is_name_byte byte }
-{
-    matches!(byte, b'a'..=b'z' | b'0'..=b'9' | b'_' | b'-')
-}
+pub struct Name;
 
-fn begins_with_letter(bytes: &[u8]) -> bool
-    ensures { result ≡ begins_with_letter bytes.now }
-{
-    match bytes.first() {
-        Some(first) => is_letter(*first),
-        None => false,
+impl Form for Name {
+    type Part = Txt;
+
+    ghost form = { λ _. a_name };
+
+    fn read(&self, alloc: Global, name: &str, value: Json) -> Result<Txt, TopoFault> {
+        let text = Text.read(alloc, name, value)?;
+        if is_name(text.as_bytes()) {
+            Ok(text)
+        } else {
+            Err(wrong_kind(alloc, name))
+        }
     }
 }
 
@@ -100,101 +98,120 @@ fn is_name(bytes: &[u8]) -> bool
         && all_name_bytes(bytes)
 }
 
+fn begins_with_letter(bytes: &[u8]) -> bool
+    ensures { result ≡ begins_with_letter bytes.now }
+{
+    matches!(bytes.first(), Some(b'a'..=b'z'))
+}
+
 fn all_name_bytes(bytes: &[u8]) -> bool
     ensures { result ≡ list_all is_name_byte bytes.now }
 {
     bytes.iter().all(|byte| is_name_byte(*byte))
 }
 
-/// A name.
-impl Form for Txt {
-    type Part = Txt;
+fn is_name_byte(byte: u8) -> bool
+    ensures { result ≡ is_name_byte byte }
+{
+    matches!(byte, b'a'..=b'z' | b'0'..=b'9' | b'_' | b'-')
+}
 
-    ghost form = { a_name };
+/// Names, this many at least and at most.
+pub struct SomeNames(pub u32, pub u32);
 
-    fn from_value(alloc: Global, name: &str, value: Json) -> Result<Txt, TopoFault> {
-        let text = text_from(alloc, name, value)?;
-        if is_name(text.as_bytes()) {
-            Ok(text)
-        } else {
-            Err(wrong_kind(alloc, name))
-        }
+impl Form for SomeNames {
+    type Part = Names;
+
+    ghost form = { λ names. some_names names.0 names.1 };
+
+    fn read(&self, alloc: Global, name: &str, value: Json) -> Result<Names, TopoFault> {
+        let Json::Array(items) = value else {
+            return Err(wrong_kind(alloc, name));
+        };
+        let names = each(alloc, name, &Name, items)?;
+        within(alloc, name, names.len() as i64, self.0, self.1)?;
+        Ok(names)
     }
 }
 
-pub(crate) fn names_from(
+fn each<F: Form>(
     alloc: Global,
     name: &str,
-    value: Json,
-    least: u32,
-    most: u32,
-) -> Result<Names, TopoFault>
-    ensures { Gives result (some_names least most name.now (view value)) }
-{
-    let Json::Array(items) = value else {
-        return Err(wrong_kind(alloc, name));
-    };
-    let names = each::<Txt>(alloc, name, items)?;
-    within(alloc, name, names.len() as i64, least, most)?;
-    Ok(names)
-}
-
-fn each<T: Form>(alloc: Global, name: &str, items: Vec<Json>) -> Result<Seq<T::Part>, TopoFault>
-    ensures { Gives result (each T.form name.now (items_view items.items)) }
+    form: &F,
+    items: Vec<Json>,
+) -> Result<Seq<F::Part>, TopoFault>
+    ensures { Gives result (each (F.form form.now) name.now (items_view items.items)) }
 {
     let mut read = Seq::new(alloc);
     for item in items {
-        read.push(T::from_value(alloc, name, item)?)?;
+        read.push(form.read(alloc, name, item)?)?;
     }
     Ok(read)
 }
 
-fn count_within(
-    alloc: Global,
-    name: &str,
-    items: &Vec<Json>,
-    least: u32,
-    most: u32,
-) -> Result<(), TopoFault>
-    ensures { Gives result
-        (within name.now least most (pos (items_len (items_view items.now.items))) (Ok tt)) }
-{
-    within(alloc, name, items.len() as i64, least, most)
-}
+/// Objects of a form, this many at least and at most.
+pub struct SomeObjects<F>(pub u32, pub u32, pub F);
 
-pub(crate) fn objects_from<T: Form>(
-    alloc: Global,
-    name: &str,
-    value: Json,
-    least: u32,
-    most: u32,
-) -> Result<Seq<T::Part>, TopoFault>
-    ensures { Gives result (some_objects least most T.form name.now (view value)) }
-{
-    let Json::Array(items) = value else {
-        return Err(wrong_kind(alloc, name));
-    };
-    count_within(alloc, name, &items, least, most)?;
-    each::<T>(alloc, name, items)
-}
-
-pub(crate) fn constant_from(alloc: Global, name: &str, value: Json) -> Result<Value, TopoFault>
-    ensures { Gives result (a_constant name.now (view value)) }
-{
-    match value {
-        Json::Number(number) => match number.as_i64() {
-            Some(found) => Ok(Value::Int(found)),
-            None => Err(wrong_kind(alloc, name)),
-        },
-        Json::String(text) => {
-            within(alloc, name, text.len() as i64, 0, MOST_CONSTANT_BYTES)?;
-            Ok(Value::Text(Txt::from_string(text)))
-        }
-        _ => Err(wrong_kind(alloc, name)),
+impl<F: Form> SomeObjects<F> {
+    fn check_count(&self, alloc: Global, name: &str, items: &Vec<Json>) -> Result<(), TopoFault>
+        ensures { Checks result (range_fault name.now self.now.0 self.now.1
+            (pos (items_len (items_view items.now.items)))) }
+    {
+        within(alloc, name, items.len() as i64, self.0, self.1)
     }
 }
 
-pub(crate) fn found_in<T: Copy>(words: &[(&str, T)], word: Txt) -> Result<T, TopoFault>
+impl<F: Form> Form for SomeObjects<F> {
+    type Part = Seq<F::Part>;
+
+    ghost form = { λ objects. some_objects objects.0 objects.1 (F.form objects.2) };
+
+    fn read(&self, alloc: Global, name: &str, value: Json) -> Result<Seq<F::Part>, TopoFault> {
+        let Json::Array(items) = value else {
+            return Err(wrong_kind(alloc, name));
+        };
+        self.check_count(alloc, name, &items)?;
+        each(alloc, name, &self.2, items)
+    }
+}
+
+/// A number, or a text that is not too long.
+pub struct Constant;
+
+impl Form for Constant {
+    type Part = Value;
+
+    ghost form = { λ _. a_constant };
+
+    fn read(&self, alloc: Global, name: &str, value: Json) -> Result<Value, TopoFault> {
+        match value {
+            Json::Number(number) => match number.as_i64() {
+                Some(found) => Ok(Value::Int(found)),
+                None => Err(wrong_kind(alloc, name)),
+            },
+            Json::String(text) => {
+                within(alloc, name, text.len() as i64, 0, MOST_CONSTANT_BYTES)?;
+                Ok(Value::Text(Txt::from_string(text)))
+            }
+            _ => Err(wrong_kind(alloc, name)),
+        }
+    }
+}
+
+/// One of the words of a table.
+pub struct Word<'w, T>(pub &'w [(&'w str, T)]);
+
+impl<'w, T: Copy> Form for Word<'w, T> {
+    type Part = T;
+
+    ghost form = { λ word. a_word (pairs_of word.0.now) };
+
+    fn read(&self, alloc: Global, name: &str, value: Json) -> Result<T, TopoFault> {
+        found_in(self.0, Text.read(alloc, name, value)?)
+    }
+}
+
+fn found_in<T: Copy>(words: &[(&str, T)], word: Txt) -> Result<T, TopoFault>
     ensures { Gives result (found_in (pairs_of words.now) word) }
 {
     for (other, meaning) in words {
@@ -203,15 +220,4 @@ pub(crate) fn found_in<T: Copy>(words: &[(&str, T)], word: Txt) -> Result<T, Top
         }
     }
     Err(TopoFault::UnknownName(word))
-}
-
-pub(crate) fn word_from<T: Copy>(
-    alloc: Global,
-    name: &str,
-    value: Json,
-    words: &[(&str, T)],
-) -> Result<T, TopoFault>
-    ensures { Gives result (a_word (pairs_of words.now) name.now (view value)) }
-{
-    found_in(words, text_from(alloc, name, value)?)
 }

@@ -3,14 +3,14 @@
 #![tactic(auto)]
 
 mod fault;
-mod file;
 mod format;
 mod forms;
 mod object;
 mod parts;
 
 pub use fault::TopoFault;
-pub use file::{files_are_in_range, parts_from};
+pub use format::{files_are_in_range, parts_from};
+pub use forms::within;
 pub use parts::{
     BodyPart, ComponentPart, FileParts, GroupingPart, Input, Operation, SpoutPart, StatePart,
 };

@@ -19,36 +19,17 @@ pub struct Input {
     pub grouping: GroupingPart,
 }
 
-/// An operation, with fields by their names.
+/// An operation, with fields by their names: the one that it reads comes first.
 #[derive(Debug, Drop)]
 pub enum Operation {
-    Split {
-        field: Txt,
-        into: Txt,
-    },
+    Split { field: Txt, into: Txt },
     Project(Names),
-    Filter {
-        field: Txt,
-        test: Test,
-        value: Value,
-    },
-    Set {
-        field: Txt,
-        value: Value,
-    },
-    Len {
-        field: Txt,
-        into: Txt,
-    },
-    Route {
-        field: Txt,
-    },
-    Flaky {
-        below: u32,
-    },
-    Mute {
-        below: u32,
-    },
+    Filter(Txt, Test, Value),
+    Set(Txt, Value),
+    Len { field: Txt, into: Txt },
+    Route(Txt),
+    Flaky(u32),
+    Mute(u32),
     Custom,
 }
 

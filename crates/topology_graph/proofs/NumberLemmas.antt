@@ -9,7 +9,7 @@ use Rattle.topology_plan.specs.Topology.{ended_sum, weight_end}
 use Rattle.topology_graph.specs.declared.values.Feed.{Feed}
 use Rattle.topology_graph.specs.Graph.{value_of}
 use Rattle.topology_graph.specs.Numbers.{depth_rule, tuples_rule, depth_at, numbers_of, at_depth, by_depth}
-use Rattle.topology_graph.specs.Found.{fed_by}
+use Rattle.topology_graph.specs.Graph.{fed_by}
 
 -- the depths of the sources, by what is known
 abbrev pub depths_seen : List (Option ℕ) → List Feed → List ℕ

@@ -13,7 +13,7 @@ use Rattle.topology_plan.specs.Topology.{greatest, weight_end}
 use Rattle.topology_graph.specs.declared.values.Feed.{Feed}
 use Rattle.topology_graph.specs.Graph.{Rule, fed, value_in, value_of, feeds_at, IsThere, IsClosed, IsRanked}
 use Rattle.topology_graph.specs.Numbers.{depth_rule, depth_at, IsSettled}
-use Rattle.topology_graph.specs.Found.{read, fed_by, IsKnown, AreRight, IsFound}
+use Rattle.topology_graph.specs.Graph.{read, fed_by, IsKnown, AreRight, IsFound}
 
 -- ---- lists
 

@@ -31,14 +31,6 @@ abbrev pub numbers_of : Rule ℕ → List (List Feed) → List ℕ
 numbers_of rule graph =
     map (λ c. value_of rule graph (origin.Component c)) (range_with_len 0 (length graph))
 
--- the greatest depth
-unfoldable pub depth_of : List (List Feed) → ℕ
-depth_of graph = greatest (numbers_of depth_rule graph)
-
--- the tuples at all components together
-unfoldable pub weight_of : List (List Feed) → ℕ
-weight_of graph = ended_sum (numbers_of tuples_rule graph)
-
 -- the components of a depth, by the depths of all
 abbrev pub at_depth : List ℕ → ℕ → List ℕ
 at_depth depths depth =

@@ -5,5 +5,7 @@
 mod numbers;
 mod values;
 
-pub use numbers::{by_depth, depth, ranks_settle_depths, weight};
+pub use numbers::{
+    DepthRule, TuplesRule, by_depth, greatest, numbers_by, ranks_settle_depths, total,
+};
 pub use values::{Along, Feed, Graph, values_along};

@@ -3,9 +3,8 @@
 ghost use Rattle.std.specs.Prelude.{◌≡◌, ℕ, ◌+◌, ◌<◌, ◌^◌, ◌++◌, List, length, unwrap_or, IfOk, OnOk};
 ghost use Rattle.topology_plan.specs.Topology.{greatest, ended_sum};
 ghost use Rattle.topology_graph.specs.declared.values.Feed.{Feed};
-ghost use Rattle.topology_graph.specs.Graph.{IsClosed, IsRanked};
-ghost use Rattle.topology_graph.specs.Numbers.{depth_rule, tuples_rule, numbers_of, depth_of, weight_of, at_depth, by_depth, IsSettled};
-ghost use Rattle.topology_graph.specs.Found.{read};
+ghost use Rattle.topology_graph.specs.Graph.{IsClosed, IsRanked, read};
+ghost use Rattle.topology_graph.specs.Numbers.{depth_rule, tuples_rule, numbers_of, at_depth, by_depth, IsSettled};
 
 use crate::values::{Along, Feed, Graph, values_along};
 use std::alloc::Global;
@@ -13,7 +12,7 @@ use storm_values::Memory;
 use topology_plan::Origin;
 
 /// How far from the spout.
-struct DepthRule;
+pub struct DepthRule;
 
 impl Along<u64> for DepthRule {
     ghost rule = { λ _. depth_rule };
@@ -28,7 +27,7 @@ impl Along<u64> for DepthRule {
 }
 
 /// How many tuples one tuple of the spout can make at most.
-struct TuplesRule;
+pub struct TuplesRule;
 
 impl Along<u64> for TuplesRule {
     ghost rule = { λ _. tuples_rule };
@@ -52,7 +51,8 @@ fn number_at(known: &[Option<u64>], from: Origin, of_spout: u64) -> u64
     }
 }
 
-fn numbers<R: Along<u64>>(alloc: Global, rule: &R, graph: &Graph) -> Result<Vec<u64>, Memory>
+/// The number of each component by a rule.
+pub fn numbers_by<R: Along<u64>>(alloc: Global, rule: &R, graph: &Graph) -> Result<Vec<u64>, Memory>
     requires small { length graph.now < 2 ^ 32 }
     requires closed { IsClosed graph.now }
     requires settled { IsSettled graph.now }
@@ -66,19 +66,9 @@ fn numbers<R: Along<u64>>(alloc: Global, rule: &R, graph: &Graph) -> Result<Vec<
     Ok(numbers)
 }
 
-/// The most subscriptions between the spout and a component.
-#[tactic(auto, unfolding(crate::specs::Numbers::depth_of))]
-pub fn depth(alloc: Global, graph: &Graph) -> Result<u64, Memory>
-    requires small { length graph.now < 2 ^ 32 }
-    requires closed { IsClosed graph.now }
-    requires settled { IsSettled graph.now }
-    ensures { IfOk result (λ depth. depth ≡ depth_of graph.now) }
-{
-    let depths = numbers(alloc, &DepthRule, graph)?;
-    Ok(greatest(&depths))
-}
-
-fn greatest(numbers: &[u64]) -> u64
+/// The greatest number, or 0 where there is none. Of the depths it is the most subscriptions from
+/// the spout to a component.
+pub fn greatest(numbers: &[u64]) -> u64
     ensures { result ≡ greatest numbers.now }
 {
     let mut greatest = 0;
@@ -88,19 +78,8 @@ fn greatest(numbers: &[u64]) -> u64
     greatest
 }
 
-/// How many tuples one tuple of the spout can make at most, or 2^64 - 1 where there are more.
-#[tactic(auto, unfolding(crate::specs::Numbers::weight_of))]
-pub fn weight(alloc: Global, graph: &Graph) -> Result<u64, Memory>
-    requires small { length graph.now < 2 ^ 32 }
-    requires closed { IsClosed graph.now }
-    requires settled { IsSettled graph.now }
-    ensures { IfOk result (λ weight. weight ≡ weight_of graph.now) }
-{
-    let tuples = numbers(alloc, &TuplesRule, graph)?;
-    Ok(total(&tuples))
-}
-
-fn total(numbers: &[u64]) -> u64
+/// The sum, or 2^64 - 1 where it is more.
+pub fn total(numbers: &[u64]) -> u64
     ensures { result ≡ ended_sum numbers.now }
 {
     let mut total = 0u64;
@@ -118,7 +97,7 @@ pub fn by_depth(alloc: Global, graph: &Graph) -> Result<Vec<usize>, Memory>
     requires settled { IsSettled graph.now }
     ensures { IfOk result (λ order. order.items ≡ by_depth graph.now) }
 {
-    let depths = numbers(alloc, &DepthRule, graph)?;
+    let depths = numbers_by(alloc, &DepthRule, graph)?;
     let mut order = Vec::with_capacity(alloc, depths.len())?;
     for below in 0..depths.len() {
         add_depth(&mut order, &depths, below as u64 + 1)?;

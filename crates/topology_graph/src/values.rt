@@ -3,9 +3,8 @@
 ghost use Rattle.std.specs.Prelude.{◌≡◌, ◌<◌, ◌^◌, length, map, Some, IfOk, OnOk, replicate, None};
 ghost use Rattle.std.specs.List.{range_with_len};
 ghost use Rattle.topology_plan.specs.declared.parts.Origin.TheVariants as origin;
-ghost use Rattle.topology_graph.specs.Graph.{Rule, value_of, IsThere, IsClosed};
+ghost use Rattle.topology_graph.specs.Graph.{Rule, value_of, IsThere, IsClosed, AreRight, IsFound, fed_by};
 ghost use Rattle.topology_graph.specs.Numbers.{IsSettled};
-ghost use Rattle.topology_graph.specs.Found.{AreRight, IsFound, fed_by};
 
 use std::alloc::Global;
 use storm_values::{Memory, Seq};

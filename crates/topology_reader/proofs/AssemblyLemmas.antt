@@ -1,6 +1,6 @@
 -- A plan put together from its parts.
-use Rattle.std.proofs.Common.{◌≡◌, ℕ, ◌≤◌, List, [], ◌∷◌, sum_by, None, refl, sym, ap, subst, ◌∙◌, Option, Some}
-use Rattle.topology_reader.proofs.Common.{first_some, FileParts, TopoFault, IsValid, IsInRange, Topology, tasks_in_all, Sub, Kind, IsWired, IsMade, meaning_fault, size_fault, fault_before_size, planned_components, planned_component_subs, planned_subs, plan_of}
+use Rattle.std.proofs.Common.{◌≡◌, ℕ, ◌≤◌, List, sum_by, None, refl, sym, ap, subst, ◌∙◌, Option}
+use Rattle.topology_reader.proofs.Common.{FileParts, TopoFault, IsValid, IsInRange, Topology, tasks_in_all, Sub, Kind, IsWired, IsMade, meaning_fault, size_fault, twice_fault, source_fault, cycle_fault, fields_fault, replay_fault, planned_components, planned_component_subs, planned_subs, plan_of}
 use Rattle.topology_plan.specs.Topology.{depth_of, weight_of}
 use Rattle.topology_plan.specs.declared.parts.Component.{Component}
 use Rattle.topology_plan.specs.declared.parts.Origin.TheVariants as origin
@@ -24,20 +24,12 @@ pub tasks-plan : (p : FileParts) (components : List Component) → components �
 unfolding plan_of
 tasks-plan p components made = ap (sum_by (λ (component : Component). component.tasks)) made
 
--- a fault that comes before the size is the first
-pub fault_before : (p : FileParts) (fault : TopoFault) → fault_before_size p ≡ Some fault → meaning_fault p ≡ Some fault
+-- where no other comes before it the fault is that of the size
+pub fault_of_size : (p : FileParts) (made : Made) (found : Option TopoFault) → twice_fault p ≡ None → source_fault p ≡ None → cycle_fault p ≡ None → fields_fault p ≡ None → replay_fault p p.spout.kind ≡ None
+    → IsMade p made → size_fault made.tasks made.weight ≡ found → meaning_fault p ≡ found
 unfolding meaning_fault
-fault_before p fault is = ap (λ first. first_some (first ∷ size_fault (tasks_in_all (plan_of p)) (weight_of (plan_of p)) ∷ [])) is
-
--- where none comes before it is that of the size
-pub fault_of_size : (p : FileParts) (made : Made) (found : Option TopoFault) → fault_before_size p ≡ None → IsMade p made → size_fault made.tasks made.weight ≡ found → meaning_fault p ≡ found
-unfolding meaning_fault
-fault_of_size p made found none is sized =
-    ap (λ first. first_some (first ∷ size_fault (tasks_in_all (plan_of p)) (weight_of (plan_of p)) ∷ [])) none
-    ∙ ap (λ n. first_some (None ∷ size_fault n (weight_of (plan_of p)) ∷ [])) (sym is.tasks)
-    ∙ ap (λ n. first_some (None ∷ size_fault made.tasks n ∷ [])) (sym is.weight)
-    ∙ ap (λ size. first_some (None ∷ size ∷ [])) sized
-    ∙ next_alone found
+fault_of_size p made found twice sources cycle fields replay is sized =
+    rw (twice, sources, cycle, fields, replay, ← is.tasks, ← is.weight, sized) (next_alone found)
 
 -- the topology of these parts
 abbrev topology_with : List (List ℕ) → Kind → ℕ → List Component → List Sub → List (List Sub) → ℕ → ℕ → ℕ → ℕ → Topology

@@ -1,6 +1,6 @@
 -- The fields of the sources where a file has no fault: each source has one to eight fields, none twice, that its operation makes of the fields of its sources.
 use Rattle.std.proofs.Common.{◌≡◌, ℕ, zero, suc, ◌+◌, ◌<◌, ◌≤◌, ◌==◌, pos, List, [], ◌∷◌, ◌++◌, length, map, filter, All, false, not, Option, Some, None, option_and_then, is_none, codes, inl, inr, refl, sym, ◌∙◌, ap, subst, arith}
-use Rattle.topology_reader.proofs.Common.{range_with_len, list_any, bytes_eq, Origin, TopoFault, Twice, NoSource, NoField, FieldsDiffer, Input, Operation, Split, Project, Filter, Set, Len, Route, Flaky, Mute, Custom, BodyPart, Bolt, State, ComponentPart, components_of, FileParts, first_some, IsBetween, IsInRange, IsOperationInRange, IsBodyInRange, IsComponentInRange, feeds_at, value_in, value_of, Feed, pointwise, pointwise_decides, true≢false, cases_Bool, cond-true, cond-false, both_ways, eq-eqb, not-false, All-nil, All-cons, All-append, none-some, same_Some, slice_get_within, depth_at, by_depth, depth_rule, depth_at_within, is_among, range_fault, first_again, again_fault, key_of, own_key, projected, component_twice, twice_fault, nameless_fault, source_fault, cycle_fault, differ_fault, field_fault, direct_fault, input_fault, fields_read, amount_read, added_fault, part_fault, component_fault, fields_fault, component_names, name_at, source_of, inputs_at, sources_at, fields_after, fields_of, fields_to, graph_of, IsSource}
+use Rattle.topology_reader.proofs.Common.{range_with_len, list_any, bytes_eq, Origin, TopoFault, Twice, NoSource, NoField, FieldsDiffer, Input, Operation, Split, Project, Filter, Set, Len, Route, Flaky, Mute, Custom, BodyPart, Bolt, State, ComponentPart, components_of, FileParts, first_some, IsBetween, IsInRange, IsOperationInRange, IsBodyInRange, IsComponentInRange, feeds_at, value_in, value_of, Feed, pointwise, pointwise_decides, true≢false, cases_Bool, cond-true, cond-false, both_ways, eq-eqb, not-false, All-nil, All-cons, All-append, none-some, same_Some, slice_get_within, depth_at, by_depth, depth_rule, depth_at_within, is_among, range_fault, first_again, again_fault, key_of, own_key, projected, component_twice, twice_fault, nameless_fault, source_fault, cycle_fault, differ_fault, field_fault, direct_fault, input_fault, fields_read, amount_read, added_fault, component_fault, fields_fault, component_names, name_at, source_of, inputs_at, sources_at, fields_after, fields_of, fields_to, graph_of, IsSource}
 use Rattle.std.specs.List.{find}
 use Rattle.std.proofs.lemmas.List.{length-append}
 use Rattle.topology_plan.specs.declared.parts.Origin.TheVariants as origin
@@ -59,7 +59,7 @@ faults_of p c part = differ_fault p c ∷ first_some (map (input_fault p c) part
 
 no_fault_from_none : (p : FileParts) (c : ℕ) (part : ComponentPart) → IsAt p c part → component_fault p c ≡ None → HasNoFaultAt p c
 no_fault_from_none p c part is none =
-    let each = none_each (faults_of p c part) (sym (ap (option_and_then (part_fault p c)) is) ∙ none) in
+    let each = none_each (faults_of p c part) (sym (ap (option_and_then (λ (part : ComponentPart). first_some (faults_of p c part))) is) ∙ none) in
     let input = λ (input : Input) (at : IsIn input (inputs_at p c)).
     none_each (field_fault p c (key_of input.grouping) ∷ direct_fault p input input.grouping ∷ []) (none_each_map (input_fault p c) part.inputs each.1.0 input (subst (IsIn input) (inputs_are p c part is) at))
     in
@@ -137,7 +137,7 @@ pub record AreFields (fields : List (List ℕ)) : Type 0 where
 
 fields_with : (fields : List (List ℕ)) (into : List ℕ) → IsName into → added_fault fields (Bolt (Len (codes "") into)) ≡ None → AreFields fields → AreFields (fields ++ into ∷ [])
 fields_with fields into name none were =
-    let counted = range_fault (codes "fields") (pos (length fields + 1)) 1 8 in
+    let counted = range_fault (codes "fields") 1 8 (pos (length fields + 1)) in
     elim (cases_Bool (is_among fields into)) [
       | inl again ↦ absurd (none-some (Twice into) (sym none ∙ cond-true (is_among fields into) (Some (Twice into)) counted again))
       | inr new ↦

@@ -17,7 +17,9 @@ pub use Rattle.std.specs.Str.{IsUtf8, is_utf8}
 pub use Rattle.serde_json.specs.Data.{Data}
 unfoldable pub use Rattle.storm_values.specs.Json.{json_of}
 pub use Rattle.topology_form.proofs.InRange.{in_range}
-pub use Rattle.topology_form.specs.Ranges.{IsOperationInRange, IsBodyInRange, IsComponentInRange, is_bolt, IsGroupingInRange, IsInputInRange, HasAmount as SaysAmount}
+pub use Rattle.topology_form.specs.Reading.{Checks, range_fault}
+pub use Rattle.topology_form.specs.declared.fault.TopoFault.TheVariants.{OutOfRange}
+pub use Rattle.topology_form.specs.Ranges.{IsOperationInRange, IsBodyInRange, IsComponentInRange, is_bolt, IsGroupingInRange, HasAmount as SaysAmount}
 pub use Rattle.topology_graph.proofs.ValueLemmas.{depth_at_within, settled_by_rank, value_settled, depth_in_within, greatest_within}
 pub use Rattle.topology_graph.specs.Graph.{value_in, IsThere}
 unfoldable pub use Rattle.topology_graph.specs.Graph.{value_of}
@@ -30,15 +32,15 @@ pub use Rattle.topology_plan.specs.Wired.{IsWired, fields_of as plan_fields, wid
 pub use Rattle.topology_plan.specs.declared.parts.Kind.{Kind}
 pub use Rattle.topology_plan.specs.declared.parts.Kind.TheVariants.{Transactional, Opaque}
 pub use Rattle.topology_plan.specs.declared.parts.Sub.{Sub}
-pub use Rattle.topology_reader.specs.FirstFault.{value_fault, IsFilePlan, length_fault}
+pub use Rattle.topology_reader.specs.FirstFault.{value_fault, IsFilePlan}
 unfoldable pub use Rattle.topology_reader.specs.FirstFault.{first_fault}
-pub use Rattle.topology_reader.specs.Meant.{fault_before_size, is_among, range_fault, first_again, again_fault, key_of, own_key, projected, component_twice, twice_fault, nameless_fault, source_fault, cycle_fault, differ_fault, field_fault, direct_fault, input_fault, fields_read, amount_read, reads_at, added_fault, part_fault, component_fault, fields_fault, is_route, chooses, is_transactional, keeps_exact, replay_fault, weight_fault}
-unfoldable pub use Rattle.topology_reader.specs.Meant.{meaning_fault, size_fault}
+pub use Rattle.topology_reader.specs.FirstFault.{is_among, size_fault, first_again, again_fault, key_of, own_key, projected, component_twice, twice_fault, nameless_fault, source_fault, cycle_fault, differ_fault, field_fault, direct_fault, input_fault, fields_read, amount_read, added_fault, component_fault, fields_fault, is_route, chooses, is_transactional, keeps_exact, replay_fault}
+unfoldable pub use Rattle.topology_reader.specs.FirstFault.{meaning_fault}
 pub use Rattle.topology_reader.specs.Planned.{planned_components, planned_component_subs, planned_subs, planned_component, is_origin, is_from, planned_grouping, subs_of_component, number_of, numbers_of, planned_operation, planned_body, route_field, tasks_by_component, first_task_of}
 unfoldable pub use Rattle.topology_reader.specs.Planned.{plan_of}
-pub use Rattle.topology_reader.specs.Prelude.{first_some, FileParts, TopoFault, IsValid, IsInRange, Topology, tasks_in_all, range_with_len, list_any, bytes_eq, Origin, Twice, NoSource, NoField, FieldsDiffer, Input, Operation, Split, Project, Filter, Set, Len, Route, Flaky, Mute, Custom, BodyPart, Bolt, State, ComponentPart, components_of, IsBetween, feeds_at, Feed, Cycle, TooLong, option_map_or, fed, IsClosed, IsSettled, filter_map, flat_map, enumerate_from, Contains, WrongKind, OutOfRange, NotExactlyOnce, Weight, GroupingPart}
-pub use Rattle.topology_reader.specs.Reach.{IsPath, IsPathThrough}
-pub use Rattle.topology_reader.specs.Steps.{IsMade, field_table, has, AreReached, led, SubTable, with_sub, with_input, with_inputs, no_subs, items_by}
+pub use Rattle.topology_reader.specs.Prelude.{first_some, FileParts, TopoFault, IsValid, IsInRange, Topology, tasks_in_all, range_with_len, list_any, bytes_eq, Origin, Twice, NoSource, NoField, FieldsDiffer, Input, Operation, Split, Project, Filter, Set, Len, Route, Flaky, Mute, Custom, BodyPart, Bolt, State, ComponentPart, components_of, IsBetween, feeds_at, Feed, Cycle, TooLong, option_map_or, fed, IsClosed, IsSettled, filter_map, flat_map, enumerate_from, Contains, WrongKind, NotExactlyOnce, Weight, GroupingPart}
+pub use Rattle.topology_reader.specs.Wiring.{IsPath, IsPathThrough}
+pub use Rattle.topology_reader.specs.Steps.{IsMade, field_table, has, AreReached, led, place_in, with_sub, with_input, with_inputs, items_by}
 pub use Rattle.topology_reader.specs.ValidFile.{IsSource, IsValidFile, AreDistinct, HasFields, IsValidInput, IsValidComponent, IsNumbered}
 pub use Rattle.topology_reader.specs.Wiring.{component_names, name_at, source_of, inputs_by_component, inputs_at, sources_at, fields_after, fields_to, body_of, graph_of, place_of, first_of, fields_rule, component_count, is_component, feeds, component_at, copies_said, feeds_of, reaches_over, sources_among, bolt_names, feed_of}
 unfoldable pub use Rattle.topology_reader.specs.Wiring.{fields_of, reaches}

@@ -1,6 +1,6 @@
 -- The plan of a file without a fault, and that the first bytes of a file decide.
-use Rattle.std.proofs.Common.{◌≡◌, ◌↔◌, ◌<◌, ℕ, List, [], ◌∷◌, length, take, Some, None, refl, sym, ap, subst, ◌∙◌, inl, inr, arith}
-use Rattle.topology_reader.proofs.Common.{cases_lt, take_all, length-take-le, none-some, same_Some, Data, json_of, Topology, IsValid, TopoFault, TooLong, IsInRange, IsWired, plan_of, first_fault, length_fault, value_fault, IsFilePlan, meaning_fault, IsValidFile, in_range}
+use Rattle.std.proofs.Common.{if◌then◌else◌, nat_lt, Bool, true, false, Option, ◌≡◌, ◌↔◌, ◌<◌, ℕ, List, [], ◌∷◌, length, take, Some, None, refl, sym, ap, subst, ◌∙◌, inl, inr, arith}
+use Rattle.topology_reader.proofs.Common.{cases_lt, take_all, length-take-le, none-some, same_Some, Data, json_of, Topology, IsValid, TopoFault, TooLong, IsInRange, IsWired, plan_of, first_fault, value_fault, IsFilePlan, meaning_fault, IsValidFile, in_range}
 use Rattle.topology_reader.proofs.Listed.{none_each}
 use Rattle.topology_form.specs.Faults.{fault_text}
 use Rattle.topology_reader.proofs.FileFaults.{too_long}
@@ -9,12 +9,15 @@ use Rattle.topology_reader.proofs.ValidPlan.{valid_plan}
 use Rattle.topology_reader.proofs.WiredPlan.{wired_plan}
 use Rattle.topology_reader.proofs.ValidFile.{valid_file}
 
+not_long : (test : Bool) (long : TopoFault) (found : Option TopoFault) → (if test then Some long else found) ≡ None → found ≡ None
+not_long true long found none = absurd (none-some long (sym none))
+not_long false long found none = none
+
 -- where a file has no fault, what it says is in range, and has none
 said_without_fault : (bytes : List ℕ) (value : Data) → json_of bytes ≡ Some value → first_fault bytes ≡ None → IsInRange (parts_said value) × (meaning_fault (parts_said value) ≡ None)
 unfolding first_fault
 said_without_fault bytes value spelled none =
-    let each = none_each (length_fault bytes ∷ value_fault (json_of bytes) ∷ []) none in
-    let said : value_fault (Some value) ≡ None = subst (λ file. value_fault file ≡ None) spelled each.1.0 in
+    let said : value_fault (Some value) ≡ None = subst (λ file. value_fault file ≡ None) spelled (not_long (nat_lt 65536 (length bytes)) (TooLong (length bytes)) (value_fault (json_of bytes)) none) in
     let form = none_each (form_fault value ∷ meaning_fault (parts_said value) ∷ []) said in
     (in_range value form.0, form.1.0)
 

@@ -2,7 +2,7 @@
 -- first source.
 use Rattle.std.proofs.Common.{◌≡◌, ℕ, zero, suc, ◌<◌, ◌^◌, List, [], ◌∷◌, length, Some, None, slice_index_or, unwrap_or, ⊎_elim, inl, refl, sym, ◌∙◌, ap, subst, arith}
 use Rattle.topology_reader.proofs.Common.{option_map_or, Origin, ComponentPart, components_of, component_at, FileParts, IsInRange, Feed, fed, feeds_at, IsClosed, value_in, value_of, IsThere, IsSettled, cases_lt, get_or_past, get_or-map-range_with_len, length-map-range_with_len, slice_get_past, slice_get_within, settled_by_rank, value_settled, cycle_fault, field_table, IsSource, sources_at, graph_of, fields_to, fields_after, first_of, fields_rule, fields_of}
-use Rattle.topology_graph.specs.Found.{read}
+use Rattle.topology_graph.specs.Graph.{read}
 use Rattle.topology_plan.specs.declared.parts.Origin.TheVariants as origin
 use Rattle.topology_reader.proofs.Listed.{IsIn, in_place, to_map}
 use Rattle.topology_reader.proofs.Numbered.{IsAt, count_parts}

@@ -1,6 +1,6 @@
 -- A file that says what is valid has no fault in what it says.
-use Rattle.std.proofs.Common.{◌≡◌, ◌≢◌, ◌↔◌, ℕ, zero, suc, ◌+◌, ◌<◌, ◌≤◌, ◌==◌, ◌&&◌, ◌∷◌, List, [], ◌++◌, pos, length, map, filter, All, AllPairs, true, false, not, nat_lt, int_le, Option, Some, None, IfSome, option_map, option_and_then, slice_get, is_none, codes, inl, inr, refl, sym, ◌∙◌, ap, subst, arith}
-use Rattle.topology_reader.proofs.Common.{Contains, list_any, range_with_len, option_map_or, bytes_eq, first_some, Origin, tasks_in_all, IsBetween, WrongKind, OutOfRange, Twice, NoSource, FieldsDiffer, NoField, NotExactlyOnce, Weight, GroupingPart, Input, Split, Project, Filter, Set, Len, Route, Flaky, Mute, Custom, BodyPart, Bolt, State, ComponentPart, components_of, FileParts, IsInRange, IsBodyInRange, IsComponentInRange, is_bolt, feeds_at, Feed, pointwise, pointwise_decides, cond-true, cond-false, false≢true, false_from_ne_true, and_from, eqb-true, le-leb, le-ltb, map-id, same_Some, slice_get_within, Kind, Transactional, Opaque, depth_at, by_depth, is_among, range_fault, first_again, again_fault, key_of, own_key, projected, component_twice, twice_fault, nameless_fault, source_fault, cycle_fault, differ_fault, field_fault, is_route, chooses, direct_fault, input_fault, fields_read, amount_read, added_fault, part_fault, component_fault, fields_fault, keeps_exact, replay_fault, weight_fault, meaning_fault, fault_before_size, size_fault, component_names, component_count, name_at, source_of, inputs_at, sources_at, is_component, feeds, fields_after, fields_of, fields_to, body_of, graph_of, plan_of, IsPathThrough, AreDistinct, HasFields, IsValidInput, IsValidComponent, IsValidFile, list_any_none}
+use Rattle.std.proofs.Common.{if◌then◌else◌, ◌≡◌, ◌≢◌, ◌↔◌, ℕ, zero, suc, ◌+◌, ◌<◌, ◌≤◌, ◌==◌, ◌&&◌, ◌∷◌, List, [], ◌++◌, pos, length, map, filter, All, AllPairs, true, false, not, nat_lt, int_le, Option, Some, None, IfSome, option_map, option_and_then, slice_get, is_none, codes, inl, inr, refl, sym, ◌∙◌, ap, subst, arith}
+use Rattle.topology_reader.proofs.Common.{Contains, list_any, range_with_len, option_map_or, bytes_eq, first_some, Origin, tasks_in_all, IsBetween, WrongKind, OutOfRange, Twice, NoSource, FieldsDiffer, NoField, NotExactlyOnce, Weight, GroupingPart, Input, Split, Project, Filter, Set, Len, Route, Flaky, Mute, Custom, BodyPart, Bolt, State, ComponentPart, components_of, FileParts, IsInRange, IsBodyInRange, IsComponentInRange, is_bolt, feeds_at, Feed, pointwise, pointwise_decides, cond-true, cond-false, false≢true, false_from_ne_true, and_from, eqb-true, le-leb, le-ltb, map-id, same_Some, slice_get_within, Kind, Transactional, Opaque, depth_at, by_depth, is_among, range_fault, first_again, again_fault, key_of, own_key, projected, component_twice, twice_fault, nameless_fault, source_fault, cycle_fault, differ_fault, field_fault, is_route, chooses, direct_fault, input_fault, fields_read, amount_read, added_fault, component_fault, fields_fault, keeps_exact, replay_fault, meaning_fault, size_fault, component_names, component_count, name_at, source_of, inputs_at, sources_at, is_component, feeds, fields_after, fields_of, fields_to, body_of, graph_of, plan_of, IsPathThrough, AreDistinct, HasFields, IsValidInput, IsValidComponent, IsValidFile, list_any_none}
 use Rattle.topology_plan.specs.Topology.{weight_of}
 use Rattle.std.proofs.lemmas.List.{length-append}
 use Rattle.topology_plan.specs.declared.parts.Origin.TheVariants as origin
@@ -201,7 +201,7 @@ module _ (p : FileParts) (valid : IsValidFile p) where
   input_none c input has =
       none_first (field_fault p c (key_of input.grouping) ∷ direct_fault p input input.grouping ∷ []) (there_none c (key_of input.grouping) has.key_fields, (direct_none c input input.grouping has (λ is. is), tt))
 
-within_range : (name : List ℕ) (n least most : ℕ) → IsBetween n least most → range_fault name (pos n) least most ≡ None
+within_range : (name : List ℕ) (n least most : ℕ) → IsBetween n least most → range_fault name least most (pos n) ≡ None
 within_range name n least most between =
     cond-true (int_le (pos least) (pos n) && int_le (pos n) (pos most)) None (Some (OutOfRange name (pos n) least most))
     (and_from (int_le (pos least) (pos n)) (int_le (pos n) (pos most)) (le-leb least n between.0) (le-leb n most between.1))
@@ -227,7 +227,7 @@ added_none fields come (Bolt (Len field into)) is has =
     let apart : AreApart (come ++ into ∷ []) = apart_from_distinct (come ++ into ∷ []) (subst AreDistinct is (has refl).0) in
     let new : is_among come into ≡ false = false_from_ne_true (is_among come into) (λ among. new_last come into apart (among_in come into among)) in
     let more : length fields ≡ length come + 1 = ap (λ (names : List (List ℕ)). length names) is ∙ length-append come (into ∷ []) in
-    cond-false (is_among come into) (Some (Twice into)) (range_fault (codes "fields") (pos (length come + 1)) 1 8) new
+    cond-false (is_among come into) (Some (Twice into)) (range_fault (codes "fields") 1 8 (pos (length come + 1))) new
     ∙ within_range (codes "fields") (length come + 1) 1 8 (subst (λ n. IsBetween n 1 8) more (has refl).1)
 added_none fields come (Bolt (Route field)) is has = refl
 added_none fields come (Bolt (Flaky below)) is has = refl
@@ -240,13 +240,13 @@ module _ (p : FileParts) (valid : IsValidFile p) where
   component_none c within =
       let part = part_there p c within in
       let reads : All (Contains (fields_to p c)) (fields_read part.0.body ++ amount_read part.0.body) =
-      subst (λ there. All (Contains (fields_to p c)) (option_map_or (λ (part : ComponentPart). fields_read part.body ++ amount_read part.body) there [])) part.1 (IsValidComponent.reads (valid.components c within))
+      subst (λ there. IfSome there (λ (part : ComponentPart). All (Contains (fields_to p c)) (fields_read part.body ++ amount_read part.body))) part.1 (IsValidComponent.reads (valid.components c within))
       in
       let some = λ (names : List (List ℕ)) (from : (name : List ℕ) → IsIn name names → IsIn name (fields_read part.0.body ++ amount_read part.0.body)).
       there_none p valid c names (All-from_in (Contains (fields_to p c)) names (λ name at. All-at_in (Contains (fields_to p c)) (fields_read part.0.body ++ amount_read part.0.body) reads name (from name at)))
       in
       let has = λ (bolt : is_bolt part.0.body ≡ true). has_fields p valid c part.0 part.1 bolt in
-      ap (option_and_then (part_fault p c)) part.1
+      ap (option_and_then (λ (part : ComponentPart). first_some (faults_of p c part))) part.1
       ∙ none_first (faults_of p c part.0) (
         same_none p valid c within,
         (
@@ -281,18 +281,19 @@ module _ (p : FileParts) (valid : IsValidFile p) where
       (find_none (λ (part : ComponentPart). keeps_exact part.body) p.states
       (λ part at. All-at_in (λ (state : ComponentPart). keeps_exact state.body ≡ false) p.states (valid.replays is) part at))
 
-light : (weight : ℕ) → weight ≤ 256 → weight_fault weight ≡ None
+light : (weight : ℕ) → weight ≤ 256 → (if nat_lt 256 weight then Some (Weight weight) else None) ≡ None
 light weight few = cond-false (nat_lt 256 weight) (Some (Weight weight)) None (le-ltb 256 weight few)
 
 pub none_of_valid : (p : FileParts) → IsValidFile p → meaning_fault p ≡ None
-unfolding meaning_fault size_fault
+unfolding meaning_fault
 none_of_valid p valid =
     let tasks = within_range (codes "tasks in all") (tasks_in_all (plan_of p)) 1 256 (subst (λ n. IsBetween n 1 256) (sum_of_tasks p) valid.tasks) in
-    none_first (fault_before_size p ∷ size_fault (tasks_in_all (plan_of p)) (weight_of (plan_of p)) ∷ []) (
-      none_first (twice_fault p ∷ source_fault p ∷ cycle_fault p ∷ fields_fault p ∷ replay_fault p p.spout.kind ∷ [])
-          (twice_none p valid, (source_none p valid, (cycle_none p valid, (fields_none p valid, (replay_none p valid p.spout.kind refl, tt))))),
-      (none_first (range_fault (codes "tasks in all") (pos (tasks_in_all (plan_of p))) 1 256 ∷ weight_fault (weight_of (plan_of p)) ∷ []) (tasks, (light (weight_of (plan_of p)) valid.weight, tt)), tt),
-    )
+    let size =
+    none_first (range_fault (codes "tasks in all") 1 256 (pos (tasks_in_all (plan_of p))) ∷ (if nat_lt 256 (weight_of (plan_of p)) then Some (Weight (weight_of (plan_of p))) else None) ∷ [])
+    (tasks, (light (weight_of (plan_of p)) valid.weight, tt))
+    in
+    none_first (twice_fault p ∷ source_fault p ∷ cycle_fault p ∷ fields_fault p ∷ replay_fault p p.spout.kind ∷ size_fault (tasks_in_all (plan_of p)) (weight_of (plan_of p)) ∷ [])
+    (twice_none p valid, (source_none p valid, (cycle_none p valid, (fields_none p valid, (replay_none p valid p.spout.kind refl, (size, tt))))))
 
 -- what a file says has no fault exactly where it is valid
 pub none_exactly_valid : (p : FileParts) → IsInRange p → (meaning_fault p ≡ None) ↔ IsValidFile p

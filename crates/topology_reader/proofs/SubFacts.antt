@@ -1,6 +1,6 @@
 -- The subscriptions of the plan of a file without a fault: at most one of a component to a source, with a grouping by fields that are there.
 use Rattle.std.proofs.Common.{◌≡◌, ℕ, ◌+◌, ◌<◌, List, [], ◌∷◌, ◌++◌, length, map, filter, All, Bool, true, false, Option, Some, None, option_map, option_and_then, slice_get, unwrap_or, codes, ◌⊎◌, inl, inr, refl, sym, ◌∙◌, ap, subst, arith}
-use Rattle.topology_reader.proofs.Common.{enumerate_from, flat_map, option_map_or, Origin, WrongKind, GroupingPart, Input, Split, Project, Filter, Set, Len, Route, Flaky, Mute, Custom, BodyPart, Bolt, State, ComponentPart, components_of, FileParts, IsBetween, IsInRange, IsGroupingInRange, IsInputInRange, IsComponentInRange, cases_Bool, cases_lt, cond-true, cond-false, false≢true, false_from_ne_true, length-map, map-id, none-some, same_Some, slice_get_within, Sub, subs_of, plan_fields, width_of, AreWithin, IsRouteOf, IsFrom, source_of, inputs_by_component, inputs_at, sources_at, fields_after, fields_of, fields_to, body_of, number_of, numbers_of, planned_body, route_field, planned_grouping, is_from, subs_of_component, planned_subs, planned_component, plan_of, key_of, is_route, chooses, direct_fault, fields_read, amount_read, twice_fault, IsSource}
+use Rattle.topology_reader.proofs.Common.{enumerate_from, flat_map, option_map_or, Origin, WrongKind, GroupingPart, Input, Split, Project, Filter, Set, Len, Route, Flaky, Mute, Custom, BodyPart, Bolt, State, ComponentPart, components_of, FileParts, IsBetween, IsInRange, IsGroupingInRange, IsComponentInRange, cases_Bool, cases_lt, cond-true, cond-false, false≢true, false_from_ne_true, length-map, map-id, none-some, same_Some, slice_get_within, Sub, subs_of, plan_fields, width_of, AreWithin, IsRouteOf, IsFrom, source_of, inputs_by_component, inputs_at, sources_at, fields_after, fields_of, fields_to, body_of, number_of, numbers_of, planned_body, route_field, planned_grouping, is_from, subs_of_component, planned_subs, planned_component, plan_of, key_of, is_route, chooses, direct_fault, fields_read, amount_read, twice_fault, IsSource}
 use Rattle.std.specs.List.Sorted.{IsStrictlyIncreasing}
 use Rattle.topology_plan.specs.declared.parts.Component.{Component}
 use Rattle.topology_plan.specs.declared.parts.Origin.TheVariants as origin
@@ -158,7 +158,7 @@ chosen_by_route p input from source none =
 said_in_range : (p : FileParts) (inputs : List Input) (input : Input) → IsInRange p → IsIn inputs (inputs_by_component p) → IsIn input inputs → IsGroupingInRange input.grouping
 said_in_range p inputs input range at =
     of_inputs p (λ (is : List Input). (input : Input) → IsIn input is → IsGroupingInRange input.grouping)
-    (λ part at. All-at_in IsInputInRange part.inputs (IsComponentInRange.groupings (All-at_in IsComponentInRange (components_of p) range.each part at))) inputs at input
+    (λ part at. All-at_in (λ (input : Input). IsGroupingInRange input.grouping) part.inputs (IsComponentInRange.groupings (All-at_in IsComponentInRange (components_of p) range.each part at))) inputs at input
 
 -- no name stands twice in a key
 pub key_apart : (p : FileParts) (inputs : List Input) (input : Input) → twice_fault p ≡ None → IsIn inputs (inputs_by_component p) → IsIn input inputs → AreApart (key_of input.grouping)

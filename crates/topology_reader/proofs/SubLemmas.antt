@@ -1,18 +1,29 @@
 -- The subscriptions of all sources, made in one walk over the inputs.
-use Rattle.std.proofs.Common.{◌≡◌, ◌≢◌, ℕ, ◌+◌, ◌<◌, ◌==◌, Bool, true, false, cond, inl, inr, List, [], ◌∷◌, ◌++◌, length, map, filter, take, get_or, set, fold, Option, Some, None, Vec, refl, sym, ap, ◌∙◌, subst, arith, append_assoc}
-use Rattle.topology_reader.proofs.Common.{cases_Bool, eqb-true, eqb-false, map-set, get_or-map, append-nil, length-take-le, slice_get_within, length-set, length-replicate, get_or-replicate, get_or-set_same, get_or-set_other, fill_by_all, fold_push, enumerate_from, flat_map, range_with_len, Origin, ComponentPart, Input, FileParts, Sub, is_origin, is_from, planned_grouping, subs_of_component, planned_subs, SubTable, with_sub, with_input, with_inputs, no_subs, items_by, source_of, inputs_by_component, component_count}
+use Rattle.std.proofs.Common.{◌≡◌, ◌≢◌, ℕ, ◌+◌, ◌<◌, ◌==◌, Bool, true, false, cond, inl, inr, List, [], ◌∷◌, ◌++◌, length, map, filter, take, drop, replicate, slice_index_or, get_or, set, fold, suc, Option, Some, None, Vec, refl, sym, ap, ◌∙◌, subst, arith, append_assoc}
+use Rattle.topology_reader.proofs.Common.{cases_Bool, eqb-true, eqb-false, map-set, get_or-map, append-nil, length-take-le, slice_get_within, length-set, length-replicate, get_or-replicate, get_or-set_same, get_or-set_other, fill_by_all, fold_push, enumerate_from, flat_map, range_with_len, Origin, ComponentPart, Input, FileParts, Sub, is_origin, is_from, planned_grouping, subs_of_component, planned_subs, planned_component_subs, place_in, with_sub, with_input, with_inputs, items_by, source_of, inputs_by_component, component_count}
 use Rattle.std.specs.declared.alloc.Global.{Global}
 use Rattle.topology_plan.specs.declared.parts.Origin.TheVariants as origin
 use Rattle.topology_reader.proofs.Numbered.{IsAt, inputs_at_part, take_at}
 use Rattle.topology_reader.proofs.SourceLemmas.{length_inputs}
 use Rattle.topology_reader.proofs.PartLemmas.{enumerate_append}
 
+zero-suc : {n : ℕ} → 0 ≡ suc n → ⊥
+zero-suc same = omega (arith, same)
+
+add-one : (n : ℕ) → n + 1 ≡ suc n
+add-one n = omega arith
+
 -- a vector of the table with one more subscription
-pub added_at : (components : List (Vec Sub Global)) (c : ℕ) (old new : Vec Sub Global) (sub : Sub) → c < length components → old ≡ get_or components c old → new.items ≡ old.items ++ sub ∷ [] → items_by (set components c new) ≡ set (items_by components) c (get_or (items_by components) c [] ++ sub ∷ [])
-added_at components c old new sub below is added =
-    map-set (λ (subs : Vec Sub Global). subs.items) components c new
-    ∙ ap (set (items_by components) c)
-    (added ∙ ap (λ xs. xs ++ sub ∷ []) (ap (λ (subs : Vec Sub Global). subs.items) is ∙ sym (get_or-map (λ (subs : Vec Sub Global). subs.items) components c old [] below)))
+pub added_at : (rows : List (Vec Sub Global)) (place : ℕ) (old new : Vec Sub Global) (sub : Sub) → place < length rows → old ≡ get_or rows place old → new.items ≡ old.items ++ sub ∷ [] → items_by (set rows place new) ≡ set (items_by rows) place (get_or (items_by rows) place [] ++ sub ∷ [])
+added_at rows place old new sub below is added =
+    map-set (λ (subs : Vec Sub Global). subs.items) rows place new
+    ∙ ap (set (items_by rows) place)
+    (added ∙ ap (λ xs. xs ++ sub ∷ []) (ap (λ (subs : Vec Sub Global). subs.items) is ∙ sym (get_or-map (λ (subs : Vec Sub Global). subs.items) rows place old [] below)))
+
+-- the first of the table's vectors, and the others
+pub taken : (rows : List (Vec Sub Global)) (first : Vec Sub Global) (subs : List Sub) (others : List (List Sub)) → items_by rows ≡ subs ∷ others → first ≡ slice_index_or rows 0 first → (first.items ≡ subs) × (items_by (drop 1 rows) ≡ others)
+taken [] first subs others is at = absurd (zero-suc (ap length is))
+taken (row ∷ rows) first subs others is at = (ap (λ (subs : Vec Sub Global). subs.items) at ∙ ap (λ table. get_or table 0 []) is, ap (drop 1) is)
 
 -- ---- numbered rows
 
@@ -21,7 +32,7 @@ map-enumerate g n [] = refl
 map-enumerate g n (x ∷ xs) = ap (λ ys. g n ∷ ys) (map-enumerate g (n + 1) xs)
 
 -- one component more
-pub walk_next : (p : FileParts) (c : ℕ) (part : ComponentPart) (start old new : SubTable) → IsAt p c part → old ≡ fold (with_inputs p) start (enumerate_from 0 (take c (inputs_by_component p))) → new ≡ with_inputs p old (c, part.inputs)
+pub walk_next : (p : FileParts) (c : ℕ) (part : ComponentPart) (start old new : List (List Sub)) → IsAt p c part → old ≡ fold (with_inputs p) start (enumerate_from 0 (take c (inputs_by_component p))) → new ≡ with_inputs p old (c, part.inputs)
     → new ≡ fold (with_inputs p) start (enumerate_from 0 (take (c + 1) (inputs_by_component p)))
 walk_next p c part start old new at so_far added =
     let rows = inputs_by_component p in
@@ -36,55 +47,52 @@ walk_next p c part start old new at so_far added =
 
 -- ---- what a table holds
 
--- the table has these subscriptions of each source, of which n are components
-record IsTable (n : ℕ) (f : Origin → List Sub) (table : SubTable) : Type 0 where
-  from_spout : table.from_spout ≡ f origin.Spout
-  count : length table.from_components ≡ n
-  each : (c : ℕ) → c < n → get_or table.from_components c [] ≡ f (origin.Component c)
+-- the table has these subscriptions of the spout, and of each of n components
+record IsTable (n : ℕ) (f : Origin → List Sub) (table : List (List Sub)) : Type 0 where
+  count : length table ≡ n + 1
+  each : (from : Origin) → place_in from < n + 1 → get_or table (place_in from) [] ≡ f from
 
-IsTable-none : (n : ℕ) → IsTable n (λ _. []) (no_subs n)
-IsTable-none n = record {
-  from_spout = refl;
-  count = length-replicate n [];
-  each = λ c below. get_or-replicate n c [] [] below;
-}
+IsTable-none : (n : ℕ) → IsTable n (λ _. []) (replicate (n + 1) [])
+IsTable-none n = record { count = length-replicate (n + 1) []; each = λ from below. get_or-replicate (n + 1) (place_in from) [] [] below }
 
-IsTable-same : (n : ℕ) (f g : Origin → List Sub) (table : SubTable) → ((from : Origin) → f from ≡ g from) → IsTable n f table → IsTable n g table
-IsTable-same n f g table same is = record {
-  from_spout = is.from_spout ∙ same origin.Spout;
-  count = is.count;
-  each = λ c below. is.each c below ∙ same (origin.Component c);
-}
+IsTable-same : (n : ℕ) (f g : Origin → List Sub) (table : List (List Sub)) → ((from : Origin) → f from ≡ g from) → IsTable n f table → IsTable n g table
+IsTable-same n f g table same is = record { count = is.count; each = λ from below. is.each from below ∙ same from }
+
+IsTable-split : (n : ℕ) (f : Origin → List Sub) (table : List (List Sub)) → IsTable n f table → table ≡ f origin.Spout ∷ map (λ c. f (origin.Component c)) (range_with_len 0 n)
+IsTable-split n f [] is = absurd (zero-suc (is.count ∙ add-one n))
+IsTable-split n f (first ∷ others) is =
+    let spout : first ≡ f origin.Spout = is.each origin.Spout (omega arith) in
+    let rest : others ≡ map (λ c. f (origin.Component c)) (range_with_len 0 n) =
+    fill_by_all (λ c. f (origin.Component c)) others n [] (omega (arith, is.count)) (λ c below. subst (λ k. get_or (first ∷ others) k [] ≡ f (origin.Component c)) (add-one c) (is.each (origin.Component c) (omega (arith, below)))) in
+    cc
 
 -- what a subscription to one source adds to each
 addition : Origin → Sub → Origin → List Sub
 addition from sub other = cond (is_origin other from) (sub ∷ []) []
 
 -- the place that a subscription is added at, and the others
-set_each : (d : ℕ) (sub : Sub) (f : Origin → List Sub) (subs : List (List Sub)) (c : ℕ) → c < length subs → get_or subs c [] ≡ f (origin.Component c) → get_or (set subs d (get_or subs d [] ++ sub ∷ [])) c [] ≡ f (origin.Component c) ++ cond (c == d) (sub ∷ []) []
-set_each d sub f subs c below is =
+at_same : (table : List (List Sub)) (place : ℕ) (sub : Sub) (subs : List Sub) → place < length table → get_or table place [] ≡ subs → get_or (set table place (get_or table place [] ++ sub ∷ [])) place [] ≡ subs ++ sub ∷ []
+at_same table place sub subs below is = get_or-set_same table place (get_or table place [] ++ sub ∷ []) [] below ∙ ap (λ xs. xs ++ sub ∷ []) is
+
+at_other : (table : List (List Sub)) (place other : ℕ) (sub : Sub) (subs : List Sub) → other ≢ place → get_or table other [] ≡ subs → get_or (set table place (get_or table place [] ++ sub ∷ [])) other [] ≡ subs ++ []
+at_other table place other sub subs differs is = get_or-set_other table place other (get_or table place [] ++ sub ∷ []) [] differs ∙ is ∙ sym (append-nil subs)
+
+set_each : (from other : Origin) (sub : Sub) (subs : List Sub) (table : List (List Sub)) → place_in other < length table → get_or table (place_in other) [] ≡ subs → get_or (with_sub table from sub) (place_in other) [] ≡ subs ++ addition from sub other
+unfolding addition
+set_each origin.Spout origin.Spout sub subs table below is = at_same table 0 sub subs below is
+set_each origin.Spout (origin.Component c) sub subs table below is = at_other table 0 (c + 1) sub subs (λ same. zero-suc (sym same ∙ add-one c)) is
+set_each (origin.Component d) origin.Spout sub subs table below is = at_other table (d + 1) 0 sub subs (λ same. zero-suc (same ∙ add-one d)) is
+set_each (origin.Component d) (origin.Component c) sub subs table below is =
     elim (cases_Bool (c == d)) [
       | inl equal ↦
-          let same : c ≡ d = eqb-true c d equal in
-          let there : d < length subs = omega arith in
-          let here : get_or subs d [] ≡ f (origin.Component c) = ap (λ k. get_or subs k []) (sym same) ∙ is in
-          rw (equal) (ap (λ k. get_or (set subs d (get_or subs d [] ++ sub ∷ [])) k []) same ∙ get_or-set_same subs d (get_or subs d [] ++ sub ∷ []) [] there ∙ ap (λ xs. xs ++ sub ∷ []) here)
-      | inr differs ↦
-          let other : c ≢ d = eqb-false c d differs in
-          rw (differs) (get_or-set_other subs d c (get_or subs d [] ++ sub ∷ []) [] other ∙ is ∙ sym (append-nil (f (origin.Component c))))
+          rw (equal) (subst (λ k. get_or (set table (k + 1) (get_or table (k + 1) [] ++ sub ∷ [])) (c + 1) [] ≡ subs ++ sub ∷ []) (eqb-true c d equal) (at_same table (c + 1) sub subs below is))
+      | inr differs ↦ rw (differs) (at_other table (d + 1) (c + 1) sub subs (λ same. eqb-false c d differs (omega (arith, same))) is)
     ]
 
-IsTable-add : (n : ℕ) (f : Origin → List Sub) (table : SubTable) (from : Origin) (sub : Sub) → IsTable n f table → IsTable n (λ other. f other ++ addition from sub other) (with_sub table from sub)
-unfolding addition
-IsTable-add n f table origin.Spout sub is = record {
-  from_spout = ap (λ xs. xs ++ sub ∷ []) is.from_spout;
-  count = is.count;
-  each = λ c below. is.each c below ∙ sym (append-nil (f (origin.Component c)));
-}
-IsTable-add n f table (origin.Component d) sub is = record {
-  from_spout = is.from_spout ∙ sym (append-nil (f origin.Spout));
-  count = length-set table.from_components d (get_or table.from_components d [] ++ sub ∷ []) ∙ is.count;
-  each = λ c below. set_each d sub f table.from_components c (omega (arith, is.count)) (is.each c below);
+IsTable-add : (n : ℕ) (f : Origin → List Sub) (table : List (List Sub)) (from : Origin) (sub : Sub) → IsTable n f table → IsTable n (λ other. f other ++ addition from sub other) (with_sub table from sub)
+IsTable-add n f table from sub is = record {
+  count = length-set table (place_in from) (get_or table (place_in from) [] ++ sub ∷ []) ∙ is.count;
+  each = λ other below. set_each from other sub (f other) table (omega (arith, is.count, below)) (is.each other below);
 }
 
 -- ---- inputs
@@ -104,7 +112,7 @@ addition-input p to input (origin.Component d) (origin.Component c) =
       | inr differs ↦ rw (differs) refl
     ]
 
-IsTable-source : (n : ℕ) (f : Origin → List Sub) (table : SubTable) (p : FileParts) (to : ℕ) (input : Input) (source : Option Origin) → source_of p input.from ≡ source → IsTable n f table → IsTable n (λ other. f other ++ subs_of_component p other (to, input ∷ [])) (with_input p to table input)
+IsTable-source : (n : ℕ) (f : Origin → List Sub) (table : List (List Sub)) (p : FileParts) (to : ℕ) (input : Input) (source : Option Origin) → source_of p input.from ≡ source → IsTable n f table → IsTable n (λ other. f other ++ subs_of_component p other (to, input ∷ [])) (with_input p to table input)
 unfolding addition planned_sub
 IsTable-source n f table p to input None is holds =
     rw is (IsTable-same n f (λ other. f other ++ []) table (λ other. sym (append-nil (f other))) holds)
@@ -117,7 +125,7 @@ first_and_rest : {X Y : Type 0} (g : X → Y) (passes : Bool) (x : X) (rest : Li
 first_and_rest g true x rest = refl
 first_and_rest g false x rest = refl
 
-IsTable-inputs : (n : ℕ) (f : Origin → List Sub) (table : SubTable) (p : FileParts) (to : ℕ) (inputs : List Input) → IsTable n f table → IsTable n (λ other. f other ++ subs_of_component p other (to, inputs)) (fold (with_input p to) table inputs)
+IsTable-inputs : (n : ℕ) (f : Origin → List Sub) (table : List (List Sub)) (p : FileParts) (to : ℕ) (inputs : List Input) → IsTable n f table → IsTable n (λ other. f other ++ subs_of_component p other (to, inputs)) (fold (with_input p to) table inputs)
 IsTable-inputs n f table p to [] holds = IsTable-same n f (λ other. f other ++ []) table (λ other. sym (append-nil (f other))) holds
 IsTable-inputs n f table p to (input ∷ inputs) holds =
     IsTable-same n (λ other. (f other ++ subs_of_component p other (to, input ∷ [])) ++ subs_of_component p other (to, inputs)) (λ other. f other ++ subs_of_component p other (to, input ∷ inputs)) (fold (with_input p to) (with_input p to table input) inputs)
@@ -126,7 +134,7 @@ IsTable-inputs n f table p to (input ∷ inputs) holds =
     ∙ ap (λ subs. f other ++ subs) (first_and_rest (λ (i : Input). record { to = to; grouping = planned_grouping p other i.grouping }) (is_from p other input) input (filter (is_from p other) inputs)))
     (IsTable-inputs n (λ other. f other ++ subs_of_component p other (to, input ∷ [])) (with_input p to table input) p to inputs (IsTable-source n f table p to input (source_of p input.from) refl holds))
 
-IsTable-walk : (n : ℕ) (f : Origin → List Sub) (table : SubTable) (p : FileParts) (components : List (ℕ × List Input)) → IsTable n f table → IsTable n (λ other. f other ++ flat_map (subs_of_component p other) components) (fold (with_inputs p) table components)
+IsTable-walk : (n : ℕ) (f : Origin → List Sub) (table : List (List Sub)) (p : FileParts) (components : List (ℕ × List Input)) → IsTable n f table → IsTable n (λ other. f other ++ flat_map (subs_of_component p other) components) (fold (with_inputs p) table components)
 IsTable-walk n f table p [] holds = IsTable-same n f (λ other. f other ++ []) table (λ other. sym (append-nil (f other))) holds
 IsTable-walk n f table p (component ∷ components) holds =
     IsTable-same n (λ other. (f other ++ subs_of_component p other component) ++ flat_map (subs_of_component p other) components) (λ other. f other ++ (subs_of_component p other component ++ flat_map (subs_of_component p other) components)) (fold (with_inputs p) (with_inputs p table component) components)
@@ -135,15 +143,9 @@ IsTable-walk n f table p (component ∷ components) holds =
 
 -- ---- the whole walk
 
-module _ (p : FileParts) (table : SubTable) (walked : table ≡ fold (with_inputs p) (no_subs (component_count p)) (enumerate_from 0 (inputs_by_component p))) where
-  whole : IsTable (component_count p) (planned_subs p) table
-  whole = subst (IsTable (component_count p) (planned_subs p)) (sym walked) (IsTable-walk (component_count p) (λ _. []) (no_subs (component_count p)) p (enumerate_from 0 (inputs_by_component p)) (IsTable-none (component_count p)))
-
-  pub from_spout-walked : table.from_spout ≡ planned_subs p origin.Spout
-  from_spout-walked = whole.from_spout
-
-  pub from_components-walked : table.from_components ≡ map (λ (numbered : ℕ × List Input). planned_subs p (origin.Component numbered.0)) (enumerate_from 0 (inputs_by_component p))
-  from_components-walked =
-      fill_by_all (λ c. planned_subs p (origin.Component c)) table.from_components (component_count p) [] whole.count whole.each
-      ∙ ap (λ n. map (λ c. planned_subs p (origin.Component c)) (range_with_len 0 n)) (sym (length_inputs p))
-      ∙ sym (map-enumerate (λ c. planned_subs p (origin.Component c)) 0 (inputs_by_component p))
+pub subs-walked : (p : FileParts) (table : List (List Sub)) → table ≡ fold (with_inputs p) (replicate (component_count p + 1) []) (enumerate_from 0 (inputs_by_component p)) → table ≡ planned_subs p origin.Spout ∷ planned_component_subs p
+subs-walked p table walked =
+    let whole = subst (IsTable (component_count p) (planned_subs p)) (sym walked) (IsTable-walk (component_count p) (λ _. []) (replicate (component_count p + 1) []) p (enumerate_from 0 (inputs_by_component p)) (IsTable-none (component_count p))) in
+    IsTable-split (component_count p) (planned_subs p) table whole
+    ∙ ap (λ subs. planned_subs p origin.Spout ∷ subs)
+    (ap (λ n. map (λ c. planned_subs p (origin.Component c)) (range_with_len 0 n)) (sym (length_inputs p)) ∙ sym (map-enumerate (λ c. planned_subs p (origin.Component c)) 0 (inputs_by_component p)))

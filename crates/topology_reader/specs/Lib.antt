@@ -5,8 +5,6 @@ pub use Rattle.topology_form.specs.Faults
 pub mod Prelude
 pub mod Wiring
 pub mod Planned
-pub mod Meant
 pub mod FirstFault
 pub mod ValidFile
-pub mod Reach
 pub mod Steps

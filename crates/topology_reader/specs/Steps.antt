@@ -1,9 +1,9 @@
 -- What the steps of the checks have done, which no public contract cites.
-use Rattle.std.specs.Prelude.{bit_or, if◌then◌else◌, ◌≡◌, ◌≢◌, ◌<◌, ◌^◌, ◌==◌, ℕ, Bool, List, [], ◌∷◌, ◌++◌, length, map, fold, replicate, slice_index, slice_index_or, slice_set, Option, Some, None, Result, Ok, Err, Vec}
+use Rattle.std.specs.Prelude.{bit_or, if◌then◌else◌, ◌≡◌, ◌<◌, ◌^◌, ◌==◌, ℕ, ◌+◌, Bool, List, [], ◌∷◌, ◌++◌, length, map, fold, slice_index, slice_index_or, slice_set, Option, Some, Vec}
 use Rattle.std.specs.declared.alloc.Global.{Global}
 use Rattle.std.specs.Borrow.{Bor}
 use Rattle.std.specs.Int.{bit_at}
-use Rattle.topology_reader.specs.Prelude.{range_with_len, option_map_or, bytes_eq, Origin, tasks_in_all, depth_of, weight_of, TopoFault, Memory, Input, FileParts, value_of}
+use Rattle.topology_reader.specs.Prelude.{range_with_len, option_map_or, bytes_eq, Origin, tasks_in_all, depth_of, weight_of, Input, FileParts, value_of}
 use Rattle.indexmap.specs.IndexMap.{IndexMap, get_by}
 use Rattle.topology_plan.specs.declared.parts.Origin.TheVariants as origin
 use Rattle.topology_plan.specs.declared.parts.Sub.{Sub}
@@ -11,11 +11,6 @@ use Rattle.topology_plan.specs.declared.plan.Made.{Made}
 use Rattle.topology_plan.specs.Inside.{topology_of}
 use Rattle.topology_reader.specs.Planned.{planned_grouping, plan_of}
 use Rattle.topology_reader.specs.Wiring.{component_count, source_of, graph_of, reaches_over, fields_rule}
-
--- a check passes where there is no fault, and otherwise answers it, unless memory ran out
-abbrev pub Checks : {A : Type 0} → Result A TopoFault → Option TopoFault → Type 0
-Checks (Ok x) fault = fault ≡ None
-Checks (Err told) fault = told ≢ Memory → fault ≡ Some told
 
 -- ---- sources
 
@@ -55,23 +50,18 @@ field_table p =
 abbrev pub items_by : List (Vec Sub Global) → List (List Sub)
 items_by vectors = map (λ (subs : Vec Sub Global). subs.items) vectors
 
--- the subscriptions of the spout, and of each component
-pub record SubTable : Type 0 where
-  pub from_spout : List Sub
-  pub from_components : List (List Sub)
+-- the place of a source in a table of subscriptions, where those of the spout come first
+abbrev pub place_in : Origin → ℕ
+place_in origin.Spout = 0
+place_in (origin.Component c) = c + 1
 
 -- one more at its source, if that is there
-abbrev pub with_sub : SubTable → Origin → Sub → SubTable
-with_sub table origin.Spout sub =
-    record { from_spout = table.from_spout ++ sub ∷ []; from_components = table.from_components }
-with_sub table (origin.Component c) sub = record {
-  from_spout = table.from_spout;
-  from_components =
-      slice_set table.from_components c (slice_index_or table.from_components c [] ++ sub ∷ []);
-}
+abbrev pub with_sub : List (List Sub) → Origin → Sub → List (List Sub)
+with_sub table from sub =
+    slice_set table (place_in from) (slice_index_or table (place_in from) [] ++ sub ∷ [])
 
 -- an input of a component, at its source
-abbrev pub with_input : FileParts → ℕ → SubTable → Input → SubTable
+abbrev pub with_input : FileParts → ℕ → List (List Sub) → Input → List (List Sub)
 with_input p to table input =
     option_map_or
     (λ from. with_sub table from
@@ -79,12 +69,8 @@ with_input p to table input =
     (source_of p input.from) table
 
 -- all inputs of a component
-abbrev pub with_inputs : FileParts → SubTable → ℕ × List Input → SubTable
+abbrev pub with_inputs : FileParts → List (List Sub) → ℕ × List Input → List (List Sub)
 with_inputs p table component = fold (with_input p component.0) table component.1
-
--- no subscription yet
-abbrev pub no_subs : ℕ → SubTable
-no_subs count = record { from_spout = []; from_components = replicate count [] }
 
 -- the topology of what a file says, with its numbers
 pub record IsMade (p : FileParts) (made : Made) : Type 0 where

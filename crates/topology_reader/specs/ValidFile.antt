@@ -1,14 +1,13 @@
 -- What a file says that has no fault, in its own names. Components are the bolts and then the
 -- states, each in file order. This project's own.
-use Rattle.std.specs.Prelude.{◌≡◌, ◌≢◌, ◌<◌, ◌≤◌, ℕ, List, ◌∷◌, length, All, AllPairs, Some, IfSome, sum, true, false}
-use Rattle.topology_reader.specs.Prelude.{Contains, most_tasks_in_all, most_weight, Input, ComponentPart, FileParts, Origin, weight_of, IsBetween, IsInRange, option_map_or}
-use Rattle.topology_plan.specs.declared.parts.Kind.TheVariants.{Opaque}
+use Rattle.std.specs.Prelude.{◌≡◌, ◌≢◌, ◌<◌, ◌≤◌, ℕ, List, ◌∷◌, ◌++◌, length, All, AllPairs, Some, IfSome, sum, true, false}
+use Rattle.topology_reader.specs.Prelude.{Opaque, Contains, most_tasks_in_all, most_weight, Input, ComponentPart, FileParts, Origin, weight_of, IsBetween, IsInRange, option_map_or}
 use Rattle.topology_plan.specs.declared.parts.Origin.TheVariants as origin
 use Rattle.topology_plan.specs.Texts.{IsName}
 use Rattle.topology_form.specs.declared.parts.GroupingPart.TheVariants as said
 use Rattle.topology_reader.specs.Wiring.{component_names, component_count, source_of, inputs_at, fields_after, fields_of, fields_to, body_of, component_at}
 use Rattle.topology_reader.specs.Planned.{tasks_by_component, plan_of}
-use Rattle.topology_reader.specs.Meant.{key_of, reads_at, is_route, keeps_exact}
+use Rattle.topology_reader.specs.FirstFault.{key_of, fields_read, amount_read, is_route, keeps_exact}
 
 -- no name stands twice
 abbrev pub AreDistinct : List (List ℕ) → Type 0
@@ -27,10 +26,6 @@ pub record HasFields (p : FileParts) (from : Origin) : Type 0 where
   pub named : All IsName (fields_of p from)
   pub distinct : AreDistinct (fields_of p from)
 
--- the source is a bolt that chooses the tasks of its rows
-abbrev pub IsRouteAt : FileParts → Origin → Type 0
-IsRouteAt p from = option_map_or is_route (body_of p from) false ≡ true
-
 -- ---- components
 
 -- An input names a source that has these fields. The names of its key are among them, none twice,
@@ -42,14 +37,15 @@ pub record IsValidInput (p : FileParts) (fields : List (List ℕ)) (input : Inpu
   pub comes : fields_of p from ≡ fields
   pub key : AreDistinct (key_of input.grouping)
   pub key_fields : All (Contains fields) (key_of input.grouping)
-  pub direct : input.grouping ≡ said.Direct → IsRouteAt p from
+  pub direct : input.grouping ≡ said.Direct → option_map_or is_route (body_of p from) false ≡ true
 
 -- the inputs of component c name different sources, all with the same fields, and what
 -- it reads is among these
 pub record IsValidComponent (p : FileParts) (c : ℕ) : Type 0 where
   pub distinct : AllPairs (λ (a b : Input). a.from ≢ b.from) (inputs_at p c)
   pub inputs : All (IsValidInput p (fields_to p c)) (inputs_at p c)
-  pub reads : All (Contains (fields_to p c)) (reads_at p c)
+  pub reads : IfSome (component_at p c)
+      (λ part. All (Contains (fields_to p c)) (fields_read part.body ++ amount_read part.body))
 
 -- ---- the file
 

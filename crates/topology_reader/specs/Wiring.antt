@@ -1,6 +1,6 @@
 -- Who feeds whom in what a topology file says, and which fields a source has. Components are the
 -- bolts and then the states, each in file order. This project's own.
-use Rattle.std.specs.Prelude.{ℕ, zero, suc, ◌==◌, ◌&&◌, ◌||◌, List, [], ◌∷◌, ◌++◌, length, map, Bool, false, if◌then◌else◌, Option, Some, None, option_map, slice_get, slice_index_or}
+use Rattle.std.specs.Prelude.{◌≡◌, ◌<◌, ℕ, zero, suc, ◌==◌, ◌&&◌, ◌||◌, List, [], ◌∷◌, ◌++◌, length, map, Bool, true, false, if◌then◌else◌, Option, Some, None, option_map, slice_get, slice_index_or}
 use Rattle.topology_reader.specs.Prelude.{list_any, filter_map, option_map_or, bytes_eq, Origin, GroupingPart, Input, Split, Project, Len, BodyPart, Bolt, State, ComponentPart, FileParts, components_of, Feed, Rule, fed, feeds_at, value_of}
 use Rattle.topology_plan.specs.declared.parts.Origin.TheVariants as origin
 use Rattle.topology_form.specs.declared.parts.GroupingPart.TheVariants as said
@@ -98,6 +98,17 @@ reaches_over (suc n) p a b = reaches_over n p a b || (reaches_over n p a n && re
 -- there is a path from bolt a to component b
 unfoldable pub reaches : FileParts → ℕ → ℕ → Bool
 reaches p a b = reaches_over (length p.bolts) p a b
+
+-- bolt a feeds the first of these bolts, each of them feeds the next, and the last feeds component
+-- b
+abbrev pub IsPathThrough : FileParts → ℕ → List ℕ → ℕ → Type 0
+IsPathThrough p a [] b = feeds p a b ≡ true
+IsPathThrough p a (next ∷ bolts) b =
+    (next < length p.bolts) × (feeds p a next ≡ true) × IsPathThrough p next bolts b
+
+-- there is a path from bolt a to component b, through some bolts or none
+abbrev pub IsPath : FileParts → ℕ → ℕ → Type 0
+IsPath p a b = (bolts : List ℕ) × IsPathThrough p a bolts b
 
 -- ---- fields
 

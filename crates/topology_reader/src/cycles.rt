@@ -3,21 +3,22 @@
 ghost use Rattle.std.specs.Prelude.{◌≡◌, ◌≤◌, ◌<◌, ℕ, length, map, slice_index, option_map, false, IfOk};
 ghost use Rattle.std.specs.List.{find};
 ghost use Rattle.topology_reader.specs.Prelude.{list_any, range_with_len, option_copied, option_map_or, ComponentPart};
-ghost use Rattle.topology_reader.specs.Meant.{cycle_fault, is_transactional, keeps_exact, replay_fault};
-ghost use Rattle.topology_reader.specs.Steps.{Checks, has, led, AreReached};
+ghost use Rattle.topology_reader.specs.FirstFault.{cycle_fault, keeps_exact, replay_fault};
+ghost use Rattle.topology_reader.specs.Steps.{has, led, AreReached};
+ghost use Rattle.topology_form.specs.Reading.{Checks};
 ghost use Rattle.topology_reader.specs.Wiring.{is_component, source_of, sources_among};
 
-use crate::sources::Sources;
+use crate::wiring::Sources;
 use std::alloc::Global;
 use storm_values::{Memory, Txt};
-use topology_form::{BodyPart, ComponentPart, FileParts, Input, TopoFault};
+use topology_form::{BodyPart, ComponentPart, FileParts, Input, StatePart, TopoFault};
 use topology_plan::{Kind, Origin};
 
-pub(crate) fn check_cycles(alloc: Global, sources: &Sources<'_>) -> Result<(), TopoFault>
+pub(crate) fn check_cycles(sources: &Sources<'_>) -> Result<(), TopoFault>
     requires few { length sources.now.bolts ≤ 32 }
     ensures { Checks result (cycle_fault sources.now) }
 {
-    let sets = reach_sets(alloc, sources)?;
+    let sets = reach_sets(sources)?;
     match own_member(sets.as_slice()) {
         Some(c) => {
             let name = sources.component(c).name.copy()?;
@@ -42,13 +43,13 @@ fn own_member(sets: &[u64]) -> Option<usize>
 
 /// For each bolt the set of the bolts from which it can be reached. After the look-up of each input
 /// it takes as many steps as the square of the number of bolts.
-fn reach_sets(alloc: Global, sources: &Sources<'_>) -> Result<Vec<u64>, Memory>
+fn reach_sets(sources: &Sources<'_>) -> Result<Vec<u64>, Memory>
     requires few { length sources.now.bolts ≤ 32 }
     ensures { IfOk result (λ sets. AreReached (length sources.now.bolts) sources.now sets.items) }
 {
-    let mut sets = direct_sources(alloc, sources)?;
+    let mut sets = direct_sources(sources)?;
     for n in 0..sets.len() {
-        sets = led_through(alloc, sets.as_slice(), n)?;
+        sets = led_through(sources.alloc(), sets.as_slice(), n)?;
     }
     Ok(sets)
 }
@@ -61,11 +62,7 @@ fn led_through(alloc: Global, sets: &[u64], n: usize) -> Result<Vec<u64>, Memory
         (λ made. made.items ≡ map (led n (slice_index sets.now n)) sets.now) }
 {
     let through = sets[n];
-    let mut made = Vec::with_capacity(alloc, sets.len())?;
-    for set in sets {
-        made.push(led(n, through, *set))?;
-    }
-    Ok(made)
+    sets.iter().map(|set| led(n, through, *set)).collect(alloc)
 }
 
 fn led(n: usize, through: u64, set: u64) -> u64
@@ -79,12 +76,12 @@ fn led(n: usize, through: u64, set: u64) -> u64
 }
 
 /// For each bolt the set of the bolts that feed it.
-fn direct_sources(alloc: Global, sources: &Sources<'_>) -> Result<Vec<u64>, Memory>
+fn direct_sources(sources: &Sources<'_>) -> Result<Vec<u64>, Memory>
     requires few { length sources.now.bolts ≤ 32 }
     ensures { IfOk result (λ sets. AreReached 0 sources.now sets.items) }
 {
     let bolts = sources.parts().bolts.len();
-    let mut sets = Vec::with_capacity(alloc, bolts)?;
+    let mut sets = Vec::with_capacity(sources.alloc(), bolts)?;
     for c in 0..bolts {
         let inputs = sources.component(c).inputs.as_slice();
         sets.push(bolt_sources(sources, inputs))?;
@@ -123,15 +120,15 @@ fn has(set: u64, a: usize) -> bool
 }
 
 /// That an opaque spout has no transactional state, which it would not keep exact.
-pub(crate) fn check_replays(alloc: Global, parts: &FileParts) -> Result<(), TopoFault>
+pub(crate) fn check_replays(parts: &FileParts) -> Result<(), TopoFault>
     ensures { Checks result (replay_fault parts.now parts.now.spout.kind) }
 {
-    if is_transactional(parts.spout.kind) {
-        return Ok(());
-    }
-    match exact_name(parts.states.as_slice()) {
-        Some(name) => Err(TopoFault::NotExactlyOnce(name.copy()?)),
-        None => Ok(()),
+    match parts.spout.kind {
+        Kind::Transactional => Ok(()),
+        Kind::Opaque => match exact_name(parts.states.as_slice()) {
+            Some(name) => Err(TopoFault::NotExactlyOnce(name.copy()?)),
+            None => Ok(()),
+        },
     }
 }
 
@@ -146,14 +143,11 @@ fn exact_name(states: &[ComponentPart]) -> Option<&Txt>
 fn keeps_exact(body: &BodyPart) -> bool
     ensures { result ≡ keeps_exact body.now }
 {
-    match body {
-        BodyPart::State(state) => is_transactional(state.kind),
-        BodyPart::Bolt(_) => false,
-    }
-}
-
-fn is_transactional(kind: Kind) -> bool
-    ensures { result ≡ is_transactional kind }
-{
-    matches!(kind, Kind::Transactional)
+    matches!(
+        body,
+        BodyPart::State(StatePart {
+            kind: Kind::Transactional,
+            ..
+        })
+    )
 }

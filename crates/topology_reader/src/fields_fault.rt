@@ -3,42 +3,37 @@
 ghost use Rattle.std.specs.Prelude.{◌≡◌, not, find, map};
 ghost use Rattle.topology_reader.specs.Prelude.{list_any, option_copied, bytes_eq, first_some, Feed, feeds_at};
 ghost use Rattle.std.specs.Cmp.Lexicographic.{pointwise};
-ghost use Rattle.topology_reader.specs.Meant.{is_among, differ_fault, field_fault, chooses, direct_fault, input_fault, fields_read, amount_read, added_fault, part_fault, component_fault, fields_fault};
+ghost use Rattle.topology_reader.specs.FirstFault.{is_among, differ_fault, field_fault, chooses, direct_fault, input_fault, fields_read, amount_read, added_fault, component_fault, fields_fault};
 ghost use Rattle.topology_reader.specs.Wiring.{graph_of, fields_of, fields_to};
-ghost use Rattle.topology_reader.specs.Steps.{Checks};
+ghost use Rattle.topology_form.specs.Reading.{Checks};
 
-use crate::fields::Wiring;
 use crate::names::key_of;
+use crate::wiring::Wiring;
 use std::alloc::Global;
 use std::slice::from_ref;
 use storm_values::Txt;
 use topology_form::{
-    BodyPart, ComponentPart, GroupingPart, Input, Operation, StatePart, TopoFault,
+    BodyPart, ComponentPart, GroupingPart, Input, Operation, StatePart, TopoFault, within,
 };
+use topology_graph::by_depth;
 
 /// The fields of each component, after those of all of its sources.
 pub(crate) fn check_fields(wiring: &Wiring<'_>) -> Result<(), TopoFault>
     ensures { Checks result (fields_fault wiring.now) }
 {
-    for c in wiring.order() {
+    for c in &by_depth(wiring.alloc(), wiring.graph())? {
         check_component(wiring, *c)?;
     }
     Ok(())
 }
 
+/// A state adds no field, and the key of each of its inputs is its own.
 fn check_component(wiring: &Wiring<'_>, c: usize) -> Result<(), TopoFault>
     ensures { Checks result (component_fault wiring.now c) }
 {
-    match wiring.sources().component_at(c) {
-        Some(part) => check_part(wiring, c, part),
-        None => Ok(()),
-    }
-}
-
-/// A state adds no field, and the key of each of its inputs is its own.
-fn check_part(wiring: &Wiring<'_>, c: usize, part: &ComponentPart) -> Result<(), TopoFault>
-    ensures { Checks result (part_fault wiring.now c part.now) }
-{
+    let Some(part) = wiring.sources().component_at(c) else {
+        return Ok(());
+    };
     check_same(wiring, c)?;
     check_inputs(wiring, c, part.inputs.as_slice())?;
     check_there(wiring, c, fields_read(&part.body))?;
@@ -139,7 +134,7 @@ fn chooses(wiring: &Wiring<'_>, input: &Input) -> bool
     };
     matches!(
         wiring.sources().body_of(from),
-        Some(BodyPart::Bolt(Operation::Route { .. }))
+        Some(BodyPart::Bolt(Operation::Route(_)))
     )
 }
 
@@ -150,10 +145,10 @@ fn fields_read(body: &BodyPart) -> &[Txt]
         BodyPart::Bolt(Operation::Project(names)) => names.as_slice(),
         BodyPart::Bolt(
             Operation::Split { field, .. }
-            | Operation::Filter { field, .. }
-            | Operation::Set { field, .. }
+            | Operation::Filter(field, ..)
+            | Operation::Set(field, _)
             | Operation::Len { field, .. }
-            | Operation::Route { field },
+            | Operation::Route(field),
         ) => from_ref(field),
         BodyPart::Bolt(_) => &[],
         BodyPart::State(state) => state.key.as_slice(),
@@ -184,9 +179,5 @@ fn check_added(alloc: Global, fields: &[Txt], body: &BodyPart) -> Result<(), Top
         return Err(TopoFault::Twice(into.copy()?));
     }
     let count = fields.len() + 1;
-    if count <= 8 {
-        return Ok(());
-    }
-    let name = Txt::from_str(alloc, "fields")?;
-    Err(TopoFault::OutOfRange(name, count as i64, 1, 8))
+    within(alloc, "fields", count as i64, 1, 8)
 }

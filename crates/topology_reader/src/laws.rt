@@ -5,8 +5,8 @@ ghost use Rattle.topology_reader.specs.FirstFault.{first_fault, IsFilePlan};
 ghost use Rattle.topology_form.specs.Faults.{fault_text};
 ghost use Rattle.topology_plan.specs.Wired.{IsWired};
 ghost use Rattle.topology_reader.specs.ValidFile.{IsValidFile};
-ghost use Rattle.topology_reader.specs.Meant.{cycle_fault, meaning_fault};
-ghost use Rattle.topology_reader.specs.Reach.{IsPath};
+ghost use Rattle.topology_reader.specs.FirstFault.{cycle_fault, meaning_fault};
+ghost use Rattle.topology_reader.specs.Wiring.{IsPath};
 ghost use Rattle.topology_reader.specs.Wiring.{name_at, reaches};
 
 /// A law: the plan of a file without a fault is valid, and its subscriptions, groupings and

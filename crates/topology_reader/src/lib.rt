@@ -2,16 +2,13 @@
 //! `topology_form`'s.
 #![tactic(auto)]
 
-mod assembly;
 mod cycles;
-mod fields;
 mod fields_fault;
 mod laws;
 mod names;
 mod planned;
 mod read;
-mod sources;
-mod subscribed;
+mod wiring;
 
 pub use laws::{cycles_are_paths, first_bytes_decide, plans_of_files_are_valid};
 pub use read::read_topology;

@@ -3,11 +3,11 @@
 ghost use Rattle.std.specs.Prelude.{◌≡◌, ℕ, List, [], ◌∷◌, map, IfOk};
 ghost use Rattle.std.specs.Borrow.{Bor};
 ghost use Rattle.topology_reader.specs.Prelude.{option_copied, first_some, Input, components_of};
-ghost use Rattle.topology_reader.specs.Meant.{first_again, again_fault, key_of, own_key, projected, component_twice, twice_fault, nameless_fault, source_fault};
-ghost use Rattle.topology_reader.specs.Steps.{Checks};
+ghost use Rattle.topology_reader.specs.FirstFault.{first_again, again_fault, key_of, own_key, projected, component_twice, twice_fault, nameless_fault, source_fault};
+ghost use Rattle.topology_form.specs.Reading.{Checks};
 ghost use Rattle.topology_reader.specs.Wiring.{component_names};
 
-use crate::sources::Sources;
+use crate::wiring::Sources;
 use indexmap::IndexSet;
 use std::alloc::Global;
 use storm_values::{Memory, Txt};
@@ -73,28 +73,22 @@ fn check_names(alloc: Global, names: &[Txt]) -> Result<(), TopoFault>
     check_items(alloc, names)
 }
 
-pub(crate) fn check_twice(alloc: Global, sources: &Sources<'_>) -> Result<(), TopoFault>
+pub(crate) fn check_twice(sources: &Sources<'_>) -> Result<(), TopoFault>
     ensures { Checks result (twice_fault sources.now) }
 {
-    check_all_names(alloc, sources)?;
+    let alloc = sources.alloc();
+    let names = all_names(sources)?;
+    check_items(alloc, names.as_slice())?;
     check_names(alloc, sources.parts().spout.fields.as_slice())?;
-    check_components(alloc, sources)
-}
-
-fn check_all_names(alloc: Global, sources: &Sources<'_>) -> Result<(), TopoFault>
-    ensures { Checks result
-        (again_fault (sources.now.spout.name ∷ component_names sources.now)) }
-{
-    let names = all_names(alloc, sources)?;
-    check_items(alloc, names.as_slice())
+    check_components(sources)
 }
 
 /// The names of the spout and of the components.
-fn all_names<'a>(alloc: Global, sources: &'a Sources<'_>) -> Result<Vec<&'a str>, Memory>
+fn all_names<'a>(sources: &'a Sources<'_>) -> Result<Vec<&'a str>, Memory>
     ensures { IfOk result (λ names. map (λ (name : Bor (List ℕ)). name.now) names.items
         ≡ sources.now.spout.name ∷ component_names sources.now) }
 {
-    let mut names = Vec::new(alloc);
+    let mut names = Vec::new(sources.alloc());
     names.push(sources.parts().spout.name.as_str())?;
     for c in 0..sources.count() {
         names.push(sources.component(c).name.as_str())?;
@@ -102,11 +96,11 @@ fn all_names<'a>(alloc: Global, sources: &'a Sources<'_>) -> Result<Vec<&'a str>
     Ok(names)
 }
 
-fn check_components(alloc: Global, sources: &Sources<'_>) -> Result<(), TopoFault>
+fn check_components(sources: &Sources<'_>) -> Result<(), TopoFault>
     ensures { Checks result (first_some (map component_twice (components_of sources.now))) }
 {
     for c in 0..sources.count() {
-        check_component(alloc, sources.component(c))?;
+        check_component(sources.alloc(), sources.component(c))?;
     }
     Ok(())
 }

@@ -1,30 +1,23 @@
 //! What a topology file says, with components and fields by their numbers.
 
-ghost use Rattle.std.specs.Prelude.{◌≡◌, ◌<◌, ◌^◌, length, option_map, IfOk, IfSome};
+ghost use Rattle.std.specs.Prelude.{◌≡◌, ◌<◌, ◌^◌, [], ◌∷◌, length, replicate, option_map, IfOk, IfSome, OnOk};
 ghost use Rattle.topology_reader.specs.Prelude.{option_map_or};
-ghost use Rattle.topology_reader.specs.Planned.{number_of, numbers_of, planned_operation, planned_body, route_field, planned_grouping, planned_component, planned_components, first_task_of};
+ghost use Rattle.topology_reader.specs.Planned.{number_of, numbers_of, planned_operation, planned_body, route_field, planned_grouping, planned_component, planned_components, first_task_of, planned_subs, planned_component_subs};
+ghost use Rattle.topology_reader.specs.Steps.{items_by, place_in, with_sub, with_inputs};
 ghost use Rattle.topology_reader.specs.Wiring.{place_of, fields_of, body_of};
+ghost use Rattle.topology_plan.specs.declared.parts.Origin.TheVariants as origin;
 
-use crate::fields::{Wiring, copied};
+use crate::wiring::{Wiring, copied};
 use std::alloc::Global;
 use storm_values::{Duplicate, Indexes, Memory, Txt};
-use topology_form::{BodyPart, ComponentPart, GroupingPart, Operation};
-use topology_plan::{Body, Component, Grouping, Op, Origin, StateSpec};
-
-fn place_of(fields: &[Txt], name: &Txt) -> Option<usize>
-    ensures value { result ≡ place_of fields.now name.now }
-    ensures within { IfSome result (λ place. place < length fields.now) }
-{
-    fields
-        .iter()
-        .position(|field| field.as_str() == name.as_str())
-}
+use topology_form::{BodyPart, ComponentPart, GroupingPart, Input, Operation};
+use topology_plan::{Body, Component, Grouping, Op, Origin, StateSpec, Sub};
 
 fn number_of(fields: &[Txt], name: &Txt) -> u32
     requires { length fields.now < 2 ^ 32 }
     ensures { result ≡ number_of fields.now name.now }
 {
-    match place_of(fields, name) {
+    match fields.iter().position(|one| one.as_str() == name.as_str()) {
         Some(place) => place as u32,
         None => 0,
     }
@@ -50,23 +43,23 @@ fn planned_operation(alloc: Global, fields: &[Txt], operation: &Operation) -> Re
             field: number_of(fields, field),
         }),
         Operation::Project(names) => Ok(Op::Project(numbers_of(alloc, fields, names.as_slice())?)),
-        Operation::Filter { field, test, value } => Ok(Op::Filter {
+        Operation::Filter(field, test, value) => Ok(Op::Filter {
             field: number_of(fields, field),
             test: *test,
             value: value.copy()?,
         }),
-        Operation::Set { field, value } => Ok(Op::Set {
+        Operation::Set(field, value) => Ok(Op::Set {
             field: number_of(fields, field),
             value: value.copy()?,
         }),
         Operation::Len { field, .. } => Ok(Op::Len {
             field: number_of(fields, field),
         }),
-        Operation::Route { field } => Ok(Op::Route {
+        Operation::Route(field) => Ok(Op::Route {
             field: number_of(fields, field),
         }),
-        Operation::Flaky { below } => Ok(Op::Flaky { below: *below }),
-        Operation::Mute { below } => Ok(Op::Mute { below: *below }),
+        Operation::Flaky(below) => Ok(Op::Flaky { below: *below }),
+        Operation::Mute(below) => Ok(Op::Mute { below: *below }),
         Operation::Custom => Ok(Op::Custom),
     }
 }
@@ -90,10 +83,7 @@ fn amount_number(fields: &[Txt], amount: &Option<Txt>) -> Option<u32>
     requires { length fields.now < 2 ^ 32 }
     ensures { result ≡ option_map (number_of fields.now) amount.now }
 {
-    match amount {
-        Some(name) => Some(number_of(fields, name)),
-        None => None,
-    }
+    Some(number_of(fields, amount.as_ref()?))
 }
 
 fn route_field(fields: &[Txt], body: &BodyPart) -> u32
@@ -101,24 +91,19 @@ fn route_field(fields: &[Txt], body: &BodyPart) -> u32
     ensures { result ≡ route_field fields.now body.now }
 {
     match body {
-        BodyPart::Bolt(Operation::Route { field }) => number_of(fields, field),
+        BodyPart::Bolt(Operation::Route(field)) => number_of(fields, field),
         _ => 0,
     }
 }
 
-pub(crate) fn planned_grouping(
-    alloc: Global,
-    wiring: &Wiring<'_>,
-    from: Origin,
-    said: &GroupingPart,
-) -> Result<Grouping, Memory>
+fn grouping_of(wiring: &Wiring<'_>, from: Origin, said: &GroupingPart) -> Result<Grouping, Memory>
     ensures { IfOk result (λ grouping. grouping ≡ planned_grouping wiring.now from said.now) }
 {
     match said {
         GroupingPart::Shuffle => Ok(Grouping::Shuffle),
         GroupingPart::Fields(key) => {
-            let key = numbers_of(alloc, wiring.fields_of(from), key.as_slice())?;
-            Ok(Grouping::Fields(key))
+            let fields = wiring.fields_of(from);
+            Ok(Grouping::Fields(numbers_of(wiring.alloc(), fields, key.as_slice())?))
         }
         GroupingPart::All => Ok(Grouping::All),
         GroupingPart::Global => Ok(Grouping::Global),
@@ -136,8 +121,71 @@ fn chosen_field(wiring: &Wiring<'_>, from: Origin) -> u32
     }
 }
 
+/// The subscriptions of the spout, and then those of each component, in the order of their
+/// consumers, in time linear in the inputs but for the search of their sources' names.
+pub(crate) fn subs_by_source(wiring: &Wiring<'_>) -> Result<Vec<Vec<Sub>>, Memory>
+    ensures { IfOk result (λ subs. items_by subs.items
+        ≡ planned_subs wiring.now origin.Spout ∷ planned_component_subs wiring.now) }
+{
+    let sources = wiring.sources();
+    let count = sources.count();
+    let mut subs = no_subs(wiring.alloc(), count + 1)?;
+    for to in 0..count {
+        let inputs = sources.component(to).inputs.as_slice();
+        add_inputs(&mut subs, wiring, to as u32, inputs)?;
+    }
+    Ok(subs)
+}
+
+fn no_subs(alloc: Global, count: usize) -> Result<Vec<Vec<Sub>>, Memory>
+    ensures { IfOk result (λ subs. items_by subs.items ≡ replicate count []) }
+{
+    let mut subs = Vec::with_capacity(alloc, count)?;
+    for _c in 0..count {
+        subs.push(Vec::new(alloc))?;
+    }
+    Ok(subs)
+}
+
+/// Adds the inputs of component `to`.
+fn add_inputs(
+    subs: &mut Vec<Vec<Sub>>,
+    wiring: &Wiring<'_>,
+    to: u32,
+    inputs: &[Input],
+) -> Result<(), Memory>
+    ensures { OnOk result (items_by subs.new.items
+        ≡ with_inputs wiring.now (items_by subs.old.items) (to, inputs.now)) }
+{
+    for input in inputs {
+        if let Some(from) = wiring.sources().source_of(&input.from) {
+            let grouping = grouping_of(wiring, from, &input.grouping)?;
+            add_sub(subs, from, Sub { to, grouping })?;
+        }
+    }
+    Ok(())
+}
+
+fn add_sub(subs: &mut Vec<Vec<Sub>>, from: Origin, sub: Sub) -> Result<(), Memory>
+    ensures { OnOk result (items_by subs.new.items ≡ with_sub (items_by subs.old.items) from sub) }
+{
+    let place = place_in(from);
+    if place < subs.len() {
+        subs[place].push(sub)?;
+    }
+    Ok(())
+}
+
+fn place_in(from: Origin) -> usize
+    ensures { result ≡ place_in from }
+{
+    match from {
+        Origin::Spout => 0,
+        Origin::Component(c) => c as usize + 1,
+    }
+}
+
 fn planned_component(
-    alloc: Global,
     wiring: &Wiring<'_>,
     c: u32,
     first_task: u32,
@@ -146,6 +194,7 @@ fn planned_component(
     requires { first_task ≡ first_task_of wiring.now c }
     ensures { IfOk result (λ component. component ≡ planned_component wiring.now (c, part.now)) }
 {
+    let alloc = wiring.alloc();
     Ok(Component {
         name: part.name.copy()?,
         first_task,
@@ -156,21 +205,16 @@ fn planned_component(
 }
 
 /// The components, whose tasks are numbered through.
-pub(crate) fn planned_components(
-    alloc: Global,
-    wiring: &Wiring<'_>,
-) -> Result<Vec<Component>, Memory>
+pub(crate) fn planned_components(wiring: &Wiring<'_>) -> Result<Vec<Component>, Memory>
     ensures { IfOk result (λ components. components.items ≡ planned_components wiring.now) }
 {
     let sources = wiring.sources();
     let count = sources.count();
-    // brings in the ranges, by which tasks are few
-    wiring.facts();
-    let mut components = Vec::with_capacity(alloc, count)?;
+    let mut components = Vec::with_capacity(wiring.alloc(), count)?;
     let mut first_task = 0;
     for c in 0..count {
         let part = sources.component(c);
-        components.push(planned_component(alloc, wiring, c as u32, first_task, part)?)?;
+        components.push(planned_component(wiring, c as u32, first_task, part)?)?;
         first_task += part.tasks;
     }
     Ok(components)

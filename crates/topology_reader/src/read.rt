@@ -1,18 +1,26 @@
 //! From the bytes of a topology file to its plan.
 
-ghost use Rattle.std.specs.Prelude.{◌≡◌, ◌≢◌, Some, None, IfOk, IfErr};
+ghost use Rattle.std.specs.Prelude.{◌≡◌, ◌≢◌, ◌<◌, ◌^◌, sum_by, Some, None, IfOk, IfErr};
 ghost use Rattle.serde_json.specs.View.{view};
-ghost use Rattle.topology_reader.specs.Prelude.{json_of, IsValid, parts_said};
+ghost use Rattle.topology_form.specs.Reading.{Checks};
 ghost use Rattle.topology_plan.specs.Wired.{IsWired};
-ghost use Rattle.topology_reader.specs.FirstFault.{first_fault, value_fault, IsFilePlan};
+ghost use Rattle.topology_plan.specs.declared.parts.Component.{Component};
+ghost use Rattle.topology_reader.specs.Prelude.{json_of, IsValid, IsInRange};
+ghost use Rattle.topology_reader.specs.FirstFault.{size_fault, meaning_fault, first_fault, IsFilePlan};
 ghost use Rattle.topology_reader.specs.Planned.{plan_of};
+ghost use Rattle.topology_reader.specs.Steps.{IsMade};
 
-use crate::assembly::plan_from;
+use crate::cycles::{check_cycles, check_replays};
+use crate::fields_fault::check_fields;
+use crate::names::{check_sources, check_twice};
+use crate::planned::{planned_components, subs_by_source};
+use crate::wiring::{Sources, Wiring};
 use serde_json::Value;
 use std::alloc::Global;
-use storm_values::MOST_TOPOLOGY_BYTES;
-use topology_form::{TopoFault, parts_from};
-use topology_plan::Plan;
+use storm_values::{MOST_TASKS_IN_ALL, MOST_TOPOLOGY_BYTES, MOST_WEIGHT, Memory};
+use topology_form::{FileParts, TopoFault, parts_from, within};
+use topology_graph::{DepthRule, TuplesRule, greatest, numbers_by, total};
+use topology_plan::{Component, Made, Plan};
 
 /// The plan of a topology file, or the file's first fault: its length, JSON, its
 /// form, and then what it says.
@@ -30,7 +38,8 @@ pub fn read_topology(alloc: Global, bytes: &[u8]) -> Result<Plan, TopoFault>
         return Err(TopoFault::TooLong(bytes.len()));
     }
     let value = parse(alloc, bytes)?;
-    read_value(alloc, value)
+    let parts = parts_from(alloc, value)?;
+    plan_from(alloc, &parts)
 }
 
 fn parse(alloc: Global, bytes: &[u8]) -> Result<Value, TopoFault>
@@ -40,20 +49,78 @@ fn parse(alloc: Global, bytes: &[u8]) -> Result<Value, TopoFault>
 {
     match Value::from_slice(alloc, bytes) {
         Ok(value) => Ok(value),
-        Err(error) => Err(if error.is_memory() {
-            TopoFault::Memory
-        } else {
-            TopoFault::NotJson
-        }),
+        Err(error) if error.is_memory() => Err(TopoFault::Memory),
+        Err(_) => Err(TopoFault::NotJson),
     }
 }
 
-fn read_value(alloc: Global, value: Value) -> Result<Plan, TopoFault>
-    ensures plan { IfOk result (λ plan. (value_fault (Some (view value)) ≡ None)
-        × (plan ≡ plan_of (parts_said (view value)))) }
-    ensures fault { IfErr result (λ fault. fault ≢ TopoFault.Memory
-        → value_fault (Some (view value)) ≡ Some fault) }
+/// The plan of a file's parts, or the first fault of what they say.
+///
+/// The faults in their order: a name that stands twice, an input without a source, a cycle, fields,
+/// a transactional state under an opaque spout, the tasks in all, and the weight.
+#[tactic(auto, unfolding(crate::specs::FirstFault::meaning_fault))]
+fn plan_from(alloc: Global, parts: &FileParts) -> Result<Plan, TopoFault>
+    requires { IsInRange parts.now }
+    ensures plan { IfOk result
+        (λ plan. (meaning_fault parts.now ≡ None) × (plan ≡ plan_of parts.now)) }
+    ensures fault { IfErr result
+        (λ fault. fault ≢ TopoFault.Memory → meaning_fault parts.now ≡ Some fault) }
 {
-    let parts = parts_from(alloc, value)?;
-    plan_from(alloc, &parts)
+    let sources = Sources::of(alloc, parts)?;
+    check_twice(&sources)?;
+    check_sources(&sources)?;
+    check_cycles(&sources)?;
+    let wiring = Wiring::of(sources)?;
+    check_fields(&wiring)?;
+    check_replays(parts)?;
+    let made = make(&wiring)?;
+    check_size(alloc, made.tasks, made.weight)?;
+    Ok(Plan::of(made))
+}
+
+fn make(wiring: &Wiring<'_>) -> Result<Made, Memory>
+    ensures { IfOk result (IsMade wiring.now) }
+{
+    let alloc = wiring.alloc();
+    let components = planned_components(wiring)?;
+    let mut component_subs = subs_by_source(wiring)?;
+    let spout_subs = component_subs.remove(0);
+    let graph = wiring.graph();
+    let tasks = tasks_in_all(&components);
+    let depth = greatest(&numbers_by(alloc, &DepthRule, graph)?) as u32;
+    let weight = total(&numbers_by(alloc, &TuplesRule, graph)?);
+    let parts = wiring.sources().parts();
+    Ok(Made {
+        spout_fields: parts.spout.fields.copy()?,
+        spout_kind: parts.spout.kind,
+        batch: parts.spout.batch,
+        components,
+        spout_subs,
+        component_subs,
+        ackers: parts.ackers,
+        pending: parts.pending,
+        buckets: parts.buckets,
+        attempts: parts.attempts,
+        tasks,
+        depth,
+        weight,
+    })
+}
+
+fn tasks_in_all(components: &[Component]) -> u32
+    requires { sum_by (λ (component : Component). component.tasks) components.now < 2 ^ 32 }
+    ensures { result ≡ sum_by (λ (component : Component). component.tasks) components.now }
+{
+    components.iter().map(|component| component.tasks).sum()
+}
+
+fn check_size(alloc: Global, tasks: u32, weight: u64) -> Result<(), TopoFault>
+    ensures { Checks result (size_fault tasks weight) }
+{
+    let found = i64::from(tasks);
+    within(alloc, "tasks in all", found, 1, MOST_TASKS_IN_ALL)?;
+    if weight > MOST_WEIGHT {
+        return Err(TopoFault::Weight(weight));
+    }
+    Ok(())
 }

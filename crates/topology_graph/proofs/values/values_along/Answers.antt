@@ -2,7 +2,7 @@ use Rattle.std.proofs.Common.{◌≡◌, ℕ, ◌<◌, ◌+◌, length, replicat
 use Rattle.std.proofs.lemmas.List.{with_items_is}
 use Rattle.topology_plan.specs.declared.parts.Origin.{Origin}
 use Rattle.topology_plan.specs.declared.parts.Origin.TheVariants as origin
-use Rattle.topology_graph.specs.Found.{AreRight, IsKnown}
+use Rattle.topology_graph.specs.Graph.{AreRight, IsKnown}
 use Rattle.topology_graph.proofs.ValueLemmas.{nothing_right, known_on, all_known}
 use Rattle.topology_graph.proofs.values.values_along.Goals as goal
 

@@ -1,6 +1,6 @@
 use Rattle.std.proofs.Common.{ℕ, ◌<◌}
 use Rattle.topology_plan.specs.declared.parts.Origin.TheVariants as origin
-use Rattle.topology_graph.specs.Found.{AreRight, IsKnown}
+use Rattle.topology_graph.specs.Graph.{AreRight, IsKnown}
 use Rattle.topology_graph.proofs.values.values_along.Given as goal
 
 abbrev pub invariant-loop-c : goal.invariant-loop-c

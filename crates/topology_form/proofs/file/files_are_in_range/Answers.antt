@@ -1,5 +1,0 @@
-use Rattle.topology_form.proofs.InRange.{in_range}
-use Rattle.topology_form.proofs.file.files_are_in_range.Goals as goal
-
-pub returns : goal.returns
-returns c = in_range
