@@ -58,13 +58,13 @@ fn ends_of_an_exhausted_transaction(rt: HostRuntime) -> Result<(), Mismatch> {
                 ]),
             ),
             (2, 3, 3, How::Coincided(&[])),
-            (3, 3, 18446744073709551615, How::CommitFailed(2, 4294967295)),
+            (3, 3, 4, How::CommitFailed(2, 5)),
         ],
         &[],
-        Tail::Exhausted(1),
+        Tail::Exhausted(u64::MAX),
         "attempt 1.1 records 1-2 ticks 0-3 coincided 7:fedcba9876543210 4294967295:0123456789abcdef
-attempt 1.2 records 1-2 ticks 3-3 coincided \nattempt 1.3 records 1-2 ticks 3-18446744073709551615 commit failed  4294967295
-exhausted 1
+attempt 1.2 records 1-2 ticks 3-3 coincided \nattempt 1.3 records 1-2 ticks 3-4 commit failed  5
+exhausted 18446744073709551615
 ",
     )
 }

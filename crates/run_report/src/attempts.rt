@@ -74,7 +74,8 @@ fn push_end(alloc: Global, text: &mut String, plan: &Plan, end: &End) -> Result<
 }
 
 fn push_failed(text: &mut String, path: &Path) -> Result<(), Memory>
-    ensures { OnOk result (string_bytes text.new ≡ string_bytes text.old ++ end_text (failed path.now)) }
+    ensures { OnOk result
+        (string_bytes text.new ≡ string_bytes text.old ++ end_text (failed path.now)) }
 {
     text.push_str("failed ")?;
     push_path(text, path)

@@ -1,4 +1,4 @@
-//! The text of a report: how the attempts of a run ended, the cells of its tables, and how it ended.
+//! The text of a report: the lines of attempts, the cells of tables, and how a run ended.
 #![tactic(auto)]
 
 mod attempts;

@@ -8,7 +8,7 @@ use Rattle.bolt_ops.specs.RowOp.{Custom}
 use Rattle.topology_plan.specs.Topology.{Topology}
 use Rattle.topology_reader.proofs.FilePlans.{one_plan, plan_or_fault}
 use Rattle.topology_reader.specs.FirstFault.{first_fault, IsFilePlan}
-use Rattle.storm_program.specs.declared.fates.Attempt.{Attempt}
+use Rattle.attempt_fates.specs.declared.fates.Attempt.{Attempt}
 use Rattle.storm_program.specs.declared.status.Status.{Status}
 use Rattle.storm_program.specs.declared.status.Status.TheVariants as status
 use Rattle.storm_program.specs.Check.{CheckComes, CheckCalls}

@@ -8,10 +8,10 @@ use Rattle.std.proofs.lemmas.List.{length-map}
 use Rattle.std.proofs.lemmas.List.Elements.{filter-append}
 use Rattle.std.proofs.lemmas.List.FromFn.{length-range_with_len, get_or-map-range_with_len, map-range_with_len_more}
 use Rattle.trident_batches.specs.Batches.{batch_count}
-use Rattle.storm_program.specs.declared.fates.Attempt.{Attempt}
-use Rattle.storm_program.specs.Fates.{record_numbers, is_committed, committed, committed_numbers, committed_txids, attempt_numbers, IsOfBatch, IsOnce, IsWhole}
+use Rattle.attempt_fates.specs.declared.fates.Attempt.{Attempt}
+use Rattle.attempt_fates.specs.Fates.{record_numbers, is_committed, committed, committed_numbers, committed_txids, attempt_numbers, IsOfBatch, IsOnce, IsWhole}
 use Rattle.storm_program.specs.steps.Cutting.{first_attempt}
-use Rattle.storm_program.proofs.RangeLemmas.{range-append}
+use Rattle.attempt_fates.proofs.RangeLemmas.{range-append}
 
 -- those of the batches 1 to k
 abbrev pub first_attempts : ℕ → ℕ → ℕ → List Attempt

@@ -4,7 +4,5 @@ mod EngineLemmas
 mod FateLemmas
 mod FileLemmas
 mod NotYetLemmas
-mod RangeLemmas
-mod RecordLemmas
 mod RunLemmas
 mod WordLemmas

@@ -1,7 +1,7 @@
 -- What a check, a `plain` and a run come to, from what their parts came to.
 use Rattle.std.proofs.Common.{◌≡◌, ℕ, List, [], Option, None, inl, sym, subst}
 use Rattle.bolt_ops.specs.RowOp.{Custom}
-use Rattle.storm_program.specs.declared.fates.Attempt.{Attempt}
+use Rattle.attempt_fates.specs.declared.fates.Attempt.{Attempt}
 use Rattle.storm_program.specs.declared.status.Status.{Status}
 use Rattle.storm_program.specs.declared.status.Status.TheVariants as status
 use Rattle.storm_program.specs.Check.{CheckComes}

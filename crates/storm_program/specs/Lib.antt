@@ -1,13 +1,9 @@
-pub mod Cells
 pub mod Check
 pub mod Ends
-pub mod Fated
-pub mod Fates
 pub mod Files
 pub mod NotYet
 pub mod Outside
 pub mod Plain
-pub mod Report
 pub mod Run
 pub mod Statuses
 pub mod Storm

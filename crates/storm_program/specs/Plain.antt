@@ -7,15 +7,15 @@ use Rattle.tree_model.specs.declared.write.Table.{Table}
 use Rattle.tree_model.specs.Trees.{writes}
 use Rattle.tree_model.specs.Tables.{AreTables}
 use Rattle.trident_batches.specs.Batches.{batch_count}
-use Rattle.storm_program.specs.declared.fates.Attempt.{Attempt}
+use Rattle.attempt_fates.specs.declared.fates.Attempt.{Attempt}
+use Rattle.run_report.specs.Cells.{cells_of}
+use Rattle.run_report.specs.Report.{ok, report_text}
 use Rattle.storm_program.specs.declared.status.Status.{Status}
 use Rattle.storm_program.specs.declared.status.Status.TheVariants as status
-use Rattle.storm_program.specs.Cells.{cells_of}
 use Rattle.storm_program.specs.Ends.{Promise}
 use Rattle.storm_program.specs.Files.{AreAccepted, FilesCome, FilesCall}
 use Rattle.storm_program.specs.NotYet.{puts_off_none}
 use Rattle.storm_program.specs.Outside.{ShelfUse, Fetched}
-use Rattle.storm_program.specs.Report.{ok, report_text}
 
 -- The report of a plan and the records of an input, with the operation that was handed in. The
 -- tables are those of one machine that takes all records in order, and there is no attempt line.

@@ -7,17 +7,21 @@ use Rattle.tree_model.specs.declared.write.Table.{Table}
 use Rattle.tree_model.specs.Trees.{writes}
 use Rattle.tree_model.specs.Tables.{AreTables}
 use Rattle.trident_batches.specs.Batches.{batch_count}
-use Rattle.storm_program.specs.declared.fates.Attempt.{Attempt}
+use Rattle.attempt_fates.specs.declared.fates.Attempt.{Attempt}
+use Rattle.attempt_fates.specs.Fates.{committed_records, IsOnce, IsWhole}
+use Rattle.run_report.specs.Cells.{cells_of}
+use Rattle.run_report.specs.Fated.{AreLinesOf}
+use Rattle.run_report.specs.Report.{AttemptText, ok, report_text}
 use Rattle.storm_program.specs.declared.status.Status.{Status}
 use Rattle.storm_program.specs.declared.status.Status.TheVariants as status
-use Rattle.storm_program.specs.Cells.{cells_of}
 use Rattle.storm_program.specs.Ends.{Promise}
-use Rattle.storm_program.specs.Fated.{attempt_lines}
-use Rattle.storm_program.specs.Fates.{ticks_handed_out, committed_records, IsOnce, IsWhole}
 use Rattle.storm_program.specs.Files.{AreAccepted, FilesCome, FilesCall}
 use Rattle.storm_program.specs.NotYet.{is_not_yet}
 use Rattle.storm_program.specs.Outside.{ShelfUse, Fetched}
-use Rattle.storm_program.specs.Report.{ok, report_text}
+
+-- how many ticks a run hands out: none so far
+abbrev pub ticks_handed_out : ℕ
+ticks_handed_out = 0
 
 -- The report of a plan and the records of an input, with the operation that was handed in. The
 -- tables are those of one machine that takes the records of the committed attempts in the order of
@@ -27,8 +31,10 @@ pub record IsReport (custom : Custom) (plan : Topology) (records : List (List Va
   pub tables : List Table
   pub whole : IsWhole (length records) plan.batch ticks_handed_out fates
   pub of_commits : AreTables plan (writes plan custom (committed_records records fates)) tables
+  pub lines : List AttemptText
+  pub are_lines : AreLinesOf plan fates lines
   pub printed : text ≡ report_text (record {
-    attempts = attempt_lines fates;
+    attempts = lines;
     cells = cells_of tables;
     tail = ok (length records) (batch_count (length records) plan.batch);
   })

@@ -3,15 +3,16 @@ ghost use Rattle.storm_values.specs.Rows.{IsRow};
 ghost use Rattle.tree_model.specs.Trees.{writes};
 ghost use Rattle.tree_model.specs.Tables.{AreTables, AreRunningTables};
 ghost use Rattle.trident_batches.specs.Batches.{batch_count};
-ghost use Rattle.storm_program.specs.Fates.{ticks_handed_out, committed_records, IsOnce, IsWhole};
+ghost use Rattle.attempt_fates.specs.Fates.{committed_records, IsOnce, IsWhole};
+ghost use Rattle.storm_program.specs.Run.{ticks_handed_out};
 ghost use Rattle.storm_program.specs.steps.Cutting.{first_attempt};
 
-use crate::fates::{Attempt, End, Fates};
+use attempt_fates::{Attempt, End, Fates};
 use bolt_ops::RowOp;
 use std::alloc::Global;
 use storm_values::{Memory, Root};
 use topology_plan::Plan;
-use tree_model::{RunningTables, Tables, writes_of};
+use tree_model::{Notes, RunningTables, Tables, writes_of};
 use trident_batches::Batches;
 
 /// Runs a plan over its batches, one after another, and commits each at its first attempt.
@@ -35,7 +36,7 @@ pub fn run_batches<O: RowOp>(
     for number in 0..batches.count() {
         let txid = number + 1;
         run_batch(alloc, plan, batches, txid, custom, &mut running)?;
-        fates.push(committed(batches, txid))?;
+        fates.push(committed(alloc, batches, txid))?;
     }
     running.tables(alloc, plan)
 }
@@ -70,7 +71,7 @@ fn run_batch<O: RowOp>(
 }
 
 /// The first attempt of a batch, which was committed before any tick.
-fn committed(batches: &Batches, txid: u64) -> Attempt
+fn committed(alloc: Global, batches: &Batches, txid: u64) -> Attempt
     requires first { 0 < txid }
     requires last { txid ≤ batch_count (length batches.now.records) batches.now.size }
     ensures { result ≡ first_attempt (length batches.now.records) batches.now.size txid }
@@ -84,6 +85,7 @@ fn committed(batches: &Batches, txid: u64) -> Attempt
         last: before + size.min(records - before),
         start: 0,
         finish: 0,
-        end: End::Committed,
+        // no tuple is tracked yet, so no acker was told of any
+        end: End::Committed(Notes::new(alloc)),
     }
 }

@@ -3,20 +3,18 @@
 
 mod check;
 mod engine;
-mod fates;
 mod files;
-mod laws;
 mod not_yet;
 mod output;
 mod plain;
 mod program;
-mod report;
 mod run;
 mod status;
 mod stop;
 mod words;
 
-pub use fates::{Attempt, End, Fates};
-pub use laws::{committed_records_are_all, each_record_is_committed_once};
+pub use attempt_fates::{
+    Attempt, End, Fates, committed_records_are_all, each_record_is_committed_once,
+};
 pub use program::{storm, storm_check, storm_plain, storm_run};
 pub use status::Status;

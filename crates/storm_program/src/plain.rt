@@ -7,9 +7,9 @@ ghost use Rattle.storm_program.specs.steps.Stops.{Stops};
 
 use crate::files::{Accepted, read_files};
 use crate::not_yet::Plans;
-use crate::report::report_text;
 use crate::stop::Stop;
 use bolt_ops::RowOp;
+use run_report::{Tail, report_text};
 use std::alloc::Global;
 use storm_outside::Shelf;
 use storm_values::Memory;
@@ -47,5 +47,9 @@ fn plain_report<O: RowOp>(alloc: Global, files: Accepted, custom: &O) -> Result<
     let batches = Batches::cut(rows, plan.batch());
     let tables = plain_tables(alloc, &plan, batches.rows(), custom)?;
     let records = batches.rows().len() as u64;
-    report_text(alloc, &[], tables.as_slice(), records, batches.count())
+    let tail = Tail::Ok {
+        records,
+        batches: batches.count(),
+    };
+    report_text(alloc, &plan, &[], tables.as_slice(), tail)
 }

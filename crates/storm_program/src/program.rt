@@ -9,12 +9,12 @@ ghost use Rattle.storm_program.specs.Storm.{promise};
 ghost use Rattle.storm_program.specs.Words.{built};
 
 use crate::check::check_file;
-use crate::fates::Fates;
 use crate::output::{write_answer, write_text};
 use crate::plain::plain_files;
 use crate::run::run_files;
 use crate::status::Status;
 use crate::words::{Command, USAGE, read_words};
+use attempt_fates::Fates;
 use bolt_ops::RowOp;
 use std::alloc::Global;
 use std::sync::Wait;

@@ -1,18 +1,18 @@
 ghost use Rattle.std.specs.Prelude.{◌≡◌, ◌≤◌, [], length, All, IfOk, IfErr, OnErr, string_bytes};
 ghost use Rattle.storm_values.specs.Rows.{IsRow};
 ghost use Rattle.storm_program.specs.declared.status.Status.{Status};
-ghost use Rattle.storm_program.specs.Fates.{ticks_handed_out, IsOnce};
+ghost use Rattle.attempt_fates.specs.Fates.{IsOnce};
 ghost use Rattle.storm_program.specs.Outside.{shelf_use};
-ghost use Rattle.storm_program.specs.Run.{IsReport, RunComes};
+ghost use Rattle.storm_program.specs.Run.{ticks_handed_out, IsReport, RunComes};
 ghost use Rattle.storm_program.specs.steps.Stops.{Stops};
 
 use crate::engine::run_batches;
-use crate::fates::Fates;
 use crate::files::{Accepted, read_files};
 use crate::not_yet::Plans;
-use crate::report::report_text;
 use crate::stop::Stop;
+use attempt_fates::Fates;
 use bolt_ops::RowOp;
+use run_report::{Tail, report_text};
 use std::alloc::Global;
 use storm_outside::Shelf;
 use storm_values::Memory;
@@ -59,11 +59,9 @@ fn run_accepted<O: RowOp>(
     let batches = Batches::cut(rows, plan.batch());
     let tables = run_batches(alloc, &plan, &batches, custom, fates)?;
     let records = batches.rows().len() as u64;
-    report_text(
-        alloc,
-        fates.as_slice(),
-        tables.as_slice(),
+    let tail = Tail::Ok {
         records,
-        batches.count(),
-    )
+        batches: batches.count(),
+    };
+    report_text(alloc, &plan, fates.as_slice(), tables.as_slice(), tail)
 }

@@ -1,8 +1,7 @@
 // What a call answers and writes where nothing outside fails.
 use std::alloc::Global;
-use storm_program::{Attempt, End};
 use storm_test_kit::{
-    CALM, COPIES_TO_ALL, COUNTED_SENTENCES, LAST_VALUE, PAIRS, RUN, SENTENCES, Scene, TURNED,
+    CALM, COPIES_TO_ALL, COUNTED_SENTENCES, Fate, LAST_VALUE, PAIRS, RUN, SENTENCES, Scene, TURNED,
     WORD_COUNT, call, check_call, check_refusal, run_of, run_over,
 };
 use storm_values::Root;
@@ -214,14 +213,14 @@ const WORKERS: [&[&str]; 4] = [
     &["run", "t", "i", "64"],
 ];
 
-fn committed(txid: u64, first: u64, last: u64) -> Attempt {
-    Attempt {
+fn committed(txid: u64, first: u64, last: u64) -> Fate {
+    Fate {
         root: Root { txid, attempt: 1 },
         first,
         last,
         start: 0,
         finish: 0,
-        end: End::Committed,
+        committed: true,
     }
 }
 

@@ -5,8 +5,8 @@ use std::alloc::Global;
 use std::sync::Wait;
 use std::thread::Threads;
 use storm_outside::{MemShelf, MemSink};
-use storm_program::{Fates, Status, storm};
-use storm_values::{Bytes, Txt};
+use storm_program::{Attempt, End, Fates, Status, storm};
+use storm_values::{Bytes, Memory, Root, Seq, Txt};
 use test_kit::{Mismatch, compare};
 
 /// The most bytes of one read and of one write, and the numbers of the calls that fail, from
@@ -31,12 +31,23 @@ pub const CALM: Outside = Outside {
     failing_write: 0,
 };
 
+/// An attempt of a call's fates, without what was told of its tuples.
+#[derive(Clone, Copy, Debug, PartialEq, Eq)]
+pub struct Fate {
+    pub root: Root,
+    pub first: u64,
+    pub last: u64,
+    pub start: u64,
+    pub finish: u64,
+    pub committed: bool,
+}
+
 /// What a call answered, what it wrote, and its fates.
 #[derive(Debug, Drop)]
 pub struct Told {
     pub status: Status,
     pub text: String,
-    pub fates: Fates,
+    pub fates: Seq<Fate>,
 }
 
 /// Calls `storm`.
@@ -60,11 +71,31 @@ pub fn call<R: Threads + Wait + Sync>(
         &mut fates,
     );
     let text = taken(alloc, &sink)?;
+    let fates = fates_told(alloc, &fates)?;
     Ok(Told {
         status,
         text,
         fates,
     })
+}
+
+fn fates_told(alloc: Global, fates: &Fates) -> Result<Seq<Fate>, Memory> {
+    let mut told = Seq::new(alloc);
+    for attempt in fates.as_slice() {
+        told.push(fate_of(attempt))?;
+    }
+    Ok(told)
+}
+
+fn fate_of(attempt: &Attempt) -> Fate {
+    Fate {
+        root: attempt.root,
+        first: attempt.first,
+        last: attempt.last,
+        start: attempt.start,
+        finish: attempt.finish,
+        committed: matches!(attempt.end, End::Committed(_)),
+    }
 }
 
 /// Calls `storm`, which ends with this status and writes this text.

@@ -3,10 +3,10 @@ use Rattle.std.proofs.lemmas.List.{take_all}
 use Rattle.std.proofs.lemmas.Result.{IfOk-weaker}
 use Rattle.tree_model.specs.Trees.{writes}
 use Rattle.tree_model.specs.Tables.{AreRunningTables}
-use Rattle.storm_program.specs.Fates.{committed_records, IsWhole}
+use Rattle.attempt_fates.specs.Fates.{committed_records, IsWhole}
 use Rattle.storm_program.proofs.EngineLemmas.{running_empty}
 use Rattle.storm_program.proofs.FateLemmas.{attempts_joined, first_attempts, first_attempts_whole, once_so_far, OnErr-always}
-use Rattle.storm_program.proofs.RecordLemmas.{records_are_all}
+use Rattle.attempt_fates.proofs.RecordLemmas.{records_are_all}
 use Rattle.storm_program.proofs.engine.run_batches.Goals as goal
 
 -- the number before the next one

@@ -3,9 +3,9 @@ use Rattle.std.proofs.Common.{◌≡◌, ℕ, ◌+◌, ◌-◌, ◌<◌, ◌≤�
 use Rattle.std.specs.List.{range_with_len, flat_map, list_any}
 use Rattle.std.proofs.lemmas.Bool.{cases_lt}
 use Rattle.std.proofs.lemmas.List.{drop_all, take-append-drop, drop-drop}
-use Rattle.storm_program.specs.declared.fates.Attempt.{Attempt}
-use Rattle.storm_program.specs.Fates.{record_numbers, committed, has_record, commits_of, record_at, committed_records, IsWhole}
-use Rattle.storm_program.proofs.RangeLemmas.{AreParts, parts_of_range, is_below, is_above, is_within}
+use Rattle.attempt_fates.specs.declared.fates.Attempt.{Attempt}
+use Rattle.attempt_fates.specs.Fates.{record_numbers, committed, has_record, commits_of, record_at, committed_records, IsWhole}
+use Rattle.attempt_fates.proofs.RangeLemmas.{AreParts, parts_of_range, is_below, is_above, is_within}
 
 -- ---- each record once
 

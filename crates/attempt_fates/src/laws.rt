@@ -1,7 +1,7 @@
 ghost use Rattle.std.specs.Prelude.{◌≡◌, ◌≤◌, ℕ, List, length};
 ghost use Rattle.storm_values.specs.declared.value.Value.{Value};
-ghost use Rattle.storm_program.specs.declared.fates.Attempt.{Attempt};
-ghost use Rattle.storm_program.specs.Fates.{IsWhole, commits_of, committed_records};
+ghost use Rattle.attempt_fates.specs.declared.fates.Attempt.{Attempt};
+ghost use Rattle.attempt_fates.specs.Fates.{IsWhole, commits_of, committed_records};
 
 /// A law: where fates are committed once and whole, each record stands in exactly one committed
 /// attempt.

@@ -1,5 +1,0 @@
-use Rattle.storm_program.proofs.RecordLemmas.{records_are_all}
-use Rattle.storm_program.proofs.laws.committed_records_are_all.Goals as goal
-
-pub returns : goal.returns
-returns c = records_are_all

@@ -1,5 +1,0 @@
-use Rattle.storm_program.proofs.RecordLemmas.{record_once}
-use Rattle.storm_program.proofs.laws.each_record_is_committed_once.Goals as goal
-
-pub returns : goal.returns
-returns c = record_once
