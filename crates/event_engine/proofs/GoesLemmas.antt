@@ -8,7 +8,7 @@ use Rattle.std.proofs.lemmas.List.FromFn.{length-map-range_with_len}
 use Rattle.attempt_fates.specs.declared.fates.Attempt.{Attempt}
 use Rattle.bolt_ops.specs.RowOp.{Custom}
 use Rattle.commit_turns.specs.Turns.{decided}
-use Rattle.event_engine.specs.Engines.{Goes, Happens, HasOutcomes, shape, sources}
+use Rattle.event_engine.specs.Engines.{Gives, Goes, Happens, HasOutcomes, shape, sources}
 use Rattle.event_engine.specs.declared.engine.Engine.{Engine}
 use Rattle.event_engine.proofs.SeatLemmas.{draws-none}
 use Rattle.event_worlds.specs.Worlds.{Known, Step, World, acker_step, drew, is_over, next, next_outcome, next_words, of_acker, of_outcome, of_task, of_tick, of_turn, outcome_by, outcome_step, outcomes_of, run, step, task_at, task_needs, task_step, tick_step, turn_needs, turn_step, with_progress}
