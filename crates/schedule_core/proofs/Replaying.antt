@@ -1,6 +1,7 @@
 -- What the steps of an engine that was started come to.
 use Rattle.std.proofs.Common.{◌≡◌, ◌≤◌, ◌<◌, ℕ, ◌+◌, ◌-◌, ◌^◌, Bool, true, false, List, [], ◌∷◌, ◌++◌, All, length, Option, None, Some, Result, Ok, Err, refl, sym, ap, subst, ◌∙◌, append-nil, arith}
 use Rattle.std.proofs.lemmas.List.Elements.{All-nil}
+use Rattle.std.specs.List.{AllByRecursion}
 use Rattle.attempt_fates.specs.Fates.{IsOnce}
 use Rattle.attempt_fates.specs.declared.fates.Attempt.{Attempt}
 use Rattle.batch_commits.specs.Standing.{FailuresAreCounted, HasStrange, PartsStand}
@@ -13,7 +14,7 @@ use Rattle.commit_turns.specs.Outcomes.{IsOutcome}
 use Rattle.commit_turns.specs.Turns.{is_finished, last_tick}
 use Rattle.event_engine.proofs.WorldLemmas.{some_words, told_world}
 use Rattle.event_engine.specs.declared.engine.Engine.{Engine}
-use Rattle.event_engine.specs.Engines.{Gives, HasOutcomes, shape}
+use Rattle.event_engine.specs.Engines.{Gives, Goes, HasOutcomes, IsIdle, IsReady, cut_in, shape, topology_in}
 use Rattle.event_engine.specs.Starts.{IsStarted}
 use Rattle.event_worlds.specs.Accounted.{Accounted, AreCaused, IsInput}
 use Rattle.event_worlds.specs.Rounds.{ticks_in}
@@ -22,9 +23,11 @@ use Rattle.schedule_core.proofs.FatesOfRuns.{AnswersFor, answers-from, once-late
 use Rattle.schedule_core.proofs.TicksOfRuns.{caused-later, desk-tick, desk-ticks}
 use Rattle.schedule_core.specs.declared.ended.Ended.{Ended}
 use Rattle.schedule_core.specs.declared.ended.Ended.TheVariants as ended
-use Rattle.schedule_core.specs.Driving.{Breaks, Drives, committed_by}
+use Rattle.schedule_core.specs.Driving.{Breaks, Drives, IsAtRest, IsOfSameRun, committed_by}
 use Rattle.schedule_core.specs.Runs.{Answers, RunComes, committed_count}
-use Rattle.schedule_core.specs.Schedules.{HadMemory, IsAnswer, IsOfWorld, answer_by, answer_of}
+use Rattle.schedule_core.specs.Schedules.{HadMemory, IsAnswer, IsOfWorld, all_steps, answer_by, answer_of}
+use Rattle.schedule_reader.specs.Events.{FitsEvent}
+use Rattle.schedule_reader.specs.declared.event.Event.{Event}
 use Rattle.state_parts.specs.declared.answer.CommitOutcome.{CommitOutcome}
 use Rattle.state_parts.specs.declared.parts.StatePart.{StatePart}
 use Rattle.state_parts.specs.PartPlans.{AreParts, plans_of}
@@ -140,6 +143,117 @@ module _ {I S : Type 0} {g : Ghosts I} (told : (ℕ → ℕ → ℕ) → Type 0)
     plans = λ ok. plans;
   }
 
+  -- an engine that was started had no fates
+  no_fates : (steps : List Step) (e0 e : Engine I g) → IsStarted told tells t e0 → Goes tells t custom cut steps e0 e → e0.fates ≡ []
+  no_fates steps e0 e started goes = let some_are = some_words told tells t custom cut steps e0 e started goes in ap (λ (w : World). w.fates) (started.first some_are.0 some_are.1)
+
+  -- steps of an engine that was started, told over the plan and the input that it was started with
+  steps_then : (e0 e : Engine I g) (events : List Event) (was is : List (StatePart S)) → IsReady t cut e0 → Drives tells holds count (topology_in e0) custom (cut_in e0) (all_steps (topology_in e0) events) e0 e was is
+      → Drives tells holds count t custom cut (all_steps t events) e0 e was is
+  steps_then e0 e events was is ready drives =
+      subst (λ (u : Topology). Drives tells holds count u custom cut (all_steps u events) e0 e was is) ready.seated.of_topology
+      (subst (λ (k : Cut). Drives tells holds count (topology_in e0) custom k (all_steps (topology_in e0) events) e0 e was is) ready.seated.of_cut drives)
+
+  broken_then : (e0 e : Engine I g) (was is : List (StatePart S)) → IsReady t cut e0 → Breaks tells holds count (topology_in e0) custom (cut_in e0) e0 e was is → Breaks tells holds count t custom cut e0 e was is
+  broken_then e0 e was is ready breaks =
+      subst (λ (u : Topology). Breaks tells holds count u custom cut e0 e was is) ready.seated.of_topology
+      (subst (λ (k : Cut). Breaks tells holds count (topology_in e0) custom k e0 e was is) ready.seated.of_cut breaks)
+
+  -- an answer is that of the plan and the input that an engine was started with
+  answer_then : (e0 e : Engine I g) (answer : Result Ended Stop) → IsReady t cut e0 → IsOfSameRun e0 e → answer ≡ answer_of (topology_in e) (cut_in e) (shape e) → answer ≡ answer_of t cut (shape e)
+  answer_then e0 e answer ready same is =
+      is
+      ∙ ap (λ (u : Topology). answer_of u (cut_in e) (shape e)) (same.topology ∙ ready.seated.of_topology)
+      ∙ ap (λ (k : Cut). answer_of t k (shape e)) (same.cut ∙ ready.seated.of_cut)
+
+  -- the causes of ends, by words that are told
+  told_causes : (steps : List Step) (e0 e : Engine I g) (was is : List (StatePart S)) → IsStarted told tells t e0 → AreParts t was → Drives tells holds count t custom cut steps e0 e was is → (words : ℕ → ℕ → ℕ) → told words
+      → AreCaused t custom cut (shape e).desk.tick words e.fates
+  told_causes steps e0 e was is started planned drives words are =
+      let outcomes = outcomes_of e.fates in
+      let has : HasOutcomes outcomes e.fates = record { rest = []; first = sym (append-nil outcomes) } in
+      let shape_is : shape e ≡ world_after t custom cut words outcomes steps = told_world told tells t custom cut steps e0 e started drives.goes words are outcomes has in
+      let good : All (IsOutcome t) outcomes =
+          drives.outcomes planned (subst (λ (fs : List Attempt). All (IsOutcome t) (outcomes_of fs)) (sym (no_fates steps e0 e started drives.goes)) (All-nil (IsOutcome t))) in
+      let led = laws.led words outcomes steps (first_known t words) input keeps good (laws.first words input) in
+      subst (λ (w : World). AreCaused t custom cut w.desk.tick words w.fates) (sym shape_is) (laws.causes words (run t custom cut words outcomes steps (first_known t words)) input led)
+
+  -- ---- what a given schedule comes to that ran to its end
+
+  pub answered : (events : List Event) (e0 e : Engine I g) (was is : List (StatePart S)) (answer : Result Ended Stop) (fates : List Attempt) → IsReady t cut e0 → IsStarted told tells t e0 → AreParts t was → IsOfSameRun e0 e
+      → Drives tells holds count (topology_in e0) custom (cut_in e0) (all_steps (topology_in e0) events) e0 e was is → answer ≡ answer_of (topology_in e) (cut_in e) (shape e) → fates ≡ e.fates
+      → RunComes holds count t custom cut (all_steps t events) answer fates was is
+  answered events e0 e was is answer fates ready started planned same drives is_answer fates_are =
+      let steps = all_steps t events in
+      let there = steps_then e0 e events was is ready drives in
+      let came = came_to steps e0 e was is started (no_fates steps e0 e started there.goes) planned there in
+      subst (λ (fs : List Attempt). RunComes holds count t custom cut steps answer fs was is) (sym fates_are) (answers_come steps e was is came there.plans answer (answer_then e0 e answer ready same is_answer))
+
+  pub answered_world : (events : List Event) (e0 e : Engine I g) (was is : List (StatePart S)) (answer : Result Ended Stop) (fates : List Attempt) → IsReady t cut e0 → IsStarted told tells t e0 → IsOfSameRun e0 e
+      → Drives tells holds count (topology_in e0) custom (cut_in e0) (all_steps (topology_in e0) events) e0 e was is → answer ≡ answer_of (topology_in e) (cut_in e) (shape e) → fates ≡ e.fates
+      → (words : ℕ → ℕ → ℕ) → told words → IsOfWorld t custom cut words (all_steps t events) answer fates
+  answered_world events e0 e was is answer fates ready started same drives is_answer fates_are words are =
+      let steps = all_steps t events in
+      let there = steps_then e0 e events was is ready drives in
+      let has : HasOutcomes (outcomes_of e.fates) e.fates = record { rest = []; first = sym (append-nil (outcomes_of e.fates)) } in
+      let shape_is : shape e ≡ world_after t custom cut words (outcomes_of e.fates) steps = told_world told tells t custom cut steps e0 e started there.goes words are (outcomes_of e.fates) has in
+      subst (λ (fs : List Attempt). IsOfWorld t custom cut words steps answer fs) (sym fates_are)
+      (record { fates_are = ap (λ (w : World). w.fates) shape_is; answer_is = answer_then e0 e answer ready same is_answer ∙ ap (answer_of t cut) shape_is })
+
+  pub answered_causes : (events : List Event) (e0 e : Engine I g) (was is : List (StatePart S)) (fates : List Attempt) → IsReady t cut e0 → IsStarted told tells t e0 → AreParts t was
+      → Drives tells holds count (topology_in e0) custom (cut_in e0) (all_steps (topology_in e0) events) e0 e was is → fates ≡ e.fates
+      → (words : ℕ → ℕ → ℕ) → told words → AreCaused t custom cut (ticks_in (all_steps t events)) words fates
+  answered_causes events e0 e was is fates ready started planned drives fates_are words are =
+      let steps = all_steps t events in
+      let there = steps_then e0 e events was is ready drives in
+      let came = came_to steps e0 e was is started (no_fates steps e0 e started there.goes) planned there in
+      subst (λ (fs : List Attempt). AreCaused t custom cut (ticks_in steps) words fs) (sym fates_are)
+      (caused-later t custom cut (shape e).desk.tick (ticks_in steps) words e.fates (told_causes steps e0 e was is started planned there words are) (tick_then steps e was is came))
+
+  pub last_causes : (steps : List Step) (e0 e : Engine I g) (was is : List (StatePart S)) (fates : List Attempt) → IsStarted told tells t e0 → AreParts t was → Drives tells holds count t custom cut steps e0 e was is → fates ≡ e.fates
+      → (words : ℕ → ℕ → ℕ) → told words → AreCaused t custom cut last_tick words fates
+  last_causes steps e0 e was is fates started planned there fates_are words are =
+      let came = came_to steps e0 e was is started (no_fates steps e0 e started there.goes) planned there in
+      subst (λ (fs : List Attempt). AreCaused t custom cut last_tick words fs) (sym fates_are)
+      (caused-later t custom cut (shape e).desk.tick last_tick words e.fates (told_causes steps e0 e was is started planned there words are) (last_then steps e was is came))
+
+  pub answered_last : (events : List Event) (e0 e : Engine I g) (was is : List (StatePart S)) (fates : List Attempt) → IsReady t cut e0 → IsStarted told tells t e0 → AreParts t was
+      → Drives tells holds count (topology_in e0) custom (cut_in e0) (all_steps (topology_in e0) events) e0 e was is → fates ≡ e.fates
+      → (words : ℕ → ℕ → ℕ) → told words → AreCaused t custom cut last_tick words fates
+  answered_last events e0 e was is fates ready started planned drives = last_causes (all_steps t events) e0 e was is fates started planned (steps_then e0 e events was is ready drives)
+
+  -- ---- what it comes to where a bad cell stopped it
+
+  pub broken : (whole : List Step) (e0 e : Engine I g) (was is : List (StatePart S)) (key : List ℕ) (fates : List Attempt) → IsReady t cut e0 → IsStarted told tells t e0 → AreParts t was
+      → Breaks tells holds count (topology_in e0) custom (cut_in e0) e0 e was is → fates ≡ e.fates → RunComes holds count t custom cut whole (Err (stop.BadCell key)) fates was is
+  broken whole e0 e was is key fates ready started planned breaks fates_are =
+      let there = broken_then e0 e was is ready breaks in
+      let came = came_to there.steps e0 e was is started (no_fates there.steps e0 e started there.drives.goes) planned there.drives in
+      subst (λ (fs : List Attempt). RunComes holds count t custom cut whole (Err (stop.BadCell key)) fs was is) (sym fates_are) (breaks_come whole there.steps e was is key came there.drives.plans there.strange)
+
+  pub broken_last : (e0 e : Engine I g) (was is : List (StatePart S)) (fates : List Attempt) → IsReady t cut e0 → IsStarted told tells t e0 → AreParts t was
+      → Breaks tells holds count (topology_in e0) custom (cut_in e0) e0 e was is → fates ≡ e.fates
+      → (words : ℕ → ℕ → ℕ) → told words → AreCaused t custom cut last_tick words fates
+  broken_last e0 e was is fates ready started planned breaks = let there = broken_then e0 e was is ready breaks in last_causes there.steps e0 e was is fates started planned there.drives
+
+-- an engine that is ready is at rest where no commit is out
+pub at_rest : {I : Type 0} {g : Ghosts I} (t : Topology) (cut : Cut) (e : Engine I g) → IsReady t cut e → IsIdle e → IsAtRest e
+at_rest t cut e ready idle = record {
+  ready =
+      subst (λ (u : Topology). IsReady u (cut_in e) e) (sym ready.seated.of_topology)
+      (subst (λ (k : Cut). IsReady t k e) (sym ready.seated.of_cut) ready);
+  idle = idle;
+}
+
+pub fits_first : {I : Type 0} {g : Ghosts I} (t : Topology) (cut : Cut) (e : Engine I g) (events : List Event) → IsReady t cut e → AllByRecursion (FitsEvent t) events → AllByRecursion (FitsEvent (topology_in e)) events
+fits_first t cut e events ready = subst (λ (u : Topology). AllByRecursion (FitsEvent u) events) (sym ready.seated.of_topology)
+
+pub some_size : (t : Topology) (cut : Cut) → IsInput t cut → 0 < cut.size
+some_size t cut input = subst (λ (n : ℕ). 0 < n) (sym input.size) input.valid.batch.0
+
+is_no_cell : (answer : Result Ended Stop) (key : List ℕ) → answer ≡ Err stop.Memory → answer ≡ Err (stop.BadCell key) → ⊥
+is_no_cell answer key short bad = cc
+
 -- memory was wanted
 pub short_comes : {S : Type 0} (holds : S → CellMap → Type 0) (count : S → ℕ) (t : Topology) (custom : Custom) (cut : Cut) (steps : List Step) (fates : List Attempt) (was is : List (StatePart S))
     → IsOnce (length cut.records) cut.size last_tick fates → RunComes holds count t custom cut steps (Err stop.Memory) fates was is
@@ -150,7 +264,7 @@ short_comes holds count t custom cut steps fates was is once = record {
   caused = λ ok. absurd ok;
   caused_short = λ ok. absurd ok;
   of_world = λ ok. absurd ok;
-  bad_cell = λ key is_bad. absurd is_bad;
+  bad_cell = λ key is_bad. absurd (is_no_cell (Err stop.Memory) key refl is_bad);
   stands = λ ok. absurd ok;
   counted = λ ok. absurd ok;
   plans = λ ok. absurd ok;

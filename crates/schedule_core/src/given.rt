@@ -1,6 +1,7 @@
 //! The replay of a given schedule.
 ghost use Rattle.std.specs.Prelude.{◌≡◌, ℕ, []};
 ghost use Rattle.std.specs.List.{AllByRecursion};
+ghost use Rattle.commit_turns.specs.Turns.{last_tick};
 ghost use Rattle.event_engine.specs.Engines.{cut_in, shape, topology_in};
 ghost use Rattle.event_worlds.specs.Accounted.{AreCaused, IsInput};
 ghost use Rattle.event_worlds.specs.Rounds.{ticks_in};
@@ -12,9 +13,11 @@ ghost use Rattle.state_parts.specs.PartPlans.{AreParts};
 use crate::drive::carry_out_all;
 use crate::ended::Ended;
 use attempt_fates::Fates;
+use batch_commits::commits_of_batches_move_parts;
 use bolt_ops::RowOp;
 use commit_order::Stop;
 use event_engine::Engine;
+use event_worlds::{ends_of_worlds_have_causes, worlds_are_accounted};
 use schedule_reader::Events;
 use state_parts::{CommitFault, Parts};
 use std::alloc::Global;
@@ -52,10 +55,16 @@ pub fn replay<N: IdMaker, C: CellStore, O: RowOp>(
     ensures told { (words : ℕ → ℕ → ℕ) → N.tells ids.old words → IsAnswer result
         → IsOfWorld plan.now (O.meaning custom.now) batches words (all_steps plan.now events.now)
         result fates.new }
-    ensures drawn { (words : ℕ → ℕ → ℕ) → N.tells ids.old words → HadMemory result
-        → AreCaused plan.now (O.meaning custom.now) batches (ticks_in (all_steps plan.now events.now))
-        words fates.new }
+    ensures drawn { (words : ℕ → ℕ → ℕ) → N.tells ids.old words → IsAnswer result
+        → AreCaused plan.now (O.meaning custom.now) batches
+        (ticks_in (all_steps plan.now events.now)) words fates.new }
+    ensures drawn_short { (words : ℕ → ℕ → ℕ) → N.tells ids.old words → HadMemory result
+        → AreCaused plan.now (O.meaning custom.now) batches last_tick words fates.new }
 {
+    // laws: of worlds, and of parts over empty stores
+    worlds_are_accounted();
+    ends_of_worlds_have_causes();
+    commits_of_batches_move_parts::<C>();
     let mut engine = match Engine::start(alloc, plan, batches, ids) {
         Ok(engine) => engine,
         Err(_) => return Err(Stop::Memory),
