@@ -174,7 +174,7 @@ module _ {I S : Type 0} {g : Ghosts I} (told : (ℕ → ℕ → ℕ) → Type 0)
       let has : HasOutcomes outcomes e.fates = record { rest = []; first = sym (append-nil outcomes) } in
       let shape_is : shape e ≡ world_after t custom cut words outcomes steps = told_world told tells t custom cut steps e0 e started drives.goes words are outcomes has in
       let good : All (IsOutcome t) outcomes =
-          drives.outcomes planned (subst (λ (fs : List Attempt). All (IsOutcome t) (outcomes_of fs)) (sym (no_fates steps e0 e started drives.goes)) (All-nil (IsOutcome t))) in
+      drives.outcomes planned (subst (λ (fs : List Attempt). All (IsOutcome t) (outcomes_of fs)) (sym (no_fates steps e0 e started drives.goes)) (All-nil (IsOutcome t))) in
       let led = laws.led words outcomes steps (first_known t words) input keeps good (laws.first words input) in
       subst (λ (w : World). AreCaused t custom cut w.desk.tick words w.fates) (sym shape_is) (laws.causes words (run t custom cut words outcomes steps (first_known t words)) input led)
 
