@@ -1,7 +1,8 @@
 // Replays of schedules over stores in memory, and what is told of them.
-ghost use Rattle.std.specs.Prelude.{◌≡◌, IfOk};
+ghost use Rattle.std.specs.Prelude.{◌≡◌, IfOk, true};
 ghost use Rattle.std.specs.List.{AllByRecursion};
 ghost use Rattle.event_worlds.specs.Accounted.{IsInput};
+ghost use Rattle.schedule_core.specs.Schedules.{HadMemory};
 ghost use Rattle.schedule_reader.specs.Events.{FitsEvent};
 ghost use Rattle.state_parts.specs.PartPlans.{plans_of};
 
@@ -164,6 +165,18 @@ fn text_of(
     Ok(report_text(alloc, plan, fates.as_slice(), &[], tail)?)
 }
 
+// Whether a replay answers anything but want of memory.
+fn had_memory(answer: &Result<Ended, Stop>) -> bool
+    ensures { result ≡ true → HadMemory answer.now }
+{
+    match answer {
+        Ok(_) => true,
+        Err(Stop::Exhausted(_)) => true,
+        Err(Stop::BadCell(_)) => true,
+        Err(Stop::Memory) => false,
+    }
+}
+
 // The report of a replay, after which the stores are given back.
 fn replayed<N: IdMaker>(
     alloc: Global,
@@ -181,6 +194,9 @@ fn replayed<N: IdMaker>(
     let answer = replay(
         alloc, plan, batches, events, ids, &mut parts, &Reversed, &mut fates,
     );
+    if !had_memory(&answer) {
+        return Err(Mismatch::Memory);
+    }
     let text = text_of(alloc, plan, input, answer, &mut parts, &fates);
     parts.give_back(stores);
     text
