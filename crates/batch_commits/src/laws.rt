@@ -54,7 +54,8 @@ pub fn commits_of_batches_move_parts<C: CellStore>()
     writes_of_joined_rows();
 }
 
-/// A law: where the parts stand at all batches, their tables are those of the writes of all records.
+/// A law: where the parts stand at all batches, their tables are those of the writes of all
+/// records.
 pub fn parts_that_stand_have_the_tables<C: CellStore>()
     ensures { (t : Topology) (custom : Custom) (cut : Cut) (parts : List (StatePart C))
         (tables : List Table)

@@ -32,7 +32,8 @@ answer_by (Some txid) finished committed = Err (Exhausted txid)
 answer_by None true committed = Ok All
 answer_by None false committed = Ok (Unfinished committed)
 
--- all attempts of a transaction ended without a commit, or all batches are committed, or so many are
+-- all attempts of a transaction ended without a commit, or all batches are committed, or so many
+-- are
 abbrev pub answer_of : Topology → Cut → World → Result Ended Stop
 answer_of t cut w = answer_by w.desk.exhausted (is_finished t cut w.desk) w.desk.committed
 
@@ -55,4 +56,5 @@ HadMemory (Err Memory) = ⊥
 pub record IsOfWorld (t : Topology) (custom : Custom) (cut : Cut) (words : ℕ → ℕ → ℕ)
     (steps : List Step) (answer : Result Ended Stop) (fates : List Attempt) : Type 0 where
   pub fates_are : fates ≡ (world_after t custom cut words (outcomes_of fates) steps).fates
-  pub answer_is : answer ≡ answer_of t cut (world_after t custom cut words (outcomes_of fates) steps)
+  pub answer_is : answer
+      ≡ answer_of t cut (world_after t custom cut words (outcomes_of fates) steps)
