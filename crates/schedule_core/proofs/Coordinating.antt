@@ -1,7 +1,6 @@
 -- The coordinator's steps over the parts.
-use Rattle.std.proofs.Common.{◌≡◌, ◌⊎◌, ◌≤◌, ◌<◌, ℕ, zero, suc, ◌+◌, ◌==◌, ◌&&◌, Bool, true, false, cond, List, [], ◌∷◌, ◌++◌, All, length, map, find, get_or, slice_index_or, take, Option, None, Some, is_some, Result, Ok, Err, refl, sym, ap, subst, ◌∙◌, append-nil, inl, inr, arith, true≢false}
+use Rattle.std.proofs.Common.{◌≡◌, ◌⊎◌, ◌≤◌, ◌<◌, ℕ, suc, ◌+◌, ◌==◌, ◌&&◌, Bool, true, false, cond, List, [], ◌∷◌, ◌++◌, All, length, find, get_or, slice_index_or, take, Option, None, Some, is_some, Result, Ok, Err, refl, sym, ap, subst, ◌∙◌, append-nil, inl, inr, arith, true≢false}
 use Rattle.std.specs.Prelude.{slice_get}
-use Rattle.std.specs.List.{AllZip, range_with_len}
 use Rattle.std.specs.Result.{IsErrAnd}
 use Rattle.std.specs.Str.{IsUtf8}
 use Rattle.std.proofs.lemmas.List.{append_cancel_left, take_all}
@@ -11,7 +10,7 @@ use Rattle.std.proofs.lemmas.Option.{get_or_from_slice_get, slice_get_within}
 use Rattle.acker_core.specs.declared.verdict.Verdict.{Verdict}
 use Rattle.attempt_fates.specs.declared.fates.Attempt.{Attempt}
 use Rattle.batch_commits.specs.Standing.{FailuresAreCounted, HasStrange, HasTextKey, PartsStand, TellsFailedPart, batches_in, writes_at}
-use Rattle.bolt_ops.specs.RowOp.{Custom, IsCustom}
+use Rattle.bolt_ops.specs.RowOp.{Custom}
 use Rattle.commit_order.specs.Offices.{IsCommitOf}
 use Rattle.commit_turns.specs.Account.{rows_in}
 use Rattle.commit_turns.specs.declared.wait.Wait.{Wait}
@@ -20,16 +19,16 @@ use Rattle.commit_turns.specs.Kept.{IsWaiting}
 use Rattle.commit_turns.specs.Outcomes.{IsOutcome}
 use Rattle.commit_turns.specs.Turns.{decided, next_to_commit, turned}
 use Rattle.commit_writes.proofs.Whole.{whole_writes}
-use Rattle.commit_writes.specs.Writes.{AreWritesOf}
 use Rattle.event_engine.proofs.GoesLemmas.{goes-idle, next-told, outcomes-append}
 use Rattle.event_engine.proofs.LoopLemmas.{goes_there}
 use Rattle.event_engine.specs.declared.engine.Engine.{Engine}
-use Rattle.event_engine.specs.Engines.{Gives, Goes, HasOutcomes, IsIdle, IsOrder, IsReady, cut_in, has_ended, shape, topology_in}
+use Rattle.event_engine.specs.Engines.{Goes, HasOutcomes, IsIdle, IsOrder, IsReady, cut_in, has_ended, shape, topology_in}
 use Rattle.event_worlds.proofs.Committed.{decided-done, decided-failed}
 use Rattle.event_worlds.specs.Accounted.{Accounted, IsInput}
 use Rattle.event_worlds.specs.Worlds.{Known, Step, World, is_over, next_outcome, next_words, of_outcome, of_turn, coordinator_steps, outcome_step, outcomes_of, run, step, turn_needs, turn_step, with_progress}
 use Rattle.schedule_core.specs.Driving.{Breaks, Drives, committed_by}
-use Rattle.schedule_core.proofs.Drives.{Laws, drives-still, drives-then}
+use Rattle.schedule_core.specs.Laws.{CommitLaws, Laws}
+use Rattle.schedule_core.proofs.Drives.{drives-still, drives-then}
 use Rattle.schedule_core.proofs.Quiet.{IsQuiet, quiet_nothing, quiet_same, quiet_turn}
 use Rattle.state_parts.specs.Commits.{AreCommitted, ArePerhapsCommitted, NoCountFell}
 use Rattle.state_parts.specs.declared.answer.Commit.{Commit}
@@ -42,9 +41,7 @@ use Rattle.storm_stores.specs.CellMaps.{CellMap}
 use Rattle.topology_plan.specs.Topology.{Topology, tasks_in_all}
 use Rattle.tree_model.specs.declared.messages.AckMsg.{AckMsg}
 use Rattle.tree_model.specs.declared.write.Write.{Write}
-use Rattle.tree_model.specs.Lists.{Covers, IsClosed}
 use Rattle.trident_batches.specs.Batches.{Cut}
-use Rattle.tuple_account.specs.Sound.{IsSound}
 
 -- ---- lists
 
@@ -100,18 +97,6 @@ module _ (t : Topology) (custom : Custom) (cut : Cut) (words : ℕ → ℕ → �
   turned_quietly false is =
       quiet_same t cut k.world _ _ (ap (λ (b : Bool). (cond b k (step t custom cut words outcomes of_turn k)).world) is ∙ turn_world)
       (quiet_turn t cut (next_words words k.counts (tasks_in_all t) (turn_needs t cut k.world)) k.world)
-
--- the laws that the coordinator's steps rest on
-pub record CommitLaws {S : Type 0} (holds : S → CellMap → Type 0) (count : S → ℕ) (t : Topology) (custom : Custom) (cut : Cut) : Type 0 where
-  pub done : (n : ℕ) (old new : List (StatePart S)) → PartsStand holds t custom cut n old → AreCommitted holds (n + 1) (writes_at t custom cut (n + 1)) old new → PartsStand holds t custom cut (n + 1) new
-  pub broken_off : (n : ℕ) (old new : List (StatePart S)) → PartsStand holds t custom cut n old → n < batches_in cut → ArePerhapsCommitted holds (n + 1) (writes_at t custom cut (n + 1)) old new → PartsStand holds t custom cut n new
-  pub strange : (txid : ℕ) (made : List Write) (old new : List (StatePart S)) → All HasTextKey made → ArePerhapsCommitted holds txid made old new → HasStrange holds new → HasStrange holds old
-  pub decided_counts : (d : Desk) (how : CommitOutcome) (old new : List (StatePart S)) → AreParts t old → NoCountFell count old new → TellsFailedPart count old new how → FailuresAreCounted count (decided t cut how d).ended old new
-  pub turn_counts : (d : Desk) (verdict : Option Verdict) (ticks : ℕ) (old new : List (StatePart S)) → NoCountFell count old new → FailuresAreCounted count (turned t cut verdict ticks d).ended old new
-  pub quiet_counts : (xs : List Attempt) (a b : List (StatePart S)) → xs ≡ [] → NoCountFell count a b → FailuresAreCounted count xs a b
-  pub outcome : (how : CommitOutcome) (old new : List (StatePart S)) → AreParts t old → TellsFailedPart count old new how → IsOutcome t how
-  pub settled : (words : ℕ → ℕ → ℕ) (k : Known) → IsInput t cut → Accounted t custom cut words k → (i : ℕ) (w : Wait) (list : List AckMsg) → slice_get k.world.desk.pending i ≡ Some w → w.settled ≡ Some list
-      → IsSound t custom (rows_in cut w.root.txid) w.root list × IsClosed list × Covers t custom (rows_in cut w.root.txid) list
 
 -- what came of a commit to all parts
 pub record CommitComes {S : Type 0} (holds : S → CellMap → Type 0) (count : S → ℕ) (txid : ℕ) (made : List Write) (how : CommitOutcome) (was is : List (StatePart S)) : Type 0 where
@@ -280,9 +265,11 @@ module _ {I S : Type 0} {g : Ghosts I} (tells : I → (ℕ → ℕ) → ℕ → 
   -- a commit was ordered, and met a bad cell
   pub breaks-ordered : (laws : Laws count t custom cut) (more : CommitLaws holds count t custom cut) (old mid : Engine I g) (was is : List (StatePart S)) (commit : Commit)
       → Goes tells t custom cut (of_turn ∷ []) old mid → IsReady t cut mid → IsOrder commit mid → All HasTextKey commit.writes → plans_of is ≡ plans_of was → ArePerhapsCommitted holds commit.root.txid commit.writes was is → NoCountFell count was is
-      → HasStrange holds was → Breaks tells holds count t custom cut old mid was is
+      → HasStrange holds was → Breaks tells holds count t custom cut coordinator_steps old mid was is
   breaks-ordered laws more old mid was is commit goes ready order texts plans kept falls strange = record {
     steps = of_turn ∷ [];
+    rest = of_outcome ∷ [];
+    first = refl;
     drives = drives-broken laws more old mid was is order.wait commit (sym (next_here mid ready) ∙ order.ordered.next) order.is order.txid texts plans kept falls goes;
     strange = strange;
   }

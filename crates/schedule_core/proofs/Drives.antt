@@ -1,32 +1,22 @@
 -- Steps of an engine over parts, one after another.
-use Rattle.std.proofs.Common.{◌≡◌, ◌≤◌, ◌<◌, ℕ, zero, suc, ◌+◌, Bool, true, false, List, [], ◌∷◌, ◌++◌, All, length, map, refl, sym, ap, subst, ◌∙◌, arith, append_assoc}
-use Rattle.std.proofs.lemmas.List.{append-nil}
-use Rattle.std.specs.List.{AllZip, range_with_len}
+use Rattle.std.proofs.Common.{◌≡◌, ℕ, true, List, [], ◌∷◌, ◌++◌, All, refl, sym, ap, subst, ◌∙◌, append_assoc}
 use Rattle.attempt_fates.specs.declared.fates.Attempt.{Attempt}
-use Rattle.batch_commits.specs.Standing.{FailuresAreCounted, HasStrange, PartsStand}
-use Rattle.bolt_ops.specs.RowOp.{Custom, IsCustom}
+use Rattle.batch_commits.specs.Standing.{FailuresAreCounted, PartsStand}
+use Rattle.bolt_ops.specs.RowOp.{Custom}
 use Rattle.commit_order.specs.Orders.{desk_of}
 use Rattle.commit_turns.specs.Outcomes.{IsOutcome}
 use Rattle.event_engine.proofs.GoesLemmas.{gives-both, goes-none, goes-over, goes-then, then-more}
 use Rattle.event_engine.specs.declared.engine.Engine.{Engine}
-use Rattle.event_engine.specs.Engines.{Gives, Goes, HasOutcomes, IsStill, shape}
-use Rattle.event_worlds.specs.Accounted.{Accounted, IsInput}
+use Rattle.event_engine.specs.Engines.{Goes, IsStill, shape}
+use Rattle.event_worlds.specs.Accounted.{Accounted}
 use Rattle.event_worlds.specs.Worlds.{Known, Step, World, is_over, outcomes_of, run}
-use Rattle.schedule_core.specs.Driving.{Breaks, Drives, committed_by}
-use Rattle.state_parts.specs.declared.answer.CommitOutcome.{CommitOutcome}
+use Rattle.schedule_core.specs.Driving.{Breaks, Drives}
+use Rattle.schedule_core.specs.Laws.{Laws}
 use Rattle.state_parts.specs.declared.parts.StatePart.{StatePart}
-use Rattle.state_parts.specs.PartPlans.{AreParts, plans_of}
 use Rattle.storm_ids.specs.declared.ids.Ids.{Ghosts}
 use Rattle.storm_stores.specs.CellMaps.{CellMap}
 use Rattle.topology_plan.specs.Topology.{Topology}
 use Rattle.trident_batches.specs.Batches.{Cut}
-
--- the laws that the pieces rest on
-pub record Laws {S : Type 0} (count : S → ℕ) (t : Topology) (custom : Custom) (cut : Cut) : Type 0 where
-  pub accounted : (words : ℕ → ℕ → ℕ) (outcomes : List CommitOutcome) (steps : List Step) (k : Known) → IsInput t cut → IsCustom custom → All (IsOutcome t) outcomes
-      → Accounted t custom cut words k → Accounted t custom cut words (run t custom cut words outcomes steps k)
-  pub counts_none : (parts : List (StatePart S)) → FailuresAreCounted count [] parts parts
-  pub counts_then : (xs ys : List Attempt) (a b c : List (StatePart S)) → plans_of b ≡ plans_of a → FailuresAreCounted count xs a b → FailuresAreCounted count ys b c → FailuresAreCounted count (xs ++ ys) a c
 
 -- what is added to a list that stays as it is
 none_added : {X : Type 0} (xs ys : List X) → xs ≡ xs ++ ys → ys ≡ []
@@ -69,5 +59,23 @@ module _ {I S : Type 0} {g : Ghosts I} (tells : I → (ℕ → ℕ) → ℕ → 
     counted = subst (λ (xs : List Attempt). FailuresAreCounted count xs p r) (sym (then-more tells t custom cut xs ys a b c first.goes second.goes)) (laws.counts_then first.goes.more second.goes.more p q r first.plans first.counted second.counted);
   }
 
-  pub breaks-then : (xs : List Step) (a b c : Engine I g) (p q r : List (StatePart S)) → Drives tells holds count t custom cut xs a b p q → Breaks tells holds count t custom cut b c q r → Breaks tells holds count t custom cut a c p r
-  breaks-then xs a b c p q r first second = record { steps = xs ++ second.steps; drives = drives-then xs second.steps a b c p q r first second.drives; strange = first.strange second.strange }
+  -- steps, and then some of further ones, up to a bad cell
+  pub breaks-then : (xs ys : List Step) (a b c : Engine I g) (p q r : List (StatePart S)) → Drives tells holds count t custom cut xs a b p q → Breaks tells holds count t custom cut ys b c q r → Breaks tells holds count t custom cut (xs ++ ys) a c p r
+  breaks-then xs ys a b c p q r first second = record {
+    steps = xs ++ second.steps;
+    rest = second.rest;
+    first = ap (λ (zs : List Step). xs ++ zs) second.first ∙ sym (append_assoc xs second.steps second.rest);
+    drives = drives-then xs second.steps a b c p q r first second.drives;
+    strange = first.strange second.strange;
+  }
+
+-- more steps were to come
+pub breaks-longer : {I S : Type 0} {g : Ghosts I} (tells : I → (ℕ → ℕ) → ℕ → Type 0) (holds : S → CellMap → Type 0) (count : S → ℕ) (t : Topology) (custom : Custom) (cut : Cut) (whole more all : List Step) (a b : Engine I g) (p q : List (StatePart S))
+    → all ≡ whole ++ more → Breaks tells holds count t custom cut whole a b p q → Breaks tells holds count t custom cut all a b p q
+breaks-longer tells holds count t custom cut whole more all a b p q are breaks = record {
+  steps = breaks.steps;
+  rest = breaks.rest ++ more;
+  first = are ∙ ap (λ (zs : List Step). zs ++ more) breaks.first ∙ append_assoc breaks.steps breaks.rest more;
+  drives = breaks.drives;
+  strange = breaks.strange;
+}

@@ -1,6 +1,6 @@
 -- How many batches the fates of a run may have committed, when they are all of them, and what the
 -- coordinator's answer says of the fates.
-use Rattle.std.proofs.Common.{◌≡◌, ℕ, ◌+◌, ◌-◌, ◌*◌, ◌<◌, ◌≤◌, true, false, List, [], ◌∷◌, length, map, Some, subst, sym, ap, ◌∙◌, arith}
+use Rattle.std.proofs.Common.{◌≡◌, ℕ, ◌+◌, ◌-◌, ◌*◌, ◌<◌, ◌≤◌, true, false, List, [], ◌∷◌, length, map, Some, subst, sym, ap, ◌∙◌, arith, refl, rules}
 use Rattle.std.specs.Prelude.{min}
 use Rattle.std.specs.List.{AllByRecursion, flat_map, range_with_len}
 use Rattle.std.proofs.lemmas.Bool.{eqb-false, eqb-true}
@@ -28,6 +28,19 @@ once-later n size a b fates once later = record {
   spans = once.spans;
   finishes = once.finishes;
   handed_out = λ k d below. let so = once.handed_out k d below in omega arith;
+}
+
+-- no attempt ended
+pub once-none : (n size ticks : ℕ) → IsOnce n size ticks []
+once-none n size ticks = record {
+  in_order = refl;
+  records_in_order = refl;
+  numbered = λ txid. refl;
+  last_committed = search rules;
+  of_batch = search rules;
+  spans = search rules;
+  finishes = search rules;
+  handed_out = search rules;
 }
 
 -- ---- batches that are committed in order

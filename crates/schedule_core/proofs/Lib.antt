@@ -1,3 +1,4 @@
+mod Keeping
 mod Drives
 mod Quiet
 mod Coordinating
@@ -5,4 +6,6 @@ mod Resting
 mod Looping
 mod FatesOfRuns
 mod TicksOfRuns
-mod Replaying
+mod Ending
+mod Rounding
+mod RunByRounds

@@ -1,16 +1,17 @@
 -- Rounds and events over an engine and parts, one after another, until all is over.
-use Rattle.std.proofs.Common.{◌≡◌, ◌≤◌, ◌<◌, ℕ, zero, suc, ◌+◌, Bool, true, List, [], ◌∷◌, ◌++◌, length, take, get_or, refl, sym, ap, subst, ◌∙◌, arith, append_assoc, append-nil}
-use Rattle.std.specs.Prelude.{Result, Ok, Err, OnErr}
+use Rattle.std.proofs.Common.{◌≡◌, ◌≤◌, ◌<◌, ℕ, zero, suc, ◌+◌, true, List, [], ◌∷◌, ◌++◌, length, take, get_or, refl, sym, ap, subst, ◌∙◌, arith, append_assoc, append-nil}
 use Rattle.std.specs.List.{AllByRecursion, flat_map, range_with_len}
-use Rattle.std.specs.Result.{IsErrAnd}
 use Rattle.attempt_fates.specs.Fates.{IsOnce}
 use Rattle.bolt_ops.specs.RowOp.{Custom}
 use Rattle.commit_turns.specs.Turns.{last_tick}
 use Rattle.event_engine.specs.declared.engine.Engine.{Engine}
 use Rattle.event_engine.specs.Engines.{cut_in, has_ended, shape, topology_in}
 use Rattle.event_worlds.specs.Worlds.{Step, is_over, round_steps, rounds_steps}
-use Rattle.schedule_core.specs.Driving.{Breaks, Drives, IsAtRest, IsOfSameRun}
-use Rattle.schedule_core.proofs.Drives.{Laws, breaks-then, drives-none, drives-over, drives-then}
+use Rattle.schedule_core.specs.Driving.{AreKept, Breaks, Drives, IsAtRest, IsOfSameRun}
+use Rattle.schedule_core.proofs.Drives.{breaks-longer, breaks-then, drives-none, drives-over, drives-then}
+use Rattle.schedule_core.proofs.Keeping.{kept-none, kept-then}
+use Rattle.schedule_core.proofs.Resting.{breaks_there, drives_there}
+use Rattle.schedule_core.specs.Laws.{Laws}
 use Rattle.schedule_reader.specs.declared.event.Event.{Event}
 use Rattle.schedule_reader.specs.Events.{FitsEvent}
 use Rattle.state_parts.specs.declared.parts.StatePart.{StatePart}
@@ -19,18 +20,6 @@ use Rattle.storm_ids.specs.declared.ids.Ids.{Ghosts}
 use Rattle.storm_stores.specs.CellMaps.{CellMap}
 use Rattle.topology_plan.specs.Topology.{Topology}
 use Rattle.trident_batches.specs.Batches.{Cut}
-
--- ---- exits
-
--- the fault that a `?` hands on is that of the call
-pub fault_was : {T U E : Type 0} (r : Result T E) (s : Result U E) (error e : E) → IsErrAnd r (λ x. x ≡ error) → s ≡ Err error → r ≡ Err e → s ≡ Err e
-fault_was {T} {U} {E} r s error e exits was is =
-    let same : e ≡ error = subst (λ (x : Result T E). IsErrAnd x (λ y. y ≡ error)) is exits in
-    subst (λ (x : E). s ≡ Err x) (sym same) was
-
-pub on_err : {T E X : Type 0} (r : Result T E) → X → OnErr r X
-on_err (Ok v) x = tt
-on_err (Err e) x = x
 
 -- ---- steps
 
@@ -106,14 +95,7 @@ module _ {I S : Type 0} {g : Ghosts I} (tells : I → (ℕ → ℕ) → ℕ → 
     pub same_run : IsOfSameRun old mid
     pub parts : AreParts (topology_in old) q
     pub drives : Drives tells holds count (topology_in old) custom (cut_in old) steps old mid p q
-
-  pub drives_there : (steps : Topology → List Step) (old mid new : Engine I g) (q r : List (StatePart S)) → IsOfSameRun old mid → Drives tells holds count (topology_in mid) custom (cut_in mid) (steps (topology_in mid)) mid new q r → Drives tells holds count (topology_in old) custom (cut_in old) (steps (topology_in old)) mid new q r
-  drives_there steps old mid new q r same own =
-      subst (λ (u : Topology). Drives tells holds count u custom (cut_in old) (steps u) mid new q r) same.topology (subst (λ (k : Cut). Drives tells holds count (topology_in mid) custom k (steps (topology_in mid)) mid new q r) same.cut own)
-
-  pub breaks_there : (old mid new : Engine I g) (q r : List (StatePart S)) → IsOfSameRun old mid → Breaks tells holds count (topology_in mid) custom (cut_in mid) mid new q r → Breaks tells holds count (topology_in old) custom (cut_in old) mid new q r
-  breaks_there old mid new q r same own =
-      subst (λ (u : Topology). Breaks tells holds count u custom (cut_in old) mid new q r) same.topology (subst (λ (k : Cut). Breaks tells holds count (topology_in mid) custom k mid new q r) same.cut own)
+    pub kept : AreKept holds p q
 
   module _ (old : Engine I g) (p : List (StatePart S)) (laws : Laws count (topology_in old) custom (cut_in old)) where
     pub driven-none : IsAtRest old → AreParts (topology_in old) p → Driven [] old old p p
@@ -122,6 +104,7 @@ module _ {I S : Type 0} {g : Ghosts I} (tells : I → (ℕ → ℕ) → ℕ → 
       same_run = record { topology = refl; cut = refl };
       parts = are;
       drives = drives-none tells holds count (topology_in old) custom (cut_in old) laws old p;
+      kept = kept-none holds p;
     }
 
     module _ (first : List Step) (mid : Engine I g) (q : List (StatePart S)) (kept : Driven first old mid p q) where
@@ -134,20 +117,24 @@ module _ {I S : Type 0} {g : Ghosts I} (tells : I → (ℕ → ℕ) → ℕ → 
           subst (λ (steps : List Step). Drives tells holds count t custom cut steps old mid p q) (sym are) (drives-then tells holds count t custom cut laws first rest old mid mid p q q kept.drives still)
 
       -- further steps
-      pub driven-then : (all : List Step) (steps : Topology → List Step) (new : Engine I g) (r : List (StatePart S)) → all ≡ first ++ steps (topology_in old) → IsAtRest new → IsOfSameRun mid new → Drives tells holds count (topology_in mid) custom (cut_in mid) (steps (topology_in mid)) mid new q r → Driven all old new p r
-      driven-then all steps new r are rest same own =
+      pub driven-then : (all : List Step) (steps : Topology → List Step) (new : Engine I g) (r : List (StatePart S)) → all ≡ first ++ steps (topology_in old) → IsAtRest new → IsOfSameRun mid new → Drives tells holds count (topology_in mid) custom (cut_in mid) (steps (topology_in mid)) mid new q r → AreKept holds q r → Driven all old new p r
+      driven-then all steps new r are rest same own keeps =
           let t = topology_in old in
           let cut = cut_in old in
-          let next = drives_there steps old mid new q r kept.same_run own in record {
+          let next = drives_there tells holds count custom steps old mid new q r kept.same_run own in record {
             at_rest = rest;
             same_run = same_then old mid kept.same_run new same;
             parts = next.plans ∙ kept.parts;
             drives = subst (λ (steps : List Step). Drives tells holds count t custom cut steps old new p r) (sym are) (drives-then tells holds count t custom cut laws first (steps t) old mid new p q r kept.drives next);
+            kept = kept-then holds p q r kept.kept keeps;
           }
 
-      pub driven-breaks : (new : Engine I g) (r : List (StatePart S)) → Breaks tells holds count (topology_in mid) custom (cut_in mid) mid new q r → Breaks tells holds count (topology_in old) custom (cut_in old) old new p r
-      driven-breaks new r own =
-          breaks-then tells holds count (topology_in old) custom (cut_in old) laws first old mid new p q r kept.drives (breaks_there old mid new q r kept.same_run own)
+      -- further steps up to a bad cell, and more that were to come
+      pub driven-breaks : (all more : List Step) (steps : Topology → List Step) (new : Engine I g) (r : List (StatePart S)) → all ≡ (first ++ steps (topology_in old)) ++ more → Breaks tells holds count (topology_in mid) custom (cut_in mid) (steps (topology_in mid)) mid new q r → Breaks tells holds count (topology_in old) custom (cut_in old) all old new p r
+      driven-breaks all more steps new r are own =
+          let t = topology_in old in
+          breaks-longer tells holds count t custom (cut_in old) (first ++ steps t) more all old new p r are
+          (breaks-then tells holds count t custom (cut_in old) laws first (steps t) old mid new p q r kept.drives (breaks_there tells holds count custom steps old mid new q r kept.same_run own))
 
       pub parts_here : AreParts (topology_in mid) q
       parts_here = subst (λ (u : Topology). AreParts u q) (sym kept.same_run.topology) kept.parts

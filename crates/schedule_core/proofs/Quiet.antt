@@ -1,5 +1,5 @@
 -- What the coordinator's steps do to the fates and to the number of commits.
-use Rattle.std.proofs.Common.{◌≡◌, ◌⊎◌, ℕ, zero, suc, ◌+◌, Bool, true, false, cond, List, [], ◌∷◌, ◌++◌, map, filter, Option, None, Some, refl, sym, ap, subst, ◌∙◌, append-nil, inl, inr}
+use Rattle.std.proofs.Common.{◌≡◌, ◌⊎◌, ℕ, zero, suc, ◌+◌, Bool, true, false, cond, List, [], ◌∷◌, ◌++◌, map, filter, Option, None, Some, refl, sym, ap, ◌∙◌, append-nil, inl, inr}
 use Rattle.std.specs.Prelude.{slice_get}
 use Rattle.acker_core.specs.declared.verdict.Verdict.{Verdict}
 use Rattle.acker_core.specs.declared.verdict.Verdict.TheVariants.{Complete, Fails}
@@ -7,10 +7,10 @@ use Rattle.attempt_fates.specs.declared.fates.Attempt.{Attempt}
 use Rattle.attempt_fates.specs.declared.fates.End.TheVariants as end
 use Rattle.commit_turns.specs.declared.wait.Wait.{Wait}
 use Rattle.commit_turns.specs.Desks.{Desk, Progress, ended_at, is_late, still, timed_of}
-use Rattle.commit_turns.specs.Turns.{and_then, complete_timed, decided, end_timed, has_no_tick, heard, is_closed, one_tick, passed, ticked, turned, turned_by}
+use Rattle.commit_turns.specs.Turns.{and_then, complete_timed, end_timed, has_no_tick, heard, is_closed, one_tick, passed, ticked, turned, turned_by}
 use Rattle.event_engine.proofs.GoesLemmas.{outcomes-append}
 use Rattle.event_worlds.proofs.Committed.{turned-committed}
-use Rattle.event_worlds.specs.Worlds.{World, delivered, outcome_step, outcomes_of, turn_past, turn_step}
+use Rattle.event_worlds.specs.Worlds.{World, delivered, outcomes_of, turn_past, turn_step}
 use Rattle.state_parts.specs.declared.answer.CommitOutcome.{CommitOutcome}
 use Rattle.topology_plan.specs.Topology.{Topology}
 use Rattle.tree_model.specs.declared.messages.AckMsg.{AckMsg}

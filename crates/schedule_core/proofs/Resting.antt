@@ -1,14 +1,18 @@
 -- Steps of an engine that is at rest, one after another.
-use Rattle.std.proofs.Common.{◌≡◌, ◌≤◌, ℕ, Bool, false, List, ◌∷◌, [], ◌++◌, length, map, refl, sym, ap, subst, ◌∙◌}
-use Rattle.std.specs.Prelude.{Err, Ok, Result}
+use Rattle.std.proofs.Common.{◌≡◌, ℕ, List, ◌++◌, map, refl, sym, ap, subst, ◌∙◌, append_assoc}
+use Rattle.std.specs.Prelude.{Err, Ok, OnErr, Result, replicate}
 use Rattle.std.specs.List.{range_with_len}
 use Rattle.std.specs.Result.{IsErrAnd}
 use Rattle.bolt_ops.specs.RowOp.{Custom}
 use Rattle.commit_order.specs.Orders.{desk_of}
+use Rattle.event_engine.proofs.GoesLemmas.{goes-then}
 use Rattle.event_engine.specs.declared.engine.Engine.{Engine}
 use Rattle.event_engine.specs.Engines.{Goes, IsReady, IsStill, cut_in, has_ended, topology_in}
-use Rattle.event_worlds.specs.Worlds.{Step, coordinator_steps, of_acker, of_task, round_steps}
-use Rattle.schedule_core.proofs.Drives.{Laws, breaks-then, drives-still, drives-then}
+use Rattle.event_worlds.specs.Rounds.{round_with}
+use Rattle.event_worlds.specs.Worlds.{Step, coordinator_steps, of_acker, of_task, of_tick}
+use Rattle.schedule_core.proofs.Drives.{breaks-then, drives-still, drives-then}
+use Rattle.schedule_core.specs.Laws.{Laws}
+use Rattle.schedule_core.specs.Rounding.{closing_steps, opening_steps}
 use Rattle.schedule_core.specs.Driving.{Breaks, Drives, IsAtRest, IsOfSameRun}
 use Rattle.schedule_core.specs.Schedules.{steps_of}
 use Rattle.schedule_reader.specs.declared.event.Event.{Event}
@@ -23,6 +27,10 @@ pub handed_on : {T U E : Type 0} (r : Result T E) (s : Result U E) (error e : E)
 handed_on {T} {U} {E} r s error e exits was is =
     let same : e ≡ error = subst (λ (x : Result T E). IsErrAnd x (λ y. y ≡ error)) is exits in
     subst (λ (x : E). s ≡ Err x) (sym same) was
+
+pub on_err : {T E X : Type 0} (r : Result T E) → X → OnErr r X
+on_err (Ok v) x = tt
+on_err (Err e) x = x
 
 module _ {I : Type 0} {g : Ghosts I} where
   pub same_run_none : (e : Engine I g) → IsOfSameRun e e
@@ -49,8 +57,25 @@ module _ {I : Type 0} {g : Ghosts I} where
   pub at_rest_as : (new end : Engine I g) → end ≡ new → IsAtRest new → IsAtRest end
   at_rest_as new end is rest = subst (λ (e : Engine I g). IsAtRest e) (sym is) rest
 
-module _ {I S : Type 0} {g : Ghosts I} (tells : I → (ℕ → ℕ) → ℕ → Type 0) (holds : S → CellMap → Type 0) (count : S → ℕ) (custom : Custom) where
+module _ {I : Type 0} {g : Ghosts I} (tells : I → (ℕ → ℕ) → ℕ → Type 0) (custom : Custom) where
   -- what is so for a later engine's plan and input is so for the first one's
+  pub goes_there : (steps : Topology → List Step) (old mid new : Engine I g) → IsOfSameRun old mid
+      → Goes tells (topology_in mid) custom (cut_in mid) (steps (topology_in mid)) mid new
+      → Goes tells (topology_in old) custom (cut_in old) (steps (topology_in old)) mid new
+  goes_there steps old mid new same own =
+      subst (λ (u : Topology). Goes tells u custom (cut_in old) (steps u) mid new) same.topology
+      (subst (λ (k : Cut). Goes tells (topology_in mid) custom k (steps (topology_in mid)) mid new) same.cut own)
+
+  -- each task's event, and then each acker's
+  pub goes_opened : (a b c : Engine I g) → IsReady (topology_in a) (cut_in a) b
+      → Goes tells (topology_in a) custom (cut_in a) (map of_task (range_with_len 0 (tasks_in_all (topology_in a)))) a b
+      → Goes tells (topology_in b) custom (cut_in b) (map of_acker (range_with_len 0 (topology_in b).ackers)) b c
+      → Goes tells (topology_in a) custom (cut_in a) (opening_steps (topology_in a)) a c
+  goes_opened a b c ready tasks ackers =
+      goes-then tells (topology_in a) custom (cut_in a) (map of_task (range_with_len 0 (tasks_in_all (topology_in a)))) (map of_acker (range_with_len 0 (topology_in a).ackers)) a b c tasks
+      (goes_there (λ (u : Topology). map of_acker (range_with_len 0 u.ackers)) a b c (same_run_after a b ready) ackers)
+
+module _ {I S : Type 0} {g : Ghosts I} (tells : I → (ℕ → ℕ) → ℕ → Type 0) (holds : S → CellMap → Type 0) (count : S → ℕ) (custom : Custom) where
   pub drives_there : (steps : Topology → List Step) (old mid new : Engine I g) (p q : List (StatePart S)) → IsOfSameRun old mid
       → Drives tells holds count (topology_in mid) custom (cut_in mid) (steps (topology_in mid)) mid new p q
       → Drives tells holds count (topology_in old) custom (cut_in old) (steps (topology_in old)) mid new p q
@@ -58,19 +83,12 @@ module _ {I S : Type 0} {g : Ghosts I} (tells : I → (ℕ → ℕ) → ℕ → 
       subst (λ (u : Topology). Drives tells holds count u custom (cut_in old) (steps u) mid new p q) same.topology
       (subst (λ (k : Cut). Drives tells holds count (topology_in mid) custom k (steps (topology_in mid)) mid new p q) same.cut own)
 
-  pub breaks_there : (old mid new : Engine I g) (p q : List (StatePart S)) → IsOfSameRun old mid
-      → Breaks tells holds count (topology_in mid) custom (cut_in mid) mid new p q
-      → Breaks tells holds count (topology_in old) custom (cut_in old) mid new p q
-  breaks_there old mid new p q same own =
-      subst (λ (u : Topology). Breaks tells holds count u custom (cut_in old) mid new p q) same.topology
-      (subst (λ (k : Cut). Breaks tells holds count (topology_in mid) custom k mid new p q) same.cut own)
-
-  goes_on : (steps : Topology → List Step) (old mid new : Engine I g) → IsOfSameRun old mid
-      → Goes tells (topology_in mid) custom (cut_in mid) (steps (topology_in mid)) mid new
-      → Goes tells (topology_in old) custom (cut_in old) (steps (topology_in old)) mid new
-  goes_on steps old mid new same own =
-      subst (λ (u : Topology). Goes tells u custom (cut_in old) (steps u) mid new) same.topology
-      (subst (λ (k : Cut). Goes tells (topology_in mid) custom k (steps (topology_in mid)) mid new) same.cut own)
+  pub breaks_there : (steps : Topology → List Step) (old mid new : Engine I g) (p q : List (StatePart S)) → IsOfSameRun old mid
+      → Breaks tells holds count (topology_in mid) custom (cut_in mid) (steps (topology_in mid)) mid new p q
+      → Breaks tells holds count (topology_in old) custom (cut_in old) (steps (topology_in old)) mid new p q
+  breaks_there steps old mid new p q same own =
+      subst (λ (u : Topology). Breaks tells holds count u custom (cut_in old) (steps u) mid new p q) same.topology
+      (subst (λ (k : Cut). Breaks tells holds count (topology_in mid) custom k (steps (topology_in mid)) mid new p q) same.cut own)
 
   -- an event's steps, where the event, the engine and the parts are told by equations
   pub drives_as : (t : Topology) (cut : Cut) (event known : Event) (old new end : Engine I g) (p q r : List (StatePart S)) → event ≡ known → end ≡ new → r ≡ q
@@ -81,43 +99,31 @@ module _ {I S : Type 0} {g : Ghosts I} (tells : I → (ℕ → ℕ) → ℕ → 
       (subst (λ (e : Engine I g). Drives tells holds count t custom cut (steps_of t known) old e p r) (sym of_end)
       (subst (λ (x : List (StatePart S)). Drives tells holds count t custom cut (steps_of t known) old new p x) (sym of_parts) drives))
 
-  -- what a round does before the coordinator's step
-  pub record IsBeforeCoordinator (a b c : Engine I g) : Type 0 where
-    pub ready_then : IsReady (topology_in a) (cut_in a) b
-    pub tasks : Goes tells (topology_in a) custom (cut_in a) (map of_task (range_with_len 0 (tasks_in_all (topology_in a)))) a b
-    pub still : IsStill a b
-    pub ready : IsReady (topology_in b) (cut_in b) c
-    pub ackers : Goes tells (topology_in b) custom (cut_in b) (map of_acker (range_with_len 0 (topology_in b).ackers)) b c
-    pub still_then : IsStill b c
+  -- the same of a bad cell
+  pub breaks_as : (t : Topology) (cut : Cut) (event known : Event) (old new : Engine I g) (p q : List (StatePart S)) → event ≡ known
+      → Breaks tells holds count t custom cut (steps_of t known) old new p q
+      → Breaks tells holds count t custom cut (steps_of t event) old new p q
+  breaks_as t cut event known old new p q of_event breaks =
+      subst (λ (k : Event). Breaks tells holds count t custom cut (steps_of t k) old new p q) (sym of_event) breaks
 
-  module _ (a b c d : Engine I g) (p q : List (StatePart S)) (laws : Laws count (topology_in a) custom (cut_in a)) (before : IsBeforeCoordinator a b c) where
-    task_steps : List Step
-    task_steps = map of_task (range_with_len 0 (tasks_in_all (topology_in a)))
+  -- steps that leave the coordinator alone, and then others
+  module _ (first next : Topology → List Step) (a b d : Engine I g) (p q : List (StatePart S)) (laws : Laws count (topology_in a) custom (cut_in a)) (same : IsOfSameRun a b)
+      (goes : Goes tells (topology_in a) custom (cut_in a) (first (topology_in a)) a b) (still : IsStill a b) where
+    pub drives_on : Drives tells holds count (topology_in b) custom (cut_in b) (next (topology_in b)) b d p q
+        → Drives tells holds count (topology_in a) custom (cut_in a) (first (topology_in a) ++ next (topology_in a)) a d p q
+    drives_on last =
+        drives-then tells holds count (topology_in a) custom (cut_in a) laws (first (topology_in a)) (next (topology_in a)) a b d p p q
+        (drives-still tells holds count (topology_in a) custom (cut_in a) laws (first (topology_in a)) a b p goes still)
+        (drives_there next a b d p q same last)
 
-    acker_steps : List Step
-    acker_steps = map of_acker (range_with_len 0 (topology_in a).ackers)
+    -- or up to a bad cell
+    pub breaks_on : Breaks tells holds count (topology_in b) custom (cut_in b) (next (topology_in b)) b d p q
+        → Breaks tells holds count (topology_in a) custom (cut_in a) (first (topology_in a) ++ next (topology_in a)) a d p q
+    breaks_on last =
+        breaks-then tells holds count (topology_in a) custom (cut_in a) laws (first (topology_in a)) (next (topology_in a)) a b d p p q
+        (drives-still tells holds count (topology_in a) custom (cut_in a) laws (first (topology_in a)) a b p goes still)
+        (breaks_there next a b d p q same last)
 
-    same_run : IsOfSameRun a c
-    same_run = same_run_then a b c (same_run_after a b before.ready_then) (same_run_after b c before.ready)
-
-    drives_before : Drives tells holds count (topology_in a) custom (cut_in a) (task_steps ++ acker_steps) a c p p
-    unfolding task_steps acker_steps
-    drives_before =
-        drives-then tells holds count (topology_in a) custom (cut_in a) laws task_steps acker_steps a b c p p p
-        (drives-still tells holds count (topology_in a) custom (cut_in a) laws task_steps a b p before.tasks before.still)
-        (drives-still tells holds count (topology_in a) custom (cut_in a) laws acker_steps b c p (goes_on (λ (u : Topology). map of_acker (range_with_len 0 u.ackers)) a b c (same_run_after a b before.ready_then) before.ackers) before.still_then)
-
-    -- the coordinator's step ends the round
-    pub drives_round : Drives tells holds count (topology_in c) custom (cut_in c) coordinator_steps c d p q
-        → Drives tells holds count (topology_in a) custom (cut_in a) (round_steps (topology_in a)) a d p q
-    unfolding task_steps acker_steps
-    drives_round last =
-        drives-then tells holds count (topology_in a) custom (cut_in a) laws (task_steps ++ acker_steps) coordinator_steps a c d p p q drives_before
-        (drives_there (λ (u : Topology). coordinator_steps) a c d p q same_run last)
-
-    -- or meets a bad cell
-    pub breaks_round : Breaks tells holds count (topology_in c) custom (cut_in c) c d p q
-        → Breaks tells holds count (topology_in a) custom (cut_in a) a d p q
-    breaks_round last =
-        breaks-then tells holds count (topology_in a) custom (cut_in a) laws (task_steps ++ acker_steps) a c d p p q drives_before
-        (breaks_there a c d p q same_run last)
+-- the steps of both parts of a round are those of the round
+pub both_parts : (t : Topology) (n : ℕ) → opening_steps t ++ closing_steps n ≡ round_with t n
+both_parts t n = sym (append_assoc (opening_steps t) (replicate n of_tick) coordinator_steps)

@@ -1,6 +1,6 @@
 -- What the steps of an engine do to the parts that its commits go to. This project's own.
-use Rattle.std.specs.Prelude.{◌≡◌, ◌≤◌, ◌+◌, ℕ, List, ◌++◌, All, Option, None, Some}
-use Rattle.attempt_fates.specs.declared.fates.Attempt.{Attempt}
+use Rattle.std.specs.Prelude.{◌≡◌, ℕ, List, ◌++◌, All}
+use Rattle.std.specs.List.{AllZip}
 use Rattle.batch_commits.specs.Standing.{FailuresAreCounted, HasStrange, PartsStand}
 use Rattle.bolt_ops.specs.RowOp.{Custom, IsCustom}
 use Rattle.commit_turns.specs.Outcomes.{IsOutcome}
@@ -19,6 +19,19 @@ use Rattle.trident_batches.specs.Batches.{Cut}
 -- how many batches an engine has committed
 abbrev pub committed_by : {I : Type 0} {g : Ghosts I} → Engine I g → ℕ
 committed_by e = (shape e).desk.committed
+
+-- a store that told its cells tells some
+abbrev pub StillTells : {S : Type 0} → (S → CellMap → Type 0) → StatePart S → StatePart S → Type 0
+StillTells tells was is =
+    (cells : CellMap) → tells was.over.store cells
+    → (after : CellMap) × tells is.over.store after
+
+-- The parts are those that they were, and each store that told its cells tells some. So the stores
+-- can be given back, whatever was answered.
+pub record AreKept {S : Type 0} (tells : S → CellMap → Type 0) (old new : List (StatePart S))
+    : Type 0 where
+  pub plans : plans_of new ≡ plans_of old
+  pub told : AllZip (StillTells tells) old new
 
 module _ {I : Type 0} {g : Ghosts I} where
   -- an engine is ready for the next event, and no ordered commit is out
@@ -51,10 +64,12 @@ module _ {I S : Type 0} {g : Ghosts I} where
     pub strange : HasStrange holds is → HasStrange holds was
     pub counted : FailuresAreCounted count goes.more was is
 
-  -- a bad cell was met after some steps, and a strange one was there before them
+  -- a bad cell was met after the first of these steps, and a strange one was there before them
   pub record Breaks (tells : I → (ℕ → ℕ) → ℕ → Type 0) (holds : S → CellMap → Type 0)
-      (count : S → ℕ) (t : Topology) (custom : Custom) (cut : Cut)
+      (count : S → ℕ) (t : Topology) (custom : Custom) (cut : Cut) (whole : List Step)
       (old new : Engine I g) (was is : List (StatePart S)) : Type 0 where
     pub steps : List Step
+    pub rest : List Step
+    pub first : whole ≡ steps ++ rest
     pub drives : Drives tells holds count t custom cut steps old new was is
     pub strange : HasStrange holds was

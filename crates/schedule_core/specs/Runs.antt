@@ -1,24 +1,27 @@
 -- What a run of steps over the parts of all states comes to. This project's own.
-use Rattle.std.specs.Prelude.{◌≡◌, ◌<◌, ℕ, List, [], ◌∷◌, Result, Ok, Err, All, length}
+use Rattle.std.specs.Prelude.{◌≡◌, ◌<◌, ◌-◌, ◌^◌, ℕ, List, [], ◌∷◌, ◌++◌, Result, Ok, Err, All, length, map, fold, get_or, nat_le, if◌then◌else◌}
+use Rattle.std.specs.List.{range_with_len}
 use Rattle.attempt_fates.specs.declared.fates.Attempt.{Attempt}
 use Rattle.attempt_fates.specs.Fates.{IsOnce, IsWhole, attempt_numbers, committed_txids}
 use Rattle.batch_commits.specs.Standing.{FailuresAreCounted, HasStrange, PartsStand, batches_in}
 use Rattle.bolt_ops.specs.RowOp.{Custom}
 use Rattle.commit_order.specs.declared.stop.Stop.{Stop}
 use Rattle.commit_order.specs.declared.stop.Stop.TheVariants as stop
+use Rattle.commit_turns.specs.Kept.{FailsInTurn}
 use Rattle.commit_turns.specs.Turns.{last_tick}
 use Rattle.event_worlds.specs.Accounted.{AreCaused}
 use Rattle.event_worlds.specs.Worlds.{Step}
 use Rattle.schedule_core.specs.declared.ended.Ended.{Ended}
-use Rattle.schedule_core.specs.declared.ended.Ended.TheVariants as ended
+use Rattle.schedule_core.specs.declared.ended.Ended.TheVariants as ending
+use Rattle.schedule_core.specs.Driving.{AreKept}
 use Rattle.schedule_core.specs.Schedules.{HadMemory, IsAnswer, IsOfWorld}
 use Rattle.state_parts.specs.declared.parts.StatePart.{StatePart}
-use Rattle.state_parts.specs.PartPlans.{plans_of}
 use Rattle.state_parts.specs.Standing.{IsEmpty}
 use Rattle.storm_stores.specs.CellMaps.{CellMap}
+use Rattle.storm_ticks.specs.Ticking.{handed_on}
 use Rattle.topology_plan.specs.Topology.{Topology}
 use Rattle.trident_batches.specs.Batches.{Cut}
-use Rattle.event_worlds.specs.Rounds.{ticks_in}
+use Rattle.event_worlds.specs.Rounds.{round_with, ticks_in}
 
 -- how many batches the fates say were committed
 abbrev pub committed_count : List Attempt → ℕ
@@ -31,34 +34,80 @@ pub record HasRunOut (t : Topology) (txid : ℕ) (fates : List Attempt) : Type 0
 
 -- What the answer of a run says of its fates.
 abbrev pub Answers : Topology → Cut → ℕ → List Attempt → Result Ended Stop → Type 0
-Answers t cut ticks fates (Ok ended.All) = IsWhole (length cut.records) cut.size ticks fates
-Answers t cut ticks fates (Ok (ended.Unfinished k)) =
+Answers t cut ticks fates (Ok ending.All) = IsWhole (length cut.records) cut.size ticks fates
+Answers t cut ticks fates (Ok (ending.Unfinished k)) =
     (committed_count fates ≡ k) × (k < batches_in cut)
 Answers t cut ticks fates (Err (stop.Exhausted txid)) = HasRunOut t txid fates
 Answers t cut ticks fates (Err (stop.BadCell key)) = Unit {0}
 Answers t cut ticks fates (Err stop.Memory) = Unit {0}
 
--- A run of these steps, with these parts before and after it, came to an answer and left fates.
+-- A run of these steps, in which so many ticks were handed out, with these parts before and after
+-- it, came to an answer and left fates.
 pub record RunComes {S : Type 0} (tells : S → CellMap → Type 0) (count : S → ℕ) (t : Topology)
-    (custom : Custom) (cut : Cut) (steps : List Step) (answer : Result Ended Stop)
+    (custom : Custom) (cut : Cut) (steps : List Step) (ticks : ℕ) (answer : Result Ended Stop)
     (fates : List Attempt) (old new : List (StatePart S)) : Type 0 where
   -- each batch was committed once at most, and in order
   pub once : IsOnce (length cut.records) cut.size last_tick fates
-  pub in_time : IsAnswer answer → IsOnce (length cut.records) cut.size (ticks_in steps) fates
-  pub answers : Answers t cut (ticks_in steps) fates answer
+  pub in_time : HadMemory answer → IsOnce (length cut.records) cut.size ticks fates
+  pub answers : Answers t cut ticks fates answer
   -- each end has its cause
-  pub caused : IsAnswer answer
-      → (words : ℕ → ℕ → ℕ) × AreCaused t custom cut (ticks_in steps) words fates
-  pub caused_short : HadMemory answer
-      → (words : ℕ → ℕ → ℕ) × AreCaused t custom cut last_tick words fates
+  pub caused : HadMemory answer → (words : ℕ → ℕ → ℕ) × AreCaused t custom cut ticks words fates
+  pub failed_in_turn : HadMemory answer → FailsInTurn fates
   -- it is the run of a world
   pub of_world : IsAnswer answer
       → (words : ℕ → ℕ → ℕ) × IsOfWorld t custom cut words steps answer fates
   -- a bad cell was there before the run
   pub bad_cell : (key : List ℕ) → answer ≡ Err (stop.BadCell key) → HasStrange tells old
+  pub strange : HadMemory answer → HasStrange tells new → HasStrange tells old
   -- parts that were empty stand at the batches that were committed
   pub stands : IsAnswer answer → All (IsEmpty tells) old
       → PartsStand tells t custom cut (committed_count fates) new
   -- the failed commits are counted by the stores
   pub counted : HadMemory answer → FailuresAreCounted count fates old new
-  pub plans : HadMemory answer → plans_of new ≡ plans_of old
+  -- the parts can be given back
+  pub kept : AreKept tells old new
+
+-- ---- rounds
+
+-- The steps have a whole round for each of these numbers of ticks, in order, with that many ticks
+-- before the coordinator's step, and no other ticks.
+abbrev pub HasRoundsOf : Topology → List ℕ → List Step → Type 0
+HasRoundsOf t [] steps = ticks_in steps ≡ 0
+HasRoundsOf t (ticks ∷ answers) steps =
+    (first rest : List Step) × (steps ≡ first ++ (round_with t ticks ++ rest))
+    × (ticks_in first ≡ 0) × HasRoundsOf t answers rest
+
+-- how many ticks were handed out between two counts of them, which end at 2^64 - 1
+abbrev pub ticks_between : ℕ → ℕ → ℕ
+ticks_between before after =
+    if nat_le (2 ^ 64 - 1) after then 2 ^ 64 - 1 else after - before
+
+-- the first so many of the answers to come, each 0 after the last
+abbrev pub first_answers : ℕ → List ℕ → List ℕ
+first_answers count answers = map (λ k. get_or answers k 0) (range_with_len 0 count)
+
+-- a run of rounds that nothing stopped has committed all
+abbrev pub ended : Result (Unit {0}) Stop → Result Ended Stop
+ended (Ok done) = Ok ending.All
+ended (Err why) = Err why
+
+-- A run of rounds, which asked a source of ticks once a round, and over sources of ids and of ticks
+-- that tell came to what these tell.
+pub record RoundsCome {S : Type 0} (told : (ℕ → ℕ → ℕ) → Type 0) (ticking : List ℕ → Type 0)
+    (tells : S → CellMap → Type 0) (count : S → ℕ) (t : Topology) (custom : Custom) (cut : Cut)
+    (before after : ℕ) (answer : Result (Unit {0}) Stop) (fates : List Attempt)
+    (old new : List (StatePart S)) : Type 0 where
+  -- what the source of ticks answered
+  pub answers : List ℕ
+  pub handed_out : after ≡ fold handed_on before answers
+  pub asked : (to_come : List ℕ) → ticking to_come
+      → answers ≡ first_answers (length answers) to_come
+  -- the steps
+  pub steps : List Step
+  pub rounds : HasRoundsOf t answers steps
+  pub comes : RunComes tells count t custom cut steps (ticks_between before after) (ended answer)
+      fates old new
+  pub of_told : (words : ℕ → ℕ → ℕ) → told words → IsAnswer (ended answer)
+      → IsOfWorld t custom cut words steps (ended answer) fates
+  pub drawn : (words : ℕ → ℕ → ℕ) → told words → HadMemory (ended answer)
+      → AreCaused t custom cut (ticks_between before after) words fates

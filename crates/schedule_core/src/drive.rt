@@ -1,33 +1,32 @@
 //! Steps of the engine, with the commits that its coordinator orders.
-ghost use Rattle.std.specs.Prelude.{◌≡◌, ◌<◌, ◌≤◌, ◌+◌, ◌-◌, ◌^◌, ℕ, List, All, length, Err, OnOk, OnErr};
+ghost use Rattle.std.specs.Prelude.{◌≡◌, ℕ, List, All, length, Err, OnOk, OnErr, replicate};
 ghost use Rattle.std.specs.List.{AllByRecursion};
 ghost use Rattle.attempt_fates.specs.Fates.{IsOnce};
 ghost use Rattle.batch_commits.specs.Standing.{HasTextKey};
 ghost use Rattle.bolt_ops.specs.RowOp.{Custom};
 ghost use Rattle.commit_turns.specs.Turns.{last_tick};
-ghost use Rattle.event_engine.specs.Engines.{cut_in, topology_in};
-ghost use Rattle.event_worlds.specs.Worlds.{coordinator_steps, round_steps, rounds_steps};
-ghost use Rattle.schedule_core.specs.Driving.{Breaks, Drives, IsAtRest, IsOfSameRun};
+ghost use Rattle.event_engine.specs.Engines.{Goes, IsReady, IsStill, cut_in, topology_in};
+ghost use Rattle.event_worlds.specs.Worlds.{coordinator_steps, of_tick, round_steps, rounds_steps};
+ghost use Rattle.schedule_core.specs.Driving.{AreKept, Breaks, Drives, IsAtRest, IsOfSameRun};
+ghost use Rattle.schedule_core.specs.Rounding.{closing_steps, opening_steps};
 ghost use Rattle.schedule_core.specs.Schedules.{all_steps, steps_of};
 ghost use Rattle.schedule_reader.specs.Events.{FitsEvent};
 ghost use Rattle.state_parts.specs.declared.answer.CommitFault.TheVariants as fault;
 ghost use Rattle.state_parts.specs.PartPlans.{AreParts};
 
-use batch_commits::{
-    commits_of_batches_move_parts, counts_run_on, failures_of_commits_are_counted,
-    strange_cells_were_there,
-};
+use crate::laws::{laws_of_commits, laws_of_steps};
+use batch_commits::strange_cells_were_there;
 use bolt_ops::RowOp;
 use event_engine::Engine;
-use event_worlds::{settled_lists_are_whole, worlds_are_accounted};
 use schedule_reader::{Event, Events};
 use state_parts::{CommitFault, Parts};
 use storm_ids::Ids;
 use storm_stores::CellStore;
+use storm_values::Memory;
 use tree_model::Writes;
 
 /// The coordinator's step, and the commit that it orders, to all parts.
-pub(crate) fn coordinate<I: Ids, C: CellStore>(
+fn coordinate<I: Ids, C: CellStore>(
     engine: &mut Engine<'_, I>,
     parts: &mut Parts<C>,
 ) -> Result<(), CommitFault>
@@ -40,17 +39,14 @@ pub(crate) fn coordinate<I: Ids, C: CellStore>(
         coordinator_steps engine.old engine.new parts.old parts.new) }
     ensures bad { (custom : Custom) (key : List ℕ) → result ≡ Err (fault.BadCell key)
         → Breaks I.tells C.tells C.fault_count (topology_in engine.old) custom (cut_in engine.old)
-        engine.old engine.new parts.old parts.new }
+        coordinator_steps engine.old engine.new parts.old parts.new }
     ensures once { OnErr result (IsOnce (length (cut_in engine.old).records)
         (cut_in engine.old).size last_tick engine.new.fates) }
+    ensures kept { AreKept C.tells parts.old parts.new }
 {
-    // laws: of worlds, and of commits to parts
-    worlds_are_accounted();
-    settled_lists_are_whole();
-    commits_of_batches_move_parts::<C>();
+    laws_of_steps::<C>();
+    laws_of_commits::<C>();
     strange_cells_were_there::<C>();
-    failures_of_commits_are_counted::<C>();
-    counts_run_on::<C>();
     let Some(commit) = engine.turn()? else {
         return Ok(());
     };
@@ -69,8 +65,67 @@ fn keys_are_texts(writes: &Writes)
     }
 }
 
+/// A round up to the coordinator's step: an event of each task, and then of each acker.
+pub(crate) fn open_round<I: Ids, O: RowOp>(
+    engine: &mut Engine<'_, I>,
+    custom: &O,
+) -> Result<(), Memory>
+    requires { IsAtRest engine.old }
+    ensures at_rest { OnOk result (IsAtRest engine.new) }
+    ensures same_run { OnOk result (IsOfSameRun engine.old engine.new) }
+    ensures goes { OnOk result (Goes I.tells (topology_in engine.old) (O.meaning custom.now)
+        (cut_in engine.old) (opening_steps (topology_in engine.old)) engine.old engine.new) }
+    ensures still { OnOk result (IsStill engine.old engine.new) }
+    ensures once { OnErr result (IsOnce (length (cut_in engine.old).records)
+        (cut_in engine.old).size last_tick engine.new.fates) }
+{
+    engine.all_tasks(custom)?;
+    engine.all_ackers()?;
+    Ok(())
+}
+
+/// So many ticks.
+fn tick_on<I: Ids>(engine: &mut Engine<'_, I>, count: u32)
+    requires { IsAtRest engine.old }
+    ensures at_rest { IsAtRest engine.new }
+    ensures same_run { IsOfSameRun engine.old engine.new }
+    ensures goes { (custom : Custom) → Goes I.tells (topology_in engine.old) custom
+        (cut_in engine.old) (replicate count of_tick) engine.old engine.new }
+    ensures still { IsStill engine.old engine.new }
+{
+    for ticked in 0..count {
+        engine.tick();
+    }
+}
+
+/// The rest of a round: so many ticks, and then the coordinator's step with its commit.
+pub(crate) fn close_round<I: Ids, C: CellStore>(
+    engine: &mut Engine<'_, I>,
+    parts: &mut Parts<C>,
+    passed: u32,
+) -> Result<(), CommitFault>
+    requires at_rest { IsAtRest engine.old }
+    requires parts { AreParts (topology_in engine.old) parts.old }
+    ensures at_rest { OnOk result (IsAtRest engine.new) }
+    ensures same_run { OnOk result (IsOfSameRun engine.old engine.new) }
+    ensures drives { (custom : Custom) → OnOk result
+        (Drives I.tells C.tells C.fault_count (topology_in engine.old) custom (cut_in engine.old)
+        (closing_steps passed) engine.old engine.new parts.old parts.new) }
+    ensures bad { (custom : Custom) (key : List ℕ) → result ≡ Err (fault.BadCell key)
+        → Breaks I.tells C.tells C.fault_count (topology_in engine.old) custom (cut_in engine.old)
+        (closing_steps passed) engine.old engine.new parts.old parts.new }
+    ensures once { OnErr result (IsOnce (length (cut_in engine.old).records)
+        (cut_in engine.old).size last_tick engine.new.fates) }
+    ensures kept { AreKept C.tells parts.old parts.new }
+{
+    laws_of_steps::<C>();
+    tick_on(engine, passed);
+    coordinate(engine, parts)?;
+    Ok(())
+}
+
 /// A round: each task, each acker, and then the coordinator.
-pub(crate) fn round<I: Ids, C: CellStore, O: RowOp>(
+fn round<I: Ids, C: CellStore, O: RowOp>(
     engine: &mut Engine<'_, I>,
     parts: &mut Parts<C>,
     custom: &O,
@@ -84,15 +139,14 @@ pub(crate) fn round<I: Ids, C: CellStore, O: RowOp>(
         engine.old engine.new parts.old parts.new) }
     ensures bad { (key : List ℕ) → result ≡ Err (fault.BadCell key)
         → Breaks I.tells C.tells C.fault_count (topology_in engine.old) (O.meaning custom.now)
-        (cut_in engine.old) engine.old engine.new parts.old parts.new }
+        (cut_in engine.old) (round_steps (topology_in engine.old))
+        engine.old engine.new parts.old parts.new }
     ensures once { OnErr result (IsOnce (length (cut_in engine.old).records)
         (cut_in engine.old).size last_tick engine.new.fates) }
+    ensures kept { AreKept C.tells parts.old parts.new }
 {
-    // laws: what a world comes to, and how failures add up
-    event_worlds::worlds_are_accounted();
-    batch_commits::counts_run_on::<C>();
-    engine.all_tasks(custom)?;
-    engine.all_ackers()?;
+    laws_of_steps::<C>();
+    open_round(engine, custom)?;
     coordinate(engine, parts)?;
     Ok(())
 }
@@ -114,13 +168,13 @@ fn rounds<I: Ids, C: CellStore, O: RowOp>(
         engine.old engine.new parts.old parts.new) }
     ensures bad { (key : List ℕ) → result ≡ Err (fault.BadCell key)
         → Breaks I.tells C.tells C.fault_count (topology_in engine.old) (O.meaning custom.now)
-        (cut_in engine.old) engine.old engine.new parts.old parts.new }
+        (cut_in engine.old) (rounds_steps (topology_in engine.old) count)
+        engine.old engine.new parts.old parts.new }
     ensures once { OnErr result (IsOnce (length (cut_in engine.old).records)
         (cut_in engine.old).size last_tick engine.new.fates) }
+    ensures kept { AreKept C.tells parts.old parts.new }
 {
-    // laws: what a world comes to, and how failures add up
-    event_worlds::worlds_are_accounted();
-    batch_commits::counts_run_on::<C>();
+    laws_of_steps::<C>();
     for done in 0..count {
         if engine.is_over() {
             return Ok(());
@@ -147,13 +201,13 @@ fn carry_out<I: Ids, C: CellStore, O: RowOp>(
         engine.old engine.new parts.old parts.new) }
     ensures bad { (key : List ℕ) → result ≡ Err (fault.BadCell key)
         → Breaks I.tells C.tells C.fault_count (topology_in engine.old) (O.meaning custom.now)
-        (cut_in engine.old) engine.old engine.new parts.old parts.new }
+        (cut_in engine.old) (steps_of (topology_in engine.old) event)
+        engine.old engine.new parts.old parts.new }
     ensures once { OnErr result (IsOnce (length (cut_in engine.old).records)
         (cut_in engine.old).size last_tick engine.new.fates) }
+    ensures kept { AreKept C.tells parts.old parts.new }
 {
-    // laws: what a world comes to, and how failures add up
-    event_worlds::worlds_are_accounted();
-    batch_commits::counts_run_on::<C>();
+    laws_of_steps::<C>();
     match event {
         Event::Task(n) => engine.task(n, custom)?,
         Event::Acker(n) => engine.acker(n)?,
@@ -181,13 +235,13 @@ pub(crate) fn carry_out_all<I: Ids, C: CellStore, O: RowOp>(
         engine.old engine.new parts.old parts.new) }
     ensures bad { (key : List ℕ) → result ≡ Err (fault.BadCell key)
         → Breaks I.tells C.tells C.fault_count (topology_in engine.old) (O.meaning custom.now)
-        (cut_in engine.old) engine.old engine.new parts.old parts.new }
+        (cut_in engine.old) (all_steps (topology_in engine.old) events.now)
+        engine.old engine.new parts.old parts.new }
     ensures once { OnErr result (IsOnce (length (cut_in engine.old).records)
         (cut_in engine.old).size last_tick engine.new.fates) }
+    ensures kept { AreKept C.tells parts.old parts.new }
 {
-    // laws: what a world comes to, and how failures add up
-    event_worlds::worlds_are_accounted();
-    batch_commits::counts_run_on::<C>();
+    laws_of_steps::<C>();
     for event in events.as_slice() {
         if engine.is_over() {
             return Ok(());

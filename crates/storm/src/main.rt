@@ -1,11 +1,15 @@
 //! Runs the command that the words after the program's name give. Bolts with the operation `custom`
 //! turn a row's values round.
+//!
+//! A run has a tick each 10 seconds, keeps the cells of its states in memory, and has its ids from
+//! ChaCha20 with a key of 32 zero bytes.
 #![tactic(auto)]
 
 ghost use Rattle.std.specs.Prelude.{map, string_bytes};
 ghost use Rattle.bolt_ops.specs.RowOp.{reversed};
-ghost use Rattle.storm_program.specs.Outside.{shelf_use, sink_use};
+ghost use Rattle.storm_program.specs.Outside.{run_use, shelf_use, sink_use, ticks_use};
 ghost use Rattle.storm_program.specs.Storm.{Exits};
+ghost use Rattle.stored_runs.specs.Makers.{maker_use};
 
 mod arguments;
 
@@ -15,23 +19,35 @@ use std::alloc::Global;
 use std::process::ExitCode;
 use std::sync::Wait;
 use std::thread::Threads;
+use storm_ids::{ChaChaMaker, IdMaker};
 use storm_outside::{FileShelf, OutSink, Shelf, Sink};
 use storm_program::{Fates, Status, storm};
+use storm_stores::{MemMaker, StoreMaker};
+use storm_ticks::{ClockTicks, Ticks};
 
-/// Carries out the words over some files and an output, and gives the exit status.
-fn exit_status<R: Threads + Wait + Sync, H: Shelf, K: Sink>(
+/// Carries out the words over some files, an output, ticks, stores and sources of ids, and gives the
+/// exit status.
+fn exit_status<R: Threads + Wait + Sync, H: Shelf, K: Sink, T: Ticks, M: StoreMaker, N: IdMaker>(
     rt: &R,
     alloc: Global,
     words: &[String],
     shelf: &mut H,
     out: &mut K,
+    ticks: &mut T,
+    stores: &mut M,
+    ids: &mut N,
 ) -> u8
     ensures { Exits reversed (map string_bytes words.now)
         (shelf_use H.holds H.ready H.fetches H.faults shelf.old shelf.new)
-        (sink_use K.taken K.faults out.old out.new) result }
+        (sink_use K.taken K.faults out.old out.new)
+        (run_use (maker_use M.holds M.has_made M.fault_count stores.old stores.new)
+        (N.tells ids.old))
+        (ticks_use T.handed_out T.tells ticks.old ticks.new) result }
 {
     let mut fates = Fates::new(alloc);
-    let status = storm(rt, alloc, words, shelf, out, &Reversed, &mut fates);
+    let status = storm(
+        rt, alloc, words, shelf, out, ticks, stores, ids, &Reversed, &mut fates,
+    );
     status.code()
 }
 
@@ -42,6 +58,18 @@ fn main(rt: HostRuntime) -> ExitCode {
     };
     let mut shelf = FileShelf::new(&rt);
     let mut out = OutSink::new(&rt);
-    let code = exit_status(&rt, alloc, words.as_slice(), &mut shelf, &mut out);
+    let mut ticks = ClockTicks::new(&rt);
+    let mut stores = MemMaker::new(alloc);
+    let mut ids = ChaChaMaker { key: [0; 32] };
+    let code = exit_status(
+        &rt,
+        alloc,
+        words.as_slice(),
+        &mut shelf,
+        &mut out,
+        &mut ticks,
+        &mut stores,
+        &mut ids,
+    );
     ExitCode::from(code)
 }

@@ -1,10 +1,11 @@
 -- Files that a shelf tells rule out every answer but the one that they call for.
-use Rattle.std.proofs.Common.{◌≡◌, ◌⊎◌, ℕ, List, length, Bool, Some, true, false, refl, sym, ap, subst, ◌∙◌, inl, inr}
-use Rattle.std.proofs.lemmas.Bool.{false≢true}
+use Rattle.std.proofs.Common.{◌≡◌, ◌⊎◌, ℕ, List, length, Some, refl, sym, ap, subst, ◌∙◌, inl, inr}
 use Rattle.std.proofs.lemmas.Option.{none-some}
 use Rattle.storm_values.specs.declared.value.Value.{Value}
-use Rattle.storm_values.specs.Lines.{input_fault}
+use Rattle.storm_values.specs.Lines.{input_fault, records_of}
 use Rattle.bolt_ops.specs.RowOp.{Custom}
+use Rattle.schedule_reader.specs.declared.event.Event.{Event}
+use Rattle.schedule_reader.specs.Schedules.{events_of, schedule_fault}
 use Rattle.topology_plan.specs.Topology.{Topology}
 use Rattle.topology_reader.proofs.FilePlans.{one_plan, plan_or_fault}
 use Rattle.topology_reader.specs.FirstFault.{first_fault, IsFilePlan}
@@ -12,19 +13,20 @@ use Rattle.attempt_fates.specs.declared.fates.Attempt.{Attempt}
 use Rattle.storm_program.specs.declared.status.Status.{Status}
 use Rattle.storm_program.specs.declared.status.Status.TheVariants as status
 use Rattle.storm_program.specs.Check.{CheckComes, CheckCalls}
-use Rattle.storm_program.specs.Ends.{HasText, Ends, TakesThePlace, IsAnswered}
-use Rattle.storm_program.specs.Files.{IsAccepted, IsRunnable, AreRecords, IsTopologyLine, IsNotYetLine, AreAccepted, IsInputLine, IsReadFaultLine, of_topology, of_input, FilesCome, FilesCall, TellsPlan, TellsTopologyFault, TellsInput, TellsInputFault}
-use Rattle.storm_program.specs.NotYet.{is_not_yet, puts_off_none}
-use Rattle.storm_program.specs.Outside.{ShelfUse, SinkUse, ShelfFailed}
+use Rattle.storm_program.specs.Ends.{AnswersCall, HasText, Ends, IsEndOfWork, TakesThePlace, IsAnswered}
+use Rattle.storm_program.specs.Files.{AreAccepted, IsAccepted, AreRecords, IsTopologyLine, IsInputLine, IsReadFaultLine, of_topology, of_input, FilesCome, FilesCall, TellsPlan, TellsTopologyFault, TellsInput, TellsInputFault}
+use Rattle.storm_program.specs.Outside.{RunUse, ShelfUse, SinkUse, ShelfFailed, TicksUse}
 use Rattle.storm_program.specs.Plain.{PlainComes, PlainCalls}
+use Rattle.storm_program.specs.Replay.{ReplayComes, ReplayCalls}
 use Rattle.storm_program.specs.Run.{RunComes, RunCalls}
+use Rattle.storm_program.specs.Schedules.{AllFilesCall, AllFilesCome, AreAllAccepted, AreEvents, IsScheduleLine, TellsEvents, TellsScheduleFault}
 use Rattle.storm_program.proofs.EndLemmas.{answered_by_ends}
 
 module _ (holds : List ℕ → List ℕ → Type 0) (name : List ℕ) where
   -- ---- a topology
 
   -- the plan that was accepted is the told one
-  same_plan : (plan other : Topology) → TellsPlan holds name plan → IsAccepted holds name other → other ≡ plan
+  pub same_plan : (plan other : Topology) → TellsPlan holds name plan → IsAccepted holds name other → other ≡ plan
   same_plan plan other tells accepted =
       one_plan tells.bytes other plan (subst (λ b. IsFilePlan b other) (sym (accepted.were_read tells.bytes tells.told)) accepted.is_plan) tells.is_plan
 
@@ -33,37 +35,18 @@ module _ (holds : List ℕ → List ℕ → Type 0) (name : List ℕ) where
   never_accepted plan tells accepted =
       plan_or_fault tells.bytes plan tells.fault (subst (λ b. IsFilePlan b plan) (sym (accepted.were_read tells.bytes tells.told)) accepted.is_plan) tells.is_refused
 
-  never_refused : (plan : Topology) (text : List ℕ) → TellsPlan holds name plan → IsTopologyLine holds name text → ⊥
+  pub never_refused : (plan : Topology) (text : List ℕ) → TellsPlan holds name plan → IsTopologyLine holds name text → ⊥
   never_refused plan text tells line =
       plan_or_fault tells.bytes plan line.fault tells.is_plan (subst (λ b. first_fault b ≡ Some line.fault) (sym (line.were_read tells.bytes tells.told)) line.is_refused)
 
-  module _ (puts_off : Topology → Bool) where
-    -- a plan that is put off is not run, and one that is run not put off
-    never_run : (plan other : Topology) → TellsPlan holds name plan → puts_off plan ≡ true → IsRunnable puts_off holds name other → ⊥
-    never_run plan other tells late runnable =
-        false≢true (sym runnable.runs ∙ (ap puts_off (same_plan plan other tells runnable.accepted) ∙ late))
-
-    never_late : (plan : Topology) (text : List ℕ) → TellsPlan holds name plan → puts_off plan ≡ false → IsNotYetLine puts_off holds name text → ⊥
-    never_late plan text tells runs line =
-        false≢true (sym runs ∙ (ap puts_off (sym (same_plan plan line.plan tells line.accepted)) ∙ line.late))
-
-    never_stopped : (plan : Topology) (text : List ℕ) → TellsPlan holds name plan → puts_off plan ≡ false → IsTopologyLine holds name text ⊎ IsNotYetLine puts_off holds name text → ⊥
-    never_stopped plan text tells runs (inl line) = never_refused plan text tells line
-    never_stopped plan text tells runs (inr line) = never_late plan text tells runs line
-
-    -- what calls for a refusal of the topology
-    never_runnable : (plan : Topology) → TellsTopologyFault holds name ⊎ ((late : Topology) × TellsPlan holds name late × (puts_off late ≡ true)) → IsRunnable puts_off holds name plan → ⊥
-    never_runnable plan (inl fault) runnable = never_accepted plan fault runnable.accepted
-    never_runnable plan (inr (late, tells, is)) runnable = never_run late plan tells is runnable
-
-module _ (puts_off : Topology → Bool) (holds : List ℕ → List ℕ → Type 0) (topology input : List ℕ) (plan other : Topology) (tells : TellsPlan holds topology plan) (runnable : IsRunnable puts_off holds topology other) where
+module _ (holds : List ℕ → List ℕ → Type 0) (topology input : List ℕ) (plan other : Topology) (tells : TellsPlan holds topology plan) (accepted : IsAccepted holds topology other) where
   -- ---- an input of the told topology
 
   fault_of : (told bytes : List ℕ) → told ≡ bytes → input_fault told (length plan.spout_fields) ≡ input_fault bytes (length other.spout_fields)
   fault_of told bytes same =
-      ap (λ b. input_fault b (length plan.spout_fields)) same ∙ ap (λ (p : Topology). input_fault bytes (length p.spout_fields)) (sym (same_plan holds topology plan other tells runnable.accepted))
+      ap (λ b. input_fault b (length plan.spout_fields)) same ∙ ap (λ (p : Topology). input_fault bytes (length p.spout_fields)) (sym (same_plan holds topology plan other tells accepted))
 
-  never_bad : (text : List ℕ) → TellsInput holds plan input → IsInputLine holds other input text → ⊥
+  pub never_bad : (text : List ℕ) → TellsInput holds plan input → IsInputLine holds other input text → ⊥
   never_bad text good line =
       none-some line.fault (sym good.is_accepted ∙ (fault_of good.bytes line.bytes (line.were_read good.bytes good.told) ∙ line.is_refused))
 
@@ -71,99 +54,199 @@ module _ (puts_off : Topology → Bool) (holds : List ℕ → List ℕ → Type 
   never_good records bad are =
       none-some bad.fault (sym are.is_accepted ∙ (sym (fault_of bad.bytes are.bytes (are.were_read bad.bytes bad.told)) ∙ bad.is_refused))
 
+  -- the records that were accepted are the told ones
+  pub same_records : (records : List (List Value)) (good : TellsInput holds plan input) → AreRecords holds other input records → records ≡ records_of good.bytes
+  same_records records good are = are.are ∙ ap records_of (sym (are.were_read good.bytes good.told))
+
+  -- ---- a schedule of the told topology
+
+  schedule_fault_of : (told bytes : List ℕ) → told ≡ bytes → schedule_fault told plan ≡ schedule_fault bytes other
+  schedule_fault_of told bytes same = ap (λ b. schedule_fault b plan) same ∙ ap (schedule_fault bytes) (sym (same_plan holds topology plan other tells accepted))
+
+  pub never_bad_schedule : (schedule text : List ℕ) (events : List Event) → TellsEvents holds plan schedule events → IsScheduleLine holds other schedule text → ⊥
+  never_bad_schedule schedule text events good line =
+      none-some line.fault (sym good.is_accepted ∙ (schedule_fault_of good.bytes line.bytes (line.were_read good.bytes good.told) ∙ line.is_refused))
+
+  never_good_schedule : (schedule : List ℕ) (events : List Event) → TellsScheduleFault holds plan schedule → AreEvents holds other schedule events → ⊥
+  never_good_schedule schedule events bad are =
+      none-some bad.fault (sym are.is_accepted ∙ (sym (schedule_fault_of bad.bytes are.bytes (are.were_read bad.bytes bad.told)) ∙ bad.is_refused))
+
+  -- the events that were accepted are the told ones
+  pub same_events : (schedule : List ℕ) (events told : List Event) → TellsEvents holds plan schedule told → AreEvents holds other schedule events → events ≡ told
+  same_events schedule events told good are = are.are ∙ (ap events_of (sym (are.were_read good.bytes good.told)) ∙ sym good.are)
+
 -- ---- the commands
 
-check_agrees : (shelf : ShelfUse) (sink : SinkUse) (topology : List ℕ) (s called : Status) (text : List ℕ) → HasText s → CheckComes shelf topology s text → CheckCalls shelf.holds topology called → (s ≡ called) ⊎ TakesThePlace shelf sink s
-check_agrees shelf sink topology status.ReadFault called text has comes calls = inr comes.1.rose
-check_agrees shelf sink topology status.Done status.Done text has comes calls = inl refl
-check_agrees shelf sink topology status.Done status.Topology text has comes calls = absurd (never_accepted shelf.holds topology comes.1.plan calls comes.1.accepted)
-check_agrees shelf sink topology status.Topology status.Topology text has comes calls = inl refl
-check_agrees shelf sink topology status.Topology status.Done text has comes calls = absurd (never_refused shelf.holds topology calls.0 text calls.1 comes.1)
-check_agrees shelf sink topology status.Memory called text has comes calls = absurd has
-check_agrees shelf sink topology status.WriteFault called text has comes calls = absurd has
-check_agrees shelf sink topology status.Words called text has comes calls = absurd comes
-check_agrees shelf sink topology status.Input called text has comes calls = absurd comes
-check_agrees shelf sink topology status.Done status.Memory text has comes calls = absurd calls
-check_agrees shelf sink topology status.Done status.Words text has comes calls = absurd calls
-check_agrees shelf sink topology status.Done status.Input text has comes calls = absurd calls
-check_agrees shelf sink topology status.Done status.ReadFault text has comes calls = absurd calls
-check_agrees shelf sink topology status.Done status.WriteFault text has comes calls = absurd calls
-check_agrees shelf sink topology status.Topology status.Memory text has comes calls = absurd calls
-check_agrees shelf sink topology status.Topology status.Words text has comes calls = absurd calls
-check_agrees shelf sink topology status.Topology status.Input text has comes calls = absurd calls
-check_agrees shelf sink topology status.Topology status.ReadFault text has comes calls = absurd calls
-check_agrees shelf sink topology status.Topology status.WriteFault text has comes calls = absurd calls
+module _ (shelf : ShelfUse) (sink : SinkUse) (topology : List ℕ) where
+  check_done : (plan : Topology) → TellsPlan shelf.holds topology plan → (s : Status) (text : List ℕ) → HasText s → CheckComes shelf topology s text → IsEndOfWork s ⊎ TakesThePlace shelf sink s
+  check_done plan tells status.Done text has comes = inl tt
+  check_done plan tells status.Topology text has comes = absurd (never_refused shelf.holds topology plan text tells comes.1)
+  check_done plan tells status.ReadFault text has comes = inr comes.1.rose
+  check_done plan tells status.Memory text has comes = absurd has
+  check_done plan tells _ text has comes = absurd comes
 
-pub check_answered : (shelf : ShelfUse) (sink : SinkUse) (topology : List ℕ) (s : Status) → Ends (CheckComes shelf topology) sink s → IsAnswered (CheckCalls shelf.holds topology) shelf sink s
-check_answered shelf sink topology s = answered_by_ends (CheckComes shelf topology) (CheckCalls shelf.holds topology) shelf sink s (check_agrees shelf sink topology)
+  check_refused : TellsTopologyFault shelf.holds topology → (s : Status) (text : List ℕ) → HasText s → CheckComes shelf topology s text → (s ≡ status.Topology) ⊎ TakesThePlace shelf sink s
+  check_refused fault status.Done text has comes = absurd (never_accepted shelf.holds topology comes.1.plan fault comes.1.accepted)
+  check_refused fault status.Topology text has comes = inl refl
+  check_refused fault status.ReadFault text has comes = inr comes.1.rose
+  check_refused fault status.Memory text has comes = absurd has
+  check_refused fault _ text has comes = absurd comes
+
+  check_agrees : (s called : Status) (text : List ℕ) → HasText s → CheckComes shelf topology s text → CheckCalls shelf.holds topology called → AnswersCall called s ⊎ TakesThePlace shelf sink s
+  check_agrees s status.Done text has comes calls = check_done calls.0 calls.1 s text has comes
+  check_agrees s status.Topology text has comes calls = check_refused calls s text has comes
+  check_agrees s _ text has comes calls = absurd calls
+
+  pub check_answered : (s : Status) → Ends (CheckComes shelf topology) sink s → IsAnswered (CheckCalls shelf.holds topology) shelf sink s
+  check_answered s = answered_by_ends (CheckComes shelf topology) (CheckCalls shelf.holds topology) shelf sink s check_agrees
 
 -- ---- the commands on two files
 
 -- what such a command came to with a text, as far as its files are concerned
-abbrev FilesCame : (Topology → Bool) → ShelfUse → List ℕ → List ℕ → Status → List ℕ → Type 0
-FilesCame puts_off shelf topology input status.Done text =
-    (plan : Topology) × (records : List (List Value)) × AreAccepted puts_off shelf.holds topology input plan records
-FilesCame puts_off shelf topology input status.Memory text = Unit {0}
-FilesCame puts_off shelf topology input status.Words text = ⊥
-FilesCame puts_off shelf topology input status.Topology text = FilesCome puts_off shelf topology input status.Topology text
-FilesCame puts_off shelf topology input status.Input text = FilesCome puts_off shelf topology input status.Input text
-FilesCame puts_off shelf topology input status.ReadFault text = FilesCome puts_off shelf topology input status.ReadFault text
-FilesCame puts_off shelf topology input status.WriteFault text = ⊥
+abbrev FilesCame : ShelfUse → List ℕ → List ℕ → Status → List ℕ → Type 0
+FilesCame shelf topology input status.Memory text = Unit {0}
+FilesCame shelf topology input status.Topology text = FilesCome shelf topology input status.Topology text
+FilesCame shelf topology input status.Input text = FilesCome shelf topology input status.Input text
+FilesCame shelf topology input status.ReadFault text = FilesCome shelf topology input status.ReadFault text
+FilesCame shelf topology input ending text =
+    IsEndOfWork ending × ((plan : Topology) × (records : List (List Value)) × AreAccepted shelf.holds topology input plan records)
 
-module _ (puts_off : Topology → Bool) (shelf : ShelfUse) (sink : SinkUse) (topology input : List ℕ) where
-  read_fault_rose : (text : List ℕ) → IsReadFaultLine puts_off shelf topology input text → ShelfFailed shelf
+module _ (shelf : ShelfUse) (sink : SinkUse) (topology input : List ℕ) where
+  pub read_fault_rose : (text : List ℕ) → IsReadFaultLine shelf topology input text → ShelfFailed shelf
   read_fault_rose text (of_topology once unread line) = unread.rose
-  read_fault_rose text (of_input twice unread plan runnable line) = unread.rose
+  read_fault_rose text (of_input twice unread plan accepted line) = unread.rose
 
-  files_agree : (s called : Status) (text : List ℕ) → HasText s → FilesCame puts_off shelf topology input s text → FilesCall puts_off shelf.holds topology input called → (s ≡ called) ⊎ TakesThePlace shelf sink s
-  files_agree status.ReadFault called text has came calls = inr (read_fault_rose text came)
-  files_agree status.Done status.Done text has came calls = inl refl
-  files_agree status.Done status.Topology text has came calls = absurd (never_runnable shelf.holds topology puts_off came.0 calls came.2.topology_file)
-  files_agree status.Done status.Input text has came calls = absurd (never_good puts_off shelf.holds topology input calls.0 came.0 calls.1 came.2.topology_file came.1 calls.3 came.2.input_file)
-  files_agree status.Topology status.Topology text has came calls = inl refl
-  files_agree status.Topology status.Done text has came calls = absurd (never_stopped shelf.holds topology puts_off calls.0 text calls.1 calls.2 came.1)
-  files_agree status.Topology status.Input text has came calls = absurd (never_stopped shelf.holds topology puts_off calls.0 text calls.1 calls.2 came.1)
-  files_agree status.Input status.Input text has came calls = inl refl
-  files_agree status.Input status.Done text has came calls = absurd (never_bad puts_off shelf.holds topology input calls.0 came.1.0 calls.1 came.1.1 text calls.3 came.1.2)
-  files_agree status.Input status.Topology text has came calls = absurd (never_runnable shelf.holds topology puts_off came.1.0 calls came.1.1)
-  files_agree status.Memory called text has came calls = absurd has
-  files_agree status.WriteFault called text has came calls = absurd has
-  files_agree status.Words called text has came calls = absurd came
-  files_agree status.Done status.Memory text has came calls = absurd calls
-  files_agree status.Done status.Words text has came calls = absurd calls
-  files_agree status.Done status.ReadFault text has came calls = absurd calls
-  files_agree status.Done status.WriteFault text has came calls = absurd calls
-  files_agree status.Topology status.Memory text has came calls = absurd calls
-  files_agree status.Topology status.Words text has came calls = absurd calls
-  files_agree status.Topology status.ReadFault text has came calls = absurd calls
-  files_agree status.Topology status.WriteFault text has came calls = absurd calls
-  files_agree status.Input status.Memory text has came calls = absurd calls
-  files_agree status.Input status.Words text has came calls = absurd calls
-  files_agree status.Input status.ReadFault text has came calls = absurd calls
-  files_agree status.Input status.WriteFault text has came calls = absurd calls
+  files_done : (plan : Topology) → TellsPlan shelf.holds topology plan → TellsInput shelf.holds plan input → (s : Status) (text : List ℕ) → HasText s → FilesCame shelf topology input s text → IsEndOfWork s ⊎ TakesThePlace shelf sink s
+  files_done plan tells good status.Memory text has came = absurd has
+  files_done plan tells good status.Topology text has came = absurd (never_refused shelf.holds topology plan text tells came.1)
+  files_done plan tells good status.Input text has came = absurd (never_bad shelf.holds topology input plan came.1.0 tells came.1.1 text good came.1.2)
+  files_done plan tells good status.ReadFault text has came = inr (read_fault_rose text came)
+  files_done plan tells good _ text has came = inl came.0
 
-plain_came : (custom : Custom) (shelf : ShelfUse) (topology input : List ℕ) (s : Status) (text : List ℕ) → PlainComes custom shelf topology input s text → FilesCame puts_off_none shelf topology input s text
-plain_came custom shelf topology input status.Done text comes = (comes.1.plan, comes.1.records, comes.1.accepted)
-plain_came custom shelf topology input status.Memory text comes = tt
-plain_came custom shelf topology input status.Words text comes = comes
-plain_came custom shelf topology input status.Topology text comes = comes
-plain_came custom shelf topology input status.Input text comes = comes
-plain_came custom shelf topology input status.ReadFault text comes = comes
-plain_came custom shelf topology input status.WriteFault text comes = comes
+  files_topology : TellsTopologyFault shelf.holds topology → (s : Status) (text : List ℕ) → HasText s → FilesCame shelf topology input s text → (s ≡ status.Topology) ⊎ TakesThePlace shelf sink s
+  files_topology fault status.Memory text has came = absurd has
+  files_topology fault status.Topology text has came = inl refl
+  files_topology fault status.Input text has came = absurd (never_accepted shelf.holds topology came.1.0 fault came.1.1)
+  files_topology fault status.ReadFault text has came = inr (read_fault_rose text came)
+  files_topology fault _ text has came = absurd (never_accepted shelf.holds topology came.1.0 fault came.1.2.topology_file)
+
+  files_input : (plan : Topology) → TellsPlan shelf.holds topology plan → TellsInputFault shelf.holds plan input → (s : Status) (text : List ℕ) → HasText s → FilesCame shelf topology input s text → (s ≡ status.Input) ⊎ TakesThePlace shelf sink s
+  files_input plan tells bad status.Memory text has came = absurd has
+  files_input plan tells bad status.Topology text has came = absurd (never_refused shelf.holds topology plan text tells came.1)
+  files_input plan tells bad status.Input text has came = inl refl
+  files_input plan tells bad status.ReadFault text has came = inr (read_fault_rose text came)
+  files_input plan tells bad _ text has came = absurd (never_good shelf.holds topology input plan came.1.0 tells came.1.2.topology_file came.1.1 bad came.1.2.input_file)
+
+  files_agree : (s called : Status) (text : List ℕ) → HasText s → FilesCame shelf topology input s text → FilesCall shelf.holds topology input called → AnswersCall called s ⊎ TakesThePlace shelf sink s
+  files_agree s status.Done text has came calls = files_done calls.0 calls.1 calls.2 s text has came
+  files_agree s status.Topology text has came calls = files_topology calls s text has came
+  files_agree s status.Input text has came calls = files_input calls.0 calls.1 calls.2 s text has came
+  files_agree s _ text has came calls = absurd calls
+
+plain_came : (custom : Custom) (shelf : ShelfUse) (topology input : List ℕ) (s : Status) (text : List ℕ) → HasText s → PlainComes custom shelf topology input s text → FilesCame shelf topology input s text
+plain_came custom shelf topology input status.Done text has comes = (tt, (comes.1.plan, comes.1.records, comes.1.accepted))
+plain_came custom shelf topology input status.Memory text has comes = tt
+plain_came custom shelf topology input status.Topology text has comes = comes
+plain_came custom shelf topology input status.Input text has comes = comes
+plain_came custom shelf topology input status.ReadFault text has comes = comes
+plain_came custom shelf topology input _ text has comes = absurd comes
 
 pub plain_answered : (custom : Custom) (shelf : ShelfUse) (sink : SinkUse) (topology input : List ℕ) (s : Status) → Ends (PlainComes custom shelf topology input) sink s → IsAnswered (PlainCalls shelf.holds topology input) shelf sink s
 plain_answered custom shelf sink topology input s =
-    answered_by_ends (PlainComes custom shelf topology input) (PlainCalls shelf.holds topology input) shelf sink s (λ t called text has comes calls. files_agree puts_off_none shelf sink topology input t called text has (plain_came custom shelf topology input t text comes) calls)
+    answered_by_ends (PlainComes custom shelf topology input) (PlainCalls shelf.holds topology input) shelf sink s (λ t called text has comes calls. files_agree shelf sink topology input t called text has (plain_came custom shelf topology input t text has comes) calls)
 
-run_came : (custom : Custom) (shelf : ShelfUse) (topology input : List ℕ) (fates : List Attempt) (s : Status) (text : List ℕ) → RunComes custom shelf topology input fates s text → FilesCame is_not_yet shelf topology input s text
-run_came custom shelf topology input fates status.Done text comes = (comes.1.plan, comes.1.records, comes.1.accepted)
-run_came custom shelf topology input fates status.Memory text comes = tt
-run_came custom shelf topology input fates status.Words text comes = comes
-run_came custom shelf topology input fates status.Topology text comes = comes.0
-run_came custom shelf topology input fates status.Input text comes = comes.0
-run_came custom shelf topology input fates status.ReadFault text comes = comes.0
-run_came custom shelf topology input fates status.WriteFault text comes = comes
+run_came : (custom : Custom) (shelf : ShelfUse) (base : RunUse) (ticks : TicksUse) (topology input : List ℕ) (fates : List Attempt) (s : Status) (text : List ℕ) → HasText s → RunComes custom shelf base ticks topology input fates s text → FilesCame shelf topology input s text
+run_came custom shelf base ticks topology input fates status.Done text has comes = (tt, (comes.1.plan, comes.1.records, comes.1.accepted))
+run_came custom shelf base ticks topology input fates status.Memory text has comes = tt
+run_came custom shelf base ticks topology input fates status.Topology text has comes = comes.0
+run_came custom shelf base ticks topology input fates status.Input text has comes = comes.0
+run_came custom shelf base ticks topology input fates status.ReadFault text has comes = comes.0
+run_came custom shelf base ticks topology input fates status.Exhausted text has comes = (tt, (comes.1.1.plan, comes.1.1.records, comes.1.1.accepted))
+run_came custom shelf base ticks topology input fates status.StoreFault text has comes = (tt, (comes.1.plan, comes.1.records, comes.1.accepted))
+run_came custom shelf base ticks topology input fates status.BadCell text has comes = (tt, (comes.1.plan, comes.1.records, comes.1.accepted))
+run_came custom shelf base ticks topology input fates _ text has comes = absurd comes
 
-pub run_answered : (custom : Custom) (shelf : ShelfUse) (sink : SinkUse) (topology input : List ℕ) (fates : List Attempt) (s : Status) → Ends (RunComes custom shelf topology input fates) sink s → IsAnswered (RunCalls shelf.holds topology input) shelf sink s
-run_answered custom shelf sink topology input fates s =
-    answered_by_ends (RunComes custom shelf topology input fates) (RunCalls shelf.holds topology input) shelf sink s (λ t called text has comes calls. files_agree is_not_yet shelf sink topology input t called text has (run_came custom shelf topology input fates t text comes) calls)
+pub run_answered : (custom : Custom) (shelf : ShelfUse) (sink : SinkUse) (base : RunUse) (ticks : TicksUse) (topology input : List ℕ) (fates : List Attempt) (s : Status) → Ends (RunComes custom shelf base ticks topology input fates) sink s → IsAnswered (RunCalls shelf.holds topology input) shelf sink s
+run_answered custom shelf sink base ticks topology input fates s =
+    answered_by_ends (RunComes custom shelf base ticks topology input fates) (RunCalls shelf.holds topology input) shelf sink s
+    (λ t called text has comes calls. files_agree shelf sink topology input t called text has (run_came custom shelf base ticks topology input fates t text has comes) calls)
+
+-- ---- the command on three files
+
+-- what it came to with a text, as far as its files are concerned
+abbrev AllFilesCame : ShelfUse → List ℕ → List ℕ → List ℕ → Status → List ℕ → Type 0
+AllFilesCame shelf topology input schedule status.Memory text = Unit {0}
+AllFilesCame shelf topology input schedule status.Topology text = FilesCome shelf topology input status.Topology text
+AllFilesCame shelf topology input schedule status.Input text = FilesCome shelf topology input status.Input text
+AllFilesCame shelf topology input schedule status.ReadFault text = ShelfFailed shelf
+AllFilesCame shelf topology input schedule status.Schedule text = AllFilesCome shelf topology input schedule status.Schedule text
+AllFilesCame shelf topology input schedule ending text =
+    IsEndOfWork ending
+    × ((plan : Topology) × (records : List (List Value)) × (events : List Event) × AreAllAccepted shelf.holds topology input schedule plan records events)
+
+module _ (shelf : ShelfUse) (sink : SinkUse) (topology input schedule : List ℕ) where
+  all_topology : TellsTopologyFault shelf.holds topology → (s : Status) (text : List ℕ) → HasText s → AllFilesCame shelf topology input schedule s text → (s ≡ status.Topology) ⊎ TakesThePlace shelf sink s
+  all_topology fault status.Memory text has came = absurd has
+  all_topology fault status.Topology text has came = inl refl
+  all_topology fault status.Input text has came = absurd (never_accepted shelf.holds topology came.1.0 fault came.1.1)
+  all_topology fault status.ReadFault text has came = inr came
+  all_topology fault status.Schedule text has came = absurd (never_accepted shelf.holds topology came.1.plan fault came.1.accepted.topology_file)
+  all_topology fault _ text has came = absurd (never_accepted shelf.holds topology came.1.0 fault came.1.3.files.topology_file)
+
+  all_input : (plan : Topology) → TellsPlan shelf.holds topology plan → TellsInputFault shelf.holds plan input → (s : Status) (text : List ℕ) → HasText s → AllFilesCame shelf topology input schedule s text → (s ≡ status.Input) ⊎ TakesThePlace shelf sink s
+  all_input plan tells bad status.Memory text has came = absurd has
+  all_input plan tells bad status.Topology text has came = absurd (never_refused shelf.holds topology plan text tells came.1)
+  all_input plan tells bad status.Input text has came = inl refl
+  all_input plan tells bad status.ReadFault text has came = inr came
+  all_input plan tells bad status.Schedule text has came =
+      absurd (never_good shelf.holds topology input plan came.1.plan tells came.1.accepted.topology_file came.1.records bad came.1.accepted.input_file)
+  all_input plan tells bad _ text has came =
+      absurd (never_good shelf.holds topology input plan came.1.0 tells came.1.3.files.topology_file came.1.1 bad came.1.3.files.input_file)
+
+  all_schedule : (plan : Topology) → TellsPlan shelf.holds topology plan → TellsInput shelf.holds plan input → TellsScheduleFault shelf.holds plan schedule → (s : Status) (text : List ℕ) → HasText s → AllFilesCame shelf topology input schedule s text → (s ≡ status.Schedule) ⊎ TakesThePlace shelf sink s
+  all_schedule plan tells good bad status.Memory text has came = absurd has
+  all_schedule plan tells good bad status.Topology text has came = absurd (never_refused shelf.holds topology plan text tells came.1)
+  all_schedule plan tells good bad status.Input text has came = absurd (never_bad shelf.holds topology input plan came.1.0 tells came.1.1 text good came.1.2)
+  all_schedule plan tells good bad status.ReadFault text has came = inr came
+  all_schedule plan tells good bad status.Schedule text has came = inl refl
+  all_schedule plan tells good bad _ text has came =
+      absurd (never_good_schedule shelf.holds topology input plan came.1.0 tells came.1.3.files.topology_file schedule came.1.2 bad came.1.3.schedule_file)
+
+  all_done : (plan : Topology) → TellsPlan shelf.holds topology plan → TellsInput shelf.holds plan input → (events : List Event) → TellsEvents shelf.holds plan schedule events → (s : Status) (text : List ℕ) → HasText s → AllFilesCame shelf topology input schedule s text → IsEndOfWork s ⊎ TakesThePlace shelf sink s
+  all_done plan tells good events fine status.Memory text has came = absurd has
+  all_done plan tells good events fine status.Topology text has came = absurd (never_refused shelf.holds topology plan text tells came.1)
+  all_done plan tells good events fine status.Input text has came = absurd (never_bad shelf.holds topology input plan came.1.0 tells came.1.1 text good came.1.2)
+  all_done plan tells good events fine status.ReadFault text has came = inr came
+  all_done plan tells good events fine status.Schedule text has came =
+      absurd (never_bad_schedule shelf.holds topology input plan came.1.plan tells came.1.accepted.topology_file schedule text events fine came.1.comes)
+  all_done plan tells good events fine _ text has came = inl came.0
+
+  all_agree : (s called : Status) (text : List ℕ) → HasText s → AllFilesCame shelf topology input schedule s text → AllFilesCall shelf.holds topology input schedule called → AnswersCall called s ⊎ TakesThePlace shelf sink s
+  all_agree s status.Done text has came calls = all_done calls.0 calls.1 calls.2 calls.3.0 calls.3.1 s text has came
+  all_agree s status.Topology text has came calls = all_topology calls s text has came
+  all_agree s status.Input text has came calls = all_input calls.0 calls.1 calls.2 s text has came
+  all_agree s status.Schedule text has came calls = all_schedule calls.0 calls.1 calls.2 calls.3 s text has came
+  all_agree s _ text has came calls = absurd calls
+
+  pub all_read_fault_rose : (text : List ℕ) → AllFilesCome shelf topology input schedule status.ReadFault text → ShelfFailed shelf
+  all_read_fault_rose text (inl line) = read_fault_rose shelf sink topology input text line
+  all_read_fault_rose text (inr unread) = unread.1.comes.rose
+
+module _ (custom : Custom) (shelf : ShelfUse) (sink : SinkUse) (base : RunUse) (topology input schedule : List ℕ) (fates : List Attempt) where
+  replay_came : (s : Status) (text : List ℕ) → HasText s → ReplayComes custom shelf base topology input schedule fates s text → AllFilesCame shelf topology input schedule s text
+  replay_came status.Done text has comes = (tt, (comes.1.plan, comes.1.records, comes.1.events, comes.1.accepted))
+  replay_came status.Memory text has comes = tt
+  replay_came status.Topology text has comes = comes.0
+  replay_came status.Input text has comes = comes.0
+  replay_came status.ReadFault text has comes = all_read_fault_rose shelf sink topology input schedule text comes.0
+  replay_came status.Schedule text has comes = comes.0
+  replay_came status.Exhausted text has comes = (tt, (comes.1.1.plan, comes.1.1.records, comes.1.1.events, comes.1.1.accepted))
+  replay_came status.Unfinished text has comes = (tt, (comes.1.1.plan, comes.1.1.records, comes.1.1.events, comes.1.1.accepted))
+  replay_came status.StoreFault text has comes = (tt, (comes.1.plan, comes.1.records, comes.1.events, comes.1.accepted))
+  replay_came status.BadCell text has comes = (tt, (comes.1.plan, comes.1.records, comes.1.events, comes.1.accepted))
+  replay_came _ text has comes = absurd comes
+
+  pub replay_answered : (s : Status) → Ends (ReplayComes custom shelf base topology input schedule fates) sink s → IsAnswered (ReplayCalls shelf.holds topology input schedule) shelf sink s
+  replay_answered s =
+      answered_by_ends (ReplayComes custom shelf base topology input schedule fates) (ReplayCalls shelf.holds topology input schedule) shelf sink s
+      (λ t called text has comes calls. all_agree shelf sink topology input schedule t called text has (replay_came t text has comes) calls)

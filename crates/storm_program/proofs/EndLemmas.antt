@@ -4,9 +4,9 @@ use Rattle.storm_program.specs.declared.status.Status.{Status}
 use Rattle.storm_program.specs.declared.status.Status.TheVariants as status
 use Rattle.storm_program.specs.declared.stop.Stop.{Stop}
 use Rattle.storm_program.specs.declared.stop.Stop.TheVariants.{Memory, Told}
-use Rattle.storm_program.specs.Ends.{HasText, IsCut, Ends, TakesThePlace, IsAnswered}
-use Rattle.storm_program.specs.Outside.{ShelfUse, SinkUse, TookText}
-use Rattle.storm_program.specs.steps.Stops.{Stops, IsWritten, IsStopWritten}
+use Rattle.storm_program.specs.Ends.{AnswersCall, HasText, IsCut, IsDoneOrShort, Ends, TakesThePlace, IsAnswered}
+use Rattle.storm_program.specs.Outside.{ShelfUse, SinkFailed, SinkUse, TookText}
+use Rattle.storm_program.specs.steps.Stops.{IsMemory, Stops, IsWritten, IsStopWritten}
 
 -- ---- stops
 
@@ -20,18 +20,21 @@ pub Stops-weaker : (P Q : Status → List ℕ → Type 0) (stop : Stop) → ((s 
 Stops-weaker P Q Memory weaker comes = weaker status.Memory [] comes
 Stops-weaker P Q (Told s line) weaker (has, comes) = (has, weaker s (string_bytes line) comes)
 
+-- the same where the stop is handed on
+pub stops_on : {T : Type 0} (P Q : Status → List ℕ → Type 0) (r : Result T Stop) → ((s : Status) (text : List ℕ) → P s text → Q s text) → IfErr r (Stops P) → IfErr r (Stops Q)
+stops_on P Q (Ok x) weaker stops = tt
+stops_on P Q (Err stop) weaker stops = Stops-weaker P Q stop weaker stops
+
 -- ---- ends
 
 module _ (Comes : Status → List ℕ → Type 0) (sink : SinkUse) where
   -- a text that was taken whole
   ends_whole : (s : Status) → HasText s → (text : List ℕ) × Comes s text × TookText sink text → Ends Comes sink s
-  ends_whole status.Done has took = record { whole = λ _. took; cut = λ is. absurd cc; memory = λ is. absurd cc }
-  ends_whole status.Memory has took = absurd has
-  ends_whole status.Words has took = record { whole = λ _. took; cut = λ is. absurd cc; memory = λ is. absurd cc }
-  ends_whole status.Topology has took = record { whole = λ _. took; cut = λ is. absurd cc; memory = λ is. absurd cc }
-  ends_whole status.Input has took = record { whole = λ _. took; cut = λ is. absurd cc; memory = λ is. absurd cc }
-  ends_whole status.ReadFault has took = record { whole = λ _. took; cut = λ is. absurd cc; memory = λ is. absurd cc }
-  ends_whole status.WriteFault has took = absurd has
+  ends_whole s has took = record {
+    whole = λ _. took;
+    cut = λ is. absurd (let none : HasText status.WriteFault = subst HasText is has in none);
+    memory = λ is. absurd (let none : HasText status.Memory = subst HasText is has in none);
+  }
 
   ends_cut : IsCut Comes sink → Ends Comes sink status.WriteFault
   ends_cut is_cut = record { whole = λ has. absurd has; cut = λ _. is_cut; memory = λ is. absurd cc }
@@ -55,6 +58,16 @@ module _ (Comes : Status → List ℕ → Type 0) (sink : SinkUse) where
   ends_answer (Ok text) answer done stop written stopped = ends_written status.Done answer (string_bytes text) tt done written
   ends_answer (Err stop) answer done stops written stopped = ends_stop stop answer stops stopped
 
+-- where a command was done or wanted memory, and the sink did not fail, it is answered so
+written_done : (text : List ℕ) (sink : SinkUse) (answer : Status) → (SinkFailed sink → ⊥) → IsWritten status.Done text sink answer → IsDoneOrShort answer
+written_done text sink answer fine (inl written) = inl written.0
+written_done text sink answer fine (inr cut) = absurd (fine cut.1)
+
+pub done_or_short : {A : Type 0} (came : Result (String A) Stop) (sink : SinkUse) (answer : Status) → (SinkFailed sink → ⊥) → IfErr came IsMemory → IfOk came (λ text. IsWritten status.Done (string_bytes text) sink answer) → IfErr came (λ stop. IsStopWritten stop sink answer) → IsDoneOrShort answer
+done_or_short (Ok text) sink answer fine short written stopped = written_done (string_bytes text) sink answer fine written
+done_or_short (Err Memory) sink answer fine short written stopped = inr stopped.0
+done_or_short (Err (Told s line)) sink answer fine short written stopped = absurd short
+
 -- an end of one meaning is one of a weaker meaning
 pub Ends-weaker : (P Q : Status → List ℕ → Type 0) (sink : SinkUse) (s : Status) → ((t : Status) (text : List ℕ) → P t text → Q t text) → Ends P sink s → Ends Q sink s
 Ends-weaker P Q sink s weaker ends = record {
@@ -71,11 +84,22 @@ Ends-weaker P Q sink s weaker ends = record {
 }
 
 -- what is called for is answered, where no text of another status comes
-pub answered_by_ends : (Comes : Status → List ℕ → Type 0) (Calls : Status → Type 0) (shelf : ShelfUse) (sink : SinkUse) (s : Status) → ((t called : Status) (text : List ℕ) → HasText t → Comes t text → Calls called → (t ≡ called) ⊎ TakesThePlace shelf sink t) → Ends Comes sink s → IsAnswered Calls shelf sink s
-answered_by_ends Comes Calls shelf sink status.Done agree ends called calls = let took = ends.whole tt in agree status.Done called took.0 tt took.1 calls
-answered_by_ends Comes Calls shelf sink status.Memory agree ends called calls = inr tt
-answered_by_ends Comes Calls shelf sink status.Words agree ends called calls = let took = ends.whole tt in agree status.Words called took.0 tt took.1 calls
-answered_by_ends Comes Calls shelf sink status.Topology agree ends called calls = let took = ends.whole tt in agree status.Topology called took.0 tt took.1 calls
-answered_by_ends Comes Calls shelf sink status.Input agree ends called calls = let took = ends.whole tt in agree status.Input called took.0 tt took.1 calls
-answered_by_ends Comes Calls shelf sink status.ReadFault agree ends called calls = let took = ends.whole tt in agree status.ReadFault called took.0 tt took.1 calls
-answered_by_ends Comes Calls shelf sink status.WriteFault agree ends called calls = inr (ends.cut refl).rose
+pub answered_by_ends : (Comes : Status → List ℕ → Type 0) (Calls : Status → Type 0) (shelf : ShelfUse) (sink : SinkUse) (s : Status) → ((t called : Status) (text : List ℕ) → HasText t → Comes t text → Calls called → AnswersCall called t ⊎ TakesThePlace shelf sink t) → Ends Comes sink s → IsAnswered Calls shelf sink s
+answered_by_ends Comes Calls shelf sink s agree ends called calls = by s ends
+  where
+    whole : (t : Status) → Ends Comes sink t → HasText t → AnswersCall called t ⊎ TakesThePlace shelf sink t
+    whole t came has = let took = came.whole has in agree t called took.0 has took.1 calls
+
+    by : (t : Status) → Ends Comes sink t → AnswersCall called t ⊎ TakesThePlace shelf sink t
+    by status.Memory came = inr tt
+    by status.WriteFault came = inr (came.cut refl).rose
+    by status.Done came = whole status.Done came tt
+    by status.Words came = whole status.Words came tt
+    by status.Topology came = whole status.Topology came tt
+    by status.Input came = whole status.Input came tt
+    by status.ReadFault came = whole status.ReadFault came tt
+    by status.Exhausted came = whole status.Exhausted came tt
+    by status.Unfinished came = whole status.Unfinished came tt
+    by status.Schedule came = whole status.Schedule came tt
+    by status.StoreFault came = whole status.StoreFault came tt
+    by status.BadCell came = whole status.BadCell came tt

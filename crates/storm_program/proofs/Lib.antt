@@ -1,8 +1,6 @@
 mod CauseLemmas
 mod EndLemmas
-mod EngineLemmas
-mod FateLemmas
 mod FileLemmas
-mod NotYetLemmas
+mod ReportLemmas
 mod RunLemmas
 mod WordLemmas

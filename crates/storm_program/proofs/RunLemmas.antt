@@ -1,55 +1,190 @@
--- What a check, a `plain` and a run come to, from what their parts came to.
-use Rattle.std.proofs.Common.{◌≡◌, ℕ, List, [], Option, None, inl, sym, subst}
+-- What a check, a `plain`, a run and a replay come to, from what their parts came to.
+use Rattle.std.proofs.Common.{◌≡◌, ◌⊎◌, ◌<◌, ℕ, List, [], Option, None, Result, Ok, Err, IfOk, String, string_bytes, inl, inr, refl, sym, subst, sum}
 use Rattle.bolt_ops.specs.RowOp.{Custom}
 use Rattle.attempt_fates.specs.declared.fates.Attempt.{Attempt}
+use Rattle.event_worlds.specs.Rounds.{HasRounds, rounds_needed}
+use Rattle.schedule_core.specs.Runs.{first_answers}
+use Rattle.schedule_core.specs.Schedules.{all_steps}
+use Rattle.schedule_reader.specs.declared.event.Event.{Event}
 use Rattle.storm_program.specs.declared.status.Status.{Status}
 use Rattle.storm_program.specs.declared.status.Status.TheVariants as status
+use Rattle.storm_program.specs.declared.stop.Stop.{Stop}
+use Rattle.storm_program.specs.declared.stop.Stop.TheVariants.{Memory, Told}
 use Rattle.storm_program.specs.Check.{CheckComes}
-use Rattle.storm_program.specs.Files.{FilesCome}
+use Rattle.storm_program.specs.Files.{AreAccepted, FilesCome, IsReadFaultLine, TellsInput, TellsPlan, of_input, of_topology}
+use Rattle.storm_program.specs.steps.Ended.{IsRoundsEnd, WorkStops}
 use Rattle.storm_program.specs.steps.Reading.{TopologyComes}
-use Rattle.storm_program.specs.Ends.{Ends}
-use Rattle.storm_program.specs.Outside.{ShelfUse, SinkUse}
-use Rattle.storm_program.specs.NotYet.{is_not_yet, puts_off_none}
+use Rattle.storm_program.specs.Ends.{Ends, HasText}
+use Rattle.storm_program.specs.Outside.{Fetched, RunUse, ShelfFailed, ShelfUse, SinkUse, TicksUse}
 use Rattle.storm_program.specs.Plain.{PlainComes}
-use Rattle.storm_program.specs.Run.{RunComes}
+use Rattle.storm_program.specs.Replay.{IsReplayReport, ReplayComes, ReplayEndsSo, ReplayMustCommitAll, ticks_of_schedule}
+use Rattle.storm_program.specs.Reports.{EndsSo, IsReport, cut_by}
+use Rattle.storm_program.specs.Run.{IsNotBegun, IsShort, MustCommitAll, RunComes, ticks_of_run}
+use Rattle.storm_program.specs.Schedules.{AllFilesCome, AreAllAccepted, TellsEvents}
 use Rattle.storm_program.specs.Storm.{WordsCome, promise}
 use Rattle.storm_program.specs.Texts.{usage}
 use Rattle.storm_program.specs.Words.{Command}
-use Rattle.storm_program.specs.steps.Stops.{IsWritten}
+use Rattle.storm_program.specs.steps.Stops.{IsMemory, IsWritten, Stops}
+use Rattle.storm_program.proofs.CauseLemmas.{never_bad, never_bad_schedule, never_refused, read_fault_rose, same_events, same_plan, same_records}
 use Rattle.storm_program.proofs.EndLemmas.{ends_written}
+use Rattle.storm_values.specs.declared.value.Value.{Value}
+use Rattle.storm_values.specs.Lines.{records_of}
+use Rattle.stored_runs.specs.declared.ending.RunEnd.TheVariants as run_end
+use Rattle.stored_runs.specs.Makers.{IsUntouched, maker_use}
+use Rattle.stored_runs.specs.StoredRuns.{NothingIsInTheWay}
+use Rattle.storm_stores.specs.CellMaps.{CellMap}
+use Rattle.topology_plan.specs.Topology.{Topology}
 
 -- what a topology comes to that is not accepted comes of a check
 pub check_of_topology : (shelf : ShelfUse) (topology : List ℕ) (s : Status) (text : List ℕ) → TopologyComes shelf topology s text → CheckComes shelf topology s text
 check_of_topology shelf topology status.Done text comes = absurd comes
-check_of_topology shelf topology status.Memory text comes = comes
-check_of_topology shelf topology status.Words text comes = absurd comes
-check_of_topology shelf topology status.Topology text comes = comes
-check_of_topology shelf topology status.Input text comes = absurd comes
-check_of_topology shelf topology status.ReadFault text comes = comes
-check_of_topology shelf topology status.WriteFault text comes = absurd comes
+check_of_topology shelf topology _ text comes = comes
 
 -- what files come to that are not accepted comes of a `plain`
-pub plain_of_files : (custom : Custom) (shelf : ShelfUse) (topology input : List ℕ) (s : Status) (text : List ℕ) → FilesCome puts_off_none shelf topology input s text → PlainComes custom shelf topology input s text
+pub plain_of_files : (custom : Custom) (shelf : ShelfUse) (topology input : List ℕ) (s : Status) (text : List ℕ) → FilesCome shelf topology input s text → PlainComes custom shelf topology input s text
 plain_of_files custom shelf topology input status.Done text comes = absurd comes
-plain_of_files custom shelf topology input status.Memory text comes = comes
-plain_of_files custom shelf topology input status.Words text comes = absurd comes
-plain_of_files custom shelf topology input status.Topology text comes = comes
-plain_of_files custom shelf topology input status.Input text comes = comes
-plain_of_files custom shelf topology input status.ReadFault text comes = comes
-plain_of_files custom shelf topology input status.WriteFault text comes = absurd comes
+plain_of_files custom shelf topology input _ text comes = comes
 
--- and of a run, with no fates
-pub run_of_files : (custom : Custom) (shelf : ShelfUse) (topology input : List ℕ) (fates : List Attempt) → fates ≡ [] → (s : Status) (text : List ℕ) → FilesCome is_not_yet shelf topology input s text → RunComes custom shelf topology input fates s text
-run_of_files custom shelf topology input fates none status.Done text comes = absurd comes
-run_of_files custom shelf topology input fates none status.Memory text comes = inl (comes, none)
-run_of_files custom shelf topology input fates none status.Words text comes = absurd comes
-run_of_files custom shelf topology input fates none status.Topology text comes = (comes, none)
-run_of_files custom shelf topology input fates none status.Input text comes = (comes, none)
-run_of_files custom shelf topology input fates none status.ReadFault text comes = (comes, none)
-run_of_files custom shelf topology input fates none status.WriteFault text comes = absurd comes
+-- a maker that was not called is untouched
+pub untouched : {M : Type 0} (holds : M → ℕ → ℕ → CellMap → Type 0) (made : M → ℕ → ℕ → Type 0) (faults : M → ℕ) (maker : M) → IsUntouched (maker_use holds made faults maker maker)
+untouched holds made faults maker = record { none_made = λ c p was. was; same = λ c p cells held. held; no_fault = refl }
+
+-- ---- files that were not accepted, where the told ones are good
+
+module _ (shelf : ShelfUse) (topology input : List ℕ) (plan : Topology) (tells_plan : TellsPlan shelf.holds topology plan) (tells_input : TellsInput shelf.holds plan input) (fine : (ShelfFailed shelf → ⊥) ⊎ shelf.ready) where
+  never_unread : (text : List ℕ) → IsReadFaultLine shelf topology input text → ⊥
+  never_unread text line = by fine line
+    where
+      by : (ShelfFailed shelf → ⊥) ⊎ shelf.ready → IsReadFaultLine shelf topology input text → ⊥
+      by (inl never) (of_topology once unread is) = never unread.rose
+      by (inl never) (of_input twice unread other accepted is) = never unread.rose
+      by (inr ready) (of_topology once unread is) = unread.never_ready ready tells_plan.bytes tells_plan.told
+      by (inr ready) (of_input twice unread other accepted is) = unread.never_ready ready tells_input.bytes tells_input.told
+
+  pub files_never : (s : Status) (text : List ℕ) → HasText s → FilesCome shelf topology input s text → ⊥
+  files_never status.Memory text has comes = has
+  files_never status.Topology text has comes = never_refused shelf.holds topology plan text tells_plan comes.1
+  files_never status.Input text has comes = never_bad shelf.holds topology input plan comes.1.0 tells_plan comes.1.1 text tells_input comes.1.2
+  files_never status.ReadFault text has comes = never_unread text comes
+  files_never _ text has comes = comes
+
+  pub all_files_never : (schedule : List ℕ) (events : List Event) → TellsEvents shelf.holds plan schedule events → (s : Status) (text : List ℕ) → HasText s → AllFilesCome shelf topology input schedule s text → ⊥
+  all_files_never schedule events tells status.Memory text has comes = has
+  all_files_never schedule events tells status.ReadFault text has (inl comes) = never_unread text comes
+  all_files_never schedule events tells status.ReadFault text has (inr comes) = by fine
+    where
+      by : (ShelfFailed shelf → ⊥) ⊎ shelf.ready → ⊥
+      by (inl never) = never comes.1.comes.rose
+      by (inr ready) = comes.1.comes.never_ready ready tells.bytes tells.told
+  all_files_never schedule events tells status.Schedule text has comes =
+      never_bad_schedule shelf.holds topology input plan comes.1.plan tells_plan comes.1.accepted.topology_file schedule text events tells comes.1.comes
+  all_files_never schedule events tells s text has comes = files_never s text has comes
+
+  pub finishes_by_files : (stop : Stop) → Stops (FilesCome shelf topology input) stop → IsMemory stop
+  finishes_by_files Memory stops = tt
+  finishes_by_files (Told s line) stops = absurd (files_never s (string_bytes line) stops.0 stops.1)
+
+  pub finishes_by_all_files : (schedule : List ℕ) (events : List Event) → TellsEvents shelf.holds plan schedule events → (stop : Stop) → Stops (AllFilesCome shelf topology input schedule) stop → IsMemory stop
+  finishes_by_all_files schedule events tells Memory stops = tt
+  finishes_by_all_files schedule events tells (Told s line) stops = absurd (all_files_never schedule events tells s (string_bytes line) stops.0 stops.1)
+
+-- ---- runs
+
+module _ (custom : Custom) (shelf : ShelfUse) (base : RunUse) (ticks : TicksUse) (topology input : List ℕ) (fates : List Attempt) where
+  -- what files come to that are not accepted comes of a run that was not begun
+  pub run_of_files : IsNotBegun base fates → (s : Status) (text : List ℕ) → FilesCome shelf topology input s text → RunComes custom shelf base ticks topology input fates s text
+  run_of_files idle status.Memory text comes = inl (comes, idle)
+  run_of_files idle status.Topology text comes = (comes, idle)
+  run_of_files idle status.Input text comes = (comes, idle)
+  run_of_files idle status.ReadFault text comes = (comes, idle)
+  run_of_files idle _ text comes = absurd comes
+
+  -- what a run of accepted files comes to that made its report
+  pub done_of_report : (plan : Topology) (records : List (List Value)) → Fetched 2 shelf → AreAccepted shelf.holds topology input plan records → {A : Type 0} (result : Result (String A) Stop) → IfOk result (λ text. IsReport custom plan records base (ticks_of_run ticks) fates (string_bytes text))
+      → IfOk result (λ text. RunComes custom shelf base ticks topology input fates status.Done (string_bytes text))
+  done_of_report plan records twice accepted (Ok text) report = (twice, record { plan = plan; records = records; accepted = accepted; comes = report })
+  done_of_report plan records twice accepted (Err stop) report = tt
+
+  -- what it comes to that made no report
+  pub run_of_work : (plan : Topology) (records : List (List Value)) → Fetched 2 shelf → AreAccepted shelf.holds topology input plan records → (s : Status) (text : List ℕ)
+      → WorkStops (λ ending said. IsRoundsEnd ending × EndsSo custom plan records base (ticks_of_run ticks) fates ending said) (IsShort plan records base fates) s text → RunComes custom shelf base ticks topology input fates s text
+  run_of_work plan records twice accepted status.Memory text comes = inr (twice, record { plan = plan; records = records; accepted = accepted; comes = comes })
+  run_of_work plan records twice accepted status.Exhausted text comes = (comes.0, (twice, record { plan = plan; records = records; accepted = accepted; comes = comes.1.1 }))
+  run_of_work plan records twice accepted status.Unfinished text comes = absurd comes.1.0
+  run_of_work plan records twice accepted status.StoreFault text comes = (twice, record { plan = plan; records = records; accepted = accepted; comes = comes.1 })
+  run_of_work plan records twice accepted status.BadCell text comes = (twice, record { plan = plan; records = records; accepted = accepted; comes = comes.1 })
+  run_of_work plan records twice accepted _ text comes = absurd comes
+
+  -- where it must commit all, nothing is in the way of what was accepted
+  pub record GoesThrough (plan : Topology) (records : List (List Value)) : Type 0 where
+    pub to_come : List ℕ
+    pub told : ticks.to_come to_come
+    pub free : NothingIsInTheWay plan base.stores fates
+    pub few : sum (first_answers (rounds_needed plan custom (cut_by plan records)) to_come) < plan.buckets
+
+  pub goes_through : (plan : Topology) (records : List (List Value)) → AreAccepted shelf.holds topology input plan records → MustCommitAll custom shelf base ticks topology input fates → GoesThrough plan records
+  goes_through plan records accepted must =
+      let of_plan : plan ≡ must.plan = same_plan shelf.holds topology must.plan plan must.tells_plan accepted.topology_file in
+      let of_records : records ≡ records_of must.tells_input.bytes = same_records shelf.holds topology input must.plan plan must.tells_plan accepted.topology_file records must.tells_input accepted.input_file in
+      record {
+        to_come = must.to_come;
+        told = must.told;
+        free = subst (λ (p : Topology). NothingIsInTheWay p base.stores fates) (sym of_plan) must.free;
+        few =
+            subst (λ (p : Topology). sum (first_answers (rounds_needed p custom (cut_by p records)) must.to_come) < p.buckets) (sym of_plan)
+            (subst (λ (rs : List (List Value)). sum (first_answers (rounds_needed must.plan custom (cut_by must.plan rs)) must.to_come) < must.plan.buckets) (sym of_records) must.few_ticks);
+      }
+
+-- ---- replays
+
+module _ (custom : Custom) (shelf : ShelfUse) (base : RunUse) (topology input schedule : List ℕ) (fates : List Attempt) where
+  pub replay_of_files : IsNotBegun base fates → (s : Status) (text : List ℕ) → AllFilesCome shelf topology input schedule s text → ReplayComes custom shelf base topology input schedule fates s text
+  replay_of_files idle status.Memory text comes = inl (comes, idle)
+  replay_of_files idle status.Topology text comes = (comes, idle)
+  replay_of_files idle status.Input text comes = (comes, idle)
+  replay_of_files idle status.ReadFault text comes = (comes, idle)
+  replay_of_files idle status.Schedule text comes = (comes, idle)
+  replay_of_files idle _ text comes = absurd comes
+
+  pub done_of_replay : (plan : Topology) (records : List (List Value)) (events : List Event) → Fetched 3 shelf → AreAllAccepted shelf.holds topology input schedule plan records events → {A : Type 0} (result : Result (String A) Stop) → IfOk result (λ text. IsReplayReport custom plan records events base fates (string_bytes text))
+      → IfOk result (λ text. ReplayComes custom shelf base topology input schedule fates status.Done (string_bytes text))
+  done_of_replay plan records events thrice accepted (Ok text) report = (thrice, record { plan = plan; records = records; events = events; accepted = accepted; comes = report })
+  done_of_replay plan records events thrice accepted (Err stop) report = tt
+
+  pub replay_of_work : (plan : Topology) (records : List (List Value)) (events : List Event) → Fetched 3 shelf → AreAllAccepted shelf.holds topology input schedule plan records events → (s : Status) (text : List ℕ)
+      → WorkStops (ReplayEndsSo custom plan records events base fates) (IsShort plan records base fates) s text → ReplayComes custom shelf base topology input schedule fates s text
+  replay_of_work plan records events thrice accepted status.Memory text comes = inr (thrice, record { plan = plan; records = records; events = events; accepted = accepted; comes = comes })
+  replay_of_work plan records events thrice accepted status.Exhausted text comes = (comes.0, (thrice, record { plan = plan; records = records; events = events; accepted = accepted; comes = comes.1 }))
+  replay_of_work plan records events thrice accepted status.Unfinished text comes = (comes.0, (thrice, record { plan = plan; records = records; events = events; accepted = accepted; comes = comes.1 }))
+  replay_of_work plan records events thrice accepted status.StoreFault text comes = (thrice, record { plan = plan; records = records; events = events; accepted = accepted; comes = comes })
+  replay_of_work plan records events thrice accepted status.BadCell text comes = (thrice, record { plan = plan; records = records; events = events; accepted = accepted; comes = comes })
+  replay_of_work plan records events thrice accepted _ text comes = absurd comes
+
+  pub record ReplayGoesThrough (plan : Topology) (records : List (List Value)) (events : List Event) : Type 0 where
+    pub free : NothingIsInTheWay plan base.stores fates
+    pub rounds : HasRounds plan (rounds_needed plan custom (cut_by plan records)) (all_steps plan events)
+    pub few : ticks_of_schedule plan events < plan.buckets
+
+  pub replay_goes_through : (plan : Topology) (records : List (List Value)) (events : List Event) → AreAllAccepted shelf.holds topology input schedule plan records events → ReplayMustCommitAll custom shelf base topology input schedule fates → ReplayGoesThrough plan records events
+  replay_goes_through plan records events accepted must =
+      let files = accepted.files in
+      let of_plan : plan ≡ must.plan = same_plan shelf.holds topology must.plan plan must.tells_plan files.topology_file in
+      let of_records : records ≡ records_of must.tells_input.bytes = same_records shelf.holds topology input must.plan plan must.tells_plan files.topology_file records must.tells_input files.input_file in
+      let of_events : events ≡ must.events = same_events shelf.holds topology input must.plan plan must.tells_plan files.topology_file schedule events must.events must.tells_events accepted.schedule_file in
+      record {
+        free = subst (λ (p : Topology). NothingIsInTheWay p base.stores fates) (sym of_plan) must.free;
+        rounds =
+            subst (λ (p : Topology). HasRounds p (rounds_needed p custom (cut_by p records)) (all_steps p events)) (sym of_plan)
+            (subst (λ (rs : List (List Value)). HasRounds must.plan (rounds_needed must.plan custom (cut_by must.plan rs)) (all_steps must.plan events)) (sym of_records)
+            (subst (λ (es : List Event). HasRounds must.plan (rounds_needed must.plan custom (cut_by must.plan (records_of must.tells_input.bytes))) (all_steps must.plan es)) (sym of_events) must.rounds));
+        few =
+            subst (λ (p : Topology). ticks_of_schedule p events < p.buckets) (sym of_plan)
+            (subst (λ (es : List Event). ticks_of_schedule must.plan es < must.plan.buckets) (sym of_events) must.few_ticks);
+      }
 
 -- words that are no command come to the usage line
-pub ends_words : (custom : Custom) (shelf : ShelfUse) (sink : SinkUse) (fates : List Attempt) (command : Option Command) (text : List ℕ) (answer : Status) → command ≡ None → fates ≡ [] → shelf.fetches_after ≡ shelf.fetches_before → text ≡ usage → IsWritten status.Words text sink answer → Ends (promise custom shelf fates command).comes sink answer
-ends_words custom shelf sink fates command text answer none empty still line written =
-    let ends : Ends (WordsCome shelf fates) sink answer = ends_written (WordsCome shelf fates) sink status.Words answer text tt (still, line, empty) written in
-    subst (λ c. Ends (promise custom shelf fates c).comes sink answer) (sym none) ends
+pub ends_words : (custom : Custom) (shelf : ShelfUse) (sink : SinkUse) (base : RunUse) (ticks : TicksUse) (fates : List Attempt) (command : Option Command) (text : List ℕ) (answer : Status) → command ≡ None → IsNotBegun base fates → shelf.fetches_after ≡ shelf.fetches_before → text ≡ usage → IsWritten status.Words text sink answer
+    → Ends (promise custom shelf sink base ticks fates command).comes sink answer
+ends_words custom shelf sink base ticks fates command text answer none idle still line written =
+    let ends : Ends (WordsCome shelf base fates) sink answer = ends_written (WordsCome shelf base fates) sink status.Words answer text tt (still, line, idle) written in
+    subst (λ c. Ends (promise custom shelf sink base ticks fates c).comes sink answer) (sym none) ends

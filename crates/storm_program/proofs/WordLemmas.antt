@@ -5,9 +5,9 @@ use Rattle.std.specs.List.{list_all}
 use Rattle.std.proofs.lemmas.Bool.{cases_Bool, and_parts, eqb-true, false≢true}
 use Rattle.std.proofs.lemmas.Bool.Decides.{nat_tests}
 use Rattle.std.proofs.lemmas.Option.{none-some}
-use Rattle.storm_program.specs.Words.{Command, check, plain, run, load, is_word, number_word, digits_value, command_of, command, if_built, built}
+use Rattle.storm_program.specs.Words.{Command, check, plain, replay, run, load, is_word, number_word, digits_value, command_of, command, if_built, built}
 
--- a choice of two commands that the program does not have
+-- a choice of two commands that are none
 neither : (b : Bool) (x y : Option Command) → if_built x ≡ None → if_built y ≡ None → if_built (cond b x y) ≡ None
 neither true x y p q = p
 neither false x y p q = q
@@ -97,11 +97,34 @@ number_is_word least most word n is =
 
 -- ---- four words
 
-pub workers_other : (verb t i w : List ℕ) → bytes_eq verb (codes "run") ≡ false → built (verb ∷ t ∷ i ∷ w ∷ []) ≡ None
+-- one of the words is none
+pub four_bad_first : (verb t i w : List ℕ) → is_word t ≡ false → built (verb ∷ t ∷ i ∷ w ∷ []) ≡ None
 unfolding built command
-workers_other verb t i w e =
-    let out : if_built (command_of (verb ∷ t ∷ i ∷ w ∷ [])) ≡ None = rw e (neither (bytes_eq verb (codes "replay")) _ _ refl refl) in
+four_bad_first verb t i w bad = unless (is_word verb) (is_word t && (is_word i && (is_word w && true))) _ (rw bad refl)
+
+and_false : (b : Bool) → b && false ≡ false
+and_false true = refl
+and_false false = refl
+
+pub four_bad_second : (verb t i w : List ℕ) → is_word i ≡ false → built (verb ∷ t ∷ i ∷ w ∷ []) ≡ None
+unfolding built command
+four_bad_second verb t i w bad = unless (is_word verb) (is_word t && (is_word i && (is_word w && true))) _ (rw bad (and_false (is_word t)))
+
+pub four_other : (verb t i w : List ℕ) → bytes_eq verb (codes "replay") ≡ false → bytes_eq verb (codes "run") ≡ false → built (verb ∷ t ∷ i ∷ w ∷ []) ≡ None
+unfolding built command
+four_other verb t i w no_replay no_run =
+    let out : if_built (command_of (verb ∷ t ∷ i ∷ w ∷ [])) ≡ None = rw (no_replay, no_run) refl in
     neither (list_all is_word (verb ∷ t ∷ i ∷ w ∷ [])) (command_of (verb ∷ t ∷ i ∷ w ∷ [])) None out refl
+
+pub replay_bad : (t i s : List ℕ) → is_word s ≡ false → built (codes "replay" ∷ t ∷ i ∷ s ∷ []) ≡ None
+unfolding built command
+replay_bad t i s bad =
+    let none : is_word t && (is_word i && (is_word s && true)) ≡ false = rw (bad, and_false (is_word i)) (and_false (is_word t)) in
+    unless true (is_word t && (is_word i && (is_word s && true))) _ none
+
+pub replay_good : (t i s : List ℕ) → is_word t ≡ true → is_word i ≡ true → is_word s ≡ true → built (codes "replay" ∷ t ∷ i ∷ s ∷ []) ≡ Some (replay t i s)
+unfolding built command
+replay_good t i s first second third = rw (first, second, third) refl
 
 pub workers_good : (verb t i w : List ℕ) → verb ≡ codes "run" → built (verb ∷ t ∷ i ∷ w ∷ []) ≡ cond (is_word t && is_word i) (option_map (run t i) (number_word 1 64 w)) None
 unfolding built command

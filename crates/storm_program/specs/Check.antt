@@ -8,6 +8,7 @@ use Rattle.storm_program.specs.Ends.{Promise}
 use Rattle.storm_program.specs.Files.{IsAccepted, IsTopologyLine, IsNotRead, TellsPlan, TellsTopologyFault}
 use Rattle.storm_program.specs.Outside.{ShelfUse, Fetched}
 use Rattle.storm_program.specs.Texts.{valid_line, topology_not_read}
+use Rattle.stored_runs.specs.Makers.{IsUntouched, MakerUse}
 
 -- the line of an accepted topology
 pub record IsValidLine (holds : List ℕ → List ℕ → Type 0) (name text : List ℕ) : Type 0 where
@@ -19,27 +20,24 @@ pub record IsValidLine (holds : List ℕ → List ℕ → Type 0) (name text : L
 abbrev pub CheckComes : ShelfUse → List ℕ → Status → List ℕ → Type 0
 CheckComes shelf topology status.Done text = Fetched 1 shelf × IsValidLine shelf.holds topology text
 CheckComes shelf topology status.Memory text = Fetched 1 shelf
-CheckComes shelf topology status.Words text = ⊥
 CheckComes shelf topology status.Topology text =
     Fetched 1 shelf × IsTopologyLine shelf.holds topology text
-CheckComes shelf topology status.Input text = ⊥
 CheckComes shelf topology status.ReadFault text =
     Fetched 1 shelf × IsNotRead shelf topology × (text ≡ topology_not_read)
-CheckComes shelf topology status.WriteFault text = ⊥
+CheckComes shelf topology _ text = ⊥
 
 -- Which status the told topology calls for.
 abbrev pub CheckCalls : (List ℕ → List ℕ → Type 0) → List ℕ → Status → Type 0
 CheckCalls holds topology status.Done = (plan : Topology) × TellsPlan holds topology plan
-CheckCalls holds topology status.Memory = ⊥
-CheckCalls holds topology status.Words = ⊥
 CheckCalls holds topology status.Topology = TellsTopologyFault holds topology
-CheckCalls holds topology status.Input = ⊥
-CheckCalls holds topology status.ReadFault = ⊥
-CheckCalls holds topology status.WriteFault = ⊥
+CheckCalls holds topology _ = ⊥
 
--- a check as a command among others: it leaves the fates empty
-abbrev pub check_promise : ShelfUse → List Attempt → List ℕ → Promise
-check_promise shelf fates topology = record {
-  comes = λ ending text. CheckComes shelf topology ending text × (fates ≡ []);
+-- A check as a command among others: it leaves fates and stores alone, and what it is called for is
+-- all that it promises.
+abbrev pub check_promise : ShelfUse → MakerUse → List Attempt → List ℕ → Promise
+check_promise shelf stores fates topology = record {
+  comes = λ ending text.
+      CheckComes shelf topology ending text × (fates ≡ []) × IsUntouched stores;
   calls = CheckCalls shelf.holds topology;
+  must_finish = ⊥;
 }

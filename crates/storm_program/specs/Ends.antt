@@ -3,16 +3,13 @@ use Rattle.std.specs.Prelude.{◌≡◌, ◌⊎◌, ◌≤◌, ℕ, List, []}
 use Rattle.storm_program.specs.declared.status.Status.{Status}
 use Rattle.storm_program.specs.declared.status.Status.TheVariants as status
 use Rattle.storm_program.specs.Outside.{ShelfUse, ShelfFailed, SinkUse, SinkFailed, TookText, TookFront}
+use Rattle.stored_runs.specs.Makers.{MakerUse}
 
 -- the statuses that have a text: all but want of memory and a write fault
 abbrev pub HasText : Status → Type 0
-HasText status.Done = Unit {0}
 HasText status.Memory = ⊥
-HasText status.Words = Unit {0}
-HasText status.Topology = Unit {0}
-HasText status.Input = Unit {0}
-HasText status.ReadFault = Unit {0}
 HasText status.WriteFault = ⊥
+HasText _ = Unit {0}
 
 -- The output was cut short: the count of the sink's faults rose, and the sink took a front of the
 -- text of the status that a write fault took the place of.
@@ -35,28 +32,53 @@ pub record Ends (Comes : Status → List ℕ → Type 0) (sink : SinkUse) (endin
   pub memory : ending ≡ status.Memory
       → Comes status.Memory [] × (sink.taken_after ≡ sink.taken_before)
 
--- what takes the place of an answer that the files call for: a fault of reading or writing with its
--- count, or want of memory
+-- ---- which status is answered
+
+-- What takes the place of an answer that the words and the files call for: a fault of reading or
+-- writing with its count, or want of memory.
 abbrev pub TakesThePlace : ShelfUse → SinkUse → Status → Type 0
-TakesThePlace shelf sink status.Done = ⊥
 TakesThePlace shelf sink status.Memory = Unit {0}
-TakesThePlace shelf sink status.Words = ⊥
-TakesThePlace shelf sink status.Topology = ⊥
-TakesThePlace shelf sink status.Input = ⊥
 TakesThePlace shelf sink status.ReadFault = ShelfFailed shelf
 TakesThePlace shelf sink status.WriteFault = SinkFailed sink
+TakesThePlace shelf sink _ = ⊥
+
+-- the ends of the work that a command was called for, each of which has its own cause
+abbrev pub IsEndOfWork : Status → Type 0
+IsEndOfWork status.Done = Unit {0}
+IsEndOfWork status.Exhausted = Unit {0}
+IsEndOfWork status.Unfinished = Unit {0}
+IsEndOfWork status.StoreFault = Unit {0}
+IsEndOfWork status.BadCell = Unit {0}
+IsEndOfWork _ = ⊥
+
+-- a status answers what was called for: `Done` stands for a command that does its own work
+abbrev pub AnswersCall : Status → Status → Type 0
+AnswersCall status.Done ending = IsEndOfWork ending
+AnswersCall called ending = ending ≡ called
 
 -- A status that the words and the told files call for is answered, or something takes its place.
 abbrev pub IsAnswered : (Status → Type 0) → ShelfUse → SinkUse → Status → Type 0
 IsAnswered Calls shelf sink ending =
-    (called : Status) → Calls called → (ending ≡ called) ⊎ TakesThePlace shelf sink ending
+    (called : Status) → Calls called → AnswersCall called ending ⊎ TakesThePlace shelf sink ending
 
--- what a command promises: what each status comes to, and which status is called for
+-- the work of a command was done, or memory was wanted
+abbrev pub IsDoneOrShort : Status → Type 0
+IsDoneOrShort ending = (ending ≡ status.Done) ⊎ (ending ≡ status.Memory)
+
+-- What a command promises: what each status comes to, which status is called for, and when it has
+-- to do all of its work.
 pub record Promise : Type 1 where
   pub comes : Status → List ℕ → Type 0
   pub calls : Status → Type 0
+  pub must_finish : Type 0
 
--- No count falls.
-pub record Counts (shelf : ShelfUse) (sink : SinkUse) : Type 0 where
+-- No count of files and output falls.
+pub record FilesCounts (shelf : ShelfUse) (sink : SinkUse) : Type 0 where
   pub shelf_faults : shelf.faults_before ≤ shelf.faults_after
   pub sink_faults : sink.faults_before ≤ sink.faults_after
+
+-- No count falls.
+pub record Counts (shelf : ShelfUse) (sink : SinkUse) (stores : MakerUse) : Type 0 where
+  pub shelf_faults : shelf.faults_before ≤ shelf.faults_after
+  pub sink_faults : sink.faults_before ≤ sink.faults_after
+  pub store_faults : stores.faults_before ≤ stores.faults_after

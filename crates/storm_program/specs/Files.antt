@@ -1,6 +1,6 @@
 -- What every command on a topology and an input does before its own work: it reads and refuses
--- the two files, in order. A command puts off the plans that pass its test, `puts_off`.
-use Rattle.std.specs.Prelude.{◌≡◌, ◌⊎◌, ℕ, List, length, Bool, true, false, Some, None}
+-- the two files, in order.
+use Rattle.std.specs.Prelude.{◌≡◌, ◌⊎◌, ℕ, List, length, Some, None}
 use Rattle.storm_values.specs.declared.value.Value.{Value}
 use Rattle.storm_values.specs.declared.lines.InputFault.{InputFault}
 use Rattle.storm_values.specs.Lines.{input_fault, records_of}
@@ -10,7 +10,7 @@ use Rattle.topology_reader.specs.FirstFault.{first_fault, IsFilePlan}
 use Rattle.storm_program.specs.declared.status.Status.{Status}
 use Rattle.storm_program.specs.declared.status.Status.TheVariants as status
 use Rattle.storm_program.specs.Outside.{ShelfUse, Fetched, ShelfFailed, AreBytesOf}
-use Rattle.storm_program.specs.Texts.{topology_line, input_line, not_yet_line, topology_not_read, input_not_read}
+use Rattle.storm_program.specs.Texts.{topology_line, input_line, topology_not_read, input_not_read}
 
 -- ---- what was read
 
@@ -21,12 +21,6 @@ pub record IsAccepted (holds : List ℕ → List ℕ → Type 0) (name : List �
   pub were_read : AreBytesOf holds name bytes
   pub is_plan : IsFilePlan bytes plan
 
--- the topology file was read and accepted, and its plan is none that is put off
-pub record IsRunnable (puts_off : Topology → Bool) (holds : List ℕ → List ℕ → Type 0)
-    (name : List ℕ) (plan : Topology) : Type 0 where
-  pub accepted : IsAccepted holds name plan
-  pub runs : puts_off plan ≡ false
-
 -- the input of a plan was read and accepted, and has these records
 pub record AreRecords (holds : List ℕ → List ℕ → Type 0) (plan : Topology) (name : List ℕ)
     (records : List (List Value)) : Type 0 where
@@ -36,9 +30,9 @@ pub record AreRecords (holds : List ℕ → List ℕ → Type 0) (plan : Topolog
   pub are : records ≡ records_of bytes
 
 -- both files were read and accepted: this is their plan, and these are their records
-pub record AreAccepted (puts_off : Topology → Bool) (holds : List ℕ → List ℕ → Type 0)
-    (topology input : List ℕ) (plan : Topology) (records : List (List Value)) : Type 0 where
-  pub topology_file : IsRunnable puts_off holds topology plan
+pub record AreAccepted (holds : List ℕ → List ℕ → Type 0) (topology input : List ℕ)
+    (plan : Topology) (records : List (List Value)) : Type 0 where
+  pub topology_file : IsAccepted holds topology plan
   pub input_file : AreRecords holds plan input records
 
 -- ---- what was refused
@@ -50,14 +44,6 @@ pub record IsTopologyLine (holds : List ℕ → List ℕ → Type 0) (name text 
   pub fault : TopoFault
   pub is_refused : first_fault bytes ≡ Some fault
   pub printed : text ≡ topology_line fault
-
--- the line that puts off an accepted topology
-pub record IsNotYetLine (puts_off : Topology → Bool) (holds : List ℕ → List ℕ → Type 0)
-    (name text : List ℕ) : Type 0 where
-  pub plan : Topology
-  pub accepted : IsAccepted holds name plan
-  pub late : puts_off plan ≡ true
-  pub printed : text ≡ not_yet_line
 
 -- the line that refuses the input of a plan
 pub record IsInputLine (holds : List ℕ → List ℕ → Type 0) (plan : Topology)
@@ -75,30 +61,24 @@ pub record IsNotRead (shelf : ShelfUse) (name : List ℕ) : Type 0 where
   pub never_ready : shelf.ready → (bytes : List ℕ) → shelf.holds name bytes → ⊥
 
 -- the line of a file that was not read: the topology, or the input of an accepted topology
-pub data IsReadFaultLine (puts_off : Topology → Bool) (shelf : ShelfUse)
-    (topology input text : List ℕ) : Type 0 where
+pub data IsReadFaultLine (shelf : ShelfUse) (topology input text : List ℕ) : Type 0 where
   of_topology : Fetched 1 shelf → IsNotRead shelf topology → text ≡ topology_not_read
-      → IsReadFaultLine puts_off shelf topology input text
+      → IsReadFaultLine shelf topology input text
   of_input : Fetched 2 shelf → IsNotRead shelf input → (plan : Topology)
-      → IsRunnable puts_off shelf.holds topology plan → text ≡ input_not_read
-      → IsReadFaultLine puts_off shelf topology input text
+      → IsAccepted shelf.holds topology plan → text ≡ input_not_read
+      → IsReadFaultLine shelf topology input text
 
 -- What a topology and an input come to where they are not both accepted.
-abbrev pub FilesCome : (Topology → Bool) → ShelfUse → List ℕ → List ℕ → Status → List ℕ → Type 0
-FilesCome puts_off shelf topology input status.Done text = ⊥
-FilesCome puts_off shelf topology input status.Memory text = Fetched 1 shelf ⊎ Fetched 2 shelf
-FilesCome puts_off shelf topology input status.Words text = ⊥
-FilesCome puts_off shelf topology input status.Topology text =
-    Fetched 1 shelf
-    × (IsTopologyLine shelf.holds topology text
-    ⊎ IsNotYetLine puts_off shelf.holds topology text)
-FilesCome puts_off shelf topology input status.Input text =
+abbrev pub FilesCome : ShelfUse → List ℕ → List ℕ → Status → List ℕ → Type 0
+FilesCome shelf topology input status.Memory text = Fetched 1 shelf ⊎ Fetched 2 shelf
+FilesCome shelf topology input status.Topology text =
+    Fetched 1 shelf × IsTopologyLine shelf.holds topology text
+FilesCome shelf topology input status.Input text =
     Fetched 2 shelf
-    × ((plan : Topology) × IsRunnable puts_off shelf.holds topology plan
+    × ((plan : Topology) × IsAccepted shelf.holds topology plan
     × IsInputLine shelf.holds plan input text)
-FilesCome puts_off shelf topology input status.ReadFault text =
-    IsReadFaultLine puts_off shelf topology input text
-FilesCome puts_off shelf topology input status.WriteFault text = ⊥
+FilesCome shelf topology input status.ReadFault text = IsReadFaultLine shelf topology input text
+FilesCome shelf topology input _ text = ⊥
 
 -- ---- what the told files call for
 
@@ -133,18 +113,10 @@ pub record TellsInputFault (holds : List ℕ → List ℕ → Type 0) (plan : To
 
 -- Which status the told topology and input call for. That of `Done` stands for a command
 -- that does its own work.
-abbrev pub FilesCall : (Topology → Bool) → (List ℕ → List ℕ → Type 0) → List ℕ → List ℕ → Status
-    → Type 0
-FilesCall puts_off holds topology input status.Done =
-    (plan : Topology) × TellsPlan holds topology plan × (puts_off plan ≡ false)
-    × TellsInput holds plan input
-FilesCall puts_off holds topology input status.Memory = ⊥
-FilesCall puts_off holds topology input status.Words = ⊥
-FilesCall puts_off holds topology input status.Topology =
-    TellsTopologyFault holds topology
-    ⊎ ((plan : Topology) × TellsPlan holds topology plan × (puts_off plan ≡ true))
-FilesCall puts_off holds topology input status.Input =
-    (plan : Topology) × TellsPlan holds topology plan × (puts_off plan ≡ false)
-    × TellsInputFault holds plan input
-FilesCall puts_off holds topology input status.ReadFault = ⊥
-FilesCall puts_off holds topology input status.WriteFault = ⊥
+abbrev pub FilesCall : (List ℕ → List ℕ → Type 0) → List ℕ → List ℕ → Status → Type 0
+FilesCall holds topology input status.Done =
+    (plan : Topology) × TellsPlan holds topology plan × TellsInput holds plan input
+FilesCall holds topology input status.Topology = TellsTopologyFault holds topology
+FilesCall holds topology input status.Input =
+    (plan : Topology) × TellsPlan holds topology plan × TellsInputFault holds plan input
+FilesCall holds topology input _ = ⊥

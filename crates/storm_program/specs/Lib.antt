@@ -1,10 +1,12 @@
 pub mod Check
 pub mod Ends
 pub mod Files
-pub mod NotYet
 pub mod Outside
 pub mod Plain
+pub mod Replay
+pub mod Reports
 pub mod Run
+pub mod Schedules
 pub mod Statuses
 pub mod Storm
 pub mod Texts

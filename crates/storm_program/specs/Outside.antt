@@ -1,6 +1,7 @@
 -- The outside before and after a call, one record for each object.
 use Rattle.std.specs.Prelude.{◌≡◌, ◌≤◌, ℕ, ◌+◌, ◌%◌, ◌^◌, List, ◌++◌, length, take, Option, Some, IfSome}
 use Rattle.storm_outside.specs.Counts.{Rose}
+use Rattle.stored_runs.specs.Makers.{MakerUse}
 
 -- ---- files
 
@@ -73,3 +74,29 @@ abbrev pub TookFront : SinkUse → List ℕ → Type 0
 TookFront sink text =
     IfSome sink.taken_before
     (λ taken. (k : ℕ) × (k ≤ length text) × (sink.taken_after ≡ Some (taken ++ take k text)))
+
+-- ---- stores, ids and ticks
+
+-- What a run works over: the maker of its stores, before and after a call, and the words that the
+-- sources of ids told before it.
+pub record RunUse : Type 1 where
+  pub stores : MakerUse
+  pub words : (ℕ → ℕ → ℕ) → Type 0
+
+abbrev pub run_use : MakerUse → ((ℕ → ℕ → ℕ) → Type 0) → RunUse
+run_use stores words = record { stores = stores; words = words }
+
+-- A source of ticks before and after a call: how many were handed out, up to 2^64 - 1, and the
+-- answers to come that it told before.
+pub record TicksUse : Type 1 where
+  pub before : ℕ
+  pub after : ℕ
+  pub to_come : List ℕ → Type 0
+
+-- the record of a source of ticks, from what its trait tells of it
+abbrev pub ticks_use : {T : Type 0} → (T → ℕ) → (T → List ℕ → Type 0) → T → T → TicksUse
+ticks_use handed_out tells old new = record {
+  before = handed_out old;
+  after = handed_out new;
+  to_come = tells old;
+}

@@ -14,8 +14,8 @@ use Rattle.storm_program.specs.declared.status.Status.{Status}
 use Rattle.storm_program.specs.declared.status.Status.TheVariants as status
 use Rattle.storm_program.specs.Ends.{Promise}
 use Rattle.storm_program.specs.Files.{AreAccepted, FilesCome, FilesCall}
-use Rattle.storm_program.specs.NotYet.{puts_off_none}
 use Rattle.storm_program.specs.Outside.{ShelfUse, Fetched}
+use Rattle.stored_runs.specs.Makers.{IsUntouched, MakerUse}
 
 -- The report of a plan and the records of an input, with the operation that was handed in. The
 -- tables are those of one machine that takes all records in order, and there is no attempt line.
@@ -34,31 +34,25 @@ pub record IsPlainReportOfFiles (custom : Custom) (holds : List ℕ → List ℕ
     (topology input : List ℕ) (text : List ℕ) : Type 0 where
   pub plan : Topology
   pub records : List (List Value)
-  pub accepted : AreAccepted puts_off_none holds topology input plan records
+  pub accepted : AreAccepted holds topology input plan records
   pub report : IsPlainReport custom plan records text
 
--- What it comes to, by its status. It comes to no other status, and puts no plan off.
+-- What it comes to, by its status. It comes to no other status.
 abbrev pub PlainComes : Custom → ShelfUse → List ℕ → List ℕ → Status → List ℕ → Type 0
 PlainComes custom shelf topology input status.Done text =
     Fetched 2 shelf × IsPlainReportOfFiles custom shelf.holds topology input text
-PlainComes custom shelf topology input status.Memory text =
-    FilesCome puts_off_none shelf topology input status.Memory text
-PlainComes custom shelf topology input status.Words text = ⊥
-PlainComes custom shelf topology input status.Topology text =
-    FilesCome puts_off_none shelf topology input status.Topology text
-PlainComes custom shelf topology input status.Input text =
-    FilesCome puts_off_none shelf topology input status.Input text
-PlainComes custom shelf topology input status.ReadFault text =
-    FilesCome puts_off_none shelf topology input status.ReadFault text
-PlainComes custom shelf topology input status.WriteFault text = ⊥
+PlainComes custom shelf topology input ending text = FilesCome shelf topology input ending text
 
 -- Which status the told files call for.
 abbrev pub PlainCalls : (List ℕ → List ℕ → Type 0) → List ℕ → List ℕ → Status → Type 0
-PlainCalls = FilesCall puts_off_none
+PlainCalls = FilesCall
 
--- `plain` as a command among others: it leaves the fates empty
-abbrev pub plain_promise : Custom → ShelfUse → List Attempt → List ℕ → List ℕ → Promise
-plain_promise custom shelf fates topology input = record {
-  comes = λ ending text. PlainComes custom shelf topology input ending text × (fates ≡ []);
+-- `plain` as a command among others: it leaves fates and stores alone, and what it is called for is
+-- all that it promises
+abbrev pub plain_promise : Custom → ShelfUse → MakerUse → List Attempt → List ℕ → List ℕ → Promise
+plain_promise custom shelf stores fates topology input = record {
+  comes = λ ending text.
+      PlainComes custom shelf topology input ending text × (fates ≡ []) × IsUntouched stores;
   calls = PlainCalls shelf.holds topology input;
+  must_finish = ⊥;
 }

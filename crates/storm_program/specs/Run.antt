@@ -1,89 +1,112 @@
 -- The command `run`.
-use Rattle.std.specs.Prelude.{◌≡◌, ◌⊎◌, ℕ, List, [], length}
-use Rattle.storm_values.specs.declared.value.Value.{Value}
-use Rattle.bolt_ops.specs.RowOp.{Custom}
-use Rattle.topology_plan.specs.Topology.{Topology}
-use Rattle.tree_model.specs.declared.write.Table.{Table}
-use Rattle.tree_model.specs.Trees.{writes}
-use Rattle.tree_model.specs.Tables.{AreTables}
-use Rattle.trident_batches.specs.Batches.{batch_count}
+use Rattle.std.specs.Prelude.{◌≡◌, ◌⊎◌, ◌<◌, ℕ, List, [], length, sum}
 use Rattle.attempt_fates.specs.declared.fates.Attempt.{Attempt}
-use Rattle.attempt_fates.specs.Fates.{committed_records, IsOnce, IsWhole}
-use Rattle.run_report.specs.Cells.{cells_of}
-use Rattle.run_report.specs.Fated.{AreLinesOf}
-use Rattle.run_report.specs.Report.{AttemptText, ok, report_text}
+use Rattle.attempt_fates.specs.Fates.{IsOnce}
+use Rattle.bolt_ops.specs.RowOp.{Custom}
+use Rattle.commit_turns.specs.Turns.{last_tick}
+use Rattle.event_worlds.specs.Rounds.{rounds_needed}
+use Rattle.schedule_core.specs.Runs.{first_answers, ticks_between}
 use Rattle.storm_program.specs.declared.status.Status.{Status}
 use Rattle.storm_program.specs.declared.status.Status.TheVariants as status
 use Rattle.storm_program.specs.Ends.{Promise}
-use Rattle.storm_program.specs.Files.{AreAccepted, FilesCome, FilesCall}
-use Rattle.storm_program.specs.NotYet.{is_not_yet}
-use Rattle.storm_program.specs.Outside.{ShelfUse, Fetched}
+use Rattle.storm_program.specs.Files.{AreAccepted, FilesCall, FilesCome, TellsInput, TellsPlan}
+use Rattle.storm_program.specs.Outside.{Fetched, RunUse, ShelfFailed, ShelfUse, SinkFailed, SinkUse, TicksUse}
+use Rattle.storm_program.specs.Reports.{EndsSo, IsReport, cut_by}
+use Rattle.storm_values.specs.declared.value.Value.{Value}
+use Rattle.storm_values.specs.Lines.{records_of}
+use Rattle.stored_runs.specs.declared.ending.RunEnd.{RunEnd}
+use Rattle.stored_runs.specs.declared.ending.RunEnd.TheVariants as run_end
+use Rattle.stored_runs.specs.Makers.{CameBack, IsUntouched}
+use Rattle.stored_runs.specs.StoredRuns.{NothingIsInTheWay}
+use Rattle.topology_plan.specs.Topology.{Topology}
 
--- how many ticks a run hands out: none so far
-abbrev pub ticks_handed_out : ℕ
-ticks_handed_out = 0
+-- how many ticks were handed out in a run
+abbrev pub ticks_of_run : TicksUse → ℕ
+ticks_of_run ticks = ticks_between ticks.before ticks.after
 
--- The report of a plan and the records of an input, with the operation that was handed in. The
--- tables are those of one machine that takes the records of the committed attempts in the order of
--- the commits, and these are all records, each in exactly one committed attempt.
-pub record IsReport (custom : Custom) (plan : Topology) (records : List (List Value))
-    (fates : List Attempt) (text : List ℕ) : Type 0 where
-  pub tables : List Table
-  pub whole : IsWhole (length records) plan.batch ticks_handed_out fates
-  pub of_commits : AreTables plan (writes plan custom (committed_records records fates)) tables
-  pub lines : List AttemptText
-  pub are_lines : AreLinesOf plan fates lines
-  pub printed : text ≡ report_text (record {
-    attempts = lines;
-    cells = cells_of tables;
-    tail = ok (length records) (batch_count (length records) plan.batch);
-  })
-
--- the report of the files of these names
-pub record IsReportOfFiles (custom : Custom) (holds : List ℕ → List ℕ → Type 0)
-    (topology input : List ℕ) (fates : List Attempt) (text : List ℕ) : Type 0 where
+-- the files of these names were accepted, and what they say comes to this
+pub record IsOfFiles (holds : List ℕ → List ℕ → Type 0) (topology input : List ℕ)
+    (Comes : Topology → List (List Value) → Type 0) : Type 0 where
   pub plan : Topology
   pub records : List (List Value)
-  pub accepted : AreAccepted is_not_yet holds topology input plan records
-  pub report : IsReport custom plan records fates text
+  pub accepted : AreAccepted holds topology input plan records
+  pub comes : Comes plan records
 
--- the fates of a run that was broken off: of the records of the files no batch was committed twice
-pub record AreOnceOfFiles (holds : List ℕ → List ℕ → Type 0) (topology input : List ℕ)
+-- a run of accepted files that ended so
+abbrev pub RunEnds : Custom → ShelfUse → RunUse → TicksUse → List ℕ → List ℕ → List Attempt
+    → RunEnd → List ℕ → Type 0
+RunEnds custom shelf base ticks topology input fates ending text =
+    Fetched 2 shelf
+    × IsOfFiles shelf.holds topology input
+    (λ plan records. EndsSo custom plan records base (ticks_of_run ticks) fates ending text)
+
+-- A run of a plan and the records of its input that ended for want of memory: no batch was
+-- committed twice, and the stores came back.
+pub record IsShort (plan : Topology) (records : List (List Value)) (base : RunUse)
     (fates : List Attempt) : Type 0 where
-  pub plan : Topology
-  pub records : List (List Value)
-  pub accepted : AreAccepted is_not_yet holds topology input plan records
-  pub once : IsOnce (length records) plan.batch ticks_handed_out fates
+  pub once : IsOnce (length records) plan.batch last_tick fates
+  pub back : CameBack plan base.stores
 
--- A run that ended for want of memory: before its first batch, or among the
--- batches of accepted files.
-abbrev pub IsShortRun : ShelfUse → List ℕ → List ℕ → List Attempt → Type 0
-IsShortRun shelf topology input fates =
-    (FilesCome is_not_yet shelf topology input status.Memory [] × (fates ≡ []))
-    ⊎ (Fetched 2 shelf × AreOnceOfFiles shelf.holds topology input fates)
+-- no attempt was begun, and the stores were left alone
+abbrev pub IsNotBegun : RunUse → List Attempt → Type 0
+IsNotBegun base fates = (fates ≡ []) × IsUntouched base.stores
 
 -- What a run comes to, by its status. No run comes to the other statuses.
-abbrev pub RunComes : Custom → ShelfUse → List ℕ → List ℕ → List Attempt → Status → List ℕ → Type 0
-RunComes custom shelf topology input fates status.Done text =
-    Fetched 2 shelf × IsReportOfFiles custom shelf.holds topology input fates text
-RunComes custom shelf topology input fates status.Memory text =
-    IsShortRun shelf topology input fates
-RunComes custom shelf topology input fates status.Words text = ⊥
-RunComes custom shelf topology input fates status.Topology text =
-    FilesCome is_not_yet shelf topology input status.Topology text × (fates ≡ [])
-RunComes custom shelf topology input fates status.Input text =
-    FilesCome is_not_yet shelf topology input status.Input text × (fates ≡ [])
-RunComes custom shelf topology input fates status.ReadFault text =
-    FilesCome is_not_yet shelf topology input status.ReadFault text × (fates ≡ [])
-RunComes custom shelf topology input fates status.WriteFault text = ⊥
+abbrev pub RunComes : Custom → ShelfUse → RunUse → TicksUse → List ℕ → List ℕ → List Attempt
+    → Status → List ℕ → Type 0
+RunComes custom shelf base ticks topology input fates status.Done text =
+    Fetched 2 shelf
+    × IsOfFiles shelf.holds topology input
+    (λ plan records. IsReport custom plan records base (ticks_of_run ticks) fates text)
+RunComes custom shelf base ticks topology input fates status.Memory text =
+    (FilesCome shelf topology input status.Memory [] × IsNotBegun base fates)
+    ⊎ (Fetched 2 shelf
+    × IsOfFiles shelf.holds topology input (λ plan records. IsShort plan records base fates))
+RunComes custom shelf base ticks topology input fates status.Topology text =
+    FilesCome shelf topology input status.Topology text × IsNotBegun base fates
+RunComes custom shelf base ticks topology input fates status.Input text =
+    FilesCome shelf topology input status.Input text × IsNotBegun base fates
+RunComes custom shelf base ticks topology input fates status.ReadFault text =
+    FilesCome shelf topology input status.ReadFault text × IsNotBegun base fates
+RunComes custom shelf base ticks topology input fates status.Exhausted text =
+    (txid : ℕ) × RunEnds custom shelf base ticks topology input fates (run_end.Exhausted txid) text
+RunComes custom shelf base ticks topology input fates status.StoreFault text =
+    RunEnds custom shelf base ticks topology input fates run_end.StoreFault text
+RunComes custom shelf base ticks topology input fates status.BadCell text =
+    RunEnds custom shelf base ticks topology input fates run_end.BadCell text
+RunComes custom shelf base ticks topology input fates _ text = ⊥
 
 -- Which status the told files call for.
 abbrev pub RunCalls : (List ℕ → List ℕ → Type 0) → List ℕ → List ℕ → Status → Type 0
-RunCalls = FilesCall is_not_yet
+RunCalls = FilesCall
+
+-- A run has to commit every batch: the told files are accepted, the files did not fail, nothing is
+-- in the way, and few ticks are to come in so many rounds as a run needs.
+pub record MustCommitAll (custom : Custom) (shelf : ShelfUse) (base : RunUse) (ticks : TicksUse)
+    (topology input : List ℕ) (fates : List Attempt) : Type 0 where
+  pub plan : Topology
+  pub tells_plan : TellsPlan shelf.holds topology plan
+  pub tells_input : TellsInput shelf.holds plan input
+  -- the shelf did not fail, or was ready
+  pub shelf_fine : (ShelfFailed shelf → ⊥) ⊎ shelf.ready
+  pub free : NothingIsInTheWay plan base.stores fates
+  pub to_come : List ℕ
+  pub told : ticks.to_come to_come
+  pub few_ticks : sum (first_answers
+      (rounds_needed plan custom (cut_by plan (records_of tells_input.bytes))) to_come)
+      < plan.buckets
+
+-- so it has to be done, where the sink did not fail either
+abbrev pub MustFinish : Custom → ShelfUse → SinkUse → RunUse → TicksUse → List ℕ → List ℕ
+    → List Attempt → Type 0
+MustFinish custom shelf sink base ticks topology input fates =
+    MustCommitAll custom shelf base ticks topology input fates × (SinkFailed sink → ⊥)
 
 -- a run as a command among others
-abbrev pub run_promise : Custom → ShelfUse → List Attempt → List ℕ → List ℕ → Promise
-run_promise custom shelf fates topology input = record {
-  comes = RunComes custom shelf topology input fates;
+abbrev pub run_promise : Custom → ShelfUse → SinkUse → RunUse → TicksUse → List Attempt → List ℕ
+    → List ℕ → Promise
+run_promise custom shelf sink base ticks fates topology input = record {
+  comes = RunComes custom shelf base ticks topology input fates;
   calls = RunCalls shelf.holds topology input;
+  must_finish = MustFinish custom shelf sink base ticks topology input fates;
 }

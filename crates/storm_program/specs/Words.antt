@@ -55,7 +55,7 @@ abbrev pub if_built : Option Command → Option Command
 if_built None = None
 if_built (Some (check t)) = Some (check t)
 if_built (Some (plain t i)) = Some (plain t i)
-if_built (Some (replay t i s)) = None
+if_built (Some (replay t i s)) = Some (replay t i s)
 if_built (Some (run t i w)) = Some (run t i w)
 if_built (Some (load n seed)) = None
 

@@ -2,12 +2,10 @@ ghost use Rattle.std.specs.Prelude.{◌≡◌, ◌≤◌, ◌<◌, ◌+◌, ◌-
 ghost use Rattle.storm_values.specs.Rows.{IsRow};
 ghost use Rattle.storm_outside.specs.Counts.{Rose};
 ghost use Rattle.storm_program.specs.Files.{IsAccepted, AreRecords, AreAccepted, FilesCome};
-ghost use Rattle.storm_program.specs.steps.Reading.{TopologyComes};
 ghost use Rattle.storm_program.specs.Outside.{shelf_use, Fetched};
-ghost use Rattle.storm_program.specs.steps.Reading.{WasRead, NotReadComes, InputComes, puts_off};
+ghost use Rattle.storm_program.specs.steps.Reading.{TopologyComes, WasRead, NotReadComes, InputComes};
 ghost use Rattle.storm_program.specs.steps.Stops.{Stops};
 
-use crate::not_yet::Plans;
 use crate::status::Status;
 use crate::stop::{Stop, refused_input, refused_topology, told};
 use std::alloc::Global;
@@ -29,30 +27,27 @@ pub struct Accepted {
     pub rows: Rows,
 }
 
-/// Reads a topology and an input, and refuses them in this order. A command takes some plans and
-/// puts the others off.
+/// Reads a topology and an input, and refuses them in this order.
 pub fn read_files<H: Shelf>(
     alloc: Global,
     topology: &str,
     input: &str,
-    takes: Plans,
     shelf: &mut H,
 ) -> Result<Accepted, Stop>
-    ensures accepted { IfOk result (λ files. AreAccepted (puts_off takes)
-        (H.holds shelf.old) topology.now input.now files.plan files.rows) }
+    ensures accepted { IfOk result (λ files. AreAccepted (H.holds shelf.old)
+        topology.now input.now files.plan files.rows) }
     ensures rows { IfOk result (λ files.
         All (IsRow (length files.plan.spout_fields)) files.rows) }
     ensures fetches { OnOk result
         (Fetched 2 (shelf_use H.holds H.ready H.fetches H.faults shelf.old shelf.new)) }
-    ensures stop { IfErr result (Stops (FilesCome (puts_off takes)
+    ensures stop { IfErr result (Stops (FilesCome
         (shelf_use H.holds H.ready H.fetches H.faults shelf.old shelf.new)
         topology.now input.now)) }
+    ensures files { (n bytes : List ℕ) → H.holds shelf.old n bytes → H.holds shelf.new n bytes }
+    ensures stays_ready { H.ready shelf.old → H.ready shelf.new }
     ensures never_falls { H.faults shelf.old ≤ H.faults shelf.new }
 {
     let plan = read_plan(alloc, topology, shelf)?;
-    if takes.puts_off(&plan) {
-        return Err(told(alloc, Status::Topology, "topology: not yet\n"));
-    }
     let rows = read_records(alloc, input, &plan, shelf)?;
     Ok(Accepted { plan, rows })
 }
@@ -86,6 +81,8 @@ fn read_records<H: Shelf>(
     ensures stop { IfErr result (Stops (InputComes
         (shelf_use H.holds H.ready H.fetches H.faults shelf.old shelf.new) plan.now name.now)) }
     ensures fetches { H.fetches shelf.new ≡ (H.fetches shelf.old + 1) % 2 ^ 64 }
+    ensures files { (n bytes : List ℕ) → H.holds shelf.old n bytes → H.holds shelf.new n bytes }
+    ensures stays_ready { H.ready shelf.old → H.ready shelf.new }
     ensures never_falls { H.faults shelf.old ≤ H.faults shelf.new }
 {
     let bytes = read_file(alloc, name, MOST_INPUT, "read fault input\n", shelf)?;
@@ -97,7 +94,7 @@ fn read_records<H: Shelf>(
 
 /// The file of a name, or its first `most + 1` bytes where it is longer. A file that
 /// was not read has the line.
-fn read_file<H: Shelf>(
+pub fn read_file<H: Shelf>(
     alloc: Global,
     name: &str,
     most: u64,

@@ -2,13 +2,14 @@
 #![tactic(auto)]
 
 mod check;
-mod engine;
 mod files;
-mod not_yet;
 mod output;
 mod plain;
 mod program;
+mod replay;
+mod report;
 mod run;
+mod schedule;
 mod status;
 mod stop;
 mod words;
@@ -16,5 +17,5 @@ mod words;
 pub use attempt_fates::{
     Attempt, End, Fates, committed_records_are_all, each_record_is_committed_once,
 };
-pub use program::{storm, storm_check, storm_plain, storm_run};
+pub use program::{storm, storm_check, storm_plain, storm_replay, storm_run};
 pub use status::Status;

@@ -6,7 +6,6 @@ ghost use Rattle.storm_program.specs.Plain.{IsPlainReport, PlainComes};
 ghost use Rattle.storm_program.specs.steps.Stops.{Stops};
 
 use crate::files::{Accepted, read_files};
-use crate::not_yet::Plans;
 use crate::stop::Stop;
 use bolt_ops::RowOp;
 use run_report::{Tail, report_text};
@@ -32,7 +31,7 @@ pub fn plain_files<H: Shelf, O: RowOp>(
         topology.now input.now)) }
     ensures never_falls { H.faults shelf.old ≤ H.faults shelf.new }
 {
-    let files = read_files(alloc, topology, input, Plans::All, shelf)?;
+    let files = read_files(alloc, topology, input, shelf)?;
     let report = plain_report(alloc, files, custom)?;
     Ok(report)
 }

@@ -1,16 +1,19 @@
 ghost use Rattle.std.specs.Prelude.{◌≡◌, ◌≤◌, [], map, string_bytes};
 ghost use Rattle.storm_values.specs.Limits.{most_workers};
 ghost use Rattle.storm_program.specs.Check.{CheckComes, CheckCalls};
-ghost use Rattle.storm_program.specs.Ends.{Ends, IsAnswered, Counts};
-ghost use Rattle.storm_program.specs.Outside.{shelf_use, sink_use};
+ghost use Rattle.storm_program.specs.Ends.{Ends, IsAnswered, Counts, FilesCounts, IsDoneOrShort};
+ghost use Rattle.storm_program.specs.Outside.{run_use, shelf_use, sink_use, ticks_use};
 ghost use Rattle.storm_program.specs.Plain.{PlainComes, PlainCalls};
-ghost use Rattle.storm_program.specs.Run.{RunComes, RunCalls};
+ghost use Rattle.storm_program.specs.Replay.{ReplayComes, ReplayCalls, ReplayMustFinish};
+ghost use Rattle.storm_program.specs.Run.{RunComes, RunCalls, MustFinish};
 ghost use Rattle.storm_program.specs.Storm.{promise};
 ghost use Rattle.storm_program.specs.Words.{built};
+ghost use Rattle.stored_runs.specs.Makers.{maker_use};
 
 use crate::check::check_file;
 use crate::output::{write_answer, write_text};
 use crate::plain::plain_files;
+use crate::replay::replay_files;
 use crate::run::run_files;
 use crate::status::Status;
 use crate::words::{Command, USAGE, read_words};
@@ -19,18 +22,33 @@ use bolt_ops::RowOp;
 use std::alloc::Global;
 use std::sync::Wait;
 use std::thread::Threads;
+use storm_ids::IdMaker;
 use storm_outside::{Shelf, Sink};
+use storm_stores::StoreMaker;
+use storm_ticks::Ticks;
 
 /// Carries out the command that the words after the program's name give.
 ///
-/// The words are those of `check`, `plain` and `run` so far; all others get the usage line. Bolts
-/// with the operation `custom` do what is handed in.
-pub fn storm<R: Threads + Wait + Sync, H: Shelf, K: Sink, O: RowOp>(
+/// The words are those of `check`, `plain`, `replay` and `run` so far; all others get the usage
+/// line. Bolts with the operation `custom` do what is handed in. Stores are made by `stores` and
+/// given back, ids come of sources that `ids` makes, and ticks of `ticks`.
+pub fn storm<
+    R: Threads + Wait + Sync,
+    H: Shelf,
+    K: Sink,
+    T: Ticks,
+    M: StoreMaker,
+    N: IdMaker,
+    O: RowOp,
+>(
     rt: &R,
     alloc: Global,
     words: &[String],
     shelf: &mut H,
     out: &mut K,
+    ticks: &mut T,
+    stores: &mut M,
+    ids: &mut N,
     custom: &O,
     fates: &mut Fates,
 ) -> Status
@@ -39,21 +57,40 @@ pub fn storm<R: Threads + Wait + Sync, H: Shelf, K: Sink, O: RowOp>(
     // What was written, fetched and run is what the command of the words comes to with this status.
     ensures ends { Ends
         (promise (O.meaning custom.now)
-        (shelf_use H.holds H.ready H.fetches H.faults shelf.old shelf.new) fates.new
+        (shelf_use H.holds H.ready H.fetches H.faults shelf.old shelf.new)
+        (sink_use K.taken K.faults out.old out.new)
+        (run_use
+        (maker_use M.holds M.has_made M.fault_count stores.old stores.new) (N.tells ids.old))
+        (ticks_use T.handed_out T.tells ticks.old ticks.new) fates.new
         (built (map string_bytes words.now))).comes
         (sink_use K.taken K.faults out.old out.new) result }
 
     // What the words and the told files call for is answered, or something takes its place.
     ensures answered { IsAnswered
         (promise (O.meaning custom.now)
-        (shelf_use H.holds H.ready H.fetches H.faults shelf.old shelf.new) fates.new
+        (shelf_use H.holds H.ready H.fetches H.faults shelf.old shelf.new)
+        (sink_use K.taken K.faults out.old out.new)
+        (run_use
+        (maker_use M.holds M.has_made M.fault_count stores.old stores.new) (N.tells ids.old))
+        (ticks_use T.handed_out T.tells ticks.old ticks.new) fates.new
         (built (map string_bytes words.now))).calls
         (shelf_use H.holds H.ready H.fetches H.faults shelf.old shelf.new)
         (sink_use K.taken K.faults out.old out.new) result }
 
+    // Where nothing is in its way a run or a replay commits every batch.
+    ensures finishes { (promise (O.meaning custom.now)
+        (shelf_use H.holds H.ready H.fetches H.faults shelf.old shelf.new)
+        (sink_use K.taken K.faults out.old out.new)
+        (run_use
+        (maker_use M.holds M.has_made M.fault_count stores.old stores.new) (N.tells ids.old))
+        (ticks_use T.handed_out T.tells ticks.old ticks.new) fates.new
+        (built (map string_bytes words.now))).must_finish
+        → IsDoneOrShort result }
+
     ensures counts { Counts
         (shelf_use H.holds H.ready H.fetches H.faults shelf.old shelf.new)
-        (sink_use K.taken K.faults out.old out.new) }
+        (sink_use K.taken K.faults out.old out.new)
+        (maker_use M.holds M.has_made M.fault_count stores.old stores.new) }
 {
     match read_words(words) {
         Some(Command::Check { topology }) => storm_check(alloc, topology, shelf, out),
@@ -61,13 +98,22 @@ pub fn storm<R: Threads + Wait + Sync, H: Shelf, K: Sink, O: RowOp>(
             storm_plain(alloc, topology, input, shelf, out, custom)
         }
         Some(
+            Command::Replay {
+                topology,
+                input,
+                schedule,
+            },
+        ) => storm_replay(
+            alloc, topology, input, schedule, shelf, out, stores, ids, custom, fates,
+        ),
+        Some(
             Command::Run {
                 topology,
                 input,
                 workers,
             },
         ) => storm_run(
-            rt, alloc, topology, input, workers, shelf, out, custom, fates,
+            rt, alloc, topology, input, workers, shelf, out, ticks, stores, ids, custom, fates,
         ),
         None => write_text(Status::Words, USAGE.as_bytes(), out),
     }
@@ -88,7 +134,7 @@ pub fn storm_check<H: Shelf, K: Sink>(
     ensures answered { IsAnswered (CheckCalls (H.holds shelf.old) topology.now)
         (shelf_use H.holds H.ready H.fetches H.faults shelf.old shelf.new)
         (sink_use K.taken K.faults out.old out.new) result }
-    ensures counts { Counts
+    ensures counts { FilesCounts
         (shelf_use H.holds H.ready H.fetches H.faults shelf.old shelf.new)
         (sink_use K.taken K.faults out.old out.new) }
 {
@@ -121,7 +167,7 @@ pub fn storm_plain<H: Shelf, K: Sink, O: RowOp>(
     ensures answered { IsAnswered (PlainCalls (H.holds shelf.old) topology.now input.now)
         (shelf_use H.holds H.ready H.fetches H.faults shelf.old shelf.new)
         (sink_use K.taken K.faults out.old out.new) result }
-    ensures counts { Counts
+    ensures counts { FilesCounts
         (shelf_use H.holds H.ready H.fetches H.faults shelf.old shelf.new)
         (sink_use K.taken K.faults out.old out.new) }
 {
@@ -129,13 +175,76 @@ pub fn storm_plain<H: Shelf, K: Sink, O: RowOp>(
     write_answer(came, out)
 }
 
+/// Carries out the schedule of one file over the topology and the records of two others, and writes
+/// the report.
+///
+/// It runs on one thread, the same way every time over the same sources of ids. It reads the three
+/// files before it begins, and builds the whole text before it writes. An event costs the work that
+/// it does, a round as many events as there are tasks and ackers.
+pub fn storm_replay<H: Shelf, K: Sink, M: StoreMaker, N: IdMaker, O: RowOp>(
+    alloc: Global,
+    topology: &str,
+    input: &str,
+    schedule: &str,
+    shelf: &mut H,
+    out: &mut K,
+    stores: &mut M,
+    ids: &mut N,
+    custom: &O,
+    fates: &mut Fates,
+) -> Status
+    requires { fates.old ≡ [] }
+
+    // With status 0 the output took exactly the report, as `run` writes it. The fates are those of
+    // the world after the schedule's steps.
+    ensures ends { Ends
+        (ReplayComes (O.meaning custom.now)
+        (shelf_use H.holds H.ready H.fetches H.faults shelf.old shelf.new)
+        (run_use
+        (maker_use M.holds M.has_made M.fault_count stores.old stores.new) (N.tells ids.old))
+        topology.now input.now schedule.now fates.new)
+        (sink_use K.taken K.faults out.old out.new) result }
+    ensures answered { IsAnswered
+        (ReplayCalls (H.holds shelf.old) topology.now input.now schedule.now)
+        (shelf_use H.holds H.ready H.fetches H.faults shelf.old shelf.new)
+        (sink_use K.taken K.faults out.old out.new) result }
+
+    // Over a schedule with rounds enough and few ticks every batch is committed, where nothing is in
+    // the way.
+    ensures finishes { ReplayMustFinish (O.meaning custom.now)
+        (shelf_use H.holds H.ready H.fetches H.faults shelf.old shelf.new)
+        (sink_use K.taken K.faults out.old out.new)
+        (run_use
+        (maker_use M.holds M.has_made M.fault_count stores.old stores.new) (N.tells ids.old))
+        topology.now input.now schedule.now fates.new → IsDoneOrShort result }
+    ensures counts { Counts
+        (shelf_use H.holds H.ready H.fetches H.faults shelf.old shelf.new)
+        (sink_use K.taken K.faults out.old out.new)
+        (maker_use M.holds M.has_made M.fault_count stores.old stores.new) }
+{
+    let came = replay_files(
+        alloc, topology, input, schedule, shelf, stores, ids, custom, fates,
+    );
+    write_answer(came, out)
+}
+
 /// Runs the topology of one file over the records of another, and writes the report.
 ///
-/// With one thread so far, whatever the number of workers. It reads both files before it begins,
-/// and builds the whole text before it writes. Memory is proportional to the input and to the
-/// writes of one batch. Time is proportional to the number of tuples, and each write of a state
-/// costs the logarithm of its keys besides.
-pub fn storm_run<R: Threads + Wait + Sync, H: Shelf, K: Sink, O: RowOp>(
+/// It goes by rounds on one thread so far, whatever the number of workers: every tuple is tracked by
+/// an acker, batches are in flight side by side, and each is committed in transaction order to the
+/// stores once its whole tuple tree was acked. Attempts that fail, time out or coincide are tried
+/// again, and so are those whose commit a store refused. It reads both files before it begins, and
+/// builds the whole text before it writes. Time and memory are proportional to the number of tuples;
+/// the messages of all committed tuples are kept in the fates.
+pub fn storm_run<
+    R: Threads + Wait + Sync,
+    H: Shelf,
+    K: Sink,
+    T: Ticks,
+    M: StoreMaker,
+    N: IdMaker,
+    O: RowOp,
+>(
     rt: &R,
     alloc: Global,
     topology: &str,
@@ -143,28 +252,48 @@ pub fn storm_run<R: Threads + Wait + Sync, H: Shelf, K: Sink, O: RowOp>(
     workers: u32,
     shelf: &mut H,
     out: &mut K,
+    ticks: &mut T,
+    stores: &mut M,
+    ids: &mut N,
     custom: &O,
     fates: &mut Fates,
 ) -> Status
     requires workers { (1 ≤ workers) × (workers ≤ most_workers) }
     requires no_fates { fates.old ≡ [] }
 
-    // With status 0 the output took exactly the report. Its tables are those of one machine that
-    // takes all records in order, and every record stands in exactly one committed batch.
+    // Whenever it ends with status 0, for every schedule, tick list, failing bolt and store fault,
+    // the printed tables are those of one machine that takes the committed batches' records in
+    // transaction order; every input record stands in exactly one committed batch; each committed
+    // attempt's whole tuple tree was acked before its commit; and every other attempt's printed end
+    // has its shown cause.
     ensures ends { Ends
         (RunComes (O.meaning custom.now)
         (shelf_use H.holds H.ready H.fetches H.faults shelf.old shelf.new)
+        (run_use
+        (maker_use M.holds M.has_made M.fault_count stores.old stores.new) (N.tells ids.old))
+        (ticks_use T.handed_out T.tells ticks.old ticks.new)
         topology.now input.now fates.new)
         (sink_use K.taken K.faults out.old out.new) result }
     ensures answered { IsAnswered (RunCalls (H.holds shelf.old) topology.now input.now)
         (shelf_use H.holds H.ready H.fetches H.faults shelf.old shelf.new)
         (sink_use K.taken K.faults out.old out.new) result }
+
+    // Where few ticks are to come every batch is committed, where nothing is in the way.
+    ensures finishes { MustFinish (O.meaning custom.now)
+        (shelf_use H.holds H.ready H.fetches H.faults shelf.old shelf.new)
+        (sink_use K.taken K.faults out.old out.new)
+        (run_use
+        (maker_use M.holds M.has_made M.fault_count stores.old stores.new) (N.tells ids.old))
+        (ticks_use T.handed_out T.tells ticks.old ticks.new)
+        topology.now input.now fates.new → IsDoneOrShort result }
     ensures counts { Counts
         (shelf_use H.holds H.ready H.fetches H.faults shelf.old shelf.new)
-        (sink_use K.taken K.faults out.old out.new) }
+        (sink_use K.taken K.faults out.old out.new)
+        (maker_use M.holds M.has_made M.fault_count stores.old stores.new) }
 {
-    let _ = rt;
     let _ = workers;
-    let came = run_files(alloc, topology, input, shelf, custom, fates);
+    let came = run_files(
+        rt, alloc, topology, input, shelf, ticks, stores, ids, custom, fates,
+    );
     write_answer(came, out)
 }

@@ -1,67 +1,105 @@
-ghost use Rattle.std.specs.Prelude.{◌≡◌, ◌≤◌, [], length, All, IfOk, IfErr, OnErr, string_bytes};
-ghost use Rattle.storm_values.specs.Rows.{IsRow};
+ghost use Rattle.std.specs.Prelude.{◌≡◌, ◌≤◌, ◌<◌, ℕ, List, [], length, All, IfOk, IfErr, string_bytes, sum};
+ghost use Rattle.event_worlds.specs.Accounted.{IsInput};
+ghost use Rattle.event_worlds.specs.Rounds.{rounds_needed};
+ghost use Rattle.schedule_core.specs.Runs.{first_answers};
 ghost use Rattle.storm_program.specs.declared.status.Status.{Status};
-ghost use Rattle.attempt_fates.specs.Fates.{IsOnce};
-ghost use Rattle.storm_program.specs.Outside.{shelf_use};
-ghost use Rattle.storm_program.specs.Run.{ticks_handed_out, IsReport, RunComes};
-ghost use Rattle.storm_program.specs.steps.Stops.{Stops};
+ghost use Rattle.storm_program.specs.Outside.{run_use, shelf_use, ticks_use};
+ghost use Rattle.storm_program.specs.Reports.{EndsSo, IsReport, cut_by};
+ghost use Rattle.storm_program.specs.Run.{IsShort, MustCommitAll, RunComes, ticks_of_run};
+ghost use Rattle.storm_program.specs.steps.Ended.{IsRoundsEnd, WorkStops};
+ghost use Rattle.storm_program.specs.steps.Stops.{IsMemory, Stops};
+ghost use Rattle.storm_values.specs.Rows.{IsRow};
+ghost use Rattle.stored_runs.specs.Makers.{maker_use};
+ghost use Rattle.stored_runs.specs.StoredRuns.{NothingIsInTheWay};
 
-use crate::engine::run_batches;
 use crate::files::{Accepted, read_files};
-use crate::not_yet::Plans;
+use crate::report::{batches_of, counted_in, text_of_end};
 use crate::stop::Stop;
 use attempt_fates::Fates;
 use bolt_ops::RowOp;
-use run_report::{Tail, report_text};
 use std::alloc::Global;
+use std::sync::Wait;
+use stored_runs::run_over;
+use storm_ids::IdMaker;
 use storm_outside::Shelf;
-use storm_values::Memory;
-use trident_batches::Batches;
+use storm_stores::StoreMaker;
+use storm_ticks::Ticks;
 
 /// Reads a topology and an input, and runs the one over the other.
-pub fn run_files<H: Shelf, O: RowOp>(
+pub fn run_files<R: Wait, H: Shelf, T: Ticks, M: StoreMaker, N: IdMaker, O: RowOp>(
+    rt: &R,
     alloc: Global,
     topology: &str,
     input: &str,
     shelf: &mut H,
+    ticks: &mut T,
+    stores: &mut M,
+    ids: &mut N,
     custom: &O,
     fates: &mut Fates,
 ) -> Result<String, Stop>
     requires { fates.old ≡ [] }
     ensures done { IfOk result (λ text. RunComes (O.meaning custom.now)
-        (shelf_use H.holds H.ready H.fetches H.faults shelf.old shelf.new) topology.now input.now
-        fates.new Status.Done (string_bytes text)) }
+        (shelf_use H.holds H.ready H.fetches H.faults shelf.old shelf.new)
+        (run_use (maker_use M.holds M.has_made M.fault_count stores.old stores.new)
+        (N.tells ids.old)) (ticks_use T.handed_out T.tells ticks.old ticks.new)
+        topology.now input.now fates.new Status.Done (string_bytes text)) }
     ensures stop { IfErr result (Stops (RunComes (O.meaning custom.now)
-        (shelf_use H.holds H.ready H.fetches H.faults shelf.old shelf.new) topology.now input.now
-        fates.new)) }
+        (shelf_use H.holds H.ready H.fetches H.faults shelf.old shelf.new)
+        (run_use (maker_use M.holds M.has_made M.fault_count stores.old stores.new)
+        (N.tells ids.old)) (ticks_use T.handed_out T.tells ticks.old ticks.new)
+        topology.now input.now fates.new)) }
+    ensures finishes { MustCommitAll (O.meaning custom.now)
+        (shelf_use H.holds H.ready H.fetches H.faults shelf.old shelf.new)
+        (run_use (maker_use M.holds M.has_made M.fault_count stores.old stores.new)
+        (N.tells ids.old)) (ticks_use T.handed_out T.tells ticks.old ticks.new)
+        topology.now input.now fates.new → IfErr result IsMemory }
     ensures never_falls { H.faults shelf.old ≤ H.faults shelf.new }
+    ensures store_faults { M.fault_count stores.old ≤ M.fault_count stores.new }
 {
-    let files = read_files(alloc, topology, input, Plans::Runnable, shelf)?;
-    let report = run_accepted(alloc, files, custom, fates)?;
-    Ok(report)
+    let files = read_files(alloc, topology, input, shelf)?;
+    run_accepted(rt, alloc, files, ticks, stores, ids, custom, fates)
 }
 
 /// Runs a plan over the records of its input, and makes the report.
-fn run_accepted<O: RowOp>(
+fn run_accepted<R: Wait, T: Ticks, M: StoreMaker, N: IdMaker, O: RowOp>(
+    rt: &R,
     alloc: Global,
     files: Accepted,
+    ticks: &mut T,
+    stores: &mut M,
+    ids: &mut N,
     custom: &O,
     fates: &mut Fates,
-) -> Result<String, Memory>
+) -> Result<String, Stop>
     requires fates { fates.old ≡ [] }
     requires rows { All (IsRow (length files.plan.spout_fields)) files.rows }
-    ensures report { IfOk result (λ text. IsReport (O.meaning custom.now)
-        files.plan files.rows fates.new (string_bytes text)) }
-    ensures once { OnErr result
-        (IsOnce (length files.rows) files.plan.batch ticks_handed_out fates.new) }
+    ensures report { IfOk result (λ text. IsReport (O.meaning custom.now) files.plan files.rows
+        (run_use (maker_use M.holds M.has_made M.fault_count stores.old stores.new)
+        (N.tells ids.old))
+        (ticks_of_run (ticks_use T.handed_out T.tells ticks.old ticks.new))
+        fates.new (string_bytes text)) }
+    ensures stop { IfErr result (Stops (WorkStops
+        (λ ending text. IsRoundsEnd ending
+        × EndsSo (O.meaning custom.now) files.plan files.rows
+        (run_use (maker_use M.holds M.has_made M.fault_count stores.old stores.new)
+        (N.tells ids.old))
+        (ticks_of_run (ticks_use T.handed_out T.tells ticks.old ticks.new))
+        fates.new ending text)
+        (IsShort files.plan files.rows
+        (run_use (maker_use M.holds M.has_made M.fault_count stores.old stores.new)
+        (N.tells ids.old)) fates.new))) }
+    ensures finishes { (to_come : List ℕ) → T.tells ticks.old to_come
+        → NothingIsInTheWay files.plan
+        (maker_use M.holds M.has_made M.fault_count stores.old stores.new) fates.new
+        → sum (first_answers
+        (rounds_needed files.plan (O.meaning custom.now) (cut_by files.plan files.rows)) to_come)
+        < files.plan.buckets → IfErr result IsMemory }
+    ensures store_faults { M.fault_count stores.old ≤ M.fault_count stores.new }
 {
     let Accepted { plan, rows } = files;
-    let batches = Batches::cut(rows, plan.batch());
-    let tables = run_batches(alloc, &plan, &batches, custom, fates)?;
-    let records = batches.rows().len() as u64;
-    let tail = Tail::Ok {
-        records,
-        batches: batches.count(),
-    };
-    report_text(alloc, &plan, fates.as_slice(), tables.as_slice(), tail)
+    let batches = batches_of(&plan, rows);
+    let counted = counted_in(&batches);
+    let ending = run_over(rt, alloc, &plan, batches, ticks, ids, stores, custom, fates)?;
+    text_of_end(alloc, &plan, counted, fates, &ending)
 }

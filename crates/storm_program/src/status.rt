@@ -10,7 +10,7 @@ pub enum Status {
     Memory,
     /// The words are no command.
     Words,
-    /// The topology was refused, or is not run yet.
+    /// The topology was refused.
     Topology,
     /// The input was refused.
     Input,
@@ -18,6 +18,16 @@ pub enum Status {
     ReadFault,
     /// The output was not taken. What was taken is a front of the text.
     WriteFault,
+    /// All attempts of a batch ended, and none by a commit.
+    Exhausted,
+    /// The schedule commits fewer than all batches.
+    Unfinished,
+    /// The schedule was refused.
+    Schedule,
+    /// Every batch was committed, and a store failed when the tables were read.
+    StoreFault,
+    /// A store has a cell that its part does not take.
+    BadCell,
 }
 
 impl Status {
@@ -33,6 +43,11 @@ impl Status {
             Status::Input => 4,
             Status::ReadFault => 5,
             Status::WriteFault => 6,
+            Status::Exhausted => 7,
+            Status::Unfinished => 8,
+            Status::Schedule => 9,
+            Status::StoreFault => 10,
+            Status::BadCell => 11,
         }
     }
 }

@@ -1,8 +1,9 @@
 ghost use Rattle.std.specs.Prelude.{◌≡◌, ◌≢◌, IfOk, string_bytes};
-ghost use Rattle.storm_program.specs.Texts.{topology_line, input_line};
+ghost use Rattle.storm_program.specs.Texts.{topology_line, input_line, schedule_line};
 ghost use Rattle.storm_program.specs.steps.Stops.{IfTold};
 
 use crate::status::Status;
+use schedule_reader::ScheduleFault;
 use std::alloc::Global;
 use storm_values::{InputFault, Memory};
 use topology_reader::TopoFault;
@@ -76,4 +77,25 @@ fn input_line(alloc: Global, fault: &InputFault) -> Result<String, Memory>
     ensures { IfOk result (λ line. string_bytes line ≡ input_line fault.now) }
 {
     format!(in alloc; "input: {fault}\n")
+}
+
+/// The refusal of a schedule.
+pub fn refused_schedule(alloc: Global, fault: &ScheduleFault) -> Stop
+    ensures { IfTold result (λ ending text.
+        (fault.now ≢ ScheduleFault.Memory)
+        × (ending ≡ Status.Schedule) × (text ≡ schedule_line fault.now)) }
+{
+    if matches!(fault, ScheduleFault::Memory) {
+        return Stop::Memory;
+    }
+    match schedule_line(alloc, fault) {
+        Ok(line) => Stop::Told(Status::Schedule, line),
+        Err(_) => Stop::Memory,
+    }
+}
+
+fn schedule_line(alloc: Global, fault: &ScheduleFault) -> Result<String, Memory>
+    ensures { IfOk result (λ line. string_bytes line ≡ schedule_line fault.now) }
+{
+    format!(in alloc; "schedule: {fault}\n")
 }

@@ -1,4 +1,4 @@
-ghost use Rattle.std.specs.Prelude.{◌≡◌, ◌≤◌, map, string_bytes, option_map, [], ◌∷◌, length, true, IfSome};
+ghost use Rattle.std.specs.Prelude.{◌≡◌, ◌≤◌, map, codes, string_bytes, option_map, [], ◌∷◌, length, true, IfSome};
 ghost use Rattle.std.specs.List.{list_all};
 ghost use Rattle.std.specs.Char.{is_ascii_digit};
 ghost use Rattle.storm_program.specs.steps.Commands.{command_of_words, HasWorkers};
@@ -23,6 +23,11 @@ pub enum Command<'a> {
         topology: &'a str,
         input: &'a str,
     },
+    Replay {
+        topology: &'a str,
+        input: &'a str,
+        schedule: &'a str,
+    },
     Run {
         topology: &'a str,
         input: &'a str,
@@ -38,7 +43,7 @@ pub fn read_words(words: &[String]) -> Option<Command<'_>>
     match words.len() {
         2 => check_of(words[0].as_str(), words[1].as_str()),
         3 => over_files(words[0].as_str(), words[1].as_str(), words[2].as_str()),
-        4 => run_with(
+        4 => of_four(
             words[0].as_str(),
             words[1].as_str(),
             words[2].as_str(),
@@ -86,21 +91,53 @@ fn over_files<'a>(verb: &str, topology: &'a str, input: &'a str) -> Option<Comma
     })
 }
 
-/// A run with a number of workers.
-fn run_with<'a>(verb: &str, topology: &'a str, input: &'a str, workers: &str) -> Option<Command<'a>>
+/// A replay, or a run with a number of workers.
+fn of_four<'a>(verb: &str, topology: &'a str, input: &'a str, last: &'a str) -> Option<Command<'a>>
     ensures command { option_map command_of_words result
-        ≡ built (verb.now ∷ topology.now ∷ input.now ∷ workers.now ∷ []) }
+        ≡ built (verb.now ∷ topology.now ∷ input.now ∷ last.now ∷ []) }
     ensures workers { IfSome result HasWorkers }
 {
-    if verb != "run" {
-        return None;
-    }
     if !is_word(topology) {
         return None;
     }
     if !is_word(input) {
         return None;
     }
+    if verb == "replay" {
+        return replay_of(topology, input, last);
+    }
+    if verb != "run" {
+        return None;
+    }
+    run_with(topology, input, last)
+}
+
+/// A replay of a schedule.
+fn replay_of<'a>(topology: &'a str, input: &'a str, schedule: &'a str) -> Option<Command<'a>>
+    requires topology { is_word topology.now ≡ true }
+    requires input { is_word input.now ≡ true }
+    ensures command { option_map command_of_words result
+        ≡ built (codes "replay" ∷ topology.now ∷ input.now ∷ schedule.now ∷ []) }
+    ensures workers { IfSome result HasWorkers }
+{
+    if !is_word(schedule) {
+        return None;
+    }
+    Some(Command::Replay {
+        topology,
+        input,
+        schedule,
+    })
+}
+
+/// A run with a number of workers.
+fn run_with<'a>(topology: &'a str, input: &'a str, workers: &str) -> Option<Command<'a>>
+    requires topology { is_word topology.now ≡ true }
+    requires input { is_word input.now ≡ true }
+    ensures command { option_map command_of_words result
+        ≡ built (codes "run" ∷ topology.now ∷ input.now ∷ workers.now ∷ []) }
+    ensures workers { IfSome result HasWorkers }
+{
     match number_word(workers, 1, MOST_WORKERS) {
         Some(workers) => Some(Command::Run {
             topology,

@@ -27,3 +27,8 @@ IsWritten ending text sink answer =
 abbrev pub IsStopWritten : Stop → SinkUse → Status → Type 0
 IsStopWritten Memory sink answer = (answer ≡ status.Memory) × (sink.taken_after ≡ sink.taken_before)
 IsStopWritten (Told ending line) sink answer = IsWritten ending (string_bytes line) sink answer
+
+-- it is want of memory
+abbrev pub IsMemory : Stop → Type 0
+IsMemory Memory = Unit {0}
+IsMemory (Told ending line) = ⊥

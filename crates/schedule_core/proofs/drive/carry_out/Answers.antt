@@ -1,15 +1,44 @@
 use Rattle.std.proofs.Common.{[], ◌∷◌}
 use Rattle.event_engine.specs.Engines.{cut_in, topology_in}
 use Rattle.event_worlds.specs.Worlds.{of_acker, of_task, of_tick}
-use Rattle.schedule_core.proofs.Drives.{Laws, drives-still}
-use Rattle.schedule_core.proofs.Resting.{at_rest_after, at_rest_as, drives_as, handed_on}
+use Rattle.schedule_core.proofs.Drives.{drives-still}
+use Rattle.schedule_core.proofs.Keeping.{kept-as, kept-none}
+use Rattle.schedule_core.proofs.Resting.{at_rest_after, at_rest_as, breaks_as, drives_as, handed_on}
 use Rattle.schedule_core.proofs.drive.carry_out.Goals as goal
 use Rattle.schedule_core.proofs.drive.carry_out.Goals.{in-Task+in_ok-task-in-Task, in-Acker+in_ok-acker-in-Acker, in-Coord+in_ok-coordinate-in-Coord, in-Tick, in-Rounds+in_ok-rounds-in-Rounds}
 
-pub returns-in_err-coordinate-in-Coord-clause-bad :
-    goal.returns-in_err-coordinate-in-Coord-clause-bad
+pub returns-in_err-coordinate-in-Coord-clause-bad : goal.returns-in_err-coordinate-in-Coord-clause-bad
 returns-in_err-coordinate-in-Coord-clause-bad g c = λ key is.
-    c.coordinate.ensures.bad (g.O.RowOp.meaning c.args.custom.now) key (handed_on c.from_residual-in_err-coordinate-in-Coord.result c.coordinate.result _ _ c.from_residual-in_err-coordinate-in-Coord.ensures.1 c.in_err-coordinate-in-Coord.was is)
+    let old = c.args.engine.now in
+    let custom = g.O.RowOp.meaning c.args.custom.now in
+    breaks_as g.I.Ids.tells g.C.CellStore.tells g.C.CellStore.fault_count custom (topology_in old) (cut_in old) c.args.event _ old c.coordinate.new.engine c.args.parts.now c.coordinate.new.parts c.in-Coord.is
+    (c.coordinate.ensures.bad custom key (handed_on c.from_residual-in_err-coordinate-in-Coord.result c.coordinate.result _ _ c.from_residual-in_err-coordinate-in-Coord.ensures.1 c.in_err-coordinate-in-Coord.was is))
+
+pub returns-in_err-rounds-in-Rounds-clause-bad : goal.returns-in_err-rounds-in-Rounds-clause-bad
+returns-in_err-rounds-in-Rounds-clause-bad g c = λ key is.
+    let old = c.args.engine.now in
+    let custom = g.O.RowOp.meaning c.args.custom.now in
+    breaks_as g.I.Ids.tells g.C.CellStore.tells g.C.CellStore.fault_count custom (topology_in old) (cut_in old) c.args.event _ old c.rounds.new.engine c.args.parts.now c.rounds.new.parts c.in-Rounds.is
+    (c.rounds.ensures.bad key (handed_on c.from_residual-in_err-rounds-in-Rounds.result c.rounds.result _ _ c.from_residual-in_err-rounds-in-Rounds.ensures.1 c.in_err-rounds-in-Rounds.was is))
+
+pub returns-in_err-task-in-Task-clause-kept : goal.returns-in_err-task-in-Task-clause-kept
+returns-in_err-task-in-Task-clause-kept g c = kept-none g.C.CellStore.tells c.args.parts.now
+
+pub returns-in_err-acker-in-Acker-clause-kept : goal.returns-in_err-acker-in-Acker-clause-kept
+returns-in_err-acker-in-Acker-clause-kept g c = kept-none g.C.CellStore.tells c.args.parts.now
+
+pub returns-clause-kept : goal.returns-clause-kept
+returns-clause-kept g c =
+    let holds = g.C.CellStore.tells in
+    let parts = c.args.parts.now in
+    let is = c.match-event.parts in
+    elim c.match-event.branch [
+      | in-Task+in_ok-task-in-Task w ↦ kept-as holds parts parts is w.parts-is (kept-none holds parts)
+      | in-Acker+in_ok-acker-in-Acker w ↦ kept-as holds parts parts is w.parts-is (kept-none holds parts)
+      | in-Coord+in_ok-coordinate-in-Coord w ↦ kept-as holds parts w.coordinate.new.parts is w.parts-is w.coordinate.ensures.kept
+      | in-Tick w ↦ kept-as holds parts parts is w.parts-is (kept-none holds parts)
+      | in-Rounds+in_ok-rounds-in-Rounds w ↦ kept-as holds parts w.rounds.new.parts is w.parts-is w.rounds.ensures.kept
+    ]
 
 pub returns-clause-at_rest : goal.returns-clause-at_rest
 returns-clause-at_rest g c =
@@ -42,11 +71,7 @@ returns-clause-drives g c =
     let holds = g.C.CellStore.tells in
     let count = g.C.CellStore.fault_count in
     let parts = c.args.parts.now in
-    let laws : Laws g.C.CellStore.fault_count t custom cut = record {
-      accounted = λ words outcomes steps k. c.worlds_are_accounted.ensures.run t custom cut words outcomes steps k;
-      counts_none = c.counts_run_on.ensures.none;
-      counts_then = c.counts_run_on.ensures.then;
-    } in
+    let laws = c.laws_of_steps.ensures t custom cut in
     elim c.match-event.branch [
       | in-Task+in_ok-task-in-Task w ↦
           let now = w.in_ok-task-in-Task.ensures in

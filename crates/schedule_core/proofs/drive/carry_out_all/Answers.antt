@@ -1,8 +1,10 @@
-use Rattle.std.proofs.Common.{◌+◌, get_or, sym, take, ◌∙◌}
+use Rattle.std.proofs.Common.{◌+◌, List, ◌++◌, ap, get_or, sym, take, ◌∙◌}
 use Rattle.event_engine.specs.Engines.{cut_in, topology_in}
+use Rattle.event_worlds.specs.Worlds.{Step}
 use Rattle.schedule_core.specs.Schedules.{all_steps, steps_of}
-use Rattle.schedule_core.proofs.Drives.{Laws}
-use Rattle.schedule_core.proofs.Looping.{driven-breaks, driven-none, driven-over, driven-then, fault_was, fits_there, on_err, once_there, parts_here, steps_begin, steps_more_as}
+use Rattle.schedule_core.proofs.Resting.{handed_on, on_err}
+use Rattle.schedule_core.proofs.Keeping.{kept-then}
+use Rattle.schedule_core.proofs.Looping.{driven-breaks, driven-none, driven-over, driven-then, fits_there, once_there, parts_here, steps_begin, steps_more_as}
 use Rattle.schedule_reader.specs.declared.event.Event.TheVariants.{Task}
 use Rattle.state_parts.specs.declared.answer.CommitFault.TheVariants.{BadCell}
 use Rattle.topology_plan.specs.Topology.{Topology}
@@ -14,7 +16,7 @@ loop-event-init g c =
     let parts = c.args.parts.now in
     let t = topology_in old in
     let custom = g.O.RowOp.meaning c.args.custom.now in
-    let laws : Laws g.C.CellStore.fault_count t custom (cut_in old) = record { accounted = c.worlds_are_accounted.ensures.run t custom (cut_in old); counts_none = c.counts_run_on.ensures.none; counts_then = c.counts_run_on.ensures.then } in
+    let laws = c.laws_of_steps.ensures t custom (cut_in old) in
     driven-none g.I.Ids.tells g.C.CellStore.tells g.C.CellStore.fault_count custom old parts laws c.requires.at_rest c.requires.parts
 
 pub returns-then-is_over-clause-at_rest : goal.returns-then-is_over-clause-at_rest
@@ -29,7 +31,7 @@ returns-then-is_over-clause-drives g c =
     let parts = c.args.parts.now in
     let t = topology_in old in
     let custom = g.O.RowOp.meaning c.args.custom.now in
-    let laws : Laws g.C.CellStore.fault_count t custom (cut_in old) = record { accounted = c.worlds_are_accounted.ensures.run t custom (cut_in old); counts_none = c.counts_run_on.ensures.none; counts_then = c.counts_run_on.ensures.then } in
+    let laws = c.laws_of_steps.ensures t custom (cut_in old) in
     let begun = steps_begin (steps_of t) c.args.events.now c.loop-event.event-index in
     driven-over g.I.Ids.tells g.C.CellStore.tells g.C.CellStore.fault_count custom old parts laws (all_steps t (take c.loop-event.event-index c.args.events.now)) c.loop-event.engine c.loop-event.parts c.loop-event.invariant (all_steps t c.args.events.now) begun.0 begun.1 (sym c.is_over.ensures ∙ c.if-is_over.true)
 
@@ -42,7 +44,7 @@ carry_out-requires-clause-parts g c =
     let parts = c.args.parts.now in
     let t = topology_in old in
     let custom = g.O.RowOp.meaning c.args.custom.now in
-    let laws : Laws g.C.CellStore.fault_count t custom (cut_in old) = record { accounted = c.worlds_are_accounted.ensures.run t custom (cut_in old); counts_none = c.counts_run_on.ensures.none; counts_then = c.counts_run_on.ensures.then } in
+    let laws = c.laws_of_steps.ensures t custom (cut_in old) in
     parts_here g.I.Ids.tells g.C.CellStore.tells g.C.CellStore.fault_count custom old parts laws (all_steps t (take c.loop-event.event-index c.args.events.now)) c.loop-event.engine c.loop-event.parts c.loop-event.invariant
 
 pub carry_out-requires-clause-fits : goal.carry_out-requires-clause-fits
@@ -55,10 +57,13 @@ returns-in_err-carry_out-clause-bad g c =
     let parts = c.args.parts.now in
     let t = topology_in old in
     let custom = g.O.RowOp.meaning c.args.custom.now in
-    let laws : Laws g.C.CellStore.fault_count t custom (cut_in old) = record { accounted = c.worlds_are_accounted.ensures.run t custom (cut_in old); counts_none = c.counts_run_on.ensures.none; counts_then = c.counts_run_on.ensures.then } in
+    let laws = c.laws_of_steps.ensures t custom (cut_in old) in
     λ key is.
-    let was = fault_was c.from_residual.result c.carry_out.result c.in_err-carry_out.field-0.0 (BadCell key) c.from_residual.ensures.1 c.in_err-carry_out.was is in
-    driven-breaks g.I.Ids.tells g.C.CellStore.tells g.C.CellStore.fault_count custom old parts laws (all_steps t (take c.loop-event.event-index c.args.events.now)) c.loop-event.engine c.loop-event.parts c.loop-event.invariant c.carry_out.new.engine c.carry_out.new.parts (c.carry_out.ensures.bad key was)
+    let was = handed_on c.from_residual.result c.carry_out.result c.in_err-carry_out.field-0.0 (BadCell key) c.from_residual.ensures.1 c.in_err-carry_out.was is in
+    let begun = steps_begin (steps_of t) c.args.events.now (c.loop-event.event-index + 1) in
+    let more = steps_more_as (steps_of t) c.as_slice-event-items.result.now c.args.events.now c.loop-event.event-index (Task 0) c.as_slice-event-items.ensures c.loop-event-test.true in
+    driven-breaks g.I.Ids.tells g.C.CellStore.tells g.C.CellStore.fault_count custom old parts laws (all_steps t (take c.loop-event.event-index c.args.events.now)) c.loop-event.engine c.loop-event.parts c.loop-event.invariant (all_steps t c.args.events.now) begun.0 (λ (u : Topology). steps_of u (get_or c.as_slice-event-items.result.now c.loop-event.event-index (Task 0))) c.carry_out.new.engine c.carry_out.new.parts
+    (begun.1 ∙ ap (λ (zs : List Step). zs ++ begun.0) more) (c.carry_out.ensures.bad key was)
 
 pub returns-in_err-carry_out-clause-once : goal.returns-in_err-carry_out-clause-once
 returns-in_err-carry_out-clause-once g c =
@@ -70,12 +75,22 @@ loop-event-preserved g c =
     let parts = c.args.parts.now in
     let t = topology_in old in
     let custom = g.O.RowOp.meaning c.args.custom.now in
-    let laws : Laws g.C.CellStore.fault_count t custom (cut_in old) = record { accounted = c.worlds_are_accounted.ensures.run t custom (cut_in old); counts_none = c.counts_run_on.ensures.none; counts_then = c.counts_run_on.ensures.then } in
+    let laws = c.laws_of_steps.ensures t custom (cut_in old) in
     let now = c.in_ok-carry_out.ensures in
-    driven-then g.I.Ids.tells g.C.CellStore.tells g.C.CellStore.fault_count custom old parts laws (all_steps t (take c.loop-event.event-index c.args.events.now)) c.loop-event.engine c.loop-event.parts c.loop-event.invariant (all_steps t (take (c.loop-event.event-index + 1) c.args.events.now)) (λ (u : Topology). steps_of u (get_or c.as_slice-event-items.result.now c.loop-event.event-index (Task 0))) c.carry_out.new.engine c.carry_out.new.parts (steps_more_as (steps_of t) c.as_slice-event-items.result.now c.args.events.now c.loop-event.event-index (Task 0) c.as_slice-event-items.ensures c.loop-event-test.true) now.at_rest now.same_run now.drives
+    driven-then g.I.Ids.tells g.C.CellStore.tells g.C.CellStore.fault_count custom old parts laws (all_steps t (take c.loop-event.event-index c.args.events.now)) c.loop-event.engine c.loop-event.parts c.loop-event.invariant (all_steps t (take (c.loop-event.event-index + 1) c.args.events.now)) (λ (u : Topology). steps_of u (get_or c.as_slice-event-items.result.now c.loop-event.event-index (Task 0))) c.carry_out.new.engine c.carry_out.new.parts (steps_more_as (steps_of t) c.as_slice-event-items.result.now c.args.events.now c.loop-event.event-index (Task 0) c.as_slice-event-items.ensures c.loop-event-test.true) now.at_rest now.same_run now.drives c.carry_out.ensures.kept
 
 pub returns-clause-at_rest : goal.returns-clause-at_rest
 returns-clause-at_rest g c = c.loop-event.invariant.at_rest
 
 pub returns-clause-same_run : goal.returns-clause-same_run
 returns-clause-same_run g c = c.loop-event.invariant.same_run
+
+pub returns-then-is_over-clause-kept : goal.returns-then-is_over-clause-kept
+returns-then-is_over-clause-kept g c = c.loop-event.invariant.kept
+
+pub returns-in_err-carry_out-clause-kept : goal.returns-in_err-carry_out-clause-kept
+returns-in_err-carry_out-clause-kept g c =
+    kept-then g.C.CellStore.tells c.args.parts.now c.loop-event.parts c.carry_out.new.parts c.loop-event.invariant.kept c.carry_out.ensures.kept
+
+pub returns-clause-kept : goal.returns-clause-kept
+returns-clause-kept g c = c.loop-event.invariant.kept

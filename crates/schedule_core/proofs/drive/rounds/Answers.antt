@@ -1,8 +1,9 @@
-use Rattle.std.proofs.Common.{◌+◌, sym, ◌∙◌}
+use Rattle.std.proofs.Common.{◌+◌, ◌≤◌, List, ◌++◌, ap, sym, ◌∙◌, arith}
 use Rattle.event_engine.specs.Engines.{cut_in, topology_in}
-use Rattle.event_worlds.specs.Worlds.{round_steps, rounds_steps}
-use Rattle.schedule_core.proofs.Drives.{Laws}
-use Rattle.schedule_core.proofs.Looping.{driven-breaks, driven-none, driven-over, driven-then, fault_was, on_err, once_there, parts_here, rounds_begin, rounds_more}
+use Rattle.event_worlds.specs.Worlds.{Step, round_steps, rounds_steps}
+use Rattle.schedule_core.proofs.Resting.{handed_on, on_err}
+use Rattle.schedule_core.proofs.Keeping.{kept-then}
+use Rattle.schedule_core.proofs.Looping.{driven-breaks, driven-none, driven-over, driven-then, once_there, parts_here, rounds_begin, rounds_more}
 use Rattle.state_parts.specs.declared.answer.CommitFault.TheVariants.{BadCell}
 use Rattle.schedule_core.proofs.drive.rounds.Goals as goal
 
@@ -12,7 +13,7 @@ loop-done-init g c =
     let parts = c.args.parts.now in
     let t = topology_in old in
     let custom = g.O.RowOp.meaning c.args.custom.now in
-    let laws : Laws g.C.CellStore.fault_count t custom (cut_in old) = record { accounted = c.worlds_are_accounted.ensures.run t custom (cut_in old); counts_none = c.counts_run_on.ensures.none; counts_then = c.counts_run_on.ensures.then } in
+    let laws = c.laws_of_steps.ensures t custom (cut_in old) in
     driven-none g.I.Ids.tells g.C.CellStore.tells g.C.CellStore.fault_count custom old parts laws c.requires.at_rest c.requires.parts
 
 pub returns-then-is_over-clause-at_rest : goal.returns-then-is_over-clause-at_rest
@@ -27,7 +28,7 @@ returns-then-is_over-clause-drives g c =
     let parts = c.args.parts.now in
     let t = topology_in old in
     let custom = g.O.RowOp.meaning c.args.custom.now in
-    let laws : Laws g.C.CellStore.fault_count t custom (cut_in old) = record { accounted = c.worlds_are_accounted.ensures.run t custom (cut_in old); counts_none = c.counts_run_on.ensures.none; counts_then = c.counts_run_on.ensures.then } in
+    let laws = c.laws_of_steps.ensures t custom (cut_in old) in
     let begun = rounds_begin t c.loop-done.done c.args.count c.loop-done.auto.done-end in
     driven-over g.I.Ids.tells g.C.CellStore.tells g.C.CellStore.fault_count custom old parts laws (rounds_steps t c.loop-done.done) c.loop-done.engine c.loop-done.parts c.loop-done.invariant (rounds_steps t c.args.count) begun.0 begun.1 (sym c.is_over.ensures ∙ c.if-is_over.true)
 
@@ -40,7 +41,7 @@ round-requires-clause-parts g c =
     let parts = c.args.parts.now in
     let t = topology_in old in
     let custom = g.O.RowOp.meaning c.args.custom.now in
-    let laws : Laws g.C.CellStore.fault_count t custom (cut_in old) = record { accounted = c.worlds_are_accounted.ensures.run t custom (cut_in old); counts_none = c.counts_run_on.ensures.none; counts_then = c.counts_run_on.ensures.then } in
+    let laws = c.laws_of_steps.ensures t custom (cut_in old) in
     parts_here g.I.Ids.tells g.C.CellStore.tells g.C.CellStore.fault_count custom old parts laws (rounds_steps t c.loop-done.done) c.loop-done.engine c.loop-done.parts c.loop-done.invariant
 
 pub returns-in_err-round-clause-bad : goal.returns-in_err-round-clause-bad
@@ -49,10 +50,13 @@ returns-in_err-round-clause-bad g c =
     let parts = c.args.parts.now in
     let t = topology_in old in
     let custom = g.O.RowOp.meaning c.args.custom.now in
-    let laws : Laws g.C.CellStore.fault_count t custom (cut_in old) = record { accounted = c.worlds_are_accounted.ensures.run t custom (cut_in old); counts_none = c.counts_run_on.ensures.none; counts_then = c.counts_run_on.ensures.then } in
+    let laws = c.laws_of_steps.ensures t custom (cut_in old) in
     λ key is.
-    let was = fault_was c.from_residual.result c.round.result c.in_err-round.field-0.0 (BadCell key) c.from_residual.ensures.1 c.in_err-round.was is in
-    driven-breaks g.I.Ids.tells g.C.CellStore.tells g.C.CellStore.fault_count custom old parts laws (rounds_steps t c.loop-done.done) c.loop-done.engine c.loop-done.parts c.loop-done.invariant c.round.new.engine c.round.new.parts (c.round.ensures.bad key was)
+    let was = handed_on c.from_residual.result c.round.result c.in_err-round.field-0.0 (BadCell key) c.from_residual.ensures.1 c.in_err-round.was is in
+    let below : c.loop-done.done + 1 ≤ c.args.count = omega arith in
+    let begun = rounds_begin t (c.loop-done.done + 1) c.args.count below in
+    driven-breaks g.I.Ids.tells g.C.CellStore.tells g.C.CellStore.fault_count custom old parts laws (rounds_steps t c.loop-done.done) c.loop-done.engine c.loop-done.parts c.loop-done.invariant (rounds_steps t c.args.count) begun.0 round_steps c.round.new.engine c.round.new.parts
+    (begun.1 ∙ ap (λ (zs : List Step). zs ++ begun.0) (rounds_more t c.loop-done.done)) (c.round.ensures.bad key was)
 
 pub returns-in_err-round-clause-once : goal.returns-in_err-round-clause-once
 returns-in_err-round-clause-once g c =
@@ -64,12 +68,22 @@ loop-done-preserved g c =
     let parts = c.args.parts.now in
     let t = topology_in old in
     let custom = g.O.RowOp.meaning c.args.custom.now in
-    let laws : Laws g.C.CellStore.fault_count t custom (cut_in old) = record { accounted = c.worlds_are_accounted.ensures.run t custom (cut_in old); counts_none = c.counts_run_on.ensures.none; counts_then = c.counts_run_on.ensures.then } in
+    let laws = c.laws_of_steps.ensures t custom (cut_in old) in
     let now = c.in_ok-round.ensures in
-    driven-then g.I.Ids.tells g.C.CellStore.tells g.C.CellStore.fault_count custom old parts laws (rounds_steps t c.loop-done.done) c.loop-done.engine c.loop-done.parts c.loop-done.invariant (rounds_steps t (c.loop-done.done + 1)) (round_steps) c.round.new.engine c.round.new.parts (rounds_more t c.loop-done.done) now.at_rest now.same_run now.drives
+    driven-then g.I.Ids.tells g.C.CellStore.tells g.C.CellStore.fault_count custom old parts laws (rounds_steps t c.loop-done.done) c.loop-done.engine c.loop-done.parts c.loop-done.invariant (rounds_steps t (c.loop-done.done + 1)) (round_steps) c.round.new.engine c.round.new.parts (rounds_more t c.loop-done.done) now.at_rest now.same_run now.drives c.round.ensures.kept
 
 pub returns-clause-at_rest : goal.returns-clause-at_rest
 returns-clause-at_rest g c = c.loop-done.invariant.at_rest
 
 pub returns-clause-same_run : goal.returns-clause-same_run
 returns-clause-same_run g c = c.loop-done.invariant.same_run
+
+pub returns-then-is_over-clause-kept : goal.returns-then-is_over-clause-kept
+returns-then-is_over-clause-kept g c = c.loop-done.invariant.kept
+
+pub returns-in_err-round-clause-kept : goal.returns-in_err-round-clause-kept
+returns-in_err-round-clause-kept g c =
+    kept-then g.C.CellStore.tells c.args.parts.now c.loop-done.parts c.round.new.parts c.loop-done.invariant.kept c.round.ensures.kept
+
+pub returns-clause-kept : goal.returns-clause-kept
+returns-clause-kept g c = c.loop-done.invariant.kept

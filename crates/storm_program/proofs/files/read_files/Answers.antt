@@ -1,13 +1,12 @@
-use Rattle.std.proofs.Common.{sym, ◌∙◌, refl}
+use Rattle.std.proofs.Common.{refl}
 use Rattle.storm_program.proofs.EndLemmas.{IfErr-exit, Stops-weaker}
-use Rattle.storm_program.proofs.FileLemmas.{runnable, two_fetches, files_of_input}
+use Rattle.storm_program.proofs.FileLemmas.{two_fetches, files_of_input}
 use Rattle.storm_program.proofs.files.read_files.Goals as goal
 
 pub returns-in_err-rows-clause-stop : goal.returns-in_err-rows-clause-stop
 returns-in_err-rows-clause-stop g c =
-    let runs = runnable _ _ _ _ c.in_ok-plan.ensures.plan (sym c.puts_off.ensures ∙ c.if-puts_off.false) in
     let twice = two_fetches _ _ _ c.in_ok-plan.ensures.fetches c.in_err-rows.ensures.fetches in
     IfErr-exit c.from_residual-in_err-rows.result _ _ c.from_residual-in_err-rows.ensures.1 (
     Stops-weaker _ _ c.in_err-rows.field-0.0
-    (λ s text. files_of_input _ _ _ _ _ _ c.in_ok-plan.ensures.files s text runs twice c.in_ok-plan.ensures.stays_ready c.in_ok-plan.ensures.never_falls refl)
+    (λ s text. files_of_input _ _ c.in_ok-plan.ensures.files _ _ _ s text c.in_ok-plan.ensures.plan twice c.in_ok-plan.ensures.stays_ready c.in_ok-plan.ensures.never_falls refl)
     c.in_err-rows.ensures.stop)

@@ -1,36 +1,11 @@
-use Rattle.std.proofs.Common.{◌≡◌, codes, false, true, bytes_eq, sym, refl, ◌∙◌, rules}
-use Rattle.storm_program.specs.Words.{is_word}
-use Rattle.storm_program.proofs.WordLemmas.{workers_good, workers_other}
+use Rattle.std.proofs.Common.{◌≡◌, codes, sym, refl, ◌∙◌}
+use Rattle.storm_program.proofs.WordLemmas.{workers_good}
 use Rattle.storm_program.proofs.words.run_with.Goals as goal
-
-pub returns-then-ne-clause-command : goal.returns-then-ne-clause-command
-returns-then-ne-clause-command c =
-    let other : bytes_eq c.args.verb.now (codes "run") ≡ false = search rules in
-    sym (workers_other _ c.args.topology.now c.args.input.now c.args.workers.now other)
-
-pub returns-then-not-is_word-clause-command : goal.returns-then-not-is_word-clause-command
-returns-then-not-is_word-clause-command c =
-    let run : c.args.verb.now ≡ codes "run" = search rules in
-    let bad : is_word c.args.topology.now ≡ false = search rules in
-    sym (workers_good _ c.args.topology.now c.args.input.now c.args.workers.now run ∙ rw bad refl)
-
-pub returns-then-not-is_word-2-clause-command : goal.returns-then-not-is_word-2-clause-command
-returns-then-not-is_word-2-clause-command c =
-    let run : c.args.verb.now ≡ codes "run" = search rules in
-    let good : is_word c.args.topology.now ≡ true = search rules in
-    let bad : is_word c.args.input.now ≡ false = search rules in
-    sym (workers_good _ c.args.topology.now c.args.input.now c.args.workers.now run ∙ rw (good, bad) refl)
 
 pub returns-in-Some-clause-command : goal.returns-in-Some-clause-command
 returns-in-Some-clause-command c =
-    let run : c.args.verb.now ≡ codes "run" = search rules in
-    let good : is_word c.args.topology.now ≡ true = search rules in
-    let fine : is_word c.args.input.now ≡ true = search rules in
-    sym (workers_good _ c.args.topology.now c.args.input.now c.args.workers.now run ∙ rw (good, fine, sym c.number_word.ensures.number, c.in-Some.is) refl)
+    sym (workers_good _ c.args.topology.now c.args.input.now c.args.workers.now refl ∙ rw (c.requires.topology, c.requires.input, sym c.number_word.ensures.number, c.in-Some.is) refl)
 
 pub returns-in-None-clause-command : goal.returns-in-None-clause-command
 returns-in-None-clause-command c =
-    let run : c.args.verb.now ≡ codes "run" = search rules in
-    let good : is_word c.args.topology.now ≡ true = search rules in
-    let fine : is_word c.args.input.now ≡ true = search rules in
-    sym (workers_good _ c.args.topology.now c.args.input.now c.args.workers.now run ∙ rw (good, fine, sym c.number_word.ensures.number, c.in-None.is) refl)
+    sym (workers_good _ c.args.topology.now c.args.input.now c.args.workers.now refl ∙ rw (c.requires.topology, c.requires.input, sym c.number_word.ensures.number, c.in-None.is) refl)

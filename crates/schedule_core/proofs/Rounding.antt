@@ -1,0 +1,140 @@
+-- Rounds with the ticks that a source answers.
+use Rattle.std.proofs.Common.{◌≡◌, ◌≤◌, ◌<◌, ℕ, zero, suc, ◌+◌, ◌-◌, ◌^◌, Bool, true, false, cond, List, [], ◌∷◌, ◌++◌, length, map, drop, get_or, fold, refl, sym, ap, subst, ◌∙◌, append_assoc, append-nil, arith}
+use Rattle.std.specs.Prelude.{nat_le, replicate}
+use Rattle.std.specs.List.{range_with_len}
+use Rattle.std.proofs.lemmas.Bool.{leb-false}
+use Rattle.std.proofs.lemmas.List.{length-append}
+use Rattle.std.proofs.lemmas.List.FromFn.{map-range_with_len_more}
+use Rattle.std.proofs.lemmas.List.Sums.{fold-append}
+use Rattle.event_worlds.specs.Rounds.{round_with, ticks_in}
+use Rattle.event_worlds.specs.Worlds.{Step, coordinator_steps, of_acker, of_task, of_tick}
+use Rattle.schedule_core.proofs.Ending.{Allows}
+use Rattle.schedule_core.proofs.TicksOfRuns.{ticks-of-rounds}
+use Rattle.schedule_core.specs.Rounding.{Asked, rounds_with}
+use Rattle.schedule_core.specs.Runs.{HasRoundsOf, first_answers, ticks_between}
+use Rattle.storm_ticks.specs.Ticking.{first_answer, handed_on}
+use Rattle.topology_plan.specs.Topology.{Topology, tasks_in_all}
+
+-- ---- what a source was asked
+
+first-is : (xs : List ℕ) (i : ℕ) → first_answer (drop i xs) ≡ get_or xs i 0
+first-is [] zero = refl
+first-is [] (suc i) = refl
+first-is (x ∷ xs) zero = refl
+first-is (x ∷ xs) (suc i) = first-is xs i
+
+drop-next : (xs : List ℕ) (i : ℕ) → drop 1 (drop i xs) ≡ drop (suc i) xs
+drop-next [] zero = refl
+drop-next [] (suc i) = refl
+drop-next (x ∷ xs) zero = refl
+drop-next (x ∷ xs) (suc i) = drop-next xs i
+
+module _ {T : Type 0} (handed : T → ℕ) (ticking : T → List ℕ → Type 0) where
+  pub asked-none : (x : T) → Asked handed ticking [] x x
+  asked-none x = record {
+    handed_out = refl;
+    first = λ to_come told. refl;
+    rest = λ to_come told. told;
+  }
+
+  -- it was asked once more
+  pub asked-more : (answers : List ℕ) (n : ℕ) (before mid after : T)
+      → Asked handed ticking answers before mid → handed after ≡ handed_on (handed mid) n
+      → ((xs : List ℕ) → ticking mid xs → n ≡ first_answer xs)
+      → ((xs : List ℕ) → ticking mid xs → ticking after (drop 1 xs))
+      → Asked handed ticking (answers ++ n ∷ []) before after
+  asked-more answers n before mid after so counted told rest = record {
+    handed_out =
+        counted ∙ ap (λ (k : ℕ). handed_on k n) so.handed_out
+        ∙ sym (fold-append handed_on (handed before) answers (n ∷ []));
+    first = λ to_come is.
+        let here : n ≡ get_or to_come (length answers) 0 =
+        told (drop (length answers) to_come) (so.rest to_come is)
+        ∙ first-is to_come (length answers) in
+        (λ i. so.first to_come is i ++ here i ∷ [])
+        ∙ sym (map-range_with_len_more (λ (k : ℕ). get_or to_come k 0) 0 (length answers)
+        (length answers) (omega arith))
+        ∙ ap (λ (k : ℕ). first_answers k to_come) (sym (length-append answers (n ∷ [])));
+    rest = λ to_come is.
+        let many : suc (length answers) ≡ length (answers ++ n ∷ []) =
+        (let e = length-append answers (n ∷ []) in omega arith) in
+        subst (ticking after)
+        (drop-next to_come (length answers) ∙ ap (λ (k : ℕ). drop k to_come) many)
+        (rest (drop (length answers) to_come) (so.rest to_come is));
+  }
+
+-- ---- ticks of rounds
+
+no-tasks : (xs : List ℕ) → ticks_in (map of_task xs) ≡ 0
+no-tasks [] = refl
+no-tasks (x ∷ xs) = no-tasks xs
+
+no-ackers : (xs : List ℕ) → ticks_in (map of_acker xs) ≡ 0
+no-ackers [] = refl
+no-ackers (x ∷ xs) = no-ackers xs
+
+all-ticks : (n : ℕ) → ticks_in (replicate n of_tick) ≡ n
+all-ticks zero = refl
+all-ticks (suc n) = ap (λ (k : ℕ). suc k) (all-ticks n)
+
+ticks-of-round : (t : Topology) (n : ℕ) → ticks_in (round_with t n) ≡ n
+ticks-of-round t n =
+    let tasks : List Step = map of_task (range_with_len 0 (tasks_in_all t)) in
+    let ackers : List Step = map of_acker (range_with_len 0 t.ackers) in
+    let ticks : List Step = replicate n of_tick in
+    let a = ticks-of-rounds (tasks ++ ackers ++ ticks) coordinator_steps in
+    let b = ticks-of-rounds (tasks ++ ackers) ticks in
+    let c = ticks-of-rounds tasks ackers in
+    let d : ticks_in coordinator_steps ≡ 0 = refl in
+    let e = no-tasks (range_with_len 0 (tasks_in_all t)) in
+    let f = no-ackers (range_with_len 0 t.ackers) in
+    let h = all-ticks n in omega arith
+
+total : List ℕ → ℕ
+total [] = 0
+total (n ∷ ns) = n + total ns
+
+ticks-of-answers : (t : Topology) (answers : List ℕ) → ticks_in (rounds_with t answers) ≡ total answers
+unfolding total
+ticks-of-answers t [] = refl
+ticks-of-answers t (n ∷ ns) =
+    let a = ticks-of-rounds (round_with t n) (rounds_with t ns) in
+    let b = ticks-of-round t n in
+    let c = ticks-of-answers t ns in omega arith
+
+-- the rounds are those of the answers
+pub has-rounds : (t : Topology) (answers : List ℕ) → HasRoundsOf t answers (rounds_with t answers)
+has-rounds t [] = refl
+has-rounds t (n ∷ ns) = ([], rounds_with t ns, refl, refl, has-rounds t ns)
+
+-- one more round
+pub one-round-more : (t : Topology) (answers : List ℕ) (n : ℕ)
+    → rounds_with t (answers ++ n ∷ []) ≡ rounds_with t answers ++ round_with t n
+one-round-more t [] n = append-nil (round_with t n)
+one-round-more t (m ∷ ms) n =
+    ap (λ (zs : List Step). round_with t m ++ zs) (one-round-more t ms n)
+    ∙ sym (append_assoc (round_with t m) (rounds_with t ms) (round_with t n))
+
+-- ---- ticks that were handed out
+
+-- a count that does not stand at its end is the sum
+sum-below : (answers : List ℕ) (before : ℕ) → fold handed_on before answers < 2 ^ 64 - 1
+    → fold handed_on before answers ≡ before + total answers
+unfolding total
+sum-below [] before below = omega arith
+sum-below (n ∷ ns) before below =
+    let rest = sum-below ns (handed_on before n) below in omega arith
+
+-- the coordinator may count what was handed out between
+pub allows-between : (t : Topology) (answers : List ℕ) (before after : ℕ)
+    → after ≡ fold handed_on before answers
+    → Allows (rounds_with t answers) (ticks_between before after)
+allows-between t answers before after is n most last = by (nat_le (2 ^ 64 - 1) after) refl
+  where
+    by : (b : Bool) → nat_le (2 ^ 64 - 1) after ≡ b
+        → n ≤ cond b (2 ^ 64 - 1) (after - before)
+    by true full = last
+    by false open_still =
+        let below : after < 2 ^ 64 - 1 = leb-false (2 ^ 64 - 1) after open_still in
+        let all = sum-below answers before (subst (λ (k : ℕ). k < 2 ^ 64 - 1) is below) in
+        let ticks = ticks-of-answers t answers in omega arith

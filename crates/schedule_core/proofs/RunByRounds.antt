@@ -1,0 +1,154 @@
+-- A run by rounds, from its start to its end.
+use Rattle.std.proofs.Common.{◌≡◌, ℕ, Bool, true, false, cond, List, [], ◌∷◌, ◌++◌, length, drop, Option, None, Some, is_some, Result, Ok, Err, refl, sym, ap, subst, ◌∙◌, append-nil, true≢false}
+use Rattle.std.specs.Prelude.{OnErr, OnOk}
+use Rattle.std.specs.Result.{IsErrAnd}
+use Rattle.attempt_fates.specs.Fates.{IsOnce}
+use Rattle.attempt_fates.specs.declared.fates.Attempt.{Attempt}
+use Rattle.bolt_ops.specs.RowOp.{Custom, IsCustom}
+use Rattle.commit_order.specs.declared.stop.Stop.{Stop}
+use Rattle.commit_order.specs.declared.stop.Stop.TheVariants as stop
+use Rattle.commit_turns.specs.Turns.{is_finished, last_tick}
+use Rattle.event_engine.specs.declared.engine.Engine.{Engine}
+use Rattle.event_engine.specs.Engines.{Goes, IsReady, IsStill, cut_in, has_ended, shape, topology_in}
+use Rattle.event_engine.specs.Starts.{IsStarted}
+use Rattle.event_worlds.specs.Accounted.{IsInput}
+use Rattle.event_worlds.specs.Rounds.{round_with}
+use Rattle.event_worlds.specs.Worlds.{Step}
+use Rattle.schedule_core.proofs.Ending.{Ends, ends, not_begun, ran-from, some_size}
+use Rattle.schedule_core.proofs.Looping.{Driven, driven-breaks, driven-none, driven-then}
+use Rattle.schedule_core.proofs.Resting.{both_parts, breaks_on, drives_on, same_run_then}
+use Rattle.schedule_core.proofs.Rounding.{allows-between, asked-more, asked-none, has-rounds, one-round-more}
+use Rattle.schedule_core.specs.declared.ended.Ended.{Ended}
+use Rattle.schedule_core.specs.declared.ended.Ended.TheVariants as ending
+use Rattle.schedule_core.specs.Driving.{AreKept, Breaks, Drives, IsAtRest, IsOfSameRun}
+use Rattle.schedule_core.specs.Laws.{Laws, WorldLaws}
+use Rattle.schedule_core.specs.Rounding.{Asked, Rounded, closing_steps, end_by, opening_steps, rounds_with}
+use Rattle.schedule_core.specs.Runs.{RoundsCome, ended, ticks_between}
+use Rattle.schedule_core.specs.Schedules.{answer_by, answer_of}
+use Rattle.state_parts.specs.declared.answer.CommitFault.{CommitFault}
+use Rattle.state_parts.specs.declared.answer.CommitFault.TheVariants as fault
+use Rattle.state_parts.specs.declared.parts.StatePart.{StatePart}
+use Rattle.state_parts.specs.PartPlans.{AreParts}
+use Rattle.storm_ids.specs.declared.ids.Ids.{Ghosts}
+use Rattle.storm_stores.specs.CellMaps.{CellMap}
+use Rattle.storm_ticks.specs.Ticking.{first_answer, handed_on}
+use Rattle.topology_plan.specs.Topology.{Topology}
+use Rattle.trident_batches.specs.Batches.{Cut}
+
+-- ---- the answer
+
+-- the whole came to this, of what a source was asked and what the run ended with
+pub rounds-come : {S T : Type 0} (handed : T → ℕ) (ticking : T → List ℕ → Type 0) (told : (ℕ → ℕ → ℕ) → Type 0) (holds : S → CellMap → Type 0) (count : S → ℕ) (t : Topology) (custom : Custom) (cut : Cut) (answers : List ℕ) (before after : T)
+    (answer : Result (Unit {0}) Stop) (end : Result Ended Stop) (fates : List Attempt) (was is : List (StatePart S)) → Asked handed ticking answers before after → end ≡ ended answer
+    → Ends told holds count t custom cut (rounds_with t answers) (ticks_between (handed before) (handed after)) end fates was is → RoundsCome told (ticking before) holds count t custom cut (handed before) (handed after) answer fates was is
+rounds-come handed ticking told holds count t custom cut answers before after answer end fates was is asked same ends =
+    let ends_so = subst (λ (r : Result Ended Stop). Ends told holds count t custom cut (rounds_with t answers) (ticks_between (handed before) (handed after)) r fates was is) same ends in record {
+      answers = answers;
+      handed_out = asked.handed_out;
+      asked = asked.first;
+      steps = rounds_with t answers;
+      rounds = has-rounds t answers;
+      comes = ends_so.comes;
+      of_told = ends_so.told;
+      drawn = ends_so.drawn;
+    }
+
+-- memory was wanted before anything was done
+pub rounds-not-begun : {S T : Type 0} (handed : T → ℕ) (ticking : T → List ℕ → Type 0) (told : (ℕ → ℕ → ℕ) → Type 0) (holds : S → CellMap → Type 0) (count : S → ℕ) (t : Topology) (custom : Custom) (cut : Cut) (source : T) (fates : List Attempt) (parts : List (StatePart S))
+    → fates ≡ [] → RoundsCome told (ticking source) holds count t custom cut (handed source) (handed source) (Err stop.Memory) fates parts parts
+rounds-not-begun handed ticking told holds count t custom cut source fates parts none =
+    rounds-come handed ticking told holds count t custom cut [] source source (Err stop.Memory) (Err stop.Memory) fates parts parts (asked-none handed ticking source) refl (record {
+      comes = not_begun holds count t custom cut (rounds_with t []) (ticks_between (handed source) (handed source)) fates parts none;
+      told = λ words are ok. absurd ok;
+      drawn = λ words are ok. absurd ok;
+    })
+
+-- ---- the end
+
+-- where all is over and nothing stopped the run, all is committed
+whole_by : (o : Option ℕ) (b : Bool) (n : ℕ) (how : Ended) → cond (is_some o) true b ≡ true → answer_by o b n ≡ Ok how → answer_by o b n ≡ Ok ending.All
+whole_by (Some txid) b n how over is = absurd (let e : Err (stop.Exhausted txid) ≡ Ok how = is in cc)
+whole_by None true n how over is = refl
+whole_by None false n how over is = absurd (true≢false (sym over))
+
+pub whole_end : {I : Type 0} {g : Ghosts I} (done : Result (Unit {0}) CommitFault) (e : Engine I g) (end : Result Ended Stop) (how : Ended) → OnOk done (has_ended e ≡ true) → end ≡ end_by done (answer_of (topology_in e) (cut_in e) (shape e)) → end ≡ Ok how → end ≡ ended (Ok tt)
+whole_end (Ok ok) e end how over is whole = is ∙ whole_by (shape e).desk.exhausted (is_finished (topology_in e) (cut_in e) (shape e).desk) (shape e).desk.committed how over (sym is ∙ whole)
+whole_end (Err (fault.BadCell key)) e end how over is whole = absurd (let a : end ≡ Err (stop.BadCell key) = is in let b = whole in cc)
+whole_end (Err fault.Memory) e end how over is whole = absurd (let a : end ≡ Err stop.Memory = is in let b = whole in cc)
+
+-- an error is handed on
+pub stopped_end : (end : Result Ended Stop) (answer : Result (Unit {0}) Stop) (error : Stop) → IsErrAnd answer (λ e. e ≡ error) → end ≡ Err error → end ≡ ended answer
+stopped_end end (Ok ok) error exits is = absurd exits
+stopped_end end (Err e) error exits is = is ∙ ap (λ (x : Stop). Err x) (sym exits)
+
+-- ---- rounds
+
+-- an error is no success
+short_ok : (X : Type 0) (done : Result (Unit {0}) CommitFault) (error : CommitFault) → IsErrAnd done (λ e. e ≡ error) → OnOk done X
+short_ok X (Ok ok) error exits = absurd exits
+short_ok X (Err e) error exits = tt
+
+module _ {I S T : Type 0} {g : Ghosts I} (tells : I → (ℕ → ℕ) → ℕ → Type 0) (holds : S → CellMap → Type 0) (count : S → ℕ) (handed : T → ℕ) (ticking : T → List ℕ → Type 0) (custom : Custom) where
+  -- rounds were carried out with these answers, and the next may come
+  pub record Turning (old mid : Engine I g) (p q : List (StatePart S)) (before now : T) : Type 0 where
+    pub answers : List ℕ
+    pub asked : Asked handed ticking answers before now
+    pub driven : Driven tells holds count custom (rounds_with (topology_in old) answers) old mid p q
+
+  module _ (old : Engine I g) (p : List (StatePart S)) (before : T) (laws : (t : Topology) (cut : Cut) → Laws count t custom cut) where
+    pub turning-none : IsAtRest old → AreParts (topology_in old) p → Turning old old p p before before
+    turning-none rest are = record {
+      answers = [];
+      asked = asked-none handed ticking before;
+      driven = driven-none tells holds count custom old p (laws (topology_in old) (cut_in old)) rest are;
+    }
+
+    module _ (mid : Engine I g) (q : List (StatePart S)) (now : T) (turning : Turning old mid p q before now) where
+      -- a round was opened, and the source was asked
+      module _ (b : Engine I g) (n : ℕ) (later : T) (same : IsOfSameRun mid b) (goes : Goes tells (topology_in mid) custom (cut_in mid) (opening_steps (topology_in mid)) mid b) (still : IsStill mid b)
+          (counted : handed later ≡ handed_on (handed now) n) (first : (xs : List ℕ) → ticking now xs → n ≡ first_answer xs) (rest : (xs : List ℕ) → ticking now xs → ticking later (drop 1 xs)) where
+        module _ (c : Engine I g) (r : List (StatePart S)) where
+          -- it was closed
+          pub turning-then : IsAtRest c → IsOfSameRun b c → Drives tells holds count (topology_in b) custom (cut_in b) (closing_steps n) b c q r → AreKept holds q r → Turning old c p r before later
+          turning-then at_rest next drives kept = record {
+            answers = turning.answers ++ n ∷ [];
+            asked = asked-more handed ticking turning.answers n before now later turning.asked counted first rest;
+            driven =
+                driven-then tells holds count custom old p (laws (topology_in old) (cut_in old)) (rounds_with (topology_in old) turning.answers) mid q turning.driven (rounds_with (topology_in old) (turning.answers ++ n ∷ [])) (λ (u : Topology). round_with u n) c r
+                (one-round-more (topology_in old) turning.answers n) at_rest (same_run_then mid b c same next)
+                (subst (λ (steps : List Step). Drives tells holds count (topology_in mid) custom (cut_in mid) steps mid c q r) (both_parts (topology_in mid) n)
+                (drives_on tells holds count custom opening_steps (λ (u : Topology). closing_steps n) mid b c q r (laws (topology_in mid) (cut_in mid)) same goes still drives)) kept;
+          }
+
+          -- or it met a fault
+          pub turned-bad : (done : Result (Unit {0}) CommitFault) (error : CommitFault) → IsErrAnd done (λ e. e ≡ error)
+              → ((key : List ℕ) → done ≡ Err (fault.BadCell key) → Breaks tells holds count (topology_in b) custom (cut_in b) (closing_steps n) b c q r)
+              → Rounded tells holds count handed ticking (topology_in old) custom (cut_in old) done old c p r before later
+          turned-bad done error exits bad = record {
+            answers = turning.answers ++ n ∷ [];
+            asked = asked-more handed ticking turning.answers n before now later turning.asked counted first rest;
+            drives = short_ok _ done error exits;
+            bad = λ key is.
+                driven-breaks tells holds count custom old p (laws (topology_in old) (cut_in old)) (rounds_with (topology_in old) turning.answers) mid q turning.driven (rounds_with (topology_in old) (turning.answers ++ n ∷ [])) [] (λ (u : Topology). round_with u n) c r
+                (one-round-more (topology_in old) turning.answers n ∙ sym (append-nil (rounds_with (topology_in old) turning.answers ++ round_with (topology_in old) n)))
+                (subst (λ (steps : List Step). Breaks tells holds count (topology_in mid) custom (cut_in mid) steps mid c q r) (both_parts (topology_in mid) n)
+                (breaks_on tells holds count custom opening_steps (λ (u : Topology). closing_steps n) mid b c q r (laws (topology_in mid) (cut_in mid)) same goes still (bad key is)));
+          }
+
+-- ---- the whole
+
+module _ {I S T : Type 0} {g : Ghosts I} (told : (ℕ → ℕ → ℕ) → Type 0) (tells : I → (ℕ → ℕ) → ℕ → Type 0) (holds : S → CellMap → Type 0) (count : S → ℕ) (handed : T → ℕ) (ticking : T → List ℕ → Type 0) (t : Topology) (custom : Custom) (cut : Cut)
+    (laws : WorldLaws holds t custom cut) (input : IsInput t cut) (keeps : IsCustom custom) where
+  -- what a run by rounds comes to whose steps came to this
+  pub rounds-end : (done : Result (Unit {0}) CommitFault) (e0 e : Engine I g) (was is : List (StatePart S)) (before after : T) (answer : Result (Unit {0}) Stop) (end : Result Ended Stop) (fates : List Attempt)
+      → IsReady t cut e0 → IsStarted told tells t e0 → AreParts t was → OnOk done (IsOfSameRun e0 e)
+      → Rounded tells holds count handed ticking (topology_in e0) custom (cut_in e0) done e0 e was is before after
+      → OnErr done (IsOnce (length (cut_in e0).records) (cut_in e0).size last_tick e.fates) → AreKept holds was is
+      → end ≡ end_by done (answer_of (topology_in e) (cut_in e) (shape e)) → fates ≡ e.fates → end ≡ ended answer
+      → RoundsCome told (ticking before) holds count t custom cut (handed before) (handed after) answer fates was is
+  rounds-end done e0 e was is before after answer end fates ready started planned same rounded once kept end_is fates_are answer_is =
+      let some = some_size t cut input in
+      let ticks : ℕ = ticks_between (handed before) (handed after) in
+      let ran = ran-from told tells holds count t custom cut laws input keeps some (λ (u : Topology). rounds_with u rounded.answers) ticks done e0 e was is ready started planned (allows-between t rounded.answers (handed before) (handed after) rounded.asked.handed_out) same rounded.drives rounded.bad once kept in
+      let ends_so = ends told tells holds count t custom cut laws input keeps some (rounds_with t rounded.answers) ticks done e0 e was is end fates ran end_is fates_are in
+      rounds-come handed ticking told holds count t custom cut rounded.answers before after answer end fates was is rounded.asked answer_is ends_so

@@ -1,0 +1,13 @@
+use Rattle.schedule_core.proofs.laws.laws_of_commits.Goals as goal
+
+pub returns : goal.returns
+returns g c = λ t custom cut. record {
+  done = c.commits_of_batches_move_parts.ensures.done t custom cut;
+  broken_off = c.commits_of_batches_move_parts.ensures.broken_off t custom cut;
+  strange = c.strange_cells_were_there.ensures.commit;
+  decided_counts = c.failures_of_commits_are_counted.ensures.decided t cut;
+  turn_counts = c.failures_of_commits_are_counted.ensures.turn t cut;
+  quiet_counts = c.counts_run_on.ensures.quiet;
+  outcome = c.failures_of_commits_are_counted.ensures.outcome t;
+  settled = c.settled_lists_are_whole.ensures t custom cut;
+}

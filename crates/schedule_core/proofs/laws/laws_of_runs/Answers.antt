@@ -1,0 +1,9 @@
+use Rattle.schedule_core.proofs.laws.laws_of_runs.Goals as goal
+
+pub returns : goal.returns
+returns g c = λ t custom cut. record {
+  first = c.worlds_are_accounted.ensures.first t custom cut;
+  led = c.worlds_are_accounted.ensures.run t custom cut;
+  causes = c.ends_of_worlds_have_causes.ensures t custom cut;
+  begin = c.commits_of_batches_move_parts.ensures.first t custom cut;
+}

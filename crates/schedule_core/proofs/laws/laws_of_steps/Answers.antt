@@ -1,0 +1,8 @@
+use Rattle.schedule_core.proofs.laws.laws_of_steps.Goals as goal
+
+pub returns : goal.returns
+returns g c = λ t custom cut. record {
+  accounted = c.worlds_are_accounted.ensures.run t custom cut;
+  counts_none = c.counts_run_on.ensures.none;
+  counts_then = c.counts_run_on.ensures.then;
+}

@@ -1,0 +1,37 @@
+use Rattle.std.proofs.Common.{Ok}
+use Rattle.schedule_core.proofs.Ending.{at_rest}
+use Rattle.schedule_core.proofs.RunByRounds.{rounds-end, rounds-not-begun, stopped_end, whole_end}
+use Rattle.schedule_core.proofs.rounds.run_rounds.Goals as goal
+
+pub rounds_until_over-done-requires-clause-at_rest : goal.rounds_until_over-done-requires-clause-at_rest
+rounds_until_over-done-requires-clause-at_rest g c = at_rest c.args.plan.now c.args.batches c.in-Ok.engine c.in-Ok.ensures.ready c.in-Ok.ensures.idle
+
+pub returns-in-Err : goal.returns-in-Err
+returns-in-Err g c =
+    record { comes = rounds-not-begun g.T.Ticks.handed_out g.T.Ticks.tells (g.N.IdMaker.tells c.args.ids.now) g.C.CellStore.tells g.C.CellStore.fault_count c.args.plan.now (g.O.RowOp.meaning c.args.custom.now) c.args.batches c.args.ticks.now c.args.fates.now c.args.parts.now c.requires.empty }
+
+pub returns-in_err-end_run : goal.returns-in_err-end_run
+returns-in_err-end_run g c =
+    let t = c.args.plan.now in
+    let custom = g.O.RowOp.meaning c.args.custom.now in
+    let cut = c.args.batches in
+    let run = c.rounds_until_over-done in
+    record {
+      comes = rounds-end (g.N.IdMaker.tells c.args.ids.now) g.N.I.Ids.tells g.C.CellStore.tells g.C.CellStore.fault_count g.T.Ticks.handed_out g.T.Ticks.tells t custom cut (c.laws_of_runs.ensures t custom cut) c.requires.input (g.O.RowOp.keeps c.args.custom.now)
+          run.result c.in-Ok.engine run.new.engine c.args.parts.now run.new.parts c.args.ticks.now run.new.ticks c.from_residual.result c.end_run.result c.end_run.new.fates
+          c.in-Ok.ensures.ready c.in-Ok.ensures.started c.requires.parts run.ensures.same_run run.ensures.comes run.ensures.once run.ensures.kept c.end_run.ensures.answer c.end_run.ensures.fates
+          (stopped_end c.end_run.result c.from_residual.result _ c.from_residual.ensures.1 c.in_err-end_run.was);
+    }
+
+pub returns : goal.returns
+returns g c =
+    let t = c.args.plan.now in
+    let custom = g.O.RowOp.meaning c.args.custom.now in
+    let cut = c.args.batches in
+    let run = c.rounds_until_over-done in
+    record {
+      comes = rounds-end (g.N.IdMaker.tells c.args.ids.now) g.N.I.Ids.tells g.C.CellStore.tells g.C.CellStore.fault_count g.T.Ticks.handed_out g.T.Ticks.tells t custom cut (c.laws_of_runs.ensures t custom cut) c.requires.input (g.O.RowOp.keeps c.args.custom.now)
+          run.result c.in-Ok.engine run.new.engine c.args.parts.now run.new.parts c.args.ticks.now run.new.ticks (Ok tt) c.end_run.result c.end_run.new.fates
+          c.in-Ok.ensures.ready c.in-Ok.ensures.started c.requires.parts run.ensures.same_run run.ensures.comes run.ensures.once run.ensures.kept c.end_run.ensures.answer c.end_run.ensures.fates
+          (whole_end run.result run.new.engine c.end_run.result _ run.ensures.over c.end_run.ensures.answer c.in_ok-end_run.was);
+    }

@@ -1,0 +1,80 @@
+-- The laws of worlds and of parts that runs rest on. This project's own.
+use Rattle.std.specs.Prelude.{◌≡◌, ◌<◌, ℕ, ◌+◌, List, [], ◌++◌, All, Option, Some, slice_get}
+use Rattle.acker_core.specs.declared.verdict.Verdict.{Verdict}
+use Rattle.attempt_fates.specs.declared.fates.Attempt.{Attempt}
+use Rattle.batch_commits.specs.Standing.{FailuresAreCounted, HasStrange, HasTextKey, PartsStand, TellsFailedPart, batches_in, writes_at}
+use Rattle.bolt_ops.specs.RowOp.{Custom, IsCustom}
+use Rattle.commit_turns.specs.Account.{rows_in}
+use Rattle.commit_turns.specs.declared.wait.Wait.{Wait}
+use Rattle.commit_turns.specs.Desks.{Desk}
+use Rattle.commit_turns.specs.Outcomes.{IsOutcome}
+use Rattle.commit_turns.specs.Turns.{decided, turned}
+use Rattle.event_worlds.specs.Accounted.{Accounted, AreCaused, IsInput}
+use Rattle.event_worlds.specs.Worlds.{Known, Step, first_known, run}
+use Rattle.state_parts.specs.Commits.{AreCommitted, ArePerhapsCommitted, NoCountFell}
+use Rattle.state_parts.specs.declared.answer.CommitOutcome.{CommitOutcome}
+use Rattle.state_parts.specs.declared.parts.StatePart.{StatePart}
+use Rattle.state_parts.specs.PartPlans.{AreParts, plans_of}
+use Rattle.state_parts.specs.Standing.{IsEmpty}
+use Rattle.storm_stores.specs.CellMaps.{CellMap}
+use Rattle.topology_plan.specs.Topology.{Topology}
+use Rattle.tree_model.specs.declared.messages.AckMsg.{AckMsg}
+use Rattle.tree_model.specs.declared.write.Write.{Write}
+use Rattle.tree_model.specs.Lists.{Covers, IsClosed}
+use Rattle.trident_batches.specs.Batches.{Cut}
+use Rattle.tuple_account.specs.Sound.{IsSound}
+
+-- what steps rest on
+pub record Laws {S : Type 0} (count : S → ℕ) (t : Topology) (custom : Custom) (cut : Cut)
+    : Type 0 where
+  pub accounted : (words : ℕ → ℕ → ℕ) (outcomes : List CommitOutcome) (steps : List Step)
+      (k : Known) → IsInput t cut → IsCustom custom → All (IsOutcome t) outcomes
+      → Accounted t custom cut words k
+      → Accounted t custom cut words (run t custom cut words outcomes steps k)
+  pub counts_none : (parts : List (StatePart S)) → FailuresAreCounted count [] parts parts
+  pub counts_then : (xs ys : List Attempt) (a b c : List (StatePart S)) → plans_of b ≡ plans_of a
+      → FailuresAreCounted count xs a b → FailuresAreCounted count ys b c
+      → FailuresAreCounted count (xs ++ ys) a c
+
+-- what the coordinator's steps rest on
+pub record CommitLaws {S : Type 0} (holds : S → CellMap → Type 0) (count : S → ℕ) (t : Topology)
+    (custom : Custom) (cut : Cut) : Type 0 where
+  pub done : (n : ℕ) (old new : List (StatePart S)) → PartsStand holds t custom cut n old
+      → AreCommitted holds (n + 1) (writes_at t custom cut (n + 1)) old new
+      → PartsStand holds t custom cut (n + 1) new
+  pub broken_off : (n : ℕ) (old new : List (StatePart S)) → PartsStand holds t custom cut n old
+      → n < batches_in cut
+      → ArePerhapsCommitted holds (n + 1) (writes_at t custom cut (n + 1)) old new
+      → PartsStand holds t custom cut n new
+  pub strange : (txid : ℕ) (made : List Write) (old new : List (StatePart S))
+      → All HasTextKey made → ArePerhapsCommitted holds txid made old new → HasStrange holds new
+      → HasStrange holds old
+  pub decided_counts : (d : Desk) (how : CommitOutcome) (old new : List (StatePart S))
+      → AreParts t old → NoCountFell count old new → TellsFailedPart count old new how
+      → FailuresAreCounted count (decided t cut how d).ended old new
+  pub turn_counts : (d : Desk) (verdict : Option Verdict) (ticks : ℕ)
+      (old new : List (StatePart S)) → NoCountFell count old new
+      → FailuresAreCounted count (turned t cut verdict ticks d).ended old new
+  pub quiet_counts : (xs : List Attempt) (a b : List (StatePart S)) → xs ≡ []
+      → NoCountFell count a b → FailuresAreCounted count xs a b
+  pub outcome : (how : CommitOutcome) (old new : List (StatePart S)) → AreParts t old
+      → TellsFailedPart count old new how → IsOutcome t how
+  pub settled : (words : ℕ → ℕ → ℕ) (k : Known) → IsInput t cut
+      → Accounted t custom cut words k → (i : ℕ) (w : Wait) (list : List AckMsg)
+      → slice_get k.world.desk.pending i ≡ Some w → w.settled ≡ Some list
+      → IsSound t custom (rows_in cut w.root.txid) w.root list × IsClosed list
+      × Covers t custom (rows_in cut w.root.txid) list
+
+-- what a run from its start rests on
+pub record WorldLaws {S : Type 0} (holds : S → CellMap → Type 0) (t : Topology) (custom : Custom)
+    (cut : Cut) : Type 0 where
+  pub first : (words : ℕ → ℕ → ℕ) → IsInput t cut
+      → Accounted t custom cut words (first_known t words)
+  pub led : (words : ℕ → ℕ → ℕ) (outcomes : List CommitOutcome) (steps : List Step) (k : Known)
+      → IsInput t cut → IsCustom custom → All (IsOutcome t) outcomes
+      → Accounted t custom cut words k
+      → Accounted t custom cut words (run t custom cut words outcomes steps k)
+  pub causes : (words : ℕ → ℕ → ℕ) (k : Known) → IsInput t cut → Accounted t custom cut words k
+      → AreCaused t custom cut k.world.desk.tick words k.world.fates
+  pub begin : (parts : List (StatePart S)) → 0 < cut.size → All (IsEmpty holds) parts
+      → PartsStand holds t custom cut 0 parts

@@ -1,0 +1,61 @@
+-- Rounds of an engine with the ticks of a source, and how a run ends. This project's own.
+use Rattle.std.specs.Prelude.{◌≡◌, ℕ, List, ◌++◌, Result, Ok, Err, OnOk, length, map, fold, drop, replicate}
+use Rattle.std.specs.List.{flat_map, range_with_len}
+use Rattle.bolt_ops.specs.RowOp.{Custom}
+use Rattle.commit_order.specs.declared.stop.Stop.{Stop}
+use Rattle.commit_order.specs.declared.stop.Stop.TheVariants as stop
+use Rattle.event_engine.specs.declared.engine.Engine.{Engine}
+use Rattle.event_worlds.specs.Rounds.{round_with}
+use Rattle.event_worlds.specs.Worlds.{Step, coordinator_steps, of_acker, of_task, of_tick}
+use Rattle.schedule_core.specs.declared.ended.Ended.{Ended}
+use Rattle.schedule_core.specs.Driving.{Breaks, Drives}
+use Rattle.schedule_core.specs.Runs.{first_answers}
+use Rattle.state_parts.specs.declared.answer.CommitFault.{CommitFault}
+use Rattle.state_parts.specs.declared.answer.CommitFault.TheVariants as fault
+use Rattle.state_parts.specs.declared.parts.StatePart.{StatePart}
+use Rattle.storm_ids.specs.declared.ids.Ids.{Ghosts}
+use Rattle.storm_stores.specs.CellMaps.{CellMap}
+use Rattle.storm_ticks.specs.Ticking.{handed_on}
+use Rattle.topology_plan.specs.Topology.{Topology, tasks_in_all}
+use Rattle.trident_batches.specs.Batches.{Cut}
+
+-- what a run answers that came to this, where an engine that nothing stopped answers that
+abbrev pub end_by : Result (Unit {0}) CommitFault → Result Ended Stop → Result Ended Stop
+end_by (Ok done) answer = answer
+end_by (Err (fault.BadCell key)) answer = Err (stop.BadCell key)
+end_by (Err fault.Memory) answer = Err stop.Memory
+
+-- a round up to the coordinator's step
+abbrev pub opening_steps : Topology → List Step
+opening_steps t =
+    map of_task (range_with_len 0 (tasks_in_all t)) ++ map of_acker (range_with_len 0 t.ackers)
+
+-- and the rest of it, with so many ticks
+abbrev pub closing_steps : ℕ → List Step
+closing_steps ticks = replicate ticks of_tick ++ coordinator_steps
+
+-- a round for each of these numbers of ticks
+abbrev pub rounds_with : Topology → List ℕ → List Step
+rounds_with t answers = flat_map (round_with t) answers
+
+-- A source of ticks was asked again and again, and answered this.
+pub record Asked {T : Type 0} (handed : T → ℕ) (ticking : T → List ℕ → Type 0)
+    (answers : List ℕ) (before after : T) : Type 0 where
+  pub handed_out : handed after ≡ fold handed_on (handed before) answers
+  pub first : (to_come : List ℕ) → ticking before to_come
+      → answers ≡ first_answers (length answers) to_come
+  pub rest : (to_come : List ℕ) → ticking before to_come
+      → ticking after (drop (length answers) to_come)
+
+-- Rounds with the ticks that a source answered came to this.
+pub record Rounded {I S T : Type 0} {g : Ghosts I} (tells : I → (ℕ → ℕ) → ℕ → Type 0)
+    (holds : S → CellMap → Type 0) (count : S → ℕ) (handed : T → ℕ)
+    (ticking : T → List ℕ → Type 0) (t : Topology) (custom : Custom) (cut : Cut)
+    (done : Result (Unit {0}) CommitFault) (old new : Engine I g)
+    (was is : List (StatePart S)) (before after : T) : Type 0 where
+  pub answers : List ℕ
+  pub asked : Asked handed ticking answers before after
+  pub drives : OnOk done
+      (Drives tells holds count t custom cut (rounds_with t answers) old new was is)
+  pub bad : (key : List ℕ) → done ≡ Err (fault.BadCell key)
+      → Breaks tells holds count t custom cut (rounds_with t answers) old new was is

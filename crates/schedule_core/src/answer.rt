@@ -1,0 +1,48 @@
+//! What a run answers at its end.
+ghost use Rattle.std.specs.Prelude.{◌≡◌};
+ghost use Rattle.event_engine.specs.Engines.{cut_in, shape, topology_in};
+ghost use Rattle.schedule_core.specs.Rounding.{end_by};
+ghost use Rattle.schedule_core.specs.Schedules.{answer_of};
+
+use crate::ended::Ended;
+use attempt_fates::Fates;
+use commit_order::Stop;
+use event_engine::Engine;
+use state_parts::CommitFault;
+use storm_ids::Ids;
+
+/// What a run answers whose steps came to this. The attempts that ended are handed over, whatever
+/// the answer.
+pub(crate) fn end_run<I: Ids>(
+    done: Result<(), CommitFault>,
+    engine: Engine<'_, I>,
+    fates: &mut Fates,
+) -> Result<Ended, Stop>
+    ensures answer { result ≡ end_by done
+        (answer_of (topology_in engine.entry) (cut_in engine.entry) (shape engine.entry)) }
+    ensures fates { fates.new ≡ (shape engine.entry).fates }
+{
+    let answer = answer_of(&engine);
+    *fates = engine.into_fates();
+    match done {
+        Ok(()) => answer,
+        Err(CommitFault::BadCell(key)) => Err(Stop::BadCell(key)),
+        Err(CommitFault::Memory) => Err(Stop::Memory),
+    }
+}
+
+// What an engine answers that nothing stopped.
+fn answer_of<I: Ids>(engine: &Engine<'_, I>) -> Result<Ended, Stop>
+    ensures { result ≡ answer_of (topology_in engine.now) (cut_in engine.now) (shape engine.now) }
+{
+    match engine.exhausted() {
+        Some(txid) => Err(Stop::Exhausted(txid)),
+        None => {
+            if engine.is_finished() {
+                Ok(Ended::All)
+            } else {
+                Ok(Ended::Unfinished(engine.committed_count()))
+            }
+        }
+    }
+}

@@ -1,0 +1,41 @@
+//! The laws of other crates that runs rest on, put together.
+ghost use Rattle.bolt_ops.specs.RowOp.{Custom};
+ghost use Rattle.schedule_core.specs.Laws.{CommitLaws, Laws, WorldLaws};
+ghost use Rattle.topology_plan.specs.Topology.{Topology};
+ghost use Rattle.trident_batches.specs.Batches.{Cut};
+
+use batch_commits::{
+    commits_of_batches_move_parts, counts_run_on, failures_of_commits_are_counted,
+    strange_cells_were_there,
+};
+use event_worlds::{ends_of_worlds_have_causes, settled_lists_are_whole, worlds_are_accounted};
+use storm_stores::CellStore;
+
+/// A law: what a world comes to by steps, and how failures add up.
+pub(crate) fn laws_of_steps<C: CellStore>()
+    ensures { (t : Topology) (custom : Custom) (cut : Cut) → Laws C.fault_count t custom cut }
+{
+    worlds_are_accounted();
+    counts_run_on::<C>();
+}
+
+/// A law: what commits make of parts and of the fates.
+pub(crate) fn laws_of_commits<C: CellStore>()
+    ensures { (t : Topology) (custom : Custom) (cut : Cut)
+        → CommitLaws C.tells C.fault_count t custom cut }
+{
+    settled_lists_are_whole();
+    commits_of_batches_move_parts::<C>();
+    strange_cells_were_there::<C>();
+    failures_of_commits_are_counted::<C>();
+    counts_run_on::<C>();
+}
+
+/// A law: where worlds and parts begin, what they come to, and the causes of ends.
+pub(crate) fn laws_of_runs<C: CellStore>()
+    ensures { (t : Topology) (custom : Custom) (cut : Cut) → WorldLaws C.tells t custom cut }
+{
+    worlds_are_accounted();
+    ends_of_worlds_have_causes();
+    commits_of_batches_move_parts::<C>();
+}

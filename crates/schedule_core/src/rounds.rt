@@ -1,0 +1,92 @@
+//! A run by rounds, with the ticks of a source.
+ghost use Rattle.std.specs.Prelude.{◌≡◌, true, [], length, OnOk, OnErr};
+ghost use Rattle.attempt_fates.specs.Fates.{IsOnce};
+ghost use Rattle.commit_turns.specs.Turns.{last_tick};
+ghost use Rattle.event_engine.specs.Engines.{cut_in, has_ended, topology_in};
+ghost use Rattle.event_worlds.specs.Accounted.{IsInput};
+ghost use Rattle.schedule_core.specs.Driving.{AreKept, IsAtRest, IsOfSameRun};
+ghost use Rattle.schedule_core.specs.Rounding.{Rounded};
+ghost use Rattle.schedule_core.specs.Runs.{RoundsCome};
+ghost use Rattle.state_parts.specs.PartPlans.{AreParts};
+
+use crate::answer::end_run;
+use crate::drive::{close_round, open_round};
+use crate::laws::{laws_of_runs, laws_of_steps};
+use attempt_fates::Fates;
+use bolt_ops::RowOp;
+use commit_order::Stop;
+use event_engine::Engine;
+use state_parts::{CommitFault, Parts};
+use std::alloc::Global;
+use std::sync::Wait;
+use storm_ids::{IdMaker, Ids};
+use storm_stores::CellStore;
+use storm_ticks::Ticks;
+use topology_plan::Plan;
+use trident_batches::Batches;
+
+/// Runs a plan over the batches of an input by rounds on one thread, until every batch is committed
+/// or all attempts of one ended without a commit.
+///
+/// Before each step of the coordinator it asks once how many ticks passed. Nothing says that it
+/// ends. The attempts that ended are in the fates, whatever the answer.
+pub fn run_rounds<R: Wait, T: Ticks, N: IdMaker, C: CellStore, O: RowOp>(
+    rt: &R,
+    alloc: Global,
+    plan: &Plan,
+    batches: Batches,
+    ticks: &mut T,
+    ids: &mut N,
+    parts: &mut Parts<C>,
+    custom: &O,
+    fates: &mut Fates,
+) -> Result<(), Stop>
+    requires empty { fates.old ≡ [] }
+    requires input { IsInput plan.now batches }
+    requires parts { AreParts plan.now parts.old }
+
+    // What the answer, the fates, the ticks and the parts come to.
+    ensures comes { RoundsCome (N.tells ids.old) (T.tells ticks.old) C.tells C.fault_count plan.now
+        (O.meaning custom.now) batches (T.handed_out ticks.old) (T.handed_out ticks.new) result
+        fates.new parts.old parts.new }
+{
+    laws_of_runs::<C>();
+    let mut engine = match Engine::start(alloc, plan, batches, ids) {
+        Ok(engine) => engine,
+        Err(_) => return Err(Stop::Memory),
+    };
+    let done = rounds_until_over(rt, &mut engine, ticks, parts, custom);
+    end_run(done, engine, fates)?;
+    Ok(())
+}
+
+/// Rounds until all is over, each with as many ticks as the source answers.
+fn rounds_until_over<R: Wait, T: Ticks, I: Ids, C: CellStore, O: RowOp>(
+    rt: &R,
+    engine: &mut Engine<'_, I>,
+    ticks: &mut T,
+    parts: &mut Parts<C>,
+    custom: &O,
+) -> Result<(), CommitFault>
+    requires at_rest { IsAtRest engine.old }
+    requires parts { AreParts (topology_in engine.old) parts.old }
+    ensures same_run { OnOk result (IsOfSameRun engine.old engine.new) }
+    ensures over { OnOk result (has_ended engine.new ≡ true) }
+    ensures comes { Rounded I.tells C.tells C.fault_count T.handed_out T.tells
+        (topology_in engine.old) (O.meaning custom.now) (cut_in engine.old) result engine.old
+        engine.new parts.old parts.new ticks.old ticks.new }
+    ensures once { OnErr result (IsOnce (length (cut_in engine.old).records)
+        (cut_in engine.old).size last_tick engine.new.fates) }
+    ensures kept { AreKept C.tells parts.old parts.new }
+{
+    laws_of_steps::<C>();
+    for _ in rt.forever() {
+        if engine.is_over() {
+            return Ok(());
+        }
+        open_round(engine, custom)?;
+        let passed = ticks.passed();
+        close_round(engine, parts, passed)?;
+    }
+    unreachable!()
+}

@@ -1,0 +1,220 @@
+-- Where nothing is lost a run of enough rounds answers that every batch is committed.
+use Rattle.std.proofs.Common.{◌≡◌, ◌≤◌, ◌<◌, ◌-◌, ◌^◌, ◌⊎◌, ◌==◌, inl, inr, ℕ, zero, suc, Bool, true, false, cond, List, [], ◌∷◌, ◌++◌, All, length, map, filter, sum, Option, None, Some, is_some, Result, Ok, Err, refl, sym, ap, subst, ◌∙◌, arith, eqb-true}
+use Rattle.std.specs.List.{AllByRecursion, cons_option}
+use Rattle.std.proofs.lemmas.Bool.{cases_lt}
+use Rattle.std.proofs.lemmas.List.Elements.{All-from_recursion, All-weaker, recursion_from_All}
+use Rattle.attempt_fates.specs.declared.fates.Attempt.{Attempt}
+use Rattle.attempt_fates.specs.declared.fates.End.{End}
+use Rattle.attempt_fates.specs.declared.fates.End.TheVariants as end
+use Rattle.attempt_fates.specs.Fates.{IsOfBatch, attempt_numbers}
+use Rattle.batch_commits.specs.Standing.{failed_commits}
+use Rattle.bolt_ops.specs.RowOp.{Custom, IsCustom}
+use Rattle.commit_order.specs.declared.stop.Stop.{Stop}
+use Rattle.commit_turns.specs.Desks.{Desk}
+use Rattle.commit_turns.specs.Kept.{IsKept, is_failed_commit}
+use Rattle.commit_turns.specs.Outcomes.{IsOutcome}
+use Rattle.commit_turns.specs.Turns.{is_finished}
+use Rattle.counted_items.proofs.Each.{each-front}
+use Rattle.event_worlds.specs.Accounted.{IsInput}
+use Rattle.event_worlds.specs.Rounds.{CanFinish, DoesNotCoincide, HasRounds, rounds_needed, ticks_in}
+use Rattle.event_worlds.specs.Worlds.{Known, Step, World, first_known, is_over, outcome_by, outcomes_of, run}
+use Rattle.schedule_core.specs.declared.ended.Ended.{Ended}
+use Rattle.schedule_core.specs.declared.ended.Ended.TheVariants as ended
+use Rattle.schedule_core.specs.Runs.{HasRoundsOf, ended as ended_of, first_answers}
+use Rattle.schedule_core.specs.Schedules.{IsOfWorld, answer_by, answer_of}
+use Rattle.state_parts.specs.declared.answer.CommitOutcome.{CommitOutcome}
+use Rattle.state_parts.specs.declared.answer.CommitOutcome.TheVariants.{Done}
+use Rattle.state_parts.specs.Makers.{RoseBySum}
+use Rattle.storm_outside.specs.Counts.{Rose}
+use Rattle.stored_runs.proofs.Prefixes.{Front, front_of, grows-run, over-finished, run-both, run-over, sum_of_first}
+use Rattle.stored_runs.specs.Laws.{WorldLaws}
+use Rattle.topology_plan.specs.Topology.{Topology}
+use Rattle.trident_batches.specs.Batches.{Cut, batch_count}
+
+-- ---- no commit failed
+
+-- a count that did not rise was not raised
+pub not_raised : (more before after : ℕ) → RoseBySum more before after → before ≤ 2 ^ 64 - 1
+    → (Rose before after → ⊥) → more ≡ 0
+not_raised zero before after by ends none = refl
+not_raised (suc n) before after (inl rose) ends none = absurd (none (inl (omega arith)))
+not_raised (suc n) before after (inr end) ends none = at (cases_lt before after)
+  where
+    at : (before < after) ⊎ (after ≤ before) → suc n ≡ 0
+    at (inl less) = absurd (none (inl less))
+    at (inr most) = absurd (none (inr (omega arith)))
+
+done_each : (fates : List Attempt) → failed_commits fates ≡ 0
+    → AllByRecursion (λ (how : CommitOutcome). how ≡ Done) (outcomes_of fates)
+done_each [] none = tt
+done_each (a ∷ fates) none = by (λ few. done_each fates few) a.end none
+  where
+    by : (failed_commits fates ≡ 0
+        → AllByRecursion (λ (how : CommitOutcome). how ≡ Done) (outcomes_of fates)) → (e : End)
+        → length
+        (cond (is_failed_commit e) (a ∷ filter (λ (x : Attempt). is_failed_commit x.end) fates)
+        (filter (λ (x : Attempt). is_failed_commit x.end) fates))
+        ≡ 0
+        → AllByRecursion (λ (how : CommitOutcome). how ≡ Done)
+        (cons_option (outcome_by e) (outcomes_of fates))
+    by rest (end.Committed list) few = (refl, rest few)
+    by rest (end.Failed path) few = rest few
+    by rest end.TimedOut few = rest few
+    by rest (end.Coincided list) few = rest few
+    by rest (end.CommitFailed c p before after) few = absurd (omega arith)
+
+-- where no commit failed all outcomes are done
+are_done : (fates : List Attempt) → failed_commits fates ≡ 0
+    → All (λ (how : CommitOutcome). how ≡ Done) (outcomes_of fates)
+are_done fates none =
+    All-from_recursion (λ (how : CommitOutcome). how ≡ Done) (outcomes_of fates)
+    (done_each fates none)
+
+-- ---- no transaction ran out of attempts
+
+-- a transaction with an attempt is of a batch that is there
+of_batch : (n size txid : ℕ) (fates : List Attempt) → AllByRecursion (IsOfBatch n size) fates
+    → 1 ≤ length (attempt_numbers txid fates) → txid ≤ batch_count n size
+of_batch n size txid [] each some = absurd (omega arith)
+of_batch n size txid (a ∷ fates) each some =
+    by (of_batch n size txid fates each.1) (a.root.txid == txid) refl some
+  where
+    by : (1 ≤ length (attempt_numbers txid fates) → txid ≤ batch_count n size) → (b : Bool)
+        → (a.root.txid == txid) ≡ b
+        → 1 ≤ length
+        (map (λ (x : Attempt). x.root.attempt)
+        (cond b (a ∷ filter (λ (x : Attempt). x.root.txid == txid) fates)
+        (filter (λ (x : Attempt). x.root.txid == txid) fates)))
+        → txid ≤ batch_count n size
+    by rest true is more =
+        let same : a.root.txid ≡ txid = eqb-true a.root.txid txid is in
+        let there = each.0.is_there.1 in omega arith
+    by rest false is more = rest more
+
+-- where every batch is committed no transaction ran out of attempts
+not_exhausted : (t : Topology) (cut : Cut) (d : Desk) (fates : List Attempt) → IsKept t cut d fates
+    → 1 ≤ t.attempts → is_finished t cut d ≡ true → (txid : ℕ) → d.exhausted ≡ Some txid → ⊥
+not_exhausted t cut d fates kept some done txid is =
+    let out = kept.ran_out txid is in
+    let all : d.committed ≡ batch_count (length cut.records) cut.size =
+    eqb-true d.committed (batch_count (length cut.records) cut.size) done in
+    let many = out.0 in
+    let few = out.1 in
+    let there = of_batch (length cut.records) cut.size txid fates
+    (recursion_from_All (IsOfBatch (length cut.records) cut.size) fates kept.once.of_batch)
+    (omega arith) in omega arith
+
+-- so it answers that all is committed
+finished_answer : (t : Topology) (cut : Cut) (w : World) → IsKept t cut w.desk w.fates
+    → 1 ≤ t.attempts → is_finished t cut w.desk ≡ true → answer_of t cut w ≡ Ok ended.All
+finished_answer t cut w kept some done =
+    by w.desk.exhausted (is_finished t cut w.desk)
+    (not_exhausted t cut w.desk w.fates kept some done) done
+  where
+    by : (o : Option ℕ) (b : Bool) → ((txid : ℕ) → o ≡ Some txid → ⊥) → b ≡ true
+        → answer_by o b w.desk.committed ≡ Ok ended.All
+    by (Some txid) b none is = absurd (none txid refl)
+    by None b none is = ap (λ (c : Bool). answer_by None c w.desk.committed) is
+
+-- ---- when all is over
+
+-- a run of rounds that a world answers is over
+over_answer : (t : Topology) (cut : Cut) (w : World) (done : Result (Unit {0}) Stop)
+    → ended_of done ≡ answer_of t cut w → is_over t cut w ≡ true
+over_answer t cut w done is = by w.desk.exhausted (is_finished t cut w.desk) is
+  where
+    no_end : (r : Result (Unit {0}) Stop) (k : ℕ) → ended_of r ≡ Ok (ended.Unfinished k) → ⊥
+    no_end (Ok all) k same = cc
+    no_end (Err e) k same = cc
+
+    by : (o : Option ℕ) (b : Bool) → ended_of done ≡ answer_by o b w.desk.committed
+        → cond (is_some o) true b ≡ true
+    by (Some txid) b same = refl
+    by None true same = refl
+    by None false same = absurd (no_end done w.desk.committed same)
+
+module _ (t : Topology) (custom : Custom) (cut : Cut) (laws : WorldLaws t custom cut)
+    (input : IsInput t cut) (keeps : IsCustom custom) (can : CanFinish t) (words : ℕ → ℕ → ℕ)
+    (fates : List Attempt) (no_failure : failed_commits fates ≡ 0)
+    (apart : All DoesNotCoincide fates) where
+  abbrev after : List Step → Known
+  after steps = run t custom cut words (outcomes_of fates) steps (first_known t words)
+
+  good : All (IsOutcome t) (outcomes_of fates)
+  good =
+      All-weaker (λ (how : CommitOutcome). how ≡ Done) (IsOutcome t)
+      (λ how is. subst (IsOutcome t) (sym is) tt) (outcomes_of fates) (are_done fates no_failure)
+
+  kept_after : (steps : List Step) → IsKept t cut (after steps).world.desk (after steps).world.fates
+  kept_after steps =
+      (laws.led words (outcomes_of fates) steps (first_known t words) input keeps good
+      (laws.first words input)).1.kept
+
+  -- the answer where the world after these steps has committed all
+  from_finished : (steps : List Step) (answer : Result Ended Stop)
+      → IsOfWorld t custom cut words steps answer fates
+      → is_finished t cut (after steps).world.desk ≡ true → answer ≡ Ok ended.All
+  from_finished steps answer is done =
+      is.answer_is
+      ∙ finished_answer t cut (after steps).world (kept_after steps) input.valid.attempts.0 done
+
+  -- a schedule with enough rounds
+  pub given_all : (steps : List Step) (answer : Result Ended Stop)
+      → IsOfWorld t custom cut words steps answer fates
+      → HasRounds t (rounds_needed t custom cut) steps → ticks_in steps < t.buckets
+      → answer ≡ Ok ended.All
+  given_all steps answer is rounds few =
+      from_finished steps answer is
+      (laws.rounds words (outcomes_of fates) steps input keeps can (are_done fates no_failure)
+      (subst (All DoesNotCoincide) is.fates_are apart) rounds few)
+
+  -- a run of rounds of which the first are enough
+  pub rounds_all : (steps : List Step) (answers to_come : List ℕ) (done : Result (Unit {0}) Stop)
+      → IsOfWorld t custom cut words steps (ended_of done) fates → HasRoundsOf t answers steps
+      → answers ≡ first_answers (length answers) to_come
+      → sum (first_answers (rounds_needed t custom cut) to_come) < t.buckets
+      → ended_of done ≡ Ok ended.All
+  rounds_all steps answers to_come done is has are few =
+      from_finished steps (ended_of done) is
+      (subst (λ (k : Known). is_finished t cut k.world.desk ≡ true) (sym same) finished)
+    where
+      f : Front t (rounds_needed t custom cut) answers steps
+      f = front_of t (rounds_needed t custom cut) answers steps has
+
+      over : is_over t cut (after steps).world ≡ true
+      over = over_answer t cut (after steps).world done is.answer_is
+
+      -- nothing changed in the rounds that were added
+      longer : after (f.front ++ f.rest) ≡ after steps
+      longer =
+          ap after (sym f.same)
+          ∙ run-both t custom cut words (outcomes_of fates) steps f.more (first_known t words)
+          ∙ run-over t custom cut words (outcomes_of fates) f.more (after steps) over
+
+      split : after (f.front ++ f.rest)
+          ≡ run t custom cut words (outcomes_of fates) f.rest (after f.front)
+      split = run-both t custom cut words (outcomes_of fates) f.front f.rest (first_known t words)
+
+      first_apart : All DoesNotCoincide (after f.front).world.fates
+      first_apart =
+          let grows = grows-run t custom cut words (outcomes_of fates) f.rest (after f.front) in
+          let all : (after f.front).world.fates ++ grows.more ≡ fates =
+          sym grows.added ∙ ap (λ (k : Known). k.world.fates) (sym split ∙ longer)
+          ∙ sym is.fates_are in
+          All-from_recursion DoesNotCoincide (after f.front).world.fates
+          (each-front DoesNotCoincide (after f.front).world.fates grows.more
+          (recursion_from_All DoesNotCoincide ((after f.front).world.fates ++ grows.more)
+          (subst (All DoesNotCoincide) (sym all) apart)))
+
+      finished : is_finished t cut (after f.front).world.desk ≡ true
+      finished =
+          laws.rounds words (outcomes_of fates) f.front input keeps can
+          (are_done fates no_failure) first_apart f.rounds
+          (let sums = sum_of_first to_come answers (rounds_needed t custom cut) are in
+          let own = f.ticks in omega arith)
+
+      same : after steps ≡ after f.front
+      same =
+          sym longer ∙ split
+          ∙ run-over t custom cut words (outcomes_of fates) f.rest (after f.front)
+          (over-finished t cut (after f.front).world finished)

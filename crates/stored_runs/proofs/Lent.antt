@@ -1,0 +1,278 @@
+-- What is known of a maker by the parts over its stores: before a run, and when they came back.
+use Rattle.std.proofs.Common.{◌≡◌, ◌≤◌, ◌+◌, ◌⊎◌, inl, inr, ℕ, zero, suc, List, [], ◌∷◌, All, map, Option, None, Some, IsSome, slice_get, rules, refl, sym, ap, subst, ◌∙◌, arith}
+use Rattle.std.specs.List.{AllByRecursion, AllZip}
+use Rattle.std.proofs.lemmas.Bool.{cases_eq}
+use Rattle.std.proofs.lemmas.List.Elements.{All-from_recursion, recursion_from_All}
+use Rattle.batch_commits.specs.Standing.{HasStrange, IsStrange, PartsStand, batches_in, writes_at, writes_to}
+use Rattle.bolt_ops.specs.RowOp.{Custom}
+use Rattle.counted_items.proofs.Each.{each-map, each-to_map}
+use Rattle.schedule_core.specs.Driving.{AreKept, StillTells}
+use Rattle.state_parts.specs.declared.parts.StatePart.{StatePart}
+use Rattle.state_parts.specs.Makers.{Began, CameBack as PartCameBack, HasNotFailed, RoseBySum, faults_of}
+use Rattle.state_parts.specs.PartPlans.{AreParts, IsOneOf, PartPlan, plan_of, planned_parts, plans_of}
+use Rattle.state_parts.specs.PartTables.{AreRead, IsRead}
+use Rattle.state_parts.specs.Standing.{IsEmpty, PartIsAt, PartStands}
+use Rattle.stored_runs.specs.Makers.{BeganEmpty, CameBack, HadStrange, MapsStand, StandsAt, StillTold, maker_use}
+use Rattle.storm_stores.specs.CellMaps.{CellMap, cell_at}
+use Rattle.topology_plan.specs.declared.parts.Kind.{Kind}
+use Rattle.topology_plan.specs.Topology.{Topology}
+use Rattle.trident_batches.specs.Batches.{Cut}
+
+-- What the calls of a body told of a maker and of the parts: it made the parts, a run went over
+-- them, they were read, and their stores went back.
+pub record Lent {S M : Type 0} (tells : S → CellMap → Type 0) (count : S → ℕ)
+    (holds : M → ℕ → ℕ → CellMap → Type 0) (faults : M → ℕ) (t : Topology) (old mid new : M)
+    (made ran closed : List (StatePart S)) : Type 0 where
+  pub planned : AreParts t made
+  pub began : All (Began tells holds old) made
+  pub no_fault : All (HasNotFailed count) made
+  pub others_out : (c p : ℕ) (cells : CellMap) → (IsOneOf (plans_of made) c p → ⊥)
+      → holds old c p cells → holds mid c p cells
+  pub same_count : faults mid ≡ faults old
+  pub kept : AreKept tells made ran
+  pub read : AreRead tells count ran closed
+  pub plans : plans_of closed ≡ plans_of ran
+  pub back : All (PartCameBack tells holds new) closed
+  pub others_back : (c p : ℕ) (cells : CellMap) → (IsOneOf (plans_of closed) c p → ⊥)
+      → holds mid c p cells → holds new c p cells
+  pub rose : RoseBySum (faults_of count closed) (faults mid) (faults new)
+  pub never_falls : faults mid ≤ faults new
+
+-- ---- lists
+
+-- what holds of the plan of each part holds of each planned part
+pub to_planned : {S : Type 0} (P : PartPlan → Type 0) (t : Topology) (parts : List (StatePart S))
+    → AreParts t parts → AllByRecursion (λ (at : StatePart S). P (plan_of at)) parts
+    → All P (planned_parts t)
+to_planned P t parts planned each =
+    subst (All P) planned
+    (All-from_recursion P (plans_of parts) (each-to_map P (λ at. plan_of at) parts each))
+
+-- and the other way
+pub from_planned : {S : Type 0} (P : PartPlan → Type 0) (t : Topology) (parts : List (StatePart S))
+    → AreParts t parts → All P (planned_parts t)
+    → AllByRecursion (λ (at : StatePart S). P (plan_of at)) parts
+from_planned P t parts planned all =
+    each-map P (λ at. plan_of at) parts
+    (recursion_from_All P (plans_of parts) (subst (All P) (sym planned) all))
+
+at_map : {X Y : Type 0} (f : X → Y) (xs : List X) (i : ℕ) (x : X) → slice_get xs i ≡ Some x
+    → slice_get (map f xs) i ≡ Some (f x)
+at_map f [] i x is = absurd (none is)
+  where
+    none : None ≡ Some x → ⊥
+    none e = cc
+at_map f (y ∷ ys) zero x is = ap Some (ap f (same is))
+  where
+    same : Some y ≡ Some x → y ≡ x
+    same e = cc
+at_map f (y ∷ ys) (suc i) x is = at_map f ys i x is
+
+each-get : {X : Type 0} (P : X → Type 0) (xs : List X) (i : ℕ) (x : X) → AllByRecursion P xs
+    → slice_get xs i ≡ Some x → P x
+each-get P [] i x each is = absurd (none is)
+  where
+    none : None ≡ Some x → ⊥
+    none e = cc
+each-get P (y ∷ ys) zero x each is = subst P (same is) each.0
+  where
+    same : Some y ≡ Some x → y ≡ x
+    same e = cc
+each-get P (y ∷ ys) (suc i) x each is = each-get P ys i x each.1 is
+
+-- parts that were left alone were read
+pub are_read : {S : Type 0} (tells : S → CellMap → Type 0) (count : S → ℕ)
+    (parts : List (StatePart S)) → AreRead tells count parts parts
+are_read tells count [] = tt
+are_read tells count (x ∷ xs) = (
+  record { plan = refl; same = λ cells told. told; never_falls = omega arith },
+  are_read tells count xs,
+)
+
+-- ---- before the run
+
+-- no key of no cells is strange
+no_strange : (kind : Kind) (key : List ℕ) → IsStrange kind key (cell_at [] key) → ⊥
+no_strange kind key (inl bad) = bad
+no_strange kind key (inr some) = has_none (cell_at [] key) refl some.0
+  where
+    has_none : (o : Option (List ℕ)) → o ≡ None → IsSome o → ⊥
+    has_none None same is = search rules
+    has_none (Some x) same is = cc
+
+module _ {S M : Type 0} (tells : S → CellMap → Type 0) (holds : M → ℕ → ℕ → CellMap → Type 0)
+    (made : M → ℕ → ℕ → Type 0) (faults : M → ℕ) (t : Topology) (old new : M) where
+  empty_each : (parts : List (StatePart S)) → AllByRecursion (Began tells holds old) parts
+      → AllByRecursion (λ (at : StatePart S). holds old at.component at.part []) parts
+      → AllByRecursion (IsEmpty tells) parts
+  empty_each [] began empty = tt
+  empty_each (x ∷ xs) began empty = (began.0 [] empty.0, empty_each xs began.1 empty.1)
+
+  -- stores of parts that had no cells are empty
+  pub are_empty : (parts : List (StatePart S)) → AreParts t parts
+      → All (Began tells holds old) parts
+      → BeganEmpty t (maker_use holds made faults old new) → All (IsEmpty tells) parts
+  are_empty parts planned began empty =
+      All-from_recursion (IsEmpty tells) parts
+      (empty_each parts (recursion_from_All (Began tells holds old) parts began)
+      (from_planned (λ (part : PartPlan). holds old part.component part.part []) t parts planned
+      empty))
+
+  -- a part with a strange cell had it where it was made of what the maker held
+  pub had_strange : (parts : List (StatePart S)) → AreParts t parts
+      → All (Began tells holds old) parts → HasStrange tells parts
+      → HadStrange t (maker_use holds made faults old new)
+  had_strange parts planned began has =
+      let part_began = each-get (Began tells holds old) parts has.place has.at
+      (recursion_from_All (Began tells holds old) parts began) has.is_at in
+      record {
+        place = has.place;
+        part = plan_of has.at;
+        at = subst (λ (plans : List PartPlan). slice_get plans has.place ≡ Some (plan_of has.at))
+            planned (at_map (λ at. plan_of at) parts has.place has.at has.is_at);
+        strange = λ cells held. has.strange cells (part_began cells held);
+      }
+
+module _ {M : Type 0} (holds : M → ℕ → ℕ → CellMap → Type 0) (made : M → ℕ → ℕ → Type 0)
+    (faults : M → ℕ) (t : Topology) (old new : M) where
+  -- no maker that told of no cell had a strange one
+  pub not_strange : BeganEmpty t (maker_use holds made faults old new)
+      → HadStrange t (maker_use holds made faults old new) → ⊥
+  not_strange empty had =
+      let held = each-get (λ (part : PartPlan). holds old part.component part.part [])
+      (planned_parts t) had.place had.part
+      (recursion_from_All (λ (part : PartPlan). holds old part.component part.part [])
+      (planned_parts t) empty) had.at in
+      let found = had.strange [] held in
+      no_strange had.part.kind found.0 found.1
+
+-- ---- after it
+
+module _ {S M : Type 0} (tells : S → CellMap → Type 0) (count : S → ℕ)
+    (holds : M → ℕ → ℕ → CellMap → Type 0) (made : M → ℕ → ℕ → Type 0) (faults : M → ℕ)
+    (t : Topology) (old mid new : M) where
+  one_told : (x y z : StatePart S) → plan_of z ≡ plan_of x → Began tells holds old x
+      → StillTells tells x y → IsRead tells count y z → PartCameBack tells holds new z
+      → StillTold (maker_use holds made faults old new) (plan_of x)
+  one_told x y z plan began told read back =
+      λ cells held.
+      let after = told cells (began cells held) in (
+        after.0,
+        subst (λ (part : PartPlan). holds new part.component part.part after.0) plan
+            (back after.0 (read.same after.0 after.1)),
+      )
+
+  told_each : (xs ys zs : List (StatePart S)) → plans_of ys ≡ plans_of xs
+      → plans_of zs ≡ plans_of ys → AllByRecursion (Began tells holds old) xs
+      → AllZip (StillTells tells) xs ys → AllZip (IsRead tells count) ys zs
+      → AllByRecursion (PartCameBack tells holds new) zs
+      → AllByRecursion
+      (λ (x : StatePart S). StillTold (maker_use holds made faults old new) (plan_of x)) xs
+  told_each [] ys zs first then began told read back = tt
+  told_each (x ∷ xs) [] zs first then began told read back = absurd told
+  told_each (x ∷ xs) (y ∷ ys) [] first then began told read back = absurd read
+  told_each (x ∷ xs) (y ∷ ys) (z ∷ zs) first then began told read back =
+      let plan : plan_of z ≡ plan_of x = cc in
+      let plans : plans_of ys ≡ plans_of xs = cc in
+      let after : plans_of zs ≡ plans_of ys = cc in (
+        one_told x y z plan began.0 told.0 read.0 back.0,
+        told_each xs ys zs plans after began.1 told.1 read.1 back.1,
+      )
+
+  -- all stores came back
+  pub came_back : (parts ran closed : List (StatePart S))
+      → Lent tells count holds faults t old mid new parts ran closed
+      → CameBack t (maker_use holds made faults old new)
+  came_back parts ran closed lent = record {
+    told =
+        to_planned (StillTold (maker_use holds made faults old new)) t parts lent.planned
+        (told_each parts ran closed lent.kept.plans lent.plans
+        (recursion_from_All (Began tells holds old) parts lent.began) lent.kept.told lent.read
+        (recursion_from_All (PartCameBack tells holds new) closed lent.back));
+    others = λ c p cells none held.
+        let of_made : IsOneOf (plans_of parts) c p → ⊥ =
+        subst (λ (plans : List PartPlan). IsOneOf plans c p → ⊥) (sym lent.planned) none in
+        let of_closed : IsOneOf (plans_of closed) c p → ⊥ =
+        subst (λ (plans : List PartPlan). IsOneOf plans c p → ⊥)
+        (sym (lent.plans ∙ lent.kept.plans ∙ lent.planned)) none in
+        lent.others_back c p cells of_closed (lent.others_out c p cells of_made held);
+    never_falls = let up = lent.never_falls in let same = lent.same_count in omega arith;
+  }
+
+  module _ (custom : Custom) (cut : Cut) (n : ℕ) where
+    one_stands : (y z : StatePart S) → plan_of z ≡ plan_of y
+        → PartStands tells t n (writes_to t custom cut n) (writes_at t custom cut (n + 1)) y
+        → IsRead tells count y z → PartCameBack tells holds new z → (n ≡ batches_in cut → ⊥)
+        → StandsAt t custom cut n (holds new) (plan_of y)
+    one_stands y z plan at read back fewer = record {
+      cells = at.cells;
+      told = subst (λ (part : PartPlan). holds new part.component part.part at.cells) plan
+          (back at.cells (read.same at.cells at.told));
+      stands = at.stands;
+      within = λ all. absurd (fewer all);
+    }
+
+    one_ends : (y z : StatePart S) → plan_of z ≡ plan_of y
+        → PartIsAt tells t n (writes_to t custom cut n) (writes_at t custom cut (n + 1)) y
+        → IsRead tells count y z → PartCameBack tells holds new z
+        → StandsAt t custom cut n (holds new) (plan_of y)
+    one_ends y z plan at read back = record {
+      cells = at.cells;
+      told = subst (λ (part : PartPlan). holds new part.component part.part at.cells) plan
+          (back at.cells (read.same at.cells at.told));
+      stands = at.stands;
+      within = λ all. at.within;
+    }
+
+    stand_each : (ys zs : List (StatePart S)) → plans_of zs ≡ plans_of ys
+        → AllByRecursion
+        (PartStands tells t n (writes_to t custom cut n) (writes_at t custom cut (n + 1))) ys
+        → AllZip (IsRead tells count) ys zs → AllByRecursion (PartCameBack tells holds new) zs
+        → (n ≡ batches_in cut → ⊥)
+        → AllByRecursion (λ (y : StatePart S). StandsAt t custom cut n (holds new) (plan_of y)) ys
+    stand_each [] zs same at read back fewer = tt
+    stand_each (y ∷ ys) [] same at read back fewer = absurd read
+    stand_each (y ∷ ys) (z ∷ zs) same at read back fewer =
+        let plan : plan_of z ≡ plan_of y = cc in
+        let plans : plans_of zs ≡ plans_of ys = cc in (
+          one_stands y z plan at.0 read.0 back.0 fewer,
+          stand_each ys zs plans at.1 read.1 back.1 fewer,
+        )
+
+    end_each : (ys zs : List (StatePart S)) → plans_of zs ≡ plans_of ys
+        → AllByRecursion
+        (PartIsAt tells t n (writes_to t custom cut n) (writes_at t custom cut (n + 1))) ys
+        → AllZip (IsRead tells count) ys zs → AllByRecursion (PartCameBack tells holds new) zs
+        → AllByRecursion (λ (y : StatePart S). StandsAt t custom cut n (holds new) (plan_of y)) ys
+    end_each [] zs same at read back = tt
+    end_each (y ∷ ys) [] same at read back = absurd read
+    end_each (y ∷ ys) (z ∷ zs) same at read back =
+        let plan : plan_of z ≡ plan_of y = cc in
+        let plans : plans_of zs ≡ plans_of ys = cc in
+        (one_ends y z plan at.0 read.0 back.0, end_each ys zs plans at.1 read.1 back.1)
+
+    -- the maps stand where the parts stood
+    pub maps_stand : (parts ran closed : List (StatePart S))
+        → Lent tells count holds faults t old mid new parts ran closed
+        → PartsStand tells t custom cut n ran
+        → MapsStand t custom cut n (maker_use holds made faults old new)
+    maps_stand parts ran closed lent stands =
+        to_planned (StandsAt t custom cut n (holds new)) t ran (lent.kept.plans ∙ lent.planned)
+        (by (cases_eq n (batches_in cut)))
+      where
+        back_each : AllByRecursion (PartCameBack tells holds new) closed
+        back_each = recursion_from_All (PartCameBack tells holds new) closed lent.back
+
+        by : (n ≡ batches_in cut) ⊎ (n ≡ batches_in cut → ⊥)
+            → AllByRecursion
+            (λ (y : StatePart S). StandsAt t custom cut n (holds new) (plan_of y)) ran
+        by (inl all) =
+            end_each ran closed lent.plans
+            (recursion_from_All
+            (PartIsAt tells t n (writes_to t custom cut n) (writes_at t custom cut (n + 1))) ran
+            (stands.at_end all)) lent.read back_each
+        by (inr fewer) =
+            stand_each ran closed lent.plans
+            (recursion_from_All
+            (PartStands tells t n (writes_to t custom cut n) (writes_at t custom cut (n + 1))) ran
+            stands.stand) lent.read back_each fewer

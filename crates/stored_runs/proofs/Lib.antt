@@ -1,0 +1,5 @@
+pub mod Lent
+pub mod Faults
+pub mod Prefixes
+pub mod Finished
+pub mod Comings

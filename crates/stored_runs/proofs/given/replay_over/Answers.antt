@@ -1,0 +1,47 @@
+use Rattle.event_worlds.specs.Rounds.{ticks_in}
+use Rattle.schedule_core.specs.Schedules.{all_steps}
+use Rattle.stored_runs.proofs.Comings.{Ran, all_back, given_finishes, run_is, world_is}
+use Rattle.stored_runs.proofs.Lent.{Lent}
+use Rattle.stored_runs.proofs.given.replay_over.Goals as goal
+
+pub returns : goal.returns
+returns g c =
+    let lent : Lent g.M.C.CellStore.tells g.M.C.CellStore.fault_count g.M.StoreMaker.holds
+    g.M.StoreMaker.fault_count c.args.plan.now c.args.stores.now c.make.new.stores
+    c.give_back.new.stores c.in_ok-parts.parts c.replay-answer.new.parts c.close-ended.new.parts = record {
+      planned = c.in_ok-parts.ensures.parts;
+      began = c.in_ok-parts.ensures.began;
+      no_fault = c.in_ok-parts.ensures.no_fault;
+      others_out = c.in_ok-parts.ensures.others;
+      same_count = c.in_ok-parts.ensures.same_count;
+      kept = c.replay-answer.ensures.comes.kept;
+      read = c.close-ended.ensures.read;
+      plans = c.close-ended.ensures.plans;
+      back = c.give_back.ensures.back;
+      others_back = c.give_back.ensures.others;
+      rose = c.give_back.ensures.rose;
+      never_falls = c.give_back.ensures.never_falls;
+    } in
+    let run : Ran g.M.C.CellStore.tells g.M.C.CellStore.fault_count c.args.plan.now
+    (g.O.RowOp.meaning c.args.custom.now) c.args.batches (g.N.IdMaker.tells c.args.ids.now)
+    (all_steps c.args.plan.now c.args.events.now)
+    (ticks_in (all_steps c.args.plan.now c.args.events.now))
+    c.replay-answer.result c.replay-answer.new.fates c.in_ok-parts.parts c.replay-answer.new.parts =
+    record { comes = c.replay-answer.ensures.comes; drawn = c.replay-answer.ensures.drawn; of_told = c.replay-answer.ensures.told } in
+    let laws = c.laws_of_runs.ensures.parts c.args.plan.now (g.O.RowOp.meaning c.args.custom.now)
+    c.args.batches in
+    let worlds = c.laws_of_runs.ensures.worlds c.args.plan.now
+    (g.O.RowOp.meaning c.args.custom.now) c.args.batches in
+    let made = g.M.StoreMaker.has_made in
+    let input = c.requires.input in
+    let keeps = g.O.RowOp.keeps c.args.custom.now in
+    let r = c.close-ended.result in
+    let closes = c.close-ended.ensures.closes in
+    record {
+      comes = run_is made lent laws input run _ r closes;
+      once = c.replay-answer.ensures.comes.once;
+      back = all_back made lent;
+      world = world_is made lent laws input run _ r closes;
+      finishes = λ free rounds few.
+          given_finishes made lent laws input run _ worlds keeps r closes free rounds few;
+    }

@@ -1,0 +1,62 @@
+use Rattle.std.proofs.Common.{Result, refl, subst}
+use Rattle.commit_order.specs.declared.stop.Stop.{Stop}
+use Rattle.schedule_core.specs.declared.ended.Ended.{Ended}
+use Rattle.schedule_core.specs.Runs.{ended, ticks_between}
+use Rattle.stored_runs.proofs.Comings.{Ran, all_back, by_rounds, none_left, rounds_finish, run_is, world_is}
+use Rattle.stored_runs.proofs.Lent.{Lent}
+use Rattle.stored_runs.specs.Closing.{Closes}
+use Rattle.stored_runs.proofs.rounds.run_over.Goals as goal
+
+pub returns : goal.returns
+returns g c =
+    let lent : Lent g.M.C.CellStore.tells g.M.C.CellStore.fault_count g.M.StoreMaker.holds
+    g.M.StoreMaker.fault_count c.args.plan.now c.args.stores.now c.make.new.stores
+    c.give_back.new.stores c.in_ok-parts.parts c.run_rounds-done.new.parts c.close-ended.new.parts = record {
+      planned = c.in_ok-parts.ensures.parts;
+      began = c.in_ok-parts.ensures.began;
+      no_fault = c.in_ok-parts.ensures.no_fault;
+      others_out = c.in_ok-parts.ensures.others;
+      same_count = c.in_ok-parts.ensures.same_count;
+      kept = c.run_rounds-done.ensures.comes.comes.kept;
+      read = c.close-ended.ensures.read;
+      plans = c.close-ended.ensures.plans;
+      back = c.give_back.ensures.back;
+      others_back = c.give_back.ensures.others;
+      rose = c.give_back.ensures.rose;
+      never_falls = c.give_back.ensures.never_falls;
+    } in
+    let run : Ran g.M.C.CellStore.tells g.M.C.CellStore.fault_count c.args.plan.now
+    (g.O.RowOp.meaning c.args.custom.now) c.args.batches (g.N.IdMaker.tells c.args.ids.now)
+    c.run_rounds-done.ensures.comes.steps
+    (ticks_between (g.T.Ticks.handed_out c.args.ticks.now)
+    (g.T.Ticks.handed_out c.run_rounds-done.new.ticks))
+    (ended c.run_rounds-done.result) c.run_rounds-done.new.fates c.in_ok-parts.parts c.run_rounds-done.new.parts =
+    record { comes = c.run_rounds-done.ensures.comes.comes; drawn = c.run_rounds-done.ensures.comes.drawn; of_told = c.run_rounds-done.ensures.comes.of_told } in
+    let laws = c.laws_of_runs.ensures.parts c.args.plan.now (g.O.RowOp.meaning c.args.custom.now)
+    c.args.batches in
+    let worlds = c.laws_of_runs.ensures.worlds c.args.plan.now
+    (g.O.RowOp.meaning c.args.custom.now) c.args.batches in
+    let made = g.M.StoreMaker.has_made in
+    let input = c.requires.input in
+    let keeps = g.O.RowOp.keeps c.args.custom.now in
+    let r = c.close-ended.result in
+    let closes : Closes g.M.C.CellStore.tells g.M.C.CellStore.fault_count c.args.plan.now
+    (ended c.run_rounds-done.result) c.run_rounds-done.new.parts c.close-ended.new.parts r =
+    subst
+    (λ (answer : Result Ended Stop).
+    Closes g.M.C.CellStore.tells g.M.C.CellStore.fault_count c.args.plan.now answer
+    c.run_rounds-done.new.parts c.close-ended.new.parts r)
+    c.as_ended.ensures c.close-ended.ensures.closes in
+    let asked = c.run_rounds-done.ensures.comes in
+    record {
+      comes = run_is made lent laws input run _ r closes;
+      goes_on =
+          none_left g.M.C.CellStore.tells g.M.C.CellStore.fault_count c.args.plan.now
+          c.run_rounds-done.new.parts c.close-ended.new.parts c.run_rounds-done.result r closes;
+      once = c.run_rounds-done.ensures.comes.comes.once;
+      back = all_back made lent;
+      world = by_rounds asked r (world_is made lent laws input run _ r closes);
+      finishes = λ to_come tells free few.
+          rounds_finish made lent laws input run _ worlds keeps c.run_rounds-done.result refl
+          asked.answers to_come asked.rounds (asked.asked to_come tells) r closes free few;
+    }

@@ -1,0 +1,29 @@
+-- How the answer of a run over parts comes to its end. This project's own.
+use Rattle.std.specs.Prelude.{◌≡◌, ◌⊎◌, ℕ, List, Result, Ok, Err}
+use Rattle.std.specs.List.{AllZip}
+use Rattle.commit_order.specs.declared.stop.Stop.{Stop}
+use Rattle.commit_order.specs.declared.stop.Stop.TheVariants as stop
+use Rattle.schedule_core.specs.declared.ended.Ended.{Ended}
+use Rattle.schedule_core.specs.declared.ended.Ended.TheVariants as ended
+use Rattle.state_parts.specs.declared.parts.StatePart.{StatePart}
+use Rattle.state_parts.specs.PartTables.{IsBadRowAt, IsTableOver, SomeRose}
+use Rattle.storm_stores.specs.CellMaps.{CellMap}
+use Rattle.stored_runs.specs.declared.ending.RunEnd.{RunEnd}
+use Rattle.stored_runs.specs.declared.ending.RunEnd.TheVariants as end
+use Rattle.topology_plan.specs.Topology.{Topology}
+use Rattle.tree_model.specs.Tables.{states_of}
+
+-- Where every batch was committed the parts were read: they have these tables, or a store failed,
+-- or one has a cell that no table takes. All other answers stand as they are.
+abbrev pub Closes : {S E : Type 0} → (S → CellMap → Type 0) → (S → ℕ) → Topology
+    → Result Ended Stop → List (StatePart S) → List (StatePart S) → Result RunEnd E → Type 0
+Closes tells count t answer old new (Ok (end.All tables)) =
+    (answer ≡ Ok ended.All) × AllZip (IsTableOver tells old) (states_of t) tables
+Closes tells count t answer old new (Ok (end.Exhausted txid)) = answer ≡ Err (stop.Exhausted txid)
+Closes tells count t answer old new (Ok (end.Unfinished k)) = answer ≡ Ok (ended.Unfinished k)
+Closes tells count t answer old new (Ok end.StoreFault) =
+    (answer ≡ Ok ended.All) × SomeRose count old new
+Closes tells count t answer old new (Ok end.BadCell) =
+    ((key : List ℕ) × (answer ≡ Err (stop.BadCell key)))
+    ⊎ ((answer ≡ Ok ended.All) × ((key : List ℕ) × IsBadRowAt tells old key))
+Closes tells count t answer old new (Err e) = Unit {0}

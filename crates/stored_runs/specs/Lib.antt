@@ -1,0 +1,4 @@
+pub mod Makers
+pub mod StoredRuns
+pub mod Closing
+pub mod Laws

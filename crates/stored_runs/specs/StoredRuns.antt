@@ -1,0 +1,137 @@
+-- What a run over the stores of a maker comes to. This project's own.
+use Rattle.std.specs.Prelude.{◌≡◌, ◌<◌, ◌≤◌, ◌-◌, ◌^◌, ℕ, List, Ok, Err, All, fold, length}
+use Rattle.attempt_fates.specs.declared.fates.Attempt.{Attempt}
+use Rattle.attempt_fates.specs.Fates.{IsOnce, IsWhole}
+use Rattle.batch_commits.specs.Standing.{batches_in}
+use Rattle.bolt_ops.specs.RowOp.{Custom}
+use Rattle.commit_order.specs.declared.stop.Stop.TheVariants as stop
+use Rattle.commit_turns.specs.Kept.{FailsInTurn}
+use Rattle.event_worlds.specs.Accounted.{AreCaused}
+use Rattle.event_worlds.specs.Rounds.{CanFinish, DoesNotCoincide}
+use Rattle.event_worlds.specs.Worlds.{Step}
+use Rattle.schedule_core.specs.declared.ended.Ended.TheVariants as ended
+use Rattle.schedule_core.specs.Runs.{HasRoundsOf, HasRunOut, committed_count, first_answers}
+use Rattle.schedule_core.specs.Schedules.{IsOfWorld}
+use Rattle.storm_outside.specs.Counts.{Rose}
+use Rattle.storm_ticks.specs.Ticking.{handed_on}
+use Rattle.stored_runs.specs.declared.ending.RunEnd.{RunEnd}
+use Rattle.stored_runs.specs.declared.ending.RunEnd.TheVariants as end
+use Rattle.stored_runs.specs.Makers.{BeganEmpty, FaultsAreCounted, HadStrange, MakerUse, MapsStand}
+use Rattle.topology_plan.specs.Topology.{Topology}
+use Rattle.tree_model.specs.Tables.{AreTables}
+use Rattle.tree_model.specs.Trees.{writes}
+use Rattle.trident_batches.specs.Batches.{Cut}
+
+-- ---- each end
+
+-- What the end of a run says: all batches were committed, and over stores that began empty the
+-- tables are those of one machine that takes all records in order; or all attempts of a transaction
+-- ended without a commit; or so many batches are committed; or all were committed, and a store
+-- failed at the last reading; or a store had a cell before the run that no part takes.
+abbrev pub EndComes : Topology → Custom → Cut → ℕ → MakerUse → List Attempt → RunEnd → Type 0
+EndComes t custom cut ticks maker fates (end.All tables) =
+    IsWhole (length cut.records) cut.size ticks fates
+    × (BeganEmpty t maker → AreTables t (writes t custom cut.records) tables)
+EndComes t custom cut ticks maker fates (end.Exhausted txid) = HasRunOut t txid fates
+EndComes t custom cut ticks maker fates (end.Unfinished k) =
+    (committed_count fates ≡ k) × (k < batches_in cut)
+EndComes t custom cut ticks maker fates end.StoreFault =
+    IsWhole (length cut.records) cut.size ticks fates
+EndComes t custom cut ticks maker fates end.BadCell = HadStrange t maker
+
+-- how many more faults there were than failed commits: one at the last reading
+abbrev pub more_faults : RunEnd → ℕ
+more_faults (end.All tables) = 0
+more_faults (end.Exhausted txid) = 0
+more_faults (end.Unfinished k) = 0
+more_faults end.StoreFault = 1
+more_faults end.BadCell = 0
+
+-- no bad cell was met
+abbrev pub MetNoBadCell : RunEnd → Type 0
+MetNoBadCell (end.All tables) = Unit {0}
+MetNoBadCell (end.Exhausted txid) = Unit {0}
+MetNoBadCell (end.Unfinished k) = Unit {0}
+MetNoBadCell end.StoreFault = Unit {0}
+MetNoBadCell end.BadCell = ⊥
+
+-- ---- a run
+
+-- Each end of an attempt has its cause, with so many ticks handed out: by some words of the sources
+-- of ids, and by those that the sources told.
+pub record HaveCauses (told : (ℕ → ℕ → ℕ) → Type 0) (t : Topology) (custom : Custom) (cut : Cut)
+    (ticks : ℕ) (fates : List Attempt) : Type 0 where
+  pub by_some : (words : ℕ → ℕ → ℕ) × AreCaused t custom cut ticks words fates
+  pub by_told : (words : ℕ → ℕ → ℕ) → told words → AreCaused t custom cut ticks words fates
+
+-- A run over the stores of a maker, in which so many ticks were handed out, left these fates and
+-- ended so. The sources of ids told these words.
+pub record IsRun (told : (ℕ → ℕ → ℕ) → Type 0) (t : Topology) (custom : Custom) (cut : Cut)
+    (ticks : ℕ) (maker : MakerUse) (fates : List Attempt) (ending : RunEnd) : Type 0 where
+  -- each batch was committed once at most, and in order
+  pub once : IsOnce (length cut.records) cut.size ticks fates
+  pub comes : EndComes t custom cut ticks maker fates ending
+  -- each end has its cause
+  pub caused : HaveCauses told t custom cut ticks fates
+  pub failed_in_turn : FailsInTurn fates
+  pub counted : FaultsAreCounted t maker fates (more_faults ending)
+  -- over stores that began empty all maps stand at the batches that were committed
+  pub stands : MetNoBadCell ending → BeganEmpty t maker
+      → MapsStand t custom cut (committed_count fates) maker
+
+-- ---- worlds
+
+-- the fates, and the answer with this end, are those of the world after these steps
+abbrev pub IsEndOfWorld : Topology → Custom → Cut → (ℕ → ℕ → ℕ) → List Step → List Attempt → RunEnd
+    → Type 0
+IsEndOfWorld t custom cut words steps fates (end.All tables) =
+    IsOfWorld t custom cut words steps (Ok ended.All) fates
+IsEndOfWorld t custom cut words steps fates (end.Exhausted txid) =
+    IsOfWorld t custom cut words steps (Err (stop.Exhausted txid)) fates
+IsEndOfWorld t custom cut words steps fates (end.Unfinished k) =
+    IsOfWorld t custom cut words steps (Ok (ended.Unfinished k)) fates
+IsEndOfWorld t custom cut words steps fates end.StoreFault =
+    IsOfWorld t custom cut words steps (Ok ended.All) fates
+IsEndOfWorld t custom cut words steps fates end.BadCell = Unit {0}
+
+-- They are so by some words of the sources of ids, and by those that the sources told.
+pub record IsRunOfWorld (told : (ℕ → ℕ → ℕ) → Type 0) (t : Topology) (custom : Custom) (cut : Cut)
+    (steps : List Step) (fates : List Attempt) (ending : RunEnd) : Type 0 where
+  pub by_some : (words : ℕ → ℕ → ℕ) × IsEndOfWorld t custom cut words steps fates ending
+  pub by_told : (words : ℕ → ℕ → ℕ) → told words
+      → IsEndOfWorld t custom cut words steps fates ending
+
+-- A run by rounds, which asked a source of ticks once a round, is that of the world after them.
+-- Over sources of ids and of ticks that tell it came to what these tell.
+pub record IsRunByRounds (told : (ℕ → ℕ → ℕ) → Type 0) (ticking : List ℕ → Type 0) (t : Topology)
+    (custom : Custom) (cut : Cut) (before after : ℕ) (fates : List Attempt) (ending : RunEnd)
+    : Type 0 where
+  -- what the source of ticks answered
+  pub answers : List ℕ
+  pub handed_out : after ≡ fold handed_on before answers
+  pub asked : (to_come : List ℕ) → ticking to_come
+      → answers ≡ first_answers (length answers) to_come
+  -- the steps
+  pub steps : List Step
+  pub rounds : HasRoundsOf t answers steps
+  pub world : IsRunOfWorld told t custom cut steps fates ending
+
+-- ---- when a run has to commit all
+
+-- Nothing is in the way: the stores began empty, no store failed, by a count that ends at 2^64 - 1,
+-- each bolt lets batches through within the attempts of the plan, and no attempt ended because its
+-- ids coincide.
+pub record NothingIsInTheWay (t : Topology) (maker : MakerUse) (fates : List Attempt) : Type 0 where
+  pub began_empty : BeganEmpty t maker
+  pub no_fault : Rose maker.faults_before maker.faults_after → ⊥
+  pub ends : maker.faults_before ≤ 2 ^ 64 - 1
+  pub can_finish : CanFinish t
+  pub no_coincidence : All DoesNotCoincide fates
+
+-- every batch was committed, and the tables were read
+abbrev pub IsAll : RunEnd → Type 0
+IsAll (end.All tables) = Unit {0}
+IsAll (end.Exhausted txid) = ⊥
+IsAll (end.Unfinished k) = ⊥
+IsAll end.StoreFault = ⊥
+IsAll end.BadCell = ⊥

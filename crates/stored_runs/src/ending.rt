@@ -1,0 +1,16 @@
+use tree_model::Tables;
+
+/// How a run over the stores of a maker ended.
+#[derive(Debug, Drop)]
+pub enum RunEnd {
+    /// Every batch is committed, and these are the tables of the states.
+    All(Tables),
+    /// All attempts of this transaction ended, and none by a commit.
+    Exhausted(u64),
+    /// So many batches are committed after the schedule, and not all.
+    Unfinished(u64),
+    /// Every batch is committed, and a store failed when the tables were read.
+    StoreFault,
+    /// A store has a cell that its part does not take, or one at a key that is no text.
+    BadCell,
+}

@@ -1,0 +1,71 @@
+//! A given schedule over the stores of a maker.
+ghost use Rattle.std.specs.Prelude.{◌≡◌, ◌<◌, [], IfOk, length};
+ghost use Rattle.std.specs.List.{AllByRecursion};
+ghost use Rattle.attempt_fates.specs.Fates.{IsOnce};
+ghost use Rattle.commit_turns.specs.Turns.{last_tick};
+ghost use Rattle.event_worlds.specs.Accounted.{IsInput};
+ghost use Rattle.event_worlds.specs.Rounds.{HasRounds, rounds_needed, ticks_in};
+ghost use Rattle.schedule_core.specs.Schedules.{all_steps};
+ghost use Rattle.schedule_reader.specs.Events.{FitsEvent};
+ghost use Rattle.stored_runs.specs.Makers.{CameBack, maker_use};
+ghost use Rattle.stored_runs.specs.StoredRuns.{IsAll, IsRun, IsRunOfWorld, NothingIsInTheWay};
+
+use crate::closing::close;
+use crate::ending::RunEnd;
+use crate::laws::laws_of_runs;
+use attempt_fates::Fates;
+use bolt_ops::RowOp;
+use schedule_core::{Events, replay};
+use state_parts::Parts;
+use std::alloc::Global;
+use storm_ids::IdMaker;
+use storm_stores::StoreMaker;
+use storm_values::Memory;
+use topology_plan::Plan;
+use trident_batches::Batches;
+
+/// Carries out a given schedule over stores that the maker makes, reads the tables where every
+/// batch is committed, and gives the stores back.
+///
+/// It costs what `replay` does, and one look at each key. The attempts that ended are in the fates,
+/// whatever the answer. With want of memory too all stores come back.
+pub fn replay_over<N: IdMaker, M: StoreMaker, O: RowOp>(
+    alloc: Global,
+    plan: &Plan,
+    batches: Batches,
+    events: &Events,
+    ids: &mut N,
+    stores: &mut M,
+    custom: &O,
+    fates: &mut Fates,
+) -> Result<RunEnd, Memory>
+    requires empty { fates.old ≡ [] }
+    requires input { IsInput plan.now batches }
+    requires fit { AllByRecursion (FitsEvent plan.now) events.now }
+
+    // What the end, the fates and the stores come to.
+    ensures comes { IfOk result (IsRun (N.tells ids.old) plan.now (O.meaning custom.now) batches
+        (ticks_in (all_steps plan.now events.now))
+        (maker_use M.holds M.has_made M.fault_count stores.old stores.new) fates.new) }
+    ensures once { IsOnce (length batches.records) batches.size last_tick fates.new }
+    ensures back { CameBack plan.now
+        (maker_use M.holds M.has_made M.fault_count stores.old stores.new) }
+
+    // It is the run of one world.
+    ensures world { IfOk result (IsRunOfWorld (N.tells ids.old) plan.now (O.meaning custom.now)
+        batches (all_steps plan.now events.now) fates.new) }
+
+    // With rounds enough and few ticks every batch is committed, where nothing is in the way.
+    ensures finishes { NothingIsInTheWay plan.now
+        (maker_use M.holds M.has_made M.fault_count stores.old stores.new) fates.new
+        → HasRounds plan.now (rounds_needed plan.now (O.meaning custom.now) batches)
+        (all_steps plan.now events.now)
+        → ticks_in (all_steps plan.now events.now) < plan.now.buckets → IfOk result IsAll }
+{
+    laws_of_runs::<M::C>();
+    let mut parts = Parts::make(alloc, plan, stores)?;
+    let answer = replay(alloc, plan, batches, events, ids, &mut parts, custom, fates);
+    let ended = close(plan, &mut parts, answer);
+    parts.give_back(stores);
+    ended
+}

@@ -1,0 +1,27 @@
+//! The laws that runs over the stores of a maker rest on.
+ghost use Rattle.bolt_ops.specs.RowOp.{Custom};
+ghost use Rattle.stored_runs.specs.Laws.{PartLaws, WorldLaws};
+ghost use Rattle.topology_plan.specs.Topology.{Topology};
+ghost use Rattle.trident_batches.specs.Batches.{Cut};
+
+use batch_commits::{
+    counts_run_on, failures_of_commits_are_counted, parts_that_stand_have_the_tables,
+    strange_cells_were_there,
+};
+use event_worlds::worlds_are_accounted;
+use storm_stores::CellStore;
+use world_progress::enough_rounds_finish;
+
+/// Laws of worlds, and of parts.
+pub(crate) fn laws_of_runs<C: CellStore>()
+    ensures worlds { (t : Topology) (custom : Custom) (cut : Cut) → WorldLaws t custom cut }
+    ensures parts { (t : Topology) (custom : Custom) (cut : Cut)
+        → PartLaws C.tells C.fault_count t custom cut }
+{
+    worlds_are_accounted();
+    enough_rounds_finish();
+    failures_of_commits_are_counted::<C>();
+    counts_run_on::<C>();
+    parts_that_stand_have_the_tables::<C>();
+    strange_cells_were_there::<C>();
+}

@@ -1,0 +1,149 @@
+-- What is written of a run over accepted files, from what the run came to.
+use Rattle.std.proofs.Common.{◌≡◌, ◌<◌, ◌≤◌, ℕ, List, [], All, length, Result, Ok, Err, IfOk, IfErr, OnOk, refl, sym, ap, subst, ◌∙◌, String, string_bytes}
+use Rattle.std.specs.List.{AllByRecursion, range_with_len}
+use Rattle.std.proofs.lemmas.List.Elements.{All-from_recursion}
+use Rattle.std.proofs.lemmas.List.FromFn.{length-range_with_len}
+use Rattle.attempt_fates.proofs.RecordLemmas.{records_are_all}
+use Rattle.attempt_fates.specs.declared.fates.Attempt.{Attempt}
+use Rattle.attempt_fates.specs.declared.fates.End.{End}
+use Rattle.attempt_fates.specs.declared.fates.End.TheVariants as attempt_end
+use Rattle.attempt_fates.specs.Fates.{IsOnce}
+use Rattle.bolt_ops.specs.RowOp.{Custom}
+use Rattle.commit_turns.specs.Account.{ended_of, ending_of, ends_of, rows_in}
+use Rattle.commit_turns.specs.Turns.{last_tick}
+use Rattle.counted_items.proofs.Each.{each-map, each-weaker}
+use Rattle.schedule_core.specs.Runs.{committed_count}
+use Rattle.schedule_core.specs.Schedules.{all_steps}
+use Rattle.schedule_reader.specs.declared.event.Event.{Event}
+use Rattle.storm_program.specs.declared.status.Status.{Status}
+use Rattle.storm_program.specs.declared.status.Status.TheVariants as status
+use Rattle.storm_program.specs.declared.stop.Stop.{Stop}
+use Rattle.storm_program.specs.declared.stop.Stop.TheVariants.{Memory, Told}
+use Rattle.storm_program.specs.Ends.{HasText}
+use Rattle.storm_program.specs.Outside.{RunUse}
+use Rattle.storm_program.specs.Replay.{IsReplayReport, ticks_of_schedule}
+use Rattle.storm_program.specs.Reports.{EndsSo, IsEndText, IsReport, WasAcked, cut_by}
+use Rattle.storm_program.specs.Run.{IsShort}
+use Rattle.storm_program.specs.steps.Ended.{IsRoundsEnd, IsStopOfEnd, WorkStops, status_of}
+use Rattle.storm_program.specs.steps.Stops.{IsMemory, Stops}
+use Rattle.storm_values.specs.declared.value.Value.{Value}
+use Rattle.stored_runs.specs.declared.ending.RunEnd.{RunEnd}
+use Rattle.stored_runs.specs.declared.ending.RunEnd.TheVariants as end
+use Rattle.stored_runs.specs.Makers.{CameBack, MapsStand}
+use Rattle.stored_runs.specs.StoredRuns.{IsAll, IsRun, IsRunOfWorld}
+use Rattle.topology_plan.specs.Topology.{Topology}
+use Rattle.tree_model.specs.Tables.{AreTables}
+use Rattle.tree_model.specs.Trees.{writes}
+use Rattle.trident_batches.specs.Batches.{Cut, batch_count}
+use Rattle.tuple_account.specs.Ends.{CauseBy, HasCause}
+
+module _ (custom : Custom) (plan : Topology) (records : List (List Value)) (base : RunUse) (ticks : ℕ) (fates : List Attempt) where
+  -- a committed attempt's cause is that its tree was acked
+  acked_by : (a : Attempt) → HasCause plan custom (rows_in (cut_by plan records)) ticks (ended_of a) → WasAcked plan custom records a
+  acked_by a cause list is = subst (λ (e : End). CauseBy plan custom (rows_in (cut_by plan records) a.root.txid) ticks (ended_of a) (ending_of e)) is cause
+
+  acked_all : AllByRecursion (HasCause plan custom (rows_in (cut_by plan records)) ticks) (ends_of fates) → All (WasAcked plan custom records) fates
+  acked_all causes =
+      let each = each-map (HasCause plan custom (rows_in (cut_by plan records)) ticks) ended_of fates causes in
+      All-from_recursion (WasAcked plan custom records) fates (each-weaker (λ (a : Attempt). HasCause plan custom (rows_in (cut_by plan records)) ticks (ended_of a)) (WasAcked plan custom records) acked_by fates each)
+
+  -- all batches committed: the report
+  report_of : (r b : ℕ) → r ≡ length records → b ≡ batch_count (length records) plan.batch → (ending : RunEnd) (text : List ℕ) → IsAll ending → IsEndText plan r b fates ending text → IsRun base.words plan custom (cut_by plan records) ticks base.stores fates ending → CameBack plan base.stores
+      → IsReport custom plan records base ticks fates text
+  report_of r b r_is b_is (end.All tables) text all printed run back =
+      let whole = run.comes.0 in
+      let count : committed_count fates ≡ batch_count (length records) plan.batch = ap length whole.all_committed ∙ length-range_with_len 1 (batch_count (length records) plan.batch) in
+      record {
+        tables = tables;
+        printed =
+            subst (λ (n : ℕ). IsEndText plan n (batch_count (length records) plan.batch) fates (end.All tables) text) r_is
+            (subst (λ (n : ℕ). IsEndText plan r n fates (end.All tables) text) b_is printed);
+        of_commits = λ empty. subst (λ (rs : List (List Value)). AreTables plan (writes plan custom rs) tables) (sym (records_are_all records plan.batch ticks fates whole)) (run.comes.1 empty);
+        whole = whole;
+        acked = acked_all run.caused.by_some.1.each;
+        caused = run.caused;
+        failed_in_turn = run.failed_in_turn;
+        counted = run.counted;
+        back = back;
+        stands = λ empty. subst (λ (n : ℕ). MapsStand plan custom (cut_by plan records) n base.stores) count (run.stands tt empty);
+      }
+  report_of r b r_is b_is (end.Exhausted txid) text all printed run back = absurd all
+  report_of r b r_is b_is (end.Unfinished k) text all printed run back = absurd all
+  report_of r b r_is b_is end.StoreFault text all printed run back = absurd all
+  report_of r b r_is b_is end.BadCell text all printed run back = absurd all
+
+  -- over batches that are those of the plan, of so many records
+  module _ (cut : Cut) (cut_is : cut ≡ cut_by plan records) (r b : ℕ) (r_is : r ≡ length cut.records) (b_is : b ≡ batch_count (length cut.records) cut.size) where
+    r_of : r ≡ length records
+    r_of = r_is ∙ ap (λ (k : Cut). length k.records) cut_is
+
+    b_of : b ≡ batch_count (length records) plan.batch
+    b_of = b_is ∙ ap (λ (k : Cut). batch_count (length k.records) k.size) cut_is
+
+    pub report_if : {A : Type 0} (ending : RunEnd) (result : Result (String A) Stop) → IfOk result (λ text. IsAll ending) → IfOk result (λ text. IsEndText plan r b fates ending (string_bytes text)) → IsRun base.words plan custom cut ticks base.stores fates ending → CameBack plan base.stores
+        → IfOk result (λ text. IsReport custom plan records base ticks fates (string_bytes text))
+    report_if ending (Ok text) all printed run back = report_of r b r_of b_of ending (string_bytes text) all printed (subst (λ (k : Cut). IsRun base.words plan custom k ticks base.stores fates ending) cut_is run) back
+    report_if ending (Err stop) all printed run back = tt
+
+    -- not all: the end and its text
+    pub ends_so : (ending : RunEnd) → IsRun base.words plan custom cut ticks base.stores fates ending → CameBack plan base.stores → (text : List ℕ) → IsEndText plan r b fates ending text → EndsSo custom plan records base ticks fates ending text
+    ends_so ending run back text printed = record {
+      run = subst (λ (k : Cut). IsRun base.words plan custom k ticks base.stores fates ending) cut_is run;
+      back = back;
+      printed =
+          subst (λ (n : ℕ). IsEndText plan n (batch_count (length records) plan.batch) fates ending text) r_of
+          (subst (λ (n : ℕ). IsEndText plan r n fates ending text) b_of printed);
+    }
+
+    pub short_of : IsOnce (length cut.records) cut.size last_tick fates → CameBack plan base.stores → IsShort plan records base fates
+    short_of once back = record { once = subst (λ (k : Cut). IsOnce (length k.records) k.size last_tick fates) cut_is once; back = back }
+
+-- the report of a replay, whose fates are those of the world
+module _ (custom : Custom) (plan : Topology) (records : List (List Value)) (base : RunUse) (fates : List Attempt) (cut : Cut) (cut_is : cut ≡ cut_by plan records) (r b : ℕ) (r_is : r ≡ length cut.records) (b_is : b ≡ batch_count (length cut.records) cut.size) (events : List Event) where
+  pub replay_report_if : {A : Type 0} (ending : RunEnd) (result : Result (String A) Stop) → IfOk result (λ text. IsAll ending) → IfOk result (λ text. IsEndText plan r b fates ending (string_bytes text)) → IsRun base.words plan custom cut (ticks_of_schedule plan events) base.stores fates ending → CameBack plan base.stores
+      → IsRunOfWorld base.words plan custom cut (all_steps plan events) fates ending → IfOk result (λ text. IsReplayReport custom plan records events base fates (string_bytes text))
+  unfolding report_of
+  replay_report_if ending (Err stop) all printed run back world = tt
+  replay_report_if (end.All tables) (Ok text) all printed run back world = record {
+    report =
+        report_of custom plan records base (ticks_of_schedule plan events) fates r b
+        (r_is ∙ ap (λ (k : Cut). length k.records) cut_is) (b_is ∙ ap (λ (k : Cut). batch_count (length k.records) k.size) cut_is)
+        (end.All tables) (string_bytes text) tt printed (subst (λ (k : Cut). IsRun base.words plan custom k (ticks_of_schedule plan events) base.stores fates (end.All tables)) cut_is run) back;
+    of_world = subst (λ (k : Cut). IsRunOfWorld base.words plan custom k (all_steps plan events) fates (end.All tables)) cut_is world;
+  }
+  replay_report_if (end.Exhausted txid) (Ok text) all printed run back world = absurd all
+  replay_report_if (end.Unfinished k) (Ok text) all printed run back world = absurd all
+  replay_report_if end.StoreFault (Ok text) all printed run back world = absurd all
+  replay_report_if end.BadCell (Ok text) all printed run back world = absurd all
+
+-- a run by rounds does not end unfinished
+pub rounds_end : {E : Type 0} (r : Result RunEnd E) (ending : RunEnd) → r ≡ Ok ending → ((k : ℕ) → r ≡ Ok (end.Unfinished k) → ⊥) → IsRoundsEnd ending
+rounds_end r (end.All tables) is goes_on = tt
+rounds_end r (end.Exhausted txid) is goes_on = tt
+rounds_end r (end.Unfinished k) is goes_on = goes_on k is
+rounds_end r end.StoreFault is goes_on = tt
+rounds_end r end.BadCell is goes_on = tt
+
+-- the stop of a run that ended so, where `Ends` holds of its text
+work_told : (Ends : RunEnd → List ℕ → Type 0) (Short : Type 0) (ending : RunEnd) (text : List ℕ) → (IsAll ending → ⊥) → Ends ending text → HasText (status_of ending) × WorkStops Ends Short (status_of ending) text
+work_told Ends Short (end.All tables) text not_all ends = absurd (not_all tt)
+work_told Ends Short (end.Exhausted txid) text not_all ends = (tt, (txid, ends))
+work_told Ends Short (end.Unfinished k) text not_all ends = (tt, (k, ends))
+work_told Ends Short end.StoreFault text not_all ends = (tt, ends)
+work_told Ends Short end.BadCell text not_all ends = (tt, ends)
+
+pub work_stops : {T : Type 0} (Ends : RunEnd → List ℕ → Type 0) (Short : Type 0) (plan : Topology) (r b : ℕ) (fates : List Attempt) (ending : RunEnd) (result : Result T Stop) → ((text : List ℕ) → IsEndText plan r b fates ending text → Ends ending text) → Short → IfErr result (IsStopOfEnd plan r b fates ending) → IfErr result (Stops (WorkStops Ends Short))
+work_stops Ends Short plan r b fates ending (Ok x) makes short stops = tt
+work_stops Ends Short plan r b fates ending (Err Memory) makes short stops = short
+work_stops Ends Short plan r b fates ending (Err (Told s line)) makes short (not_all, is, printed) =
+    subst (λ (t : Status). HasText t × WorkStops Ends Short t (string_bytes line)) (sym is) (work_told Ends Short ending (string_bytes line) not_all (makes (string_bytes line) printed))
+
+-- where all had to be committed, only memory can stop it
+pub work_finishes : {T : Type 0} (plan : Topology) (r b : ℕ) (fates : List Attempt) (ending : RunEnd) (result : Result T Stop) → IsAll ending → IfErr result (IsStopOfEnd plan r b fates ending) → IfErr result IsMemory
+work_finishes plan r b fates ending (Ok x) all stops = tt
+work_finishes plan r b fates ending (Err Memory) all stops = tt
+work_finishes plan r b fates ending (Err (Told s line)) all (not_all, is, printed) = absurd (not_all all)
+
+-- all was committed where it had to be
+pub all_of : {E : Type 0} (r : Result RunEnd E) (ending : RunEnd) → r ≡ Ok ending → IfOk r IsAll → IsAll ending
+all_of {E} r ending is all = subst (λ (x : Result RunEnd E). IfOk x IsAll) is all

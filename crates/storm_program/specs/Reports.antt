@@ -1,0 +1,93 @@
+-- What is written of a run, whatever ran it: its report, the lines of its attempts, or a line.
+-- This project's own.
+use Rattle.std.specs.Prelude.{◌≡◌, ℕ, List, [], All, length}
+use Rattle.attempt_fates.specs.declared.fates.Attempt.{Attempt}
+use Rattle.attempt_fates.specs.declared.fates.End.TheVariants as end
+use Rattle.attempt_fates.specs.Fates.{committed_records, IsWhole}
+use Rattle.bolt_ops.specs.RowOp.{Custom}
+use Rattle.commit_turns.specs.Account.{rows_in}
+use Rattle.commit_turns.specs.Kept.{FailsInTurn}
+use Rattle.run_report.specs.Cells.{cells_of}
+use Rattle.run_report.specs.Fated.{AreLinesOf}
+use Rattle.run_report.specs.Report.{AttemptText, CellText, TailText, exhausted, ok, report_text, unfinished}
+use Rattle.storm_program.specs.Outside.{RunUse}
+use Rattle.storm_program.specs.Texts.{bad_cell_line, store_fault_line}
+use Rattle.storm_values.specs.declared.value.Value.{Value}
+use Rattle.stored_runs.specs.declared.ending.RunEnd.{RunEnd}
+use Rattle.stored_runs.specs.declared.ending.RunEnd.TheVariants as run_end
+use Rattle.stored_runs.specs.Makers.{BeganEmpty, CameBack, FaultsAreCounted, MapsStand}
+use Rattle.stored_runs.specs.StoredRuns.{HaveCauses, IsRun}
+use Rattle.topology_plan.specs.Topology.{Topology}
+use Rattle.tree_model.specs.declared.messages.AckMsg.{AckMsg}
+use Rattle.tree_model.specs.declared.write.Table.{Table}
+use Rattle.tree_model.specs.Lists.{Covers, IsClosed}
+use Rattle.tree_model.specs.Tables.{AreTables}
+use Rattle.tree_model.specs.Trees.{writes}
+use Rattle.trident_batches.specs.Batches.{Cut, batch_count}
+use Rattle.tuple_account.specs.Sound.{IsSound}
+
+-- the records of an input, cut by a plan
+abbrev pub cut_by : Topology → List (List Value) → Cut
+cut_by plan records = record { records = records; size = plan.batch }
+
+-- the text has the attempt lines of these fates, these cells and this tail
+pub record IsTextOf (plan : Topology) (fates : List Attempt) (cells : List CellText)
+    (tail : TailText) (text : List ℕ) : Type 0 where
+  pub lines : List AttemptText
+  pub are_lines : AreLinesOf plan fates lines
+  pub printed : text ≡ report_text (record { attempts = lines; cells = cells; tail = tail })
+
+-- The whole tuple tree of a committed attempt was acked: the list of its acker that was checked
+-- before the commit is true, single, steady and closed, and covers the tree of its batch.
+abbrev pub WasAcked : Topology → Custom → List (List Value) → Attempt → Type 0
+WasAcked plan custom records a =
+    (list : List AckMsg) → a.end ≡ end.Committed list
+    → IsSound plan custom (rows_in (cut_by plan records) a.root.txid) a.root list × IsClosed list
+    × Covers plan custom (rows_in (cut_by plan records) a.root.txid) list
+
+-- The report of a plan and the records of an input, with the operation that was handed in, where so
+-- many ticks were handed out: the printed tables are those of one machine that takes the committed
+-- batches' records in transaction order; every input record stands in exactly one committed batch;
+-- each committed attempt's whole tuple tree was acked before its commit; and every other attempt's
+-- printed end has its shown cause.
+pub record IsReport (custom : Custom) (plan : Topology) (records : List (List Value)) (base : RunUse)
+    (ticks : ℕ) (fates : List Attempt) (text : List ℕ) : Type 0 where
+  -- the printed tables, and the attempt lines
+  pub tables : List Table
+  pub printed : IsTextOf plan fates (cells_of tables)
+      (ok (length records) (batch_count (length records) plan.batch)) text
+  -- over stores that began empty they are those of one machine, in transaction order
+  pub of_commits : BeganEmpty plan base.stores
+      → AreTables plan (writes plan custom (committed_records records fates)) tables
+  -- every record stands in exactly one committed batch
+  pub whole : IsWhole (length records) plan.batch ticks fates
+  -- each committed attempt's whole tuple tree was acked
+  pub acked : All (WasAcked plan custom records) fates
+  -- every end has its cause
+  pub caused : HaveCauses base.words plan custom (cut_by plan records) ticks fates
+  pub failed_in_turn : FailsInTurn fates
+  pub counted : FaultsAreCounted plan base.stores fates 0
+  -- the stores came back, and over stores that began empty they stand at all batches
+  pub back : CameBack plan base.stores
+  pub stands : BeganEmpty plan base.stores
+      → MapsStand plan custom (cut_by plan records)
+      (batch_count (length records) plan.batch) base.stores
+
+-- the text of a run over so many records and batches that ended so
+abbrev pub IsEndText : Topology → ℕ → ℕ → List Attempt → RunEnd → List ℕ → Type 0
+IsEndText plan records batches fates (run_end.All tables) text =
+    IsTextOf plan fates (cells_of tables) (ok records batches) text
+IsEndText plan records batches fates (run_end.Exhausted txid) text =
+    IsTextOf plan fates [] (exhausted txid) text
+IsEndText plan records batches fates (run_end.Unfinished k) text =
+    IsTextOf plan fates [] (unfinished k) text
+IsEndText plan records batches fates run_end.StoreFault text = text ≡ store_fault_line
+IsEndText plan records batches fates run_end.BadCell text = text ≡ bad_cell_line
+
+-- A run over the records of an input ended so, left these fates, and this is its text.
+pub record EndsSo (custom : Custom) (plan : Topology) (records : List (List Value)) (base : RunUse)
+    (ticks : ℕ) (fates : List Attempt) (ending : RunEnd) (text : List ℕ) : Type 0 where
+  pub run : IsRun base.words plan custom (cut_by plan records) ticks base.stores fates ending
+  pub back : CameBack plan base.stores
+  pub printed : IsEndText plan (length records) (batch_count (length records) plan.batch) fates
+      ending text

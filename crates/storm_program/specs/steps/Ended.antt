@@ -1,0 +1,43 @@
+-- What is written of a run that ended.
+use Rattle.std.specs.Prelude.{◌≡◌, ℕ, List, []}
+use Rattle.attempt_fates.specs.declared.fates.Attempt.{Attempt}
+use Rattle.storm_program.specs.declared.status.Status.{Status}
+use Rattle.storm_program.specs.declared.status.Status.TheVariants as status
+use Rattle.storm_program.specs.declared.stop.Stop.{Stop}
+use Rattle.storm_program.specs.Reports.{IsEndText}
+use Rattle.storm_program.specs.steps.Stops.{IfTold}
+use Rattle.stored_runs.specs.declared.ending.RunEnd.{RunEnd}
+use Rattle.stored_runs.specs.declared.ending.RunEnd.TheVariants as end
+use Rattle.stored_runs.specs.StoredRuns.{IsAll}
+use Rattle.topology_plan.specs.Topology.{Topology}
+
+-- the status of a run that ended so
+abbrev pub status_of : RunEnd → Status
+status_of (end.All tables) = status.Done
+status_of (end.Exhausted txid) = status.Exhausted
+status_of (end.Unfinished k) = status.Unfinished
+status_of end.StoreFault = status.StoreFault
+status_of end.BadCell = status.BadCell
+
+-- the stop tells a run that did not commit all, by its status and its text
+abbrev pub IsStopOfEnd : Topology → ℕ → ℕ → List Attempt → RunEnd → Stop → Type 0
+IsStopOfEnd plan records batches fates ending stop =
+    IfTold stop
+    (λ s text.
+    (IsAll ending → ⊥) × (s ≡ status_of ending)
+    × IsEndText plan records batches fates ending text)
+
+-- What a run over accepted files comes to that is no report, where `Ends` says what each end comes
+-- to by its text, and `Short` what want of memory leaves.
+abbrev pub WorkStops : (RunEnd → List ℕ → Type 0) → Type 0 → Status → List ℕ → Type 0
+WorkStops Ends Short status.Memory text = Short
+WorkStops Ends Short status.Exhausted text = (txid : ℕ) × Ends (end.Exhausted txid) text
+WorkStops Ends Short status.Unfinished text = (k : ℕ) × Ends (end.Unfinished k) text
+WorkStops Ends Short status.StoreFault text = Ends end.StoreFault text
+WorkStops Ends Short status.BadCell text = Ends end.BadCell text
+WorkStops Ends Short _ text = ⊥
+
+-- an end of a run by rounds
+abbrev pub IsRoundsEnd : RunEnd → Type 0
+IsRoundsEnd (end.Unfinished k) = ⊥
+IsRoundsEnd _ = Unit {0}
