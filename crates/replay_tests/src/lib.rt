@@ -9,5 +9,3 @@ mod scenes;
 mod schedules;
 #[cfg(test)]
 mod stores;
-#[cfg(test)]
-mod topologies;

@@ -1,35 +1,10 @@
 // Reports of given schedules, by hand.
 use crate::scenes::{Scene, calm, check_scene};
-use crate::topologies::{
-    COPIES, FAILS_ALWAYS, FAILS_TWICE, LAST_VALUE, MUTE_ALWAYS, MUTE_ONCE, SIDE_BY_SIDE,
-    SMALL_WORD_COUNT, STEADY, WORD_COUNT,
+use sample_topologies::{
+    COPIES_TO_ALL, COUNTED_SENTENCES, FAILS_ALWAYS, FAILS_TWICE, LAST_VALUE, MUTE_ALWAYS,
+    MUTE_ONCE, SENTENCES, SIDE_BY_SIDE, SMALL_WORD_COUNT, STEADY, WORD_COUNT,
 };
 use test_kit::Mismatch;
-
-const SENTENCES: &str = "[\"the cow jumped over the moon\"]
-[\"the man went to the store\"]
-[\"four score and seven years ago\"]
-";
-
-const COUNTED_SENTENCES: &str = "attempt 1.1 records 1-2 ticks 0-0 committed
-attempt 2.1 records 3-3 ticks 0-0 committed
-cell counts [\"ago\"] 1
-cell counts [\"and\"] 1
-cell counts [\"cow\"] 1
-cell counts [\"four\"] 1
-cell counts [\"jumped\"] 1
-cell counts [\"man\"] 1
-cell counts [\"moon\"] 1
-cell counts [\"over\"] 1
-cell counts [\"score\"] 1
-cell counts [\"seven\"] 1
-cell counts [\"store\"] 1
-cell counts [\"the\"] 4
-cell counts [\"to\"] 1
-cell counts [\"went\"] 1
-cell counts [\"years\"] 1
-ok 3 records 2 batches
-";
 
 #[test]
 fn rounds_count_the_words(rt: HostRuntime) -> Result<(), Mismatch> {
@@ -61,7 +36,7 @@ fn an_empty_schedule_commits_nothing(rt: HostRuntime) -> Result<(), Mismatch> {
 
 #[test]
 fn each_copy_of_a_sentence_is_counted(rt: HostRuntime) -> Result<(), Mismatch> {
-    let scene = calm(COPIES, "[\"a b\"]", "rounds 1000");
+    let scene = calm(COPIES_TO_ALL, "[\"a b\"]", "rounds 1000");
     let want = "attempt 1.1 records 1-1 ticks 0-0 committed
 cell counts [\"a\"] 3
 cell counts [\"b\"] 3

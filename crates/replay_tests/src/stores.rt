@@ -1,6 +1,6 @@
 // Reports over stores with calls that fail, and with a bad cell. The state is the component 1.
 use crate::scenes::{Scene, calm, check_scene};
-use crate::topologies::STEADY;
+use sample_topologies::STEADY;
 use std::alloc::Global;
 use storm_stores::{CallKind, FailAt};
 use test_kit::Mismatch;

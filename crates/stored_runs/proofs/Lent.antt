@@ -8,7 +8,7 @@ use Rattle.bolt_ops.specs.RowOp.{Custom}
 use Rattle.counted_items.proofs.Each.{each-map, each-to_map}
 use Rattle.schedule_core.specs.Driving.{AreKept, StillTells}
 use Rattle.state_parts.specs.declared.parts.StatePart.{StatePart}
-use Rattle.state_parts.specs.Makers.{Began, CameBack as PartCameBack, HasNotFailed, RoseBySum, faults_of}
+use Rattle.state_parts.specs.Makers.{AreMade, Began, CameBack as PartCameBack, HasNotFailed, RoseBySum, faults_of}
 use Rattle.state_parts.specs.PartPlans.{AreParts, IsOneOf, PartPlan, plan_of, planned_parts, plans_of}
 use Rattle.state_parts.specs.PartTables.{AreRead, IsRead}
 use Rattle.state_parts.specs.Standing.{IsEmpty, PartIsAt, PartStands}
@@ -88,6 +88,14 @@ are_read tells count (x ∷ xs) = (
   record { plan = refl; same = λ cells told. told; never_falls = omega arith },
   are_read tells count xs,
 )
+
+-- stores were made for parts that are the same as those that were made
+pub still_made : {S M : Type 0} (made : M → ℕ → ℕ → Type 0) (maker : M)
+    (parts ran closed : List (StatePart S)) → plans_of ran ≡ plans_of parts
+    → plans_of closed ≡ plans_of ran → AreMade made maker (plans_of parts)
+    → AreMade made maker (plans_of closed)
+still_made made maker parts ran closed first then are =
+    subst (AreMade made maker) (sym (then ∙ first)) are
 
 -- ---- before the run
 

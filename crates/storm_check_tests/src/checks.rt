@@ -1,10 +1,8 @@
-// What a check of a topology prints, and which topologies a run puts off.
+// What a check of a topology prints.
+use sample_topologies::{COPIES_TO_ALL, LAST_VALUE, PAIRS, WORD_COUNT, one_bolt};
 use std::alloc::Global;
 use storm_program::{Status, storm_check};
-use storm_test_kit::{
-    CALM, CHECK, COPIES_TO_ALL, LAST_VALUE, PAIRS, RUN, SENTENCES, Scene, WORD_COUNT,
-    check_refusal, one_bolt, run_of, shelf, sink, taken,
-};
+use storm_test_kit::{CALM, CHECK, Scene, check_refusal, run_of, shelf, sink, taken};
 use test_kit::{Mismatch, changed, compare};
 
 // A bolt of 64 tasks that each get a copy, and one of 4 tasks that each get one of those.
@@ -81,8 +79,8 @@ const LENGTHS: [(usize, u8, &str); 3] = [
     (200_000, 3, "topology: longer than 65536 bytes\n"),
 ];
 
-// Kinds of the spout and the state, and the operation, of plans that are valid and not run yet.
-const NOT_YET: [(&str, &str, &str); 4] = [
+// Kinds of the spout and the state, and the operation.
+const KINDS: [(&str, &str, &str); 4] = [
     (
         "transactional",
         "transactional",
@@ -107,6 +105,7 @@ fn check_of(topology: &str) -> Scene<'_> {
         words: &CHECK,
         topology: Some(topology),
         input: None,
+        schedule: None,
     }
 }
 
@@ -160,21 +159,12 @@ fn a_check_without_words(rt: HostRuntime) -> Result<(), Mismatch> {
 }
 
 #[test]
-fn plans_that_are_not_run_yet(rt: HostRuntime) -> Result<(), Mismatch> {
+fn plans_of_each_kind_are_valid(rt: HostRuntime) -> Result<(), Mismatch> {
     let alloc = rt.alloc();
-    for (spout, state, op) in NOT_YET {
+    let valid = "valid components 2 tasks 2 weight 2 depth 2\n";
+    for (spout, state, op) in KINDS {
         let topology = one_bolt(alloc, spout, state, op)?;
-        let valid = "valid components 2 tasks 2 weight 2 depth 2\n";
         check_refusal(&rt, alloc, check_of(topology.as_str()), CALM, 0, valid)?;
-        // the line comes before the input is fetched
-        for input in [None, Some(SENTENCES)] {
-            let run = Scene {
-                words: &RUN,
-                topology: Some(topology.as_str()),
-                input,
-            };
-            check_refusal(&rt, alloc, run, CALM, 3, "topology: not yet\n")?;
-        }
     }
     Ok(())
 }

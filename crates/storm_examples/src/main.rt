@@ -1,7 +1,8 @@
 //! Calls `storm` over each folder of `examples`, and tells whether it prints what lies there.
 //!
-//! A folder has `topology.json`, `input.jsonl`, and in `plain.txt` what `plain` prints. A run
-//! prints the same after its attempt lines.
+//! A folder has `topology.json` and `input.jsonl`. One of an operation or a grouping has in
+//! `plain.txt` what `plain` prints, and a run prints the same after its attempt lines. One of an
+//! end has in `report.txt` what a run prints, or a replay of its `schedule.txt`.
 #![tactic(auto)]
 
 ghost use Rattle.std.specs.Prelude.{[]};
@@ -11,31 +12,71 @@ use std::alloc::Global;
 use std::process::ExitCode;
 use std::sync::Wait;
 use std::thread::Threads;
+use storm_ids::{ChaChaMaker, IdMaker, ScriptIds, Words};
 use storm_outside::{FileShelf, InFault, MemSink, OutSink, Shelf, Sink, read_all, write_all};
 use storm_program::{Fates, storm};
-use storm_values::{Bytes, Memory};
+use storm_stores::{CallKind, FailAt, MemMaker};
+use storm_ticks::ScriptTicks;
+use storm_values::{Bytes, Indexes, Memory};
 
-const RUN: [&str; 16] = [
-    "word_count",
-    "pairs",
-    "split",
-    "project",
-    "filter",
-    "set",
-    "len",
-    "route",
-    "custom",
-    "grouping_shuffle",
-    "grouping_none",
-    "grouping_local_or_shuffle",
-    "grouping_global",
-    "grouping_fields",
-    "grouping_all",
-    "grouping_direct",
+/// What is handed in beside the files.
+#[derive(Clone, Copy)]
+enum Handed {
+    /// Ids of ChaCha20 with a key of 32 zero bytes, and stores of which no call fails.
+    Nothing,
+    /// A tick each 100 rounds.
+    SlowTicks,
+    /// The words of `TASK_WORDS` and `COORDINATOR_WORDS` as ids.
+    TwoOfOneId,
+    /// A store whose first put fails when it has happened.
+    FailingPut,
+}
+
+// The folders of operations and groupings, and what is handed in to a run.
+const OPERATIONS: [(&str, Handed); 18] = [
+    ("word_count", Handed::Nothing),
+    ("pairs", Handed::Nothing),
+    ("split", Handed::Nothing),
+    ("project", Handed::Nothing),
+    ("filter", Handed::Nothing),
+    ("set", Handed::Nothing),
+    ("len", Handed::Nothing),
+    ("route", Handed::Nothing),
+    ("flaky", Handed::Nothing),
+    ("mute", Handed::SlowTicks),
+    ("custom", Handed::Nothing),
+    ("grouping_shuffle", Handed::Nothing),
+    ("grouping_none", Handed::Nothing),
+    ("grouping_local_or_shuffle", Handed::Nothing),
+    ("grouping_global", Handed::Nothing),
+    ("grouping_fields", Handed::Nothing),
+    ("grouping_all", Handed::Nothing),
+    ("grouping_direct", Handed::Nothing),
 ];
 
-// Not run yet.
-const PLAIN_ALONE: [&str; 2] = ["flaky", "mute"];
+// The folders of ends, the command, and what is handed in.
+const ENDS: [(&str, &str, Handed); 7] = [
+    ("end_committed", "run", Handed::Nothing),
+    ("end_failed", "run", Handed::Nothing),
+    ("end_timed_out", "replay", Handed::Nothing),
+    ("end_coincided", "replay", Handed::TwoOfOneId),
+    ("end_commit_failed", "run", Handed::FailingPut),
+    ("end_exhausted", "run", Handed::Nothing),
+    ("end_unfinished", "replay", Handed::Nothing),
+];
+
+// Of `end_coincided` the task is the source 0 of ids, and the coordinator the source 2. The first
+// word of each is where its shuffle begins.
+const TASK_WORDS: [u64; 5] = [0, 9, 9, 7, 8];
+
+const COORDINATOR_WORDS: [u64; 3] = [0, 5, 6];
+
+// Of `end_commit_failed` the state is the component 1, and has one part.
+const FIRST_PUT: FailAt = FailAt {
+    kind: CallKind::Put,
+    number: 1,
+    happened: true,
+};
 
 // The most bytes of what is printed.
 const ROOM: usize = 65_536;
@@ -46,23 +87,98 @@ fn read_file<H: Shelf>(alloc: Global, shelf: &mut H, name: &str) -> Result<Bytes
     read_all(alloc, shelf, ROOM as u64)
 }
 
-// What a command on the two files of a folder prints.
+// ---- what is handed in
+
+fn ticks(alloc: Global, handed: Handed) -> Result<ScriptTicks, Memory> {
+    let mut answers = Indexes::new(alloc);
+    if matches!(handed, Handed::SlowTicks) {
+        for question in 1..1_001 {
+            answers.push(u32::from(question % 100 == 0))?;
+        }
+    }
+    Ok(ScriptTicks::new(answers))
+}
+
+fn stores(alloc: Global, handed: Handed) -> Result<MemMaker, Memory> {
+    let mut stores = MemMaker::new(alloc);
+    if matches!(handed, Handed::FailingPut) {
+        stores.fail(1, 0, FIRST_PUT)?;
+    }
+    Ok(stores)
+}
+
+fn words_of(alloc: Global, words: &[u64]) -> Result<Words, Memory> {
+    Ok(Words::from_vec(words.to_vec(alloc)?))
+}
+
+fn two_of_one_id(alloc: Global) -> Result<ScriptIds, Memory> {
+    let mut ids = ScriptIds::new(alloc);
+    ids.add(0, words_of(alloc, &TASK_WORDS)?)?;
+    ids.add(2, words_of(alloc, &COORDINATOR_WORDS)?)?;
+    Ok(ids)
+}
+
+// ---- what is printed
+
+// The words of a command on the files of a folder.
+fn words(alloc: Global, command: &str, name: &str) -> Result<Vec<String>, Memory> {
+    let mut words = Vec::new(alloc);
+    words.push(String::from_str(alloc, command)?)?;
+    words.push(format!(in alloc; "{name}/topology.json")?)?;
+    words.push(format!(in alloc; "{name}/input.jsonl")?)?;
+    if command == "replay" {
+        words.push(format!(in alloc; "{name}/schedule.txt")?)?;
+    }
+    Ok(words)
+}
+
+fn printed_by<R: Threads + Wait + Sync, H: Shelf, N: IdMaker>(
+    rt: &R,
+    alloc: Global,
+    shelf: &mut H,
+    words: &[String],
+    handed: Handed,
+    ids: &mut N,
+) -> Result<MemSink, Memory> {
+    let mut out = MemSink::new(alloc, ROOM, ROOM)?;
+    let mut ticks = ticks(alloc, handed)?;
+    let mut stores = stores(alloc, handed)?;
+    let mut fates = Fates::new(alloc);
+    let _ = storm(
+        rt,
+        alloc,
+        words,
+        shelf,
+        &mut out,
+        &mut ticks,
+        &mut stores,
+        ids,
+        &Reversed,
+        &mut fates,
+    );
+    Ok(out)
+}
+
+// What a command on the files of a folder prints.
 fn printed<R: Threads + Wait + Sync, H: Shelf>(
     rt: &R,
     alloc: Global,
     shelf: &mut H,
     command: &str,
     name: &str,
+    handed: Handed,
 ) -> Result<MemSink, Memory> {
-    let words = [
-        String::from_str(alloc, command)?,
-        format!(in alloc; "{name}/topology.json")?,
-        format!(in alloc; "{name}/input.jsonl")?,
-    ];
-    let mut out = MemSink::new(alloc, ROOM, ROOM)?;
-    let mut fates = Fates::new(alloc);
-    let _ = storm(rt, alloc, &words, shelf, &mut out, &Reversed, &mut fates);
-    Ok(out)
+    let words = words(alloc, command, name)?;
+    match handed {
+        Handed::TwoOfOneId => {
+            let mut ids = two_of_one_id(alloc)?;
+            printed_by(rt, alloc, shelf, words.as_slice(), handed, &mut ids)
+        }
+        _ => {
+            let mut ids = ChaChaMaker { key: [0; 32] };
+            printed_by(rt, alloc, shelf, words.as_slice(), handed, &mut ids)
+        }
+    }
 }
 
 // The lines of a report but those of attempts.
@@ -79,23 +195,15 @@ fn without_attempts(alloc: Global, report: &[u8]) -> Result<String, Memory> {
     Ok(left)
 }
 
-// Tells whether a command on a folder's files prints what lies there.
-fn tell<R: Threads + Wait + Sync, H: Shelf, K: Sink>(
-    rt: &R,
+// ---- what is told
+
+fn tell<K: Sink>(
     alloc: Global,
-    shelf: &mut H,
     out: &mut K,
     command: &str,
     name: &str,
+    same: bool,
 ) -> Result<(), InFault> {
-    let report = printed(rt, alloc, shelf, command, name)?;
-    let found = without_attempts(alloc, report.bytes())?;
-    let want = read_file(
-        alloc,
-        shelf,
-        format!(in alloc; "{name}/plain.txt")?.as_str(),
-    )?;
-    let same = found.as_bytes() == want.as_slice();
     let how = if same { "as expected" } else { "differs" };
     write_all(
         out,
@@ -104,18 +212,53 @@ fn tell<R: Threads + Wait + Sync, H: Shelf, K: Sink>(
     Ok(())
 }
 
+// Tells whether a command on a folder's files prints its tables.
+fn tell_tables<R: Threads + Wait + Sync, H: Shelf, K: Sink>(
+    rt: &R,
+    alloc: Global,
+    shelf: &mut H,
+    out: &mut K,
+    command: &str,
+    name: &str,
+    handed: Handed,
+) -> Result<(), InFault> {
+    let report = printed(rt, alloc, shelf, command, name, handed)?;
+    let found = without_attempts(alloc, report.bytes())?;
+    let file = format!(in alloc; "{name}/plain.txt")?;
+    let want = read_file(alloc, shelf, file.as_str())?;
+    let same = found.as_bytes() == want.as_slice();
+    tell(alloc, out, command, name, same)
+}
+
+// Tells whether a command on a folder's files prints its report.
+fn tell_report<R: Threads + Wait + Sync, H: Shelf, K: Sink>(
+    rt: &R,
+    alloc: Global,
+    shelf: &mut H,
+    out: &mut K,
+    command: &str,
+    name: &str,
+    handed: Handed,
+) -> Result<(), InFault> {
+    let report = printed(rt, alloc, shelf, command, name, handed)?;
+    let file = format!(in alloc; "{name}/report.txt")?;
+    let want = read_file(alloc, shelf, file.as_str())?;
+    let same = report.bytes() == want.as_slice();
+    tell(alloc, out, command, name, same)
+}
+
 fn tell_all<R: Threads + Wait + Sync, H: Shelf, K: Sink>(
     rt: &R,
     alloc: Global,
     shelf: &mut H,
     out: &mut K,
 ) -> Result<(), InFault> {
-    for name in RUN {
-        tell(rt, alloc, shelf, out, "plain", name)?;
-        tell(rt, alloc, shelf, out, "run", name)?;
+    for (name, handed) in OPERATIONS {
+        tell_tables(rt, alloc, shelf, out, "plain", name, Handed::Nothing)?;
+        tell_tables(rt, alloc, shelf, out, "run", name, handed)?;
     }
-    for name in PLAIN_ALONE {
-        tell(rt, alloc, shelf, out, "plain", name)?;
+    for (name, command, handed) in ENDS {
+        tell_report(rt, alloc, shelf, out, command, name, handed)?;
     }
     Ok(())
 }

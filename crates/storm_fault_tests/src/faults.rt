@@ -1,66 +1,121 @@
 // What a call answers and writes where one call to the outside fails, or gives and takes little.
 ghost use Rattle.std.specs.Prelude.{◌<◌};
 
+use sample_topologies::{
+    COUNTED_SENTENCES, FAILS_ALWAYS, SENTENCES, TABLES_OF_SENTENCES, WORD_COUNT,
+};
 use std::alloc::Global;
 use std::sync::Wait;
 use std::thread::Threads;
 use storm_test_kit::{
-    CALM, CHECK, COUNTED_SENTENCES, Outside, PLAIN, RUN, SENTENCES, Scene, TABLES_OF_SENTENCES,
-    Told, WORD_COUNT, call, check_call, check_refusal, plain_of, reads_of, run_over,
+    CALM, CHECK, Outside, PLAIN, REPLAY, RUN, Scene, Told, call, check_call, check_refusal,
+    plain_of, reads_of, replay_of, run_over,
 };
 use test_kit::{Mismatch, compare};
 
-// A report, each refusal, and the line of a read fault.
-const SCENES: [Scene<'static>; 10] = [
+// A record for calls that are made again for each byte that is written.
+const RECORD: &str = "[\"a\"]";
+
+// Rounds enough for the sentences.
+const SCHEDULE: &str = "rounds 20\nrounds 1000\n";
+
+// Reports, each refusal, and the lines of read faults.
+const SCENES: [Scene<'static>; 16] = [
     Scene {
         words: &RUN,
         topology: Some(WORD_COUNT),
-        input: Some(SENTENCES),
+        input: Some(RECORD),
+        schedule: None,
     },
     Scene {
         words: &RUN,
         topology: Some(WORD_COUNT),
         input: Some("[\"a\"]\n[1.5]"),
+        schedule: None,
     },
     Scene {
         words: &RUN,
         topology: Some("{}"),
-        input: Some(SENTENCES),
+        input: Some(RECORD),
+        schedule: None,
     },
     Scene {
         words: &RUN,
         topology: Some(WORD_COUNT),
         input: None,
+        schedule: None,
+    },
+    Scene {
+        words: &RUN,
+        topology: Some(FAILS_ALWAYS),
+        input: Some(RECORD),
+        schedule: None,
+    },
+    Scene {
+        words: &REPLAY,
+        topology: Some(WORD_COUNT),
+        input: Some(RECORD),
+        schedule: Some(SCHEDULE),
+    },
+    Scene {
+        words: &REPLAY,
+        topology: Some(WORD_COUNT),
+        input: Some(RECORD),
+        schedule: Some("rounds 3"),
+    },
+    Scene {
+        words: &REPLAY,
+        topology: Some(WORD_COUNT),
+        input: Some(RECORD),
+        schedule: Some("jump"),
+    },
+    Scene {
+        words: &REPLAY,
+        topology: Some(WORD_COUNT),
+        input: Some(RECORD),
+        schedule: None,
+    },
+    Scene {
+        words: &REPLAY,
+        topology: Some(FAILS_ALWAYS),
+        input: Some(RECORD),
+        schedule: Some(SCHEDULE),
     },
     Scene {
         words: &PLAIN,
         topology: Some(WORD_COUNT),
         input: Some(SENTENCES),
+        schedule: None,
     },
     Scene {
         words: &PLAIN,
         topology: Some(WORD_COUNT),
         input: Some("[]"),
+        schedule: None,
     },
     Scene {
         words: &PLAIN,
         topology: Some(WORD_COUNT),
         input: None,
+        schedule: None,
     },
     Scene {
         words: &CHECK,
         topology: Some(WORD_COUNT),
         input: None,
+        schedule: None,
     },
     Scene {
         words: &CHECK,
         topology: Some("{}"),
         input: None,
+        schedule: None,
     },
     Scene {
         words: &["run"],
         topology: Some(WORD_COUNT),
-        input: Some(SENTENCES),
+        input: Some(RECORD),
+        schedule: None,
     },
 ];
 
@@ -91,24 +146,39 @@ fn cut(alloc: Global, told: &Told, whole: &Told, taken: usize) -> Result<(), Mis
     bad_case(alloc, "other fates")
 }
 
-// The commands that count the words of the sentences, with their texts.
-fn counts() -> [(Scene<'static>, &'static str); 2] {
+// The files of a count of the sentences in the order of the fetches, and the lines of their faults.
+const FILES: [(&str, &str); 3] = [
+    (WORD_COUNT, "read fault topology\n"),
+    (SENTENCES, "read fault input\n"),
+    (SCHEDULE, "read fault schedule\n"),
+];
+
+/// A command that counts the words of the sentences, the number of its files, and its text.
+type Count = (Scene<'static>, usize, &'static str);
+
+fn counts() -> [Count; 3] {
     [
-        (run_over(SENTENCES), COUNTED_SENTENCES),
-        (plain_of(WORD_COUNT, SENTENCES), TABLES_OF_SENTENCES),
+        (run_over(SENTENCES), 2, COUNTED_SENTENCES),
+        (
+            replay_of(WORD_COUNT, SENTENCES, SCHEDULE),
+            3,
+            COUNTED_SENTENCES,
+        ),
+        (plain_of(WORD_COUNT, SENTENCES), 2, TABLES_OF_SENTENCES),
     ]
 }
 
-// Which file a read of the sentences' count is of, in the line of its fault, where there is one.
-fn unread(longest: usize, number: u64) -> Option<&'static str>
+// Which of so many files a read is of, in the line of its fault, where there is one.
+fn unread(files: usize, longest: usize, number: u64) -> Option<&'static str>
     requires { 0 < longest }
 {
-    let of_topology = reads_of(WORD_COUNT, longest);
-    if number <= of_topology {
-        return Some("read fault topology\n");
-    }
-    if number - of_topology <= reads_of(SENTENCES, longest) {
-        return Some("read fault input\n");
+    let mut left = number;
+    for (text, line) in FILES.iter().take(files) {
+        let reads = reads_of(text, longest);
+        if left <= reads {
+            return Some(line);
+        }
+        left -= reads;
     }
     None
 }
@@ -117,19 +187,19 @@ fn unread(longest: usize, number: u64) -> Option<&'static str>
 fn fail_read<R: Threads + Wait + Sync>(
     rt: &R,
     alloc: Global,
-    count: (Scene<'static>, &'static str),
+    count: Count,
     longest: usize,
     number: u64,
 ) -> Result<bool, Mismatch>
     requires { 0 < longest }
 {
-    let (scene, text) = count;
+    let (scene, files, text) = count;
     let outside = Outside {
         read: longest,
         failing_read: number,
         ..CALM
     };
-    match unread(longest, number) {
+    match unread(files, longest, number) {
         Some(line) => {
             check_refusal(rt, alloc, scene, outside, 5, line)?;
             Ok(false)
@@ -145,7 +215,7 @@ fn fail_read<R: Threads + Wait + Sync>(
 fn fail_reads<R: Threads + Wait + Sync>(
     rt: &R,
     alloc: Global,
-    count: (Scene<'static>, &'static str),
+    count: Count,
     longest: usize,
 ) -> Result<(), Mismatch>
     requires { 0 < longest }
@@ -168,34 +238,30 @@ fn each_read_fails(rt: HostRuntime) -> Result<(), Mismatch> {
     Ok(())
 }
 
-// The fetch that fails, and the line of its fault.
-const FETCHES: [(u64, &str); 2] = [(1, "read fault topology\n"), (2, "read fault input\n")];
-
-// Lets each fetch of a count of the sentences fail in turn, and one more than there are.
-fn fail_fetches<R: Threads + Wait + Sync>(
+// Lets a fetch of a count of the sentences fail, or one more than there are.
+fn fail_fetch<R: Threads + Wait + Sync>(
     rt: &R,
     alloc: Global,
-    count: (Scene<'static>, &'static str),
+    count: Count,
+    before: usize,
 ) -> Result<(), Mismatch> {
-    let (scene, text) = count;
-    for (failing_fetch, line) in FETCHES {
-        let outside = Outside {
-            failing_fetch,
-            ..CALM
-        };
-        check_refusal(rt, alloc, scene, outside, 5, line)?;
-    }
+    let (scene, files, text) = count;
     let outside = Outside {
-        failing_fetch: 3,
+        failing_fetch: (before as u64).saturating_add(1),
         ..CALM
     };
-    check_call(rt, alloc, scene, outside, 0, text)
+    match FILES.iter().take(files).nth(before) {
+        Some((_, line)) => check_refusal(rt, alloc, scene, outside, 5, line),
+        None => check_call(rt, alloc, scene, outside, 0, text),
+    }
 }
 
 #[test]
 fn each_fetch_fails(rt: HostRuntime) -> Result<(), Mismatch> {
     for count in counts() {
-        fail_fetches(&rt, rt.alloc(), count)?;
+        for before in 0..4 {
+            fail_fetch(&rt, rt.alloc(), count, before)?;
+        }
     }
     Ok(())
 }
@@ -217,6 +283,7 @@ fn a_check_fetches_and_reads_once(rt: HostRuntime) -> Result<(), Mismatch> {
         words: &CHECK,
         topology: Some(WORD_COUNT),
         input: None,
+        schedule: None,
     };
     for (failing_fetch, failing_read, code, text) in CHECKS {
         let outside = Outside {

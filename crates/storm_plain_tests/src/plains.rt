@@ -1,10 +1,10 @@
 // What `plain` answers and writes.
 use bolt_ops::Reversed;
-use storm_program::{Status, storm_plain};
-use storm_test_kit::{
-    CALM, COPIES_TO_ALL, LAST_VALUE, PAIRS, PLAIN, SENTENCES, Scene, TABLES_OF_SENTENCES, TURNED,
-    WORD_COUNT, check_refusal, one_bolt, plain_of, shelf, sink, taken,
+use sample_topologies::{
+    COPIES_TO_ALL, LAST_VALUE, PAIRS, SENTENCES, TABLES_OF_SENTENCES, TURNED, WORD_COUNT, one_bolt,
 };
+use storm_program::{Status, storm_plain};
+use storm_test_kit::{CALM, PLAIN, Scene, check_refusal, plain_of, shelf, sink, taken};
 use test_kit::{Mismatch, compare};
 
 const TABLES_OF_PAIRS: &str = r#"cell sums ["aa"] 8
@@ -53,8 +53,8 @@ const REPORTS: [(&str, &str, &str); 8] = [
     ),
 ];
 
-// Kinds of the spout and the state, and the operation, of plans that a run puts off.
-const LATE: [(&str, &str, &str); 4] = [
+// Kinds of the spout and the state, and the operation. A run would try again, or wait for ticks.
+const UNSTEADY: [(&str, &str, &str); 4] = [
     (
         "transactional",
         "transactional",
@@ -105,7 +105,7 @@ fn reports_without_attempts(rt: HostRuntime) -> Result<(), Mismatch> {
 fn nothing_fails_and_every_plan_is_taken(rt: HostRuntime) -> Result<(), Mismatch> {
     let alloc = rt.alloc();
     let want = "cell counts [\"a\"] 1\nok 1 records 1 batches\n";
-    for (spout, state, op) in LATE {
+    for (spout, state, op) in UNSTEADY {
         let topology = one_bolt(alloc, spout, state, op)?;
         let scene = plain_of(topology.as_str(), "[\"a\"]");
         check_refusal(&rt, alloc, scene, CALM, 0, want)?;
@@ -120,6 +120,7 @@ fn refusals_of_files(rt: HostRuntime) -> Result<(), Mismatch> {
             words: &PLAIN,
             topology,
             input,
+            schedule: None,
         };
         check_refusal(&rt, rt.alloc(), scene, CALM, code, want)?;
     }

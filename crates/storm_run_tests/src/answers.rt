@@ -1,9 +1,9 @@
 // What a call answers and writes where nothing outside fails.
-use std::alloc::Global;
-use storm_test_kit::{
-    CALM, COPIES_TO_ALL, COUNTED_SENTENCES, Fate, LAST_VALUE, PAIRS, RUN, SENTENCES, Scene, TURNED,
-    WORD_COUNT, call, check_call, check_refusal, run_of, run_over,
+use sample_topologies::{
+    COPIES_TO_ALL, COUNTED_SENTENCES, LAST_VALUE, PAIRS, SENTENCES, TURNED, WORD_COUNT,
 };
+use std::alloc::Global;
+use storm_test_kit::{CALM, Fate, RUN, Scene, call, check_call, check_refusal, run_of, run_over};
 use storm_values::Root;
 use test_kit::Mismatch;
 
@@ -116,7 +116,7 @@ const REFUSED_INPUTS: [(&str, &str); 7] = [
 const USAGE: &str = "usage: storm check T | plain T I | replay T I S | run T I [W] | load N SEED\n";
 
 // Words that are no command.
-const NO_COMMANDS: [&[&str]; 32] = [
+const NO_COMMANDS: [&[&str]; 39] = [
     &[],
     &["run"],
     &["run", "t"],
@@ -131,6 +131,14 @@ const NO_COMMANDS: [&[&str]; 32] = [
     &["run", "t", "-"],
     &["run", "", "i"],
     &["Run", "t", "i"],
+    &["replay"],
+    &["replay", "t", "i"],
+    &["replay", "t", "i", ""],
+    &["replay", "t", "i", "-s"],
+    &["replay", "t", "-i", "s"],
+    &["replay", "", "i", "s"],
+    &["replay", "t", "i", "s", "4"],
+    &["Replay", "t", "i", "s"],
     &["plain"],
     &["plain", "t"],
     &["plain", "t", "i", "4"],
@@ -146,8 +154,7 @@ const NO_COMMANDS: [&[&str]; 32] = [
     &["--version"],
     &["help"],
     &["--", "check", "t"],
-    // commands that are not there yet
-    &["replay", "t", "i", "s"],
+    // a command that is not there yet
     &["load", "1", "1"],
     &["t", "i"],
 ];
@@ -259,6 +266,7 @@ fn files_that_are_not_read(rt: HostRuntime) -> Result<(), Mismatch> {
             words: &RUN,
             topology,
             input,
+            schedule: None,
         };
         check_refusal(&rt, rt.alloc(), scene, CALM, code, want)?;
     }

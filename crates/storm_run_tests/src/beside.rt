@@ -1,10 +1,13 @@
 // A larger run beside the plain tables of the same records.
 use bolt_ops::Reversed;
+use sample_topologies::WORD_COUNT;
 use std::alloc::Global;
 use std::fmt::Write;
 use std::test::Fail;
+use storm_ids::ChaChaMaker;
 use storm_program::{Fates, Status, storm_run};
-use storm_test_kit::{CALM, Outside, WORD_COUNT, run_of, shelf, sink};
+use storm_stores::MemMaker;
+use storm_test_kit::{CALM, Outside, run_of, scripted_ticks, shelf, sink};
 use storm_values::{Memory, read_input};
 use topology_reader::read_topology;
 use tree_model::{Table, Tables, plain_tables};
@@ -66,9 +69,23 @@ fn the_tables_of_two_thousand_lines(rt: HostRuntime) -> Result<(), Fail> {
     let scene = run_of(topology.as_str(), input.as_str());
     let mut shelf = shelf(alloc, scene, outside)?;
     let mut sink = sink(alloc, outside)?;
+    let mut ticks = scripted_ticks(alloc, &[])?;
+    let mut stores = MemMaker::new(alloc);
+    let mut ids = ChaChaMaker { key: [0; 32] };
     let mut fates = Fates::new(alloc);
     let status = storm_run(
-        &rt, alloc, "t", "i", 64, &mut shelf, &mut sink, &Reversed, &mut fates,
+        &rt,
+        alloc,
+        "t",
+        "i",
+        64,
+        &mut shelf,
+        &mut sink,
+        &mut ticks,
+        &mut stores,
+        &mut ids,
+        &Reversed,
+        &mut fates,
     );
     assert!(rt; status == Status::Done);
     let tables = tables(alloc, topology.as_str(), input.as_str())?;

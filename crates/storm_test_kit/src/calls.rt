@@ -1,35 +1,14 @@
-// Calls of `storm` over files and an output in memory.
+// Calls of `storm` over what is outside in memory.
+use crate::outside::{Outside, scripted_ids, scripted_ticks, shelf, sink, stores, taken};
 use crate::scenes::{Scene, owned};
 use bolt_ops::Reversed;
 use std::alloc::Global;
 use std::sync::Wait;
 use std::thread::Threads;
-use storm_outside::{MemShelf, MemSink};
+use storm_ids::{ChaChaMaker, IdMaker};
 use storm_program::{Attempt, End, Fates, Status, storm};
-use storm_values::{Bytes, Memory, Root, Seq, Txt};
-use test_kit::{Mismatch, compare};
-
-/// The most bytes of one read and of one write, and the numbers of the calls that fail, from
-/// 1. None has the number 0.
-#[derive(Clone, Copy, Debug)]
-pub struct Outside {
-    pub read: usize,
-    pub write: usize,
-    pub room: usize,
-    pub failing_fetch: u64,
-    pub failing_read: u64,
-    pub failing_write: u64,
-}
-
-/// Nothing fails.
-pub const CALM: Outside = Outside {
-    read: 8192,
-    write: 8192,
-    room: 65_536,
-    failing_fetch: 0,
-    failing_read: 0,
-    failing_write: 0,
-};
+use storm_values::{Memory, Root, Seq};
+use test_kit::{Mismatch, compare, lines_without};
 
 /// An attempt of a call's fates, without what was told of its tuples.
 #[derive(Clone, Copy, Debug, PartialEq, Eq)]
@@ -42,12 +21,14 @@ pub struct Fate {
     pub committed: bool,
 }
 
-/// What a call answered, what it wrote, and its fates.
+/// What a call answered, what it wrote, its fates, and how often the stores that came back have
+/// failed.
 #[derive(Debug, Drop)]
 pub struct Told {
     pub status: Status,
     pub text: String,
     pub fates: Seq<Fate>,
+    pub store_faults: u64,
 }
 
 /// Calls `storm`.
@@ -55,11 +36,32 @@ pub fn call<R: Threads + Wait + Sync>(
     rt: &R,
     alloc: Global,
     scene: Scene<'_>,
-    outside: Outside,
+    outside: Outside<'_>,
+) -> Result<Told, Mismatch> {
+    match outside.words {
+        Some(script) => {
+            let mut ids = scripted_ids(alloc, script)?;
+            call_with(rt, alloc, scene, outside, &mut ids)
+        }
+        None => {
+            let mut ids = ChaChaMaker { key: [0; 32] };
+            call_with(rt, alloc, scene, outside, &mut ids)
+        }
+    }
+}
+
+fn call_with<R: Threads + Wait + Sync, N: IdMaker>(
+    rt: &R,
+    alloc: Global,
+    scene: Scene<'_>,
+    outside: Outside<'_>,
+    ids: &mut N,
 ) -> Result<Told, Mismatch> {
     let words = owned(alloc, scene.words)?;
     let mut shelf = shelf(alloc, scene, outside)?;
     let mut sink = sink(alloc, outside)?;
+    let mut ticks = scripted_ticks(alloc, outside.ticks)?;
+    let mut stores = stores(alloc, outside)?;
     let mut fates = Fates::new(alloc);
     let status = storm(
         rt,
@@ -67,15 +69,17 @@ pub fn call<R: Threads + Wait + Sync>(
         words.as_slice(),
         &mut shelf,
         &mut sink,
+        &mut ticks,
+        &mut stores,
+        ids,
         &Reversed,
         &mut fates,
     );
-    let text = taken(alloc, &sink)?;
-    let fates = fates_told(alloc, &fates)?;
     Ok(Told {
         status,
-        text,
-        fates,
+        text: taken(alloc, &sink)?,
+        fates: fates_told(alloc, &fates)?,
+        store_faults: stores.faults(),
     })
 }
 
@@ -103,32 +107,72 @@ pub fn check_call<R: Threads + Wait + Sync>(
     rt: &R,
     alloc: Global,
     scene: Scene<'_>,
-    outside: Outside,
+    outside: Outside<'_>,
     code: u8,
     want: &str,
 ) -> Result<(), Mismatch> {
-    check_told(alloc, &call(rt, alloc, scene, outside)?, code, want)
+    check_answer(alloc, &call(rt, alloc, scene, outside)?, code, want)
 }
 
-/// Calls `storm`, which ends with this status, writes this text and tells no fate of an attempt.
+/// Calls `storm`, which ends with this status, writes this text, tells no fate of an attempt, and
+/// lets no store fail.
 pub fn check_refusal<R: Threads + Wait + Sync>(
     rt: &R,
     alloc: Global,
     scene: Scene<'_>,
-    outside: Outside,
+    outside: Outside<'_>,
     code: u8,
     want: &str,
 ) -> Result<(), Mismatch> {
     let told = call(rt, alloc, scene, outside)?;
-    check_told(alloc, &told, code, want)?;
-    if told.fates.is_empty() {
+    check_answer(alloc, &told, code, want)?;
+    if told.fates.is_empty() && told.store_faults == 0 {
         Ok(())
     } else {
         bad_case(alloc, "fates of a refusal")
     }
 }
 
-fn check_told(alloc: Global, told: &Told, code: u8, want: &str) -> Result<(), Mismatch> {
+/// Calls `storm`, which ends with this status, writes this text, and whose stores have failed so
+/// often when they came back.
+pub fn check_faults<R: Threads + Wait + Sync>(
+    rt: &R,
+    alloc: Global,
+    scene: Scene<'_>,
+    outside: Outside<'_>,
+    faults: u64,
+    code: u8,
+    want: &str,
+) -> Result<(), Mismatch> {
+    let told = call(rt, alloc, scene, outside)?;
+    check_answer(alloc, &told, code, want)?;
+    if told.store_faults == faults {
+        Ok(())
+    } else {
+        bad_case(alloc, "faults of stores")
+    }
+}
+
+/// Calls `storm`, which ends with status 0 and writes these lines but for those of attempts.
+pub fn check_tables<R: Threads + Wait + Sync>(
+    rt: &R,
+    alloc: Global,
+    scene: Scene<'_>,
+    outside: Outside<'_>,
+    want: &str,
+) -> Result<(), Mismatch> {
+    let told = call(rt, alloc, scene, outside)?;
+    let lines = lines_without(alloc, told.text.as_str(), "attempt ")?;
+    compare(alloc, "tables", lines.as_str(), want)?;
+    if told.status == Status::Done {
+        Ok(())
+    } else {
+        bad_case(alloc, want)
+    }
+}
+
+/// Whether a call ended with this status and wrote this text.
+pub fn check_answer(alloc: Global, told: &Told, code: u8, want: &str) -> Result<(), Mismatch> {
     compare(alloc, "a call", told.text.as_str(), want)?;
     if told.status.code() == code {
         Ok(())
@@ -139,42 +183,4 @@ fn check_told(alloc: Global, told: &Told, code: u8, want: &str) -> Result<(), Mi
 
 fn bad_case(alloc: Global, case: &str) -> Result<(), Mismatch> {
     Err(Mismatch::Case(String::from_str(alloc, case)?))
-}
-
-/// The text that a sink took.
-pub fn taken(alloc: Global, sink: &MemSink) -> Result<String, Mismatch> {
-    match str::from_utf8(sink.bytes()) {
-        Ok(text) => Ok(String::from_str(alloc, text)?),
-        Err(_) => Err(Mismatch::Case(String::from_str(alloc, "no text")?)),
-    }
-}
-
-/// The shelf of a scene. A read gives one byte at least.
-pub fn shelf(alloc: Global, scene: Scene<'_>, outside: Outside) -> Result<MemShelf, Mismatch> {
-    let mut shelf = MemShelf::new(alloc, outside.read.max(1));
-    if let Some(topology) = scene.topology {
-        add(alloc, &mut shelf, "t", topology)?;
-    }
-    if let Some(input) = scene.input {
-        add(alloc, &mut shelf, "i", input)?;
-    }
-    shelf.fail_fetch(outside.failing_fetch)?;
-    shelf.fail_read(outside.failing_read)?;
-    Ok(shelf)
-}
-
-fn add(alloc: Global, shelf: &mut MemShelf, name: &str, text: &str) -> Result<(), Mismatch> {
-    if shelf.has(name) {
-        return bad_case(alloc, name);
-    }
-    let bytes = Bytes::from_vec(text.as_bytes().to_vec(alloc)?);
-    shelf.add(Txt::from_str(alloc, name)?, bytes)?;
-    Ok(())
-}
-
-/// The sink of a scene. A write takes one byte at least where there is room.
-pub fn sink(alloc: Global, outside: Outside) -> Result<MemSink, Mismatch> {
-    let mut sink = MemSink::new(alloc, outside.write.max(1), outside.room)?;
-    sink.fail_write(outside.failing_write)?;
-    Ok(sink)
 }

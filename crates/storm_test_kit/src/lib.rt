@@ -1,16 +1,19 @@
-//! What the tests of whole calls share: files and an output in memory, calls of
+//! What the tests of whole calls share: files, an output, ticks, stores and ids in memory, calls of
 //! `storm`, and what they answer.
 #![tactic(auto)]
 
 mod calls;
+mod outside;
 mod scenes;
-mod topologies;
 
-pub use calls::{CALM, Fate, Outside, Told, call, check_call, check_refusal, shelf, sink, taken};
-pub use scenes::{CHECK, PLAIN, RUN, Scene, owned, plain_of, reads_of, run_of, run_over};
-pub use topologies::{
-    COPIES_TO_ALL, COUNTED_SENTENCES, LAST_VALUE, PAIRS, SENTENCES, TABLES_OF_SENTENCES, TURNED,
-    WORD_COUNT, one_bolt,
+pub use calls::{
+    Fate, Told, call, check_answer, check_call, check_faults, check_refusal, check_tables,
+};
+pub use outside::{
+    CALM, Cell, Failing, Outside, Script, scripted_ids, scripted_ticks, shelf, sink, stores, taken,
+};
+pub use scenes::{
+    CHECK, PLAIN, REPLAY, RUN, Scene, owned, plain_of, reads_of, replay_of, run_of, run_over,
 };
 
 #[cfg(test)]

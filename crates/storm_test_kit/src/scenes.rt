@@ -2,12 +2,15 @@ ghost use Rattle.std.specs.Prelude.{◌≡◌, ◌<◌, ◌+◌, ℕ, List, leng
 ghost use Rattle.std.specs.Borrow.{Bor};
 ghost use Rattle.std.specs.Int.{div_ceil};
 
-use crate::topologies::WORD_COUNT;
+use sample_topologies::WORD_COUNT;
 use std::alloc::Global;
 use storm_values::Memory;
 
 /// The words of a run.
 pub const RUN: [&str; 3] = ["run", "t", "i"];
+
+/// The words of a replay.
+pub const REPLAY: [&str; 4] = ["replay", "t", "i", "s"];
 
 /// The words of a `plain`.
 pub const PLAIN: [&str; 3] = ["plain", "t", "i"];
@@ -15,12 +18,13 @@ pub const PLAIN: [&str; 3] = ["plain", "t", "i"];
 /// The words of a check.
 pub const CHECK: [&str; 2] = ["check", "t"];
 
-/// The words of a call, and the files `t` and `i`, where they are there.
+/// The words of a call, and the files `t`, `i` and `s`, where they are there.
 #[derive(Clone, Copy)]
 pub struct Scene<'a> {
     pub words: &'a [&'a str],
     pub topology: Option<&'a str>,
     pub input: Option<&'a str>,
+    pub schedule: Option<&'a str>,
 }
 
 /// The scene of a run.
@@ -29,6 +33,16 @@ pub fn run_of<'a>(topology: &'a str, input: &'a str) -> Scene<'a> {
         words: &RUN,
         topology: Some(topology),
         input: Some(input),
+        schedule: None,
+    }
+}
+
+/// The scene of a replay.
+pub fn replay_of<'a>(topology: &'a str, input: &'a str, schedule: &'a str) -> Scene<'a> {
+    Scene {
+        words: &REPLAY,
+        schedule: Some(schedule),
+        ..run_of(topology, input)
     }
 }
 

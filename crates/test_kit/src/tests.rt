@@ -1,4 +1,4 @@
-use crate::{Mismatch, changed, columns, compare};
+use crate::{Mismatch, changed, columns, compare, lines_without};
 
 fn is_case(outcome: Result<String, Mismatch>) -> bool {
     matches!(outcome, Err(Mismatch::Case(_)))
@@ -19,6 +19,13 @@ fn columns_stand_between_bars(rt: HostRuntime) -> Result<(), Mismatch> {
     let columns = columns(rt.alloc(), "one | two|| three ")?;
     assert!(rt; columns.as_slice() == ["one", "two", "", "three"].as_slice());
     Ok(())
+}
+
+#[test]
+fn lines_that_begin_otherwise_are_left(rt: HostRuntime) -> Result<(), Mismatch> {
+    let alloc = rt.alloc();
+    let left = lines_without(alloc, "a 1\nb a\na 2\nc", "a ")?;
+    compare(alloc, "lines", left.as_str(), "b a\nc\n")
 }
 
 #[test]

@@ -20,3 +20,15 @@ pub fn changed(alloc: Global, text: &str, part: &str, other: &str) -> Result<Str
 pub fn columns(alloc: Global, line: &str) -> Result<Vec<&str>, AllocError> {
     line.split('|').map(|column| column.trim()).collect(alloc)
 }
+
+/// The lines of a text that do not begin so, each with its end.
+pub fn lines_without(alloc: Global, text: &str, front: &str) -> Result<String, AllocError> {
+    let mut left = String::new(alloc);
+    for line in text.lines() {
+        if !line.starts_with(front) {
+            left.push_str(line)?;
+            left.push_str("\n")?;
+        }
+    }
+    Ok(left)
+}

@@ -1,8 +1,14 @@
 use Rattle.event_worlds.specs.Rounds.{ticks_in}
 use Rattle.schedule_core.specs.Schedules.{all_steps}
 use Rattle.stored_runs.proofs.Comings.{Ran, all_back, given_finishes, run_is, world_is}
-use Rattle.stored_runs.proofs.Lent.{Lent}
+use Rattle.stored_runs.proofs.Lent.{Lent, still_made}
 use Rattle.stored_runs.proofs.given.replay_over.Goals as goal
+
+pub give_back-requires : goal.give_back-requires
+give_back-requires g c =
+    still_made g.M.StoreMaker.has_made c.make.new.stores c.in_ok-parts.parts c.replay-answer.new.parts
+    c.close-ended.new.parts c.replay-answer.ensures.comes.kept.plans c.close-ended.ensures.plans
+    c.in_ok-parts.ensures.made
 
 pub returns : goal.returns
 returns g c =

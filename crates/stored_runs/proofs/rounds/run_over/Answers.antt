@@ -3,9 +3,15 @@ use Rattle.commit_order.specs.declared.stop.Stop.{Stop}
 use Rattle.schedule_core.specs.declared.ended.Ended.{Ended}
 use Rattle.schedule_core.specs.Runs.{ended, ticks_between}
 use Rattle.stored_runs.proofs.Comings.{Ran, all_back, by_rounds, none_left, rounds_finish, run_is, world_is}
-use Rattle.stored_runs.proofs.Lent.{Lent}
+use Rattle.stored_runs.proofs.Lent.{Lent, still_made}
 use Rattle.stored_runs.specs.Closing.{Closes}
 use Rattle.stored_runs.proofs.rounds.run_over.Goals as goal
+
+pub give_back-requires : goal.give_back-requires
+give_back-requires g c =
+    still_made g.M.StoreMaker.has_made c.make.new.stores c.in_ok-parts.parts c.run_rounds-done.new.parts
+    c.close-ended.new.parts c.run_rounds-done.ensures.comes.comes.kept.plans c.close-ended.ensures.plans
+    c.in_ok-parts.ensures.made
 
 pub returns : goal.returns
 returns g c =

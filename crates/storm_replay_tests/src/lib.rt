@@ -1,0 +1,9 @@
+//! Tests of replays of given schedules: their reports, each end, and what is refused.
+#![tactic(auto)]
+
+#[cfg(test)]
+mod refusals;
+#[cfg(test)]
+mod reports;
+#[cfg(test)]
+mod stores;

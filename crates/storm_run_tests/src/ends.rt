@@ -1,0 +1,176 @@
+// Runs whose attempts fail, time out or coincide, by the texts of their reports.
+use sample_topologies::{
+    FAILS_ALWAYS, FAILS_TWICE, LAST_VALUE, MUTE_ALWAYS, MUTE_ONCE, SMALL_WORD_COUNT, STEADY,
+    one_bolt,
+};
+use storm_test_kit::{CALM, Outside, Script, check_call, check_refusal, run_of};
+use test_kit::Mismatch;
+
+const RECORD: &str = "[\"a\"]";
+
+const COMMITTED: &str = "attempt 1.1 records 1-1 ticks 0-0 committed
+cell counts [\"a\"] 1
+ok 1 records 1 batches
+";
+
+// Topologies, ticks, and what a run over the record ends with and writes.
+const ENDS: [(&str, &[u32], u8, &str); 7] = [
+    (STEADY, &[], 0, COMMITTED),
+    (
+        FAILS_TWICE,
+        &[],
+        0,
+        "attempt 1.1 records 1-1 ticks 0-0 failed 0
+attempt 1.2 records 1-1 ticks 0-0 failed 0
+attempt 1.3 records 1-1 ticks 0-0 committed
+cell counts [\"a\"] 1
+ok 1 records 1 batches
+",
+    ),
+    (
+        FAILS_ALWAYS,
+        &[],
+        7,
+        "attempt 1.1 records 1-1 ticks 0-0 failed 0
+attempt 1.2 records 1-1 ticks 0-0 failed 0
+attempt 1.3 records 1-1 ticks 0-0 failed 0
+attempt 1.4 records 1-1 ticks 0-0 failed 0
+exhausted 1
+",
+    ),
+    (
+        MUTE_ONCE,
+        &[0, 3],
+        0,
+        "attempt 1.1 records 1-1 ticks 0-3 timed out
+attempt 1.2 records 1-1 ticks 3-3 committed
+cell counts [\"a\"] 1
+ok 1 records 1 batches
+",
+    ),
+    // the same ticks one at a time
+    (
+        MUTE_ONCE,
+        &[0, 0, 1, 0, 1, 1],
+        0,
+        "attempt 1.1 records 1-1 ticks 0-3 timed out
+attempt 1.2 records 1-1 ticks 3-3 committed
+cell counts [\"a\"] 1
+ok 1 records 1 batches
+",
+    ),
+    // more ticks at once than there are buckets, before the attempt begins and after
+    (
+        MUTE_ONCE,
+        &[7, 5],
+        0,
+        "attempt 1.1 records 1-1 ticks 7-10 timed out
+attempt 1.2 records 1-1 ticks 12-12 committed
+cell counts [\"a\"] 1
+ok 1 records 1 batches
+",
+    ),
+    (
+        MUTE_ALWAYS,
+        &[0, 3, 0, 3, 0, 3, 0, 3],
+        7,
+        "attempt 1.1 records 1-1 ticks 0-3 timed out
+attempt 1.2 records 1-1 ticks 3-6 timed out
+attempt 1.3 records 1-1 ticks 6-9 timed out
+attempt 1.4 records 1-1 ticks 9-12 timed out
+exhausted 1
+",
+    ),
+];
+
+#[test]
+fn ends_of_attempts_and_runs(rt: HostRuntime) -> Result<(), Mismatch> {
+    for (topology, ticks, code, want) in ENDS {
+        let outside = Outside { ticks, ..CALM };
+        check_call(
+            &rt,
+            rt.alloc(),
+            run_of(topology, RECORD),
+            outside,
+            code,
+            want,
+        )?;
+    }
+    Ok(())
+}
+
+// The batches of a transaction that fails wait for the next attempt, and are committed in order.
+const BOTH: &str = "attempt 1.1 records 1-1 ticks 0-0 committed
+attempt 2.1 records 2-2 ticks 0-0 committed
+attempt 3.1 records 3-3 ticks 0-0 committed
+cell last [\"x\"] 3
+ok 3 records 3 batches
+";
+
+#[test]
+fn batches_in_flight_are_committed_in_order(rt: HostRuntime) -> Result<(), Mismatch> {
+    let scene = run_of(LAST_VALUE, "[\"x\",1]\n[\"x\",2]\n[\"x\",3]\n");
+    check_call(&rt, rt.alloc(), scene, CALM, 0, BOTH)
+}
+
+// ---- ids that coincide
+
+// The coordinator is the source 2. Its first word is where its shuffle begins.
+const ALL_ZERO: Script = [&[], &[], &[0, 0, 0, 0, 0]];
+
+const ALL_COINCIDE: &str = "\
+attempt 1.1 records 1-1 ticks 0-0 coincided 0:0000000000000000
+attempt 1.2 records 1-1 ticks 0-0 coincided 0:0000000000000000
+attempt 1.3 records 1-1 ticks 0-0 coincided 0:0000000000000000
+attempt 1.4 records 1-1 ticks 0-0 coincided 0:0000000000000000
+exhausted 1
+";
+
+#[test]
+fn an_id_of_0_coincides(rt: HostRuntime) -> Result<(), Mismatch> {
+    let outside = Outside {
+        words: Some(ALL_ZERO),
+        ..CALM
+    };
+    for topology in [STEADY, SMALL_WORD_COUNT] {
+        let scene = run_of(topology, RECORD);
+        check_call(&rt, rt.alloc(), scene, outside, 7, ALL_COINCIDE)?;
+    }
+    Ok(())
+}
+
+// ---- kinds
+
+// Kinds of the spout and the state.
+const KINDS: [(&str, &str); 3] = [
+    ("transactional", "transactional"),
+    ("transactional", "opaque"),
+    ("opaque", "opaque"),
+];
+
+#[test]
+fn each_kind_is_run(rt: HostRuntime) -> Result<(), Mismatch> {
+    let alloc = rt.alloc();
+    let want = "attempt 1.1 records 1-1 ticks 0-0 failed 0
+attempt 1.2 records 1-1 ticks 0-0 committed
+attempt 2.1 records 2-2 ticks 0-0 failed 0
+attempt 2.2 records 2-2 ticks 0-0 committed
+cell counts [\"a\"] 2
+ok 2 records 2 batches
+";
+    for (spout, state) in KINDS {
+        let topology = one_bolt(alloc, spout, state, r#"{"do":"flaky","below":2}"#)?;
+        let scene = run_of(topology.as_str(), "[\"a\"]\n[\"a\"]\n");
+        check_call(&rt, alloc, scene, CALM, 0, want)?;
+    }
+    Ok(())
+}
+
+#[test]
+fn an_opaque_spout_wants_opaque_states(rt: HostRuntime) -> Result<(), Mismatch> {
+    let alloc = rt.alloc();
+    let op = r#"{"do":"route","field":"word"}"#;
+    let topology = one_bolt(alloc, "opaque", "transactional", op)?;
+    let want = "topology: not exactly once \"counts\"\n";
+    check_refusal(&rt, alloc, run_of(topology.as_str(), RECORD), CALM, 3, want)
+}

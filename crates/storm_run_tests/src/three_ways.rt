@@ -1,0 +1,84 @@
+// Each grouping and each operation at several scales, and several bolts: `run`, `replay` and
+// `plain` print the same tables.
+use sample_topologies::{
+    Example, GROUPINGS, LONG_SCHEDULE, NEVER, OPERATIONS, SCALES, SEVERAL, Scale, scaled,
+};
+use std::alloc::Global;
+use std::sync::Wait;
+use std::thread::Threads;
+use storm_test_kit::{CALM, Outside, call, check_tables, plain_of, replay_of, run_of};
+use storm_values::Memory;
+use test_kit::Mismatch;
+
+// A tick each 500 rounds, which mute attempts need, and which is too slow for all others to end by.
+fn slow_ticks(alloc: Global) -> Result<Vec<u32>, Memory> {
+    let mut ticks = Vec::new(alloc);
+    for question in 1..6_001 {
+        ticks.push(u32::from(question % 500 == 0))?;
+    }
+    Ok(ticks)
+}
+
+// Runs and replays an example at a scale, and compares their tables with the plain ones.
+fn check_scaled<R: Threads + Wait + Sync>(
+    rt: &R,
+    alloc: Global,
+    example: &Example,
+    scale: &Scale,
+    ticks: &[u32],
+) -> Result<(), Mismatch> {
+    let (_, input) = *example;
+    let file = scaled(alloc, example, scale)?;
+    let topology = file.as_str();
+    let plain = call(rt, alloc, plain_of(topology, input), CALM)?;
+    let want = plain.text.as_str();
+    let outside = Outside { ticks, ..CALM };
+    check_tables(rt, alloc, run_of(topology, input), outside, want)?;
+    let replay = replay_of(topology, input, LONG_SCHEDULE);
+    check_tables(rt, alloc, replay, CALM, want)
+}
+
+fn check_example<R: Threads + Wait + Sync>(
+    rt: &R,
+    alloc: Global,
+    example: &Example,
+    ticks: &[u32],
+) -> Result<(), Mismatch> {
+    for scale in &SCALES {
+        check_scaled(rt, alloc, example, scale, ticks)?;
+    }
+    Ok(())
+}
+
+fn check_examples<R: Threads + Wait + Sync>(
+    rt: &R,
+    alloc: Global,
+    examples: &[Example],
+) -> Result<(), Mismatch> {
+    let ticks = slow_ticks(alloc)?;
+    for example in examples {
+        check_example(rt, alloc, example, ticks.as_slice())?;
+    }
+    Ok(())
+}
+
+#[test]
+fn each_grouping_makes_the_plain_tables(rt: HostRuntime) -> Result<(), Mismatch> {
+    check_examples(&rt, rt.alloc(), &GROUPINGS)
+}
+
+#[test]
+fn each_operation_makes_the_plain_tables(rt: HostRuntime) -> Result<(), Mismatch> {
+    check_examples(&rt, rt.alloc(), &OPERATIONS)
+}
+
+#[test]
+fn several_bolts_make_the_plain_tables(rt: HostRuntime) -> Result<(), Mismatch> {
+    check_examples(&rt, rt.alloc(), &SEVERAL)
+}
+
+#[test]
+fn an_example_that_is_not_committed_is_told_apart(rt: HostRuntime) {
+    let never = check_example(&rt, rt.alloc(), &NEVER, &[]);
+    assert!(rt; matches!(never, Err(Mismatch::Told { .. })));
+}
