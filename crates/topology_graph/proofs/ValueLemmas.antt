@@ -11,9 +11,7 @@ use Rattle.topology_plan.specs.declared.parts.Origin.{Origin}
 use Rattle.topology_plan.specs.declared.parts.Origin.TheVariants as origin
 use Rattle.topology_plan.specs.Topology.{greatest, weight_end}
 use Rattle.topology_graph.specs.declared.values.Feed.{Feed}
-use Rattle.topology_graph.specs.Graph.{Rule, fed, value_in, value_of, feeds_at, IsThere, IsClosed, IsRanked}
-use Rattle.topology_graph.specs.Numbers.{depth_rule, depth_at, IsSettled}
-use Rattle.topology_graph.specs.Graph.{read, fed_by, IsKnown, AreRight, IsFound}
+use Rattle.topology_graph.specs.Graph.{Rule, fed, value_in, value_of, values_of, feeds_at, IsThere, IsClosed, IsRanked, depth_rule, depth_at, IsSettled, read, fed_by, IsKnown, AreRight, IsFound}
 
 -- ---- lists
 
@@ -157,10 +155,11 @@ some_of None value some right = absurd (false≢true some)
 some_of (Some v) value some right = ap Some (right v refl)
 
 pub all_known : {V : Type 0} (rule : Rule V) (graph : List (List Feed)) (known : List (Option V)) → AreRight rule graph known → ((c : ℕ) → c < length graph → IsKnown known (origin.Component c))
-    → known ≡ map (λ c. Some (value_of rule graph (origin.Component c))) (range_with_len 0 (length graph))
+    → known ≡ map Some (values_of rule graph)
 all_known rule graph known right all =
     whole_table (λ c. value_of rule graph (origin.Component c)) known 0 (length graph) right.count
     (λ k below. some_of (slice_index_or known k None) (value_of rule graph (origin.Component k)) (all k below) (right.each k) ∙ ap (λ n. Some (value_of rule graph (origin.Component n))) (omega arith))
+    ∙ sym (map-map Some (λ c. value_of rule graph (origin.Component c)) (range_with_len 0 (length graph)))
 
 -- ---- ranks
 

@@ -3,8 +3,7 @@
 ghost use Rattle.std.specs.Prelude.{◌≡◌, ℕ, ◌+◌, ◌<◌, ◌^◌, ◌++◌, List, length, unwrap_or, IfOk, OnOk};
 ghost use Rattle.topology_plan.specs.Topology.{greatest, ended_sum};
 ghost use Rattle.topology_graph.specs.declared.values.Feed.{Feed};
-ghost use Rattle.topology_graph.specs.Graph.{IsClosed, IsRanked, read};
-ghost use Rattle.topology_graph.specs.Numbers.{depth_rule, tuples_rule, numbers_of, at_depth, by_depth, IsSettled};
+ghost use Rattle.topology_graph.specs.Graph.{IsClosed, IsRanked, read, depth_rule, tuples_rule, values_of, at_depth, by_depth, IsSettled};
 
 use crate::values::{Along, Feed, Graph, values_along};
 use std::alloc::Global;
@@ -56,7 +55,7 @@ pub fn numbers_by<R: Along<u64>>(alloc: Global, rule: &R, graph: &Graph) -> Resu
     requires small { length graph.now < 2 ^ 32 }
     requires closed { IsClosed graph.now }
     requires settled { IsSettled graph.now }
-    ensures { IfOk result (λ numbers. numbers.items ≡ numbers_of (R.rule rule.now) graph.now) }
+    ensures { IfOk result (λ numbers. numbers.items ≡ values_of (R.rule rule.now) graph.now) }
 {
     let known = values_along(alloc, rule, graph)?;
     let mut numbers = Vec::with_capacity(alloc, known.len())?;

@@ -1,8 +1,6 @@
-use Rattle.std.proofs.Common.{length, map, ap, ◌∙◌, ℕ, Option, unwrap_or}
+use Rattle.std.proofs.Common.{map, ap, ◌∙◌, ℕ, Option, unwrap_or}
 use Rattle.std.proofs.lemmas.List.{take_all}
-use Rattle.std.specs.List.{range_with_len}
-use Rattle.topology_plan.specs.declared.parts.Origin.TheVariants as origin
-use Rattle.topology_graph.specs.Graph.{value_of}
+use Rattle.topology_graph.specs.Graph.{values_of}
 use Rattle.topology_graph.proofs.NumberLemmas.{numbers_read}
 use Rattle.topology_graph.proofs.numbers.numbers_by.Goals as goal
 
@@ -10,4 +8,4 @@ pub returns : goal.returns
 returns g c =
     c.loop-number.invariant
     ∙ ap (map (λ (number : Option ℕ). unwrap_or number 0)) (take_all c.loop-number.number-index c.deref-number-items.result.now c.loop-number-test.false ∙ (c.deref-number-items.ensures.value ∙ c.in_ok-known.ensures))
-    ∙ numbers_read (λ d. value_of (g.R.Along.rule c.args.rule.now) c.args.graph.now (origin.Component d)) (range_with_len 0 (length c.args.graph.now))
+    ∙ numbers_read (values_of (g.R.Along.rule c.args.rule.now) c.args.graph.now)

@@ -1,7 +1,7 @@
 use Rattle.std.proofs.Common.{◌≡◌, ℕ, ◌<◌, Some, slice_get}
 use Rattle.topology_plan.specs.declared.parts.Origin.{Origin}
 use Rattle.topology_graph.specs.declared.values.Feed.{Feed}
-use Rattle.topology_graph.specs.Numbers.{depth_at}
+use Rattle.topology_graph.specs.Graph.{depth_at}
 use Rattle.topology_graph.specs.Graph.{AreRight, IsKnown}
 use Rattle.topology_graph.proofs.values.+find.Given as goal
 
