@@ -1,6 +1,6 @@
 -- The fields of the sources where a file has no fault: each source has one to eight fields, none twice, that its operation makes of the fields of its sources.
-use Rattle.std.proofs.Common.{◌≡◌, ℕ, zero, suc, ◌+◌, ◌<◌, ◌≤◌, ◌==◌, pos, List, [], ◌∷◌, ◌++◌, length, map, filter, All, false, not, Option, Some, None, option_and_then, is_none, codes, inl, inr, refl, sym, ◌∙◌, ap, subst, arith}
-use Rattle.topology_reader.proofs.Common.{range_with_len, list_any, bytes_eq, Origin, TopoFault, Twice, NoSource, NoField, FieldsDiffer, Input, Operation, Split, Project, Filter, Set, Len, Route, Flaky, Mute, Custom, BodyPart, Bolt, State, ComponentPart, components_of, FileParts, first_some, IsBetween, IsInRange, IsOperationInRange, IsBodyInRange, IsComponentInRange, feeds_at, value_in, value_of, Feed, pointwise, pointwise_decides, true≢false, cases_Bool, cond-true, cond-false, both_ways, eq-eqb, not-false, All-nil, All-cons, All-append, none-some, same_Some, slice_get_within, depth_at, by_depth, depth_rule, depth_at_within, is_among, range_fault, first_again, again_fault, key_of, own_key, projected, component_twice, twice_fault, nameless_fault, source_fault, cycle_fault, differ_fault, field_fault, direct_fault, input_fault, fields_read, amount_read, added_fault, component_fault, fields_fault, component_names, name_at, source_of, inputs_at, sources_at, fields_after, fields_of, fields_to, graph_of, IsSource}
+use Rattle.std.proofs.Common.{◌≡◌, ℕ, zero, suc, ◌+◌, ◌<◌, ◌≤◌, ◌==◌, pos, List, [], ◌∷◌, ◌++◌, length, map, slice_index, All, false, not, Option, Some, None, option_and_then, is_none, codes, inl, inr, refl, sym, ◌∙◌, ap, subst, arith}
+use Rattle.topology_reader.proofs.Common.{values_of, at_depth, get_or-map-range_with_len, length-map-range_with_len, range_with_len, list_any, bytes_eq, Origin, TopoFault, Twice, NoSource, NoField, FieldsDiffer, Input, Operation, Split, Project, Filter, Set, Len, Route, Flaky, Mute, Custom, BodyPart, Bolt, State, ComponentPart, components_of, FileParts, first_some, IsBetween, IsInRange, IsOperationInRange, IsBodyInRange, IsComponentInRange, feeds_at, value_in, value_of, Feed, pointwise, pointwise_decides, true≢false, cases_Bool, cond-true, cond-false, both_ways, eq-eqb, not-false, All-nil, All-cons, All-append, none-some, same_Some, slice_get_within, depth_at, by_depth, depth_rule, depth_at_within, is_among, range_fault, first_again, again_fault, key_of, own_key, projected, component_twice, twice_fault, nameless_fault, source_fault, cycle_fault, differ_fault, field_fault, direct_fault, input_fault, fields_read, amount_read, added_fault, component_fault, fields_fault, component_names, name_at, source_of, inputs_at, sources_at, fields_after, fields_of, fields_to, graph_of, IsSource}
 use Rattle.std.specs.List.{find}
 use Rattle.std.proofs.lemmas.List.{length-append}
 use Rattle.topology_plan.specs.declared.parts.Origin.TheVariants as origin
@@ -85,9 +85,12 @@ some_depth (suc n) graph c above = omega arith
 in_by_depth : (graph : List (List Feed)) (c : ℕ) → c < length graph → IsIn c (by_depth graph)
 unfolding by_depth depth_at value_of
 in_by_depth graph c within =
-    to_flat_map (λ n. filter (λ d. depth_at graph (origin.Component d) == n) (range_with_len 0 (length graph))) (range_with_len 1 (length graph)) (depth_at graph (origin.Component c)) c
+    let depths = values_of depth_rule graph in
+    let count : length depths ≡ length graph = length-map-range_with_len (λ d. value_of depth_rule graph (origin.Component d)) 0 (length graph) in
+    let is : slice_index depths c ≡ depth_at graph (origin.Component c) = get_or-map-range_with_len (λ d. value_of depth_rule graph (origin.Component d)) 0 (length graph) c c 0 (omega arith) (omega arith) in
+    to_flat_map (at_depth depths) (range_with_len 1 (length graph)) (depth_at graph (origin.Component c)) c
     (to_range 1 (length graph) (depth_at graph (origin.Component c)) (some_depth (length graph) graph c (omega arith)) (omega (arith, depth_at_within graph (origin.Component c))))
-    (to_filter (λ d. depth_at graph (origin.Component d) == depth_at graph (origin.Component c)) (range_with_len 0 (length graph)) c (to_range 0 (length graph) c (omega arith) (omega arith)) (eq-eqb (depth_at graph (origin.Component c)) (depth_at graph (origin.Component c)) refl))
+    (to_filter (λ d. slice_index depths d == depth_at graph (origin.Component c)) (range_with_len 0 (length depths)) c (to_range 0 (length depths) c (omega arith) (omega arith)) (eq-eqb (slice_index depths c) (depth_at graph (origin.Component c)) is))
 
 pub no_fault_at : (p : FileParts) (c : ℕ) (part : ComponentPart) → IsAt p c part → fields_fault p ≡ None → HasNoFaultAt p c
 no_fault_at p c part is none =

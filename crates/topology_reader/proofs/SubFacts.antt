@@ -7,6 +7,7 @@ use Rattle.topology_plan.specs.declared.parts.Origin.TheVariants as origin
 use Rattle.topology_form.specs.declared.parts.GroupingPart.TheVariants as said
 use Rattle.topology_reader.proofs.Listed.{IsIn, All-from_in, All-at_in, in_map, to_map, to_left, in_place}
 use Rattle.topology_reader.proofs.Distinct.{place_named, place_within, place_there, AreApart, AllPairs-from_apart, IsRising, rising_above, increasing_from_rising}
+use Rattle.topology_reader.proofs.Places.{place_of-names}
 use Rattle.topology_reader.proofs.Numbered.{count_parts, part_there, planned_at}
 use Rattle.topology_reader.proofs.ValidPlan.{HasNoFault, is_source, IsPlanned, planned_in_plan, subs_of_plan, no_subs_past, planned_source}
 use Rattle.topology_reader.proofs.SourceLemmas.{length_inputs, in_inputs_at, source_there, IsNamed, source_named, of_inputs}
@@ -80,13 +81,13 @@ once_planned p (origin.Component c) none =
 pub number_within : (fields : List (List ℕ)) (name : List ℕ) → IsIn name fields → number_of fields name < length fields
 number_within fields name at =
     let place = place_there fields name at in
-    subst (λ there. unwrap_or there 0 < length fields) (sym place.1) (place_within fields name place.0 place.1)
+    subst (λ there. unwrap_or there 0 < length fields) (sym (place_of-names fields name ∙ place.1)) (place_within fields name place.0 place.1)
 
 one_number : (fields : List (List ℕ)) (a b : List ℕ) → IsIn a fields → IsIn b fields → number_of fields a ≡ number_of fields b → a ≡ b
 one_number fields a b first second same =
     let here = place_there fields a first in
     let there = place_there fields b second in
-    let one : here.0 ≡ there.0 = sym (ap (λ place. unwrap_or place 0) here.1) ∙ (same ∙ ap (λ place. unwrap_or place 0) there.1) in
+    let one : here.0 ≡ there.0 = sym (ap (λ place. unwrap_or place 0) (place_of-names fields a ∙ here.1)) ∙ (same ∙ ap (λ place. unwrap_or place 0) (place_of-names fields b ∙ there.1)) in
     same_Some a b (sym (place_named fields a here.0 here.1) ∙ (ap (slice_get fields) one ∙ place_named fields b there.0 there.1))
 
 numbers_apart : (fields names : List (List ℕ)) → AreApart names → ((name : List ℕ) → IsIn name names → IsIn name fields) → AreApart (numbers_of fields names)

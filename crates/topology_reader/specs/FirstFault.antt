@@ -1,11 +1,9 @@
 -- Which fault a topology file has first, and which plan it has where it has none. This project's
 -- own.
 use Rattle.std.specs.Prelude.{◌≡◌, ℕ, ◌+◌, pos, List, [], ◌∷◌, length, map, Bool, true, false, not, nat_lt, if◌then◌else◌, Option, Some, None, option_map, option_and_then, is_none, codes}
-use Rattle.topology_reader.specs.Prelude.{Data, json_of, most_topology_bytes, TooLong, NotJson, form_fault, parts_said, Topology, list_any, range_with_len, option_map_or, option_to_list, bytes_eq, first_some, most_tasks_in_all, most_weight, GroupingPart, Input, Split, Project, Filter, Set, Len, Route, BodyPart, Bolt, State, ComponentPart, FileParts, components_of, TopoFault, WrongKind, Twice, NoSource, Cycle, FieldsDiffer, NoField, NotExactlyOnce, Weight, Kind, Transactional, Opaque, tasks_in_all, weight_of, Feed, feeds_at, by_depth}
-use Rattle.std.specs.List.{find}
+use Rattle.topology_reader.specs.Prelude.{find, range_fault, Data, json_of, most_topology_bytes, TooLong, NotJson, form_fault, parts_said, Topology, list_any, range_with_len, option_map_or, option_to_list, bytes_eq, first_some, most_tasks_in_all, most_weight, GroupingPart, Input, Split, Project, Filter, Set, Len, Route, BodyPart, Bolt, State, ComponentPart, FileParts, components_of, TopoFault, WrongKind, Twice, NoSource, Cycle, FieldsDiffer, NoField, NotExactlyOnce, Weight, Kind, Transactional, Opaque, tasks_in_all, weight_of, Feed, feeds_at, by_depth}
 use Rattle.std.specs.Cmp.Lexicographic.{pointwise}
 use Rattle.topology_form.specs.declared.parts.GroupingPart.TheVariants as said
-use Rattle.topology_form.specs.Reading.{range_fault}
 use Rattle.topology_reader.specs.Wiring.{component_names, name_at, source_of, graph_of, reaches, fields_of, fields_to, body_of, component_at}
 use Rattle.topology_reader.specs.Planned.{plan_of}
 
@@ -184,16 +182,14 @@ meaning_fault p =
 
 -- ---- the file
 
--- of a file's value first its form, then what it says
-abbrev pub value_fault : Option Data → Option TopoFault
-value_fault None = Some NotJson
-value_fault (Some value) = first_some (form_fault value ∷ meaning_fault (parts_said value) ∷ [])
-
--- the first fault of a file: it is longer than the most bytes, or that of its value
+-- the first fault of a file: it is longer than the most bytes, or it is no JSON, or that of its
+-- value, first of its form, then of what it says
 unfoldable pub first_fault : List ℕ → Option TopoFault
 first_fault bytes =
     if nat_lt most_topology_bytes (length bytes) then Some (TooLong (length bytes))
-    else value_fault (json_of bytes)
+    else option_map_or
+    (λ value. first_some (form_fault value ∷ meaning_fault (parts_said value) ∷ []))
+    (json_of bytes) (Some NotJson)
 
 -- the file has no fault, and its topology is t
 abbrev pub IsFilePlan : List ℕ → Topology → Type 0

@@ -3,20 +3,16 @@ use Rattle.std.specs.Prelude.{bit_or, if◌then◌else◌, ◌≡◌, ◌<◌, �
 use Rattle.std.specs.declared.alloc.Global.{Global}
 use Rattle.std.specs.Borrow.{Bor}
 use Rattle.std.specs.Int.{bit_at}
-use Rattle.topology_reader.specs.Prelude.{range_with_len, option_map_or, bytes_eq, Origin, tasks_in_all, depth_of, weight_of, Input, FileParts, value_of}
+use Rattle.topology_reader.specs.Prelude.{option_map_or, bytes_eq, Origin, tasks_in_all, depth_of, weight_of, Input, FileParts}
 use Rattle.indexmap.specs.IndexMap.{IndexMap, get_by}
 use Rattle.topology_plan.specs.declared.parts.Origin.TheVariants as origin
 use Rattle.topology_plan.specs.declared.parts.Sub.{Sub}
 use Rattle.topology_plan.specs.declared.plan.Made.{Made}
 use Rattle.topology_plan.specs.Inside.{topology_of}
 use Rattle.topology_reader.specs.Planned.{planned_grouping, plan_of}
-use Rattle.topology_reader.specs.Wiring.{component_count, source_of, graph_of, reaches_over, fields_rule}
+use Rattle.topology_reader.specs.Wiring.{source_of, reaches_over}
 
 -- ---- sources
-
--- the components' numbers fit 32 bits
-abbrev pub IsNumbered : FileParts → Type 0
-IsNumbered p = component_count p < 2 ^ 32
 
 -- a map from a name to the source of that name
 abbrev pub IsIndexOf : {S : Type 0} → FileParts → IndexMap (Bor (List ℕ)) Origin S → Type 0
@@ -37,12 +33,6 @@ led n through set = if has set n then bit_or set through else set
 pub record AreReached (n : ℕ) (p : FileParts) (sets : List ℕ) : Type 0 where
   pub counted : length sets ≡ length p.bolts
   pub held : (a b : ℕ) → b < length p.bolts → has (slice_index sets b) a ≡ reaches_over n p a b
-
--- of each component its fields
-abbrev pub field_table : FileParts → List (Option (List (List ℕ)))
-field_table p =
-    map (λ c. Some (value_of (fields_rule p) (graph_of p) (origin.Component c)))
-    (range_with_len 0 (length (graph_of p)))
 
 -- ---- the plan
 

@@ -1,11 +1,11 @@
 -- What a file says that has no fault, in its own names. Components are the bolts and then the
 -- states, each in file order. This project's own.
 use Rattle.std.specs.Prelude.{◌≡◌, ◌≢◌, ◌<◌, ◌≤◌, ℕ, List, ◌∷◌, ◌++◌, length, All, AllPairs, Some, IfSome, sum, true, false}
-use Rattle.topology_reader.specs.Prelude.{Opaque, Contains, most_tasks_in_all, most_weight, Input, ComponentPart, FileParts, Origin, weight_of, IsBetween, IsInRange, option_map_or}
+use Rattle.topology_reader.specs.Prelude.{Opaque, Contains, most_tasks_in_all, most_weight, Input, ComponentPart, FileParts, Origin, weight_of, IsBetween, IsInRange, components_of, option_map_or}
 use Rattle.topology_plan.specs.declared.parts.Origin.TheVariants as origin
 use Rattle.topology_plan.specs.Texts.{IsName}
 use Rattle.topology_form.specs.declared.parts.GroupingPart.TheVariants as said
-use Rattle.topology_reader.specs.Wiring.{component_names, component_count, source_of, inputs_at, fields_after, fields_of, fields_to, body_of, component_at}
+use Rattle.topology_reader.specs.Wiring.{component_names, source_of, inputs_at, fields_after, fields_of, fields_to, body_of, component_at}
 use Rattle.topology_reader.specs.Planned.{tasks_by_component, plan_of}
 use Rattle.topology_reader.specs.FirstFault.{key_of, fields_read, amount_read, is_route, keeps_exact}
 
@@ -68,7 +68,7 @@ pub record IsValidFile (p : FileParts) : Type 0 where
       → IfSome (component_at p c)
       (λ part. fields_of p (origin.Component c) ≡ fields_after part.body (fields_to p c))
   pub fields : (from : Origin) → IsSource p from → HasFields p from
-  pub components : (c : ℕ) → c < component_count p → IsValidComponent p c
+  pub components : (c : ℕ) → c < length (components_of p) → IsValidComponent p c
   -- an opaque spout has no transactional state
   pub replays : p.spout.kind ≡ Opaque
       → All (λ (state : ComponentPart). keeps_exact state.body ≡ false) p.states

@@ -1,11 +1,9 @@
 //! Bolts that can be reached from themselves, and states that an opaque spout does not allow.
 
 ghost use Rattle.std.specs.Prelude.{◌≡◌, ◌≤◌, ◌<◌, ℕ, length, map, slice_index, option_map, false, IfOk};
-ghost use Rattle.std.specs.List.{find};
-ghost use Rattle.topology_reader.specs.Prelude.{list_any, range_with_len, option_copied, option_map_or, ComponentPart};
+ghost use Rattle.topology_reader.specs.Prelude.{Checks, find, list_any, range_with_len, option_copied, option_map_or, ComponentPart};
 ghost use Rattle.topology_reader.specs.FirstFault.{cycle_fault, keeps_exact, replay_fault};
 ghost use Rattle.topology_reader.specs.Steps.{has, led, AreReached};
-ghost use Rattle.topology_form.specs.Reading.{Checks};
 ghost use Rattle.topology_reader.specs.Wiring.{is_component, source_of, sources_among};
 
 use crate::wiring::Sources;

@@ -4,7 +4,7 @@ ghost use Rattle.std.specs.Prelude.{◌≡◌, ◌<◌, ◌^◌, [], ◌∷◌, 
 ghost use Rattle.topology_reader.specs.Prelude.{option_map_or};
 ghost use Rattle.topology_reader.specs.Planned.{number_of, numbers_of, planned_operation, planned_body, route_field, planned_grouping, planned_component, planned_components, first_task_of, planned_subs, planned_component_subs};
 ghost use Rattle.topology_reader.specs.Steps.{items_by, place_in, with_sub, with_inputs};
-ghost use Rattle.topology_reader.specs.Wiring.{place_of, fields_of, body_of};
+ghost use Rattle.topology_reader.specs.Wiring.{fields_of, body_of};
 ghost use Rattle.topology_plan.specs.declared.parts.Origin.TheVariants as origin;
 
 use crate::wiring::{Wiring, copied};

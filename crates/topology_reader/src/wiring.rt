@@ -4,9 +4,9 @@
 ghost use Rattle.std.specs.Prelude.{◌≡◌, ◌<◌, ◌^◌, [], ◌∷◌, ◌++◌, length, slice_get, None, Some, IfOk};
 ghost use Rattle.topology_graph.specs.Graph.{read, fed_by};
 ghost use Rattle.topology_reader.specs.FirstFault.{cycle_fault};
-ghost use Rattle.topology_reader.specs.Prelude.{IsInRange, components_of, IsClosed, IsSettled, option_copied, feeds_at};
-ghost use Rattle.topology_reader.specs.Steps.{IsIndexOf, IsNumbered};
-ghost use Rattle.topology_reader.specs.Wiring.{source_of, component_at, component_count, copies_said, feed_of, feeds_of, graph_of, body_of, name_at, fields_after, first_of, fields_rule, fields_of, fields_to};
+ghost use Rattle.topology_reader.specs.Prelude.{IsInRange, components_of, filter_map, IsClosed, IsSettled, option_copied, feeds_at};
+ghost use Rattle.topology_reader.specs.Steps.{IsIndexOf};
+ghost use Rattle.topology_reader.specs.Wiring.{source_of, component_at, copies_said, feed_of, graph_of, body_of, name_at, fields_after, first_of, fields_rule, fields_of, fields_to};
 
 use indexmap::IndexMap;
 use std::alloc::Global;
@@ -28,19 +28,21 @@ pub(crate) struct Sources<'p> {
 }
 
 impl<'p> Model for Sources<'p> {
-    ghost use Rattle.topology_reader.specs.Prelude.{FileParts};
-    ghost use Rattle.topology_reader.specs.Steps.{IsIndexOf, IsNumbered};
+    ghost use Rattle.std.specs.Prelude.{◌<◌, ◌^◌, length};
+    ghost use Rattle.topology_reader.specs.Prelude.{FileParts, components_of};
+    ghost use Rattle.topology_reader.specs.Steps.{IsIndexOf};
 
     ghost Value = { FileParts };
 
     ghost view = { λ s. s.parts.now };
 
-    ghost invariant = { λ s. IsNumbered s.parts.now × IsIndexOf s.parts.now s.by_name };
+    ghost invariant = { λ s.
+        (length (components_of s.parts.now) < 2 ^ 32) × IsIndexOf s.parts.now s.by_name };
 }
 
 impl<'p> Sources<'p> {
     pub(crate) fn of(alloc: Global, parts: &'p FileParts) -> Result<Self, Memory>
-        requires { IsNumbered parts.now }
+        requires { length (components_of parts.now) < 2 ^ 32 }
         ensures { IfOk result (λ sources. sources ≡ parts.now) }
     {
         let by_name = sources_by_name(alloc, parts)?;
@@ -62,15 +64,15 @@ impl<'p> Sources<'p> {
     }
 
     pub(crate) fn count(&self) -> usize
-        ensures value { result ≡ component_count self.now }
-        ensures few { IsNumbered self.now }
+        ensures value { result ≡ length (components_of self.now) }
+        ensures few { length (components_of self.now) < 2 ^ 32 }
     {
         self.parts.bolts.len() + self.parts.states.len()
     }
 
     /// The bolts have the first numbers.
     pub(crate) fn component(&self, c: usize) -> &ComponentPart
-        requires { c < component_count self.now }
+        requires { c < length (components_of self.now) }
         ensures { component_at self.now c ≡ Some result.now }
     {
         let bolts = self.parts.bolts.len();
@@ -106,7 +108,7 @@ impl<'p> Sources<'p> {
 }
 
 fn sources_by_name(alloc: Global, parts: &FileParts) -> Result<IndexMap<&str, Origin>, Memory>
-    requires { IsNumbered parts.now }
+    requires { length (components_of parts.now) < 2 ^ 32 }
     ensures { IfOk result (IsIndexOf parts.now) }
 {
     let mut by_name = IndexMap::new(alloc);
@@ -137,7 +139,7 @@ pub(crate) fn graph_of(sources: &Sources<'_>) -> Result<Graph, Memory>
 
 fn feeds_to(sources: &Sources<'_>, part: &ComponentPart) -> Result<Vec<Feed>, Memory>
     ensures { IfOk result
-        (λ feeds. feeds.items ≡ feeds_of sources.now part.now.tasks part.now.inputs) }
+        (λ feeds. feeds.items ≡ filter_map (feed_of sources.now part.now.tasks) part.now.inputs) }
 {
     let tasks = part.tasks;
     part.inputs
@@ -218,18 +220,18 @@ pub(crate) struct Wiring<'p> {
 }
 
 impl<'p> Model for Wiring<'p> {
-    ghost use Rattle.topology_reader.specs.Prelude.{FileParts, IsInRange};
-    ghost use Rattle.std.specs.Prelude.{◌≡◌, None};
+    ghost use Rattle.topology_reader.specs.Prelude.{FileParts, IsInRange, values_of};
+    ghost use Rattle.std.specs.Prelude.{◌≡◌, None, Some, map};
     ghost use Rattle.topology_reader.specs.FirstFault.{cycle_fault};
-    ghost use Rattle.topology_reader.specs.Wiring.{graph_of};
-    ghost use Rattle.topology_reader.specs.Steps.{field_table};
+    ghost use Rattle.topology_reader.specs.Wiring.{graph_of, fields_rule};
 
     ghost Value = { FileParts };
 
     ghost view = { λ w. w.sources };
 
     ghost invariant = { λ w.
-        (w.graph ≡ graph_of w.sources) × (w.fields.items ≡ field_table w.sources)
+        (w.graph ≡ graph_of w.sources)
+        × (w.fields.items ≡ map Some (values_of (fields_rule w.sources) (graph_of w.sources)))
         × IsInRange w.sources × (cycle_fault w.sources ≡ None) };
 }
 
