@@ -1,8 +1,7 @@
 -- What the objects of a topology file say. This project's own.
 use Rattle.std.specs.Prelude.{ℕ, List, [], ◌∷◌, map, Option, Some, None, Result, codes}
 use Rattle.std.specs.Result.{result_err, result_unwrap_or}
-use Rattle.topology_form.specs.Prelude.{Data, Members, most_fields, most_batch, most_below, most_tasks, most_bolt_inputs, most_state_inputs, most_bolts, most_states, most_ackers, most_pending, least_buckets, most_buckets, most_attempts, Value, TopoFault, FileParts, Fold, Count, Sum, Last, Max, GroupingPart, Input, Operation, Split, Project, Filter, Set, Len, Route, Flaky, Mute, Custom, SpoutPart, ComponentPart, Bolt, State, Kind, Transactional, Opaque}
-use Rattle.topology_plan.specs.declared.parts.Test.{Test}
+use Rattle.topology_form.specs.Prelude.{Data, Members, most_fields, most_batch, most_below, most_tasks, most_bolt_inputs, most_state_inputs, most_bolts, most_states, most_ackers, most_pending, least_buckets, most_buckets, most_attempts, Value, TopoFault, FileParts, Fold, Test, Count, Sum, Last, Max, GroupingPart, Input, Operation, Split, Project, Filter, Set, Len, Route, Flaky, Mute, Custom, SpoutPart, ComponentPart, Bolt, State, Kind, Transactional, Opaque}
 use Rattle.topology_plan.specs.declared.parts.Test.TheVariants.{Eq, Ne, Lt}
 use Rattle.topology_form.specs.declared.parts.GroupingPart.TheVariants as said
 use Rattle.topology_form.specs.Reading.{Form, Reader, ◌>>=◌, done, ends, required, optional, chosen, a_number, a_text, a_name, a_word, some_names, a_constant, an_object, some_objects}

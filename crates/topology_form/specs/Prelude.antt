@@ -12,7 +12,6 @@ pub use Rattle.topology_form.specs.declared.parts.BodyPart.TheVariants.{Bolt, St
 pub use Rattle.topology_form.specs.declared.parts.Operation.TheVariants.{Split, Project, Filter, Set, Len, Route, Flaky, Mute, Custom}
 pub use Rattle.topology_plan.specs.Texts.{is_name, is_name_byte, begins_with_letter}
 unfoldable pub use Rattle.topology_plan.specs.Texts.{IsName}
-pub use Rattle.topology_plan.specs.declared.parts.Fold.{Fold}
+pub use Rattle.topology_plan.specs.declared.parts.{Fold.Fold, Kind.Kind, Test.Test}
 pub use Rattle.topology_plan.specs.declared.parts.Fold.TheVariants.{Count, Sum, Last, Max}
-pub use Rattle.topology_plan.specs.declared.parts.Kind.{Kind}
 pub use Rattle.topology_plan.specs.declared.parts.Kind.TheVariants.{Transactional, Opaque}

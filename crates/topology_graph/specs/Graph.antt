@@ -39,15 +39,15 @@ abbrev pub values_of : {V : Type 0} → Rule V → List (List Feed) → List V
 values_of rule graph =
     map (λ c. value_of rule graph (origin.Component c)) (range_with_len 0 (length graph))
 
--- the spout, or a component that is there
-abbrev pub IsThere : List (List Feed) → Origin → Type 0
-IsThere graph origin.Spout = Unit {0}
-IsThere graph (origin.Component c) = c < length graph
+-- the spout, or one of so many components
+abbrev pub IsThere : ℕ → Origin → Type 0
+IsThere count origin.Spout = Unit {0}
+IsThere count (origin.Component c) = c < count
 
 -- each source is there
 abbrev pub IsClosed : List (List Feed) → Type 0
 IsClosed graph =
-    (c k : ℕ) (feed : Feed) → slice_get (feeds_at graph c) k ≡ Some feed → IsThere graph feed.from
+    (c k : ℕ) (feed : Feed) → slice_get (feeds_at graph c) k ≡ Some feed → IsThere (length graph) feed.from
 
 -- numbers of components that grow along each subscription, as there are where there is no cycle
 pub record IsRanked (graph : List (List Feed)) (rank : ℕ → ℕ) : Type 0 where
@@ -73,9 +73,6 @@ tuples_rule = record {
   over = λ c fed. ended_sum (map (λ (one : Feed × ℕ). min (one.1 * one.0.copies) weight_end) fed);
 }
 
-unfoldable pub depth_at : List (List Feed) → Origin → ℕ
-depth_at graph from = value_of depth_rule graph from
-
 -- the components of a depth, by the depths of all
 abbrev pub at_depth : List ℕ → ℕ → List ℕ
 at_depth depths depth =
@@ -89,8 +86,8 @@ by_depth graph = flat_map (at_depth (values_of depth_rule graph)) (range_with_le
 -- than its deepest source
 abbrev pub IsSettled : List (List Feed) → Type 0
 IsSettled graph = (c : ℕ) → c < length graph
-    → depth_at graph (origin.Component c)
-    ≡ greatest (map (λ (feed : Feed). depth_at graph feed.from) (feeds_at graph c)) + 1
+    → value_of depth_rule graph (origin.Component c)
+    ≡ greatest (map (λ (feed : Feed). value_of depth_rule graph feed.from) (feeds_at graph c)) + 1
 
 -- ---- what is known on the way
 

@@ -51,6 +51,7 @@ fn number_at(known: &[Option<u64>], from: Origin, of_spout: u64) -> u64
 }
 
 /// The number of each component by a rule.
+#[tactic(auto, using(crate::proofs::NumberLemmas::numbers_read))]
 pub fn numbers_by<R: Along<u64>>(alloc: Global, rule: &R, graph: &Graph) -> Result<Vec<u64>, Memory>
     requires small { length graph.now < 2 ^ 32 }
     requires closed { IsClosed graph.now }
@@ -58,11 +59,7 @@ pub fn numbers_by<R: Along<u64>>(alloc: Global, rule: &R, graph: &Graph) -> Resu
     ensures { IfOk result (λ numbers. numbers.items ≡ values_of (R.rule rule.now) graph.now) }
 {
     let known = values_along(alloc, rule, graph)?;
-    let mut numbers = Vec::with_capacity(alloc, known.len())?;
-    for number in &known {
-        numbers.push(number.unwrap_or(0))?;
-    }
-    Ok(numbers)
+    known.iter().map(|number| number.unwrap_or(0)).collect(alloc)
 }
 
 /// The greatest number, or 0 where there is none. Of the depths it is the most subscriptions from

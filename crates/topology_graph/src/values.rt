@@ -42,12 +42,8 @@ pub fn values_along<V: Drop, R: Along<V>>(
 {
     let mut known = unknown(alloc, graph.len())?;
     for c in 0..graph.len() {
-        find(
-            rule,
-            graph,
-            Origin::Component(c as u32),
-            known.as_mut_slice(),
-        )?;
+        let from = Origin::Component(c as u32);
+        find(rule, graph, from, known.as_mut_slice())?;
     }
     Ok(known)
 }
@@ -72,7 +68,7 @@ fn find<V: Drop, R: Along<V>>(
     requires small { length graph.now < 2 ^ 32 }
     requires closed { IsClosed graph.now }
     requires settled { IsSettled graph.now }
-    requires there { IsThere graph.now from }
+    requires there { IsThere (length graph.now) from }
     requires right { AreRight (R.rule rule.now) graph.now known.old }
     ensures { OnOk result (IsFound (R.rule rule.now) graph.now known.old known.new from) }
 {
