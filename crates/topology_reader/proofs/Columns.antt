@@ -83,7 +83,7 @@ some_depth (suc n) graph c above = omega arith
 
 -- every component is among those by depth
 in_by_depth : (graph : List (List Feed)) (c : ℕ) → c < length graph → IsIn c (by_depth graph)
-unfolding by_depth depth_at value_of
+unfolding by_depth value_of
 in_by_depth graph c within =
     let depths = values_of depth_rule graph in
     let count : length depths ≡ length graph = length-map-range_with_len (λ d. value_of depth_rule graph (origin.Component d)) 0 (length graph) in

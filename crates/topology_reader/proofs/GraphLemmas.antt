@@ -15,7 +15,7 @@ use Rattle.topology_reader.proofs.SourceLemmas.{source_there, feeds_from_source,
 pub feed_listed : (p : FileParts) (c : ℕ) (feed : Feed) → IsIn feed (feeds_at (graph_of p) c) → IsIn feed.from (sources_at p c)
 feed_listed p c feed at = subst (IsIn feed.from) (froms_at p c) (to_map (λ (f : Feed). f.from) (feeds_at (graph_of p) c) feed at)
 
-there_in_graph : (p : FileParts) (from : Origin) → IsSource p from → IsThere (graph_of p) from
+there_in_graph : (p : FileParts) (from : Origin) → IsSource p from → IsThere (length (graph_of p)) from
 there_in_graph p origin.Spout there = tt
 there_in_graph p (origin.Component c) there = omega (arith, there, length_graph p, count_parts p)
 

@@ -1,5 +1,7 @@
 -- The plan of a file without a fault is wired: its components take rows with the fields that they name.
 use Rattle.std.proofs.Common.{◌≡◌, ◌≢◌, ℕ, ◌<◌, ◌≤◌, ◌==◌, List, [], ◌∷◌, ◌++◌, length, map, filter, All, AllPairs, true, false, Option, Some, None, IsSome, IfSome, option_map, option_to_list, slice_get, sum, take, inl, inr, refl, sym, ◌∙◌, ap, subst, arith}
+use Rattle.std.proofs.lemmas.List.{take-map}
+use Rattle.std.proofs.lemmas.List.Sums.{sum-map}
 use Rattle.topology_reader.proofs.Common.{enumerate_from, range_with_len, option_map_or, Origin, NotExactlyOnce, Input, Operation, Split, Project, Filter, Set, Len, Route, Flaky, Mute, Custom, BodyPart, Bolt, State, ComponentPart, components_of, FileParts, Topology, subs_of, origins, inputs_of, IsInRange, SaysAmount, IsOperationInRange, IsBodyInRange, IsComponentInRange, is_bolt, eqb-true, eq-eqb, false≢true, length-map, map-id, map-map, All-nil, same_Some, Kind, Transactional, Opaque, Sub, plan_fields, plan_fields_to, IsFed, width_after, IsWithin, HasAmount, IsComponent, IsPlaced, IsLaidOut, MayFollowOpaque, IsWired, component_names, inputs_by_component, sources_at, fields_after, fields_of, fields_to, number_of, numbers_of, planned_operation, planned_body, planned_grouping, tasks_by_component, planned_component, plan_of, own_key, projected, fields_read, amount_read, twice_fault, is_transactional, keeps_exact, replay_fault, meaning_fault, IsSource}
 use Rattle.std.specs.List.{find}
 use Rattle.std.proofs.lemmas.List.{length-append}
@@ -199,7 +201,7 @@ module _ (p : FileParts) (range : IsInRange p) (faultless : HasNoFault p) where
         fed = subst (λ n. IsFed (plan_of p) c n (planned_body (fields_to p c) part.body) (fields_of p (origin.Component c))) (ap (λ (fields : List (List ℕ)). length fields) (sym (fields_come c part is))) fed.0;
         fields = AllPairs-from_apart (λ (name : List ℕ). name) (fields_of p (origin.Component c)) (subst AreApart (sym (map-id (fields_of p (origin.Component c)))) fed.1.0);
         field_names = fed.1.1;
-        first_task = ap (λ tasks. sum (take c tasks)) (sym (tasks_planned p));
+        first_task = sym (sum-map (λ (one : ComponentPart). one.tasks) (take c (components_of p))) ∙ ap sum (sym (take-map (λ (one : ComponentPart). one.tasks) c (components_of p))) ∙ ap (λ tasks. sum (take c tasks)) (sym (tasks_planned p));
         tasks = limits.tasks;
       }
 

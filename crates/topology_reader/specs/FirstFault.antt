@@ -1,8 +1,7 @@
 -- Which fault a topology file has first, and which plan it has where it has none. This project's
 -- own.
 use Rattle.std.specs.Prelude.{◌≡◌, ℕ, ◌+◌, pos, List, [], ◌∷◌, length, map, Bool, true, false, not, nat_lt, if◌then◌else◌, Option, Some, None, option_map, option_and_then, is_none, codes}
-use Rattle.topology_reader.specs.Prelude.{find, range_fault, Data, json_of, most_topology_bytes, TooLong, NotJson, form_fault, parts_said, Topology, list_any, range_with_len, option_map_or, option_to_list, bytes_eq, first_some, most_tasks_in_all, most_weight, GroupingPart, Input, Split, Project, Filter, Set, Len, Route, BodyPart, Bolt, State, ComponentPart, FileParts, components_of, TopoFault, WrongKind, Twice, NoSource, Cycle, FieldsDiffer, NoField, NotExactlyOnce, Weight, Kind, Transactional, Opaque, tasks_in_all, weight_of, Feed, feeds_at, by_depth}
-use Rattle.std.specs.Cmp.Lexicographic.{pointwise}
+use Rattle.topology_reader.specs.Prelude.{pointwise, find, range_fault, Data, json_of, most_topology_bytes, TooLong, NotJson, form_fault, parts_said, Topology, list_any, range_with_len, option_map_or, option_to_list, bytes_eq, first_some, most_tasks_in_all, most_weight, GroupingPart, Input, Split, Project, Filter, Set, Len, Route, BodyPart, Bolt, State, ComponentPart, FileParts, components_of, TopoFault, WrongKind, Twice, NoSource, Cycle, FieldsDiffer, NoField, NotExactlyOnce, Weight, Kind, Transactional, Opaque, tasks_in_all, weight_of, Feed, feeds_at, by_depth}
 use Rattle.topology_form.specs.declared.parts.GroupingPart.TheVariants as said
 use Rattle.topology_reader.specs.Wiring.{component_names, name_at, source_of, graph_of, reaches, fields_of, fields_to, body_of, component_at}
 use Rattle.topology_reader.specs.Planned.{plan_of}

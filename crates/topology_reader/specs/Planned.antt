@@ -1,16 +1,12 @@
 -- The topology of what a file says. It means something where the file has no
 -- fault. This project's own.
-use Rattle.std.specs.Prelude.{ℕ, ◌==◌, List, map, filter, position, Bool, true, false, option_map, unwrap_or, sum, take}
+use Rattle.std.specs.Prelude.{ℕ, ◌==◌, List, map, filter, position, Bool, true, false, option_map, unwrap_or, sum_by, take}
 use Rattle.topology_reader.specs.Prelude.{enumerate_from, flat_map, option_map_or, bytes_eq, Origin, GroupingPart, Input, Operation, Split, Project, Filter, Set, Len, Route, Flaky, Mute, Custom, BodyPart, Bolt, State, ComponentPart, FileParts, components_of, Topology}
-use Rattle.topology_plan.specs.declared.parts.Body.{Body}
+use Rattle.topology_plan.specs.declared.parts.{Body.Body, Component.Component, Grouping.Grouping, Op.Op, Sub.Sub}
 use Rattle.topology_plan.specs.declared.parts.Body.TheVariants as body
-use Rattle.topology_plan.specs.declared.parts.Component.{Component}
-use Rattle.topology_plan.specs.declared.parts.Grouping.{Grouping}
 use Rattle.topology_plan.specs.declared.parts.Grouping.TheVariants as grouping
-use Rattle.topology_plan.specs.declared.parts.Op.{Op}
 use Rattle.topology_plan.specs.declared.parts.Op.TheVariants as op
 use Rattle.topology_plan.specs.declared.parts.Origin.TheVariants as origin
-use Rattle.topology_plan.specs.declared.parts.Sub.{Sub}
 use Rattle.topology_form.specs.declared.parts.GroupingPart.TheVariants as said
 use Rattle.topology_reader.specs.Wiring.{source_of, inputs_by_component, fields_of, fields_to, body_of}
 
@@ -83,13 +79,9 @@ planned_subs p from = flat_map (subs_of_component p from) (enumerate_from 0 (inp
 
 -- ---- components
 
--- tasks and parts of the components
-abbrev pub tasks_by_component : FileParts → List ℕ
-tasks_by_component p = map (λ (part : ComponentPart). part.tasks) (components_of p)
-
 -- tasks are numbered through the components
 abbrev pub first_task_of : FileParts → ℕ → ℕ
-first_task_of p c = sum (take c (tasks_by_component p))
+first_task_of p c = sum_by (λ (part : ComponentPart). part.tasks) (take c (components_of p))
 
 -- the component of a part and its number
 abbrev pub planned_component : FileParts → ℕ × ComponentPart → Component
@@ -101,25 +93,17 @@ planned_component p numbered = record {
   body = planned_body (fields_to p numbered.0) (numbered.1).body;
 }
 
--- the bolts and then the states
-abbrev pub planned_components : FileParts → List Component
-planned_components p = map (planned_component p) (enumerate_from 0 (components_of p))
-
--- the subscriptions to each component's rows
-abbrev pub planned_component_subs : FileParts → List (List Sub)
-planned_component_subs p =
-    map (λ (numbered : ℕ × List Input). planned_subs p (origin.Component numbered.0))
-    (enumerate_from 0 (inputs_by_component p))
-
 -- the whole plan
 unfoldable pub plan_of : FileParts → Topology
 plan_of p = record {
   spout_fields = p.spout.fields;
   spout_kind = p.spout.kind;
   batch = p.spout.batch;
-  components = planned_components p;
+  components = map (planned_component p) (enumerate_from 0 (components_of p));
   spout_subs = planned_subs p origin.Spout;
-  component_subs = planned_component_subs p;
+  component_subs =
+      map (λ (numbered : ℕ × List Input). planned_subs p (origin.Component numbered.0))
+      (enumerate_from 0 (inputs_by_component p));
   ackers = p.ackers;
   pending = p.pending;
   buckets = p.buckets;

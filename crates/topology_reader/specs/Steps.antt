@@ -50,17 +50,14 @@ abbrev pub with_sub : List (List Sub) → Origin → Sub → List (List Sub)
 with_sub table from sub =
     slice_set table (place_in from) (slice_index_or table (place_in from) [] ++ sub ∷ [])
 
--- an input of a component, at its source
-abbrev pub with_input : FileParts → ℕ → List (List Sub) → Input → List (List Sub)
-with_input p to table input =
-    option_map_or
-    (λ from. with_sub table from
-    (record { to = to; grouping = planned_grouping p from input.grouping }))
-    (source_of p input.from) table
-
--- all inputs of a component
+-- all inputs of a component, each at its source
 abbrev pub with_inputs : FileParts → List (List Sub) → ℕ × List Input → List (List Sub)
-with_inputs p table component = fold (with_input p component.0) table component.1
+with_inputs p table component =
+    fold (λ (rows : List (List Sub)) (input : Input).
+    option_map_or
+    (λ from. with_sub rows from
+    (record { to = component.0; grouping = planned_grouping p from input.grouping }))
+    (source_of p input.from) rows) table component.1
 
 -- the topology of what a file says, with its numbers
 pub record IsMade (p : FileParts) (made : Made) : Type 0 where

@@ -9,7 +9,7 @@ ghost use Rattle.topology_reader.specs.Wiring.{is_component, source_of, sources_
 use crate::wiring::Sources;
 use std::alloc::Global;
 use storm_values::{Memory, Txt};
-use topology_form::{BodyPart, ComponentPart, FileParts, Input, StatePart, TopoFault};
+use topology_form::{BodyPart, ComponentPart, FileParts, Input, TopoFault};
 use topology_plan::{Kind, Origin};
 
 pub(crate) fn check_cycles(sources: &Sources<'_>) -> Result<(), TopoFault>
@@ -141,11 +141,8 @@ fn exact_name(states: &[ComponentPart]) -> Option<&Txt>
 fn keeps_exact(body: &BodyPart) -> bool
     ensures { result ≡ keeps_exact body.now }
 {
-    matches!(
-        body,
-        BodyPart::State(StatePart {
-            kind: Kind::Transactional,
-            ..
-        })
-    )
+    match body {
+        BodyPart::State(state) => matches!(state.kind, Kind::Transactional),
+        BodyPart::Bolt(_) => false,
+    }
 }

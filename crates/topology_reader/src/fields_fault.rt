@@ -1,8 +1,7 @@
 //! The faults of fields: what differs, what is not there, and what is there already.
 
 ghost use Rattle.std.specs.Prelude.{◌≡◌, not, find, map};
-ghost use Rattle.topology_reader.specs.Prelude.{Checks, list_any, option_copied, bytes_eq, first_some, Feed, feeds_at};
-ghost use Rattle.std.specs.Cmp.Lexicographic.{pointwise};
+ghost use Rattle.topology_reader.specs.Prelude.{pointwise, Checks, list_any, option_copied, bytes_eq, first_some, Feed, feeds_at};
 ghost use Rattle.topology_reader.specs.FirstFault.{is_among, differ_fault, field_fault, chooses, direct_fault, input_fault, fields_read, amount_read, added_fault, component_fault, fields_fault};
 ghost use Rattle.topology_reader.specs.Wiring.{graph_of, fields_of, fields_to};
 

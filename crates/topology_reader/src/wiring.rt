@@ -2,9 +2,8 @@
 //! and which fields the rows of a source have.
 
 ghost use Rattle.std.specs.Prelude.{◌≡◌, ◌<◌, ◌^◌, [], ◌∷◌, ◌++◌, length, slice_get, None, Some, IfOk};
-ghost use Rattle.topology_graph.specs.Graph.{read, fed_by};
 ghost use Rattle.topology_reader.specs.FirstFault.{cycle_fault};
-ghost use Rattle.topology_reader.specs.Prelude.{IsInRange, components_of, filter_map, IsClosed, IsSettled, option_copied, feeds_at};
+ghost use Rattle.topology_reader.specs.Prelude.{IsInRange, components_of, filter_map, IsClosed, IsSettled, option_copied, feeds_at, fed_by, read};
 ghost use Rattle.topology_reader.specs.Steps.{IsIndexOf};
 ghost use Rattle.topology_reader.specs.Wiring.{source_of, component_at, copies_said, feed_of, graph_of, body_of, name_at, fields_after, first_of, fields_rule, fields_of, fields_to};
 
@@ -172,15 +171,12 @@ struct FieldsLeft<'p> {
     sources: &'p Sources<'p>,
 }
 
-impl<'p> FieldsLeft<'p> {
-    fn of_first<'f>(&'f self, feeds: &[Feed], known: &'f [Option<Names>]) -> &'f [Txt]
-        ensures { result.now
-            ≡ first_of (fed_by (fields_rule self.now.sources.now) known.now feeds.now) }
-    {
-        match feeds.first() {
-            Some(feed) => fields_known(self.sources.parts(), known, feed.from),
-            None => &[],
-        }
+fn of_first<'f>(parts: &'f FileParts, feeds: &[Feed], known: &'f [Option<Names>]) -> &'f [Txt]
+    ensures { result.now ≡ first_of (fed_by (fields_rule parts.now) known.now feeds.now) }
+{
+    match feeds.first() {
+        Some(feed) => fields_known(parts, known, feed.from),
+        None => &[],
     }
 }
 
@@ -189,8 +185,9 @@ impl<'p> Along<Names> for FieldsLeft<'p> {
 
     fn over(&self, c: usize, feeds: &[Feed], known: &[Option<Names>]) -> Result<Names, Memory> {
         let alloc = self.sources.alloc();
+        let come = of_first(self.sources.parts(), feeds, known);
         match self.sources.component_at(c) {
-            Some(part) => fields_after(alloc, &part.body, self.of_first(feeds, known)),
+            Some(part) => fields_after(alloc, &part.body, come),
             None => Ok(Names::new(alloc)),
         }
     }
@@ -319,18 +316,14 @@ fn fields_after(alloc: Global, body: &BodyPart, come: &[Txt]) -> Result<Names, M
     match body {
         BodyPart::Bolt(Operation::Split { into, .. }) => copied(alloc, from_ref(into)),
         BodyPart::Bolt(Operation::Project(names)) => names.copy(),
-        BodyPart::Bolt(Operation::Len { into, .. }) => with_field(alloc, come, into),
+        BodyPart::Bolt(Operation::Len { into, .. }) => {
+            let mut more = copied(alloc, come)?;
+            more.push(into.copy()?)?;
+            Ok(more)
+        }
         BodyPart::Bolt(_) => copied(alloc, come),
         BodyPart::State(_) => Ok(Names::new(alloc)),
     }
-}
-
-fn with_field(alloc: Global, fields: &[Txt], new: &Txt) -> Result<Names, Memory>
-    ensures { IfOk result (λ more. more ≡ fields.now ++ new.now ∷ []) }
-{
-    let mut more = copied(alloc, fields)?;
-    more.push(new.copy()?)?;
-    Ok(more)
 }
 
 pub(crate) fn copied(alloc: Global, names: &[Txt]) -> Result<Names, Memory>
