@@ -59,7 +59,10 @@ pub fn numbers_by<R: Along<u64>>(alloc: Global, rule: &R, graph: &Graph) -> Resu
     ensures { IfOk result (λ numbers. numbers.items ≡ values_of (R.rule rule.now) graph.now) }
 {
     let known = values_along(alloc, rule, graph)?;
-    known.iter().map(|number| number.unwrap_or(0)).collect(alloc)
+    known
+        .iter()
+        .map(|number| number.unwrap_or(0))
+        .collect(alloc)
 }
 
 /// The greatest number, or 0 where there is none. Of the depths it is the most subscriptions from
