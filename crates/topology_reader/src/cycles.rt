@@ -60,17 +60,9 @@ fn led_through(alloc: Global, sets: &[u64], n: usize) -> Result<Vec<u64>, Memory
         (λ made. made.items ≡ map (led n (slice_index sets.now n)) sets.now) }
 {
     let through = sets[n];
-    sets.iter().map(|set| led(n, through, *set)).collect(alloc)
-}
-
-fn led(n: usize, through: u64, set: u64) -> u64
-    requires { n < 64 }
-    ensures { result ≡ led n through set }
-{
-    if has(set, n) {
-        return set | through;
-    }
-    set
+    sets.iter()
+        .map(|set| if has(*set, n) { *set | through } else { *set })
+        .collect(alloc)
 }
 
 /// For each bolt the set of the bolts that feed it.
