@@ -31,7 +31,7 @@ pub use Rattle.topology_plan.specs.declared.parts.Kind.TheVariants.{Transactiona
 pub use Rattle.topology_plan.specs.declared.parts.Sub.{Sub}
 pub use Rattle.topology_reader.specs.FirstFault.{IsFilePlan}
 unfoldable pub use Rattle.topology_reader.specs.FirstFault.{first_fault}
-pub use Rattle.topology_reader.specs.FirstFault.{is_among, size_fault, first_again, again_fault, key_of, own_key, projected, component_twice, twice_fault, nameless_fault, source_fault, cycle_fault, differ_fault, field_fault, direct_fault, input_fault, fields_read, amount_read, added_fault, component_fault, fields_fault, is_route, chooses, is_transactional, keeps_exact, replay_fault}
+pub use Rattle.topology_reader.specs.FirstFault.{is_among, size_fault, first_again, again_fault, key_of, own_key, projected, component_twice, twice_fault, nameless_fault, source_fault, cycle_fault, differ_fault, field_fault, direct_fault, input_fault, fields_read, added_fault, component_fault, fields_fault, is_route, chooses, is_transactional, keeps_exact, replay_fault}
 unfoldable pub use Rattle.topology_reader.specs.FirstFault.{meaning_fault}
 pub use Rattle.topology_reader.specs.Planned.{planned_subs, planned_component, is_origin, planned_grouping, subs_of_component, number_of, numbers_of, planned_operation, planned_body, route_field, first_task_of}
 unfoldable pub use Rattle.topology_reader.specs.Planned.{plan_of}

@@ -1,6 +1,6 @@
 -- Which fault a topology file has first, and which plan it has where it has none. This project's
 -- own.
-use Rattle.std.specs.Prelude.{◌≡◌, ℕ, ◌+◌, pos, List, [], ◌∷◌, length, map, Bool, true, false, not, nat_lt, if◌then◌else◌, Option, Some, None, option_map, option_and_then, is_none, codes}
+use Rattle.std.specs.Prelude.{◌≡◌, ℕ, ◌+◌, pos, List, [], ◌∷◌, ◌++◌, length, map, Bool, true, false, not, nat_lt, if◌then◌else◌, Option, Some, None, option_map, option_and_then, is_none, codes}
 use Rattle.topology_reader.specs.Prelude.{pointwise, find, range_fault, Data, json_of, most_topology_bytes, TooLong, NotJson, form_fault, parts_said, Topology, list_any, range_with_len, option_map_or, option_to_list, bytes_eq, first_some, most_tasks_in_all, most_weight, GroupingPart, Input, Split, Project, Filter, Set, Len, Route, BodyPart, Bolt, State, ComponentPart, FileParts, components_of, TopoFault, WrongKind, Twice, NoSource, Cycle, FieldsDiffer, NoField, NotExactlyOnce, Weight, Kind, Transactional, Opaque, tasks_in_all, weight_of, Feed, feeds_at, by_depth}
 use Rattle.topology_form.specs.declared.parts.GroupingPart.TheVariants as said
 use Rattle.topology_reader.specs.Wiring.{component_names, name_at, source_of, graph_of, reaches, fields_of, fields_to, body_of, component_at}
@@ -108,7 +108,7 @@ abbrev pub input_fault : FileParts → ℕ → Input → Option TopoFault
 input_fault p c input =
     first_some (field_fault p c (key_of input.grouping) ∷ direct_fault p input input.grouping ∷ [])
 
--- the fields that a bolt's operation reads, or a state's key
+-- the fields that a bolt's operation reads, or a state's key and what it adds up or keeps
 abbrev pub fields_read : BodyPart → List (List ℕ)
 fields_read (Bolt (Split field into)) = field ∷ []
 fields_read (Bolt (Project names)) = names
@@ -117,12 +117,7 @@ fields_read (Bolt (Set field value)) = field ∷ []
 fields_read (Bolt (Len field into)) = field ∷ []
 fields_read (Bolt (Route field)) = field ∷ []
 fields_read (Bolt _) = []
-fields_read (State state) = state.key
-
--- the field that a state adds up or keeps, if any
-abbrev pub amount_read : BodyPart → List (List ℕ)
-amount_read (State state) = option_to_list state.amount
-amount_read _ = []
+fields_read (State state) = state.key ++ option_to_list state.amount
 
 -- the field that a length adds is there already, or there are eight without it
 abbrev pub added_fault : List (List ℕ) → BodyPart → Option TopoFault
@@ -139,8 +134,7 @@ component_fault p c =
     (λ (part : ComponentPart).
     first_some
     (differ_fault p c ∷ first_some (map (input_fault p c) part.inputs)
-    ∷ field_fault p c (fields_read part.body) ∷ field_fault p c (amount_read part.body)
-    ∷ added_fault (fields_to p c) part.body ∷ []))
+    ∷ field_fault p c (fields_read part.body) ∷ added_fault (fields_to p c) part.body ∷ []))
     (component_at p c)
 
 -- component by component, by depth, then in file order

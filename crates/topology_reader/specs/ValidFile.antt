@@ -7,7 +7,7 @@ use Rattle.topology_plan.specs.Texts.{IsName}
 use Rattle.topology_form.specs.declared.parts.GroupingPart.TheVariants as said
 use Rattle.topology_reader.specs.Wiring.{component_names, source_of, inputs_at, fields_after, fields_of, fields_to, body_of, component_at}
 use Rattle.topology_reader.specs.Planned.{plan_of}
-use Rattle.topology_reader.specs.FirstFault.{key_of, fields_read, amount_read, is_route, keeps_exact}
+use Rattle.topology_reader.specs.FirstFault.{key_of, fields_read, is_route, keeps_exact}
 
 -- ---- sources
 
@@ -36,7 +36,7 @@ pub record IsValidComponent (p : FileParts) (c : ℕ) : Type 0 where
   pub distinct : AllPairs (λ (a b : Input). a.from ≢ b.from) (inputs_at p c)
   pub inputs : All (IsValidInput p (fields_to p c)) (inputs_at p c)
   pub reads : IfSome (component_at p c)
-      (λ part. All (Contains (fields_to p c)) (fields_read part.body ++ amount_read part.body))
+      (λ part. All (Contains (fields_to p c)) (fields_read part.body))
 
 -- ---- the file
 
