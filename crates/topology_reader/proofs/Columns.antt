@@ -6,7 +6,7 @@ use Rattle.std.proofs.lemmas.List.{length-append}
 use Rattle.topology_plan.specs.declared.parts.Origin.TheVariants as origin
 use Rattle.topology_plan.specs.Texts.{IsName}
 use Rattle.topology_reader.proofs.Ranks.{rank, rank_grows}
-use Rattle.topology_reader.proofs.Listed.{IsIn, in_map, in_append, to_flat_map, to_filter, in_place, to_range, to_any, none_mapped, none_found, AreNone, none_each_map, none_each}
+use Rattle.topology_reader.proofs.Listed.{IsIn, in_map, to_flat_map, to_filter, in_place, to_range, to_any, none_mapped, none_found, AreNone, none_each_map, none_each}
 use Rattle.topology_reader.proofs.Distinct.{bytes_same, bytes_itself, among_in, AreApart, apart_push, not_among, apart_from_again}
 use Rattle.topology_reader.proofs.Numbered.{IsAt, count_parts, part_there, inputs_at_part, inputs_are, range_at, is_bolt_at, the_operation}
 use Rattle.topology_reader.proofs.ValidPlan.{HasNoFault, between_from_range}

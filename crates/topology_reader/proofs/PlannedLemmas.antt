@@ -1,6 +1,6 @@
 -- Fields by their numbers, and how many fields a source can have.
-use Rattle.std.proofs.Common.{◌≡◌, ℕ, zero, suc, ◌+◌, ◌≤◌, Bool, true, false, not, cond, List, [], ◌∷◌, length, All, Option, Some, None, option_map, position, nat_lt, slice_get, refl, ap, arith, rules, tests, length-append}
-use Rattle.topology_reader.proofs.Common.{position_or_len, bytes_eq, IsInRange, IsBodyInRange, IsComponentInRange, Origin, Split, Project, Filter, Set, Len, Route, Flaky, Mute, Custom, BodyPart, Bolt, State, ComponentPart, components_of, Input, FileParts, option_map_or, feeds_at, fed, value_in, value_of, Feed, All-head, All-tail, place_of, fields_after, fields_of, fields_rule, first_of, graph_of}
+use Rattle.std.proofs.Common.{ℕ, zero, suc, ◌+◌, ◌≤◌, List, [], ◌∷◌, length, All, slice_get, arith, length-append}
+use Rattle.topology_reader.proofs.Common.{IsInRange, IsBodyInRange, IsComponentInRange, Origin, Split, Project, Filter, Set, Len, Route, Flaky, Mute, Custom, BodyPart, Bolt, State, ComponentPart, components_of, Input, FileParts, option_map_or, feeds_at, fed, value_in, value_of, Feed, All-head, All-tail, fields_after, fields_of, fields_rule, first_of, graph_of}
 use Rattle.topology_plan.specs.declared.parts.Origin.TheVariants as origin
 use Rattle.topology_reader.proofs.Numbered.{count_parts}
 use Rattle.topology_reader.proofs.SourceLemmas.{length_graph}

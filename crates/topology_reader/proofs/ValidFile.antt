@@ -1,6 +1,6 @@
 -- What a file without a fault says is valid.
-use Rattle.std.proofs.Common.{◌≡◌, ◌≢◌, ℕ, zero, suc, ◌<◌, List, [], ◌∷◌, ◌++◌, All, AllPairs, false, Some, None, IfSome, sum, sum_by, inl, inr, sym, ◌∙◌, ap, subst, arith}
-use Rattle.topology_reader.proofs.Common.{Contains, Origin, tasks_in_all, IsValid, GroupingPart, Input, ComponentPart, components_of, component_at, FileParts, IsInRange, cases_lt, map-id, sum-map, slice_get_past, component_names, component_count, source_of, inputs_at, fields_after, fields_of, fields_to, sources_at, tasks_by_component, plan_of, key_of, fields_read, direct_fault, keeps_exact, meaning_fault, AreDistinct, IsSource, HasFields, IsValidInput, IsValidComponent, IsNumbered, IsValidFile}
+use Rattle.std.proofs.Common.{◌≡◌, ◌≢◌, ℕ, zero, suc, ◌<◌, List, [], ◌∷◌, All, AllPairs, false, Some, None, IfSome, sum, sum_by, inl, inr, sym, ◌∙◌, ap, subst, arith}
+use Rattle.topology_reader.proofs.Common.{Contains, Origin, tasks_in_all, IsValid, GroupingPart, Input, ComponentPart, components_of, component_at, FileParts, IsInRange, cases_lt, map-id, sum-map, slice_get_past, component_names, component_count, source_of, inputs_at, fields_after, fields_of, fields_to, sources_at, plan_of, key_of, fields_read, direct_fault, keeps_exact, meaning_fault, AreDistinct, IsSource, HasFields, IsValidInput, IsValidComponent, IsNumbered, IsValidFile}
 use Rattle.topology_plan.specs.declared.parts.Component.{Component}
 use Rattle.topology_plan.specs.declared.parts.Origin.TheVariants as origin
 use Rattle.topology_reader.proofs.Ranks.{rank, rank_grows}

@@ -1,5 +1,5 @@
 -- What the steps of the checks have done, which no public contract cites.
-use Rattle.std.specs.Prelude.{bit_or, if◌then◌else◌, ◌≡◌, ◌<◌, ◌^◌, ◌==◌, ℕ, ◌+◌, Bool, List, [], ◌∷◌, ◌++◌, length, map, fold, slice_index, slice_index_or, slice_set, Option, Some, Vec}
+use Rattle.std.specs.Prelude.{bit_or, if◌then◌else◌, ◌≡◌, ◌<◌, ◌==◌, ℕ, ◌+◌, Bool, List, [], ◌∷◌, ◌++◌, length, map, fold, slice_index, slice_index_or, slice_set, Vec}
 use Rattle.std.specs.declared.alloc.Global.{Global}
 use Rattle.std.specs.Borrow.{Bor}
 use Rattle.std.specs.Int.{bit_at}

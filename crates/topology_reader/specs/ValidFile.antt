@@ -1,6 +1,6 @@
 -- What a file says that has no fault, in its own names. Components are the bolts and then the
 -- states, each in file order. This project's own.
-use Rattle.std.specs.Prelude.{◌≡◌, ◌≢◌, ◌<◌, ◌≤◌, ℕ, List, ◌∷◌, ◌++◌, length, All, AllPairs, Some, IfSome, sum_by, true, false}
+use Rattle.std.specs.Prelude.{◌≡◌, ◌≢◌, ◌<◌, ◌≤◌, ℕ, List, ◌∷◌, length, All, AllPairs, Some, IfSome, sum_by, true, false}
 use Rattle.topology_reader.specs.Prelude.{Opaque, Contains, most_tasks_in_all, most_weight, Input, ComponentPart, FileParts, Origin, weight_of, IsThere, IsBetween, IsInRange, components_of, option_map_or}
 use Rattle.topology_plan.specs.declared.parts.Origin.TheVariants as origin
 use Rattle.topology_plan.specs.Texts.{IsName}

@@ -10,9 +10,7 @@ use crate::wiring::Wiring;
 use std::alloc::Global;
 use std::slice::from_ref;
 use storm_values::Txt;
-use topology_form::{
-    BodyPart, ComponentPart, GroupingPart, Input, Operation, TopoFault, within,
-};
+use topology_form::{BodyPart, ComponentPart, GroupingPart, Input, Operation, TopoFault, within};
 use topology_graph::by_depth;
 
 /// The fields of each component, after those of all of its sources.
