@@ -2,15 +2,14 @@
 use Rattle.topology_form.specs.Prelude.{Data, TopoFault, FileParts, Fold, Count, Sum, Last, Max, Input, ComponentPart}
 use Rattle.topology_form.specs.declared.parts.GroupingPart.TheVariants as said
 use Rattle.topology_plan.specs.Valid.{IsBetween}
-use Rattle.std.proofs.Common.{◌≡◌, ℕ, List, [], ◌∷◌, length, All, Bool, true, false, subst, codes, None, IsSome, Result, Ok, Err, IfOk, refl, sym, lit≤}
+use Rattle.std.proofs.Common.{◌≡◌, ℕ, List, [], ◌∷◌, length, All, Bool, true, false, subst, codes, None, Result, Ok, Err, IfOk, refl, sym, lit≤}
 use Rattle.std.specs.Result.{result_err, result_unwrap_or}
 use Rattle.std.proofs.lemmas.List.{length-map}
 use Rattle.std.proofs.lemmas.List.Elements.{All-nil, All-cons, All-append, All-weaker}
 use Rattle.std.proofs.lemmas.Option.{none-some}
-use Rattle.topology_form.specs.File.{form_fault, parts_said}
-use Rattle.topology_form.specs.Format.{blank, file_of, operations, groupings, grouping_of, amount_of, amount_for, grouped_by, a_spout, an_operation, an_input, a_bolt, a_state, a_file}
+use Rattle.topology_form.specs.Format.{form_fault, parts_said, blank, file_of, operations, groupings, grouping_of, amount_for, grouped_by, a_spout, an_operation, an_input, a_bolt, a_state, a_file}
 use Rattle.topology_form.specs.Ranges.{IsSpoutInRange, IsOperationInRange, IsGroupingInRange, HasAmount, IsComponentInRange, is_bolt, IsInRange}
-use Rattle.topology_form.proofs.Good.{IsOf, Makes, Reads, first, last, had, reads, object_of, chosen_makes, a_member, may_be, number_of, name_of, any_of, names_of, objects_of, constant_of}
+use Rattle.topology_form.proofs.Good.{IsOf, Reads, first, last, had, reads, object_of, chosen_makes, a_member, may_be, number_of, name_of, any_of, names_of, objects_of, constant_of}
 
 pub spout_of : IsOf IsSpoutInRange a_spout
 spout_of =
@@ -80,14 +79,11 @@ bolt_of =
 
 -- the amount that a fold has
 
-named_amount : Makes (λ x. IsSome x.0) amount_of
-named_amount = first (a_member _ any_of) (λ amount _. had _ refl)
-
 amount_reads : (fold : Fold) → Reads (HasAmount fold) (amount_for fold)
 amount_reads Count = reads (had _ refl)
-amount_reads Sum = reads named_amount
-amount_reads Last = reads named_amount
-amount_reads Max = reads named_amount
+amount_reads Sum = reads (first (a_member _ any_of) (λ amount _. had _ refl))
+amount_reads Last = reads (first (a_member _ any_of) (λ amount _. had _ refl))
+amount_reads Max = reads (first (a_member _ any_of) (λ amount _. had _ refl))
 
 all_grouped : (P : Input → Type 0) (key names : List (List ℕ)) → ((from : List ℕ) → P (record { from = from; grouping = said.Fields key })) → All P (grouped_by key names)
 all_grouped P key [] each = All-nil P

@@ -1,7 +1,7 @@
 -- What the objects of a topology file say. This project's own.
 use Rattle.std.specs.Prelude.{ℕ, List, [], ◌∷◌, map, Option, Some, None, Result, codes}
-use Rattle.topology_form.specs.Prelude.{Data, Members, most_fields, most_batch, most_below, most_tasks, most_bolt_inputs, most_state_inputs, most_bolts, most_states, most_ackers, most_pending, least_buckets, most_buckets, most_attempts, Value, TopoFault, FileParts, Fold, Count, Sum, Last, Max, GroupingPart, Input, Operation, Split, Project, Filter, Set, Len, Route, Flaky, Mute, Custom, SpoutPart, ComponentPart, Bolt, State, Kind, Transactional, Opaque}
-use Rattle.topology_plan.specs.declared.parts.Test.{Test}
+use Rattle.std.specs.Result.{result_err, result_unwrap_or}
+use Rattle.topology_form.specs.Prelude.{Data, Members, most_fields, most_batch, most_below, most_tasks, most_bolt_inputs, most_state_inputs, most_bolts, most_states, most_ackers, most_pending, least_buckets, most_buckets, most_attempts, Value, TopoFault, FileParts, Fold, Test, Count, Sum, Last, Max, GroupingPart, Input, Operation, Split, Project, Filter, Set, Len, Route, Flaky, Mute, Custom, SpoutPart, ComponentPart, Bolt, State, Kind, Transactional, Opaque}
 use Rattle.topology_plan.specs.declared.parts.Test.TheVariants.{Eq, Ne, Lt}
 use Rattle.topology_form.specs.declared.parts.GroupingPart.TheVariants as said
 use Rattle.topology_form.specs.Reading.{Form, Reader, ◌>>=◌, done, ends, required, optional, chosen, a_number, a_text, a_name, a_word, some_names, a_constant, an_object, some_objects}
@@ -107,14 +107,11 @@ abbrev pub folds : List (List ℕ × Fold)
 folds = (codes "count", Count) ∷ (codes "sum", Sum) ∷ (codes "last", Last) ∷ (codes "max", Max) ∷ []
 
 -- the amount that every fold but a count has
-abbrev pub amount_of : Reader (Option (List ℕ))
-amount_of = do
-  amount ← required (codes "amount") a_name
-  done (Some amount)
-
 abbrev pub amount_for : Fold → Reader (Option (List ℕ))
 amount_for Count = done None
-amount_for _ = amount_of
+amount_for _ = do
+  amount ← required (codes "amount") a_name
+  done (Some amount)
 
 -- inputs from these sources, each grouped by the key
 abbrev pub grouped_by : List (List ℕ) → List (List ℕ) → List Input
@@ -174,3 +171,11 @@ blank = record {
 -- what a file's value says, or its first fault of form
 abbrev pub file_of : Data → Result FileParts TopoFault
 file_of = a_file (codes "topology")
+
+-- the first fault of form in a file's value
+unfoldable pub form_fault : Data → Option TopoFault
+form_fault value = result_err (file_of value)
+
+-- what a file's value says, which means something where it has no fault of form
+unfoldable pub parts_said : Data → FileParts
+parts_said value = result_unwrap_or (file_of value) blank

@@ -1,5 +1,4 @@
 pub mod Prelude
-pub mod File
 pub mod Ranges
 pub mod Faults
 pub mod Format

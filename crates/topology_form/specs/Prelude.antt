@@ -7,19 +7,11 @@ pub use Rattle.storm_values.specs.Limits.{most_topology_bytes, most_weight, most
 pub use Rattle.storm_values.specs.declared.value.Value.{Value}
 pub use Rattle.topology_form.specs.declared.fault.TopoFault.{TopoFault}
 pub use Rattle.topology_form.specs.declared.fault.TopoFault.TheVariants.{TooLong, NotJson, Missing, WrongKind, UnknownName, OutOfRange, Twice, NoSource, Cycle, FieldsDiffer, NoField, NotExactlyOnce, Weight, Memory}
-pub use Rattle.topology_form.specs.declared.parts.BodyPart.{BodyPart}
+pub use Rattle.topology_form.specs.declared.parts.{BodyPart.BodyPart, ComponentPart.ComponentPart, FileParts.FileParts, GroupingPart.GroupingPart, Input.Input, Operation.Operation, SpoutPart.SpoutPart, StatePart.StatePart}
 pub use Rattle.topology_form.specs.declared.parts.BodyPart.TheVariants.{Bolt, State}
-pub use Rattle.topology_form.specs.declared.parts.ComponentPart.{ComponentPart}
-pub use Rattle.topology_form.specs.declared.parts.FileParts.{FileParts}
-pub use Rattle.topology_form.specs.declared.parts.GroupingPart.{GroupingPart}
-pub use Rattle.topology_form.specs.declared.parts.Input.{Input}
-pub use Rattle.topology_form.specs.declared.parts.Operation.{Operation}
 pub use Rattle.topology_form.specs.declared.parts.Operation.TheVariants.{Split, Project, Filter, Set, Len, Route, Flaky, Mute, Custom}
-pub use Rattle.topology_form.specs.declared.parts.SpoutPart.{SpoutPart}
-pub use Rattle.topology_form.specs.declared.parts.StatePart.{StatePart}
 pub use Rattle.topology_plan.specs.Texts.{is_name, is_name_byte, begins_with_letter}
 unfoldable pub use Rattle.topology_plan.specs.Texts.{IsName}
-pub use Rattle.topology_plan.specs.declared.parts.Fold.{Fold}
+pub use Rattle.topology_plan.specs.declared.parts.{Fold.Fold, Kind.Kind, Test.Test}
 pub use Rattle.topology_plan.specs.declared.parts.Fold.TheVariants.{Count, Sum, Last, Max}
-pub use Rattle.topology_plan.specs.declared.parts.Kind.{Kind}
 pub use Rattle.topology_plan.specs.declared.parts.Kind.TheVariants.{Transactional, Opaque}

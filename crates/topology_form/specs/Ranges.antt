@@ -3,8 +3,7 @@
 use Rattle.std.specs.Prelude.{◌≡◌, ◌≤◌, ℕ, List, ◌++◌, length, Bool, true, false, Option, None, IsSome, All}
 use Rattle.topology_form.specs.Prelude.{most_fields, most_batch, most_below, most_tasks, most_bolt_inputs, most_state_inputs, most_bolts, most_states, most_ackers, most_pending, least_buckets, most_buckets, most_attempts, FileParts, IsName, Fold, Count, GroupingPart, Input, Operation, Split, Project, Filter, Set, Len, Flaky, Mute, SpoutPart, BodyPart, Bolt, State, ComponentPart}
 use Rattle.topology_form.specs.declared.parts.GroupingPart.TheVariants as said
-use Rattle.topology_plan.specs.Valid.{IsBetween}
-use Rattle.topology_plan.specs.Wired.{IsConstant}
+use Rattle.topology_plan.specs.{Valid.IsBetween, Wired.IsConstant}
 
 -- the spout's name, its fields, and how many records a batch has
 pub record IsSpoutInRange (spout : SpoutPart) : Type 0 where

@@ -44,8 +44,7 @@ and_then (Err fault) next = Err fault
 -- of the wrong kind, or what follows
 abbrev pub of_kind : {A B : Type 0} → List ℕ → Option A → (A → Result B TopoFault)
     → Result B TopoFault
-of_kind name None next = Err (WrongKind name)
-of_kind name (Some x) next = next x
+of_kind name found next = option_map_or next found (Err (WrongKind name))
 
 -- a number or a length that is out of its range
 abbrev pub range_fault : List ℕ → ℕ → ℕ → ℤ → Option TopoFault

@@ -3,8 +3,7 @@
 
 ghost use Rattle.std.specs.Prelude.{◌≡◌, ◌≢◌, Some, None, IfOk, IfErr};
 ghost use Rattle.topology_form.specs.Prelude.{Data, view};
-ghost use Rattle.topology_form.specs.File.{form_fault, parts_said};
-ghost use Rattle.topology_form.specs.Format.{a_spout, an_operation, grouping_of, an_input, a_bolt, amount_for, grouped_by, a_state, a_file};
+ghost use Rattle.topology_form.specs.Format.{form_fault, parts_said, a_spout, an_operation, grouping_of, an_input, a_bolt, amount_for, grouped_by, a_state, a_file};
 ghost use Rattle.topology_form.specs.Ranges.{IsInRange};
 ghost use Rattle.topology_form.specs.Reading.{Takes, left_in};
 
@@ -25,7 +24,7 @@ use topology_plan::{Fold, Kind, Test};
 
 /// What a file's value says, or its first fault of form. The value's texts are moved,
 /// and time is linear in it.
-#[tactic(auto, unfolding(crate::specs::File::form_fault, crate::specs::File::parts_said))]
+#[tactic(auto, unfolding(crate::specs::Format::form_fault, crate::specs::Format::parts_said))]
 pub fn parts_from(alloc: Global, value: Json) -> Result<FileParts, TopoFault>
     ensures said { IfOk result
         (λ parts. (form_fault (view value) ≡ None) × (parts ≡ parts_said (view value))) }

@@ -2,7 +2,7 @@
 
 ghost use Rattle.std.specs.Prelude.{◌≡◌, ◌≢◌, ℕ, List, pos, Result};
 ghost use Rattle.std.specs.List.{list_all};
-ghost use Rattle.topology_form.specs.Prelude.{Data, view, items_view, is_name, is_name_byte, begins_with_letter, TopoFault, WrongKind, Memory, items_len};
+ghost use Rattle.topology_form.specs.Prelude.{Data, view, items_view, is_name, is_name_byte, TopoFault, WrongKind, Memory, items_len};
 ghost use Rattle.topology_form.specs.Reading.{Gives, Checks, a_number, a_text, a_name, a_word, some_names, some_objects, a_constant, each, found_in, range_fault, pairs_of};
 
 use crate::fault::TopoFault;
@@ -94,14 +94,8 @@ fn is_name(bytes: &[u8]) -> bool
     ensures { result ≡ is_name bytes.now }
 {
     (1..=MOST_NAME_BYTES).contains(&bytes.len())
-        && begins_with_letter(bytes)
+        && matches!(bytes.first(), Some(b'a'..=b'z'))
         && all_name_bytes(bytes)
-}
-
-fn begins_with_letter(bytes: &[u8]) -> bool
-    ensures { result ≡ begins_with_letter bytes.now }
-{
-    matches!(bytes.first(), Some(b'a'..=b'z'))
 }
 
 fn all_name_bytes(bytes: &[u8]) -> bool

@@ -1,15 +1,13 @@
 -- Depths and numbers of tuples, and the order of the components.
-use Rattle.std.proofs.Common.{◌≡◌, ℕ, zero, suc, ◌+◌, ◌*◌, ◌<◌, ◌≤◌, ◌==◌, Bool, List, [], ◌∷◌, ◌++◌, length, map, filter, min, Option, Some, slice_index, refl, ap, ◌∙◌, arith, unwrap_or}
+use Rattle.std.proofs.Common.{◌≡◌, ℕ, zero, suc, ◌+◌, ◌*◌, ◌≤◌, List, [], ◌∷◌, ◌++◌, length, map, min, Option, Some, refl, ap, ◌∙◌, arith, unwrap_or}
 use Rattle.std.proofs.lemmas.List.{append-nil}
-use Rattle.std.proofs.lemmas.List.FromFn.{get_or-map-range_with_len, length-map-range_with_len}
+use Rattle.std.proofs.lemmas.List.FromFn.{length-map-range_with_len}
 use Rattle.std.proofs.lemmas.List.Concat.{flat_map-append}
 use Rattle.std.specs.List.{range_with_len, flat_map}
 use Rattle.topology_plan.specs.declared.parts.Origin.TheVariants as origin
 use Rattle.topology_plan.specs.Topology.{ended_sum, weight_end}
 use Rattle.topology_graph.specs.declared.values.Feed.{Feed}
-use Rattle.topology_graph.specs.Graph.{value_of}
-use Rattle.topology_graph.specs.Numbers.{depth_rule, tuples_rule, depth_at, numbers_of, at_depth, by_depth}
-use Rattle.topology_graph.specs.Graph.{fed_by}
+use Rattle.topology_graph.specs.Graph.{value_of, values_of, depth_rule, tuples_rule, at_depth, by_depth, fed_by}
 
 -- the depths of the sources, by what is known
 abbrev pub depths_seen : List (Option ℕ) → List Feed → List ℕ
@@ -27,9 +25,9 @@ pub ended_sum_start : (ns : List ℕ) → min (0 + ended_sum ns) weight_end ≡ 
 ended_sum_start ns = omega (arith, ended_sum-most ns)
 
 -- the numbers of a table in which all are known
-pub numbers_read : {X : Type 0} (f : X → ℕ) (xs : List X) → map (λ (number : Option ℕ). unwrap_or number 0) (map (λ x. Some (f x)) xs) ≡ map f xs
-numbers_read f [] = refl
-numbers_read f (x ∷ xs) = ap (λ ns. f x ∷ ns) (numbers_read f xs)
+pub numbers_read : (ns : List ℕ) → map (λ (number : Option ℕ). unwrap_or number 0) (map Some ns) ≡ ns
+numbers_read [] = refl
+numbers_read (n ∷ ns) = ap (λ ms. n ∷ ms) (numbers_read ns)
 
 -- ---- the order
 
@@ -47,29 +45,9 @@ at_depths_more depths n =
     ∙ flat_map-append (at_depth depths) (range_with_len 1 n) ((n + 1) ∷ [])
     ∙ ap (λ last. flat_map (at_depth depths) (range_with_len 1 n) ++ last) (append-nil (at_depth depths (n + 1)))
 
-filter_same : (f g : ℕ → Bool) (a n : ℕ) → ((c : ℕ) → a ≤ c → c < a + n → f c ≡ g c) → filter f (range_with_len a n) ≡ filter g (range_with_len a n)
-filter_same f g a zero same = refl
-filter_same f g a (suc n) same =
-    let head : f a ≡ g a = same a (omega arith) (omega arith) in
-    let tail : filter f (range_with_len (a + 1) n) ≡ filter g (range_with_len (a + 1) n) = filter_same f g (a + 1) n (λ c low high. same c (omega arith) (omega arith)) in
-    cc
-
-flat_map_same : (f g : ℕ → List ℕ) → ((n : ℕ) → f n ≡ g n) → (ns : List ℕ) → flat_map f ns ≡ flat_map g ns
-flat_map_same f g same [] = refl
-flat_map_same f g same (n ∷ ns) = let head = same n in let tail = flat_map_same f g same ns in cc
-
--- which components have a depth
-at_depth-numbers : (graph : List (List Feed)) (depths : List ℕ) (depth : ℕ) → depths ≡ numbers_of depth_rule graph → length depths ≡ length graph
-    → at_depth depths depth ≡ filter (λ c. depth_at graph (origin.Component c) == depth) (range_with_len 0 (length graph))
-unfolding depth_at
-at_depth-numbers graph depths depth is count =
-    ap (λ n. filter (λ c. slice_index depths c == depth) (range_with_len 0 n)) count
-    ∙ filter_same (λ c. slice_index depths c == depth) (λ c. value_of depth_rule graph (origin.Component c) == depth) 0 (length graph)
-    (λ c low high. ap (λ found. found == depth) (ap (λ ds. slice_index ds c) is ∙ get_or-map-range_with_len (λ d. value_of depth_rule graph (origin.Component d)) 0 (length graph) c c 0 (omega arith) (omega arith)))
-
-pub by_depth-numbers : (graph : List (List Feed)) (depths : List ℕ) → depths ≡ numbers_of depth_rule graph → flat_map (at_depth depths) (range_with_len 1 (length depths)) ≡ by_depth graph
+pub by_depth-numbers : (graph : List (List Feed)) (depths : List ℕ) → depths ≡ values_of depth_rule graph → flat_map (at_depth depths) (range_with_len 1 (length depths)) ≡ by_depth graph
 unfolding by_depth
 by_depth-numbers graph depths is =
     let count : length depths ≡ length graph = ap (λ (ns : List ℕ). length ns) is ∙ length-map-range_with_len (λ d. value_of depth_rule graph (origin.Component d)) 0 (length graph) in
     ap (λ n. flat_map (at_depth depths) (range_with_len 1 n)) count
-    ∙ flat_map_same (at_depth depths) (λ depth. filter (λ c. depth_at graph (origin.Component c) == depth) (range_with_len 0 (length graph))) (λ depth. at_depth-numbers graph depths depth is count) (range_with_len 1 (length graph))
+    ∙ ap (λ ds. flat_map (at_depth ds) (range_with_len 1 (length graph))) is

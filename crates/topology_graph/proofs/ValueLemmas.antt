@@ -11,9 +11,7 @@ use Rattle.topology_plan.specs.declared.parts.Origin.{Origin}
 use Rattle.topology_plan.specs.declared.parts.Origin.TheVariants as origin
 use Rattle.topology_plan.specs.Topology.{greatest, weight_end}
 use Rattle.topology_graph.specs.declared.values.Feed.{Feed}
-use Rattle.topology_graph.specs.Graph.{Rule, fed, value_in, value_of, feeds_at, IsThere, IsClosed, IsRanked}
-use Rattle.topology_graph.specs.Numbers.{depth_rule, depth_at, IsSettled}
-use Rattle.topology_graph.specs.Graph.{read, fed_by, IsKnown, AreRight, IsFound}
+use Rattle.topology_graph.specs.Graph.{Rule, fed, value_in, value_of, values_of, feeds_at, IsThere, IsClosed, IsRanked, depth_rule, IsSettled, read, fed_by, IsKnown, AreRight, IsFound}
 
 -- ---- lists
 
@@ -36,6 +34,9 @@ map_fed {V} f g (feed ∷ feeds) same =
 
 -- ---- depths
 
+abbrev pub depth_at : List (List Feed) → Origin → ℕ
+depth_at graph from = value_of depth_rule graph from
+
 depth_over : (f : Origin → ℕ) (feeds : List Feed) → greatest (map (λ (one : Feed × ℕ). one.1) (fed f feeds)) ≡ greatest (map (λ (feed : Feed). f feed.from) feeds)
 depth_over f feeds = ap greatest (map-map {B = Feed × ℕ} (λ one. one.1) (λ (feed : Feed). (feed, f feed.from)) feeds)
 
@@ -46,7 +47,7 @@ depth_in_within (suc n) graph (origin.Component c) =
     omega (arith, depth_over (value_in n depth_rule graph) (feeds_at graph c), greatest_within (λ (feed : Feed). value_in n depth_rule graph feed.from) (feeds_at graph c) n (λ feed. depth_in_within n graph feed.from))
 
 pub depth_at_within : (graph : List (List Feed)) (from : Origin) → depth_at graph from ≤ length graph
-unfolding depth_at value_of
+unfolding value_of
 depth_at_within graph from = depth_in_within (length graph) graph from
 
 -- a source is less deep
@@ -57,7 +58,7 @@ less_deep graph c k feed settled there is =
 -- ---- where depths are settled
 
 module _ {V : Type 0} (rule : Rule V) (graph : List (List Feed)) (closed : IsClosed graph) (settled : IsSettled graph) where
-  stable : (n m : ℕ) (from : Origin) → IsThere graph from → depth_at graph from ≤ n → depth_at graph from ≤ m → value_in n rule graph from ≡ value_in m rule graph from
+  stable : (n m : ℕ) (from : Origin) → IsThere (length graph) from → depth_at graph from ≤ n → depth_at graph from ≤ m → value_in n rule graph from ≡ value_in m rule graph from
   stable n m origin.Spout there below under = refl
   stable zero m (origin.Component c) there below under = absurd (omega (arith, settled c there))
   stable (suc n) zero (origin.Component c) there below under = absurd (omega (arith, settled c there))
@@ -157,10 +158,11 @@ some_of None value some right = absurd (false≢true some)
 some_of (Some v) value some right = ap Some (right v refl)
 
 pub all_known : {V : Type 0} (rule : Rule V) (graph : List (List Feed)) (known : List (Option V)) → AreRight rule graph known → ((c : ℕ) → c < length graph → IsKnown known (origin.Component c))
-    → known ≡ map (λ c. Some (value_of rule graph (origin.Component c))) (range_with_len 0 (length graph))
+    → known ≡ map Some (values_of rule graph)
 all_known rule graph known right all =
     whole_table (λ c. value_of rule graph (origin.Component c)) known 0 (length graph) right.count
     (λ k below. some_of (slice_index_or known k None) (value_of rule graph (origin.Component k)) (all k below) (right.each k) ∙ ap (λ n. Some (value_of rule graph (origin.Component n))) (omega arith))
+    ∙ sym (map-map Some (λ c. value_of rule graph (origin.Component c)) (range_with_len 0 (length graph)))
 
 -- ---- ranks
 
@@ -174,7 +176,7 @@ enough graph rank ranked (suc n) (origin.Component c) less =
     (λ k feed at. enough graph rank ranked n feed.from (λ b is. let below = less c refl in let grows = ranked.grows b c k feed at is in omega arith)))
 
 pub settled_by_rank : (graph : List (List Feed)) (rank : ℕ → ℕ) → length graph < 2 ^ 32 → IsRanked graph rank → IsSettled graph
-unfolding depth_at value_of
+unfolding value_of
 settled_by_rank graph rank small ranked c there =
     let within = greatest_within (λ (feed : Feed). value_in (length graph) depth_rule graph feed.from) (feeds_at graph c) (length graph) (λ feed. depth_in_within (length graph) graph feed.from) in
     enough graph rank ranked (length graph) (origin.Component c) (λ b is. let same : c ≡ b = cc in rw (← same) (ranked.below c there))

@@ -1,8 +1,10 @@
--- A graph of components, each with its subscriptions, and what a component has by what its sources
--- have. This project's own.
-use Rattle.std.specs.Prelude.{◌≡◌, ℕ, zero, suc, ◌<◌, List, [], map, length, Option, Some, None, true, is_some, unwrap_or, slice_get, slice_index_or}
+-- A graph of components, each with its subscriptions, what a component has by what its sources have,
+-- and depths and weights by that. This project's own.
+use Rattle.std.specs.Prelude.{◌≡◌, ℕ, zero, suc, ◌+◌, ◌*◌, ◌<◌, ◌==◌, List, [], map, filter, min, length, Option, Some, None, true, is_some, unwrap_or, slice_get, slice_index, slice_index_or}
+use Rattle.std.specs.List.{range_with_len, flat_map}
 use Rattle.topology_plan.specs.declared.parts.Origin.{Origin}
 use Rattle.topology_plan.specs.declared.parts.Origin.TheVariants as origin
+use Rattle.topology_plan.specs.Topology.{greatest, ended_sum, weight_end}
 use Rattle.topology_graph.specs.declared.values.Feed.{Feed}
 
 -- the subscriptions of a component
@@ -32,21 +34,60 @@ value_in (suc n) rule graph (origin.Component c) =
 unfoldable pub value_of : {V : Type 0} → Rule V → List (List Feed) → Origin → V
 value_of rule graph from = value_in (length graph) rule graph from
 
--- the spout, or a component that is there
-abbrev pub IsThere : List (List Feed) → Origin → Type 0
-IsThere graph origin.Spout = Unit {0}
-IsThere graph (origin.Component c) = c < length graph
+-- what each component has
+abbrev pub values_of : {V : Type 0} → Rule V → List (List Feed) → List V
+values_of rule graph =
+    map (λ c. value_of rule graph (origin.Component c)) (range_with_len 0 (length graph))
+
+-- the spout, or one of so many components
+abbrev pub IsThere : ℕ → Origin → Type 0
+IsThere count origin.Spout = Unit {0}
+IsThere count (origin.Component c) = c < count
 
 -- each source is there
 abbrev pub IsClosed : List (List Feed) → Type 0
 IsClosed graph =
-    (c k : ℕ) (feed : Feed) → slice_get (feeds_at graph c) k ≡ Some feed → IsThere graph feed.from
+    (c k : ℕ) (feed : Feed) → slice_get (feeds_at graph c) k ≡ Some feed → IsThere (length graph) feed.from
 
 -- numbers of components that grow along each subscription, as there are where there is no cycle
 pub record IsRanked (graph : List (List Feed)) (rank : ℕ → ℕ) : Type 0 where
   pub below : (c : ℕ) → c < length graph → rank c < length graph
   pub grows : (b c k : ℕ) (feed : Feed) → slice_get (feeds_at graph c) k ≡ Some feed
       → feed.from ≡ origin.Component b → rank b < rank c
+
+-- ---- depths and weights
+
+-- the depth of the spout is 0, that of a component 1 more than the greatest of its sources
+abbrev pub depth_rule : Rule ℕ
+depth_rule = record {
+  spout = 0;
+  nothing = 0;
+  over = λ c fed. min (greatest (map (λ (one : Feed × ℕ). one.1) fed) + 1) weight_end;
+}
+
+-- how many tuples one tuple of the spout can make at most at a source
+abbrev pub tuples_rule : Rule ℕ
+tuples_rule = record {
+  spout = 1;
+  nothing = 0;
+  over = λ c fed. ended_sum (map (λ (one : Feed × ℕ). min (one.1 * one.0.copies) weight_end) fed);
+}
+
+-- the components of a depth, by the depths of all
+abbrev pub at_depth : List ℕ → ℕ → List ℕ
+at_depth depths depth =
+    filter (λ c. slice_index depths c == depth) (range_with_len 0 (length depths))
+
+-- the components by their depth, and in the order of their numbers among equal depth
+unfoldable pub by_depth : List (List Feed) → List ℕ
+by_depth graph = flat_map (at_depth (values_of depth_rule graph)) (range_with_len 1 (length graph))
+
+-- no more steps lead further, as where there is no cycle: a component is deeper by one
+-- than its deepest source
+abbrev pub IsSettled : List (List Feed) → Type 0
+IsSettled graph = (c : ℕ) → c < length graph
+    → value_of depth_rule graph (origin.Component c)
+    ≡ greatest (map (λ (feed : Feed). value_of depth_rule graph feed.from) (feeds_at graph c)) + 1
 
 -- ---- what is known on the way
 

@@ -3,8 +3,7 @@
 ghost use Rattle.std.specs.Prelude.{◌≡◌, ℕ, ◌+◌, ◌<◌, ◌^◌, ◌++◌, List, length, unwrap_or, IfOk, OnOk};
 ghost use Rattle.topology_plan.specs.Topology.{greatest, ended_sum};
 ghost use Rattle.topology_graph.specs.declared.values.Feed.{Feed};
-ghost use Rattle.topology_graph.specs.Graph.{IsClosed, IsRanked, read};
-ghost use Rattle.topology_graph.specs.Numbers.{depth_rule, tuples_rule, numbers_of, at_depth, by_depth, IsSettled};
+ghost use Rattle.topology_graph.specs.Graph.{IsClosed, IsRanked, read, depth_rule, tuples_rule, values_of, at_depth, by_depth, IsSettled};
 
 use crate::values::{Along, Feed, Graph, values_along};
 use std::alloc::Global;
@@ -52,18 +51,18 @@ fn number_at(known: &[Option<u64>], from: Origin, of_spout: u64) -> u64
 }
 
 /// The number of each component by a rule.
+#[tactic(auto, using(crate::proofs::NumberLemmas::numbers_read))]
 pub fn numbers_by<R: Along<u64>>(alloc: Global, rule: &R, graph: &Graph) -> Result<Vec<u64>, Memory>
     requires small { length graph.now < 2 ^ 32 }
     requires closed { IsClosed graph.now }
     requires settled { IsSettled graph.now }
-    ensures { IfOk result (λ numbers. numbers.items ≡ numbers_of (R.rule rule.now) graph.now) }
+    ensures { IfOk result (λ numbers. numbers.items ≡ values_of (R.rule rule.now) graph.now) }
 {
     let known = values_along(alloc, rule, graph)?;
-    let mut numbers = Vec::with_capacity(alloc, known.len())?;
-    for number in &known {
-        numbers.push(number.unwrap_or(0))?;
-    }
-    Ok(numbers)
+    known
+        .iter()
+        .map(|number| number.unwrap_or(0))
+        .collect(alloc)
 }
 
 /// The greatest number, or 0 where there is none. Of the depths it is the most subscriptions from

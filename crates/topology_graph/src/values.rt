@@ -1,10 +1,7 @@
 //! What each component has by what its sources have.
 
 ghost use Rattle.std.specs.Prelude.{◌≡◌, ◌<◌, ◌^◌, length, map, Some, IfOk, OnOk, replicate, None};
-ghost use Rattle.std.specs.List.{range_with_len};
-ghost use Rattle.topology_plan.specs.declared.parts.Origin.TheVariants as origin;
-ghost use Rattle.topology_graph.specs.Graph.{Rule, value_of, IsThere, IsClosed, AreRight, IsFound, fed_by};
-ghost use Rattle.topology_graph.specs.Numbers.{IsSettled};
+ghost use Rattle.topology_graph.specs.Graph.{Rule, values_of, IsThere, IsClosed, IsSettled, AreRight, IsFound, fed_by};
 
 use std::alloc::Global;
 use storm_values::{Memory, Seq};
@@ -40,18 +37,13 @@ pub fn values_along<V: Drop, R: Along<V>>(
     requires small { length graph.now < 2 ^ 32 }
     requires closed { IsClosed graph.now }
     requires settled { IsSettled graph.now }
-    ensures { IfOk result (λ values. values.items
-        ≡ map (λ c. Some (value_of (R.rule rule.now) graph.now (origin.Component c)))
-        (range_with_len 0 (length graph.now))) }
+    ensures { IfOk result
+        (λ values. values.items ≡ map Some (values_of (R.rule rule.now) graph.now)) }
 {
     let mut known = unknown(alloc, graph.len())?;
     for c in 0..graph.len() {
-        find(
-            rule,
-            graph,
-            Origin::Component(c as u32),
-            known.as_mut_slice(),
-        )?;
+        let from = Origin::Component(c as u32);
+        find(rule, graph, from, known.as_mut_slice())?;
     }
     Ok(known)
 }
@@ -76,7 +68,7 @@ fn find<V: Drop, R: Along<V>>(
     requires small { length graph.now < 2 ^ 32 }
     requires closed { IsClosed graph.now }
     requires settled { IsSettled graph.now }
-    requires there { IsThere graph.now from }
+    requires there { IsThere (length graph.now) from }
     requires right { AreRight (R.rule rule.now) graph.now known.old }
     ensures { OnOk result (IsFound (R.rule rule.now) graph.now known.old known.new from) }
 {

@@ -1,12 +1,12 @@
 -- The fields of the sources where a file has no fault: each source has one to eight fields, none twice, that its operation makes of the fields of its sources.
-use Rattle.std.proofs.Common.{◌≡◌, ℕ, zero, suc, ◌+◌, ◌<◌, ◌≤◌, ◌==◌, pos, List, [], ◌∷◌, ◌++◌, length, map, filter, All, false, not, Option, Some, None, option_and_then, is_none, codes, inl, inr, refl, sym, ◌∙◌, ap, subst, arith}
-use Rattle.topology_reader.proofs.Common.{range_with_len, list_any, bytes_eq, Origin, TopoFault, Twice, NoSource, NoField, FieldsDiffer, Input, Operation, Split, Project, Filter, Set, Len, Route, Flaky, Mute, Custom, BodyPart, Bolt, State, ComponentPart, components_of, FileParts, first_some, IsBetween, IsInRange, IsOperationInRange, IsBodyInRange, IsComponentInRange, feeds_at, value_in, value_of, Feed, pointwise, pointwise_decides, true≢false, cases_Bool, cond-true, cond-false, both_ways, eq-eqb, not-false, All-nil, All-cons, All-append, none-some, same_Some, slice_get_within, depth_at, by_depth, depth_rule, depth_at_within, is_among, range_fault, first_again, again_fault, key_of, own_key, projected, component_twice, twice_fault, nameless_fault, source_fault, cycle_fault, differ_fault, field_fault, direct_fault, input_fault, fields_read, amount_read, added_fault, component_fault, fields_fault, component_names, name_at, source_of, inputs_at, sources_at, fields_after, fields_of, fields_to, graph_of, IsSource}
+use Rattle.std.proofs.Common.{◌≡◌, ℕ, zero, suc, ◌+◌, ◌<◌, ◌≤◌, ◌==◌, pos, List, [], ◌∷◌, ◌++◌, length, map, slice_index, All, false, not, Option, Some, None, option_and_then, is_none, codes, inl, inr, refl, sym, ◌∙◌, ap, subst, arith}
+use Rattle.topology_reader.proofs.Common.{values_of, at_depth, get_or-map-range_with_len, length-map-range_with_len, range_with_len, list_any, bytes_eq, Origin, TopoFault, Twice, NoSource, NoField, FieldsDiffer, Input, Operation, Split, Project, Filter, Set, Len, Route, Flaky, Mute, Custom, BodyPart, Bolt, State, ComponentPart, components_of, FileParts, first_some, IsBetween, IsInRange, IsOperationInRange, IsBodyInRange, IsComponentInRange, feeds_at, value_in, value_of, Feed, pointwise, pointwise_decides, true≢false, cases_Bool, cond-true, cond-false, both_ways, eq-eqb, not-false, All-nil, All-cons, All-append, none-some, same_Some, slice_get_within, depth_at, by_depth, depth_rule, depth_at_within, is_among, range_fault, first_again, again_fault, key_of, own_key, projected, component_twice, twice_fault, nameless_fault, source_fault, cycle_fault, differ_fault, field_fault, direct_fault, input_fault, fields_read, added_fault, component_fault, fields_fault, component_names, name_at, source_of, inputs_at, sources_at, fields_after, fields_of, fields_to, graph_of, IsSource}
 use Rattle.std.specs.List.{find}
 use Rattle.std.proofs.lemmas.List.{length-append}
 use Rattle.topology_plan.specs.declared.parts.Origin.TheVariants as origin
 use Rattle.topology_plan.specs.Texts.{IsName}
 use Rattle.topology_reader.proofs.Ranks.{rank, rank_grows}
-use Rattle.topology_reader.proofs.Listed.{IsIn, in_map, in_append, to_flat_map, to_filter, in_place, to_range, to_any, none_mapped, none_found, AreNone, none_each_map, none_each}
+use Rattle.topology_reader.proofs.Listed.{IsIn, in_map, to_flat_map, to_filter, in_place, to_range, to_any, none_mapped, none_found, AreNone, none_each_map, none_each}
 use Rattle.topology_reader.proofs.Distinct.{bytes_same, bytes_itself, among_in, AreApart, apart_push, not_among, apart_from_again}
 use Rattle.topology_reader.proofs.Numbered.{IsAt, count_parts, part_there, inputs_at_part, inputs_are, range_at, is_bolt_at, the_operation}
 use Rattle.topology_reader.proofs.ValidPlan.{HasNoFault, between_from_range}
@@ -29,7 +29,7 @@ pub record HasNoFaultAt (p : FileParts) (c : ℕ) : Type 0 where
   pub same : (from : Origin) → IsIn from (sources_at p c) → fields_of p from ≡ fields_to p c
   pub keys : (input : Input) → IsIn input (inputs_at p c) → (name : List ℕ) → IsIn name (key_of input.grouping) → IsIn name (fields_to p c)
   pub direct : (input : Input) → IsIn input (inputs_at p c) → direct_fault p input input.grouping ≡ None
-  pub reads : (part : ComponentPart) → IsAt p c part → (name : List ℕ) → IsIn name (fields_read part.body ++ amount_read part.body) → IsIn name (fields_to p c)
+  pub reads : (part : ComponentPart) → IsAt p c part → (name : List ℕ) → IsIn name (fields_read part.body) → IsIn name (fields_to p c)
   pub added : (part : ComponentPart) → IsAt p c part → added_fault (fields_to p c) part.body ≡ None
 
 same_from_none : (p : FileParts) (c : ℕ) → differ_fault p c ≡ None → (from : Origin) → IsIn from (sources_at p c) → fields_of p from ≡ fields_to p c
@@ -55,7 +55,7 @@ there_from_none p c names none name at =
 
 -- the faults of a component, none of which is told
 abbrev pub faults_of : FileParts → ℕ → ComponentPart → List (Option TopoFault)
-faults_of p c part = differ_fault p c ∷ first_some (map (input_fault p c) part.inputs) ∷ field_fault p c (fields_read part.body) ∷ field_fault p c (amount_read part.body) ∷ added_fault (fields_to p c) part.body ∷ []
+faults_of p c part = differ_fault p c ∷ first_some (map (input_fault p c) part.inputs) ∷ field_fault p c (fields_read part.body) ∷ added_fault (fields_to p c) part.body ∷ []
 
 no_fault_from_none : (p : FileParts) (c : ℕ) (part : ComponentPart) → IsAt p c part → component_fault p c ≡ None → HasNoFaultAt p c
 no_fault_from_none p c part is none =
@@ -68,11 +68,8 @@ no_fault_from_none p c part is none =
       same = same_from_none p c each.0;
       keys = λ i at. there_from_none p c (key_of i.grouping) (input i at).0;
       direct = λ i at. (input i at).1.0;
-      reads = λ other at name named. elim (in_append (fields_read part.body) (amount_read part.body) name (subst (λ (o : ComponentPart). IsIn name (fields_read o.body ++ amount_read o.body)) (sym (one other at)) named)) [
-        | inl read ↦ there_from_none p c (fields_read part.body) each.1.1.0 name read
-        | inr amount ↦ there_from_none p c (amount_read part.body) each.1.1.1.0 name amount
-      ];
-      added = λ other at. subst (λ (o : ComponentPart). added_fault (fields_to p c) o.body ≡ None) (one other at) each.1.1.1.1.0;
+      reads = λ other at name named. there_from_none p c (fields_read part.body) each.1.1.0 name (subst (λ (o : ComponentPart). IsIn name (fields_read o.body)) (sym (one other at)) named);
+      added = λ other at. subst (λ (o : ComponentPart). added_fault (fields_to p c) o.body ≡ None) (one other at) each.1.1.1.0;
     }
 
 -- ---- components by depth
@@ -83,11 +80,14 @@ some_depth (suc n) graph c above = omega arith
 
 -- every component is among those by depth
 in_by_depth : (graph : List (List Feed)) (c : ℕ) → c < length graph → IsIn c (by_depth graph)
-unfolding by_depth depth_at value_of
+unfolding by_depth value_of
 in_by_depth graph c within =
-    to_flat_map (λ n. filter (λ d. depth_at graph (origin.Component d) == n) (range_with_len 0 (length graph))) (range_with_len 1 (length graph)) (depth_at graph (origin.Component c)) c
+    let depths = values_of depth_rule graph in
+    let count : length depths ≡ length graph = length-map-range_with_len (λ d. value_of depth_rule graph (origin.Component d)) 0 (length graph) in
+    let is : slice_index depths c ≡ depth_at graph (origin.Component c) = get_or-map-range_with_len (λ d. value_of depth_rule graph (origin.Component d)) 0 (length graph) c c 0 (omega arith) (omega arith) in
+    to_flat_map (at_depth depths) (range_with_len 1 (length graph)) (depth_at graph (origin.Component c)) c
     (to_range 1 (length graph) (depth_at graph (origin.Component c)) (some_depth (length graph) graph c (omega arith)) (omega (arith, depth_at_within graph (origin.Component c))))
-    (to_filter (λ d. depth_at graph (origin.Component d) == depth_at graph (origin.Component c)) (range_with_len 0 (length graph)) c (to_range 0 (length graph) c (omega arith) (omega arith)) (eq-eqb (depth_at graph (origin.Component c)) (depth_at graph (origin.Component c)) refl))
+    (to_filter (λ d. slice_index depths d == depth_at graph (origin.Component c)) (range_with_len 0 (length depths)) c (to_range 0 (length depths) c (omega arith) (omega arith)) (eq-eqb (slice_index depths c) (depth_at graph (origin.Component c)) is))
 
 pub no_fault_at : (p : FileParts) (c : ℕ) (part : ComponentPart) → IsAt p c part → fields_fault p ≡ None → HasNoFaultAt p c
 no_fault_at p c part is none =

@@ -3,7 +3,7 @@ use Rattle.std.proofs.Common.{◌≡◌, ◌<◌, ◌≤◌, ℕ, ◌+◌, List,
 use Rattle.std.proofs.lemmas.Bool.Decides.{nat_tests}
 use Rattle.topology_reader.proofs.Common.{FileParts, meaning_fault, Data, json_of, first_some, TopoFault, TooLong, Topology, first_fault, value_fault, IsFilePlan, plan_of}
 use Rattle.topology_form.specs.declared.fault.TopoFault.TheVariants as topo_fault
-use Rattle.topology_form.specs.File.{form_fault, parts_said}
+use Rattle.topology_form.specs.Format.{form_fault, parts_said}
 use Rattle.topology_reader.proofs.Numbered.{drop_at}
 
 -- a fault that is the first of one, or the next

@@ -4,7 +4,7 @@ use Rattle.topology_reader.proofs.Common.{cases_lt, take_all, length-take-le, no
 use Rattle.topology_reader.proofs.Listed.{none_each}
 use Rattle.topology_form.specs.Faults.{fault_text}
 use Rattle.topology_reader.proofs.FileFaults.{too_long}
-use Rattle.topology_form.specs.File.{form_fault, parts_said}
+use Rattle.topology_form.specs.Format.{form_fault, parts_said}
 use Rattle.topology_reader.proofs.ValidPlan.{valid_plan}
 use Rattle.topology_reader.proofs.WiredPlan.{wired_plan}
 use Rattle.topology_reader.proofs.ValidFile.{valid_file}

@@ -1,7 +1,7 @@
 -- The graph of a file: without a cycle its depths are settled, and a component's fields are what its body leaves of those of its
 -- first source.
-use Rattle.std.proofs.Common.{◌≡◌, ℕ, zero, suc, ◌<◌, ◌^◌, List, [], ◌∷◌, length, Some, None, slice_index_or, unwrap_or, ⊎_elim, inl, refl, sym, ◌∙◌, ap, subst, arith}
-use Rattle.topology_reader.proofs.Common.{option_map_or, Origin, ComponentPart, components_of, component_at, FileParts, IsInRange, Feed, fed, feeds_at, IsClosed, value_in, value_of, IsThere, IsSettled, cases_lt, get_or_past, get_or-map-range_with_len, length-map-range_with_len, slice_get_past, slice_get_within, settled_by_rank, value_settled, cycle_fault, field_table, IsSource, sources_at, graph_of, fields_to, fields_after, first_of, fields_rule, fields_of}
+use Rattle.std.proofs.Common.{◌≡◌, ℕ, zero, suc, ◌<◌, ◌^◌, List, [], ◌∷◌, length, map, Some, None, slice_index_or, unwrap_or, ⊎_elim, inl, refl, sym, ◌∙◌, ap, subst, arith}
+use Rattle.topology_reader.proofs.Common.{option_map_or, Origin, ComponentPart, components_of, component_at, FileParts, IsInRange, Feed, fed, feeds_at, IsClosed, value_in, value_of, IsThere, IsSettled, cases_lt, get_or_past, get_or-map-range_with_len, length-map-range_with_len, map-map, range_with_len, slice_get_past, slice_get_within, settled_by_rank, value_settled, cycle_fault, field_table, IsSource, sources_at, graph_of, fields_to, fields_after, first_of, fields_rule, fields_of}
 use Rattle.topology_graph.specs.Graph.{read}
 use Rattle.topology_plan.specs.declared.parts.Origin.TheVariants as origin
 use Rattle.topology_reader.proofs.Listed.{IsIn, in_place, to_map}
@@ -15,7 +15,7 @@ use Rattle.topology_reader.proofs.SourceLemmas.{source_there, feeds_from_source,
 pub feed_listed : (p : FileParts) (c : ℕ) (feed : Feed) → IsIn feed (feeds_at (graph_of p) c) → IsIn feed.from (sources_at p c)
 feed_listed p c feed at = subst (IsIn feed.from) (froms_at p c) (to_map (λ (f : Feed). f.from) (feeds_at (graph_of p) c) feed at)
 
-there_in_graph : (p : FileParts) (from : Origin) → IsSource p from → IsThere (graph_of p) from
+there_in_graph : (p : FileParts) (from : Origin) → IsSource p from → IsThere (length (graph_of p)) from
 there_in_graph p origin.Spout there = tt
 there_in_graph p (origin.Component c) there = omega (arith, there, length_graph p, count_parts p)
 
@@ -55,10 +55,11 @@ fields_in_past (suc n) p c none = ap (λ there. option_map_or (λ (b : Component
 fields_of-table : (p : FileParts) (c : ℕ) → unwrap_or (slice_index_or (field_table p) c None) [] ≡ fields_of p (origin.Component c)
 unfolding fields_of value_of
 fields_of-table p c =
-    ⊎_elim
+    ap (λ known. unwrap_or (slice_index_or known c None) []) (map-map Some (λ d. value_of (fields_rule p) (graph_of p) (origin.Component d)) (range_with_len 0 (length (graph_of p))))
+    ∙ ⊎_elim
     (λ within. ap (λ there. unwrap_or there []) (get_or-map-range_with_len (λ d. Some (value_of (fields_rule p) (graph_of p) (origin.Component d))) 0 (length (graph_of p)) c c None within (omega arith)))
     (λ past.
-    ap (λ there. unwrap_or there []) (get_or_past (field_table p) c None (omega (arith, length-map-range_with_len (λ d. Some (value_of (fields_rule p) (graph_of p) (origin.Component d))) 0 (length (graph_of p)))))
+    ap (λ there. unwrap_or there []) (get_or_past (map (λ d. Some (value_of (fields_rule p) (graph_of p) (origin.Component d))) (range_with_len 0 (length (graph_of p)))) c None (omega (arith, length-map-range_with_len (λ d. Some (value_of (fields_rule p) (graph_of p) (origin.Component d))) 0 (length (graph_of p)))))
     ∙ sym (fields_in_past (length (graph_of p)) p c (slice_get_past (components_of p) c (omega (arith, length_graph p)))))
     (cases_lt c (length (graph_of p)))
 

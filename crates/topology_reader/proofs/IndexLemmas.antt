@@ -1,9 +1,11 @@
 -- The sources of names, as they are put into a map one bolt after the other.
-use Rattle.std.proofs.Common.{◌≡◌, ℕ, zero, suc, ◌+◌, ◌<◌, Bool, true, false, cond, List, [], ◌∷◌, ◌++◌, map, length, take, get_or, Option, Some, None, option_map, unwrap_or, refl, sym, ap, ◌∙◌, inl, inr, arith}
-use Rattle.topology_reader.proofs.Common.{cases_Bool, take_more, map_push, length-map, length-take-le, Bor, option_or, bytes_eq, Origin, ComponentPart, place_of}
+use Rattle.std.proofs.Common.{◌≡◌, ℕ, zero, suc, ◌+◌, ◌<◌, ◌≤◌, Bool, true, false, cond, List, [], ◌∷◌, ◌++◌, map, length, take, get_or, Option, Some, None, option_map, unwrap_or, refl, sym, ap, ◌∙◌, inl, inr, arith}
+use Rattle.topology_reader.proofs.Common.{cases_Bool, FileParts, take_all, take_more, map_push, length-map, length-take-le, Bor, option_or, bytes_eq, Origin, ComponentPart, place_of}
 use Rattle.indexmap.specs.IndexMap.{IndexMap, get_by}
 use Rattle.topology_plan.specs.declared.parts.Origin.TheVariants as origin
 use Rattle.topology_reader.proofs.Distinct.{bytes_same}
+use Rattle.topology_reader.proofs.Places.{place_of-position}
+use Rattle.topology_reader.specs.Steps.{IsIndexOf}
 
 -- ---- one name more
 
@@ -83,3 +85,10 @@ holds_more spout bolts i bolt below is old new holds key named source first sets
     ∙ ap (cond (bytes_eq bolt.name name.now) (Some source)) (holds name)
     ∙ ap (λ s. cond (bytes_eq bolt.name name.now) (Some s) (among name.now)) (first ∙ ap (λ o. unwrap_or o (origin.Component i)) (holds key ∙ ap among named))
     ∙ sym (source_more spout bolts i bolt below is name.now)
+
+-- with all bolts the map is the file's
+pub index_whole : {S : Type 0} (p : FileParts) (bolts : List ComponentPart) (i : ℕ) (m : IndexMap (Bor (List ℕ)) Origin S) → bolts ≡ p.bolts → length bolts ≤ i → HoldsSources p.spout.name bolts i m → IsIndexOf p m
+index_whole p bolts i m are past holds = λ name.
+    holds name
+    ∙ ap (λ bs. source_among p.spout.name (map (λ (bolt : ComponentPart). bolt.name) bs) name.now) (take_all i bolts past ∙ are)
+    ∙ ap (λ place. cond (bytes_eq p.spout.name name.now) (Some origin.Spout) (option_map origin.Component place)) (place_of-position (λ (bolt : ComponentPart). bolt.name) p.bolts name.now)

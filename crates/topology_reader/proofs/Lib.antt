@@ -1,6 +1,8 @@
+mod Shorthands
 mod Common
 mod SourceLemmas
 mod PartLemmas
+mod Places
 mod PlannedLemmas
 mod TaskLemmas
 mod NameLists

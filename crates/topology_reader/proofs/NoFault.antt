@@ -1,11 +1,11 @@
 -- A file that says what is valid has no fault in what it says.
-use Rattle.std.proofs.Common.{if◌then◌else◌, ◌≡◌, ◌≢◌, ◌↔◌, ℕ, zero, suc, ◌+◌, ◌<◌, ◌≤◌, ◌==◌, ◌&&◌, ◌∷◌, List, [], ◌++◌, pos, length, map, filter, All, AllPairs, true, false, not, nat_lt, int_le, Option, Some, None, IfSome, option_map, option_and_then, slice_get, is_none, codes, inl, inr, refl, sym, ◌∙◌, ap, subst, arith}
-use Rattle.topology_reader.proofs.Common.{Contains, list_any, range_with_len, option_map_or, bytes_eq, first_some, Origin, tasks_in_all, IsBetween, WrongKind, OutOfRange, Twice, NoSource, FieldsDiffer, NoField, NotExactlyOnce, Weight, GroupingPart, Input, Split, Project, Filter, Set, Len, Route, Flaky, Mute, Custom, BodyPart, Bolt, State, ComponentPart, components_of, FileParts, IsInRange, IsBodyInRange, IsComponentInRange, is_bolt, feeds_at, Feed, pointwise, pointwise_decides, cond-true, cond-false, false≢true, false_from_ne_true, and_from, eqb-true, le-leb, le-ltb, map-id, same_Some, slice_get_within, Kind, Transactional, Opaque, depth_at, by_depth, is_among, range_fault, first_again, again_fault, key_of, own_key, projected, component_twice, twice_fault, nameless_fault, source_fault, cycle_fault, differ_fault, field_fault, is_route, chooses, direct_fault, input_fault, fields_read, amount_read, added_fault, component_fault, fields_fault, keeps_exact, replay_fault, meaning_fault, size_fault, component_names, component_count, name_at, source_of, inputs_at, sources_at, is_component, feeds, fields_after, fields_of, fields_to, body_of, graph_of, plan_of, IsPathThrough, AreDistinct, HasFields, IsValidInput, IsValidComponent, IsValidFile, list_any_none}
+use Rattle.std.proofs.Common.{if◌then◌else◌, ◌≡◌, ◌≢◌, ◌↔◌, ℕ, zero, suc, ◌+◌, ◌<◌, ◌≤◌, ◌==◌, ◌&&◌, ◌∷◌, List, [], ◌++◌, pos, length, map, slice_index, All, AllPairs, true, false, not, nat_lt, int_le, Option, Some, None, IfSome, option_map, option_and_then, slice_get, is_none, codes, inl, inr, refl, sym, ◌∙◌, ap, subst, arith}
+use Rattle.topology_reader.proofs.Common.{values_of, value_of, at_depth, depth_rule, length-map-range_with_len, Contains, list_any, range_with_len, option_map_or, bytes_eq, first_some, Origin, tasks_in_all, IsBetween, WrongKind, OutOfRange, Twice, NoSource, FieldsDiffer, NoField, NotExactlyOnce, Weight, GroupingPart, Input, Split, Project, Filter, Set, Len, Route, Flaky, Mute, Custom, BodyPart, Bolt, State, ComponentPart, components_of, FileParts, IsInRange, IsBodyInRange, IsComponentInRange, is_bolt, feeds_at, Feed, pointwise, pointwise_decides, cond-true, cond-false, false≢true, false_from_ne_true, and_from, eqb-true, le-leb, le-ltb, map-id, same_Some, slice_get_within, Kind, Transactional, Opaque, by_depth, is_among, range_fault, first_again, again_fault, key_of, own_key, projected, component_twice, twice_fault, nameless_fault, source_fault, cycle_fault, differ_fault, field_fault, is_route, chooses, direct_fault, input_fault, fields_read, added_fault, component_fault, fields_fault, keeps_exact, replay_fault, meaning_fault, size_fault, component_names, component_count, name_at, source_of, inputs_at, sources_at, is_component, feeds, fields_after, fields_of, fields_to, body_of, graph_of, plan_of, IsPathThrough, AreDistinct, HasFields, IsValidInput, IsValidComponent, IsValidFile, list_any_none}
 use Rattle.topology_plan.specs.Topology.{weight_of}
 use Rattle.std.proofs.lemmas.List.{length-append}
 use Rattle.topology_plan.specs.declared.parts.Origin.TheVariants as origin
 use Rattle.topology_form.specs.declared.parts.GroupingPart.TheVariants as said
-use Rattle.topology_reader.proofs.Listed.{IsIn, All-from_in, All-at_in, in_map, to_left, to_right, in_flat_map, in_filter, in_range, in_any, find_none, none_first, none_first_map}
+use Rattle.topology_reader.proofs.Listed.{IsIn, All-from_in, All-at_in, in_map, in_flat_map, in_filter, in_range, in_any, find_none, none_first, none_first_map}
 use Rattle.topology_reader.proofs.Distinct.{bytes_same, bytes_itself, among_in, in_among, AreApart}
 use Rattle.topology_reader.proofs.Numbered.{IsAt, part_there, inputs_are, range_at, bolt_below}
 use Rattle.topology_reader.proofs.SourceLemmas.{in_sources, length_graph}
@@ -239,11 +239,8 @@ module _ (p : FileParts) (valid : IsValidFile p) where
   component_none : (c : ℕ) → c < component_count p → component_fault p c ≡ None
   component_none c within =
       let part = part_there p c within in
-      let reads : All (Contains (fields_to p c)) (fields_read part.0.body ++ amount_read part.0.body) =
-      subst (λ there. IfSome there (λ (part : ComponentPart). All (Contains (fields_to p c)) (fields_read part.body ++ amount_read part.body))) part.1 (IsValidComponent.reads (valid.components c within))
-      in
-      let some = λ (names : List (List ℕ)) (from : (name : List ℕ) → IsIn name names → IsIn name (fields_read part.0.body ++ amount_read part.0.body)).
-      there_none p valid c names (All-from_in (Contains (fields_to p c)) names (λ name at. All-at_in (Contains (fields_to p c)) (fields_read part.0.body ++ amount_read part.0.body) reads name (from name at)))
+      let reads : All (Contains (fields_to p c)) (fields_read part.0.body) =
+      subst (λ there. IfSome there (λ (part : ComponentPart). All (Contains (fields_to p c)) (fields_read part.body))) part.1 (IsValidComponent.reads (valid.components c within))
       in
       let has = λ (bolt : is_bolt part.0.body ≡ true). has_fields p valid c part.0 part.1 bolt in
       ap (option_and_then (λ (part : ComponentPart). first_some (faults_of p c part))) part.1
@@ -252,11 +249,8 @@ module _ (p : FileParts) (valid : IsValidFile p) where
         (
           none_first_map (input_fault p c) part.0.inputs (λ input at. input_none p valid c input (input_valid p valid c part.0 input part.1 at)),
           (
-            some (fields_read part.0.body) (to_left (fields_read part.0.body) (amount_read part.0.body)),
-            (
-              some (amount_read part.0.body) (to_right (fields_read part.0.body) (amount_read part.0.body)),
-              (added_none (fields_of p (origin.Component c)) (fields_to p c) part.0.body (fields_are p valid c part.0 part.1) (λ bolt. (HasFields.distinct (has bolt), HasFields.count (has bolt))), tt),
-            ),
+            there_none p valid c (fields_read part.0.body) reads,
+            (added_none (fields_of p (origin.Component c)) (fields_to p c) part.0.body (fields_are p valid c part.0 part.1) (λ bolt. (HasFields.distinct (has bolt), HasFields.count (has bolt))), tt),
           ),
         ),
       )
@@ -264,10 +258,11 @@ module _ (p : FileParts) (valid : IsValidFile p) where
   depth_within : (c : ℕ) → IsIn c (by_depth (graph_of p)) → c < component_count p
   unfolding by_depth
   depth_within c at =
-      let depth = in_flat_map (λ depth. filter (λ d. depth_at (graph_of p) (origin.Component d) == depth) (range_with_len 0 (length (graph_of p)))) (range_with_len 1 (length (graph_of p))) c at in
-      let kept = in_filter (λ d. depth_at (graph_of p) (origin.Component d) == depth.0) (range_with_len 0 (length (graph_of p))) c depth.2 in
-      let bounds = in_range 0 (length (graph_of p)) c kept.0 in
-      omega (arith, bounds.1, length_graph p)
+      let depths = values_of depth_rule (graph_of p) in
+      let depth = in_flat_map (at_depth depths) (range_with_len 1 (length (graph_of p))) c at in
+      let kept = in_filter (λ d. slice_index depths d == depth.0) (range_with_len 0 (length depths)) c depth.2 in
+      let bounds = in_range 0 (length depths) c kept.0 in
+      omega (arith, bounds.1, length_graph p, length-map-range_with_len (λ d. value_of depth_rule (graph_of p) (origin.Component d)) 0 (length (graph_of p)))
 
   fields_none : fields_fault p ≡ None
   fields_none = none_first_map (component_fault p) (by_depth (graph_of p)) (λ c at. component_none c (depth_within c at))

@@ -2,7 +2,7 @@
 -- the same source by source as input by input.
 use Rattle.std.proofs.Common.{◌≡◌, ◌≢◌, ℕ, zero, suc, ◌+◌, ◌*◌, ◌<◌, ◌≤◌, ◌^◌, ◌==◌, true, false, List, [], ◌∷◌, ◌++◌, length, map, filter, min, max, Option, Some, None, option_map, slice_index_or, inl, inr, refl, sym, ◌∙◌, ap, arith, append_assoc}
 use Rattle.topology_reader.proofs.Common.{cons_option, enumerate_from, flat_map, range_with_len, option_map_or, Origin, ComponentPart, components_of, component_count, FileParts, GroupingPart, Input, Feed, fed, feeds_at, value_in, value_of, cases_eq, cases_lt, cond-true, cond-false, eqb-true, eq-eqb, false_from_ne_true, append-nil, map-append, get_or_past, filter-append, get_or_from_slice_get, map-map, Sub, tasks_of, copies_by, copies_of, origins, inputs_of, subs_of, greatest, depth_within, plan_depth, weight_end, ended_sum, tuples_within, plan_weight, depth_rule, tuples_rule, depth_in_within, greatest_within, source_of, inputs_by_component, inputs_at, copies_said, feeds_of, graph_of, is_origin, is_from, planned_grouping, subs_of_component, planned_subs, plan_of}
-use Rattle.topology_graph.specs.Numbers.{numbers_of}
+use Rattle.topology_graph.specs.Graph.{values_of}
 use Rattle.topology_plan.specs.declared.parts.Component.{Component}
 use Rattle.topology_plan.specs.declared.parts.Origin.TheVariants as origin
 use Rattle.topology_form.specs.declared.parts.GroupingPart.TheVariants as said
@@ -223,7 +223,7 @@ depth_in_plan (suc n) p (origin.Component c) small =
     let most = depth_in_within (suc n) (graph_of p) (origin.Component c) in
     omega (arith, all, most)
 
-pub depth_planned : (p : FileParts) → length (graph_of p) < 2 ^ 32 → greatest (numbers_of depth_rule (graph_of p)) ≡ plan_depth (plan_of p)
+pub depth_planned : (p : FileParts) → length (graph_of p) < 2 ^ 32 → greatest (values_of depth_rule (graph_of p)) ≡ plan_depth (plan_of p)
 unfolding value_of plan_depth
 depth_planned p small =
     let above : (n : ℕ) → n ≡ max 0 n = λ n. omega arith in
@@ -232,7 +232,7 @@ depth_planned p small =
     ∙ ap greatest (sym (map-map (depth_within (length (plan_of p).components) (plan_of p)) origin.Component (range_with_len 0 (length (plan_of p).components))))
     ∙ above (greatest (map (depth_within (length (plan_of p).components) (plan_of p)) (components 0 (length (plan_of p).components))))
 
-pub depth_small : (p : FileParts) → greatest (numbers_of depth_rule (graph_of p)) ≤ length (graph_of p)
+pub depth_small : (p : FileParts) → greatest (values_of depth_rule (graph_of p)) ≤ length (graph_of p)
 unfolding value_of
 depth_small p =
     greatest_within (λ c. value_in (length (graph_of p)) depth_rule (graph_of p) (origin.Component c)) (range_with_len 0 (length (graph_of p))) (length (graph_of p))
@@ -258,7 +258,7 @@ tuples_in_plan (suc n) p (origin.Component c) =
     ∙ gathered ended_sum (λ n sum. min (n + sum) weight_end) sum_gathered p c (λ from sub. min (tuples_within n (plan_of p) from * copies_of (plan_of p) sub) weight_end) (λ feed. min (tuples_within n (plan_of p) feed.from * feed.copies) weight_end)
     (λ from input. ap (λ copies. min (tuples_within n (plan_of p) from * copies) weight_end) (copies_planned p from input.grouping (tasks_of (plan_of p) c)))
 
-pub weight_planned : (p : FileParts) → ended_sum (numbers_of tuples_rule (graph_of p)) ≡ plan_weight (plan_of p)
+pub weight_planned : (p : FileParts) → ended_sum (values_of tuples_rule (graph_of p)) ≡ plan_weight (plan_of p)
 unfolding value_of plan_weight
 weight_planned p =
     ap ended_sum (map_same (λ c. value_in (length (graph_of p)) tuples_rule (graph_of p) (origin.Component c)) (λ c. tuples_within (length (graph_of p)) (plan_of p) (origin.Component c)) (λ c. tuples_in_plan (length (graph_of p)) p (origin.Component c)) (range_with_len 0 (length (graph_of p))))

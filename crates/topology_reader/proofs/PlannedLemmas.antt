@@ -1,25 +1,9 @@
 -- Fields by their numbers, and how many fields a source can have.
-use Rattle.std.proofs.Common.{◌≡◌, ℕ, zero, suc, ◌+◌, ◌≤◌, Bool, true, false, not, cond, List, [], ◌∷◌, length, All, Option, Some, None, option_map, position, nat_lt, slice_get, refl, ap, arith, rules, tests, length-append}
-use Rattle.topology_reader.proofs.Common.{position_or_len, bytes_eq, IsInRange, IsBodyInRange, IsComponentInRange, Origin, Split, Project, Filter, Set, Len, Route, Flaky, Mute, Custom, BodyPart, Bolt, State, ComponentPart, components_of, Input, FileParts, option_map_or, feeds_at, fed, value_in, value_of, Feed, All-head, All-tail, place_of, fields_after, fields_of, fields_rule, first_of, graph_of}
+use Rattle.std.proofs.Common.{ℕ, zero, suc, ◌+◌, ◌≤◌, List, [], ◌∷◌, length, All, slice_get, arith, length-append}
+use Rattle.topology_reader.proofs.Common.{IsInRange, IsBodyInRange, IsComponentInRange, Origin, Split, Project, Filter, Set, Len, Route, Flaky, Mute, Custom, BodyPart, Bolt, State, ComponentPart, components_of, Input, FileParts, option_map_or, feeds_at, fed, value_in, value_of, Feed, All-head, All-tail, fields_after, fields_of, fields_rule, first_of, graph_of}
 use Rattle.topology_plan.specs.declared.parts.Origin.TheVariants as origin
 use Rattle.topology_reader.proofs.Numbered.{count_parts}
 use Rattle.topology_reader.proofs.SourceLemmas.{length_graph}
-
-place_below : (below : Bool) (m : ℕ) → option_map suc (cond below (Some m) None) ≡ cond below (Some (1 + m)) None
-place_below true m = ap (λ n. Some n) (omega arith)
-place_below false m = refl
-
--- one place on
-place_more : (passes : Bool) (m n : ℕ) (rest : Option ℕ) → rest ≡ cond (nat_lt m n) (Some m) None → cond passes (Some zero) (option_map suc rest) ≡ cond (nat_lt (cond (not passes) (1 + m) 0) (suc n)) (Some (cond (not passes) (1 + m) 0)) None
-place_more true m n rest is = search (rules, tests)
-place_more false m n rest is =
-    let same : nat_lt (1 + m) (suc n) ≡ nat_lt m n = search (rules, tests) in
-    rw (is, same) (place_below (nat_lt m n) m)
-
-pub place_of-position : (fields : List (List ℕ)) (name : List ℕ) → place_of fields name ≡ position (λ field. bytes_eq field name) fields
-place_of-position [] name = refl
-place_of-position (field ∷ fields) name =
-    place_more (bytes_eq field name) (position_or_len (λ other. bytes_eq other name) fields) (length fields) (place_of fields name) (place_of-position fields name)
 
 -- ---- how many fields there are
 

@@ -3,6 +3,7 @@ use Rattle.std.proofs.Common.{◌≡◌, ℕ, zero, suc, ◌<◌, List, [], ◌�
 use Rattle.topology_reader.proofs.Common.{eq-eqb, length-map, none-some, same_Some, slice_get_within, get_or_from_slice_get, cons_option, bytes_eq, Origin, ComponentPart, components_of, Input, FileParts, Feed, feeds_at, IsSource, component_count, bolt_names, place_of, source_of, inputs_by_component, inputs_at, sources_among, sources_at, is_component, feeds, feeds_of, graph_of, copies_said, map-map}
 use Rattle.topology_plan.specs.declared.parts.Origin.TheVariants as origin
 use Rattle.topology_reader.proofs.Distinct.{bytes_same, place_named}
+use Rattle.topology_reader.proofs.Places.{place_of-position}
 use Rattle.topology_reader.proofs.Listed.{IsIn, in_map, in_filter_map, to_filter_map, to_any}
 use Rattle.topology_reader.proofs.PartLemmas.{map_same}
 
@@ -20,7 +21,7 @@ named_by p name from false None first there is = absurd (none-some from is)
 named_by p name from false (Some k) first there is = subst (λ (o : Origin). IsNamed p o name) (same_Some (origin.Component k) from is) (there k refl)
 
 pub source_named : (p : FileParts) (name : List ℕ) (from : Origin) → source_of p name ≡ Some from → IsNamed p from name
-source_named p name from is = named_by p name from (bytes_eq p.spout.name name) (place_of (bolt_names p) name) (bytes_same p.spout.name name) (place_named (bolt_names p) name) is
+source_named p name from is = named_by p name from (bytes_eq p.spout.name name) (place_of (bolt_names p) name) (bytes_same p.spout.name name) (place_named (bolt_names p) name) (ap (λ place. cond (bytes_eq p.spout.name name) (Some origin.Spout) (option_map origin.Component place)) (place_of-position (λ (bolt : ComponentPart). bolt.name) p.bolts name) ∙ is)
 
 -- a source that is a component is a bolt
 pub source_within : (p : FileParts) (name : List ℕ) (c : ℕ) → source_of p name ≡ Some (origin.Component c) → c < length p.bolts

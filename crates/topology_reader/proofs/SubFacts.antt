@@ -1,12 +1,13 @@
 -- The subscriptions of the plan of a file without a fault: at most one of a component to a source, with a grouping by fields that are there.
 use Rattle.std.proofs.Common.{◌≡◌, ℕ, ◌+◌, ◌<◌, List, [], ◌∷◌, ◌++◌, length, map, filter, All, Bool, true, false, Option, Some, None, option_map, option_and_then, slice_get, unwrap_or, codes, ◌⊎◌, inl, inr, refl, sym, ◌∙◌, ap, subst, arith}
-use Rattle.topology_reader.proofs.Common.{enumerate_from, flat_map, option_map_or, Origin, WrongKind, GroupingPart, Input, Split, Project, Filter, Set, Len, Route, Flaky, Mute, Custom, BodyPart, Bolt, State, ComponentPart, components_of, FileParts, IsBetween, IsInRange, IsGroupingInRange, IsComponentInRange, cases_Bool, cases_lt, cond-true, cond-false, false≢true, false_from_ne_true, length-map, map-id, none-some, same_Some, slice_get_within, Sub, subs_of, plan_fields, width_of, AreWithin, IsRouteOf, IsFrom, source_of, inputs_by_component, inputs_at, sources_at, fields_after, fields_of, fields_to, body_of, number_of, numbers_of, planned_body, route_field, planned_grouping, is_from, subs_of_component, planned_subs, planned_component, plan_of, key_of, is_route, chooses, direct_fault, fields_read, amount_read, twice_fault, IsSource}
+use Rattle.topology_reader.proofs.Common.{enumerate_from, flat_map, option_map_or, Origin, WrongKind, GroupingPart, Input, Split, Project, Filter, Set, Len, Route, Flaky, Mute, Custom, BodyPart, Bolt, State, ComponentPart, components_of, FileParts, IsBetween, IsInRange, IsGroupingInRange, IsComponentInRange, cases_Bool, cases_lt, cond-true, cond-false, false≢true, false_from_ne_true, length-map, map-id, none-some, same_Some, slice_get_within, Sub, subs_of, plan_fields, width_of, AreWithin, IsRouteOf, IsFrom, source_of, inputs_by_component, inputs_at, sources_at, fields_after, fields_of, fields_to, body_of, number_of, numbers_of, planned_body, route_field, planned_grouping, is_from, subs_of_component, planned_subs, planned_component, plan_of, key_of, is_route, chooses, direct_fault, fields_read, twice_fault, IsSource}
 use Rattle.std.specs.List.Sorted.{IsStrictlyIncreasing}
 use Rattle.topology_plan.specs.declared.parts.Component.{Component}
 use Rattle.topology_plan.specs.declared.parts.Origin.TheVariants as origin
 use Rattle.topology_form.specs.declared.parts.GroupingPart.TheVariants as said
-use Rattle.topology_reader.proofs.Listed.{IsIn, All-from_in, All-at_in, in_map, to_map, to_left, in_place}
+use Rattle.topology_reader.proofs.Listed.{IsIn, All-from_in, All-at_in, in_map, to_map, in_place}
 use Rattle.topology_reader.proofs.Distinct.{place_named, place_within, place_there, AreApart, AllPairs-from_apart, IsRising, rising_above, increasing_from_rising}
+use Rattle.topology_reader.proofs.Places.{place_of-names}
 use Rattle.topology_reader.proofs.Numbered.{count_parts, part_there, planned_at}
 use Rattle.topology_reader.proofs.ValidPlan.{HasNoFault, is_source, IsPlanned, planned_in_plan, subs_of_plan, no_subs_past, planned_source}
 use Rattle.topology_reader.proofs.SourceLemmas.{length_inputs, in_inputs_at, source_there, IsNamed, source_named, of_inputs}
@@ -80,13 +81,13 @@ once_planned p (origin.Component c) none =
 pub number_within : (fields : List (List ℕ)) (name : List ℕ) → IsIn name fields → number_of fields name < length fields
 number_within fields name at =
     let place = place_there fields name at in
-    subst (λ there. unwrap_or there 0 < length fields) (sym place.1) (place_within fields name place.0 place.1)
+    subst (λ there. unwrap_or there 0 < length fields) (sym (place_of-names fields name ∙ place.1)) (place_within fields name place.0 place.1)
 
 one_number : (fields : List (List ℕ)) (a b : List ℕ) → IsIn a fields → IsIn b fields → number_of fields a ≡ number_of fields b → a ≡ b
 one_number fields a b first second same =
     let here = place_there fields a first in
     let there = place_there fields b second in
-    let one : here.0 ≡ there.0 = sym (ap (λ place. unwrap_or place 0) here.1) ∙ (same ∙ ap (λ place. unwrap_or place 0) there.1) in
+    let one : here.0 ≡ there.0 = sym (ap (λ place. unwrap_or place 0) (place_of-names fields a ∙ here.1)) ∙ (same ∙ ap (λ place. unwrap_or place 0) (place_of-names fields b ∙ there.1)) in
     same_Some a b (sym (place_named fields a here.0 here.1) ∙ (ap (slice_get fields) one ∙ place_named fields b there.0 there.1))
 
 numbers_apart : (fields names : List (List ℕ)) → AreApart names → ((name : List ℕ) → IsIn name names → IsIn name fields) → AreApart (numbers_of fields names)
@@ -180,7 +181,7 @@ module _ (p : FileParts) (range : IsInRange p) (faultless : HasNoFault p) where
         planned_at p c part.0 part.1,
         subst (IsRouteOf (planned_body (fields_to p c) part.0.body)) (sym field) (route_of (fields_to p c) part.0.body route),
         subst (λ n. n < length (fields_of p (origin.Component c))) (sym field)
-            (subst (λ (names : List (List ℕ)). route_field (fields_to p c) part.0.body < length names) (sym fields) (route_within (fields_to p c) part.0.body route (λ name at. here.reads part.0 part.1 name (to_left (fields_read part.0.body) (amount_read part.0.body) name at)))),
+            (subst (λ (names : List (List ℕ)). route_field (fields_to p c) part.0.body < length names) (sym fields) (route_within (fields_to p c) part.0.body route (here.reads part.0 part.1))),
       )
 
   said_planned : (from : Origin) (by : GroupingPart) → IsSource p from → IsGroupingInRange by → AreApart (key_of by) → ((name : List ℕ) → IsIn name (key_of by) → IsIn name (fields_of p from))

@@ -1,8 +1,8 @@
 -- Components planned one after another, and the numbers of their tasks.
-use Rattle.std.proofs.Common.{◌≡◌, ℕ, ◌+◌, ◌≤◌, List, [], ◌∷◌, ◌++◌, length, map, take, sum, All, sym, ap, ◌∙◌, arith, Some, slice_get}
-use Rattle.topology_reader.proofs.Common.{length-map, length-take-le, map-append, All-map, All-weaker, sum_by-le, sum_by-take-le, sum_by_more, enumerate_from, ComponentPart, components_of, FileParts, IsInRange, IsComponentInRange, tasks_by_component, first_task_of, slice_get_within, get_or_from_slice_get}
+use Rattle.std.proofs.Common.{◌≡◌, ℕ, ◌+◌, ◌≤◌, List, [], ◌∷◌, ◌++◌, length, map, take, sum_by, All, sym, ap, ◌∙◌, arith, Some, slice_get}
+use Rattle.topology_reader.proofs.Common.{length-take-le, map-append, All-weaker, sum_by-le, sum_by-take-le, sum_by_more, enumerate_from, ComponentPart, components_of, FileParts, IsInRange, IsComponentInRange, first_task_of, slice_get_within, get_or_from_slice_get}
 use Rattle.topology_reader.proofs.PartLemmas.{enumerate_append}
-use Rattle.topology_reader.proofs.Numbered.{IsAt, count_parts, place_mapped, take_at}
+use Rattle.topology_reader.proofs.Numbered.{IsAt, count_parts, take_at}
 
 -- ---- one more of some numbered items
 
@@ -23,17 +23,13 @@ numbered_next f xs c x old new y is added so_far made =
 -- the task after those of a component
 pub next_task : (p : FileParts) (c : ℕ) (part : ComponentPart) → IsAt p c part → first_task_of p (c + 1) ≡ first_task_of p c + part.tasks
 next_task p c part at =
-    let is : slice_get (tasks_by_component p) c ≡ Some part.tasks = place_mapped (λ (part : ComponentPart). part.tasks) (components_of p) c part at in
-    sum_by_more (λ (k : ℕ). k) (tasks_by_component p) c 0 (slice_get_within (tasks_by_component p) c part.tasks is)
-    ∙ ap (λ m. first_task_of p c + m) (get_or_from_slice_get (tasks_by_component p) c part.tasks 0 is)
+    sum_by_more (λ (one : ComponentPart). one.tasks) (components_of p) c part (slice_get_within (components_of p) c part at)
+    ∙ ap (λ (one : ComponentPart). first_task_of p c + one.tasks) (get_or_from_slice_get (components_of p) c part part at)
 
-small_tasks : (p : FileParts) → IsInRange p → All (λ n. n ≤ 64) (tasks_by_component p)
-small_tasks p range =
-    All-map (λ n. n ≤ 64) (λ (part : ComponentPart). part.tasks) (components_of p) (All-weaker IsComponentInRange (λ part. part.tasks ≤ 64) (λ part of. of.tasks.1) (components_of p) range.each)
-
-pub tasks_in_all-le : (p : FileParts) → IsInRange p → sum (tasks_by_component p) ≤ 2560
+pub tasks_in_all-le : (p : FileParts) → IsInRange p → sum_by (λ (part : ComponentPart). part.tasks) (components_of p) ≤ 2560
 tasks_in_all-le p range =
-    omega (arith, sum_by-le (λ (n : ℕ). n) 64 (tasks_by_component p) (small_tasks p range), length-map (components_of p) (λ (part : ComponentPart). part.tasks), count_parts p, range.bolts, range.states.1)
+    let small : All (λ (part : ComponentPart). part.tasks ≤ 64) (components_of p) = All-weaker IsComponentInRange (λ part. part.tasks ≤ 64) (λ part of. of.tasks.1) (components_of p) range.each in
+    omega (arith, sum_by-le (λ (part : ComponentPart). part.tasks) 64 (components_of p) small, count_parts p, range.bolts, range.states.1)
 
 pub first_task-le : (p : FileParts) (c : ℕ) → IsInRange p → first_task_of p c ≤ 2560
-first_task-le p c range = omega (arith, sum_by-take-le (λ (n : ℕ). n) (tasks_by_component p) c, tasks_in_all-le p range)
+first_task-le p c range = omega (arith, sum_by-take-le (λ (part : ComponentPart). part.tasks) (components_of p) c, tasks_in_all-le p range)

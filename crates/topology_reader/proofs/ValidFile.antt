@@ -1,6 +1,6 @@
 -- What a file without a fault says is valid.
-use Rattle.std.proofs.Common.{◌≡◌, ◌≢◌, ℕ, zero, suc, ◌<◌, List, [], ◌∷◌, ◌++◌, All, AllPairs, false, Some, None, IfSome, sum, inl, inr, sym, ◌∙◌, ap, subst, arith}
-use Rattle.topology_reader.proofs.Common.{Contains, Origin, tasks_in_all, IsValid, GroupingPart, Input, ComponentPart, components_of, component_at, FileParts, IsInRange, cases_lt, map-id, sum-map, slice_get_past, component_names, component_count, source_of, inputs_at, fields_after, fields_of, fields_to, sources_at, tasks_by_component, plan_of, key_of, fields_read, amount_read, direct_fault, keeps_exact, meaning_fault, AreDistinct, IsSource, HasFields, IsValidInput, IsValidComponent, IsNumbered, IsValidFile}
+use Rattle.std.proofs.Common.{◌≡◌, ◌≢◌, ℕ, zero, suc, ◌<◌, List, [], ◌∷◌, All, AllPairs, false, Some, None, IfSome, sum, sum_by, inl, inr, sym, ◌∙◌, ap, subst, arith}
+use Rattle.topology_reader.proofs.Common.{Contains, Origin, tasks_in_all, IsValid, GroupingPart, Input, ComponentPart, components_of, component_at, FileParts, IsInRange, cases_lt, map-id, sum-map, slice_get_past, component_names, component_count, source_of, inputs_at, fields_after, fields_of, fields_to, sources_at, plan_of, key_of, fields_read, direct_fault, keeps_exact, meaning_fault, AreDistinct, IsSource, HasFields, IsValidInput, IsValidComponent, IsNumbered, IsValidFile}
 use Rattle.topology_plan.specs.declared.parts.Component.{Component}
 use Rattle.topology_plan.specs.declared.parts.Origin.TheVariants as origin
 use Rattle.topology_reader.proofs.Ranks.{rank, rank_grows}
@@ -65,8 +65,8 @@ module _ (p : FileParts) (range : IsInRange p) (faultless : HasNoFault p) where
             subst (All (IsValidInput p (fields_to p c))) (sym same)
             (All-from_in (IsValidInput p (fields_to p c)) part.0.inputs (λ input listed. valid_input c part.0 input part.1 listed));
         reads =
-            subst (λ there. IfSome there (λ (part : ComponentPart). All (Contains (fields_to p c)) (fields_read part.body ++ amount_read part.body))) (sym part.1)
-            (All-from_in (Contains (fields_to p c)) (fields_read part.0.body ++ amount_read part.0.body) (λ name at. contains_from_in (fields_to p c) name (here.reads part.0 part.1 name at)));
+            subst (λ there. IfSome there (λ (part : ComponentPart). All (Contains (fields_to p c)) (fields_read part.body))) (sym part.1)
+            (All-from_in (Contains (fields_to p c)) (fields_read part.0.body) (λ name at. contains_from_in (fields_to p c) name (here.reads part.0 part.1 name at)));
       }
 
   -- ---- the file
@@ -87,8 +87,8 @@ module _ (p : FileParts) (range : IsInRange p) (faultless : HasNoFault p) where
         | inr past ↦ subst (λ there. IfSome there made) (sym (slice_get_past (components_of p) c past)) tt
       ]
 
-pub sum_of_tasks : (p : FileParts) → sum (tasks_by_component p) ≡ tasks_in_all (plan_of p)
-sum_of_tasks p = ap sum (sym (tasks_planned p)) ∙ sum-map (λ (c : Component). c.tasks) (plan_of p).components
+pub sum_of_tasks : (p : FileParts) → sum_by (λ (part : ComponentPart). part.tasks) (components_of p) ≡ tasks_in_all (plan_of p)
+sum_of_tasks p = sym (sum-map (λ (part : ComponentPart). part.tasks) (components_of p)) ∙ ap sum (sym (tasks_planned p)) ∙ sum-map (λ (c : Component). c.tasks) (plan_of p).components
 
 pub valid_file : (p : FileParts) → IsInRange p → meaning_fault p ≡ None → IsValidFile p
 valid_file p range none =

@@ -1,6 +1,8 @@
 -- The plan of a file without a fault is wired: its components take rows with the fields that they name.
 use Rattle.std.proofs.Common.{◌≡◌, ◌≢◌, ℕ, ◌<◌, ◌≤◌, ◌==◌, List, [], ◌∷◌, ◌++◌, length, map, filter, All, AllPairs, true, false, Option, Some, None, IsSome, IfSome, option_map, option_to_list, slice_get, sum, take, inl, inr, refl, sym, ◌∙◌, ap, subst, arith}
-use Rattle.topology_reader.proofs.Common.{enumerate_from, range_with_len, option_map_or, Origin, NotExactlyOnce, Input, Operation, Split, Project, Filter, Set, Len, Route, Flaky, Mute, Custom, BodyPart, Bolt, State, ComponentPart, components_of, FileParts, Topology, subs_of, origins, inputs_of, IsInRange, SaysAmount, IsOperationInRange, IsBodyInRange, IsComponentInRange, is_bolt, eqb-true, eq-eqb, false≢true, length-map, map-id, map-map, All-nil, same_Some, Kind, Transactional, Opaque, Sub, plan_fields, plan_fields_to, IsFed, width_after, IsWithin, HasAmount, IsComponent, IsPlaced, IsLaidOut, MayFollowOpaque, IsWired, component_names, inputs_by_component, sources_at, fields_after, fields_of, fields_to, number_of, numbers_of, planned_operation, planned_body, planned_grouping, tasks_by_component, planned_component, plan_of, own_key, projected, fields_read, amount_read, twice_fault, is_transactional, keeps_exact, replay_fault, meaning_fault, IsSource}
+use Rattle.std.proofs.lemmas.List.{take-map}
+use Rattle.std.proofs.lemmas.List.Sums.{sum-map}
+use Rattle.topology_reader.proofs.Common.{enumerate_from, range_with_len, option_map_or, Origin, NotExactlyOnce, Input, Operation, Split, Project, Filter, Set, Len, Route, Flaky, Mute, Custom, BodyPart, Bolt, State, ComponentPart, components_of, FileParts, Topology, subs_of, origins, inputs_of, IsInRange, SaysAmount, IsOperationInRange, IsBodyInRange, IsComponentInRange, is_bolt, eqb-true, eq-eqb, false≢true, length-map, map-id, map-map, All-nil, same_Some, Kind, Transactional, Opaque, Sub, plan_fields, plan_fields_to, IsFed, width_after, IsWithin, HasAmount, IsComponent, IsPlaced, IsLaidOut, MayFollowOpaque, IsWired, component_names, inputs_by_component, sources_at, fields_after, fields_of, fields_to, number_of, numbers_of, planned_operation, planned_body, planned_grouping, tasks_by_component, planned_component, plan_of, own_key, projected, fields_read, twice_fault, is_transactional, keeps_exact, replay_fault, meaning_fault, IsSource}
 use Rattle.std.specs.List.{find}
 use Rattle.std.proofs.lemmas.List.{length-append}
 use Rattle.topology_form.specs.declared.parts.StatePart.{StatePart}
@@ -166,7 +168,7 @@ module _ (p : FileParts) (range : IsInRange p) (faultless : HasNoFault p) where
         (
           operation_within (fields_to p c) operation limits.0 (subst (λ (b : BodyPart). AreApart (projected b)) body (projected_once p faultless.twice part (in_place (components_of p) c part is)))
               (λ name at. HasNoFaultAt.reads (no_fault_here p range faultless c part is) part is name
-              (to_left (fields_read part.body) (amount_read part.body) name (subst (λ (b : BodyPart). IsIn name (fields_read b)) (sym body) at))),
+              (subst (λ (b : BodyPart). IsIn name (fields_read b)) (sym body) at)),
           ap (λ (names : List (List ℕ)). length names) left ∙ width_kept (fields_to p c) operation,
           fields.count,
         ),
@@ -176,7 +178,7 @@ module _ (p : FileParts) (range : IsInRange p) (faultless : HasNoFault p) where
       let none : fields_of p (origin.Component c) ≡ [] = fields_of_part p c part range faultless.cycle is ∙ ap (λ b. fields_after b (fields_to p c)) body in
       let limits : IsBodyInRange (State state) part.inputs = subst (λ (b : BodyPart). IsBodyInRange b part.inputs) body (IsComponentInRange.body (range_at p c part range is)) in
       let reads : (name : List ℕ) → IsIn name (state.key ++ option_to_list state.amount) → IsIn name (fields_to p c) =
-      λ name read. HasNoFaultAt.reads (no_fault_here p range faultless c part is) part is name (subst (λ (b : BodyPart). IsIn name (fields_read b ++ amount_read b)) (sym body) read)
+      λ name read. HasNoFaultAt.reads (no_fault_here p range faultless c part is) part is name (subst (λ (b : BodyPart). IsIn name (fields_read b)) (sym body) read)
       in (
         (
           none,
@@ -199,7 +201,7 @@ module _ (p : FileParts) (range : IsInRange p) (faultless : HasNoFault p) where
         fed = subst (λ n. IsFed (plan_of p) c n (planned_body (fields_to p c) part.body) (fields_of p (origin.Component c))) (ap (λ (fields : List (List ℕ)). length fields) (sym (fields_come c part is))) fed.0;
         fields = AllPairs-from_apart (λ (name : List ℕ). name) (fields_of p (origin.Component c)) (subst AreApart (sym (map-id (fields_of p (origin.Component c)))) fed.1.0);
         field_names = fed.1.1;
-        first_task = ap (λ tasks. sum (take c tasks)) (sym (tasks_planned p));
+        first_task = sym (sum-map (λ (one : ComponentPart). one.tasks) (take c (components_of p))) ∙ ap sum (sym (take-map (λ (one : ComponentPart). one.tasks) c (components_of p))) ∙ ap (λ tasks. sum (take c tasks)) (sym (tasks_planned p));
         tasks = limits.tasks;
       }
 

@@ -1,11 +1,8 @@
 -- Which fault a topology file has first, and which plan it has where it has none. This project's
 -- own.
-use Rattle.std.specs.Prelude.{◌≡◌, ℕ, ◌+◌, pos, List, [], ◌∷◌, length, map, Bool, true, false, not, nat_lt, if◌then◌else◌, Option, Some, None, option_map, option_and_then, is_none, codes}
-use Rattle.topology_reader.specs.Prelude.{Data, json_of, most_topology_bytes, TooLong, NotJson, form_fault, parts_said, Topology, list_any, range_with_len, option_map_or, option_to_list, bytes_eq, first_some, most_tasks_in_all, most_weight, GroupingPart, Input, Split, Project, Filter, Set, Len, Route, BodyPart, Bolt, State, ComponentPart, FileParts, components_of, TopoFault, WrongKind, Twice, NoSource, Cycle, FieldsDiffer, NoField, NotExactlyOnce, Weight, Kind, Transactional, Opaque, tasks_in_all, weight_of, Feed, feeds_at, by_depth}
-use Rattle.std.specs.List.{find}
-use Rattle.std.specs.Cmp.Lexicographic.{pointwise}
+use Rattle.std.specs.Prelude.{◌≡◌, ℕ, ◌+◌, pos, List, [], ◌∷◌, ◌++◌, length, map, Bool, true, false, not, nat_lt, if◌then◌else◌, Option, Some, None, option_map, option_and_then, is_none, codes}
+use Rattle.topology_reader.specs.Prelude.{pointwise, find, range_fault, Data, json_of, most_topology_bytes, TooLong, NotJson, form_fault, parts_said, Topology, list_any, range_with_len, option_map_or, option_to_list, bytes_eq, first_some, most_tasks_in_all, most_weight, GroupingPart, Input, Split, Project, Filter, Set, Len, Route, BodyPart, Bolt, State, ComponentPart, FileParts, components_of, TopoFault, WrongKind, Twice, NoSource, Cycle, FieldsDiffer, NoField, NotExactlyOnce, Weight, Kind, Transactional, Opaque, tasks_in_all, weight_of, Feed, feeds_at, by_depth}
 use Rattle.topology_form.specs.declared.parts.GroupingPart.TheVariants as said
-use Rattle.topology_form.specs.Reading.{range_fault}
 use Rattle.topology_reader.specs.Wiring.{component_names, name_at, source_of, graph_of, reaches, fields_of, fields_to, body_of, component_at}
 use Rattle.topology_reader.specs.Planned.{plan_of}
 
@@ -111,7 +108,7 @@ abbrev pub input_fault : FileParts → ℕ → Input → Option TopoFault
 input_fault p c input =
     first_some (field_fault p c (key_of input.grouping) ∷ direct_fault p input input.grouping ∷ [])
 
--- the fields that a bolt's operation reads, or a state's key
+-- the fields that a bolt's operation reads, or a state's key and what it adds up or keeps
 abbrev pub fields_read : BodyPart → List (List ℕ)
 fields_read (Bolt (Split field into)) = field ∷ []
 fields_read (Bolt (Project names)) = names
@@ -120,12 +117,7 @@ fields_read (Bolt (Set field value)) = field ∷ []
 fields_read (Bolt (Len field into)) = field ∷ []
 fields_read (Bolt (Route field)) = field ∷ []
 fields_read (Bolt _) = []
-fields_read (State state) = state.key
-
--- the field that a state adds up or keeps, if any
-abbrev pub amount_read : BodyPart → List (List ℕ)
-amount_read (State state) = option_to_list state.amount
-amount_read _ = []
+fields_read (State state) = state.key ++ option_to_list state.amount
 
 -- the field that a length adds is there already, or there are eight without it
 abbrev pub added_fault : List (List ℕ) → BodyPart → Option TopoFault
@@ -142,8 +134,7 @@ component_fault p c =
     (λ (part : ComponentPart).
     first_some
     (differ_fault p c ∷ first_some (map (input_fault p c) part.inputs)
-    ∷ field_fault p c (fields_read part.body) ∷ field_fault p c (amount_read part.body)
-    ∷ added_fault (fields_to p c) part.body ∷ []))
+    ∷ field_fault p c (fields_read part.body) ∷ added_fault (fields_to p c) part.body ∷ []))
     (component_at p c)
 
 -- component by component, by depth, then in file order
@@ -184,16 +175,14 @@ meaning_fault p =
 
 -- ---- the file
 
--- of a file's value first its form, then what it says
-abbrev pub value_fault : Option Data → Option TopoFault
-value_fault None = Some NotJson
-value_fault (Some value) = first_some (form_fault value ∷ meaning_fault (parts_said value) ∷ [])
-
--- the first fault of a file: it is longer than the most bytes, or that of its value
+-- the first fault of a file: it is longer than the most bytes, or it is no JSON, or that of its
+-- value, first of its form, then of what it says
 unfoldable pub first_fault : List ℕ → Option TopoFault
 first_fault bytes =
     if nat_lt most_topology_bytes (length bytes) then Some (TooLong (length bytes))
-    else value_fault (json_of bytes)
+    else option_map_or
+    (λ value. first_some (form_fault value ∷ meaning_fault (parts_said value) ∷ []))
+    (json_of bytes) (Some NotJson)
 
 -- the file has no fault, and its topology is t
 abbrev pub IsFilePlan : List ℕ → Topology → Type 0

@@ -1,5 +1,5 @@
 pub use Rattle.topology_form.specs.declared.fault.TopoFault
-pub use Rattle.topology_form.specs.File
+pub use Rattle.topology_form.specs.Format
 pub use Rattle.topology_form.specs.Ranges
 pub use Rattle.topology_form.specs.Faults
 pub mod Prelude

@@ -1,24 +1,20 @@
 -- The topology of what a file says. It means something where the file has no
 -- fault. This project's own.
-use Rattle.std.specs.Prelude.{ℕ, ◌==◌, List, map, filter, Bool, true, false, option_map, unwrap_or, sum, take}
-use Rattle.topology_reader.specs.Prelude.{enumerate_from, flat_map, option_map_or, Origin, GroupingPart, Input, Operation, Split, Project, Filter, Set, Len, Route, Flaky, Mute, Custom, BodyPart, Bolt, State, ComponentPart, FileParts, components_of, Topology}
-use Rattle.topology_plan.specs.declared.parts.Body.{Body}
+use Rattle.std.specs.Prelude.{ℕ, ◌==◌, List, map, filter, position, Bool, true, false, option_map, unwrap_or, sum_by, take}
+use Rattle.topology_reader.specs.Prelude.{enumerate_from, flat_map, option_map_or, bytes_eq, Origin, GroupingPart, Input, Operation, Split, Project, Filter, Set, Len, Route, Flaky, Mute, Custom, BodyPart, Bolt, State, ComponentPart, FileParts, components_of, Topology}
+use Rattle.topology_plan.specs.declared.parts.{Body.Body, Component.Component, Grouping.Grouping, Op.Op, Sub.Sub}
 use Rattle.topology_plan.specs.declared.parts.Body.TheVariants as body
-use Rattle.topology_plan.specs.declared.parts.Component.{Component}
-use Rattle.topology_plan.specs.declared.parts.Grouping.{Grouping}
 use Rattle.topology_plan.specs.declared.parts.Grouping.TheVariants as grouping
-use Rattle.topology_plan.specs.declared.parts.Op.{Op}
 use Rattle.topology_plan.specs.declared.parts.Op.TheVariants as op
 use Rattle.topology_plan.specs.declared.parts.Origin.TheVariants as origin
-use Rattle.topology_plan.specs.declared.parts.Sub.{Sub}
 use Rattle.topology_form.specs.declared.parts.GroupingPart.TheVariants as said
-use Rattle.topology_reader.specs.Wiring.{place_of, source_of, inputs_by_component, fields_of, fields_to, body_of}
+use Rattle.topology_reader.specs.Wiring.{source_of, inputs_by_component, fields_of, fields_to, body_of}
 
 -- ---- fields by their numbers
 
 -- the place of a field's name among these, from 0
 abbrev pub number_of : List (List ℕ) → List ℕ → ℕ
-number_of fields name = unwrap_or (place_of fields name) 0
+number_of fields name = unwrap_or (position (λ field. bytes_eq field name) fields) 0
 
 -- the same of some names
 abbrev pub numbers_of : List (List ℕ) → List (List ℕ) → List ℕ
@@ -69,16 +65,13 @@ is_origin origin.Spout (origin.Component d) = false
 is_origin (origin.Component c) origin.Spout = false
 is_origin (origin.Component c) (origin.Component d) = c == d
 
--- the input is of this source
-abbrev pub is_from : FileParts → Origin → Input → Bool
-is_from p from input = option_map_or (is_origin from) (source_of p input.from) false
-
 -- the subscriptions of a component to a source
 abbrev pub subs_of_component : FileParts → Origin → ℕ × List Input → List Sub
 subs_of_component p from component =
     map (λ (input : Input).
     record { to = component.0; grouping = planned_grouping p from input.grouping })
-    (filter (is_from p from) component.1)
+    (filter (λ (input : Input). option_map_or (is_origin from) (source_of p input.from) false)
+    component.1)
 
 -- the subscriptions to a source, in the order of their consumers
 abbrev pub planned_subs : FileParts → Origin → List Sub
@@ -86,13 +79,9 @@ planned_subs p from = flat_map (subs_of_component p from) (enumerate_from 0 (inp
 
 -- ---- components
 
--- tasks and parts of the components
-abbrev pub tasks_by_component : FileParts → List ℕ
-tasks_by_component p = map (λ (part : ComponentPart). part.tasks) (components_of p)
-
 -- tasks are numbered through the components
 abbrev pub first_task_of : FileParts → ℕ → ℕ
-first_task_of p c = sum (take c (tasks_by_component p))
+first_task_of p c = sum_by (λ (part : ComponentPart). part.tasks) (take c (components_of p))
 
 -- the component of a part and its number
 abbrev pub planned_component : FileParts → ℕ × ComponentPart → Component
@@ -104,25 +93,17 @@ planned_component p numbered = record {
   body = planned_body (fields_to p numbered.0) (numbered.1).body;
 }
 
--- the bolts and then the states
-abbrev pub planned_components : FileParts → List Component
-planned_components p = map (planned_component p) (enumerate_from 0 (components_of p))
-
--- the subscriptions to each component's rows
-abbrev pub planned_component_subs : FileParts → List (List Sub)
-planned_component_subs p =
-    map (λ (numbered : ℕ × List Input). planned_subs p (origin.Component numbered.0))
-    (enumerate_from 0 (inputs_by_component p))
-
 -- the whole plan
 unfoldable pub plan_of : FileParts → Topology
 plan_of p = record {
   spout_fields = p.spout.fields;
   spout_kind = p.spout.kind;
   batch = p.spout.batch;
-  components = planned_components p;
+  components = map (planned_component p) (enumerate_from 0 (components_of p));
   spout_subs = planned_subs p origin.Spout;
-  component_subs = planned_component_subs p;
+  component_subs =
+      map (λ (numbered : ℕ × List Input). planned_subs p (origin.Component numbered.0))
+      (enumerate_from 0 (inputs_by_component p));
   ackers = p.ackers;
   pending = p.pending;
   buckets = p.buckets;

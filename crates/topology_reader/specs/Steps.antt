@@ -1,22 +1,18 @@
 -- What the steps of the checks have done, which no public contract cites.
-use Rattle.std.specs.Prelude.{bit_or, if◌then◌else◌, ◌≡◌, ◌<◌, ◌^◌, ◌==◌, ℕ, ◌+◌, Bool, List, [], ◌∷◌, ◌++◌, length, map, fold, slice_index, slice_index_or, slice_set, Option, Some, Vec}
+use Rattle.std.specs.Prelude.{bit_or, if◌then◌else◌, ◌≡◌, ◌<◌, ◌==◌, ℕ, ◌+◌, Bool, List, [], ◌∷◌, ◌++◌, length, map, fold, slice_index, slice_index_or, slice_set, Vec}
 use Rattle.std.specs.declared.alloc.Global.{Global}
 use Rattle.std.specs.Borrow.{Bor}
 use Rattle.std.specs.Int.{bit_at}
-use Rattle.topology_reader.specs.Prelude.{range_with_len, option_map_or, bytes_eq, Origin, tasks_in_all, depth_of, weight_of, Input, FileParts, value_of}
+use Rattle.topology_reader.specs.Prelude.{option_map_or, bytes_eq, Origin, tasks_in_all, depth_of, weight_of, Input, FileParts}
 use Rattle.indexmap.specs.IndexMap.{IndexMap, get_by}
 use Rattle.topology_plan.specs.declared.parts.Origin.TheVariants as origin
 use Rattle.topology_plan.specs.declared.parts.Sub.{Sub}
 use Rattle.topology_plan.specs.declared.plan.Made.{Made}
 use Rattle.topology_plan.specs.Inside.{topology_of}
 use Rattle.topology_reader.specs.Planned.{planned_grouping, plan_of}
-use Rattle.topology_reader.specs.Wiring.{component_count, source_of, graph_of, reaches_over, fields_rule}
+use Rattle.topology_reader.specs.Wiring.{source_of, reaches_over}
 
 -- ---- sources
-
--- the components' numbers fit 32 bits
-abbrev pub IsNumbered : FileParts → Type 0
-IsNumbered p = component_count p < 2 ^ 32
 
 -- a map from a name to the source of that name
 abbrev pub IsIndexOf : {S : Type 0} → FileParts → IndexMap (Bor (List ℕ)) Origin S → Type 0
@@ -38,12 +34,6 @@ pub record AreReached (n : ℕ) (p : FileParts) (sets : List ℕ) : Type 0 where
   pub counted : length sets ≡ length p.bolts
   pub held : (a b : ℕ) → b < length p.bolts → has (slice_index sets b) a ≡ reaches_over n p a b
 
--- of each component its fields
-abbrev pub field_table : FileParts → List (Option (List (List ℕ)))
-field_table p =
-    map (λ c. Some (value_of (fields_rule p) (graph_of p) (origin.Component c)))
-    (range_with_len 0 (length (graph_of p)))
-
 -- ---- the plan
 
 -- the lists behind vectors of subscriptions
@@ -60,17 +50,14 @@ abbrev pub with_sub : List (List Sub) → Origin → Sub → List (List Sub)
 with_sub table from sub =
     slice_set table (place_in from) (slice_index_or table (place_in from) [] ++ sub ∷ [])
 
--- an input of a component, at its source
-abbrev pub with_input : FileParts → ℕ → List (List Sub) → Input → List (List Sub)
-with_input p to table input =
-    option_map_or
-    (λ from. with_sub table from
-    (record { to = to; grouping = planned_grouping p from input.grouping }))
-    (source_of p input.from) table
-
--- all inputs of a component
+-- all inputs of a component, each at its source
 abbrev pub with_inputs : FileParts → List (List Sub) → ℕ × List Input → List (List Sub)
-with_inputs p table component = fold (with_input p component.0) table component.1
+with_inputs p table component =
+    fold (λ (rows : List (List Sub)) (input : Input).
+    option_map_or
+    (λ from. with_sub rows from
+    (record { to = component.0; grouping = planned_grouping p from input.grouping }))
+    (source_of p input.from) rows) table component.1
 
 -- the topology of what a file says, with its numbers
 pub record IsMade (p : FileParts) (made : Made) : Type 0 where

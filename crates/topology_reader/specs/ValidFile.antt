@@ -1,30 +1,21 @@
 -- What a file says that has no fault, in its own names. Components are the bolts and then the
 -- states, each in file order. This project's own.
-use Rattle.std.specs.Prelude.{◌≡◌, ◌≢◌, ◌<◌, ◌≤◌, ℕ, List, ◌∷◌, ◌++◌, length, All, AllPairs, Some, IfSome, sum, true, false}
-use Rattle.topology_reader.specs.Prelude.{Opaque, Contains, most_tasks_in_all, most_weight, Input, ComponentPart, FileParts, Origin, weight_of, IsBetween, IsInRange, option_map_or}
+use Rattle.std.specs.Prelude.{◌≡◌, ◌≢◌, ◌<◌, ◌≤◌, ℕ, List, ◌∷◌, length, All, AllPairs, Some, IfSome, sum_by, true, false}
+use Rattle.topology_reader.specs.Prelude.{Opaque, Contains, most_tasks_in_all, most_weight, Input, ComponentPart, FileParts, Origin, weight_of, IsThere, IsBetween, IsInRange, components_of, option_map_or}
 use Rattle.topology_plan.specs.declared.parts.Origin.TheVariants as origin
 use Rattle.topology_plan.specs.Texts.{IsName}
 use Rattle.topology_form.specs.declared.parts.GroupingPart.TheVariants as said
-use Rattle.topology_reader.specs.Wiring.{component_names, component_count, source_of, inputs_at, fields_after, fields_of, fields_to, body_of, component_at}
-use Rattle.topology_reader.specs.Planned.{tasks_by_component, plan_of}
-use Rattle.topology_reader.specs.FirstFault.{key_of, fields_read, amount_read, is_route, keeps_exact}
-
--- no name stands twice
-abbrev pub AreDistinct : List (List ℕ) → Type 0
-AreDistinct names = AllPairs (λ a b. a ≢ b) names
+use Rattle.topology_reader.specs.Wiring.{component_names, source_of, inputs_at, fields_after, fields_of, fields_to, body_of, component_at}
+use Rattle.topology_reader.specs.Planned.{plan_of}
+use Rattle.topology_reader.specs.FirstFault.{key_of, fields_read, is_route, keeps_exact}
 
 -- ---- sources
-
--- the source is the spout or a bolt
-abbrev pub IsSource : FileParts → Origin → Type 0
-IsSource p origin.Spout = Unit {0}
-IsSource p (origin.Component b) = b < length p.bolts
 
 -- a source has 1 to 8 fields, which are names, none twice
 pub record HasFields (p : FileParts) (from : Origin) : Type 0 where
   pub count : IsBetween (length (fields_of p from)) 1 8
   pub named : All IsName (fields_of p from)
-  pub distinct : AreDistinct (fields_of p from)
+  pub distinct : AllPairs ◌≢◌ (fields_of p from)
 
 -- ---- components
 
@@ -33,9 +24,9 @@ pub record HasFields (p : FileParts) (from : Origin) : Type 0 where
 pub record IsValidInput (p : FileParts) (fields : List (List ℕ)) (input : Input) : Type 0 where
   pub from : Origin
   pub named : source_of p input.from ≡ Some from
-  pub source : IsSource p from
+  pub source : IsThere (length p.bolts) from
   pub comes : fields_of p from ≡ fields
-  pub key : AreDistinct (key_of input.grouping)
+  pub key : AllPairs ◌≢◌ (key_of input.grouping)
   pub key_fields : All (Contains fields) (key_of input.grouping)
   pub direct : input.grouping ≡ said.Direct → option_map_or is_route (body_of p from) false ≡ true
 
@@ -45,7 +36,7 @@ pub record IsValidComponent (p : FileParts) (c : ℕ) : Type 0 where
   pub distinct : AllPairs (λ (a b : Input). a.from ≢ b.from) (inputs_at p c)
   pub inputs : All (IsValidInput p (fields_to p c)) (inputs_at p c)
   pub reads : IfSome (component_at p c)
-      (λ part. All (Contains (fields_to p c)) (fields_read part.body ++ amount_read part.body))
+      (λ part. All (Contains (fields_to p c)) (fields_read part.body))
 
 -- ---- the file
 
@@ -60,18 +51,19 @@ pub record IsNumbered (p : FileParts) : Type 0 where
 pub record IsValidFile (p : FileParts) : Type 0 where
   -- numbers, lengths of lists, and names by themselves
   pub range : IsInRange p
-  pub names : AreDistinct (p.spout.name ∷ component_names p)
+  pub names : AllPairs ◌≢◌ (p.spout.name ∷ component_names p)
   pub numbered : IsNumbered p
   pub spout_fields : fields_of p origin.Spout ≡ p.spout.fields
   -- a component's fields are what its body leaves of those that come to it
   pub component_fields : (c : ℕ)
       → IfSome (component_at p c)
       (λ part. fields_of p (origin.Component c) ≡ fields_after part.body (fields_to p c))
-  pub fields : (from : Origin) → IsSource p from → HasFields p from
-  pub components : (c : ℕ) → c < component_count p → IsValidComponent p c
+  pub fields : (from : Origin) → IsThere (length p.bolts) from → HasFields p from
+  pub components : (c : ℕ) → c < length (components_of p) → IsValidComponent p c
   -- an opaque spout has no transactional state
   pub replays : p.spout.kind ≡ Opaque
       → All (λ (state : ComponentPart). keeps_exact state.body ≡ false) p.states
   -- tasks and parts of all components
-  pub tasks : IsBetween (sum (tasks_by_component p)) 1 most_tasks_in_all
+  pub tasks : IsBetween (sum_by (λ (part : ComponentPart). part.tasks) (components_of p)) 1
+      most_tasks_in_all
   pub weight : weight_of (plan_of p) ≤ most_weight

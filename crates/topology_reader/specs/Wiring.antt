@@ -1,15 +1,11 @@
 -- Who feeds whom in what a topology file says, and which fields a source has. Components are the
 -- bolts and then the states, each in file order. This project's own.
-use Rattle.std.specs.Prelude.{◌≡◌, ◌<◌, ℕ, zero, suc, ◌==◌, ◌&&◌, ◌||◌, List, [], ◌∷◌, ◌++◌, length, map, Bool, true, false, if◌then◌else◌, Option, Some, None, option_map, slice_get, slice_index_or}
+use Rattle.std.specs.Prelude.{◌≡◌, ◌<◌, ℕ, zero, suc, ◌==◌, ◌&&◌, ◌||◌, List, [], ◌∷◌, ◌++◌, length, map, position, Bool, true, false, if◌then◌else◌, Option, Some, None, option_map, slice_get, slice_index_or}
 use Rattle.topology_reader.specs.Prelude.{list_any, filter_map, option_map_or, bytes_eq, Origin, GroupingPart, Input, Split, Project, Len, BodyPart, Bolt, State, ComponentPart, FileParts, components_of, Feed, Rule, fed, feeds_at, value_of}
 use Rattle.topology_plan.specs.declared.parts.Origin.TheVariants as origin
 use Rattle.topology_form.specs.declared.parts.GroupingPart.TheVariants as said
 
 -- ---- names
-
--- the names of the bolts, in file order
-abbrev pub bolt_names : FileParts → List (List ℕ)
-bolt_names p = map (λ (part : ComponentPart). part.name) p.bolts
 
 -- the names of the bolts and then those of the states
 abbrev pub component_names : FileParts → List (List ℕ)
@@ -23,21 +19,12 @@ component_at p c = slice_get (components_of p) c
 abbrev pub name_at : FileParts → ℕ → List ℕ
 name_at p c = option_map_or (λ (part : ComponentPart). part.name) (component_at p c) []
 
--- how many components there are
-abbrev pub component_count : FileParts → ℕ
-component_count p = length (components_of p)
-
--- the place of the first name that is this one
-abbrev pub place_of : List (List ℕ) → List ℕ → Option ℕ
-place_of [] name = None
-place_of (first ∷ names) name =
-    if bytes_eq first name then Some zero else option_map suc (place_of names name)
-
 -- the source of a name: the spout, or a bolt by its number
 abbrev pub source_of : FileParts → List ℕ → Option Origin
 source_of p name =
     if bytes_eq p.spout.name name then Some origin.Spout
-    else option_map origin.Component (place_of (bolt_names p) name)
+    else option_map origin.Component
+    (position (λ (bolt : ComponentPart). bytes_eq bolt.name name) p.bolts)
 
 -- ---- inputs
 
@@ -53,10 +40,6 @@ inputs_at p c = slice_index_or (inputs_by_component p) c []
 abbrev pub sources_among : FileParts → List Input → List Origin
 sources_among p inputs = filter_map (λ (input : Input). source_of p input.from) inputs
 
--- the sources of a component
-abbrev pub sources_at : FileParts → ℕ → List Origin
-sources_at p c = sources_among p (inputs_at p c)
-
 -- ---- the graph
 
 -- how many copies of a tuple a consumer with these tasks gets
@@ -70,13 +53,10 @@ feed_of p tasks input =
     option_map (λ from. record { from = from; copies = copies_said input.grouping tasks })
     (source_of p input.from)
 
--- the subscriptions of a component with these tasks and inputs
-abbrev pub feeds_of : FileParts → ℕ → List Input → List Feed
-feeds_of p tasks inputs = filter_map (feed_of p tasks) inputs
-
 -- the subscriptions of each component
 abbrev pub graph_of : FileParts → List (List Feed)
-graph_of p = map (λ (part : ComponentPart). feeds_of p part.tasks part.inputs) (components_of p)
+graph_of p =
+    map (λ (part : ComponentPart). filter_map (feed_of p part.tasks) part.inputs) (components_of p)
 
 -- ---- paths
 
@@ -87,7 +67,7 @@ is_component c (origin.Component d) = c == d
 
 -- bolt a is a source of component b
 abbrev pub feeds : FileParts → ℕ → ℕ → Bool
-feeds p a b = list_any (is_component a) (sources_at p b)
+feeds p a b = list_any (is_component a) (sources_among p (inputs_at p b))
 
 -- There is a path from bolt a to component b, of one subscription or more, on which the bolts in
 -- between are among the first n. With all bolts it is any path.

@@ -1,17 +1,15 @@
 //! Bolts that can be reached from themselves, and states that an opaque spout does not allow.
 
 ghost use Rattle.std.specs.Prelude.{◌≡◌, ◌≤◌, ◌<◌, ℕ, length, map, slice_index, option_map, false, IfOk};
-ghost use Rattle.std.specs.List.{find};
-ghost use Rattle.topology_reader.specs.Prelude.{list_any, range_with_len, option_copied, option_map_or, ComponentPart};
+ghost use Rattle.topology_reader.specs.Prelude.{Checks, find, list_any, range_with_len, option_copied, option_map_or, ComponentPart};
 ghost use Rattle.topology_reader.specs.FirstFault.{cycle_fault, keeps_exact, replay_fault};
 ghost use Rattle.topology_reader.specs.Steps.{has, led, AreReached};
-ghost use Rattle.topology_form.specs.Reading.{Checks};
 ghost use Rattle.topology_reader.specs.Wiring.{is_component, source_of, sources_among};
 
 use crate::wiring::Sources;
 use std::alloc::Global;
 use storm_values::{Memory, Txt};
-use topology_form::{BodyPart, ComponentPart, FileParts, Input, StatePart, TopoFault};
+use topology_form::{BodyPart, ComponentPart, FileParts, Input, TopoFault};
 use topology_plan::{Kind, Origin};
 
 pub(crate) fn check_cycles(sources: &Sources<'_>) -> Result<(), TopoFault>
@@ -62,17 +60,9 @@ fn led_through(alloc: Global, sets: &[u64], n: usize) -> Result<Vec<u64>, Memory
         (λ made. made.items ≡ map (led n (slice_index sets.now n)) sets.now) }
 {
     let through = sets[n];
-    sets.iter().map(|set| led(n, through, *set)).collect(alloc)
-}
-
-fn led(n: usize, through: u64, set: u64) -> u64
-    requires { n < 64 }
-    ensures { result ≡ led n through set }
-{
-    if has(set, n) {
-        return set | through;
-    }
-    set
+    sets.iter()
+        .map(|set| if has(*set, n) { *set | through } else { *set })
+        .collect(alloc)
 }
 
 /// For each bolt the set of the bolts that feed it.
@@ -143,11 +133,8 @@ fn exact_name(states: &[ComponentPart]) -> Option<&Txt>
 fn keeps_exact(body: &BodyPart) -> bool
     ensures { result ≡ keeps_exact body.now }
 {
-    matches!(
-        body,
-        BodyPart::State(StatePart {
-            kind: Kind::Transactional,
-            ..
-        })
-    )
+    match body {
+        BodyPart::State(state) => matches!(state.kind, Kind::Transactional),
+        BodyPart::Bolt(_) => false,
+    }
 }

@@ -1,20 +1,16 @@
 //! The faults of fields: what differs, what is not there, and what is there already.
 
 ghost use Rattle.std.specs.Prelude.{◌≡◌, not, find, map};
-ghost use Rattle.topology_reader.specs.Prelude.{list_any, option_copied, bytes_eq, first_some, Feed, feeds_at};
-ghost use Rattle.std.specs.Cmp.Lexicographic.{pointwise};
-ghost use Rattle.topology_reader.specs.FirstFault.{is_among, differ_fault, field_fault, chooses, direct_fault, input_fault, fields_read, amount_read, added_fault, component_fault, fields_fault};
+ghost use Rattle.topology_reader.specs.Prelude.{pointwise, Checks, list_any, option_copied, bytes_eq, first_some, Feed, feeds_at};
+ghost use Rattle.topology_reader.specs.FirstFault.{is_among, differ_fault, field_fault, chooses, direct_fault, input_fault, fields_read, added_fault, component_fault, fields_fault};
 ghost use Rattle.topology_reader.specs.Wiring.{graph_of, fields_of, fields_to};
-ghost use Rattle.topology_form.specs.Reading.{Checks};
 
 use crate::names::key_of;
 use crate::wiring::Wiring;
 use std::alloc::Global;
 use std::slice::from_ref;
 use storm_values::Txt;
-use topology_form::{
-    BodyPart, ComponentPart, GroupingPart, Input, Operation, StatePart, TopoFault, within,
-};
+use topology_form::{BodyPart, ComponentPart, GroupingPart, Input, Operation, TopoFault, within};
 use topology_graph::by_depth;
 
 /// The fields of each component, after those of all of its sources.
@@ -36,8 +32,7 @@ fn check_component(wiring: &Wiring<'_>, c: usize) -> Result<(), TopoFault>
     };
     check_same(wiring, c)?;
     check_inputs(wiring, c, part.inputs.as_slice())?;
-    check_there(wiring, c, fields_read(&part.body))?;
-    check_there(wiring, c, amount_read(&part.body))?;
+    check_read(wiring, c, &part.body)?;
     check_added(wiring.alloc(), wiring.fields_to(c), &part.body)
 }
 
@@ -138,34 +133,28 @@ fn chooses(wiring: &Wiring<'_>, input: &Input) -> bool
     )
 }
 
-fn fields_read(body: &BodyPart) -> &[Txt]
-    ensures { result.now ≡ fields_read body.now }
+/// The fields that a bolt's operation reads, or a state's key and then its amount.
+#[tactic(auto, using(crate::proofs::PartLemmas::field_fault_of_both))]
+fn check_read(wiring: &Wiring<'_>, c: usize, body: &BodyPart) -> Result<(), TopoFault>
+    ensures { Checks result (field_fault wiring.now c (fields_read body.now)) }
 {
     match body {
-        BodyPart::Bolt(Operation::Project(names)) => names.as_slice(),
+        BodyPart::Bolt(Operation::Project(names)) => check_there(wiring, c, names.as_slice()),
         BodyPart::Bolt(
             Operation::Split { field, .. }
             | Operation::Filter(field, ..)
             | Operation::Set(field, _)
             | Operation::Len { field, .. }
             | Operation::Route(field),
-        ) => from_ref(field),
-        BodyPart::Bolt(_) => &[],
-        BodyPart::State(state) => state.key.as_slice(),
-    }
-}
-
-fn amount_read(body: &BodyPart) -> &[Txt]
-    ensures { result.now ≡ amount_read body.now }
-{
-    match body {
-        BodyPart::State(
-            StatePart {
-                amount: Some(amount),
-                ..
-            },
-        ) => from_ref(amount),
-        _ => &[],
+        ) => check_there(wiring, c, from_ref(field)),
+        BodyPart::Bolt(_) => Ok(()),
+        BodyPart::State(state) => {
+            check_there(wiring, c, state.key.as_slice())?;
+            match &state.amount {
+                Some(amount) => check_there(wiring, c, from_ref(amount)),
+                None => Ok(()),
+            }
+        }
     }
 }
 

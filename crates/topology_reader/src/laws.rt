@@ -1,13 +1,9 @@
 ghost use Rattle.std.specs.Prelude.{◌≡◌, ◌↔◌, ◌<◌, ◌+◌, ℕ, List, length, true, Some, None, take};
-ghost use Rattle.serde_json.specs.Data.{Data};
-ghost use Rattle.topology_reader.specs.Prelude.{json_of, most_topology_bytes, TopoFault, FileParts, Topology, IsValid, form_fault, parts_said, IsInRange};
-ghost use Rattle.topology_reader.specs.FirstFault.{first_fault, IsFilePlan};
+ghost use Rattle.topology_reader.specs.Prelude.{Data, json_of, most_topology_bytes, TopoFault, FileParts, Topology, IsValid, IsWired, form_fault, parts_said, IsInRange};
+ghost use Rattle.topology_reader.specs.FirstFault.{first_fault, IsFilePlan, cycle_fault, meaning_fault};
 ghost use Rattle.topology_form.specs.Faults.{fault_text};
-ghost use Rattle.topology_plan.specs.Wired.{IsWired};
 ghost use Rattle.topology_reader.specs.ValidFile.{IsValidFile};
-ghost use Rattle.topology_reader.specs.FirstFault.{cycle_fault, meaning_fault};
-ghost use Rattle.topology_reader.specs.Wiring.{IsPath};
-ghost use Rattle.topology_reader.specs.Wiring.{name_at, reaches};
+ghost use Rattle.topology_reader.specs.Wiring.{IsPath, name_at, reaches};
 
 /// A law: the plan of a file without a fault is valid, and its subscriptions, groupings and
 /// fields fit together. What the file says is valid too, in its own names. Nothing valid is

@@ -2,9 +2,8 @@
 
 ghost use Rattle.std.specs.Prelude.{◌≡◌, ℕ, List, [], ◌∷◌, map, IfOk};
 ghost use Rattle.std.specs.Borrow.{Bor};
-ghost use Rattle.topology_reader.specs.Prelude.{option_copied, first_some, Input, components_of};
+ghost use Rattle.topology_reader.specs.Prelude.{Checks, option_copied, first_some, Input, components_of};
 ghost use Rattle.topology_reader.specs.FirstFault.{first_again, again_fault, key_of, own_key, projected, component_twice, twice_fault, nameless_fault, source_fault};
-ghost use Rattle.topology_form.specs.Reading.{Checks};
 ghost use Rattle.topology_reader.specs.Wiring.{component_names};
 
 use crate::wiring::Sources;

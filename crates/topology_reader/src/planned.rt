@@ -1,10 +1,10 @@
 //! What a topology file says, with components and fields by their numbers.
 
-ghost use Rattle.std.specs.Prelude.{◌≡◌, ◌<◌, ◌^◌, [], ◌∷◌, length, replicate, option_map, IfOk, IfSome, OnOk};
-ghost use Rattle.topology_reader.specs.Prelude.{option_map_or};
-ghost use Rattle.topology_reader.specs.Planned.{number_of, numbers_of, planned_operation, planned_body, route_field, planned_grouping, planned_component, planned_components, first_task_of, planned_subs, planned_component_subs};
+ghost use Rattle.std.specs.Prelude.{◌≡◌, ◌<◌, ◌^◌, ℕ, List, [], ◌∷◌, length, map, replicate, option_map, IfOk, IfSome, OnOk};
+ghost use Rattle.topology_reader.specs.Prelude.{Input, components_of, enumerate_from, option_map_or};
+ghost use Rattle.topology_reader.specs.Planned.{number_of, numbers_of, planned_operation, planned_body, route_field, planned_grouping, planned_component, first_task_of, planned_subs};
 ghost use Rattle.topology_reader.specs.Steps.{items_by, place_in, with_sub, with_inputs};
-ghost use Rattle.topology_reader.specs.Wiring.{place_of, fields_of, body_of};
+ghost use Rattle.topology_reader.specs.Wiring.{inputs_by_component, fields_of, body_of};
 ghost use Rattle.topology_plan.specs.declared.parts.Origin.TheVariants as origin;
 
 use crate::wiring::{Wiring, copied};
@@ -73,26 +73,9 @@ fn planned_body(alloc: Global, fields: &[Txt], body: &BodyPart) -> Result<Body, 
         BodyPart::State(state) => Ok(Body::State(StateSpec {
             kind: state.kind,
             key: numbers_of(alloc, fields, state.key.as_slice())?,
-            amount: amount_number(fields, &state.amount),
+            amount: state.amount.as_ref().map(|name| number_of(fields, name)),
             fold: state.fold,
         })),
-    }
-}
-
-fn amount_number(fields: &[Txt], amount: &Option<Txt>) -> Option<u32>
-    requires { length fields.now < 2 ^ 32 }
-    ensures { result ≡ option_map (number_of fields.now) amount.now }
-{
-    Some(number_of(fields, amount.as_ref()?))
-}
-
-fn route_field(fields: &[Txt], body: &BodyPart) -> u32
-    requires { length fields.now < 2 ^ 32 }
-    ensures { result ≡ route_field fields.now body.now }
-{
-    match body {
-        BodyPart::Bolt(Operation::Route(field)) => number_of(fields, field),
-        _ => 0,
     }
 }
 
@@ -116,8 +99,8 @@ fn chosen_field(wiring: &Wiring<'_>, from: Origin) -> u32
         ≡ option_map_or (route_field (fields_of wiring.now from)) (body_of wiring.now from) 0 }
 {
     match wiring.sources().body_of(from) {
-        Some(body) => route_field(wiring.fields_of(from), body),
-        None => 0,
+        Some(BodyPart::Bolt(Operation::Route(field))) => number_of(wiring.fields_of(from), field),
+        _ => 0,
     }
 }
 
@@ -125,7 +108,9 @@ fn chosen_field(wiring: &Wiring<'_>, from: Origin) -> u32
 /// consumers, in time linear in the inputs but for the search of their sources' names.
 pub(crate) fn subs_by_source(wiring: &Wiring<'_>) -> Result<Vec<Vec<Sub>>, Memory>
     ensures { IfOk result (λ subs. items_by subs.items
-        ≡ planned_subs wiring.now origin.Spout ∷ planned_component_subs wiring.now) }
+        ≡ planned_subs wiring.now origin.Spout
+        ∷ map (λ (numbered : ℕ × List Input). planned_subs wiring.now (origin.Component numbered.0))
+        (enumerate_from 0 (inputs_by_component wiring.now))) }
 {
     let sources = wiring.sources();
     let count = sources.count();
@@ -206,7 +191,8 @@ fn planned_component(
 
 /// The components, whose tasks are numbered through.
 pub(crate) fn planned_components(wiring: &Wiring<'_>) -> Result<Vec<Component>, Memory>
-    ensures { IfOk result (λ components. components.items ≡ planned_components wiring.now) }
+    ensures { IfOk result (λ components. components.items
+        ≡ map (planned_component wiring.now) (enumerate_from 0 (components_of wiring.now))) }
 {
     let sources = wiring.sources();
     let count = sources.count();

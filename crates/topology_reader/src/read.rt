@@ -1,11 +1,7 @@
 //! From the bytes of a topology file to its plan.
 
 ghost use Rattle.std.specs.Prelude.{◌≡◌, ◌≢◌, ◌<◌, ◌^◌, sum_by, Some, None, IfOk, IfErr};
-ghost use Rattle.serde_json.specs.View.{view};
-ghost use Rattle.topology_form.specs.Reading.{Checks};
-ghost use Rattle.topology_plan.specs.Wired.{IsWired};
-ghost use Rattle.topology_plan.specs.declared.parts.Component.{Component};
-ghost use Rattle.topology_reader.specs.Prelude.{json_of, IsValid, IsInRange};
+ghost use Rattle.topology_reader.specs.Prelude.{Checks, Component, view, json_of, IsValid, IsWired, IsInRange};
 ghost use Rattle.topology_reader.specs.FirstFault.{size_fault, meaning_fault, first_fault, IsFilePlan};
 ghost use Rattle.topology_reader.specs.Planned.{plan_of};
 ghost use Rattle.topology_reader.specs.Steps.{IsMade};

@@ -2,11 +2,10 @@
 //! and which fields the rows of a source have.
 
 ghost use Rattle.std.specs.Prelude.{◌≡◌, ◌<◌, ◌^◌, [], ◌∷◌, ◌++◌, length, slice_get, None, Some, IfOk};
-ghost use Rattle.topology_graph.specs.Graph.{read, fed_by};
 ghost use Rattle.topology_reader.specs.FirstFault.{cycle_fault};
-ghost use Rattle.topology_reader.specs.Prelude.{IsInRange, components_of, IsClosed, IsSettled, option_copied, feeds_at};
-ghost use Rattle.topology_reader.specs.Steps.{IsIndexOf, IsNumbered};
-ghost use Rattle.topology_reader.specs.Wiring.{source_of, component_at, component_count, copies_said, feed_of, feeds_of, graph_of, body_of, name_at, fields_after, first_of, fields_rule, fields_of, fields_to};
+ghost use Rattle.topology_reader.specs.Prelude.{IsInRange, components_of, filter_map, IsClosed, IsSettled, option_copied, feeds_at, fed_by, read};
+ghost use Rattle.topology_reader.specs.Steps.{IsIndexOf};
+ghost use Rattle.topology_reader.specs.Wiring.{source_of, component_at, copies_said, feed_of, graph_of, body_of, name_at, fields_after, first_of, fields_rule, fields_of, fields_to};
 
 use indexmap::IndexMap;
 use std::alloc::Global;
@@ -28,19 +27,21 @@ pub(crate) struct Sources<'p> {
 }
 
 impl<'p> Model for Sources<'p> {
-    ghost use Rattle.topology_reader.specs.Prelude.{FileParts};
-    ghost use Rattle.topology_reader.specs.Steps.{IsIndexOf, IsNumbered};
+    ghost use Rattle.std.specs.Prelude.{◌<◌, ◌^◌, length};
+    ghost use Rattle.topology_reader.specs.Prelude.{FileParts, components_of};
+    ghost use Rattle.topology_reader.specs.Steps.{IsIndexOf};
 
     ghost Value = { FileParts };
 
     ghost view = { λ s. s.parts.now };
 
-    ghost invariant = { λ s. IsNumbered s.parts.now × IsIndexOf s.parts.now s.by_name };
+    ghost invariant = { λ s.
+        (length (components_of s.parts.now) < 2 ^ 32) × IsIndexOf s.parts.now s.by_name };
 }
 
 impl<'p> Sources<'p> {
     pub(crate) fn of(alloc: Global, parts: &'p FileParts) -> Result<Self, Memory>
-        requires { IsNumbered parts.now }
+        requires { length (components_of parts.now) < 2 ^ 32 }
         ensures { IfOk result (λ sources. sources ≡ parts.now) }
     {
         let by_name = sources_by_name(alloc, parts)?;
@@ -62,15 +63,15 @@ impl<'p> Sources<'p> {
     }
 
     pub(crate) fn count(&self) -> usize
-        ensures value { result ≡ component_count self.now }
-        ensures few { IsNumbered self.now }
+        ensures value { result ≡ length (components_of self.now) }
+        ensures few { length (components_of self.now) < 2 ^ 32 }
     {
         self.parts.bolts.len() + self.parts.states.len()
     }
 
     /// The bolts have the first numbers.
     pub(crate) fn component(&self, c: usize) -> &ComponentPart
-        requires { c < component_count self.now }
+        requires { c < length (components_of self.now) }
         ensures { component_at self.now c ≡ Some result.now }
     {
         let bolts = self.parts.bolts.len();
@@ -106,7 +107,7 @@ impl<'p> Sources<'p> {
 }
 
 fn sources_by_name(alloc: Global, parts: &FileParts) -> Result<IndexMap<&str, Origin>, Memory>
-    requires { IsNumbered parts.now }
+    requires { length (components_of parts.now) < 2 ^ 32 }
     ensures { IfOk result (IsIndexOf parts.now) }
 {
     let mut by_name = IndexMap::new(alloc);
@@ -137,7 +138,7 @@ pub(crate) fn graph_of(sources: &Sources<'_>) -> Result<Graph, Memory>
 
 fn feeds_to(sources: &Sources<'_>, part: &ComponentPart) -> Result<Vec<Feed>, Memory>
     ensures { IfOk result
-        (λ feeds. feeds.items ≡ feeds_of sources.now part.now.tasks part.now.inputs) }
+        (λ feeds. feeds.items ≡ filter_map (feed_of sources.now part.now.tasks) part.now.inputs) }
 {
     let tasks = part.tasks;
     part.inputs
@@ -170,15 +171,12 @@ struct FieldsLeft<'p> {
     sources: &'p Sources<'p>,
 }
 
-impl<'p> FieldsLeft<'p> {
-    fn of_first<'f>(&'f self, feeds: &[Feed], known: &'f [Option<Names>]) -> &'f [Txt]
-        ensures { result.now
-            ≡ first_of (fed_by (fields_rule self.now.sources.now) known.now feeds.now) }
-    {
-        match feeds.first() {
-            Some(feed) => fields_known(self.sources.parts(), known, feed.from),
-            None => &[],
-        }
+fn of_first<'f>(parts: &'f FileParts, feeds: &[Feed], known: &'f [Option<Names>]) -> &'f [Txt]
+    ensures { result.now ≡ first_of (fed_by (fields_rule parts.now) known.now feeds.now) }
+{
+    match feeds.first() {
+        Some(feed) => fields_known(parts, known, feed.from),
+        None => &[],
     }
 }
 
@@ -187,8 +185,9 @@ impl<'p> Along<Names> for FieldsLeft<'p> {
 
     fn over(&self, c: usize, feeds: &[Feed], known: &[Option<Names>]) -> Result<Names, Memory> {
         let alloc = self.sources.alloc();
+        let come = of_first(self.sources.parts(), feeds, known);
         match self.sources.component_at(c) {
-            Some(part) => fields_after(alloc, &part.body, self.of_first(feeds, known)),
+            Some(part) => fields_after(alloc, &part.body, come),
             None => Ok(Names::new(alloc)),
         }
     }
@@ -218,18 +217,18 @@ pub(crate) struct Wiring<'p> {
 }
 
 impl<'p> Model for Wiring<'p> {
-    ghost use Rattle.topology_reader.specs.Prelude.{FileParts, IsInRange};
-    ghost use Rattle.std.specs.Prelude.{◌≡◌, None};
+    ghost use Rattle.topology_reader.specs.Prelude.{FileParts, IsInRange, values_of};
+    ghost use Rattle.std.specs.Prelude.{◌≡◌, None, Some, map};
     ghost use Rattle.topology_reader.specs.FirstFault.{cycle_fault};
-    ghost use Rattle.topology_reader.specs.Wiring.{graph_of};
-    ghost use Rattle.topology_reader.specs.Steps.{field_table};
+    ghost use Rattle.topology_reader.specs.Wiring.{graph_of, fields_rule};
 
     ghost Value = { FileParts };
 
     ghost view = { λ w. w.sources };
 
     ghost invariant = { λ w.
-        (w.graph ≡ graph_of w.sources) × (w.fields.items ≡ field_table w.sources)
+        (w.graph ≡ graph_of w.sources)
+        × (w.fields.items ≡ map Some (values_of (fields_rule w.sources) (graph_of w.sources)))
         × IsInRange w.sources × (cycle_fault w.sources ≡ None) };
 }
 
@@ -317,18 +316,14 @@ fn fields_after(alloc: Global, body: &BodyPart, come: &[Txt]) -> Result<Names, M
     match body {
         BodyPart::Bolt(Operation::Split { into, .. }) => copied(alloc, from_ref(into)),
         BodyPart::Bolt(Operation::Project(names)) => names.copy(),
-        BodyPart::Bolt(Operation::Len { into, .. }) => with_field(alloc, come, into),
+        BodyPart::Bolt(Operation::Len { into, .. }) => {
+            let mut more = copied(alloc, come)?;
+            more.push(into.copy()?)?;
+            Ok(more)
+        }
         BodyPart::Bolt(_) => copied(alloc, come),
         BodyPart::State(_) => Ok(Names::new(alloc)),
     }
-}
-
-fn with_field(alloc: Global, fields: &[Txt], new: &Txt) -> Result<Names, Memory>
-    ensures { IfOk result (λ more. more ≡ fields.now ++ new.now ∷ []) }
-{
-    let mut more = copied(alloc, fields)?;
-    more.push(new.copy()?)?;
-    Ok(more)
 }
 
 pub(crate) fn copied(alloc: Global, names: &[Txt]) -> Result<Names, Memory>

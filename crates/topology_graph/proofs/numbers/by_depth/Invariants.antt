@@ -1,6 +1,6 @@
 use Rattle.std.proofs.Common.{◌≡◌}
 use Rattle.std.specs.List.{flat_map, range_with_len}
-use Rattle.topology_graph.specs.Numbers.{at_depth}
+use Rattle.topology_graph.specs.Graph.{at_depth}
 use Rattle.topology_graph.proofs.numbers.by_depth.Given as goal
 
 abbrev pub invariant-loop-below : goal.invariant-loop-below

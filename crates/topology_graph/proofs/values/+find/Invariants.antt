@@ -1,8 +1,8 @@
 use Rattle.std.proofs.Common.{◌≡◌, ℕ, ◌<◌, Some, slice_get}
 use Rattle.topology_plan.specs.declared.parts.Origin.{Origin}
 use Rattle.topology_graph.specs.declared.values.Feed.{Feed}
-use Rattle.topology_graph.specs.Numbers.{depth_at}
 use Rattle.topology_graph.specs.Graph.{AreRight, IsKnown}
+use Rattle.topology_graph.proofs.ValueLemmas.{depth_at}
 use Rattle.topology_graph.proofs.values.+find.Given as goal
 
 abbrev pub decreases-find : goal.decreases-find

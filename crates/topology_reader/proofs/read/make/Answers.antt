@@ -1,6 +1,6 @@
 use Rattle.std.proofs.Common.{rules, ◌∙◌, ap, sum_by, arith}
 use Rattle.topology_plan.specs.declared.parts.Component.{Component}
-use Rattle.topology_graph.specs.Numbers.{numbers_of}
+use Rattle.topology_graph.specs.Graph.{values_of}
 use Rattle.topology_reader.proofs.Common.{greatest, ended_sum, depth_rule, tuples_rule, items_by}
 use Rattle.topology_reader.proofs.AssemblyLemmas.{sum_by-planned-le, tasks-plan, topology-planned}
 use Rattle.topology_reader.proofs.GraphLemmas.{small_graph}
@@ -15,7 +15,7 @@ tasks_in_all-tasks-requires c =
 pub overflow_cast-depth : goal.overflow_cast-depth
 overflow_cast-depth c =
     let p = c.args.wiring.now in
-    let deepest = c.greatest-depth.ensures ∙ ap greatest (c.deref-2.ensures.value ∙ c.in_ok-numbers_by.ensures ∙ ap (numbers_of depth_rule) c.graph-graph.ensures.value) in
+    let deepest = c.greatest-depth.ensures ∙ ap greatest (c.deref-2.ensures.value ∙ c.in_ok-numbers_by.ensures ∙ ap (values_of depth_rule) c.graph-graph.ensures.value) in
     omega (arith, deepest, depth_small p, small_graph p c.graph-graph.ensures.range)
 
 pub returns : goal.returns
@@ -27,6 +27,6 @@ returns c =
     record {
       topology = topology-planned p _ _ _ _ _ _ _ _ _ _ (search rules) (search rules) (search rules) components subs.0 component_subs (search rules) (search rules) (search rules) (search rules);
       tasks = c.tasks_in_all-tasks.ensures ∙ tasks-plan p _ (c.deref.ensures.value ∙ components);
-      depth = c.greatest-depth.ensures ∙ ap greatest (c.deref-2.ensures.value ∙ c.in_ok-numbers_by.ensures ∙ ap (numbers_of depth_rule) c.graph-graph.ensures.value) ∙ depth_planned p (small_graph p c.graph-graph.ensures.range);
-      weight = c.total-weight.ensures ∙ ap ended_sum (c.deref-3.ensures.value ∙ c.in_ok-numbers_by-2.ensures ∙ ap (numbers_of tuples_rule) c.graph-graph.ensures.value) ∙ weight_planned p;
+      depth = c.greatest-depth.ensures ∙ ap greatest (c.deref-2.ensures.value ∙ c.in_ok-numbers_by.ensures ∙ ap (values_of depth_rule) c.graph-graph.ensures.value) ∙ depth_planned p (small_graph p c.graph-graph.ensures.range);
+      weight = c.total-weight.ensures ∙ ap ended_sum (c.deref-3.ensures.value ∙ c.in_ok-numbers_by-2.ensures ∙ ap (values_of tuples_rule) c.graph-graph.ensures.value) ∙ weight_planned p;
     }
