@@ -310,7 +310,7 @@ const COINCIDENCES: [(&str, Script, &str, u8, &str); 4] = [
 fn ids_coincide(rt: HostRuntime) -> Result<(), Mismatch> {
     for (topology, script, schedule, code, want) in COINCIDENCES {
         let outside = Outside {
-            words: Some(script),
+            words: Some(&script),
             ..CALM
         };
         let scene = replay_of(topology, "[\"x y\"]", schedule);

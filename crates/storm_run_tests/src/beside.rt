@@ -12,7 +12,7 @@ use storm_values::{Memory, read_input};
 use topology_reader::read_topology;
 use tree_model::{Table, Tables, plain_tables};
 
-const LINES: u32 = 2_000;
+const LINES: u32 = 300;
 
 // The most records of a batch.
 const SIZE: u32 = 7;
@@ -54,12 +54,12 @@ fn report(alloc: Global, tables: &[Table]) -> Result<String, Memory> {
             writeln!(text, "cell {} {key} {value}", table.name.as_str())?;
         }
     }
-    writeln!(text, "ok 2000 records 286 batches")?;
+    writeln!(text, "ok 300 records 43 batches")?;
     Ok(text)
 }
 
 #[test]
-fn the_tables_of_two_thousand_lines(rt: HostRuntime) -> Result<(), Fail> {
+fn the_tables_of_three_hundred_lines(rt: HostRuntime) -> Result<(), Fail> {
     let alloc = rt.alloc();
     let (topology, input) = (topology(alloc)?, sentences(alloc)?);
     let outside = Outside {
@@ -90,7 +90,7 @@ fn the_tables_of_two_thousand_lines(rt: HostRuntime) -> Result<(), Fail> {
     assert!(rt; status == Status::Done);
     let tables = tables(alloc, topology.as_str(), input.as_str())?;
     let want = report(alloc, tables.as_slice())?;
-    assert!(rt; want.contains("cell counts [\"all\"] 2000\n"));
+    assert!(rt; want.contains("cell counts [\"all\"] 300\n"));
     assert!(rt; sink.bytes() == want.as_bytes());
     Ok(())
 }

@@ -3,7 +3,7 @@ use sample_topologies::{
     FAILS_ALWAYS, FAILS_TWICE, LAST_VALUE, MUTE_ALWAYS, MUTE_ONCE, SMALL_WORD_COUNT, STEADY,
     one_bolt,
 };
-use storm_test_kit::{CALM, Outside, Script, check_call, check_refusal, run_of};
+use storm_test_kit::{CALM, Outside, Script, check_call, check_refusal, run_of, ticks_every};
 use test_kit::Mismatch;
 
 const RECORD: &str = "[\"a\"]";
@@ -14,7 +14,7 @@ ok 1 records 1 batches
 ";
 
 // Topologies, ticks, and what a run over the record ends with and writes.
-const ENDS: [(&str, &[u32], u8, &str); 7] = [
+const ENDS: [(&str, &[u32], u8, &str); 6] = [
     (STEADY, &[], 0, COMMITTED),
     (
         FAILS_TWICE,
@@ -70,17 +70,6 @@ cell counts [\"a\"] 1
 ok 1 records 1 batches
 ",
     ),
-    (
-        MUTE_ALWAYS,
-        &[0, 3, 0, 3, 0, 3, 0, 3],
-        7,
-        "attempt 1.1 records 1-1 ticks 0-3 timed out
-attempt 1.2 records 1-1 ticks 3-6 timed out
-attempt 1.3 records 1-1 ticks 6-9 timed out
-attempt 1.4 records 1-1 ticks 9-12 timed out
-exhausted 1
-",
-    ),
 ];
 
 #[test]
@@ -99,8 +88,28 @@ fn ends_of_attempts_and_runs(rt: HostRuntime) -> Result<(), Mismatch> {
     Ok(())
 }
 
-// The batches of a transaction that fails wait for the next attempt, and are committed in order.
-const BOTH: &str = "attempt 1.1 records 1-1 ticks 0-0 committed
+// Each attempt begins at the tick at which the last one ended.
+const ALL_TIMED_OUT: &str = "attempt 1.1 records 1-1 ticks 0-3 timed out
+attempt 1.2 records 1-1 ticks 3-6 timed out
+attempt 1.3 records 1-1 ticks 6-9 timed out
+attempt 1.4 records 1-1 ticks 9-12 timed out
+exhausted 1
+";
+
+// The coordinator has its turn, with all ticks since the last, once its parcels are handed over.
+#[test]
+fn all_attempts_time_out(rt: HostRuntime) -> Result<(), Mismatch> {
+    let alloc = rt.alloc();
+    let ticks = ticks_every(alloc, 20, 3, 4)?;
+    let outside = Outside {
+        ticks: ticks.as_slice(),
+        ..CALM
+    };
+    let scene = run_of(MUTE_ALWAYS, RECORD);
+    check_call(&rt, alloc, scene, outside, 7, ALL_TIMED_OUT)
+}
+
+const IN_ORDER: &str = "attempt 1.1 records 1-1 ticks 0-0 committed
 attempt 2.1 records 2-2 ticks 0-0 committed
 attempt 3.1 records 3-3 ticks 0-0 committed
 cell last [\"x\"] 3
@@ -110,7 +119,7 @@ ok 3 records 3 batches
 #[test]
 fn batches_in_flight_are_committed_in_order(rt: HostRuntime) -> Result<(), Mismatch> {
     let scene = run_of(LAST_VALUE, "[\"x\",1]\n[\"x\",2]\n[\"x\",3]\n");
-    check_call(&rt, rt.alloc(), scene, CALM, 0, BOTH)
+    check_call(&rt, rt.alloc(), scene, CALM, 0, IN_ORDER)
 }
 
 // ---- ids that coincide
@@ -129,7 +138,7 @@ exhausted 1
 #[test]
 fn an_id_of_0_coincides(rt: HostRuntime) -> Result<(), Mismatch> {
     let outside = Outside {
-        words: Some(ALL_ZERO),
+        words: Some(&ALL_ZERO),
         ..CALM
     };
     for topology in [STEADY, SMALL_WORD_COUNT] {

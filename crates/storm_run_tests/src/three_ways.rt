@@ -6,18 +6,8 @@ use sample_topologies::{
 use std::alloc::Global;
 use std::sync::Wait;
 use std::thread::Threads;
-use storm_test_kit::{CALM, Outside, call, check_tables, plain_of, replay_of, run_of};
-use storm_values::Memory;
+use storm_test_kit::{CALM, Outside, call, check_tables, plain_of, replay_of, run_of, ticks_every};
 use test_kit::Mismatch;
-
-// A tick each 500 rounds, which mute attempts need, and which is too slow for all others to end by.
-fn slow_ticks(alloc: Global) -> Result<Vec<u32>, Memory> {
-    let mut ticks = Vec::new(alloc);
-    for question in 1..6_001 {
-        ticks.push(u32::from(question % 500 == 0))?;
-    }
-    Ok(ticks)
-}
 
 // Runs and replays an example at a scale, and compares their tables with the plain ones.
 fn check_scaled<R: Threads + Wait + Sync>(
@@ -54,27 +44,30 @@ fn check_examples<R: Threads + Wait + Sync>(
     rt: &R,
     alloc: Global,
     examples: &[Example],
+    ticks: &[u32],
 ) -> Result<(), Mismatch> {
-    let ticks = slow_ticks(alloc)?;
     for example in examples {
-        check_example(rt, alloc, example, ticks.as_slice())?;
+        check_example(rt, alloc, example, ticks)?;
     }
     Ok(())
 }
 
 #[test]
 fn each_grouping_makes_the_plain_tables(rt: HostRuntime) -> Result<(), Mismatch> {
-    check_examples(&rt, rt.alloc(), &GROUPINGS)
+    check_examples(&rt, rt.alloc(), &GROUPINGS, &[])
 }
 
+// Mute attempts need ticks, which are too slow for the others to end by them.
 #[test]
 fn each_operation_makes_the_plain_tables(rt: HostRuntime) -> Result<(), Mismatch> {
-    check_examples(&rt, rt.alloc(), &OPERATIONS)
+    let alloc = rt.alloc();
+    let ticks = ticks_every(alloc, 100, 1, 12)?;
+    check_examples(&rt, alloc, &OPERATIONS, ticks.as_slice())
 }
 
 #[test]
 fn several_bolts_make_the_plain_tables(rt: HostRuntime) -> Result<(), Mismatch> {
-    check_examples(&rt, rt.alloc(), &SEVERAL)
+    check_examples(&rt, rt.alloc(), &SEVERAL, &[])
 }
 
 #[test]

@@ -11,6 +11,7 @@ pub use calls::{
 };
 pub use outside::{
     CALM, Cell, Failing, Outside, Script, scripted_ids, scripted_ticks, shelf, sink, stores, taken,
+    ticks_every,
 };
 pub use scenes::{
     CHECK, PLAIN, REPLAY, RUN, Scene, owned, plain_of, reads_of, replay_of, run_of, run_over,

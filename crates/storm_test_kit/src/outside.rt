@@ -34,7 +34,7 @@ pub struct Outside<'a> {
     pub failing_read: u64,
     pub failing_write: u64,
     pub ticks: &'a [u32],
-    pub words: Option<Script>,
+    pub words: Option<&'a Script>,
     pub cells: &'a [Cell],
     pub failing: &'a [Failing],
 }
@@ -146,7 +146,7 @@ fn bytes_of(alloc: Global, bytes: &[u8]) -> Result<Bytes, Memory> {
 // ---- ids and ticks
 
 /// Ids by the words of three sources.
-pub fn scripted_ids(alloc: Global, script: Script) -> Result<ScriptIds, Memory> {
+pub fn scripted_ids(alloc: Global, script: &Script) -> Result<ScriptIds, Memory> {
     let [first, second, third] = script;
     let mut ids = ScriptIds::new(alloc);
     ids.add(0, words_of(alloc, first)?)?;
@@ -157,6 +157,23 @@ pub fn scripted_ids(alloc: Global, script: Script) -> Result<ScriptIds, Memory> 
 
 fn words_of(alloc: Global, words: &[u64]) -> Result<Words, Memory> {
     Ok(Words::from_vec(words.to_vec(alloc)?))
+}
+
+/// Answers to questions for ticks: so many pass at the last of so many questions, so many times.
+pub fn ticks_every(
+    alloc: Global,
+    questions: u32,
+    ticks: u32,
+    times: u32,
+) -> Result<Vec<u32>, Memory> {
+    let mut answers = Vec::new(alloc);
+    for _time in 0..times {
+        for _silent in 1..questions {
+            answers.push(0)?;
+        }
+        answers.push(ticks)?;
+    }
+    Ok(answers)
 }
 
 /// Ticks that pass as a list says.
