@@ -1,5 +1,5 @@
 #!/usr/bin/env bash
-# bench/part.sh queues|opaque_commits|acker [FOLDER]: times a part that no command uses yet.
+# bench/part.sh queues|opaque_commits|acker [FOLDER]: times a part by itself.
 # The program is a crate that the gate does not know: it is put beside copies of the crates that it
 # stands on, proved and built there, and run. That takes as long as these crates' proofs; a folder
 # as the second word keeps the copies, so that a later run there begins with what is proved.
