@@ -5,13 +5,13 @@ import subprocess
 import sys
 import time
 
-SIZES = [1, 4, 16]
+SIZES = ["1-mib", "4-mib", "16-mib", "10000-lines", "100000-lines"]
 ROUNDS = 5
 program, work, topology = sys.argv[1:]
 
 
-def command(name, mib):
-    text = f"{work}/{mib}.jsonl"
+def command(name, size):
+    text = f"{work}/{size}.jsonl"
     return [f"{work}/single", text] if name == "single" else [program, name, topology, text]
 
 
@@ -27,29 +27,30 @@ def once(words, out):
     return seconds, used.ru_maxrss / 1024
 
 
-def cells(name, mib):
-    with open(f"{work}/{name}.{mib}.txt", "rb") as file:
+def cells(name, size):
+    with open(f"{work}/{name}.{size}.txt", "rb") as file:
         return [line for line in file if not line.startswith(b"attempt ")]
 
 
 names = ["single", "plain", "run"]
-runs = {(name, mib): [] for mib in SIZES for name in names}
+runs = {(name, size): [] for size in SIZES for name in names}
 for _ in range(ROUNDS):
-    for name, mib in runs:
-        runs[name, mib].append(once(command(name, mib), f"{work}/{name}.{mib}.txt"))
-print("| MiB | command | seconds | nodes/s | MiB of memory | to `single` | to the size before |")
+    for name, size in runs:
+        runs[name, size].append(once(command(name, size), f"{work}/{name}.{size}.txt"))
+print("| input | command | seconds | nodes/s | MiB of memory | to `single` | to the size before |")
 print("|---|---|---|---|---|---|---|")
 before = {}
-for mib in SIZES:
-    counted = subprocess.run(command("single", mib), capture_output=True, check=True)
+for size in SIZES:
+    number, kind = size.split("-")
+    counted = subprocess.run(command("single", size), capture_output=True, check=True)
     nodes = int(counted.stderr)
     for name in names:
-        if cells(name, mib) != cells("single", mib):
-            sys.exit(f"bench: {name} and single differ on {mib} MiB")
-        seconds = statistics.median(run[0] for run in runs[name, mib])
-        memory = max(run[1] for run in runs[name, mib])
-        ratio = seconds / statistics.median(run[0] for run in runs["single", mib])
-        growth = f"{seconds / before[name]:.1f}" if name in before else ""
-        before[name] = seconds
-        print(f"| {mib} | {name} | {seconds:.3f} | {nodes / seconds / 1e6:.1f} million "
+        if cells(name, size) != cells("single", size):
+            sys.exit(f"bench: {name} and single differ on {size}")
+        seconds = statistics.median(run[0] for run in runs[name, size])
+        memory = max(run[1] for run in runs[name, size])
+        ratio = seconds / statistics.median(run[0] for run in runs["single", size])
+        growth = f"{seconds / before[name, kind]:.1f}" if (name, kind) in before else ""
+        before[name, kind] = seconds
+        print(f"| {number} {kind} | {name} | {seconds:.3f} | {nodes / seconds / 1e6:.1f} million "
               f"| {memory:.0f} | {ratio:.1f} | {growth} |")

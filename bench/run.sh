@@ -1,6 +1,7 @@
 #!/usr/bin/env bash
-# Times the built program's `plain` and `run` on word counts of 1, 4 and 16 MiB beside `single`, the
-# word count by hand in one thread. Five rounds over all commands in turn; the table has medians.
+# Times the built program's `plain` and `run` on word counts of 1, 4 and 16 MiB, and of 10,000 and
+# 100,000 lines of ten words, beside `single`, the word count by hand in one thread. Five rounds over
+# all commands in turn; the table has medians.
 # Needs rustc and python3, and the program built (./storm builds it).
 set -euo pipefail
 here="$(cd "$(dirname "${BASH_SOURCE[0]}")" && pwd)"
@@ -12,6 +13,9 @@ for name in gen single; do
   rustc -C opt-level=3 -o "$work/$name" "$here/$name.rs"
 done
 for mib in 1 4 16; do
-  [ -s "$work/$mib.jsonl" ] || "$work/gen" "$((mib << 20))" 1 >"$work/$mib.jsonl"
+  [ -s "$work/$mib-mib.jsonl" ] || "$work/gen" bytes "$((mib << 20))" 1 >"$work/$mib-mib.jsonl"
+done
+for lines in 10000 100000; do
+  [ -s "$work/$lines-lines.jsonl" ] || "$work/gen" lines "$lines" 1 >"$work/$lines-lines.jsonl"
 done
 exec python3 "$here/rounds.py" "$program" "$work" "$here/word_count.json"
