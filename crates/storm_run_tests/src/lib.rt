@@ -4,10 +4,4 @@
 #[cfg(test)]
 mod answers;
 #[cfg(test)]
-mod beside;
-#[cfg(test)]
 mod ends;
-#[cfg(test)]
-mod stores;
-#[cfg(test)]
-mod three_ways;
