@@ -25,8 +25,8 @@ use storm_program::{Fates, Status, storm};
 use storm_stores::{MemMaker, StoreMaker};
 use storm_ticks::{ClockTicks, Ticks};
 
-/// Carries out the words over some files, an output, ticks, stores and sources of ids, and gives the
-/// exit status.
+/// Carries out the words over some files, an output, ticks, stores and sources of ids, and gives
+/// the exit status.
 fn exit_status<R: Threads + Wait + Sync, H: Shelf, K: Sink, T: Ticks, M: StoreMaker, N: IdMaker>(
     rt: &R,
     alloc: Global,

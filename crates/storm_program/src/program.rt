@@ -209,8 +209,8 @@ pub fn storm_replay<H: Shelf, K: Sink, M: StoreMaker, N: IdMaker, O: RowOp>(
         (shelf_use H.holds H.ready H.fetches H.faults shelf.old shelf.new)
         (sink_use K.taken K.faults out.old out.new) result }
 
-    // Over a schedule with rounds enough and few ticks every batch is committed, where nothing is in
-    // the way.
+    // Over a schedule with rounds enough and few ticks every batch is committed, where nothing is
+    // in the way.
     ensures finishes { ReplayMustFinish (O.meaning custom.now)
         (shelf_use H.holds H.ready H.fetches H.faults shelf.old shelf.new)
         (sink_use K.taken K.faults out.old out.new)
@@ -230,12 +230,12 @@ pub fn storm_replay<H: Shelf, K: Sink, M: StoreMaker, N: IdMaker, O: RowOp>(
 
 /// Runs the topology of one file over the records of another, and writes the report.
 ///
-/// It goes by rounds on one thread so far, whatever the number of workers: every tuple is tracked by
-/// an acker, batches are in flight side by side, and each is committed in transaction order to the
-/// stores once its whole tuple tree was acked. Attempts that fail, time out or coincide are tried
-/// again, and so are those whose commit a store refused. It reads both files before it begins, and
-/// builds the whole text before it writes. Time and memory are proportional to the number of tuples;
-/// the messages of all committed tuples are kept in the fates.
+/// It goes by rounds on one thread so far, whatever the number of workers: every tuple is tracked
+/// by an acker, batches are in flight side by side, and each is committed in transaction order to
+/// the stores once its whole tuple tree was acked. Attempts that fail, time out or coincide are
+/// tried again, and so are those whose commit a store refused. It reads both files before it
+/// begins, and builds the whole text before it writes. Time and memory are proportional to the
+/// number of tuples; the messages of all committed tuples are kept in the fates.
 pub fn storm_run<
     R: Threads + Wait + Sync,
     H: Shelf,
