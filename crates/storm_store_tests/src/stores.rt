@@ -196,6 +196,6 @@ fn stores_come_back_with_their_cells(rt: HostRuntime) -> Result<(), Mismatch> {
     assert!(rt; status == Status::Done);
     let mut store = stores.make(1, 0)?;
     let cell = store.get("[\"a\"]".as_bytes());
-    assert!(rt; matches!(cell, Ok(Some(bytes)) if bytes.as_slice() == ONE_BY_1.as_slice()));
+    assert!(rt; matches!(&cell, Ok(Some(bytes)) if bytes.as_slice() == ONE_BY_1.as_slice()));
     Ok(())
 }
