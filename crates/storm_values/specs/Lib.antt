@@ -5,4 +5,5 @@ pub mod Faults
 pub mod Keys
 pub mod Order
 pub mod Rows
+pub mod Texts
 pub mod steps

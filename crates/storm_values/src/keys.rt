@@ -1,4 +1,4 @@
-ghost use Rattle.std.specs.Prelude.{◌≡◌, List, ◌∷◌, ◌++◌, [], fold, map, slice_get, option_copied, IfOk, OnOk};
+ghost use Rattle.std.specs.Prelude.{◌≡◌, List, ◌∷◌, ◌++◌, [], fold, map, slice_get, option_copied, string_bytes, IfOk, OnOk};
 ghost use Rattle.json.specs.Token.{begin_array};
 ghost use Rattle.storm_values.specs.declared.value.Value.{Value as SpecValue};
 ghost use Rattle.storm_values.specs.Keys.{value_bytes, fnv_step, hash_of, text_of, token_of};
@@ -11,6 +11,7 @@ use crate::value::Value;
 use itoa::Buffer;
 use json::Writer;
 use std::alloc::Global;
+use std::mem;
 
 /// Where a hash begins.
 const OFFSET: u64 = 14_695_981_039_346_656_037;
@@ -97,13 +98,30 @@ pub fn key_text(alloc: Global, key: &[Value]) -> Result<Txt, Memory>
     for value in key {
         put_value(&mut writer, value)?;
     }
-    closed_text(writer)
+    let text = closed_text(writer)?;
+    Ok(Txt::from_string(text))
 }
 
-/// The text of the key that some fields of a row are, written over what `room` holds, so that one
-/// buffer serves many keys. No value is copied on the way.
-pub fn key_text_in(mut room: Vec<u8>, row: &[Value], fields: &[u32]) -> Result<Txt, Memory>
+/// The text of the key that some fields of a row are. It is written over what `room` holds, so that
+/// one buffer serves many keys, and a short key takes no memory. No value is copied on the way.
+pub fn key_text_in(
+    alloc: Global,
+    room: &mut Vec<u8>,
+    row: &[Value],
+    fields: &[u32],
+) -> Result<Txt, Memory>
     ensures { IfOk result (λ text. text ≡ text_of (values_in row.now fields.now)) }
+{
+    let text = key_string(mem::replace(room, Vec::new(alloc)), row, fields)?;
+    let key = Txt::from_str(alloc, text.as_str())?;
+    *room = text.into_bytes();
+    Ok(key)
+}
+
+/// The text of the key that some fields of a row are, written over what `room` holds.
+fn key_string(mut room: Vec<u8>, row: &[Value], fields: &[u32]) -> Result<String, Memory>
+    ensures { IfOk result
+        (λ text. string_bytes text ≡ text_of (values_in row.now fields.now)) }
 {
     room.clear();
     let mut writer = Writer::new(room);
@@ -128,14 +146,14 @@ fn put_value(writer: &mut Writer, value: &Value) -> Result<(), Memory>
 }
 
 /// The text of an array whose values were written.
-fn closed_text(mut writer: Writer) -> Result<Txt, Memory>
+fn closed_text(mut writer: Writer) -> Result<String, Memory>
     requires { writer.before ≡ [] }
     ensures { IfOk result (λ text. (key : List SpecValue)
-        → writer.tokens ≡ begin_array ∷ map token_of key → text ≡ text_of key) }
+        → writer.tokens ≡ begin_array ∷ map token_of key → string_bytes text ≡ text_of key) }
 {
     writer.end_array()?;
     match String::from_utf8(writer.into_inner()) {
-        Ok(text) => Ok(Txt::from_string(text)),
+        Ok(text) => Ok(text),
         Err(_) => unreachable!(),
     }
 }

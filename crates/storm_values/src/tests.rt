@@ -23,12 +23,24 @@ fn hashes_and_texts_of_keys(rt: HostRuntime) -> Result<(), Fail> {
         (&[1, 2, 1], "[\"a\\\"b\",\"a\\\"b\"]"),
         (&[], "[]"),
     ] {
-        assert!(rt;
-            key_text_in(vec![in alloc; b'x']?, &row, fields)?.as_str() == text,
-            "at {text}"
-        );
+        let mut room = vec![in alloc; b'x']?;
+        assert!(rt; key_text_in(alloc, &mut room, &row, fields)?.as_str() == text, "at {text}");
     }
     assert_eq!(rt; key_hash_in(&row, &[0, 1]), key_hash(&row));
+    Ok(())
+}
+
+#[test]
+fn texts_of_any_length_keep_their_bytes(rt: HostRuntime) -> Result<(), Fail> {
+    let alloc = rt.alloc();
+    for text in ["", "é", "twenty-two bytes, all.", "twenty-three bytes here"] {
+        let made = Txt::from_str(alloc, text)?;
+        assert_eq!(rt; (made.as_str(), made.len()), (text, text.len()));
+        assert!(rt; made.copy()?.as_str() == text, "at {text}");
+        assert!(rt; made.into_string(alloc)?.as_str() == text, "at {text}");
+        let moved = Txt::from_string(String::from_str(alloc, text)?);
+        assert!(rt; moved.as_str() == text, "at {text}");
+    }
     Ok(())
 }
 
@@ -113,9 +125,7 @@ fn lists_keep_their_items(rt: HostRuntime) -> Result<(), Fail> {
     let bytes: Bytes = copied_list(alloc, 7)?;
     let indexes: Indexes = copied_list(alloc, 7)?;
     assert_eq!(rt; (*bytes.at(0), *indexes.at(0)), (7, 7));
-    let mut text = Txt::new(alloc);
-    text.push('é')?;
-    let names: Names = copied_list(alloc, text.copy()?)?;
+    let names: Names = copied_list(alloc, Txt::from_str(alloc, "é")?)?;
     assert_eq!(rt; names.at(0).len(), 2);
     let row: Row = copied_list(alloc, Value::Int(7))?;
     let rows: Rows = copied_list(alloc, row)?;

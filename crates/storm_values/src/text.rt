@@ -1,58 +1,89 @@
-ghost use Rattle.std.specs.Prelude.{◌≡◌, ◌<◌, slice_get, Some, List, [], ◌++◌, ℕ, length, encode_utf8, string_bytes, IfOk, OnOk, OnErr};
+ghost use Rattle.std.specs.Prelude.{◌≡◌, ◌<◌, slice_get, Some, [], length, string_bytes, IfOk};
 
 use crate::list::{Duplicate, Memory};
+use arrayvec::ArrayString;
 use std::alloc::Global;
 use std::marker::Model;
 
-/// A text, which contracts see as the list of its UTF-8 bytes.
+/// The most bytes of a text that takes no memory.
+const MOST_INSIDE: usize = 22;
+
+/// A text, which contracts see as the list of its UTF-8 bytes. Up to 22 of them lie in the value
+/// itself and take no memory.
 #[derive(Debug, Drop)]
 pub struct Txt {
-    text: String,
+    text: Place,
+}
+
+/// Where the bytes of a text lie.
+#[derive(Debug, Drop)]
+enum Place {
+    Inside(ArrayString<MOST_INSIDE>),
+    Apart(String),
 }
 
 impl Model for Txt {
+    ghost use Rattle.std.specs.Prelude.{List, ℕ};
+    ghost use Rattle.storm_values.specs.Texts.{bytes_in};
+
     ghost Value = { List ℕ };
 
-    ghost view = { λ t. string_bytes t.text };
+    ghost view = { λ t. bytes_in t.text };
 }
 
 impl Txt {
     /// The empty text, which takes no memory.
-    pub fn new(alloc: Global) -> Self
+    pub fn new() -> Self
         ensures { result ≡ [] }
     {
         Txt {
-            text: String::new(alloc),
+            text: Place::Inside(ArrayString::new()),
         }
     }
 
     pub fn from_str(alloc: Global, text: &str) -> Result<Self, Memory>
         ensures { IfOk result (λ made. made ≡ text.now) }
     {
-        Ok(Txt {
-            text: String::from_str(alloc, text)?,
-        })
+        match ArrayString::from(text) {
+            Ok(short) => Ok(Txt {
+                text: Place::Inside(short),
+            }),
+            Err(_) => Ok(Txt {
+                text: Place::Apart(String::from_str(alloc, text)?),
+            }),
+        }
     }
 
     /// The text of a string, which takes no memory.
     pub fn from_string(text: String) -> Self
         ensures { result ≡ string_bytes text }
     {
-        Txt { text }
+        match ArrayString::from(text.as_str()) {
+            Ok(short) => Txt {
+                text: Place::Inside(short),
+            },
+            Err(_) => Txt {
+                text: Place::Apart(text),
+            },
+        }
     }
 
-    /// The string of the text, which takes no memory.
-    pub fn into_string(self) -> String
-        ensures { string_bytes result ≡ self }
+    /// The string of the text. A long text is moved.
+    pub fn into_string(self, alloc: Global) -> Result<String, Memory>
+        ensures { IfOk result (λ made. string_bytes made ≡ self) }
     {
-        self.text
+        let Txt { text } = self;
+        match text {
+            Place::Inside(short) => String::from_str(alloc, short.as_str()),
+            Place::Apart(text) => Ok(text),
+        }
     }
 
     /// The number of bytes.
     pub fn len(&self) -> usize
         ensures { result ≡ length self.now }
     {
-        self.text.len()
+        self.as_str().len()
     }
 
     /// The byte at a place.
@@ -60,36 +91,36 @@ impl Txt {
         requires { i < length self.now }
         ensures { slice_get self.now i ≡ Some result.now }
     {
-        &self.text.as_bytes()[i]
+        &self.as_bytes()[i]
     }
 
     pub fn as_str(&self) -> &str
         ensures { result.now ≡ self.now }
     {
-        self.text.as_str()
+        match &self.text {
+            Place::Inside(short) => short.as_str(),
+            Place::Apart(text) => text.as_str(),
+        }
     }
 
     pub fn as_bytes(&self) -> &[u8]
         ensures { result.now ≡ self.now }
     {
-        self.text.as_bytes()
+        self.as_str().as_bytes()
     }
 
-    /// Adds a character's UTF-8 bytes at the end.
-    pub fn push(&mut self, character: char) -> Result<(), Memory>
-        ensures ok { OnOk result (self.new ≡ self.old ++ encode_utf8 character) }
-        ensures err { OnErr result (self.new ≡ self.old) }
-    {
-        self.text.push(character)
-    }
-
-    /// An equal text, on the same allocator.
+    /// An equal text, on the same allocator where it takes memory.
     pub fn copy(&self) -> Result<Self, Memory>
         ensures { IfOk result (λ made. made ≡ self.now) }
     {
-        Ok(Txt {
-            text: self.text.clone()?,
-        })
+        match &self.text {
+            Place::Inside(short) => Ok(Txt {
+                text: Place::Inside(*short),
+            }),
+            Place::Apart(text) => Ok(Txt {
+                text: Place::Apart(text.clone()?),
+            }),
+        }
     }
 }
 

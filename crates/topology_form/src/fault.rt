@@ -87,7 +87,7 @@ impl TopoFault {
 fn shown(alloc: Global, text: &Txt) -> Result<String, Memory>
     ensures { IfOk result (λ made. string_bytes made ≡ shown text.now) }
 {
-    let value = Value::String(text.copy()?.into_string());
+    let value = Value::String(String::from_str(alloc, text.as_str())?);
     value.to_string(alloc)
 }
 

@@ -288,7 +288,7 @@ impl<'p> Wiring<'p> {
     {
         match self.sources.component_at(c) {
             Some(part) => part.name.copy(),
-            None => Ok(Txt::new(self.alloc())),
+            None => Ok(Txt::new()),
         }
     }
 

@@ -7,7 +7,6 @@ use crate::write::{Pair, Pairs, Table, Tables, Write, Writes, amount};
 use indexmap::IndexMap;
 use std::alloc::Global;
 use std::marker::Model;
-use std::mem;
 use storm_values::{Memory, Row, Seq, Txt, key_text_in};
 use topology_plan::{Body, Component, Fold, Plan};
 
@@ -87,11 +86,10 @@ impl Visitor for RunningTables {
         row: &Row,
     ) -> Result<(), Memory> {
         if let Body::State(spec) = &plan.component(component).body {
-            let room = mem::replace(&mut self.room, Vec::new(alloc));
-            let key = key_text_in(room, row.as_slice(), spec.key.as_slice())?;
+            let fields = spec.key.as_slice();
+            let key = key_text_in(alloc, &mut self.room, row.as_slice(), fields)?;
             let amount = amount(spec, row);
             add_amount(&mut self.values, component, spec.fold, &key, amount)?;
-            self.room = key.into_string().into_bytes();
         }
         Ok(())
     }

@@ -7,4 +7,4 @@ pub returns : goal.returns
 returns c = λ key is.
     let read : string_bytes c.in-Ok.text ≡ c.into_inner.result.items = ap (λ v. v.items) c.in-Ok.ensures.ok in
     let closed = c.in_ok-end_array.ensures in
-    c.from_string.ensures ∙ read ∙ c.into_inner.ensures.items ∙ rw (closed.room.0, c.requires, closed.ok, is) (print-key key)
+    read ∙ c.into_inner.ensures.items ∙ rw (closed.room.0, c.requires, closed.ok, is) (print-key key)

@@ -5,8 +5,8 @@ use Rattle.std.proofs.lemmas.List.Elements.{filter_map-append}
 use Rattle.json.specs.Token.{begin_array}
 use Rattle.storm_values.specs.Keys.{token_of}
 use Rattle.storm_values.specs.Rows.{values_in}
-use Rattle.storm_values.proofs.keys.key_text_in.Goals as goal
-use Rattle.storm_values.proofs.keys.key_text_in.Goals.{in-Some+in_ok-put_value, in_default}
+use Rattle.storm_values.proofs.keys.key_string.Goals as goal
+use Rattle.storm_values.proofs.keys.key_string.Goals.{in-Some+in_ok-put_value, in_default}
 
 pub loop-field-preserved : goal.loop-field-preserved
 loop-field-preserved c =

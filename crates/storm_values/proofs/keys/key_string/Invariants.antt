@@ -2,7 +2,7 @@ use Rattle.std.proofs.Common.{◌≡◌, [], ◌∷◌, map, take}
 use Rattle.json.specs.Token.{begin_array}
 use Rattle.storm_values.specs.Keys.{token_of}
 use Rattle.storm_values.specs.Rows.{values_in}
-use Rattle.storm_values.proofs.keys.key_text_in.Given as goal
+use Rattle.storm_values.proofs.keys.key_string.Given as goal
 
 abbrev pub invariant-loop-field : goal.invariant-loop-field
 invariant-loop-field l = record {
