@@ -26,6 +26,8 @@ pub struct BoltTask<'p, I: Ids> {
     component: u32,
     task: u32,
     collector: Collector<'p, I>,
+    // where the next key is written
+    room: Vec<u8>,
     ghost placed: { IsPlaced plan.now component task collector },
 }
 
@@ -51,6 +53,7 @@ impl<'p, I: Ids> BoltTask<'p, I> {
             component,
             task,
             collector,
+            room: Vec::new(alloc),
         })
     }
 
@@ -102,7 +105,8 @@ impl<'p, I: Ids> BoltTask<'p, I> {
         ensures same_task { IsSameTask self.new self.old }
     {
         let writes = self.writes(&tuple)?;
-        let mut parcels = Parcels::new(self.alloc);
+        let room = rows.len().saturating_add(1);
+        let mut parcels = Parcels::from_vec(Vec::with_capacity(self.alloc, room)?);
         let root = tuple.root;
         let path = &tuple.edge.path;
         let Emitted { edges, draw } = self.collector.emit(root, path, rows, &mut parcels)?;
@@ -122,7 +126,7 @@ impl<'p, I: Ids> BoltTask<'p, I> {
         ensures { IfOk result (λ parcels. parcels ≡ to_acker self.now.plan.now
             (Failed (record { root = tuple.root; path = tuple.edge.path })) ∷ []) }
     {
-        let mut parcels = Parcels::new(self.alloc);
+        let mut parcels = Parcels::from_vec(Vec::with_capacity(self.alloc, 1)?);
         let note = AckMsg::Failed(FailNote {
             root: tuple.root,
             path: tuple.edge.path,
@@ -132,23 +136,27 @@ impl<'p, I: Ids> BoltTask<'p, I> {
     }
 
     /// The write of a tuple, which a state alone makes.
-    fn writes(&self, tuple: &Tuple) -> Result<Writes, Memory>
-        requires { IsFor self.now tuple.now }
-        ensures { IfOk result (λ writes.
-            writes ≡ option_to_list (write_of self.now.plan.now (node_of tuple.now))) }
+    fn writes(&mut self, tuple: &Tuple) -> Result<Writes, Memory>
+        requires { IsFor self.old tuple.now }
+        ensures writes { IfOk result (λ writes.
+            writes ≡ option_to_list (write_of self.old.plan.now (node_of tuple.now))) }
+        ensures collector { self.new.collector ≡ self.old.collector }
+        ensures same_task { IsSameTask self.new self.old }
     {
         let component = self.plan.component(self.component);
-        let mut writes = Writes::new(self.alloc);
-        if let Body::State(spec) = &component.body {
-            let write = write_at(
-                self.alloc,
-                self.component,
-                component.tasks,
-                spec,
-                &tuple.row,
-            )?;
-            writes.push(write)?;
-        }
+        let Body::State(spec) = &component.body else {
+            return Ok(Writes::new(self.alloc));
+        };
+        let write = write_at(
+            self.alloc,
+            &mut self.room,
+            self.component,
+            component.tasks,
+            spec,
+            &tuple.row,
+        )?;
+        let mut writes = Writes::from_vec(Vec::with_capacity(self.alloc, 1)?);
+        writes.push(write)?;
         Ok(writes)
     }
 

@@ -105,7 +105,12 @@ impl<'p, I: Ids> Collector<'p, I> {
         ensures kept { BeginsWith into.new into.old }
     {
         let draw = draw_from(self.source, self.given);
-        let mut edges = Edges::new(self.alloc);
+        let room = if self.outlet.subs_len() == 0 {
+            0
+        } else {
+            rows.len()
+        };
+        let mut edges = Edges::from_vec(Vec::with_capacity(self.alloc, room)?);
         let below = Below { root, path };
         for row in rows.into_vec() {
             self.emit_row(&below, row, &mut edges, into)?;

@@ -23,7 +23,7 @@ const MULTIPLIER: u64 = 1_099_511_628_211;
 const SEPARATOR: u8 = 0x1F;
 
 /// The room for a key's text that is asked for at once, in bytes.
-pub const KEY_ROOM: usize = 32;
+const KEY_ROOM: usize = 32;
 
 /// FNV-1a of 64 bits over the key's bytes, in their order. It takes no memory.
 pub fn key_hash(key: &[Value]) -> u64

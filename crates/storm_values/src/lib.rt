@@ -11,7 +11,7 @@ mod tests;
 mod text;
 mod value;
 
-pub use keys::{KEY_ROOM, key_hash, key_hash_in, key_text, key_text_in};
+pub use keys::{key_hash, key_hash_in, key_text, key_text_in};
 pub use limits::{
     LEAST_BUCKETS, MOST_ACKERS, MOST_ATTEMPTS, MOST_BATCH, MOST_BELOW, MOST_BOLT_INPUTS,
     MOST_BOLTS, MOST_BUCKETS, MOST_CONSTANT_BYTES, MOST_CUSTOM_ROWS, MOST_FIELDS, MOST_INPUT_BYTES,

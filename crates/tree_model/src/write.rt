@@ -6,7 +6,7 @@ ghost use Rattle.tree_model.specs.Trees.{amount_by, int_of, write_by, writes};
 use crate::tree::{Tree, Visitor};
 use bolt_ops::RowOp;
 use std::alloc::Global;
-use storm_values::{Duplicate, KEY_ROOM, Memory, Row, Seq, Txt, Value, key_hash_in, key_text_in};
+use storm_values::{Duplicate, Memory, Row, Seq, Txt, Value, key_hash_in, key_text_in};
 use topology_plan::{Body, Fold, Origin, Plan, StateSpec};
 
 /// What a state is to add to the value of a key.
@@ -89,15 +89,18 @@ impl Visitor for Writes {
     ) -> Result<(), Memory> {
         let at = plan.component(component);
         if let Body::State(spec) = &at.body {
-            self.push(write_at(alloc, component, at.tasks, spec, row)?)?;
+            let mut room = Vec::new(alloc);
+            self.push(write_at(alloc, &mut room, component, at.tasks, spec, row)?)?;
         }
         Ok(())
     }
 }
 
-/// What a state with this many parts is to add for a row.
+/// What a state with this many parts is to add for a row. The key is written in `room` first, which
+/// serves again and again.
 pub fn write_at(
     alloc: Global,
+    room: &mut Vec<u8>,
     state: u32,
     parts: u32,
     spec: &StateSpec,
@@ -112,7 +115,7 @@ pub fn write_at(
     Ok(Write {
         state,
         part: part as u32,
-        key: key_text_in(Vec::with_capacity(alloc, KEY_ROOM)?, values, key)?,
+        key: key_text_in(alloc, room, values, key)?,
         amount: amount(spec, row),
     })
 }
