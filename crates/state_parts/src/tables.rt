@@ -23,20 +23,22 @@ use tree_model::{Pair, Pairs, Table, Tables};
 type Values = BTreeMap<String, i128>;
 
 /// Gives the keys of pairs their values, one after another.
-fn put_pairs(values: &mut Values, pairs: Pairs) -> Result<(), Memory>
+fn put_pairs(alloc: Global, values: &mut Values, pairs: Pairs) -> Result<(), Memory>
     requires { IsOrdered string_cmp values.old }
     ensures ordered { IsOrdered string_cmp values.new }
     ensures put { OnOk result ((key : List ℕ) →
         get_by_text values.new key ≡ put_all (get_by_text values.old) pairs key) }
 {
     for pair in pairs.into_vec() {
-        values.insert(pair.key.into_string(), pair.value)?;
+        let key = pair.key.into_string(alloc)?;
+        values.insert(key, pair.value)?;
     }
     Ok(())
 }
 
 /// Adds the keys and values of a part, if it is one of the state.
 fn add_values<C: CellStore>(
+    alloc: Global,
     at: &mut StatePart<C>,
     number: u32,
     values: &mut Values,
@@ -59,7 +61,7 @@ fn add_values<C: CellStore>(
         Ok(pairs) => pairs,
         Err(fault) => return Err(fault),
     };
-    match put_pairs(values, pairs) {
+    match put_pairs(alloc, values, pairs) {
         Ok(()) => {}
         Err(_) => return Err(PartFault::Memory),
     }
@@ -84,7 +86,7 @@ fn values_of<C: CellStore>(
 {
     let mut values = BTreeMap::new(alloc);
     for i in 0..parts.len() {
-        match add_values(&mut parts[i], number, &mut values) {
+        match add_values(alloc, &mut parts[i], number, &mut values) {
             Ok(()) => {}
             Err(fault) => return Err(fault),
         }

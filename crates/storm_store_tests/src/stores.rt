@@ -4,10 +4,11 @@ use bolt_ops::Reversed;
 use sample_topologies::{STEADY, one_bolt};
 use storm_ids::ChaChaMaker;
 use storm_program::{Fates, Status, storm_run};
-use storm_stores::{CallKind, CellStore, FailAt, MemMaker, StoreMaker};
+use storm_stores::{CallKind, CellStore, FailAt, MemMaker, StoreFault, StoreMaker};
 use storm_test_kit::{
     CALM, Cell, Outside, check_call, check_faults, run_of, scripted_ticks, shelf, sink,
 };
+use storm_values::Bytes;
 use test_kit::Mismatch;
 
 const RECORD: &str = "[\"a\"]";
@@ -165,8 +166,23 @@ fn stores_begin_with_cells(rt: HostRuntime) -> Result<(), Mismatch> {
     Ok(())
 }
 
+// The value 1 by the transaction 1.
+const ONE_BY_1: [u8; 42] = [
+    1, 1, 0, 0, 0, 0, 0, 0, 0, 1, 0, 0, 0, 0, 0, 0, 0, 0, 0, 0, 0, 0, 0, 0, 0, 1, 0, 0, 0, 0, 0, 0,
+    0, 0, 0, 0, 0, 0, 0, 0, 0, 0,
+];
+
+// Whether a key was found with this cell.
+fn is_cell(told: &Result<Option<Bytes>, StoreFault>, cell: &[u8]) -> bool {
+    match told {
+        Ok(Some(found)) => found.as_slice() == cell,
+        Ok(None) => false,
+        Err(_) => false,
+    }
+}
+
 #[test]
-fn a_store_comes_back(rt: HostRuntime) -> Result<(), Mismatch> {
+fn a_store_comes_back_with_its_cell(rt: HostRuntime) -> Result<(), Mismatch> {
     let alloc = rt.alloc();
     let mut shelf = shelf(alloc, run_of(STEADY, RECORD), CALM)?;
     let mut sink = sink(alloc, CALM)?;
@@ -188,6 +204,8 @@ fn a_store_comes_back(rt: HostRuntime) -> Result<(), Mismatch> {
         &mut fates,
     );
     assert!(rt; status == Status::Done);
-    let _store = stores.make(1, 0)?;
+    let mut store = stores.make(1, 0)?;
+    let told = store.get("[\"a\"]".as_bytes());
+    assert!(rt; is_cell(&told, &ONE_BY_1));
     Ok(())
 }

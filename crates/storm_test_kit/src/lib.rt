@@ -16,6 +16,3 @@ pub use outside::{
 pub use scenes::{
     CHECK, PLAIN, REPLAY, RUN, Scene, owned, plain_of, reads_of, replay_of, run_of, run_over,
 };
-
-#[cfg(test)]
-mod tests;

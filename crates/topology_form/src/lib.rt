@@ -14,6 +14,3 @@ pub use forms::within;
 pub use parts::{
     BodyPart, ComponentPart, FileParts, GroupingPart, Input, Operation, SpoutPart, StatePart,
 };
-
-#[cfg(test)]
-mod tests;

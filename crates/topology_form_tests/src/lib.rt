@@ -3,6 +3,8 @@
 #![tactic(auto)]
 
 #[cfg(test)]
+mod form;
+#[cfg(test)]
 mod members;
 #[cfg(test)]
 mod operations;

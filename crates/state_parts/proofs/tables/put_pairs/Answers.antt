@@ -20,6 +20,6 @@ loop-pair-preserved c =
       ordered = search rules;
       put = λ key.
           put_same (get_by_text c.insert.new.self) (update bytes_eq (get_by_text c.loop-pair.values) c.in-Some.pair.key (Some c.in-Some.pair.value)) (into_iter_items c.next.new.self) key
-          (λ k. rw (to_z-of_z, c.into_string.ensures) at (btree_map_updates_text (string_bytes c.into_string.result) c.loop-pair.values c.insert.new.self _ c.in_ok-insert.ensures.updates k))
+          (λ k. rw (to_z-of_z, c.in_ok-key.ensures) at (btree_map_updates_text (string_bytes c.in_ok-key.key) c.loop-pair.values c.insert.new.self _ c.in_ok-insert.ensures.updates k))
           ∙ (rw head at c.loop-pair.invariant.put) key;
     }

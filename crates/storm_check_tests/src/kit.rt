@@ -1,9 +1,9 @@
 // A check of a call that answers otherwise fails.
-use crate::{
-    CALM, Outside, check_call, check_faults, check_refusal, check_tables, replay_of, run_over,
-};
 use sample_topologies::{COUNTED_SENTENCES, SENTENCES, TABLES_OF_SENTENCES, WORD_COUNT};
 use storm_stores::{CallKind, FailAt};
+use storm_test_kit::{
+    CALM, Outside, check_call, check_faults, check_refusal, check_tables, replay_of, run_over,
+};
 use test_kit::Mismatch;
 
 fn is_told(outcome: Result<(), Mismatch>) -> bool {

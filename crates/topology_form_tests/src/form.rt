@@ -1,7 +1,8 @@
-use super::*;
+// What a file without a fault says, and the first faults of some, read from its JSON value.
 use serde_json::Value as Json;
 use std::alloc::Global;
 use std::test::*;
+use topology_form::parts_from;
 
 const GOOD: &str =
     r#"{"version":1,"spout":{"name":"lines","kind":"opaque","fields":["sentence","b"],"batch":2},
