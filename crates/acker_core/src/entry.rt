@@ -64,6 +64,15 @@ fn message_state(message: &AckMsg) -> AckState
     }
 }
 
+// The list with no room for more, since it is kept as long as the fates.
+fn trimmed(list: Notes) -> Notes
+    ensures { result ≡ list }
+{
+    let mut list = list;
+    list.trim();
+    list
+}
+
 // The path of the first failure.
 fn first_path(list: Notes) -> Option<Path>
     ensures { result ≡ first_failed list }
@@ -111,7 +120,10 @@ impl Entry {
         let Entry { state, list } = self;
         match state.told() {
             Told::Nothing => None,
-            Told::Complete => Some(Verdict::Complete { root, list }),
+            Told::Complete => {
+                let list = trimmed(list);
+                Some(Verdict::Complete { root, list })
+            }
             Told::Fails => match first_path(list) {
                 Some(path) => Some(Verdict::Fails { root, path }),
                 None => None,

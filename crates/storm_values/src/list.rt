@@ -90,6 +90,13 @@ impl<E> Seq<E> {
     {
         &self.items[i]
     }
+
+    /// Gives back the memory behind the items, where the list has room for more.
+    pub fn trim(&mut self)
+        ensures { self.new ≡ self.old }
+    {
+        self.items.shrink_to_fit();
+    }
 }
 
 impl<E: Drop> Seq<E> {

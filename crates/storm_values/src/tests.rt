@@ -24,7 +24,10 @@ fn hashes_and_texts_of_keys(rt: HostRuntime) -> Result<(), Fail> {
         (&[], "[]"),
     ] {
         let mut room = vec![in alloc; b'x']?;
-        assert!(rt; key_text_in(alloc, &mut room, &row, fields)?.as_str() == text, "at {text}");
+        assert!(rt;
+            key_text_in(alloc, &mut room, &row, fields)?.as_str() == text,
+            "at {text}"
+        );
     }
     assert_eq!(rt; key_hash_in(&row, &[0, 1]), key_hash(&row));
     Ok(())
