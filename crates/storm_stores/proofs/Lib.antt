@@ -1,3 +1,3 @@
 pub mod CellMapLemmas
-mod TreeCells
+mod TableCells
 mod SlotLemmas

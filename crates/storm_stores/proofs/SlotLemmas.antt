@@ -8,7 +8,7 @@ use Rattle.std.proofs.lemmas.List.{get_or_default}
 use Rattle.std.proofs.lemmas.Option.{slice_get-get_or, slice_get_past}
 use Rattle.storm_stores.specs.CellMaps.{CellMap, InKeyOrder, with_cell}
 use Rattle.storm_stores.specs.MemoryStore.{StoreState, store_of}
-use Rattle.storm_stores.proofs.TreeCells.{InKeyOrder-none}
+use Rattle.storm_stores.proofs.CellMapLemmas.{InKeyOrder-none}
 use Rattle.storm_stores.specs.MemoryMaker.{ChangesPart, HoldsFor, no_parts, IsOther, SameParts, is_slot, slot_of, store_in, made_in, store_at, made_at}
 use Rattle.storm_stores.specs.declared.memory_maker.Slot.{Slot}
 

@@ -1,23 +1,29 @@
 ghost use Rattle.std.specs.Prelude.{◌≡◌, ◌≤◌, ◌↔◌, ◌⊎◌, ℕ, List, [], length, Option, None, Some, true, false, IfNone, IsSome, IfOk, IsErrOf, OnOk, OnErr, slice_get, option_copied, IfSome, map};
+ghost use Rattle.std.specs.Cmp.Lexicographic.{slice_cmp};
+ghost use Rattle.std.specs.List.{IsDistinct};
+ghost use Rattle.std.specs.List.Sorted.{IsPermutation, IsSorted};
 ghost use Rattle.std.specs.Map.{keys_of};
+ghost use Rattle.std.specs.Ordering.{nat_cmp};
 ghost use Rattle.std.proofs.Common.{sym, ◌∙◌};
 ghost use Rattle.storm_outside.specs.Counts.{Rose, raised};
 ghost use Rattle.storm_stores.specs.CellMaps.{CellMap, InKeyOrder, cell_at, with_cell};
 ghost use Rattle.storm_stores.specs.Calls.{counted, next_fate};
-ghost use Rattle.storm_stores.specs.MemoryStore.{Holds, cells_after, cells_of, failing_of, store_of};
+ghost use Rattle.storm_stores.specs.MemoryStore.{Holds, cells_after, cells_of, failing_of, items_of, same_items, store_of};
 
 use crate::calls::{CallKind, Calls, FailAt, Failing, count_fault};
 use crate::fault::StoreFault;
 use crate::store::CellStore;
+use indexmap::IndexMap;
 use std::alloc::Global;
-use std::collections::BTreeMap;
 use std::marker::Model;
 use storm_values::{Bytes, Memory};
 
-type Cells = BTreeMap<Vec<u8>, Bytes>;
+/// The cells by key, found by hash.
+type Cells = IndexMap<Vec<u8>, Bytes>;
 
-/// Cells in memory. A get and a put take one search. The first `key_at` after a new key goes once
-/// through all keys, and each other one finds its key by its number.
+/// Cells in memory. A get and a put take one look-up by hash, and a put of a new key two. For a cell
+/// of up to 48 bytes they take no memory, but for that of a new key. The first `key_at` after a new
+/// key sorts all keys, and each other one finds its key by its number.
 #[derive(Debug, Drop)]
 pub struct MemStore {
     cells: Cells,
@@ -61,7 +67,7 @@ fn find_cell(cells: &Cells, key: &[u8]) -> Result<Option<Bytes>, Memory>
     }
 }
 
-/// Gives a key a cell, and tells whether the key is new.
+/// Gives a key a cell, and tells whether the key is new. A new key is copied.
 fn put_cell(alloc: Global, cells: &mut Cells, key: &[u8], cell: &[u8]) -> Result<bool, Memory>
     ensures ok { OnOk result
         (cells_of cells.new.entries ≡ with_cell (cells_of cells.old.entries) key.now cell.now) }
@@ -72,20 +78,53 @@ fn put_cell(alloc: Global, cells: &mut Cells, key: &[u8], cell: &[u8]) -> Result
     ensures ordered_before { OnOk result (InKeyOrder (cells_of cells.old.entries)) }
     ensures err { OnErr result (cells_of cells.new.entries ≡ cells_of cells.old.entries) }
 {
-    let value = Bytes::from_vec(cell.to_vec(alloc)?);
-    let old = cells.insert(key.to_vec(alloc)?, value)?;
-    Ok(old.is_none())
+    let cell = Bytes::from_slice(alloc, cell)?;
+    match cells.get_mut(key) {
+        Some(old) => {
+            *old = cell;
+            Ok(false)
+        }
+        None => {
+            cells.insert(key.to_vec(alloc)?, cell)?;
+            Ok(true)
+        }
+    }
+}
+
+/// The number of keys.
+fn count_cells(cells: &Cells) -> u64
+    ensures { result ≡ length (cells_of cells.now.entries) }
+{
+    cells.len() as u64
 }
 
 /// The keys, in order.
 fn sorted_keys(alloc: Global, cells: &Cells) -> Result<Vec<Bytes>, Memory>
     ensures { IfOk result (λ keys. keys.items ≡ keys_of (cells_of cells.now.entries)) }
 {
+    let mut keys = copy_keys(alloc, cells)?;
+    sort_keys(&mut keys);
+    Ok(keys)
+}
+
+/// The keys, in the order in which they came.
+fn copy_keys(alloc: Global, cells: &Cells) -> Result<Vec<Bytes>, Memory>
+    ensures keys { IfOk result (λ keys. keys.items ≡ items_of cells.now.entries) }
+    ensures distinct { IsDistinct same_items (keys_of cells.now.entries) }
+{
     let mut keys = Vec::with_capacity(alloc, cells.len())?;
     for key in cells.keys() {
-        keys.push(Bytes::from_vec(key.as_slice().to_vec(alloc)?))?;
+        keys.push(Bytes::from_slice(alloc, key)?)?;
     }
     Ok(keys)
+}
+
+/// Puts keys in the order of their bytes.
+fn sort_keys(keys: &mut Vec<Bytes>)
+    ensures same { IsPermutation keys.old.items keys.new.items }
+    ensures sorted { IsSorted (slice_cmp nat_cmp) keys.new.items }
+{
+    keys.sort_unstable_by(|a, b| a.as_slice().cmp(&b.as_slice()));
 }
 
 impl MemStore {
@@ -95,7 +134,7 @@ impl MemStore {
         ensures told { ⟦<MemStore as CellStore>⟧.tells result [] }
     {
         MemStore {
-            cells: BTreeMap::new(alloc),
+            cells: IndexMap::new(alloc),
             order: None,
             gets: Calls::new(alloc),
             puts: Calls::new(alloc),
@@ -266,7 +305,7 @@ impl CellStore for MemStore {
         if self.counts.next().is_some() {
             return Err(count_fault(&mut self.faults));
         }
-        Ok(self.cells.len() as u64)
+        Ok(count_cells(&self.cells))
     }
 
     fn key_at(&mut self, i: u64) -> Result<Option<Bytes>, StoreFault>

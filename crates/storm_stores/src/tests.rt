@@ -4,7 +4,7 @@ use std::test::Fail;
 use storm_values::{Bytes, Memory};
 
 fn bytes(alloc: Global, text: &[u8]) -> Result<Bytes, Memory> {
-    Ok(Bytes::from_vec(text.to_vec(alloc)?))
+    Bytes::from_slice(alloc, text)
 }
 
 // A store with two keys, of which the first is no UTF-8.
@@ -29,6 +29,42 @@ fn keys_stand_in_the_order_of_bytes(rt: HostRuntime) -> Result<(), Fail> {
         }
     }
     assert!(rt; store.key_at(3)?.is_none());
+    Ok(())
+}
+
+// Whether a key has this number.
+fn has_key(store: &mut MemStore, i: u64, want: &[u8]) -> Result<bool, StoreFault> {
+    match store.key_at(i)? {
+        Some(found) => Ok(found.as_slice() == want),
+        None => Ok(false),
+    }
+}
+
+#[test]
+fn a_new_key_comes_to_its_place(rt: HostRuntime) -> Result<(), Fail> {
+    let mut store = store(rt.alloc())?;
+    assert!(rt; has_key(&mut store, 0, b"b")?);
+    store.put(b"a", b"1")?;
+    assert!(rt; has_key(&mut store, 0, b"a")?);
+    assert!(rt; has_key(&mut store, 1, b"b")?);
+    Ok(())
+}
+
+// The first of the two cells does not lie in place.
+#[test]
+fn a_key_has_its_last_cell(rt: HostRuntime) -> Result<(), Fail> {
+    let mut store = store(rt.alloc())?;
+    store.put(b"b", &[7; 49])?;
+    match store.get(b"b")? {
+        Some(cell) => assert_eq!(rt; cell.as_slice(), [7; 49].as_slice()),
+        None => assert!(rt; false),
+    }
+    store.put(b"b", b"4")?;
+    match store.get(b"b")? {
+        Some(cell) => assert_eq!(rt; cell.as_slice(), b"4".as_slice()),
+        None => assert!(rt; false),
+    }
+    assert_eq!(rt; store.count()?, 2);
     Ok(())
 }
 

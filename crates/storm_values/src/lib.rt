@@ -1,6 +1,7 @@
 //! Values, rows and the lists of a storm topology.
 #![tactic(auto)]
 
+mod bytes;
 mod keys;
 mod limits;
 mod lines;
@@ -11,6 +12,7 @@ mod tests;
 mod text;
 mod value;
 
+pub use bytes::Bytes;
 pub use keys::{key_hash, key_hash_in, key_text, key_text_in};
 pub use limits::{
     LEAST_BUCKETS, MOST_ACKERS, MOST_ATTEMPTS, MOST_BATCH, MOST_BELOW, MOST_BOLT_INPUTS,
@@ -22,7 +24,7 @@ pub use limits::{
 pub use lines::{
     InputFault, LineFault, one_byte_past_the_limit_suffices, read_input, row_from_line,
 };
-pub use list::{Bytes, Duplicate, Indexes, Memory, Seq};
+pub use list::{Duplicate, Indexes, Memory, Seq};
 pub use path::{Path, path_order_is_total};
 pub use text::Txt;
 pub use value::{Names, Root, Row, Rows, Value, value_order_is_total};

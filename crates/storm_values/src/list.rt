@@ -30,9 +30,6 @@ pub struct Seq<E> {
     items: Vec<E>,
 }
 
-/// Bytes.
-pub type Bytes = Seq<u8>;
-
 /// A list of field or component numbers.
 pub type Indexes = Seq<u32>;
 

@@ -125,7 +125,7 @@ fn copied_list<E: Duplicate>(alloc: Global, item: E) -> Result<Seq<E>, Memory>
 #[test]
 fn lists_keep_their_items(rt: HostRuntime) -> Result<(), Fail> {
     let alloc = rt.alloc();
-    let bytes: Bytes = copied_list(alloc, 7)?;
+    let bytes: Seq<u8> = copied_list(alloc, 7)?;
     let indexes: Indexes = copied_list(alloc, 7)?;
     assert_eq!(rt; (*bytes.at(0), *indexes.at(0)), (7, 7));
     let names: Names = copied_list(alloc, Txt::from_str(alloc, "é")?)?;
@@ -133,5 +133,17 @@ fn lists_keep_their_items(rt: HostRuntime) -> Result<(), Fail> {
     let row: Row = copied_list(alloc, Value::Int(7))?;
     let rows: Rows = copied_list(alloc, row)?;
     assert_eq!(rt; rows.at(0).len(), 1);
+    Ok(())
+}
+
+// Of these bytes 48 lie in place, and the last one moves them out.
+#[test]
+fn bytes_are_copied(rt: HostRuntime) -> Result<(), Fail> {
+    let alloc = rt.alloc();
+    let mut bytes = Bytes::from_slice(alloc, &[7; 48])?;
+    assert_eq!(rt; bytes.copy()?.as_slice(), [7; 48].as_slice());
+    bytes.push(8)?;
+    let copy = bytes.copy()?;
+    assert_eq!(rt; (copy.len(), *copy.at(47), *copy.at(48)), (49, 7, 8));
     Ok(())
 }

@@ -1,4 +1,4 @@
-use Rattle.storm_stores.proofs.TreeCells.{cell_at-cells_of}
+use Rattle.storm_stores.proofs.TableCells.{cell_at-cells_of}
 use Rattle.storm_stores.proofs.memory_store.find_cell.Goals as goal
 
 pub returns-in_ok-copy-in-Some : goal.returns-in_ok-copy-in-Some

@@ -1,20 +1,39 @@
-use Rattle.std.proofs.Common.{◌≡◌, rules, refl}
-use Rattle.storm_stores.proofs.TreeCells.{cells_of-insert, keys_of-cells_of, InKeyOrder-cells_of, some_if_not_none}
+use Rattle.std.proofs.Common.{◌≡◌, Some, IsSome, is_some, rules, sym, ap, ◌∙◌}
+use Rattle.std.specs.Map.{lookup}
+use Rattle.std.specs.Option.{option_copied_mut}
+use Rattle.storm_stores.specs.CellMaps.{with_cell}
+use Rattle.storm_stores.specs.MemoryStore.{cells_of}
+use Rattle.storm_stores.proofs.TableCells.{cells_of-insert, cells_of-set, is_key, keys_of-cells_of, InKeyOrder-cells_of}
 use Rattle.storm_stores.proofs.memory_store.put_cell.Goals as goal
 
-pub returns-clause-ok : goal.returns-clause-ok
-returns-clause-ok c =
-    let key : c.in_ok-to_vec-2.field-0.items ≡ c.args.key.now = search rules in
-    let cell : c.from_vec-value.result ≡ c.args.cell.now = search rules in
-    rw (c.in_ok-old.ensures.entries, cells_of-insert c.args.cells.now.entries c.in_ok-to_vec-2.field-0 c.from_vec-value.result, key, cell) refl
+-- the key is there, and the cell is written through what was found
+pub returns-in-Some-clause-ok : goal.returns-in-Some-clause-ok
+returns-in-Some-clause-ok c =
+    let found : lookup (is_key c.args.key.now) c.args.cells.now.entries ≡ Some c.in-Some.old.now = sym c.get_mut.ensures.value ∙ ap option_copied_mut c.in-Some.is in
+    let there : IsSome (lookup (is_key c.args.key.now) c.args.cells.now.entries) = ap is_some found in
+    let through = c.get_mut.follows.holds c.in_ok-cell.cell in
+    ap cells_of through.0 ∙ cells_of-set c.args.cells.now.entries c.args.key.now c.in_ok-cell.cell there ∙ ap (with_cell (cells_of c.args.cells.now.entries) c.args.key.now) c.in_ok-cell.ensures
 
-pub returns-clause-known : goal.returns-clause-known
-returns-clause-known c = λ known.
-    let there = some_if_not_none c.in_ok-old.old c.is_none.result (search rules) known in
-    rw (keys_of-cells_of c.insert.new.self.entries, keys_of-cells_of c.args.cells.now.entries, c.in_ok-old.ensures.keys_stay there) refl
+pub returns-in-Some-clause-known : goal.returns-in-Some-clause-known
+returns-in-Some-clause-known c = λ known. keys_of-cells_of c.args.cells.now.entries (c.get_mut.follows.lender c.in_ok-cell.cell).entries (c.get_mut.follows.holds c.in_ok-cell.cell).1
 
-pub returns-clause-ordered : goal.returns-clause-ordered
-returns-clause-ordered c = InKeyOrder-cells_of c.insert.new.self.entries c.in_ok-old.ensures.ordered
+pub returns-in-Some-clause-ordered : goal.returns-in-Some-clause-ordered
+returns-in-Some-clause-ordered c = InKeyOrder-cells_of (c.get_mut.follows.lender c.in_ok-cell.cell).entries
 
-pub returns-clause-ordered_before : goal.returns-clause-ordered_before
-returns-clause-ordered_before c = InKeyOrder-cells_of c.args.cells.now.entries c.in_ok-old.ensures.was_ordered
+pub returns-in-Some-clause-ordered_before : goal.returns-in-Some-clause-ordered_before
+returns-in-Some-clause-ordered_before c = InKeyOrder-cells_of c.args.cells.now.entries
+
+-- the key is new
+pub returns-in_ok-insert-in-None-clause-ok : goal.returns-in_ok-insert-in-None-clause-ok
+returns-in_ok-insert-in-None-clause-ok c =
+    let stays : c.get_mut.follows.lender-at-none ≡ c.args.cells.now = c.get_mut.follows.holds-at-none in
+    let key : c.in_ok-to_vec-in-None.field-0.items ≡ c.args.key.now = search rules in
+    ap cells_of c.in_ok-insert-in-None.ensures.entries
+    ∙ cells_of-insert c.get_mut.follows.lender-at-none.entries c.in_ok-to_vec-in-None.field-0 c.in_ok-cell.cell
+    ∙ (λ i. with_cell (cells_of (stays i).entries) (key i) (c.in_ok-cell.ensures i))
+
+pub returns-in_ok-insert-in-None-clause-ordered : goal.returns-in_ok-insert-in-None-clause-ordered
+returns-in_ok-insert-in-None-clause-ordered c = InKeyOrder-cells_of c.insert.new.self.entries
+
+pub returns-in_ok-insert-in-None-clause-ordered_before : goal.returns-in_ok-insert-in-None-clause-ordered_before
+returns-in_ok-insert-in-None-clause-ordered_before c = InKeyOrder-cells_of c.args.cells.now.entries

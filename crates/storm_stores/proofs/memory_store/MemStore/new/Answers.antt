@@ -1,5 +1,5 @@
 use Rattle.std.proofs.Common.{refl}
-use Rattle.storm_stores.proofs.TreeCells.{InKeyOrder-none}
+use Rattle.storm_stores.proofs.CellMapLemmas.{InKeyOrder-none}
 use Rattle.storm_stores.proofs.memory_store.MemStore.new.Goals as goal
 
 pub returns-clause-told : goal.returns-clause-told
