@@ -1,4 +1,5 @@
 pub mod Stack
+pub mod Twos
 pub mod StateLemmas
 pub mod TellLemmas
 pub mod StepLemmas

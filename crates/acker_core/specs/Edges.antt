@@ -16,6 +16,10 @@ abbrev pub AreInOrder : List Edge → Type 0
 AreInOrder [] = Unit {0}
 AreInOrder (x ∷ xs) = AllByRecursion (λ y. is_gt (edge_cmp x y) ≡ false) xs × AreInOrder xs
 
+-- each edge occurs an even number of times
+abbrev pub AreEven : List Edge → Type 0
+AreEven edges = (e : Edge) → times e edges % 2 ≡ 0
+
 -- ---- the steps of the pass over edges in order
 
 abbrev pub top_is : Option Edge → Edge → Bool

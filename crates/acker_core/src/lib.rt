@@ -5,6 +5,7 @@ mod acker;
 mod check;
 mod entry;
 mod laws;
+mod pairs;
 #[cfg(test)]
 mod tests;
 mod verdict;

@@ -146,3 +146,15 @@ fn open_edges_are_left_in_order(rt: HostRuntime) -> Result<(), Fail> {
     assert!(rt; matches!(check_list(alloc, &list)?, Check::Closed));
     Ok(())
 }
+
+#[test]
+fn edges_of_one_id_are_told_apart(rt: HostRuntime) -> Result<(), Fail> {
+    let alloc = rt.alloc();
+    let mut list = Notes::new(alloc);
+    list.push(init(alloc, &[(0, 5), (1, 5)])?)?;
+    let left = left_of(alloc, &check_list(alloc, &list)?)?;
+    assert_eq!(rt; left.as_slice(), [(0, 5), (1, 5)].as_slice());
+    list.push(done(alloc, (1, 5), &[(0, 5)])?)?;
+    assert!(rt; matches!(check_list(alloc, &list)?, Check::Closed));
+    Ok(())
+}

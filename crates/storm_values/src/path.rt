@@ -93,11 +93,16 @@ impl Path {
     }
 
     /// Which of the two stands first: a path before those that it begins, and else by the
-    /// first numbers that differ.
+    /// first numbers that differ. It looks at their first numbers before all others.
     pub fn compare(&self, other: &Path) -> Ordering
         ensures { result ≡ path_cmp self.now other.now }
     {
-        self.numbers.as_slice().cmp(&other.numbers.as_slice())
+        let mine = self.numbers.as_slice();
+        let others = other.numbers.as_slice();
+        match (mine.first(), others.first()) {
+            (Some(a), Some(b)) if a != b => a.cmp(b),
+            _ => mine.cmp(&others),
+        }
     }
 }
 
