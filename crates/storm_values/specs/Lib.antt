@@ -2,6 +2,7 @@ pub mod Json
 pub mod Limits
 pub mod Lines
 pub mod Faults
+pub mod Fews
 pub mod Keys
 pub mod Order
 pub mod Rows

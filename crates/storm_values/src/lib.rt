@@ -2,6 +2,7 @@
 #![tactic(auto)]
 
 mod bytes;
+mod few;
 mod keys;
 mod limits;
 mod lines;
@@ -13,6 +14,7 @@ mod text;
 mod value;
 
 pub use bytes::Bytes;
+pub use few::Few;
 pub use keys::{key_hash, key_hash_in, key_text, key_text_in};
 pub use limits::{
     LEAST_BUCKETS, MOST_ACKERS, MOST_ATTEMPTS, MOST_BATCH, MOST_BELOW, MOST_BOLT_INPUTS,

@@ -137,7 +137,7 @@ fn row_from_items(alloc: Global, items: Vec<Json>) -> Result<Row, LineFault>
     ensures fault { IfErr result (λ fault. fault ≢ LineFault.Memory
         → bad_item (Some (items_view items.items)) ≡ Some fault) }
 {
-    let mut row = Seq::from_vec(Vec::with_capacity(alloc, items.len())?);
+    let mut row = Row::with_capacity(alloc, items.len())?;
     for item in items {
         let Some(value) = value_from_item(item) else {
             return Err(LineFault::BadItem(row.len()));

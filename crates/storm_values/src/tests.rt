@@ -1,9 +1,9 @@
 ghost use Rattle.std.specs.Prelude.{◌≡◌, [], ◌∷◌, IfOk};
 
 use crate::{
-    Bytes, Duplicate, Indexes, InputFault, LineFault, MOST_INPUT_BYTES, MOST_LINES, Memory, Names,
-    Path, Row, Rows, Seq, Txt, Value, key_hash, key_hash_in, key_text, key_text_in, read_input,
-    row_from_line,
+    Bytes, Duplicate, Few, Indexes, InputFault, LineFault, MOST_INPUT_BYTES, MOST_LINES, Memory,
+    Names, Path, Row, Rows, Seq, Txt, Value, key_hash, key_hash_in, key_text, key_text_in,
+    read_input, row_from_line,
 };
 use std::alloc::Global;
 use std::cmp::Ordering;
@@ -130,9 +130,24 @@ fn lists_keep_their_items(rt: HostRuntime) -> Result<(), Fail> {
     assert_eq!(rt; (*bytes.at(0), *indexes.at(0)), (7, 7));
     let names: Names = copied_list(alloc, Txt::from_str(alloc, "é")?)?;
     assert_eq!(rt; names.at(0).len(), 2);
-    let row: Row = copied_list(alloc, Value::Int(7))?;
-    let rows: Rows = copied_list(alloc, row)?;
+    let rows: Rows = copied_list(alloc, Row::one(alloc, Value::Int(7)))?;
     assert_eq!(rt; rows.at(0).len(), 1);
+    Ok(())
+}
+
+#[test]
+fn short_lists_keep_their_items(rt: HostRuntime) -> Result<(), Fail> {
+    let alloc = rt.alloc();
+    for room in [0, 1, 2] {
+        let mut list = Few::with_capacity(alloc, room)?;
+        for item in 0..4 {
+            assert_eq!(rt; (list.is_empty(), list.len()), (item == 0, item as usize));
+            assert_eq!(rt; list.copy()?.len(), list.len());
+            list.push(item)?;
+            assert_eq!(rt; (*list.at(0), *list.at(item as usize)), (0, item));
+        }
+        assert_eq!(rt; list.into_vec()?.as_slice(), [0, 1, 2, 3].as_slice());
+    }
     Ok(())
 }
 

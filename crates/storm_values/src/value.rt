@@ -2,6 +2,7 @@ ghost use Rattle.std.specs.Prelude.{◌≡◌};
 ghost use Rattle.std.specs.Cmp.{IsTotalOrder};
 ghost use Rattle.storm_values.specs.Order.{value_cmp};
 
+use crate::few::Few;
 use crate::list::{Duplicate, Memory, Seq};
 use crate::text::Txt;
 use std::cmp::Ordering;
@@ -33,7 +34,7 @@ pub fn value_order_is_total()
 {}
 
 /// The values of a record or a tuple.
-pub type Row = Seq<Value>;
+pub type Row = Few<Value>;
 
 pub type Rows = Seq<Row>;
 
