@@ -61,7 +61,7 @@ pub fn output_rows<O: RowOp>(alloc: Global, op: &Op, row: &Row, custom: &O) -> R
                 Ok(Rows::new(alloc))
             }
         }
-        Op::Set { field, value } => one_row(alloc, with_field(*field, value, row)?),
+        Op::Set { field, value } => one_row(alloc, with_field(alloc, *field, value, row)?),
         Op::Len { field } => one_row(alloc, with_len(*field, row)?),
         Op::Route { .. } | Op::Flaky { .. } | Op::Mute { .. } => one_row(alloc, row.copy()?),
         Op::Custom => custom.rows(alloc, row),
@@ -99,8 +99,7 @@ fn word_rows(alloc: Global, text: &str) -> Result<Rows, Memory>
     let mut rows = Rows::from_vec(Vec::with_capacity(alloc, WORD_ROOM)?);
     for word in text.split(' ') {
         if !word.is_empty() {
-            let mut row = Row::from_vec(Vec::with_capacity(alloc, 1)?);
-            row.push(Value::Text(Txt::from_str(alloc, word)?))?;
+            let row = Row::one(alloc, Value::Text(Txt::from_str(alloc, word)?));
             rows.push(row)?;
         }
     }
@@ -128,14 +127,14 @@ fn is_kept(field: u32, test: Test, value: &Value, row: &Row) -> bool
     }
 }
 
-fn with_field(field: u32, value: &Value, row: &Row) -> Result<Row, Memory>
+fn with_field(alloc: Global, field: u32, value: &Value, row: &Row) -> Result<Row, Memory>
     ensures { IfOk result (λ made. made ≡ slice_set row.now field value.now) }
 {
-    let mut values = row.copy()?.into_vec();
+    let mut values = row.copy()?.into_vec()?;
     if let Some(place) = values.get_mut(field as usize) {
         *place = value.copy()?;
     }
-    Ok(Row::from_vec(values))
+    Ok(Row::from_vec(alloc, values))
 }
 
 fn with_len(field: u32, row: &Row) -> Result<Row, Memory>
