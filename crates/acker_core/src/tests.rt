@@ -1,8 +1,8 @@
 use crate::{Acker, Check, Verdict, check_list};
 use std::alloc::Global;
 use std::test::Fail;
-use storm_values::{Memory, Path, Root};
-use tree_model::{AckMsg, Done, Draw, FailNote, Init, Notes, Writes};
+use storm_values::{Few, Memory, Path, Root};
+use tree_model::{AckMsg, Done, Draw, FailNote, Init, Notes};
 use tuple_tickets::{Edge, Edges};
 
 const ROOT: Root = Root {
@@ -45,7 +45,7 @@ fn done(alloc: Global, consumed: (u32, u64), produced: &[(u32, u64)]) -> Result<
         },
         produced: edges_of(alloc, produced)?,
         draw: DRAW,
-        writes: Writes::new(alloc),
+        writes: Few::new(alloc),
     }))
 }
 

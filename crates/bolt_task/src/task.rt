@@ -14,9 +14,9 @@ use bolt_ops::{Outcome, RowOp, exec};
 use output_collector::{Collector, Emitted};
 use std::alloc::Global;
 use storm_ids::Ids;
-use storm_values::{Memory, Root, Rows};
+use storm_values::{Few, Memory, Root, Rows};
 use topology_plan::{Body, Origin, Plan};
-use tree_model::{AckMsg, Done, FailNote, Parcel, Parcels, Tuple, Writes, write_at};
+use tree_model::{AckMsg, Done, FailNote, Parcel, Parcels, Tuple, Write, write_at};
 
 /// One task of a bolt, or one part of a state.
 #[derive(Drop)]
@@ -136,7 +136,7 @@ impl<'p, I: Ids> BoltTask<'p, I> {
     }
 
     /// The write of a tuple, which a state alone makes.
-    fn writes(&mut self, tuple: &Tuple) -> Result<Writes, Memory>
+    fn writes(&mut self, tuple: &Tuple) -> Result<Few<Write>, Memory>
         requires { IsFor self.old tuple.now }
         ensures writes { IfOk result (λ writes.
             writes ≡ option_to_list (write_of self.old.plan.now (node_of tuple.now))) }
@@ -145,7 +145,7 @@ impl<'p, I: Ids> BoltTask<'p, I> {
     {
         let component = self.plan.component(self.component);
         let Body::State(spec) = &component.body else {
-            return Ok(Writes::new(self.alloc));
+            return Ok(Few::new(self.alloc));
         };
         let write = write_at(
             self.alloc,
@@ -155,9 +155,7 @@ impl<'p, I: Ids> BoltTask<'p, I> {
             spec,
             &tuple.row,
         )?;
-        let mut writes = Writes::from_vec(Vec::with_capacity(self.alloc, 1)?);
-        writes.push(write)?;
-        Ok(writes)
+        Ok(Few::one(self.alloc, write))
     }
 
     /// The acker of a root.

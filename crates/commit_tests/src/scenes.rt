@@ -8,11 +8,11 @@ use commit_order::{Attempt, Coordinator, End, Fates, Orders, Stop};
 use state_parts::CommitOutcome;
 use std::alloc::Global;
 use storm_ids::{IdMaker, ScriptIds, ScriptSource};
-use storm_values::{Path, Root, Rows, Seq, row_from_line};
+use storm_values::{Few, Path, Root, Rows, Seq, row_from_line};
 use test_kit::Mismatch;
 use topology_plan::Plan;
 use topology_reader::read_topology;
-use tree_model::{AckMsg, Done, Draw, Init, Notes, Parcel, Parcels, Writes};
+use tree_model::{AckMsg, Done, Draw, Init, Notes, Parcel, Parcels};
 use trident_batches::Batches;
 use tuple_tickets::{Edge, Edges};
 
@@ -123,7 +123,7 @@ fn done_of(alloc: Global, root: Root) -> Result<AckMsg, Mismatch> {
         consumed: edge_of(alloc)?,
         produced: Edges::new(alloc),
         draw: DRAW,
-        writes: Writes::new(alloc),
+        writes: Few::new(alloc),
     }))
 }
 

@@ -1,8 +1,8 @@
 // Messages and parcels are copied with what they hold.
 use std::alloc::Global;
 use std::test::Fail;
-use storm_values::{Duplicate, Memory, Path, Root, Row};
-use tree_model::{AckMsg, Done, Draw, Edge, Edges, FailNote, Init, Parcel, Tuple, Writes};
+use storm_values::{Duplicate, Few, Memory, Path, Root, Row};
+use tree_model::{AckMsg, Done, Draw, Edge, Edges, FailNote, Init, Parcel, Tuple};
 
 const ROOT: Root = Root {
     txid: 3,
@@ -45,7 +45,7 @@ fn messages_are_copied(rt: HostRuntime) -> Result<(), Fail> {
         consumed: edge(alloc, 5)?,
         produced: edges(alloc)?,
         draw: DRAW,
-        writes: Writes::new(alloc),
+        writes: Few::new(alloc),
     };
     let done = done.copy()?;
     assert_eq!(rt; done.draw.first, 4);

@@ -1,5 +1,5 @@
-use crate::write::Writes;
-use storm_values::{Duplicate, Memory, Path, Root, Row, Seq};
+use crate::write::Write;
+use storm_values::{Duplicate, Few, Memory, Path, Root, Row, Seq};
 use tuple_tickets::{Edge, Edges};
 
 /// A tuple on its way to a component.
@@ -36,7 +36,7 @@ pub struct Done {
     pub consumed: Edge,
     pub produced: Edges,
     pub draw: Draw,
-    pub writes: Writes,
+    pub writes: Few<Write>,
 }
 
 /// The tuple at a path failed.
