@@ -7,9 +7,9 @@ use storm_values::Memory;
 use tree_model::{AckMsg, Notes};
 use tuple_tickets::{Edge, Edges};
 
-/// Whether the edges that occur in a list, put in the order of their ids, are equal two by two.
-/// They are where each occurs twice and no two have one id, so a closed list is mostly told from
-/// others with no edge copied, in time in proportion to n log n for n edges.
+/// Whether the edges that occur in a list, put in the order of their ids, are equal two by two. So
+/// they are in each closed list in which unlike edges have unlike ids. No edge is copied, and it
+/// takes time in proportion to n log n for n edges.
 pub fn are_in_pairs(alloc: Global, list: &Notes) -> Result<bool, Memory>
     ensures { IfOk result (λ paired. IsTrue paired → IsClosed list.now) }
 {
@@ -19,8 +19,8 @@ pub fn are_in_pairs(alloc: Global, list: &Notes) -> Result<bool, Memory>
     Ok(paired)
 }
 
-// The edges of a list, each beside its id. A list with one init that is closed has two for each of
-// its dones.
+// The edges of a list, each beside its id. A closed list of a tree has two for each of its dones,
+// so there is room for them at once.
 fn marks_of<'l>(alloc: Global, list: &'l Notes) -> Result<Vec<(u64, &'l Edge)>, Memory>
     ensures { IfOk result (λ marks. map (λ m. m.1.now) marks.items ≡ occurrences list.now) }
 {
@@ -78,7 +78,7 @@ fn are_equal_by_twos(marks: &[(u64, &Edge)]) -> bool
     true
 }
 
-// The ids are compared first, as they mostly differ where the edges do.
+// The ids are compared first, since they differ wherever edges differ, but for coincidences.
 fn are_same(a: &Edge, b: &Edge) -> bool
     ensures { IsTrue result → a.now ≡ b.now }
 {

@@ -8,6 +8,6 @@ pub returns : goal.returns
 returns c =
     λ paired.
     let sorted : AreEven (map edge_at c.sort_marks.new.marks.items) =
-        subst (λ (ms : List (ℕ × Bor Edge)). AreEven (map edge_at ms)) c.deref.ensures.value (c.are_equal_by_twos-paired.ensures paired) in
+    subst (λ (ms : List (ℕ × Bor Edge)). AreEven (map edge_at ms)) c.deref.ensures.value (c.are_equal_by_twos-paired.ensures paired) in
     subst AreEven c.in_ok-marks.ensures
     (even-permuted (map edge_at c.in_ok-marks.marks.items) (map edge_at c.sort_marks.new.marks.items) c.sort_marks.ensures sorted)
