@@ -1,51 +1,78 @@
 -- The jobs of the keys that are written.
-use Rattle.std.proofs.Common.{◌≡◌, ℕ, ℤ, Vec, Bool, true, false, cond, List, [], ◌∷◌, map, None, Some, find, option_map, String, refl, sym, ap, subst, ◌∙◌, nat_cmp}
-use Rattle.std.specs.BTreeMap.{is_at}
-use Rattle.std.specs.Cmp.Lexicographic.{slice_cmp}
-use Rattle.std.specs.List.{AllByRecursion}
-use Rattle.std.specs.List.Sorted.{IsStrictlySortedBy}
+use Rattle.std.proofs.Common.{◌≡◌, ℕ, ℤ, Bool, true, false, cond, List, [], ◌∷◌, ◌++◌, map, filter, Option, None, Some, find, option_map, append-nil, refl, sym, ap, ◌∙◌}
+use Rattle.std.specs.Borrow.{Bor}
+use Rattle.std.specs.List.{AllByRecursion, IsDistinct}
 use Rattle.std.specs.Map.{lookup, keys_of}
-use Rattle.std.specs.Ordering.{is_eq}
-use Rattle.std.specs.declared.cmp.Ordering.TheVariants.{Less}
-use Rattle.std.specs.declared.alloc.Global.{Global}
-use Rattle.std.specs.Str.{IsUtf8, bytes_eq}
-use Rattle.std.proofs.lemmas.Str.{IsUtf8-string_bytes}
-use Rattle.storm_stores.proofs.CellMapLemmas.{bytes_eq-other}
-use Rattle.std.specs.String.{string_bytes, string_cmp}
-use Rattle.std.proofs.lemmas.Map.Text.{is_eq-slice_cmp}
-use Rattle.state_cells.specs.Groups.{job_of}
-use Rattle.state_cells.specs.Turns.{AreApart, job_at}
-use Rattle.state_cells.specs.declared.group.Job.{Job}
+use Rattle.std.specs.Option.{UnwrapsOrElse, option_map_or}
+use Rattle.std.specs.Str.{bytes_eq}
+use Rattle.std.specs.Cmp.Lexicographic.{nat_list_eq_equiv}
+use Rattle.std.proofs.lemmas.Map.Text.{hash_map_updates_str}
+use Rattle.std.proofs.lemmas.Slice.Eq.{bytes_eq-Decides}
+use Rattle.indexmap.specs.IndexMap.{IndexMap, UpdatesBy}
+use Rattle.smallvec.specs.SmallVec.{SmallVec}
+use Rattle.tree_model.specs.declared.write.Write.{Write}
+use Rattle.cell_format.specs.Commits.{amounts_at}
+use Rattle.storm_stores.proofs.CellMapLemmas.{bytes_eq-same}
+use Rattle.state_cells.specs.Groups.{Group, amounts_in, group_of, job_of}
+use Rattle.state_cells.specs.Turns.{AreApart, Job, job_at}
 
-abbrev Entry : Type 0
-Entry = String Global × Vec ℤ Global
+abbrev is_key : List ℕ → Bor (List ℕ) → Bool
+is_key key = λ (k : Bor (List ℕ)). bytes_eq key k.now
 
-pub job_at-jobs : (entries : List Entry) (key : List ℕ)
-    → job_at (map job_of entries) key ≡ option_map (λ (amounts : Vec ℤ Global). amounts.items) (lookup (is_at (λ (k : String Global). slice_cmp nat_cmp key (string_bytes k))) entries)
+pub job_at-jobs : (groups : List Group) (key : List ℕ) → job_at (map job_of groups) key ≡ option_map (λ (amounts : SmallVec ℤ). amounts.items) (lookup (is_key key) groups)
 job_at-jobs [] key = refl
-job_at-jobs (e ∷ es) key = rw (← is_eq-slice_cmp key (string_bytes e.0)) (cases (is_eq (slice_cmp nat_cmp key (string_bytes e.0))) (job_at-jobs es key))
+job_at-jobs (e ∷ es) key = cases (bytes_eq key e.0.now) (job_at-jobs es key)
   where
-    cases : (b : Bool) → job_at (map job_of es) key ≡ option_map (λ (amounts : Vec ℤ Global). amounts.items) (lookup (is_at (λ (k : String Global). slice_cmp nat_cmp key (string_bytes k))) es)
-        → option_map (λ (x : Job). x.amounts.items) (cond b (Some (job_of e)) (find (λ (x : Job). bytes_eq key x.key) (map job_of es)))
-        ≡ option_map (λ (amounts : Vec ℤ Global). amounts.items) (cond b (Some e.1) (lookup (is_at (λ (k : String Global). slice_cmp nat_cmp key (string_bytes k))) es))
+    cases : (b : Bool) → job_at (map job_of es) key ≡ option_map (λ (amounts : SmallVec ℤ). amounts.items) (lookup (is_key key) es)
+        → option_map (λ (x : Job). x.amounts) (cond b (Some (job_of e)) (find (λ (x : Job). bytes_eq key x.key) (map job_of es)))
+        ≡ option_map (λ (amounts : SmallVec ℤ). amounts.items) (cond b (Some e.1) (lookup (is_key key) es))
     cases true later = refl
     cases false later = later
 
-none_below : (key : String Global) (entries : List Entry) → AllByRecursion (λ (y : String Global). string_cmp key y ≡ Less) (keys_of entries) → job_at (map job_of entries) (string_bytes key) ≡ None
-none_below key [] below = refl
-none_below key (e ∷ es) below =
-    let apart : bytes_eq (string_bytes key) (string_bytes e.0) ≡ false = sym (is_eq-slice_cmp (string_bytes key) (string_bytes e.0)) ∙ ap is_eq below.0 in
-    rw apart (none_below key es below.1)
+none_later : (key : Bor (List ℕ)) (groups : List Group) → AllByRecursion (λ (k : Bor (List ℕ)). bytes_eq key.now k.now ≡ false) (keys_of groups) → job_at (map job_of groups) key.now ≡ None
+none_later key [] apart = refl
+none_later key (e ∷ es) apart = rw (apart.0) (none_later key es apart.1)
 
-pub jobs_apart : (entries : List Entry) → IsStrictlySortedBy string_cmp (keys_of entries) → AreApart (map job_of entries)
-unfolding IsStrictlySortedBy
-jobs_apart [] sorted = tt
-jobs_apart (e ∷ es) sorted = (none_below e.0 es sorted.0, jobs_apart es sorted.1)
+pub jobs_apart : (groups : List Group) → IsDistinct (λ (x y : Bor (List ℕ)). bytes_eq x.now y.now) (keys_of groups) → AreApart (map job_of groups)
+unfolding IsDistinct
+jobs_apart [] distinct = tt
+jobs_apart (e ∷ es) distinct = (none_later e.0 es distinct.0, jobs_apart es distinct.1)
 
--- the text of a key that is written is UTF-8
-pub not_written : (entries : List Entry) (key : List ℕ) → ¬ IsUtf8 key → lookup (is_at (λ (k : String Global). slice_cmp nat_cmp key (string_bytes k))) entries ≡ None
-not_written [] key not_text = refl
-not_written (e ∷ es) key not_text =
-    let apart : bytes_eq key (string_bytes e.0) ≡ false = bytes_eq-other key (string_bytes e.0) (λ same. not_text (subst IsUtf8 (sym same) (IsUtf8-string_bytes e.0))) in
-    let skip : is_eq (slice_cmp nat_cmp key (string_bytes e.0)) ≡ false = is_eq-slice_cmp key (string_bytes e.0) ∙ apart in
-    rw skip (not_written es key not_text)
+-- ---- one write more
+
+amounts_at-push : (writes : List Write) (write : Write) (key : List ℕ) → amounts_at (writes ++ write ∷ []) key ≡ amounts_at writes key ++ cond (bytes_eq key write.key) (write.amount ∷ []) []
+amounts_at-push [] write key = cases (bytes_eq key write.key)
+  where
+    cases : (b : Bool) → map (λ (w : Write). w.amount) (cond b (write ∷ []) []) ≡ cond b (write.amount ∷ []) []
+    cases true = refl
+    cases false = refl
+amounts_at-push (w ∷ ws) write key = cases (bytes_eq key w.key) (amounts_at-push ws write key)
+  where
+    cases : (b : Bool) → amounts_at (ws ++ write ∷ []) key ≡ amounts_at ws key ++ cond (bytes_eq key write.key) (write.amount ∷ []) []
+        → map (λ (x : Write). x.amount) (cond b (w ∷ filter (λ (x : Write). bytes_eq key x.key) (ws ++ write ∷ [])) (filter (λ (x : Write). bytes_eq key x.key) (ws ++ write ∷ [])))
+        ≡ map (λ (x : Write). x.amount) (cond b (w ∷ filter (λ (x : Write). bytes_eq key x.key) ws) (filter (λ (x : Write). bytes_eq key x.key) ws)) ++ cond (bytes_eq key write.key) (write.amount ∷ []) []
+    cases true later = ap (λ xs. w.amount ∷ xs) later
+    cases false later = later
+
+-- the amounts of an entry, which are none in a new one
+pub entry_items : (n : ℕ) (o : Option (SmallVec ℤ)) (r : SmallVec ℤ) → UnwrapsOrElse o (λ v. (v.items ≡ []) × (v.capacity ≡ n)) r → r.items ≡ option_map_or (λ (xs : SmallVec ℤ). xs.items) o []
+entry_items n None r is = is.0
+entry_items n (Some xs) r is = ap (λ (v : SmallVec ℤ). v.items) is
+
+module _ {S : Type 0} (old new : IndexMap (Bor (List ℕ)) (SmallVec ℤ) S) (key : Bor (List ℕ)) (amounts : SmallVec ℤ) (writes : List Write) (write : Write) where
+  pub group_more : UpdatesBy (λ (x y : Bor (List ℕ)). bytes_eq x.now y.now) (λ (k : Bor (List ℕ)). bytes_eq key.now k.now) old new (Some amounts) → key.now ≡ write.key → amounts.items ≡ amounts_in old key.now ++ write.amount ∷ []
+      → ((q : List ℕ) → amounts_in old q ≡ amounts_at writes q) → (q : List ℕ) → amounts_in new q ≡ amounts_at (writes ++ write ∷ []) q
+  group_more updates is_key items before q = cases (bytes_eq key.now q) refl (hash_map_updates_str key.now old new (Some amounts) updates q)
+    where
+      push : (b : Bool) → bytes_eq q write.key ≡ b → amounts_at writes q ++ cond b (write.amount ∷ []) [] ≡ amounts_at (writes ++ write ∷ []) q
+      push b is = ap (λ t. amounts_at writes q ++ cond t (write.amount ∷ []) []) (sym is) ∙ sym (amounts_at-push writes write q)
+
+      cases : (b : Bool) → bytes_eq key.now q ≡ b → group_of new q ≡ cond b (Some amounts) (group_of old q) → amounts_in new q ≡ amounts_at (writes ++ write ∷ []) q
+      cases true is found =
+          let same : key.now ≡ q = (bytes_eq-Decides key.now q).0 is in
+          ap (λ o. option_map_or (λ (xs : SmallVec ℤ). xs.items) o []) found ∙ items
+          ∙ ap (λ (k : List ℕ). amounts_in old k ++ write.amount ∷ []) same ∙ ap (λ xs. xs ++ write.amount ∷ []) (before q)
+          ∙ push true (ap (bytes_eq q) (sym is_key ∙ same) ∙ bytes_eq-same q)
+      cases false is found =
+          ap (λ o. option_map_or (λ (xs : SmallVec ℤ). xs.items) o []) found ∙ before q ∙ sym (append-nil (amounts_at writes q))
+          ∙ push false (nat_list_eq_equiv.symm q write.key ∙ ap (λ (k : List ℕ). bytes_eq k q) (sym is_key) ∙ is)

@@ -12,15 +12,14 @@ use Rattle.storm_stores.proofs.CellMapLemmas.{bytes_eq-same}
 use Rattle.cell_format.specs.Commits.{Commits, Holds, IsPerhapsDone, after}
 use Rattle.cell_format.specs.Layout.{bytes_of}
 use Rattle.cell_format.specs.declared.cell.Cell.{Cell}
-use Rattle.state_cells.specs.Turns.{AreApart, IsBad, IsPerhapsWorked, IsWorked, OnlyAt, Turns, job_at}
-use Rattle.state_cells.specs.declared.group.Job.{Job}
+use Rattle.state_cells.specs.Turns.{AreApart, IsBad, IsPerhapsWorked, IsWorked, OnlyAt, Turns, job_at, Job}
 
-some_here : (b : Bool) (o : Option Job) (y : Job) → b ≡ true → option_map (λ (z : Job). z.amounts.items) (cond b (Some y) o) ≢ None
-some_here true o y is none = absurd (let e : ◌≡◌ {A = Option (List ℤ)} (Some y.amounts.items) None = none in cc)
+some_here : (b : Bool) (o : Option Job) (y : Job) → b ≡ true → option_map (λ (z : Job). z.amounts) (cond b (Some y) o) ≢ None
+some_here true o y is none = absurd (let e : ◌≡◌ {A = Option (List ℤ)} (Some y.amounts) None = none in cc)
 some_here false o y is none = true≢false (sym is)
 
-past : (b : Bool) (o : Option Job) (y : Job) → option_map (λ (z : Job). z.amounts.items) o ≢ None → option_map (λ (z : Job). z.amounts.items) (cond b (Some y) o) ≢ None
-past true o y found none = absurd (let e : ◌≡◌ {A = Option (List ℤ)} (Some y.amounts.items) None = none in cc)
+past : (b : Bool) (o : Option Job) (y : Job) → option_map (λ (z : Job). z.amounts) o ≢ None → option_map (λ (z : Job). z.amounts) (cond b (Some y) o) ≢ None
+past true o y found none = absurd (let e : ◌≡◌ {A = Option (List ℤ)} (Some y.amounts) None = none in cc)
 past false o y found none = found none
 
 there : (xs : List Job) (n : ℕ) (x : Job) → slice_get xs n ≡ Some x → job_at xs x.key ≢ None
@@ -35,7 +34,7 @@ job_at-before [] (suc i) job apart at = refl
 job_at-before (j ∷ js) (suc i) job apart at = cases (bytes_eq job.key j.key) refl (job_at-before js i job apart.1 at)
   where
     cases : (b : Bool) → bytes_eq job.key j.key ≡ b → job_at (take i js) job.key ≡ None
-        → option_map (λ (x : Job). x.amounts.items) (cond b (Some j) (find (λ (x : Job). bytes_eq job.key x.key) (take i js))) ≡ None
+        → option_map (λ (x : Job). x.amounts) (cond b (Some j) (find (λ (x : Job). bytes_eq job.key x.key) (take i js))) ≡ None
     cases true is later =
         let same : job.key ≡ j.key = (bytes_eq-Decides job.key j.key).0 is in
         let found : job_at js job.key ≢ None = there js i job at in
@@ -43,20 +42,20 @@ job_at-before (j ∷ js) (suc i) job apart at = cases (bytes_eq job.key j.key) r
     cases false is later = later
 
 -- one job more
-pushed : (o : Option Job) (b : Bool) (job : Job) → option_map (λ (x : Job). x.amounts.items) (option_or o (cond b (Some job) None)) ≡ option_or (option_map (λ (x : Job). x.amounts.items) o) (cond b (Some job.amounts.items) None)
+pushed : (o : Option Job) (b : Bool) (job : Job) → option_map (λ (x : Job). x.amounts) (option_or o (cond b (Some job) None)) ≡ option_or (option_map (λ (x : Job). x.amounts) o) (cond b (Some job.amounts) None)
 pushed (Some x) b job = refl
 pushed None true job = refl
 pushed None false job = refl
 
-pub job_at-more : (done : List Job) (job : Job) (k : List ℕ) → job_at (done ++ job ∷ []) k ≡ option_or (job_at done k) (cond (bytes_eq k job.key) (Some job.amounts.items) None)
-job_at-more done job k = ap (option_map (λ (x : Job). x.amounts.items)) (find-append (λ (x : Job). bytes_eq k x.key) done (job ∷ [])) ∙ pushed (find (λ (x : Job). bytes_eq k x.key) done) (bytes_eq k job.key) job
+pub job_at-more : (done : List Job) (job : Job) (k : List ℕ) → job_at (done ++ job ∷ []) k ≡ option_or (job_at done k) (cond (bytes_eq k job.key) (Some job.amounts) None)
+job_at-more done job k = ap (option_map (λ (x : Job). x.amounts)) (find-append (λ (x : Job). bytes_eq k x.key) done (job ∷ [])) ∙ pushed (find (λ (x : Job). bytes_eq k x.key) done) (bytes_eq k job.key) job
 
-joined : (o r : Option Job) → option_map (λ (x : Job). x.amounts.items) (option_or o r) ≡ option_or (option_map (λ (x : Job). x.amounts.items) o) (option_map (λ (x : Job). x.amounts.items) r)
+joined : (o r : Option Job) → option_map (λ (x : Job). x.amounts) (option_or o r) ≡ option_or (option_map (λ (x : Job). x.amounts) o) (option_map (λ (x : Job). x.amounts) r)
 joined (Some x) r = refl
 joined None r = refl
 
 pub job_at-append : (done rest : List Job) (k : List ℕ) → job_at (done ++ rest) k ≡ option_or (job_at done k) (job_at rest k)
-job_at-append done rest k = ap (option_map (λ (x : Job). x.amounts.items)) (find-append (λ (x : Job). bytes_eq k x.key) done rest) ∙ joined (find (λ (x : Job). bytes_eq k x.key) done) (find (λ (x : Job). bytes_eq k x.key) rest)
+job_at-append done rest k = ap (option_map (λ (x : Job). x.amounts)) (find-append (λ (x : Job). bytes_eq k x.key) done rest) ∙ joined (find (λ (x : Job). bytes_eq k x.key) done) (find (λ (x : Job). bytes_eq k x.key) rest)
 
 module _ {S : Type 0} (tells : S → CellMap → Type 0) (kind : Kind) (by : Fold) (txid : ℕ) where
   step : (o : Option (List ℤ)) (b : Bool) (amounts : List ℤ) (old mid new : Option (List ℕ)) → (b ≡ true → o ≡ None) → IsWorked kind by txid o old mid
@@ -88,7 +87,7 @@ module _ {S : Type 0} (tells : S → CellMap → Type 0) (kind : Kind) (by : Fol
   work_none a = record { to = λ m told. (m, told, λ key. refl) }
 
   pub work_more : (done : List Job) (job : Job) (a b c : S) → job_at done job.key ≡ None → Turns tells (λ key. IsWorked kind by txid (job_at done key)) a b
-      → Turns tells (OnlyAt job.key (Commits kind by txid job.amounts.items)) b c → Turns tells (λ key. IsWorked kind by txid (job_at (done ++ job ∷ []) key)) a c
+      → Turns tells (OnlyAt job.key (Commits kind by txid job.amounts)) b c → Turns tells (λ key. IsWorked kind by txid (job_at (done ++ job ∷ []) key)) a c
   work_more done job a b c apart first then = record {
     to = λ m told.
         let x = first.to m told in
@@ -96,14 +95,14 @@ module _ {S : Type 0} (tells : S → CellMap → Type 0) (kind : Kind) (by : Fol
           y.0,
           y.1,
           λ key. subst (λ (o : Option (List ℤ)). IsWorked kind by txid o (cell_at m key) (cell_at y.0 key)) (sym (job_at-more done job key))
-              (step (job_at done key) (bytes_eq key job.key) job.amounts.items (cell_at m key) (cell_at x.0 key) (cell_at y.0 key)
+              (step (job_at done key) (bytes_eq key job.key) job.amounts (cell_at m key) (cell_at x.0 key) (cell_at y.0 key)
               (λ is. ap (job_at done) (same_key key job.key is) ∙ apart) (x.2 key)
               (λ is. (y.2 key).0 (same_key key job.key is)) (λ is. (y.2 key).1 (other_key key job.key is))),
         );
   }
 
   pub work_broken : (done rest : List Job) (job : Job) (a b c : S) → job_at done job.key ≡ None → Turns tells (λ key. IsWorked kind by txid (job_at done key)) a b
-      → Turns tells (OnlyAt job.key (IsPerhapsDone kind by txid job.amounts.items)) b c → Turns tells (λ key. IsPerhapsWorked kind by txid (job_at (done ++ job ∷ rest) key)) a c
+      → Turns tells (OnlyAt job.key (IsPerhapsDone kind by txid job.amounts)) b c → Turns tells (λ key. IsPerhapsWorked kind by txid (job_at (done ++ job ∷ rest) key)) a c
   work_broken done rest job a b c apart first then = record {
     to = λ m told.
         let x = first.to m told in
@@ -111,9 +110,9 @@ module _ {S : Type 0} (tells : S → CellMap → Type 0) (kind : Kind) (by : Fol
           y.0,
           y.1,
           λ key. subst (λ (o : Option (List ℤ)). IsPerhapsWorked kind by txid o (cell_at m key) (cell_at y.0 key)) (sym (job_at-append done (job ∷ rest) key))
-              (step_broken (job_at done key) (job_at (job ∷ rest) key) (bytes_eq key job.key) job.amounts.items (cell_at m key) (cell_at x.0 key) (cell_at y.0 key)
+              (step_broken (job_at done key) (job_at (job ∷ rest) key) (bytes_eq key job.key) job.amounts (cell_at m key) (cell_at x.0 key) (cell_at y.0 key)
               (λ is. ap (job_at done) (same_key key job.key is) ∙ apart)
-              (λ is. ap (λ (t : Bool). option_map (λ (z : Job). z.amounts.items) (cond t (Some job) (find (λ (z : Job). bytes_eq key z.key) rest))) is)
+              (λ is. ap (λ (t : Bool). option_map (λ (z : Job). z.amounts) (cond t (Some job) (find (λ (z : Job). bytes_eq key z.key) rest))) is)
               (x.2 key)
               (λ is. (y.2 key).0 (same_key key job.key is)) (λ is. (y.2 key).1 (other_key key job.key is))),
         );
@@ -133,13 +132,13 @@ module _ {S : Type 0} (tells : S → CellMap → Type 0) (kind : Kind) (by : Fol
   taken_more jobs i job at = let e : i + 1 ≡ suc i = omega arith in ap (λ n. take n jobs) e ∙ taken_suc jobs i job at
 
   pub work_more_at : (jobs : List Job) (i : ℕ) (job : Job) (a b c : S) → AreApart jobs → slice_get jobs i ≡ Some job → Turns tells (λ key. IsWorked kind by txid (job_at (take i jobs) key)) a b
-      → Turns tells (OnlyAt job.key (Commits kind by txid job.amounts.items)) b c → Turns tells (λ key. IsWorked kind by txid (job_at (take (i + 1) jobs) key)) a c
+      → Turns tells (OnlyAt job.key (Commits kind by txid job.amounts)) b c → Turns tells (λ key. IsWorked kind by txid (job_at (take (i + 1) jobs) key)) a c
   work_more_at jobs i job a b c apart at first then =
       subst (λ (xs : List Job). Turns tells (λ key. IsWorked kind by txid (job_at xs key)) a c) (sym (taken_more jobs i job at))
       (work_more (take i jobs) job a b c (job_at-before jobs i job apart at) first then)
 
   pub work_broken_at : (jobs : List Job) (i : ℕ) (job : Job) (a b c : S) → AreApart jobs → slice_get jobs i ≡ Some job → Turns tells (λ key. IsWorked kind by txid (job_at (take i jobs) key)) a b
-      → Turns tells (OnlyAt job.key (IsPerhapsDone kind by txid job.amounts.items)) b c → Turns tells (λ key. IsPerhapsWorked kind by txid (job_at jobs key)) a c
+      → Turns tells (OnlyAt job.key (IsPerhapsDone kind by txid job.amounts)) b c → Turns tells (λ key. IsPerhapsWorked kind by txid (job_at jobs key)) a c
   work_broken_at jobs i job a b c apart at first then =
       subst (λ (xs : List Job). Turns tells (λ key. IsPerhapsWorked kind by txid (job_at xs key)) a c) (sym (taken jobs i job at))
       (work_broken (take i jobs) (drop (suc i) jobs) job a b c (job_at-before jobs i job apart at) first then)

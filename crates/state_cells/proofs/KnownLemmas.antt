@@ -1,5 +1,5 @@
 -- What an opaque part knows, after a look at each key and after a commit.
-use Rattle.std.proofs.Common.{◌≡◌, ◌<◌, ◌==◌, inl, inr, ℕ, ℤ, Bool, true, false, true≢false, ◌&&◌, ◌||◌, cond, List, [], ◌∷◌, length, Option, None, Some, Result, Ok, Err, OnOk, OnErr, IfSome, is_some, find, option_map, refl, sym, ap, subst, ◌∙◌, nat_cmp, arith}
+use Rattle.std.proofs.Common.{◌≡◌, ◌<◌, ◌==◌, inl, inr, ℕ, ℤ, Bool, true, false, true≢false, ◌&&◌, ◌||◌, cond, List, [], ◌∷◌, ◌++◌, map, length, Option, None, Some, Result, Ok, Err, OnOk, OnErr, IfSome, is_some, find, option_map, refl, sym, ap, subst, ◌∙◌, nat_cmp, arith}
 use Rattle.std.specs.Cmp.Lexicographic.{slice_cmp}
 use Rattle.std.specs.List.{AllByRecursion, list_any}
 use Rattle.std.specs.List.Sorted.{IsStrictlySortedBy}
@@ -20,10 +20,11 @@ use Rattle.cell_format.specs.Layout.{bytes_of, read_of}
 use Rattle.cell_format.specs.Commits.{Holds, again, after, anew}
 use Rattle.cell_format.specs.declared.cell.Cell.{Cell}
 use Rattle.cell_format.proofs.LayoutLemmas.{read_of-bytes_of}
+use Rattle.std.specs.Borrow.{Bor}
+use Rattle.state_cells.specs.Groups.{Group, job_of, restores_in}
 use Rattle.state_cells.specs.Known.{AreKnown, FollowsFrom, IsAfter, IsKnownAt, IsListedOf, Knows, keys_in}
 use Rattle.state_cells.specs.Scans.{IsNotLater, carriers, carries_of, is_carrier}
-use Rattle.state_cells.specs.Turns.{AreApart, AreOnce, IsListed, IsPerhapsWorked, IsWorked, Turns, job_at}
-use Rattle.state_cells.specs.declared.group.Job.{Job}
+use Rattle.state_cells.specs.Turns.{AreApart, AreOnce, IsListed, IsPerhapsWorked, IsWorked, Turns, job_at, Job}
 use Rattle.state_cells.specs.declared.known.Known.{Known}
 use Rattle.state_cells.proofs.ScanLemmas.{Scanned, Scanned-end, carrier_is}
 
@@ -116,7 +117,7 @@ job_listed [] key = refl
 job_listed (j ∷ js) key = cases (bytes_eq key j.key) (job_listed js key)
   where
     cases : (b : Bool) → list_any (bytes_eq key) (keys_in js) ≡ is_some (job_at js key)
-        → (b || list_any (bytes_eq key) (keys_in js)) ≡ is_some (option_map (λ (x : Job). x.amounts.items) (cond b (Some j) (find (λ (x : Job). bytes_eq key x.key) js)))
+        → (b || list_any (bytes_eq key) (keys_in js)) ≡ is_some (option_map (λ (x : Job). x.amounts) (cond b (Some j) (find (λ (x : Job). bytes_eq key x.key) js)))
     cases true later = refl
     cases false later = later
 
@@ -207,3 +208,14 @@ module _ {S T E : Type 0} (tells : S → CellMap → Type 0) (one_map : (s : S) 
       = subst (λ (k : Kind). (key : List ℕ) → IsPerhapsWorked k by txid (job_at jobs key) (cell_at x.0 key) (cell_at y.0 key)) is.kind_is y.2 in
       let there : AreKnown txid newest (keys_in jobs) m = subst (AreKnown txid newest (keys_in jobs)) same (known_worked by txid newest jobs x.0 y.0 (known is.kind_is x.0 (before x.0 x.1)) worked) in
       rw (is.txid_is, is.newest_is, is.keys_are) there
+
+-- ---- the keys that are written, and then the others
+
+pub keys-jobs : (groups : List Group) → map (λ (k : Bor (List ℕ)). k.now) (keys_of groups) ≡ keys_in (map job_of groups)
+keys-jobs [] = refl
+keys-jobs (e ∷ es) = ap (λ (ks : List (List ℕ)). e.0.now ∷ ks) (keys-jobs es)
+
+pub keys-whole : (jobs : List Job) (keys : List (List ℕ)) → keys_in jobs ++ keys ≡ keys_in (jobs ++ restores_in keys)
+keys-whole [] [] = refl
+keys-whole [] (k ∷ ks) = ap (λ (xs : List (List ℕ)). k ∷ xs) (keys-whole [] ks)
+keys-whole (j ∷ js) keys = ap (λ (xs : List (List ℕ)). j.key ∷ xs) (keys-whole js keys)

@@ -5,5 +5,6 @@ mod GroupLemmas
 mod ScanLemmas
 mod RestoreLemmas
 mod KnownLemmas
+mod WorkLemmas
 mod PlanLemmas
 mod RowLemmas

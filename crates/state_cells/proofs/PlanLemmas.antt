@@ -1,8 +1,8 @@
 -- The jobs that a commit needs, and what they make of a part.
-use Rattle.std.proofs.Common.{◌≡◌, inl, ℕ, ℤ, Vec, Bool, true, false, true≢false, not, ◌&&◌, ◌==◌, cond, List, [], ◌∷◌, Option, None, Some, MatchOption, is_some, option_map, refl, sym, ap, subst, ◌∙◌}
+use Rattle.std.proofs.Common.{◌≡◌, inl, ℕ, ℤ, Bool, true, false, true≢false, not, ◌&&◌, ◌==◌, cond, List, [], ◌∷◌, Option, None, Some, MatchOption, is_some, option_map, refl, sym, ap, subst, ◌∙◌}
 use Rattle.std.specs.List.{list_any}
 use Rattle.std.specs.Option.{option_map_or, option_or}
-use Rattle.std.specs.declared.alloc.Global.{Global}
+use Rattle.smallvec.specs.SmallVec.{SmallVec}
 use Rattle.std.specs.Str.{bytes_eq}
 use Rattle.topology_plan.specs.declared.parts.Fold.{Fold}
 use Rattle.topology_plan.specs.declared.parts.Kind.{Kind}
@@ -15,8 +15,7 @@ use Rattle.cell_format.specs.declared.cell.Cell.{Cell}
 use Rattle.state_cells.specs.Known.{AreKnown, IsListedOf, keys_in}
 use Rattle.state_cells.specs.Plans.{IsLeft, IsPlan}
 use Rattle.state_cells.specs.Scans.{carries_of}
-use Rattle.state_cells.specs.Turns.{AreApart, AreOnce, IsPerhapsWorked, IsWorked, Turns, job_at}
-use Rattle.state_cells.specs.declared.group.Job.{Job}
+use Rattle.state_cells.specs.Turns.{AreApart, AreOnce, IsPerhapsWorked, IsWorked, Turns, job_at, Job}
 use Rattle.state_cells.proofs.KnownLemmas.{job_listed, keys_once, not_carrier}
 
 -- ---- what the jobs make of a key
@@ -77,7 +76,7 @@ nothing_done tells kind by txid writes a b same = record { to = λ m told. (m, s
 -- ---- the plans
 
 abbrev Amounts : Type 0
-Amounts = Vec ℤ Global
+Amounts = SmallVec ℤ
 
 written_row : (txid : ℕ) (amounts : List ℤ) (held : Option (List ℕ)) (group : Option Amounts) → option_map_or (λ (xs : Amounts). xs.items) group [] ≡ amounts
     → MatchOption (option_map (λ (xs : Amounts). xs.items) group) (IsLeft Transactional txid amounts held) (λ xs. xs ≡ amounts)

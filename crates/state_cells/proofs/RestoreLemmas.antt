@@ -1,27 +1,32 @@
 -- Jobs without amounts.
-use Rattle.std.proofs.Common.{◌≡◌, ◌≢◌, ◌+◌, ℕ, zero, suc, ℤ, Vec, Bool, true, false, not, ◌&&◌, ◌||◌, cond, true≢false, List, [], ◌∷◌, ◌++◌, take, Option, None, Some, find, option_map, is_some, refl, sym, ap, subst, ◌∙◌, arith}
+use Rattle.std.proofs.Common.{◌≡◌, ◌≢◌, ℕ, ℤ, Bool, true, false, not, ◌&&◌, ◌||◌, cond, true≢false, List, [], ◌∷◌, ◌++◌, filter, length, arith, Option, None, Some, find, option_map, is_some, refl, sym, ap, subst, ◌∙◌}
+use Rattle.std.specs.Borrow.{Bor}
 use Rattle.std.specs.List.{list_any, slice_get}
+use Rattle.std.proofs.lemmas.Grind.{common_steps}
+use Rattle.std.proofs.lemmas.Option.{slice_get-map}
 use Rattle.std.specs.Option.{option_or}
 use Rattle.std.specs.Str.{bytes_eq}
-use Rattle.std.specs.declared.alloc.Global.{Global}
+use Rattle.std.proofs.lemmas.Map.Views.{any-filter_same}
 use Rattle.std.proofs.lemmas.Slice.Eq.{bytes_eq-Decides}
+use Rattle.indexmap.specs.IndexMap.{IndexMap}
+use Rattle.smallvec.specs.SmallVec.{SmallVec}
 use Rattle.storm_stores.proofs.CellMapLemmas.{bytes_eq-same}
-use Rattle.state_cells.specs.Groups.{Restores}
-use Rattle.state_cells.specs.Turns.{AreApart, AreOnce, IsListed, job_at}
-use Rattle.state_cells.specs.declared.group.Job.{Job}
-use Rattle.state_cells.proofs.JobLemmas.{job_at-append, job_at-more}
+use Rattle.state_cells.specs.Groups.{group_of, jobs_in, jobs_of, restores_in}
+use Rattle.state_cells.specs.Turns.{AreApart, AreOnce, Job, job_at}
+use Rattle.state_cells.proofs.GroupLemmas.{job_at-jobs}
+use Rattle.state_cells.proofs.JobLemmas.{job_at-append}
 
 -- ---- jobs that stay apart
 
-head_there : (b : Bool) (o : Option Job) (j : Job) → b ≡ true → option_map (λ (x : Job). x.amounts.items) (cond b (Some j) o) ≢ None
-head_there true o j is none = absurd (let e : ◌≡◌ {A = Option (List ℤ)} (Some j.amounts.items) None = none in cc)
+head_there : (b : Bool) (o : Option Job) (j : Job) → b ≡ true → option_map (λ (x : Job). x.amounts) (cond b (Some j) o) ≢ None
+head_there true o j is none = absurd (let e : ◌≡◌ {A = Option (List ℤ)} (Some j.amounts) None = none in cc)
 head_there false o j is none = true≢false (sym is)
 
-later_there : (b : Bool) (o : Option Job) (j : Job) → option_map (λ (x : Job). x.amounts.items) o ≢ None → option_map (λ (x : Job). x.amounts.items) (cond b (Some j) o) ≢ None
-later_there true o j found none = absurd (let e : ◌≡◌ {A = Option (List ℤ)} (Some j.amounts.items) None = none in cc)
+later_there : (b : Bool) (o : Option Job) (j : Job) → option_map (λ (x : Job). x.amounts) o ≢ None → option_map (λ (x : Job). x.amounts) (cond b (Some j) o) ≢ None
+later_there true o j found none = absurd (let e : ◌≡◌ {A = Option (List ℤ)} (Some j.amounts) None = none in cc)
 later_there false o j found none = found none
 
-pub apart-append : (a b : List Job) → AreApart a → AreApart b → ((key : List ℕ) → job_at a key ≢ None → job_at b key ≡ None) → AreApart (a ++ b)
+apart-append : (a b : List Job) → AreApart a → AreApart b → ((key : List ℕ) → job_at a key ≢ None → job_at b key ≡ None) → AreApart (a ++ b)
 apart-append [] b apart_a apart_b differ = apart_b
 apart-append (j ∷ js) b apart_a apart_b differ =
     let here : job_at (j ∷ js) j.key ≢ None = head_there (bytes_eq j.key j.key) (find (λ (x : Job). bytes_eq j.key x.key) js) j (bytes_eq-same j.key) in
@@ -30,90 +35,92 @@ apart-append (j ∷ js) b apart_a apart_b differ =
 
 -- ---- keys that stand once
 
-listed_append : (p : List ℕ → Bool) (xs ys : List (List ℕ)) → list_any p (xs ++ ys) ≡ (list_any p xs || list_any p ys)
-listed_append p [] ys = refl
-listed_append p (x ∷ xs) ys = cases (p x) (listed_append p xs ys)
+and_right : (a b : Bool) → (a && b) ≡ true → b ≡ true
+and_right true b is = is
+and_right false b is = absurd (true≢false (sym is))
+
+and_swap : (a b : Bool) → (a && b) ≡ (b && a)
+and_swap true true = refl
+and_swap true false = refl
+and_swap false true = refl
+and_swap false false = refl
+
+listed-filter : (p : List ℕ → Bool) (keys : List (List ℕ)) (key : List ℕ) → list_any (bytes_eq key) (filter p keys) ≡ (p key && list_any (bytes_eq key) keys)
+listed-filter p keys key = any-filter_same (bytes_eq key) p (p key) (λ k same. ap p (sym ((bytes_eq-Decides key k).0 same))) keys
+
+once-filter : (p : List ℕ → Bool) (keys : List (List ℕ)) → AreOnce keys → AreOnce (filter p keys)
+once-filter p [] once = tt
+once-filter p (k ∷ ks) once = cases (p k) (once-filter p ks once.1)
   where
-    cases : (b : Bool) → list_any p (xs ++ ys) ≡ (list_any p xs || list_any p ys) → (b || list_any p (xs ++ ys)) ≡ ((b || list_any p xs) || list_any p ys)
+    cases : (b : Bool) → AreOnce (filter p ks) → AreOnce (cond b (k ∷ filter p ks) (filter p ks))
+    cases true later = (λ listed. once.0 (and_right (p k) (list_any (bytes_eq k) ks) (sym (listed-filter p ks k) ∙ listed)), later)
+    cases false later = later
+
+job_at-restores : (keys : List (List ℕ)) (key : List ℕ) → job_at (restores_in keys) key ≡ cond (list_any (bytes_eq key) keys) (Some []) None
+job_at-restores [] key = refl
+job_at-restores (k ∷ ks) key = cases (bytes_eq key k) (job_at-restores ks key)
+  where
+    cases : (b : Bool) → job_at (restores_in ks) key ≡ cond (list_any (bytes_eq key) ks) (Some []) None
+        → option_map (λ (x : Job). x.amounts) (cond b (Some (record { key = k; amounts = [] })) (find (λ (x : Job). bytes_eq key x.key) (restores_in ks)))
+        ≡ cond (b || list_any (bytes_eq key) ks) (Some []) None
     cases true later = refl
     cases false later = later
 
-listed_at : (xs : List (List ℕ)) (i : ℕ) (x : List ℕ) → slice_get xs i ≡ Some x → IsListed xs x
-listed_at [] i x at = absurd (let e : ◌≡◌ {A = Option (List ℕ)} None (Some x) = at in cc)
-listed_at (y ∷ ys) zero x at = let same : y ≡ x = cc in ap (λ b. b || list_any (bytes_eq x) ys) (ap (bytes_eq x) same ∙ bytes_eq-same x)
-listed_at (y ∷ ys) (suc i) x at = ap (λ b. bytes_eq x y || b) (listed_at ys i x at) ∙ or_true (bytes_eq x y)
+restores_apart : (keys : List (List ℕ)) → AreOnce keys → AreApart (restores_in keys)
+restores_apart [] once = tt
+restores_apart (k ∷ ks) once = (job_at-restores ks k ∙ none (list_any (bytes_eq k) ks) once.0, restores_apart ks once.1)
   where
-    or_true : (b : Bool) → (b || true) ≡ true
-    or_true true = refl
-    or_true false = refl
+    none : (b : Bool) → (b ≡ true → ⊥) → ◌≡◌ {A = Option (List ℤ)} (cond b (Some []) None) None
+    none true differs = absurd (differs refl)
+    none false differs = refl
 
--- a key that stands once is not among those before it
-not_before : (xs : List (List ℕ)) (i : ℕ) (x : List ℕ) → AreOnce xs → slice_get xs i ≡ Some x → list_any (bytes_eq x) (take i xs) ≡ false
-not_before xs zero x once at = refl
-not_before [] (suc i) x once at = refl
-not_before (y ∷ ys) (suc i) x once at = cases (bytes_eq x y) refl (not_before ys i x once.1 at)
-  where
-    cases : (b : Bool) → bytes_eq x y ≡ b → list_any (bytes_eq x) (take i ys) ≡ false → (b || list_any (bytes_eq x) (take i ys)) ≡ false
-    cases true is later = let same : x ≡ y = (bytes_eq-Decides x y).0 is in absurd (once.0 (subst (IsListed ys) same (listed_at ys i x at)))
-    cases false is later = later
-
-taken_more : (xs : List (List ℕ)) (i : ℕ) (x : List ℕ) → slice_get xs i ≡ Some x → take (suc i) xs ≡ take i xs ++ x ∷ []
-taken_more [] i x at = absurd (let e : ◌≡◌ {A = Option (List ℕ)} None (Some x) = at in cc)
-taken_more (y ∷ ys) zero x at = let same : y ≡ x = cc in rw same refl
-taken_more (y ∷ ys) (suc i) x at = ap (λ zs. y ∷ zs) (taken_more ys i x at)
-
--- ---- one key more; W tells of each key whether it is written
-
-abbrev Wanted : (List ℕ → Bool) → List (List ℕ) → List ℕ → Option (List ℤ)
-Wanted w keys key = cond (list_any (bytes_eq key) keys && not (w key)) (Some []) None
-
-kept_row : (a e w : Bool) → (e ≡ true → w ≡ true) → ◌≡◌ {A = Option (List ℤ)} (cond (a && not w) (Some []) None) (cond ((a || (e || false)) && not w) (Some []) None)
-kept_row true e w is = refl
-kept_row false true w is = rw (is refl) refl
-kept_row false false w is = refl
-
-added_row : (a e w : Bool) → (e ≡ true → w ≡ false) → ◌≡◌ {A = Option (List ℤ)} (option_or (cond (a && not w) (Some []) None) (cond e (Some []) None)) (cond ((a || (e || false)) && not w) (Some []) None)
-added_row true true w is = rw (is refl) refl
-added_row true false true is = refl
-added_row true false false is = refl
-added_row false true w is = rw (is refl) refl
-added_row false false w is = refl
-
-module _ (w : List ℕ → Bool) (keys : List (List ℕ)) (i : ℕ) (x : List ℕ) (old new : List Job) (at : slice_get keys i ≡ Some x) (restores : Restores (w x) x old new) (sofar : (key : List ℕ) → job_at old key ≡ Wanted w (take i keys) key) where
-  same_x : (key : List ℕ) (b : Bool) → w x ≡ b → bytes_eq key x ≡ true → w key ≡ b
-  same_x key b is e = ap w ((bytes_eq-Decides key x).0 e) ∙ is
-
-  row : (key : List ℕ) → Wanted w (take (i + 1) keys) key ≡ cond ((list_any (bytes_eq key) (take i keys) || (bytes_eq key x || false)) && not (w key)) (Some []) None
-  row key = let next : i + 1 ≡ suc i = omega arith in
-      ap (λ n. Wanted w (take n keys) key) next ∙ ap (λ xs. Wanted w xs key) (taken_more keys i x at) ∙ ap (λ b. cond (b && not (w key)) (Some []) None) (listed_append (bytes_eq key) (take i keys) (x ∷ []))
-
-  pub restores_more : (key : List ℕ) → job_at new key ≡ Wanted w (take (i + 1) keys) key
-  restores_more key = cases (w x) refl
-    where
-      cases : (b : Bool) → w x ≡ b → job_at new key ≡ Wanted w (take (i + 1) keys) key
-      cases true is = ap (λ js. job_at js key) (restores.kept is) ∙ sofar key ∙ kept_row (list_any (bytes_eq key) (take i keys)) (bytes_eq key x) (w key) (same_x key true is) ∙ sym (row key)
-      cases false is =
-          let job = restores.added is in
-          let one : job_at new key ≡ option_or (job_at old key) (cond (bytes_eq key x) (Some []) None) =
-          ap (λ js. job_at js key) job.1 ∙ job_at-more old job.0 key ∙ ap (λ (k : List ℕ). option_or (job_at old key) (cond (bytes_eq key k) (Some job.0.amounts.items) None)) job.2 ∙ ap (λ (xs : List ℤ). option_or (job_at old key) (cond (bytes_eq key x) (Some xs) None)) job.3 in
-          one ∙ ap (λ o. option_or o (cond (bytes_eq key x) (Some []) None)) (sofar key) ∙ added_row (list_any (bytes_eq key) (take i keys)) (bytes_eq key x) (w key) (same_x key false is) ∙ sym (row key)
-
-  pub restores_apart : AreOnce keys → AreApart old → AreApart new
-  restores_apart once apart = cases (w x) refl
-    where
-      alone : (key : List ℕ) (job : Job) (b : Bool) → bytes_eq key job.key ≡ b → job.key ≡ x → job_at old x ≡ None → job_at old key ≢ None → option_map (λ (z : Job). z.amounts.items) (cond b (Some job) None) ≡ None
-      alone key job false here is none found = refl
-      alone key job true here is none found = absurd (found (ap (job_at old) ((bytes_eq-Decides key job.key).0 here ∙ is) ∙ none))
-
-      cases : (b : Bool) → w x ≡ b → AreApart new
-      cases true is = subst AreApart (sym (restores.kept is)) apart
-      cases false is =
-          let job = restores.added is in
-          let none : job_at old x ≡ None = sofar x ∙ ap (λ b. cond (b && not (w x)) (Some []) None) (not_before keys i x once at) in
-          subst AreApart (sym job.1) (apart-append old (job.0 ∷ []) apart (refl, tt) (λ key found. alone key job.0 (bytes_eq key job.0.key) refl job.2 none found))
+-- ---- all jobs
 
 -- a key that is written gets no job without amounts
-pub differ_row : (group : Option (Vec ℤ Global)) (listed : Bool) (o r : Option (List ℤ)) → o ≡ option_map (λ (xs : Vec ℤ Global). xs.items) group → r ≡ cond (listed && not (is_some group)) (Some []) None → o ≢ None → r ≡ None
+differ_row : (group : Option (SmallVec ℤ)) (listed : Bool) (o r : Option (List ℤ)) → o ≡ option_map (λ (xs : SmallVec ℤ). xs.items) group → r ≡ cond (listed && not (is_some group)) (Some []) None → o ≢ None → r ≡ None
 differ_row None listed o r is_o is_r found = absurd (found is_o)
 differ_row (Some xs) true o r is_o is_r found = is_r
 differ_row (Some xs) false o r is_o is_r found = is_r
+
+or_none : (o : Option (List ℤ)) → option_or o None ≡ o
+or_none None = refl
+or_none (Some xs) = refl
+
+module _ {S : Type 0} (groups : IndexMap (Bor (List ℕ)) (SmallVec ℤ) S) (restores : List (List ℕ)) where
+  module _ (keys : List (List ℕ)) (is : restores ≡ filter (λ key. not (is_some (group_of groups key))) keys) where
+    restore_at : (key : List ℕ) → job_at (restores_in restores) key ≡ cond (list_any (bytes_eq key) keys && not (is_some (group_of groups key))) (Some []) None
+    restore_at key =
+        ap (λ (ks : List (List ℕ)). job_at (restores_in ks) key) is
+        ∙ job_at-restores (filter (λ k. not (is_some (group_of groups k))) keys) key
+        ∙ ap (λ b. cond b (Some []) None) (listed-filter (λ k. not (is_some (group_of groups k))) keys key ∙ and_swap (not (is_some (group_of groups key))) (list_any (bytes_eq key) keys))
+
+    pub all_apart : AreApart (jobs_in groups) → AreOnce keys → AreApart (jobs_of groups restores)
+    all_apart apart once =
+        apart-append (jobs_in groups) (restores_in restores) apart (restores_apart restores (subst AreOnce (sym is) (once-filter (λ k. not (is_some (group_of groups k))) keys once)))
+        (λ key found. differ_row (group_of groups key) (list_any (bytes_eq key) keys) _ _ (job_at-jobs groups.entries key) (restore_at key) found)
+
+    pub all_at : (key : List ℕ) → job_at (jobs_of groups restores) key
+        ≡ option_or (option_map (λ (xs : SmallVec ℤ). xs.items) (group_of groups key)) (cond (list_any (bytes_eq key) keys && not (is_some (group_of groups key))) (Some []) None)
+    all_at key =
+        job_at-append (jobs_in groups) (restores_in restores) key
+        ∙ ap (λ o. option_or o (job_at (restores_in restores) key)) (job_at-jobs groups.entries key)
+        ∙ ap (option_or (option_map (λ (xs : SmallVec ℤ). xs.items) (group_of groups key))) (restore_at key)
+
+  module _ (is : restores ≡ []) where
+    pub written_apart : AreApart (jobs_in groups) → AreApart (jobs_of groups restores)
+    written_apart apart = all_apart [] is apart tt
+
+    pub written_at : (key : List ℕ) → job_at (jobs_of groups restores) key ≡ option_map (λ (xs : SmallVec ℤ). xs.items) (group_of groups key)
+    written_at key = all_at [] is key ∙ or_none _
+
+-- ---- a walk over these keys
+
+abbrev pub restore_of : List ℕ → Job
+restore_of key = record { key = key; amounts = [] }
+
+pub restore_here : (keys : List (List ℕ)) (i : ℕ) (key : List ℕ) → slice_get keys i ≡ Some key → slice_get (restores_in keys) i ≡ Some (restore_of key)
+restore_here keys i key at = slice_get-map restore_of keys i ∙ ap (option_map restore_of) at
+
+pub length-restores : (keys : List (List ℕ)) → length (restores_in keys) ≡ length keys
+length-restores [] = refl
+length-restores (k ∷ ks) = let more = length-restores ks in grind (arith, common_steps, more)

@@ -1,5 +1,5 @@
 -- The rows that were read so far.
-use Rattle.std.proofs.Common.{◌≡◌, ◌+◌, ℕ, ℤ, inr, IsSome, suc, true, false, true≢false, List, [], ◌∷◌, ◌++◌, length, take, Option, None, Some, refl, sym, ap, subst, ◌∙◌, arith}
+use Rattle.std.proofs.Common.{◌≡◌, ◌+◌, ℕ, ℤ, inr, IsSome, suc, false, true≢false, List, [], ◌∷◌, ◌++◌, length, take, Option, None, Some, refl, sym, ap, subst, ◌∙◌, arith}
 use Rattle.std.specs.List.{filter_map}
 use Rattle.std.specs.Map.{keys_of}
 use Rattle.std.specs.Option.{option_to_list}

@@ -1,34 +1,37 @@
 -- The writes of a batch by key.
-use Rattle.std.specs.Prelude.{◌≡◌, ℕ, ℤ, Vec, Bool, true, false, not, ◌&&◌, if◌then◌else◌, List, [], ◌∷◌, ◌++◌, map, Option, None, Some, is_some, String}
-use Rattle.std.specs.List.{list_any}
-use Rattle.std.specs.Str.{bytes_eq}
-use Rattle.std.specs.BTreeMap.{BTreeMap, get_by_text}
+use Rattle.std.specs.Prelude.{ℕ, ℤ, List, [], ◌++◌, map, Option}
+use Rattle.std.specs.Borrow.{Bor}
 use Rattle.std.specs.Option.{option_map_or}
-use Rattle.std.specs.String.{string_bytes}
-use Rattle.state_cells.specs.declared.group.Job.{Job}
-use Rattle.std.specs.declared.alloc.Global.{Global}
+use Rattle.std.specs.Str.{bytes_eq}
+use Rattle.indexmap.specs.IndexMap.{IndexMap, get_by}
+use Rattle.smallvec.specs.SmallVec.{SmallVec}
+use Rattle.state_cells.specs.Turns.{Job}
 
--- the amounts of a key
-abbrev pub amounts_in : BTreeMap (String Global) (Vec ℤ Global) → List ℕ → List ℤ
-amounts_in groups key =
-    option_map_or (λ (amounts : Vec ℤ Global). amounts.items) (get_by_text groups key) []
+-- a key of the writes beside its amounts
+abbrev pub Group : Type 0
+Group = Bor (List ℕ) × SmallVec ℤ
 
--- an entry as a job
-abbrev pub job_of : String Global × Vec ℤ Global → Job
-job_of entry = record { key = string_bytes entry.0; amounts = entry.1 }
+abbrev pub job_of : Group → Job
+job_of group = record { key = group.0.now; amounts = group.1.items }
 
--- a job for each key
-abbrev pub jobs_in : BTreeMap (String Global) (Vec ℤ Global) → List Job
-jobs_in groups = map job_of groups.entries
+-- nothing is written for these keys
+abbrev pub restores_in : List (List ℕ) → List Job
+restores_in keys = map (λ key. record { key = key; amounts = [] }) keys
 
--- the job of one of these keys for which nothing is written
-abbrev pub restore_at : BTreeMap (String Global) (Vec ℤ Global) → List (List ℕ) → List ℕ
-    → Option (List ℤ)
-restore_at groups keys key =
-    if list_any (bytes_eq key) keys && not (is_some (get_by_text groups key)) then Some [] else None
+module _ {S : Type 0} where
+  -- what is written for a key, if anything is
+  abbrev pub group_of : IndexMap (Bor (List ℕ)) (SmallVec ℤ) S → List ℕ → Option (SmallVec ℤ)
+  group_of groups key = get_by (λ (k : Bor (List ℕ)). bytes_eq key k.now) groups
 
--- a key gets a job without amounts, unless it is written
-pub record Restores (written : Bool) (key : List ℕ) (old new : List Job) : Type 0 where
-  pub kept : written ≡ true → new ≡ old
-  pub added : written ≡ false
-      → (job : Job) × (new ≡ old ++ job ∷ []) × (job.key ≡ key) × (job.amounts.items ≡ [])
+  -- the amounts of a key
+  abbrev pub amounts_in : IndexMap (Bor (List ℕ)) (SmallVec ℤ) S → List ℕ → List ℤ
+  amounts_in groups key =
+      option_map_or (λ (amounts : SmallVec ℤ). amounts.items) (group_of groups key) []
+
+  -- a job for each key that is written
+  abbrev pub jobs_in : IndexMap (Bor (List ℕ)) (SmallVec ℤ) S → List Job
+  jobs_in groups = map job_of groups.entries
+
+  -- the jobs of the keys that are written, and of these other keys
+  abbrev pub jobs_of : IndexMap (Bor (List ℕ)) (SmallVec ℤ) S → List (List ℕ) → List Job
+  jobs_of groups keys = jobs_in groups ++ restores_in keys

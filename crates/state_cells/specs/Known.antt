@@ -6,8 +6,7 @@ use Rattle.storm_stores.specs.CellMaps.{CellMap, cell_at}
 use Rattle.cell_format.specs.Commits.{Holds}
 use Rattle.cell_format.specs.declared.cell.Cell.{Cell}
 use Rattle.state_cells.specs.Scans.{IsNotLater}
-use Rattle.state_cells.specs.Turns.{AreOnce, IsListed}
-use Rattle.state_cells.specs.declared.group.Job.{Job}
+use Rattle.state_cells.specs.Turns.{AreOnce, IsListed, Job}
 use Rattle.state_cells.specs.declared.known.Known.{Known}
 
 -- a key with a cell of this transaction is listed

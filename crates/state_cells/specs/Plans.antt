@@ -7,8 +7,7 @@ use Rattle.storm_stores.specs.CellMaps.{CellMap, cell_at}
 use Rattle.cell_format.specs.Commits.{Holds, amounts_at}
 use Rattle.cell_format.specs.declared.cell.Cell.{Cell}
 use Rattle.state_cells.specs.Scans.{carries_of}
-use Rattle.state_cells.specs.Turns.{AreApart, job_at}
-use Rattle.state_cells.specs.declared.group.Job.{Job}
+use Rattle.state_cells.specs.Turns.{AreApart, Job, job_at}
 
 -- a key that the commit may leave alone: nothing is written for it, and in an opaque part its cell
 -- is not of the transaction

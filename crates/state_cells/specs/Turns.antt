@@ -6,7 +6,6 @@ use Rattle.topology_plan.specs.declared.parts.Fold.{Fold}
 use Rattle.topology_plan.specs.declared.parts.Kind.{Kind}
 use Rattle.storm_stores.specs.CellMaps.{CellMap, cell_at}
 use Rattle.cell_format.specs.Commits.{Commits, IsPerhapsDone, IsRefused}
-use Rattle.state_cells.specs.declared.group.Job.{Job}
 
 -- The store told a map before, and tells one now, where each key's cell has become
 -- what the relation says.
@@ -32,10 +31,15 @@ IsBad kind (Some bytes) = IsRefused kind bytes
 
 -- ---- the jobs of a commit
 
+-- what a commit is to add to a key's value, in order
+pub record Job : Type 0 where
+  pub key : List ℕ
+  pub amounts : List ℤ
+
 -- the amounts that a job has for a key, if there is one for it
 abbrev pub job_at : List Job → List ℕ → Option (List ℤ)
 job_at jobs key =
-    option_map (λ (job : Job). job.amounts.items) (find (λ (job : Job). bytes_eq key job.key) jobs)
+    option_map (λ (job : Job). job.amounts) (find (λ (job : Job). bytes_eq key job.key) jobs)
 
 -- no two jobs are for one key
 abbrev pub AreApart : List Job → Type 0

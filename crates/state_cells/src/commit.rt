@@ -3,10 +3,11 @@ ghost use Rattle.storm_outside.specs.Counts.{Rose};
 ghost use Rattle.storm_stores.specs.CellMaps.{CellMap, cell_at, with_cell};
 ghost use Rattle.cell_format.specs.Commits.{Commits, Holds, IsCellOf, IsPerhapsDone};
 ghost use Rattle.cell_format.specs.Layout.{IsWhole, bytes_of};
+ghost use Rattle.state_cells.specs.Groups.{jobs_in, jobs_of, restores_in};
 ghost use Rattle.state_cells.specs.Turns.{AreApart, IsBad, IsPerhapsWorked, IsWorked, OnlyAt, Turns, job_at};
 
 use crate::fault::PartFault;
-use crate::group::Job;
+use crate::group::Groups;
 use cell_format::{Cell, cell_for, change, encode_cell};
 use std::alloc::Global;
 use storm_stores::{CellStore, StoreFault};
@@ -109,33 +110,87 @@ fn commit_key<C: CellStore>(
     }
 }
 
-/// Does the jobs of a commit, in order.
-pub(crate) fn commit_jobs<C: CellStore>(
+/// Commits the keys that are written, in the order in which they came first.
+fn commit_groups<C: CellStore>(
     alloc: Global,
     store: &mut C,
     batch: Batch,
-    jobs: &[Job],
+    groups: &Groups<'_>,
 ) -> Result<(), PartFault>
-    ensures ok { OnOk result (AreApart jobs.now → Turns C.tells (λ key.
-        IsWorked batch.kind batch.by batch.txid (job_at jobs.now key)) store.old store.new) }
-    ensures err { OnErr result (AreApart jobs.now → Turns C.tells (λ key.
-        IsPerhapsWorked batch.kind batch.by batch.txid (job_at jobs.now key)) store.old store.new) }
+    ensures ok { OnOk result (AreApart (jobs_in groups.now) → Turns C.tells
+        (λ key. IsWorked batch.kind batch.by batch.txid (job_at (jobs_in groups.now) key))
+        store.old store.new) }
+    ensures err { OnErr result (AreApart (jobs_in groups.now) → Turns C.tells
+        (λ key. IsPerhapsWorked batch.kind batch.by batch.txid (job_at (jobs_in groups.now) key))
+        store.old store.new) }
     ensures failed { IsErrOf result PartFault.Store →
         Rose (C.fault_count store.old) (C.fault_count store.new) }
-    ensures bad { (k : List ℕ) → IsErrOf result (PartFault.BadCell k) → AreApart jobs.now →
-        (cells : CellMap) → C.tells store.old cells → IsBad batch.kind (cell_at cells k) }
+    ensures bad { (k : List ℕ) → IsErrOf result (PartFault.BadCell k) →
+        AreApart (jobs_in groups.now) → (cells : CellMap) → C.tells store.old cells →
+        IsBad batch.kind (cell_at cells k) }
     ensures told_before { (cells : CellMap) → C.tells store.new cells →
         (before : CellMap) × C.tells store.old before }
     ensures never_falls { C.fault_count store.old ≤ C.fault_count store.new }
 {
-    for job in jobs {
-        commit_key(
-            alloc,
-            store,
-            batch,
-            job.key.as_slice(),
-            job.amounts.as_slice(),
-        )?;
+    for (key, amounts) in groups {
+        commit_key(alloc, store, batch, key.as_bytes(), amounts.as_slice())?;
     }
     Ok(())
+}
+
+/// Commits keys for which nothing is written, in order.
+fn commit_restores<C: CellStore>(
+    alloc: Global,
+    store: &mut C,
+    batch: Batch,
+    keys: &[Bytes],
+) -> Result<(), PartFault>
+    ensures ok { OnOk result (AreApart (restores_in keys.now) → Turns C.tells
+        (λ key. IsWorked batch.kind batch.by batch.txid (job_at (restores_in keys.now) key))
+        store.old store.new) }
+    ensures err { OnErr result (AreApart (restores_in keys.now) → Turns C.tells
+        (λ key. IsPerhapsWorked batch.kind batch.by batch.txid (job_at (restores_in keys.now) key))
+        store.old store.new) }
+    ensures failed { IsErrOf result PartFault.Store →
+        Rose (C.fault_count store.old) (C.fault_count store.new) }
+    ensures bad { (k : List ℕ) → IsErrOf result (PartFault.BadCell k) →
+        AreApart (restores_in keys.now) → (cells : CellMap) → C.tells store.old cells →
+        IsBad batch.kind (cell_at cells k) }
+    ensures told_before { (cells : CellMap) → C.tells store.new cells →
+        (before : CellMap) × C.tells store.old before }
+    ensures never_falls { C.fault_count store.old ≤ C.fault_count store.new }
+{
+    for key in keys {
+        commit_key(alloc, store, batch, key.as_slice(), &[])?;
+    }
+    Ok(())
+}
+
+/// Does the jobs of a commit: the keys that are written, and then the others.
+pub(crate) fn commit_jobs<C: CellStore>(
+    alloc: Global,
+    store: &mut C,
+    batch: Batch,
+    groups: &Groups<'_>,
+    keys: &[Bytes],
+) -> Result<(), PartFault>
+    ensures ok { OnOk result (AreApart (jobs_of groups.now keys.now) → Turns C.tells
+        (λ key. IsWorked batch.kind batch.by batch.txid (job_at (jobs_of groups.now keys.now) key))
+        store.old store.new) }
+    ensures err { OnErr result (AreApart (jobs_of groups.now keys.now) → Turns C.tells
+        (λ key. IsPerhapsWorked batch.kind batch.by batch.txid
+        (job_at (jobs_of groups.now keys.now) key)) store.old store.new) }
+    ensures failed { IsErrOf result PartFault.Store →
+        Rose (C.fault_count store.old) (C.fault_count store.new) }
+    ensures bad { (k : List ℕ) → IsErrOf result (PartFault.BadCell k) →
+        AreApart (jobs_of groups.now keys.now) → (cells : CellMap) → C.tells store.old cells →
+        IsBad batch.kind (cell_at cells k) }
+    ensures told_before { (cells : CellMap) → C.tells store.new cells →
+        (before : CellMap) × C.tells store.old before }
+    ensures never_falls { C.fault_count store.old ≤ C.fault_count store.new }
+{
+    match commit_groups(alloc, store, batch, groups) {
+        Ok(()) => commit_restores(alloc, store, batch, keys),
+        Err(fault) => Err(fault),
+    }
 }

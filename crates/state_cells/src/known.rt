@@ -1,7 +1,9 @@
 ghost use Rattle.std.specs.Prelude.{◌≡◌, IfSome, IfOk};
+ghost use Rattle.state_cells.specs.Groups.{jobs_of};
 ghost use Rattle.state_cells.specs.Known.{Follows, FollowsFrom, IsAfter, keys_in};
 
-use crate::group::Job;
+use crate::group::Groups;
+use crate::plan::Work;
 use std::alloc::Global;
 use storm_values::{Bytes, Memory};
 use topology_plan::Kind;
@@ -46,19 +48,20 @@ fn move_on(alloc: Global, known: Known, txid: u64) -> Option<Known>
 }
 
 /// What is known after a commit, whether it was broken off or not. Nothing is where there is no
-/// memory.
-pub(crate) fn known_after(
-    alloc: Global,
-    kind: Kind,
-    txid: u64,
-    jobs: Vec<Job>,
-    is_newest: bool,
-) -> Option<Known>
-    ensures { IfSome result (IsAfter kind txid is_newest jobs.items) }
+/// memory. The keys of an opaque part's writes are copied here, once.
+pub(crate) fn known_after(alloc: Global, kind: Kind, txid: u64, work: Work<'_>) -> Option<Known>
+    ensures { IfSome result
+        (IsAfter kind txid work.entry.is_newest
+        (jobs_of work.entry.groups work.entry.restores.items)) }
 {
+    let Work {
+        groups,
+        restores,
+        is_newest,
+    } = work;
     match kind {
         Kind::Transactional => None,
-        Kind::Opaque => match keys_of(alloc, jobs) {
+        Kind::Opaque => match keys_of(alloc, &groups, restores) {
             Ok(keys) => Some(Known {
                 txid,
                 keys,
@@ -69,9 +72,18 @@ pub(crate) fn known_after(
     }
 }
 
-/// The keys of jobs.
-fn keys_of(alloc: Global, jobs: Vec<Job>) -> Result<Vec<Bytes>, Memory>
-    ensures { IfOk result (λ keys. keys.items ≡ keys_in jobs.items) }
+/// The keys that are written, and then the others.
+fn keys_of(
+    alloc: Global,
+    groups: &Groups<'_>,
+    mut restores: Vec<Bytes>,
+) -> Result<Vec<Bytes>, Memory>
+    ensures { IfOk result (λ keys. keys.items ≡ keys_in (jobs_of groups.now restores.items)) }
 {
-    jobs.into_iter().map(|job| job.key).collect(alloc)
+    let mut keys = Vec::with_capacity(alloc, groups.len())?;
+    for key in groups.keys() {
+        keys.push(Bytes::from_vec(key.as_bytes().to_vec(alloc)?))?;
+    }
+    keys.append(&mut restores)?;
+    Ok(keys)
 }

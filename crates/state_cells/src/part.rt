@@ -140,7 +140,7 @@ fn commit_batch<C: CellStore>(
         Ok(work) => work,
         Err(fault) => return Err(fault),
     };
-    let done = commit_jobs(alloc, store, batch, &work.jobs);
-    *known = known_after(alloc, batch.kind, batch.txid, work.jobs, work.is_newest);
+    let done = commit_jobs(alloc, store, batch, &work.groups, &work.restores);
+    *known = known_after(alloc, batch.kind, batch.txid, work);
     done
 }

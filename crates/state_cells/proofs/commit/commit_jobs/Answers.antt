@@ -1,39 +1,33 @@
-use Rattle.std.proofs.lemmas.List.{take_all}
-use Rattle.std.specs.Prelude.{take, List, IsErrOf}
+use Rattle.std.proofs.lemmas.Result.{on_ok_weaker, on_err_weaker}
 use Rattle.storm_stores.specs.CellMaps.{cell_at}
-use Rattle.state_cells.specs.declared.fault.PartFault.TheVariants.{BadCell}
-use Rattle.state_cells.specs.Turns.{IsWorked, Turns, job_at}
-use Rattle.state_cells.specs.declared.group.Job.{Job}
-use Rattle.std.proofs.Common.{rules, subst, ◌∙◌, ap, sym, Some, arith}
-use Rattle.std.proofs.lemmas.Option.{slice_get-get_or}
-use Rattle.state_cells.proofs.JobLemmas.{bad_before, work_broken_at, work_more_at}
-use Rattle.state_cells.proofs.OnErr.{on_err}
+use Rattle.state_cells.specs.Groups.{jobs_in, restores_in}
+use Rattle.state_cells.specs.Turns.{job_at}
+use Rattle.state_cells.proofs.JobLemmas.{bad_before}
+use Rattle.state_cells.proofs.WorkLemmas.{apart_left, apart_right, both_broken, both_done, first_broken}
 use Rattle.state_cells.proofs.commit.commit_jobs.Goals as goal
 
-pub loop-job-preserved : goal.loop-job-preserved
-loop-job-preserved g c = record {
-  worked = λ apart. work_more_at g.C.CellStore.tells c.args.batch.kind c.args.batch.by c.args.batch.txid c.args.jobs.now c.loop-job.job-index c.job-item.result
-      c.args.store.now c.loop-job.store c.commit_key.new.store apart (slice_get-get_or c.args.jobs.now c.loop-job.job-index c.job-item.result c.loop-job-test.true ∙ ap Some (sym c.job-item.is)) (c.loop-job.invariant.worked apart)
-      (rw (← c.as_slice.ensures, ← c.as_slice-in-loop-job.ensures.value) c.in_ok-commit_key.ensures.ok);
-  told_before = λ cells told.
-      let x = c.commit_key.ensures.told_before cells told in
-      c.loop-job.invariant.told_before x.0 x.1;
-  never_falls = omega arith;
-}
+pub returns-in-Ok-clause-ok : goal.returns-in-Ok-clause-ok
+returns-in-Ok-clause-ok g c = on_ok_weaker c.commit_restores.result
+    (λ then apart. both_done g.C.CellStore.tells c.args.batch.kind c.args.batch.by c.args.batch.txid (jobs_in c.args.groups.now) (restores_in c.args.keys.now) c.args.store.now c.commit_groups.new.store c.commit_restores.new.store
+    apart (c.in-Ok.ensures.ok (apart_left (jobs_in c.args.groups.now) (restores_in c.args.keys.now) apart)) (then (apart_right (jobs_in c.args.groups.now) (restores_in c.args.keys.now) apart)))
+    c.commit_restores.ensures.ok
 
-pub returns-in_err-commit_key-clause-err : goal.returns-in_err-commit_key-clause-err
-returns-in_err-commit_key-clause-err g c = on_err c.from_residual.result (λ apart.
-    work_broken_at g.C.CellStore.tells c.args.batch.kind c.args.batch.by c.args.batch.txid c.args.jobs.now c.loop-job.job-index c.job-item.result
-    c.args.store.now c.loop-job.store c.commit_key.new.store apart (slice_get-get_or c.args.jobs.now c.loop-job.job-index c.job-item.result c.loop-job-test.true ∙ ap Some (sym c.job-item.is)) (c.loop-job.invariant.worked apart)
-    (rw (← c.as_slice.ensures, ← c.as_slice-in-loop-job.ensures.value) c.in_err-commit_key.ensures.err))
+pub returns-in-Ok-clause-err : goal.returns-in-Ok-clause-err
+returns-in-Ok-clause-err g c = on_err_weaker c.commit_restores.result
+    (λ then apart. both_broken g.C.CellStore.tells c.args.batch.kind c.args.batch.by c.args.batch.txid (jobs_in c.args.groups.now) (restores_in c.args.keys.now) c.args.store.now c.commit_groups.new.store c.commit_restores.new.store
+    apart (c.in-Ok.ensures.ok (apart_left (jobs_in c.args.groups.now) (restores_in c.args.keys.now) apart)) (then (apart_right (jobs_in c.args.groups.now) (restores_in c.args.keys.now) apart)))
+    c.commit_restores.ensures.err
 
-pub returns-in_err-commit_key-clause-bad : goal.returns-in_err-commit_key-clause-bad
-returns-in_err-commit_key-clause-bad g c = λ k is apart cells told.
-    let x = (c.loop-job.invariant.worked apart).to cells told in
-    let same : IsErrOf c.commit_key.result (BadCell k) = search rules in
-    bad_before c.args.batch.kind c.args.batch.by c.args.batch.txid (job_at (take c.loop-job.job-index c.args.jobs.now) k) (cell_at cells k) (cell_at x.0 k) (x.2 k)
-    (c.commit_key.ensures.bad k same x.0 x.1)
+pub returns-in-Ok-clause-bad : goal.returns-in-Ok-clause-bad
+returns-in-Ok-clause-bad g c = λ k is apart cells told.
+    let x = (c.in-Ok.ensures.ok (apart_left (jobs_in c.args.groups.now) (restores_in c.args.keys.now) apart)).to cells told in
+    bad_before c.args.batch.kind c.args.batch.by c.args.batch.txid (job_at (jobs_in c.args.groups.now) k) (cell_at cells k) (cell_at x.0 k) (x.2 k)
+    (c.commit_restores.ensures.bad k is (apart_right (jobs_in c.args.groups.now) (restores_in c.args.keys.now) apart) x.0 x.1)
 
-pub returns-clause-ok : goal.returns-clause-ok
-returns-clause-ok g c = λ apart. subst (λ (xs : List Job). Turns g.C.CellStore.tells (λ key. IsWorked c.args.batch.kind c.args.batch.by c.args.batch.txid (job_at xs key)) c.args.store.now c.loop-job.store)
-    (take_all c.loop-job.job-index c.args.jobs.now c.loop-job-test.false) (c.loop-job.invariant.worked apart)
+pub returns-in-Err-clause-err : goal.returns-in-Err-clause-err
+returns-in-Err-clause-err g c = λ apart.
+    first_broken g.C.CellStore.tells c.args.batch.kind c.args.batch.by c.args.batch.txid (jobs_in c.args.groups.now) (restores_in c.args.keys.now) c.args.store.now c.commit_groups.new.store c.commit_groups.new.store
+    (c.in-Err.ensures.err (apart_left (jobs_in c.args.groups.now) (restores_in c.args.keys.now) apart))
+
+pub returns-in-Err-clause-bad : goal.returns-in-Err-clause-bad
+returns-in-Err-clause-bad g c = λ k is apart cells told. c.in-Err.ensures.bad k is (apart_left (jobs_in c.args.groups.now) (restores_in c.args.keys.now) apart) cells told

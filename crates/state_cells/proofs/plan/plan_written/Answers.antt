@@ -1,7 +1,10 @@
-use Rattle.std.specs.BTreeMap.{get_by_text}
+use Rattle.state_cells.specs.Groups.{group_of, jobs_of}
 use Rattle.state_cells.proofs.PlanLemmas.{plan_of_written}
+use Rattle.state_cells.proofs.RestoreLemmas.{written_apart, written_at}
 use Rattle.state_cells.proofs.plan.plan_written.Goals as goal
 
 pub returns-clause-plan : goal.returns-clause-plan
-returns-clause-plan c = λ txid cells. plan_of_written txid c.args.writes.now cells c.in_ok-jobs.jobs.items (get_by_text c.in_ok-groups.groups)
-    c.in_ok-jobs.ensures.apart c.in_ok-jobs.ensures.amounts c.in_ok-groups.ensures
+returns-clause-plan c = λ txid cells.
+    let groups = c.in_ok-groups.groups in
+    plan_of_written txid c.args.writes.now cells (jobs_of groups c.new.result.items) (group_of groups)
+    (written_apart groups c.new.result.items c.new.ensures.items c.in_ok-groups.ensures.apart) (written_at groups c.new.result.items c.new.ensures.items) c.in_ok-groups.ensures.amounts
