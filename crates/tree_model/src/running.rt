@@ -208,13 +208,7 @@ fn fold_of(plan: &Plan, number: u32) -> Option<Fold>
 
 /// Folds an amount into the value of a key, with one search where the key has one. A new key is
 /// copied.
-fn put(
-    alloc: Global,
-    values: &mut Values,
-    by: Fold,
-    key: &Txt,
-    amount: i64,
-) -> Result<(), Memory>
+fn put(alloc: Global, values: &mut Values, by: Fold, key: &Txt, amount: i64) -> Result<(), Memory>
     ensures ok { OnOk result
         (pairs_of values.new ≡ tallied by (pairs_of values.old) key.now amount) }
     ensures err { OnErr result (pairs_of values.new ≡ pairs_of values.old) }
