@@ -266,7 +266,7 @@ impl<'p, I: Ids> Coordinator<'p, I> {
 fn copied_rows(alloc: Global, batch: &[Row]) -> Result<Rows, Memory>
     ensures { IfOk result (λ rows. rows ≡ batch.now) }
 {
-    let mut rows = Rows::new(alloc);
+    let mut rows = Rows::from_vec(Vec::with_capacity(alloc, batch.len())?);
     for row in batch {
         rows.push(row.copy()?)?;
     }

@@ -19,7 +19,7 @@ pub fn writes_in_path_order(alloc: Global, list: &Notes) -> Result<Writes, Memor
 fn dones_of<'l>(alloc: Global, list: &'l Notes) -> Result<Vec<&'l Done>, Memory>
     ensures { IfOk result (λ dones. map (λ d. d.now) dones.items ≡ dones_in list.now) }
 {
-    let mut dones = Vec::new(alloc);
+    let mut dones = Vec::with_capacity(alloc, list.len())?;
     for note in list.as_slice() {
         add_done(&mut dones, note)?;
     }
@@ -50,7 +50,7 @@ fn sort_dones(dones: &mut Vec<&Done>)
 fn copied_writes(alloc: Global, dones: &[&Done]) -> Result<Writes, Memory>
     ensures { IfOk result (λ writes. writes ≡ writes_in (map (λ d. d.now) dones.now)) }
 {
-    let mut writes = Writes::new(alloc);
+    let mut writes = Writes::from_vec(Vec::with_capacity(alloc, dones.len())?);
     for done in dones {
         add_copies(&mut writes, &done.writes)?;
     }
