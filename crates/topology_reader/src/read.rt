@@ -107,7 +107,11 @@ fn tasks_in_all(components: &[Component]) -> u32
     requires { sum_by (λ (component : Component). component.tasks) components.now < 2 ^ 32 }
     ensures { result ≡ sum_by (λ (component : Component). component.tasks) components.now }
 {
-    components.iter().map(|component| component.tasks).sum()
+    let mut tasks = 0;
+    for component in components {
+        tasks += component.tasks;
+    }
+    tasks
 }
 
 fn check_size(alloc: Global, tasks: u32, weight: u64) -> Result<(), TopoFault>
