@@ -62,27 +62,46 @@ fn made(alloc: Global, op: &Op) -> Result<String, Memory>
     shown(alloc, &rows)
 }
 
+// Whether an operation makes these rows of the row of 7 and `cow`.
+fn makes(alloc: Global, op: &Op, want: &str) -> Result<bool, Memory>
+    requires { IsWithin op.now 2 }
+{
+    let rows = made(alloc, op)?;
+    Ok(rows.as_str() == want)
+}
+
 #[test]
-fn makes_rows(rt: HostRuntime) -> Result<(), Fail> {
+fn keeps_rows_by_a_test(rt: HostRuntime) -> Result<(), Fail> {
     let alloc = rt.alloc();
-    let fields = Indexes::from_vec(vec![in alloc; 1, 0]?);
-    let project = Op::Project(fields);
+    let empty = text(alloc, "")?;
+    assert!(rt; makes(alloc, &filter(Test::Eq, Value::Int(7)), "7,cow,;")?);
+    assert!(rt; makes(alloc, &filter(Test::Ne, Value::Int(7)), "")?);
+    assert!(rt; makes(alloc, &filter(Test::Lt, Value::Int(7)), "")?);
+    assert!(rt; makes(alloc, &filter(Test::Lt, empty), "7,cow,;")?);
+    Ok(())
+}
+
+#[test]
+fn changes_fields(rt: HostRuntime) -> Result<(), Fail> {
+    let alloc = rt.alloc();
+    let project = Op::Project(Indexes::from_vec(vec![in alloc; 1, 0]?));
     let set = Op::Set {
         field: 1,
         value: Value::Int(-4),
     };
-    let empty = text(alloc, "")?;
-    assert!(rt; made(alloc, &Op::Split { field: 0 })?.as_str() == "");
-    assert!(rt; made(alloc, &project)?.as_str() == "cow,7,;");
-    assert!(rt; made(alloc, &filter(Test::Eq, Value::Int(7)))?.as_str() == "7,cow,;");
-    assert!(rt; made(alloc, &filter(Test::Ne, Value::Int(7)))?.as_str() == "");
-    assert!(rt; made(alloc, &filter(Test::Lt, Value::Int(7)))?.as_str() == "");
-    assert!(rt; made(alloc, &filter(Test::Lt, empty))?.as_str() == "7,cow,;");
-    assert!(rt; made(alloc, &set)?.as_str() == "7,-4,;");
-    assert!(rt; made(alloc, &Op::Len { field: 1 })?.as_str() == "7,cow,3,;");
-    assert!(rt; made(alloc, &Op::Len { field: 0 })?.as_str() == "7,cow,0,;");
-    assert!(rt; made(alloc, &Op::Route { field: 0 })?.as_str() == "7,cow,;");
-    assert!(rt; made(alloc, &Op::Custom)?.as_str() == "cow,7,;");
+    assert!(rt; makes(alloc, &project, "cow,7,;")?);
+    assert!(rt; makes(alloc, &set, "7,-4,;")?);
+    Ok(())
+}
+
+#[test]
+fn makes_rows(rt: HostRuntime) -> Result<(), Fail> {
+    let alloc = rt.alloc();
+    assert!(rt; makes(alloc, &Op::Split { field: 0 }, "")?);
+    assert!(rt; makes(alloc, &Op::Len { field: 1 }, "7,cow,3,;")?);
+    assert!(rt; makes(alloc, &Op::Len { field: 0 }, "7,cow,0,;")?);
+    assert!(rt; makes(alloc, &Op::Route { field: 0 }, "7,cow,;")?);
+    assert!(rt; makes(alloc, &Op::Custom, "cow,7,;")?);
     Ok(())
 }
 
