@@ -1,6 +1,8 @@
 -- What the two files come to, from what reading them gave.
-use Rattle.std.proofs.Common.{◌≡◌, ◌≢◌, ℕ, ◌+◌, ◌%◌, ◌^◌, ◌≤◌, List, length, take, ◌++◌, codes, Some, None, sym, ap, subst, ◌∙◌, inl, inr, arith, string_bytes}
+use Rattle.std.proofs.Common.{◌≡◌, ◌≢◌, ℕ, ◌+◌, ◌%◌, ◌^◌, ◌≤◌, List, length, take, ◌++◌, codes, Option, Some, None, Result, Ok, Err, sym, ap, subst, ◌∙◌, inl, inr, arith, string_bytes}
 use Rattle.std.proofs.Math.Nat.{mod-add-mod}
+use Rattle.std.proofs.lemmas.List.{take_all}
+use Rattle.std.specs.Prelude.{IfOk, IfSome}
 use Rattle.storm_values.specs.declared.value.Value.{Value}
 use Rattle.storm_values.specs.declared.lines.InputFault.{InputFault}
 use Rattle.storm_values.specs.declared.lines.InputFault.TheVariants as input_fault_is
@@ -29,6 +31,23 @@ use Rattle.storm_program.specs.steps.Stops.{Stops, IfTold}
 use Rattle.storm_program.specs.Texts.{topology_line, input_line, schedule_line, topology_not_read, input_not_read, schedule_not_read}
 
 -- ---- one file
+
+-- what was read of a file that was fetched: the first of its bytes, if the shelf tells them
+was_read : (holds : List ℕ → List ℕ → Type 0) (name : List ℕ) (most : ℕ) (rest : Option (List ℕ)) → ((bytes : List ℕ) → holds name bytes → rest ≡ Some bytes) → (front : List ℕ) → IfSome rest (λ left. front ≡ take most left) → length front ≤ most → WasRead holds name most front
+was_read holds name most (Some left) begins front is few = record {
+  bytes = left;
+  are_of = λ told here. let same : Some left ≡ Some told = begins told here in cc;
+  is_front = is;
+}
+was_read holds name most None begins front is few = record {
+  bytes = front;
+  are_of = λ told here. let none : Some told ≡ None = sym (begins told here) in cc;
+  is_front = sym (take_all most front few);
+}
+
+pub all_read : {E : Type 0} (result : Result (List ℕ) E) (holds : List ℕ → List ℕ → Type 0) (name : List ℕ) (most : ℕ) (rest : Option (List ℕ)) → ((bytes : List ℕ) → holds name bytes → rest ≡ Some bytes) → IfOk result (λ front. IfSome rest (λ left. front ≡ take most left)) → IfOk result (λ front. length front ≤ most) → IfOk result (WasRead holds name most)
+all_read (Ok front) holds name most rest begins is few = was_read holds name most rest begins front is few
+all_read (Err fault) holds name most rest begins is few = tt
 
 -- a topology whose first bytes have a plan was accepted
 pub accepted_by_front : (holds : List ℕ → List ℕ → Type 0) (name front slice : List ℕ) (plan : Topology) → WasRead holds name 65537 front → slice ≡ front → IsFilePlan slice plan → IsAccepted holds name plan
