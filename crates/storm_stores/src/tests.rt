@@ -61,11 +61,9 @@ fn has_cell(store: &mut MemStore, key: &[u8], want: &[u8]) -> Result<bool, Store
 // The first of the two cells does not lie in place.
 #[test]
 fn a_key_has_its_last_cell(rt: HostRuntime) -> Result<(), Fail> {
-    let alloc = rt.alloc();
-    let long = vec![in alloc; b'7'; 49]?;
-    let mut store = store(alloc)?;
-    store.put(b"b", &long)?;
-    assert!(rt; has_cell(&mut store, b"b", &long)?);
+    let mut store = store(rt.alloc())?;
+    store.put(b"b", &[7; 49])?;
+    assert!(rt; has_cell(&mut store, b"b", &[7; 49])?);
     store.put(b"b", b"4")?;
     assert!(rt; has_cell(&mut store, b"b", b"4")?);
     Ok(())
