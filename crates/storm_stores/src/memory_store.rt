@@ -21,9 +21,9 @@ use storm_values::{Bytes, Memory};
 /// The cells by key, found by hash.
 type Cells = IndexMap<Vec<u8>, Bytes>;
 
-/// Cells in memory. A get and a put take one look-up by hash, and a put of a new key two. For a cell
-/// of up to 48 bytes they take no memory, but for that of a new key. The first `key_at` after a new
-/// key sorts all keys, and each other one finds its key by its number.
+/// Cells in memory. A get and a put take one look-up by hash, and a put of a new key two. For a
+/// cell of up to 48 bytes they take no memory, but for that of a new key. The first `key_at` after
+/// a new key sorts all keys, and each other one finds its key by its number.
 #[derive(Debug, Drop)]
 pub struct MemStore {
     cells: Cells,
