@@ -5,6 +5,8 @@ pub mod Faults
 pub mod Fews
 pub mod Keys
 pub mod Order
+pub mod Paths
+pub mod Places
 pub mod Rows
 pub mod Texts
 pub mod steps

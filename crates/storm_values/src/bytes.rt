@@ -1,22 +1,35 @@
 ghost use Rattle.std.specs.Prelude.{◌≡◌, ◌<◌, ◌↔◌, IsTrue, [], ◌∷◌, ◌++◌, length, slice_get, Some, IfOk, OnOk, OnErr};
 
+use crate::inside::Inside;
 use crate::list::{Duplicate, Memory};
-use smallvec::SmallVec;
 use std::alloc::Global;
 use std::marker::Model;
 
-/// Bytes. Contracts see the list of them. Up to 48 of them take no memory.
+/// The most bytes that take no memory.
+const MOST_INSIDE: usize = 46;
+
+/// Bytes. Contracts see the list of them. Up to 46 of them lie in the value itself, of 48 bytes,
+/// and take no memory.
 #[derive(Debug, Drop)]
 pub struct Bytes {
-    bytes: SmallVec<u8, 48>,
+    bytes: Place,
+    alloc: Global,
+}
+
+/// Where bytes lie.
+#[derive(Debug, Drop)]
+enum Place {
+    Inside(Inside<u8, MOST_INSIDE>),
+    Apart(Vec<u8>),
 }
 
 impl Model for Bytes {
     ghost use Rattle.std.specs.Prelude.{ℕ, List};
+    ghost use Rattle.storm_values.specs.Places.{bytes_at};
 
     ghost Value = { List ℕ };
 
-    ghost view = { λ bytes. bytes.bytes.items };
+    ghost view = { λ bytes. bytes_at bytes.bytes };
 }
 
 impl Bytes {
@@ -25,7 +38,8 @@ impl Bytes {
         ensures { result ≡ [] }
     {
         Bytes {
-            bytes: SmallVec::new(alloc),
+            bytes: Place::Inside(Inside::new(0)),
+            alloc,
         }
     }
 
@@ -33,8 +47,10 @@ impl Bytes {
     pub fn from_vec(bytes: Vec<u8>) -> Self
         ensures { result ≡ bytes.items }
     {
+        let alloc = *bytes.allocator();
         Bytes {
-            bytes: SmallVec::from_vec(bytes),
+            bytes: Place::Apart(bytes),
+            alloc,
         }
     }
 
@@ -42,34 +58,39 @@ impl Bytes {
     pub fn from_slice(alloc: Global, bytes: &[u8]) -> Result<Self, Memory>
         ensures { IfOk result (λ made. made ≡ bytes.now) }
     {
-        Ok(Bytes {
-            bytes: SmallVec::from_slice(alloc, bytes)?,
-        })
+        let bytes = match Inside::from_slice(0, bytes) {
+            Some(few) => Place::Inside(few),
+            None => Place::Apart(bytes.to_vec(alloc)?),
+        };
+        Ok(Bytes { bytes, alloc })
     }
 
     pub fn as_slice(&self) -> &[u8]
         ensures { result.now ≡ self.now }
     {
-        self.bytes.as_slice()
+        match &self.bytes {
+            Place::Inside(few) => few.as_slice(),
+            Place::Apart(many) => many.as_slice(),
+        }
     }
 
     pub fn len(&self) -> usize
         ensures { result ≡ length self.now }
     {
-        self.bytes.len()
+        self.as_slice().len()
     }
 
     pub fn is_empty(&self) -> bool
         ensures { IsTrue result ↔ (self.now ≡ []) }
     {
-        self.bytes.is_empty()
+        self.as_slice().is_empty()
     }
 
     pub fn at(&self, i: usize) -> &u8
         requires { i < length self.now }
         ensures { slice_get self.now i ≡ Some result.now }
     {
-        &self.bytes.as_slice()[i]
+        &self.as_slice()[i]
     }
 
     /// Adds a byte at the end.
@@ -77,7 +98,21 @@ impl Bytes {
         ensures ok { OnOk result (self.new ≡ self.old ++ byte ∷ []) }
         ensures err { OnErr result (self.new ≡ self.old) }
     {
-        self.bytes.push(byte)?;
+        match &mut self.bytes {
+            Place::Apart(many) => {
+                many.push(byte)?;
+                return Ok(());
+            }
+            Place::Inside(few) => {
+                if few.has_room() {
+                    few.push(byte);
+                    return Ok(());
+                }
+            }
+        }
+        let mut many = self.as_slice().to_vec(self.alloc)?;
+        many.push(byte)?;
+        self.bytes = Place::Apart(many);
         Ok(())
     }
 
@@ -85,7 +120,7 @@ impl Bytes {
     pub fn copy(&self) -> Result<Self, Memory>
         ensures { IfOk result (λ made. made ≡ self.now) }
     {
-        Bytes::from_slice(*self.bytes.allocator(), self.bytes.as_slice())
+        Bytes::from_slice(self.alloc, self.as_slice())
     }
 }
 

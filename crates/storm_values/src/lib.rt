@@ -3,6 +3,7 @@
 
 mod bytes;
 mod few;
+mod inside;
 mod keys;
 mod limits;
 mod lines;

@@ -1,15 +1,15 @@
-ghost use Rattle.std.specs.Prelude.{◌≡◌, ◌<◌, slice_get, Some, [], length, string_bytes, IfOk};
+ghost use Rattle.std.specs.Prelude.{◌≡◌, ◌<◌, slice_get, Some, [], length, string_bytes, IfOk, IfSome};
 
+use crate::inside::Inside;
 use crate::list::{Duplicate, Memory};
-use arrayvec::ArrayString;
 use std::alloc::Global;
 use std::marker::Model;
 
 /// The most bytes of a text that takes no memory.
-const MOST_INSIDE: usize = 22;
+const MOST_INSIDE: usize = 30;
 
-/// A text, which contracts see as the list of its UTF-8 bytes. Up to 22 of them lie in the value
-/// itself and take no memory.
+/// A text, which contracts see as the list of its UTF-8 bytes. Up to 30 of them lie in the value
+/// itself, of 32 bytes, and take no memory.
 #[derive(Debug, Drop)]
 pub struct Txt {
     text: Place,
@@ -18,8 +18,14 @@ pub struct Txt {
 /// Where the bytes of a text lie.
 #[derive(Debug, Drop)]
 enum Place {
-    Inside(ArrayString<MOST_INSIDE>),
+    Inside(Short),
     Apart(String),
+}
+
+/// The bytes of a short text.
+#[derive(Debug, Drop)]
+struct Short {
+    bytes: Inside<u8, MOST_INSIDE>,
 }
 
 impl Model for Txt {
@@ -31,24 +37,76 @@ impl Model for Txt {
     ghost view = { λ t. bytes_in t.text };
 }
 
+impl Model for Short {
+    ghost use Rattle.std.specs.Prelude.{ℕ, List, IsUtf8};
+
+    ghost Value = { List ℕ };
+
+    ghost view = { λ s. s.bytes };
+
+    ghost invariant = { λ s. ∥ IsUtf8 s.bytes ∥₁ };
+}
+
+impl Short {
+    /// No bytes.
+    fn new() -> Self
+        ensures { result ≡ [] }
+    {
+        Short {
+            bytes: Inside::new(0),
+        }
+    }
+
+    /// The bytes of a text, where they are few.
+    fn from_str(text: &str) -> Option<Self>
+        ensures { IfSome result (λ short. short ≡ text.now) }
+    {
+        match Inside::from_slice(0, text.as_bytes()) {
+            Some(bytes) => Some(Short { bytes }),
+            None => None,
+        }
+    }
+
+    fn as_str(&self) -> &str
+        ensures { result.now ≡ self.now }
+    {
+        unsafe { str::from_utf8_unchecked(self.bytes.as_slice()) }
+    }
+
+    fn as_bytes(&self) -> &[u8]
+        ensures { result.now ≡ self.now }
+    {
+        self.bytes.as_slice()
+    }
+
+    /// The same bytes.
+    fn copy(&self) -> Self
+        ensures { result ≡ self.now }
+    {
+        Short {
+            bytes: self.bytes.copy(),
+        }
+    }
+}
+
 impl Txt {
     /// The empty text, which takes no memory.
     pub fn new() -> Self
         ensures { result ≡ [] }
     {
         Txt {
-            text: Place::Inside(ArrayString::new()),
+            text: Place::Inside(Short::new()),
         }
     }
 
     pub fn from_str(alloc: Global, text: &str) -> Result<Self, Memory>
         ensures { IfOk result (λ made. made ≡ text.now) }
     {
-        match ArrayString::from(text) {
-            Ok(short) => Ok(Txt {
+        match Short::from_str(text) {
+            Some(short) => Ok(Txt {
                 text: Place::Inside(short),
             }),
-            Err(_) => Ok(Txt {
+            None => Ok(Txt {
                 text: Place::Apart(String::from_str(alloc, text)?),
             }),
         }
@@ -58,11 +116,11 @@ impl Txt {
     pub fn from_string(text: String) -> Self
         ensures { result ≡ string_bytes text }
     {
-        match ArrayString::from(text.as_str()) {
-            Ok(short) => Txt {
+        match Short::from_str(text.as_str()) {
+            Some(short) => Txt {
                 text: Place::Inside(short),
             },
-            Err(_) => Txt {
+            None => Txt {
                 text: Place::Apart(text),
             },
         }
@@ -83,7 +141,7 @@ impl Txt {
     pub fn len(&self) -> usize
         ensures { result ≡ length self.now }
     {
-        self.as_str().len()
+        self.as_bytes().len()
     }
 
     /// The byte at a place.
@@ -106,7 +164,10 @@ impl Txt {
     pub fn as_bytes(&self) -> &[u8]
         ensures { result.now ≡ self.now }
     {
-        self.as_str().as_bytes()
+        match &self.text {
+            Place::Inside(short) => short.as_bytes(),
+            Place::Apart(text) => text.as_bytes(),
+        }
     }
 
     /// An equal text, on the same allocator where it takes memory.
@@ -115,7 +176,7 @@ impl Txt {
     {
         match &self.text {
             Place::Inside(short) => Ok(Txt {
-                text: Place::Inside(*short),
+                text: Place::Inside(short.copy()),
             }),
             Place::Apart(text) => Ok(Txt {
                 text: Place::Apart(text.clone()?),
