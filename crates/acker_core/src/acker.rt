@@ -19,6 +19,8 @@ use tree_model::AckMsg;
 pub struct Acker {
     alloc: Global,
     entries: Rotating<Entry>,
+    // room for so many messages is taken at once for a list that begins: lists are of like lengths
+    room: usize,
 }
 
 impl Model for Acker {
@@ -44,6 +46,7 @@ impl Acker {
         Ok(Acker {
             alloc,
             entries: Rotating::new(alloc, buckets)?,
+            room: 0,
         })
     }
 
@@ -57,9 +60,10 @@ impl Acker {
         ensures err { OnErr result (self.new ≡ self.old) }
     {
         let root = root_in(&message);
-        let told = add_message(self.alloc, &mut self.entries, root, message)?;
+        let told = add_message(self.alloc, self.room, &mut self.entries, root, message)?;
         if told.tells() {
             let verdict = take_verdict(&mut self.entries, root);
+            self.room = room_after(&verdict, self.room);
             return Ok(verdict);
         }
         Ok(None)
@@ -80,9 +84,18 @@ impl Acker {
     }
 }
 
+// The room for the next list: that of a complete one and an eighth more.
+fn room_after(verdict: &Option<Verdict>, before: usize) -> usize {
+    match verdict {
+        Some(Verdict::Complete { list, .. }) => list.len().saturating_add(list.len() / 8),
+        _ => before,
+    }
+}
+
 // Adds a message to a root's entry, which begins with it where there is none.
 fn add_message(
     alloc: Global,
+    room: usize,
     entries: &mut Rotating<Entry>,
     root: Root,
     message: AckMsg,
@@ -101,7 +114,7 @@ fn add_message(
             Ok(entry.told())
         }
         None => {
-            let entry = Entry::new(alloc, message)?;
+            let entry = Entry::new(alloc, room, message)?;
             let told = entry.told();
             match entries.put(root, entry) {
                 Ok(()) => Ok(told),

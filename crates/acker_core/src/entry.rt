@@ -86,12 +86,12 @@ fn first_path(list: Notes) -> Option<Path>
 }
 
 impl Entry {
-    /// An entry of one message.
-    pub fn new(alloc: Global, message: AckMsg) -> Result<Self, Memory>
+    /// An entry of one message, whose list has room for so many.
+    pub fn new(alloc: Global, room: usize, message: AckMsg) -> Result<Self, Memory>
         ensures { IfOk result (λ entry. entry ≡ message ∷ []) }
     {
         let state = message_state(&message);
-        let mut list = Notes::new(alloc);
+        let mut list = Notes::from_vec(Vec::with_capacity(alloc, room)?);
         list.push(message)?;
         Ok(Entry { state, list })
     }
