@@ -7,6 +7,7 @@ mod commits;
 mod coordinator;
 mod hear;
 mod office;
+mod placed;
 mod stop;
 mod ticks;
 mod waits;

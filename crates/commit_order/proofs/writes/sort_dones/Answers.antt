@@ -1,13 +1,10 @@
 use Rattle.std.proofs.Common.{rules}
 use Rattle.std.specs.Ordering.{is_lt}
 use Rattle.std.proofs.lemmas.Cmp.{nat_list_cmp_total}
-use Rattle.std.proofs.lemmas.List.Sorted.{IsPermutation-map, ranks_by, answers_always, sorted_far}
+use Rattle.std.proofs.lemmas.List.Sorted.{ranks_by, answers_always, sorted_far}
 use Rattle.storm_values.specs.Order.{path_cmp}
-use Rattle.commit_order.proofs.WriteLemmas.{done_at, in-order, path_in}
+use Rattle.commit_order.proofs.WriteLemmas.{in-order, path_in}
 use Rattle.commit_order.proofs.writes.sort_dones.Goals as goal
-
-pub returns-clause-same : goal.returns-clause-same
-returns-clause-same c = IsPermutation-map done_at _ _ c.sort_unstable_by.ensures.permutation
 
 pub returns-clause-ordered : goal.returns-clause-ordered
 returns-clause-ordered c =
