@@ -60,17 +60,26 @@ impl<'p, I: Ids> BoltTask<'p, I> {
     /// Executes a tuple: the tuples that it makes, and then what its acker is told. A failed tuple
     /// is told, and of a mute one nothing comes. A state makes no tuples and tells its write. What
     /// the operation costs, and the rows that it makes.
-    pub fn execute<O: RowOp>(&mut self, tuple: Tuple, custom: &O) -> Result<Parcels, Memory>
+    ///
+    /// The parcels come in the memory of `room`, which grows where they need more. What `room` holds
+    /// is dropped first.
+    pub fn execute<O: RowOp>(
+        &mut self,
+        tuple: Tuple,
+        custom: &O,
+        mut room: Vec<Parcel>,
+    ) -> Result<Parcels, Memory>
         requires { IsFor self.old tuple }
         ensures executed { IfOk result
             (Executes I.tells (O.meaning custom.now) tuple self.old self.new) }
         ensures same_task { IsSameTask self.new self.old }
     {
         self.collector.facts();
+        room.clear();
         match self.attempt(&tuple, custom)? {
-            Outcome::Rows(rows) => self.go_on(tuple, rows),
-            Outcome::Fail => self.fail(tuple),
-            Outcome::Mute => Ok(Parcels::new(self.alloc)),
+            Outcome::Rows(rows) => self.go_on(tuple, rows, room),
+            Outcome::Fail => self.fail(tuple, room),
+            Outcome::Mute => Ok(Parcels::from_vec(room)),
         }
     }
 
@@ -97,16 +106,17 @@ impl<'p, I: Ids> BoltTask<'p, I> {
     }
 
     /// Emits the rows of a tuple, and tells that it is done.
-    fn go_on(&mut self, tuple: Tuple, rows: Rows) -> Result<Parcels, Memory>
-        requires { IsFor self.old tuple }
+    fn go_on(&mut self, tuple: Tuple, rows: Rows, mut room: Vec<Parcel>) -> Result<Parcels, Memory>
+        requires for_it { IsFor self.old tuple }
+        requires empty { room.items ≡ [] }
         ensures goes_on { IfOk result (GoesOn I.tells tuple rows
             (option_to_list (write_of self.old.plan.now (node_of tuple))) self.old.task
             self.old.collector self.new.collector) }
         ensures same_task { IsSameTask self.new self.old }
     {
         let writes = self.writes(&tuple)?;
-        let room = rows.len().saturating_add(1);
-        let mut parcels = Parcels::from_vec(Vec::with_capacity(self.alloc, room)?);
+        room.reserve(rows.len().saturating_add(1))?;
+        let mut parcels = Parcels::from_vec(room);
         let root = tuple.root;
         let path = &tuple.edge.path;
         let Emitted { edges, draw } = self.collector.emit(root, path, rows, &mut parcels)?;
@@ -122,11 +132,12 @@ impl<'p, I: Ids> BoltTask<'p, I> {
     }
 
     /// Tells that a tuple failed.
-    fn fail(&self, tuple: Tuple) -> Result<Parcels, Memory>
+    fn fail(&self, tuple: Tuple, room: Vec<Parcel>) -> Result<Parcels, Memory>
+        requires { room.items ≡ [] }
         ensures { IfOk result (λ parcels. parcels ≡ to_acker self.now.plan.now
             (Failed (record { root = tuple.root; path = tuple.edge.path })) ∷ []) }
     {
-        let mut parcels = Parcels::from_vec(Vec::with_capacity(self.alloc, 1)?);
+        let mut parcels = Parcels::from_vec(room);
         let note = AckMsg::Failed(FailNote {
             root: tuple.root,
             path: tuple.edge.path,

@@ -57,6 +57,18 @@ fn takes_records(plan: &Plan, component: u32) -> bool
     false
 }
 
+// A parcel that was left behind.
+fn left_behind(alloc: Global) -> Result<Vec<Parcel>, Mismatch> {
+    let note = FailNote {
+        root: ROOT,
+        path: Path::new(alloc),
+    };
+    let mut left = Parcels::new(alloc);
+    left.push(Parcel::ToAcker(ACKER, AckMsg::Failed(note)))?;
+    Ok(left.into_vec())
+}
+
+// Nothing comes of the parcel in the room that is handed in.
 fn execute_in(
     alloc: Global,
     plan: &Plan,
@@ -80,7 +92,7 @@ fn execute_in(
         component,
         row: row_of(alloc, LINE, plan.spout_fields())?,
     };
-    Ok(bolt.execute(tuple, &Reversed)?)
+    Ok(bolt.execute(tuple, &Reversed, left_behind(alloc)?)?)
 }
 
 // What comes of a tuple at a task whose source of ids has these words.

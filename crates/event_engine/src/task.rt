@@ -5,6 +5,7 @@ ghost use Rattle.event_engine.specs.Seats.{Acts, ActsAt, Puts, Takes, TakesAt, W
 use bolt_ops::RowOp;
 use bolt_task::BoltTask;
 use std::collections::VecDeque;
+use std::mem;
 use storm_ids::Ids;
 use storm_values::Memory;
 use tree_model::{Parcel, Tuple};
@@ -34,7 +35,8 @@ impl<'p, I: Ids> TaskSeat<'p, I> {
         }
     }
 
-    // Takes the front tuple, if there is one, and executes it.
+    // Takes the front tuple, if there is one, and executes it. What comes of it is put into the
+    // memory of the empty outbox.
     fn execute<O: RowOp>(&mut self, custom: &O) -> Result<(), Memory>
         requires takes { Takes self.old }
         requires empty { self.old.outbox.items ≡ [] }
@@ -43,7 +45,8 @@ impl<'p, I: Ids> TaskSeat<'p, I> {
     {
         match self.inbox.pop_front() {
             Some(tuple) => {
-                let parcels = self.task.execute(tuple, custom)?;
+                let room = mem::try_take(&mut self.outbox)?.into_vec();
+                let parcels = self.task.execute(tuple, custom, room)?;
                 self.outbox = VecDeque::from_vec(parcels.into_vec());
                 Ok(())
             }
