@@ -1,5 +1,5 @@
 -- The map that a hashed table of keys makes.
-use Rattle.std.proofs.Common.{◌≡◌, ℕ, suc, Bool, true, false, cond, true≢false, ◌||◌, List, [], ◌∷◌, Option, None, Some, IsSome, is_some, Vec, map, length, refl, sym, ap, subst, ◌∙◌, nat_cmp}
+use Rattle.std.proofs.Common.{◌≡◌, ℕ, suc, Bool, true, false, cond, true≢false, ◌||◌, List, [], ◌∷◌, Option, None, Some, IsSome, is_some, map, length, refl, sym, ap, subst, ◌∙◌, nat_cmp}
 use Rattle.std.proofs.lemmas.Bool.{cond-false}
 use Rattle.std.proofs.lemmas.Cmp.{nat_list_cmp_total, nat_list_eq_equiv}
 use Rattle.std.proofs.lemmas.List.Kept.{IsStrictlySortedBy-dedup}
@@ -10,15 +10,14 @@ use Rattle.std.proofs.lemmas.Map.Keys.{IsDistinct-IsPermutation, IsDistinct-tail
 use Rattle.std.proofs.lemmas.Map.Text.{is_eq-slice_cmp}
 use Rattle.std.proofs.lemmas.Slice.Eq.{bytes_eq-Decides}
 use Rattle.std.specs.BTreeSet.{insert_key}
-use Rattle.std.specs.Cmp.{IsEquivalence}
 use Rattle.std.specs.Cmp.Lexicographic.{slice_cmp}
-use Rattle.std.specs.List.{AllByRecursion, IsDistinct, dedup, dedup_from, list_any}
+use Rattle.std.specs.List.{IsDistinct, dedup, dedup_from, list_any}
 use Rattle.std.specs.List.Sorted.{IsPermutation, IsSorted, IsStrictlySortedBy}
 use Rattle.std.specs.Map.{keys_of, lookup, set_value}
 use Rattle.std.specs.Str.{bytes_eq}
 use Rattle.indexmap.specs.IndexMap.{insert_entry}
 use Rattle.storm_stores.specs.CellMaps.{CellMap, InKeyOrder, cell_at, with_cell}
-use Rattle.storm_stores.specs.MemoryStore.{cells_of, items_of, same_items}
+use Rattle.storm_stores.specs.MemoryStore.{cells_of}
 use Rattle.storm_stores.proofs.CellMapLemmas.{InKeyOrder-none, InKeyOrder-with_cell, cell_at-any, keys_of-with_cell, length-with_cell, same_cells}
 
 -- ---- one key beside another
@@ -93,97 +92,71 @@ dedup-distinct : (xs : List (List ℕ)) → IsDistinct bytes_eq xs → dedup byt
 dedup-distinct [] distinct = refl
 dedup-distinct (x ∷ xs) distinct = dedup_from-distinct x xs distinct
 
-module _ {A : Type 0} where
-  abbrev pub is_key : List ℕ → Vec ℕ A → Bool
-  is_key key held = bytes_eq key held.items
+-- ---- look-ups in a table after a write
 
-  by_items : IsEquivalence (same_items {A = A})
-  by_items = record {
-    refl = λ a. nat_list_eq_equiv.refl a.items;
-    symm = λ a b. nat_list_eq_equiv.symm a.items b.items;
-    congr = λ a b c. nat_list_eq_equiv.congr a.items b.items c.items;
-  }
+lookup-insert : (entries : CellMap) (key cell at : List ℕ)
+    → cell_at (insert_entry bytes_eq entries key cell) at ≡ cond (bytes_eq at key) (Some cell) (cell_at entries at)
+lookup-insert [] key cell at = refl
+lookup-insert (e ∷ es) key cell at = cases (bytes_eq key e.0) refl (lookup-insert es key cell at)
+  where
+    cases : (b : Bool) → bytes_eq key e.0 ≡ b → cell_at (insert_entry bytes_eq es key cell) at ≡ cond (bytes_eq at key) (Some cell) (cell_at es at)
+        → lookup (bytes_eq at) (cond b ((e.0, cell) ∷ es) (e ∷ insert_entry bytes_eq es key cell)) ≡ cond (bytes_eq at key) (Some cell) (cond (bytes_eq at e.0) (Some e.1) (cell_at es at))
+    cases true is rest = met key at e.0 (Some cell) (Some e.1) (cell_at es at) is
+    cases false is rest = ap (cond (bytes_eq at e.0) (Some e.1)) rest ∙ passed key at e.0 (Some cell) (Some e.1) (cell_at es at) is
 
-  -- ---- look-ups in a table after a write
+lookup-set : (entries : CellMap) (key cell at : List ℕ) → IsSome (cell_at entries key)
+    → cell_at (set_value (bytes_eq key) entries cell) at ≡ cond (bytes_eq at key) (Some cell) (cell_at entries at)
+lookup-set [] key cell at there = absurd (true≢false (sym there))
+lookup-set (e ∷ es) key cell at there = cases (bytes_eq key e.0) refl there (lookup-set es key cell at)
+  where
+    cases : (b : Bool) → bytes_eq key e.0 ≡ b → IsSome (cond b (Some e.1) (cell_at es key))
+        → (IsSome (cell_at es key) → cell_at (set_value (bytes_eq key) es cell) at ≡ cond (bytes_eq at key) (Some cell) (cell_at es at))
+        → lookup (bytes_eq at) (cond b ((e.0, cell) ∷ es) (e ∷ set_value (bytes_eq key) es cell)) ≡ cond (bytes_eq at key) (Some cell) (cond (bytes_eq at e.0) (Some e.1) (cell_at es at))
+    cases true is there rest = met key at e.0 (Some cell) (Some e.1) (cell_at es at) is
+    cases false is there rest = ap (cond (bytes_eq at e.0) (Some e.1)) (rest there) ∙ passed key at e.0 (Some cell) (Some e.1) (cell_at es at) is
 
-  lookup-insert : (entries : List (Vec ℕ A × List ℕ)) (key : Vec ℕ A) (cell at : List ℕ)
-      → lookup (is_key at) (insert_entry same_items entries key cell) ≡ cond (bytes_eq at key.items) (Some cell) (lookup (is_key at) entries)
-  lookup-insert [] key cell at = refl
-  lookup-insert (e ∷ es) key cell at = cases (bytes_eq key.items e.0.items) refl (lookup-insert es key cell at)
-    where
-      cases : (b : Bool) → bytes_eq key.items e.0.items ≡ b → lookup (is_key at) (insert_entry same_items es key cell) ≡ cond (bytes_eq at key.items) (Some cell) (lookup (is_key at) es)
-          → lookup (is_key at) (cond b ((e.0, cell) ∷ es) (e ∷ insert_entry same_items es key cell)) ≡ cond (bytes_eq at key.items) (Some cell) (cond (bytes_eq at e.0.items) (Some e.1) (lookup (is_key at) es))
-      cases true is rest = met key.items at e.0.items (Some cell) (Some e.1) (lookup (is_key at) es) is
-      cases false is rest = ap (cond (bytes_eq at e.0.items) (Some e.1)) rest ∙ passed key.items at e.0.items (Some cell) (Some e.1) (lookup (is_key at) es) is
+-- ---- the map of a table
 
-  lookup-set : (entries : List (Vec ℕ A × List ℕ)) (key cell at : List ℕ) → IsSome (lookup (is_key key) entries)
-      → lookup (is_key at) (set_value (is_key key) entries cell) ≡ cond (bytes_eq at key) (Some cell) (lookup (is_key at) entries)
-  lookup-set [] key cell at there = absurd (true≢false (sym there))
-  lookup-set (e ∷ es) key cell at there = cases (bytes_eq key e.0.items) refl there (lookup-set es key cell at)
-    where
-      cases : (b : Bool) → bytes_eq key e.0.items ≡ b → IsSome (cond b (Some e.1) (lookup (is_key key) es))
-          → (IsSome (lookup (is_key key) es) → lookup (is_key at) (set_value (is_key key) es cell) ≡ cond (bytes_eq at key) (Some cell) (lookup (is_key at) es))
-          → lookup (is_key at) (cond b ((e.0, cell) ∷ es) (e ∷ set_value (is_key key) es cell)) ≡ cond (bytes_eq at key) (Some cell) (cond (bytes_eq at e.0.items) (Some e.1) (lookup (is_key at) es))
-      cases true is there rest = met key at e.0.items (Some cell) (Some e.1) (lookup (is_key at) es) is
-      cases false is there rest = ap (cond (bytes_eq at e.0.items) (Some e.1)) (rest there) ∙ passed key at e.0.items (Some cell) (Some e.1) (lookup (is_key at) es) is
+pub InKeyOrder-cells_of : (entries : CellMap) → InKeyOrder (cells_of entries)
+InKeyOrder-cells_of [] = InKeyOrder-none
+InKeyOrder-cells_of (e ∷ es) = InKeyOrder-with_cell (cells_of es) e.0 e.1 (InKeyOrder-cells_of es)
 
-  -- ---- the map of a table
+pub cell_at-cells_of : (entries : CellMap) (key : List ℕ) → cell_at (cells_of entries) key ≡ cell_at entries key
+cell_at-cells_of [] key = refl
+cell_at-cells_of (e ∷ es) key = cell_at-any (cells_of es) e.0 e.1 key ∙ ap (cond (bytes_eq key e.0) (Some e.1)) (cell_at-cells_of es key)
 
-  pub InKeyOrder-cells_of : (entries : List (Vec ℕ A × List ℕ)) → InKeyOrder (cells_of entries)
-  InKeyOrder-cells_of [] = InKeyOrder-none
-  InKeyOrder-cells_of (e ∷ es) = InKeyOrder-with_cell (cells_of es) e.0.items e.1 (InKeyOrder-cells_of es)
+written : (old new : CellMap) (key cell : List ℕ) → ((at : List ℕ) → cell_at new at ≡ cond (bytes_eq at key) (Some cell) (cell_at old at))
+    → cells_of new ≡ with_cell (cells_of old) key cell
+written old new key cell is =
+    same_cells (cells_of new) (with_cell (cells_of old) key cell) (InKeyOrder-cells_of new) (InKeyOrder-with_cell (cells_of old) key cell (InKeyOrder-cells_of old))
+    (λ at. cell_at-cells_of new at ∙ is at ∙ ap (cond (bytes_eq at key) (Some cell)) (sym (cell_at-cells_of old at)) ∙ sym (cell_at-any (cells_of old) key cell at))
 
-  pub cell_at-cells_of : (entries : List (Vec ℕ A × List ℕ)) (key : List ℕ) → cell_at (cells_of entries) key ≡ lookup (is_key key) entries
-  cell_at-cells_of [] key = refl
-  cell_at-cells_of (e ∷ es) key = cell_at-any (cells_of es) e.0.items e.1 key ∙ ap (cond (bytes_eq key e.0.items) (Some e.1)) (cell_at-cells_of es key)
+pub cells_of-insert : (entries : CellMap) (key cell : List ℕ) → cells_of (insert_entry bytes_eq entries key cell) ≡ with_cell (cells_of entries) key cell
+cells_of-insert entries key cell = written entries (insert_entry bytes_eq entries key cell) key cell (lookup-insert entries key cell)
 
-  written : (old new : List (Vec ℕ A × List ℕ)) (key cell : List ℕ) → ((at : List ℕ) → lookup (is_key at) new ≡ cond (bytes_eq at key) (Some cell) (lookup (is_key at) old))
-      → cells_of new ≡ with_cell (cells_of old) key cell
-  written old new key cell is =
-      same_cells (cells_of new) (with_cell (cells_of old) key cell) (InKeyOrder-cells_of new) (InKeyOrder-with_cell (cells_of old) key cell (InKeyOrder-cells_of old))
-      (λ at. cell_at-cells_of new at ∙ is at ∙ ap (cond (bytes_eq at key) (Some cell)) (sym (cell_at-cells_of old at)) ∙ sym (cell_at-any (cells_of old) key cell at))
+pub cells_of-set : (entries : CellMap) (key cell : List ℕ) → IsSome (cell_at entries key) → cells_of (set_value (bytes_eq key) entries cell) ≡ with_cell (cells_of entries) key cell
+cells_of-set entries key cell there = written entries (set_value (bytes_eq key) entries cell) key cell (λ at. lookup-set entries key cell at there)
 
-  pub cells_of-insert : (entries : List (Vec ℕ A × List ℕ)) (key : Vec ℕ A) (cell : List ℕ) → cells_of (insert_entry same_items entries key cell) ≡ with_cell (cells_of entries) key.items cell
-  cells_of-insert entries key cell = written entries (insert_entry same_items entries key cell) key.items cell (lookup-insert entries key cell)
+-- the keys of the map are given by the keys alone
+pub keys_of-cells_of : (old new : CellMap) → keys_of new ≡ keys_of old → keys_of (cells_of new) ≡ keys_of (cells_of old)
+keys_of-cells_of old new is = sorted new ∙ ap sort is ∙ sym (sorted old)
+  where
+    sorted : (entries : CellMap) → keys_of (cells_of entries) ≡ sort (keys_of entries)
+    sorted [] = refl
+    sorted (e ∷ es) = keys_of-with_cell (cells_of es) e.0 e.1 ∙ ap (λ keys. insert_key (slice_cmp nat_cmp) keys e.0) (sorted es)
 
-  pub cells_of-set : (entries : List (Vec ℕ A × List ℕ)) (key cell : List ℕ) → IsSome (lookup (is_key key) entries) → cells_of (set_value (is_key key) entries cell) ≡ with_cell (cells_of entries) key cell
-  cells_of-set entries key cell there = written entries (set_value (is_key key) entries cell) key cell (λ at. lookup-set entries key cell at there)
+pub length-cells_of : (entries : CellMap) → IsDistinct bytes_eq (keys_of entries) → length (cells_of entries) ≡ length entries
+length-cells_of [] distinct = refl
+length-cells_of (e ∷ es) distinct =
+    let none : cell_at (cells_of es) e.0 ≡ None = cell_at-cells_of es e.0 ∙ lookup-none (bytes_eq e.0) es (none_past_head nat_list_eq_equiv e.0 e es distinct (nat_list_eq_equiv.refl e.0)) in
+    length-with_cell (cells_of es) e.0 e.1 none ∙ ap (λ n. suc n) (length-cells_of es (IsDistinct-tail bytes_eq e.0 (keys_of es) distinct))
 
-  -- the keys of the map are given by the keys alone
-  pub keys_of-cells_of : (old new : List (Vec ℕ A × List ℕ)) → keys_of new ≡ keys_of old → keys_of (cells_of new) ≡ keys_of (cells_of old)
-  keys_of-cells_of old new is = sorted new ∙ ap (λ keys. sort (map (λ (key : Vec ℕ A). key.items) keys)) is ∙ sym (sorted old)
-    where
-      sorted : (entries : List (Vec ℕ A × List ℕ)) → keys_of (cells_of entries) ≡ sort (items_of entries)
-      sorted [] = refl
-      sorted (e ∷ es) = keys_of-with_cell (cells_of es) e.0.items e.1 ∙ ap (λ keys. insert_key (slice_cmp nat_cmp) keys e.0.items) (sorted es)
-
-  pub length-cells_of : (entries : List (Vec ℕ A × List ℕ)) → IsDistinct same_items (keys_of entries) → length (cells_of entries) ≡ length entries
-  length-cells_of [] distinct = refl
-  length-cells_of (e ∷ es) distinct =
-      let none : cell_at (cells_of es) e.0.items ≡ None = cell_at-cells_of es e.0.items ∙ lookup-none (is_key e.0.items) es (none_past_head by_items e.0 e es distinct (nat_list_eq_equiv.refl e.0.items)) in
-      length-with_cell (cells_of es) e.0.items e.1 none ∙ ap (λ n. suc n) (length-cells_of es (IsDistinct-tail same_items e.0 (keys_of es) distinct))
-
-  -- ---- the keys in order
-
-  any-items : (entries : List (Vec ℕ A × List ℕ)) (at : List ℕ) → list_any (bytes_eq at) (items_of entries) ≡ is_some (lookup (is_key at) entries)
-  any-items [] at = refl
-  any-items (e ∷ es) at = any_key (bytes_eq at e.0.items) (list_any (bytes_eq at) (items_of es)) e.1 (lookup (is_key at) es) (any-items es at)
-
-  apart : (key : Vec ℕ A) (keys : List (Vec ℕ A)) → AllByRecursion (λ k. same_items key k ≡ false) keys → AllByRecursion (λ k. bytes_eq key.items k ≡ false) (map (λ (k : Vec ℕ A). k.items) keys)
-  apart key [] all = tt
-  apart key (k ∷ ks) all = (all.0, apart key ks all.1)
-
-  distinct_items : (keys : List (Vec ℕ A)) → IsDistinct same_items keys → IsDistinct bytes_eq (map (λ (k : Vec ℕ A). k.items) keys)
-  unfolding IsDistinct
-  distinct_items [] distinct = tt
-  distinct_items (k ∷ ks) distinct = (apart k ks distinct.0, distinct_items ks distinct.1)
-
-  -- a sort of the keys gives those of the map
-  pub keys-sorted : (entries : List (Vec ℕ A × List ℕ)) (keys : List (List ℕ)) → IsDistinct same_items (keys_of entries) → IsPermutation (items_of entries) keys → IsSorted (slice_cmp nat_cmp) keys
-      → keys ≡ keys_of (cells_of entries)
-  keys-sorted entries keys distinct moved sorted =
-      let differ : IsDistinct bytes_eq keys = IsDistinct-IsPermutation bytes_eq nat_list_eq_equiv.symm (items_of entries) keys moved (distinct_items (keys_of entries) distinct) in
-      let rise : IsStrictlySortedBy (slice_cmp nat_cmp) keys =
-      subst (IsStrictlySortedBy (slice_cmp nat_cmp)) (dedup-distinct keys differ) (IsStrictlySortedBy-dedup nat_list_cmp_total (λ x y. sym (is_eq-slice_cmp x y)) keys sorted) in
-      same_sorted keys (keys_of (cells_of entries)) rise (InKeyOrder-cells_of entries)
-      (λ at. sym (list_any-IsPermutation (bytes_eq at) (items_of entries) keys moved) ∙ any-items entries at ∙ ap is_some (sym (cell_at-cells_of entries at)) ∙ sym (any-keys (cells_of entries) at))
+-- a sort of the keys gives those of the map
+pub keys-sorted : (entries : CellMap) (keys : List (List ℕ)) → IsDistinct bytes_eq (keys_of entries) → IsPermutation (keys_of entries) keys → IsSorted (slice_cmp nat_cmp) keys
+    → keys ≡ keys_of (cells_of entries)
+keys-sorted entries keys distinct moved sorted =
+    let differ : IsDistinct bytes_eq keys = IsDistinct-IsPermutation bytes_eq nat_list_eq_equiv.symm (keys_of entries) keys moved distinct in
+    let rise : IsStrictlySortedBy (slice_cmp nat_cmp) keys =
+    subst (IsStrictlySortedBy (slice_cmp nat_cmp)) (dedup-distinct keys differ) (IsStrictlySortedBy-dedup nat_list_cmp_total (λ x y. sym (is_eq-slice_cmp x y)) keys sorted) in
+    same_sorted keys (keys_of (cells_of entries)) rise (InKeyOrder-cells_of entries)
+    (λ at. sym (list_any-IsPermutation (bytes_eq at) (keys_of entries) keys moved) ∙ any-keys entries at ∙ ap is_some (sym (cell_at-cells_of entries at)) ∙ sym (any-keys (cells_of entries) at))

@@ -4,3 +4,4 @@ pub mod Calls
 pub mod MemoryStore
 pub mod Counts
 pub mod MemoryMaker
+pub mod Keys

@@ -1,7 +1,5 @@
 -- A store in memory.
-use Rattle.std.specs.Prelude.{ℕ, ◌≡◌, List, [], ◌∷◌, map, Vec, Bool, true, false, Option, Some, None}
-use Rattle.std.specs.Map.{keys_of}
-use Rattle.std.specs.Str.{bytes_eq}
+use Rattle.std.specs.Prelude.{ℕ, ◌≡◌, List, [], ◌∷◌, Bool, true, false, Option, Some, None}
 use Rattle.storm_stores.specs.CellMaps.{CellMap, InKeyOrder, with_cell}
 use Rattle.storm_stores.specs.Calls.{CallLog, no_calls, failing_at}
 use Rattle.storm_stores.specs.declared.calls.CallKind.{CallKind}
@@ -40,19 +38,10 @@ failing_of KeyAt call store = record store { keys = failing_at store.keys call }
 abbrev pub Holds : StoreState → CellMap → Type 0
 Holds store cells = (cells ≡ store.cells) × InKeyOrder cells
 
-module _ {A : Type 0} where
-  -- the map that the entries of a table make, in whatever order they stand
-  abbrev pub cells_of : List (Vec ℕ A × List ℕ) → CellMap
-  cells_of [] = []
-  cells_of (entry ∷ entries) = with_cell (cells_of entries) entry.0.items entry.1
-
-  -- the bytes of the keys
-  abbrev pub items_of : List (Vec ℕ A × List ℕ) → List (List ℕ)
-  items_of entries = map (λ (key : Vec ℕ A). key.items) (keys_of entries)
-
-  -- two keys of the same bytes
-  abbrev pub same_items : Vec ℕ A → Vec ℕ A → Bool
-  same_items a b = bytes_eq a.items b.items
+-- the map that the entries of a table make, in whatever order they stand
+abbrev pub cells_of : CellMap → CellMap
+cells_of [] = []
+cells_of (entry ∷ entries) = with_cell (cells_of entries) entry.0 entry.1
 
 -- what is there after a put that failed, which perhaps happened
 abbrev pub cells_after : Option Bool → CellMap → List ℕ → List ℕ → CellMap

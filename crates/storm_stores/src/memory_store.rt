@@ -4,14 +4,16 @@ ghost use Rattle.std.specs.List.{IsDistinct};
 ghost use Rattle.std.specs.List.Sorted.{IsPermutation, IsSorted};
 ghost use Rattle.std.specs.Map.{keys_of};
 ghost use Rattle.std.specs.Ordering.{nat_cmp};
+ghost use Rattle.std.specs.Str.{bytes_eq};
 ghost use Rattle.std.proofs.Common.{sym, ◌∙◌};
 ghost use Rattle.storm_outside.specs.Counts.{Rose, raised};
 ghost use Rattle.storm_stores.specs.CellMaps.{CellMap, InKeyOrder, cell_at, with_cell};
 ghost use Rattle.storm_stores.specs.Calls.{counted, next_fate};
-ghost use Rattle.storm_stores.specs.MemoryStore.{Holds, cells_after, cells_of, failing_of, items_of, same_items, store_of};
+ghost use Rattle.storm_stores.specs.MemoryStore.{Holds, cells_after, cells_of, failing_of, store_of};
 
 use crate::calls::{CallKind, Calls, FailAt, Failing, count_fault};
 use crate::fault::StoreFault;
+use crate::key::{Key, KeyBytes};
 use crate::store::CellStore;
 use indexmap::IndexMap;
 use std::alloc::Global;
@@ -19,11 +21,12 @@ use std::marker::Model;
 use storm_values::{Bytes, Memory};
 
 /// The cells by key, found by hash.
-type Cells = IndexMap<Vec<u8>, Bytes>;
+type Cells = IndexMap<Key, Bytes>;
 
 /// Cells in memory. A get and a put take one look-up by hash, and a put of a new key two. For a
-/// cell of up to 48 bytes they take no memory, but for that of a new key. The first `key_at` after
-/// a new key sorts all keys, and each other one finds its key by its number.
+/// cell of up to 48 bytes they take no memory, and for a new key of up to 30 bytes only where the
+/// table grows. The first `key_at` after a new key sorts all keys, and each other one finds its
+/// key by its number.
 #[derive(Debug, Drop)]
 pub struct MemStore {
     cells: Cells,
@@ -61,7 +64,7 @@ impl Model for MemStore {
 fn find_cell(cells: &Cells, key: &[u8]) -> Result<Option<Bytes>, Memory>
     ensures { IfOk result (λ cell. cell ≡ cell_at (cells_of cells.now.entries) key.now) }
 {
-    match cells.get(key) {
+    match cells.get(KeyBytes { bytes: key }) {
         Some(cell) => Ok(Some(cell.copy()?)),
         None => Ok(None),
     }
@@ -79,13 +82,13 @@ fn put_cell(alloc: Global, cells: &mut Cells, key: &[u8], cell: &[u8]) -> Result
     ensures err { OnErr result (cells_of cells.new.entries ≡ cells_of cells.old.entries) }
 {
     let cell = Bytes::from_slice(alloc, cell)?;
-    match cells.get_mut(key) {
+    match cells.get_mut(KeyBytes { bytes: key }) {
         Some(old) => {
             *old = cell;
             Ok(false)
         }
         None => {
-            cells.insert(key.to_vec(alloc)?, cell)?;
+            cells.insert(Key::from_slice(alloc, key)?, cell)?;
             Ok(true)
         }
     }
@@ -109,12 +112,12 @@ fn sorted_keys(alloc: Global, cells: &Cells) -> Result<Vec<Bytes>, Memory>
 
 /// The keys, in the order in which they came.
 fn copy_keys(alloc: Global, cells: &Cells) -> Result<Vec<Bytes>, Memory>
-    ensures keys { IfOk result (λ keys. keys.items ≡ items_of cells.now.entries) }
-    ensures distinct { IsDistinct same_items (keys_of cells.now.entries) }
+    ensures keys { IfOk result (λ keys. keys.items ≡ keys_of cells.now.entries) }
+    ensures distinct { IsDistinct bytes_eq (keys_of cells.now.entries) }
 {
     let mut keys = Vec::with_capacity(alloc, cells.len())?;
     for key in cells.keys() {
-        keys.push(Bytes::from_slice(alloc, key)?)?;
+        keys.push(Bytes::from_slice(alloc, key.as_slice())?)?;
     }
     Ok(keys)
 }

@@ -69,6 +69,31 @@ fn a_key_has_its_last_cell(rt: HostRuntime) -> Result<(), Fail> {
     Ok(())
 }
 
+// Keys of 31 bytes, which do not lie in place, and one of 30, which does.
+const LONG: &[u8] = b"abcdefghijklmnopqrstuvwxyz01234";
+
+const OTHER: &[u8] = b"abcdefghijklmnopqrstuvwxyz01235";
+
+const SHORT: &[u8] = b"abcdefghijklmnopqrstuvwxyz0123";
+
+// A store with these keys.
+fn long_keys(alloc: Global) -> Result<MemStore, StoreFault> {
+    let mut store = MemStore::new(alloc);
+    store.put(LONG, b"1")?;
+    store.put(OTHER, b"2")?;
+    store.put(SHORT, b"3")?;
+    Ok(store)
+}
+
+#[test]
+fn long_keys_have_cells_of_their_own(rt: HostRuntime) -> Result<(), Fail> {
+    let mut store = long_keys(rt.alloc())?;
+    assert!(rt; has_cell(&mut store, LONG, b"1")?);
+    assert!(rt; has_cell(&mut store, OTHER, b"2")?);
+    assert!(rt; has_cell(&mut store, SHORT, b"3")?);
+    Ok(())
+}
+
 // The store with two keys, of which one call of a kind fails.
 fn failing(alloc: Global, kind: CallKind, number: u64, happened: bool) -> Result<MemStore, Memory> {
     let mut store = store(alloc)?;

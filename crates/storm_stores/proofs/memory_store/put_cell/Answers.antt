@@ -1,16 +1,15 @@
 use Rattle.std.proofs.Common.{◌≡◌, Some, IsSome, is_some, rules, sym, ap, ◌∙◌}
-use Rattle.std.specs.Map.{lookup}
 use Rattle.std.specs.Option.{option_copied_mut}
-use Rattle.storm_stores.specs.CellMaps.{with_cell}
+use Rattle.storm_stores.specs.CellMaps.{cell_at, with_cell}
 use Rattle.storm_stores.specs.MemoryStore.{cells_of}
-use Rattle.storm_stores.proofs.TableCells.{cells_of-insert, cells_of-set, is_key, keys_of-cells_of, InKeyOrder-cells_of}
+use Rattle.storm_stores.proofs.TableCells.{cells_of-insert, cells_of-set, keys_of-cells_of, InKeyOrder-cells_of}
 use Rattle.storm_stores.proofs.memory_store.put_cell.Goals as goal
 
 -- the key is there, and the cell is written through what was found
 pub returns-in-Some-clause-ok : goal.returns-in-Some-clause-ok
 returns-in-Some-clause-ok c =
-    let found : lookup (is_key c.args.key.now) c.args.cells.now.entries ≡ Some c.in-Some.old.now = sym c.get_mut.ensures.value ∙ ap option_copied_mut c.in-Some.is in
-    let there : IsSome (lookup (is_key c.args.key.now) c.args.cells.now.entries) = ap is_some found in
+    let found : cell_at c.args.cells.now.entries c.args.key.now ≡ Some c.in-Some.old.now = sym c.get_mut.ensures.value ∙ ap option_copied_mut c.in-Some.is in
+    let there : IsSome (cell_at c.args.cells.now.entries c.args.key.now) = ap is_some found in
     let through = c.get_mut.follows.holds c.in_ok-cell.cell in
     ap cells_of through.0 ∙ cells_of-set c.args.cells.now.entries c.args.key.now c.in_ok-cell.cell there ∙ ap (with_cell (cells_of c.args.cells.now.entries) c.args.key.now) c.in_ok-cell.ensures
 
@@ -27,9 +26,9 @@ returns-in-Some-clause-ordered_before c = InKeyOrder-cells_of c.args.cells.now.e
 pub returns-in_ok-insert-in-None-clause-ok : goal.returns-in_ok-insert-in-None-clause-ok
 returns-in_ok-insert-in-None-clause-ok c =
     let stays : c.get_mut.follows.lender-at-none ≡ c.args.cells.now = c.get_mut.follows.holds-at-none in
-    let key : c.in_ok-to_vec-in-None.field-0.items ≡ c.args.key.now = search rules in
+    let key : c.in_ok-from_slice-in-None.field-0 ≡ c.args.key.now = search rules in
     ap cells_of c.in_ok-insert-in-None.ensures.entries
-    ∙ cells_of-insert c.get_mut.follows.lender-at-none.entries c.in_ok-to_vec-in-None.field-0 c.in_ok-cell.cell
+    ∙ cells_of-insert c.get_mut.follows.lender-at-none.entries c.in_ok-from_slice-in-None.field-0 c.in_ok-cell.cell
     ∙ (λ i. with_cell (cells_of (stays i).entries) (key i) (c.in_ok-cell.ensures i))
 
 pub returns-in_ok-insert-in-None-clause-ordered : goal.returns-in_ok-insert-in-None-clause-ordered
