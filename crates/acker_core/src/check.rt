@@ -20,8 +20,8 @@ pub enum Check {
 }
 
 /// Whether each edge occurs an even number of times among the edges of the inits and the consumed
-/// and produced edges of the dones. It takes time in proportion to n log n for n edges. The edges
-/// are copied only where they do not stand in pairs when they are put in the order of their ids.
+/// and produced edges of the dones. It takes time in proportion to n log n for n edges at most. The
+/// edges are copied only where they are not found in pairs by their ids.
 pub fn check_list(alloc: Global, list: &Notes) -> Result<Check, Memory>
     ensures { IfOk result (IsCheckOf list.now) }
 {

@@ -1,3 +1,4 @@
+use crate::pairs::are_in_pairs;
 use crate::{Acker, Check, Verdict, check_list};
 use std::alloc::Global;
 use std::test::Fail;
@@ -156,5 +157,28 @@ fn edges_of_one_id_are_told_apart(rt: HostRuntime) -> Result<(), Fail> {
     assert_eq!(rt; left.as_slice(), [(0, 5), (1, 5)].as_slice());
     list.push(done(alloc, (1, 5), &[(0, 5)])?)?;
     assert!(rt; matches!(check_list(alloc, &list)?, Check::Closed));
+    Ok(())
+}
+
+// Edges that want one place of each table, by both halves of their ids.
+const CROWDED: [(u32, u64); 4] = [
+    (0, 0x0100_0000_0100),
+    (1, 0x0200_0000_0200),
+    (2, 0x0300_0000_0300),
+    (3, 0x0400_0000_0400),
+];
+
+#[test]
+fn edges_that_want_one_place_are_paired(rt: HostRuntime) -> Result<(), Fail> {
+    let alloc = rt.alloc();
+    let mut list = Notes::new(alloc);
+    list.push(init(alloc, &CROWDED)?)?;
+    for edge in &CROWDED {
+        list.push(done(alloc, *edge, &[])?)?;
+    }
+    assert!(rt; are_in_pairs(alloc, &list)?);
+    // two edges of one id
+    list.push(done(alloc, (4, 0x0400_0000_0400), &[(3, 0x0400_0000_0400)])?)?;
+    assert!(rt; !are_in_pairs(alloc, &list)?);
     Ok(())
 }
