@@ -8,6 +8,10 @@ use std::time::{Clock, Instant};
 
 const SECONDS_A_TICK: u64 = 10;
 
+/// After a look at the clock so many calls answer 0 without one, since a call comes each round, of
+/// some microseconds, and a look costs as much as a message.
+const CALLS_WITHOUT_A_LOOK: u32 = 15;
+
 /// How many ticks are due when so many whole seconds went by and so many ticks were handed out, at
 /// most 2^32 - 1 at once.
 pub fn ticks_at(seconds: u64, handed_out: u64) -> u32
@@ -44,14 +48,25 @@ fn seconds_passed(clock: &impl Clock, first: &mut Option<Instant>) -> u64
     }
 }
 
+// No ticks, after so many that were handed out.
+fn none_after(handed_out: u64) -> u32
+    ensures none { result ≡ 0 }
+    ensures counted { handed_on handed_out result ≡ handed_out }
+{
+    let _ = handed_out;
+    0
+}
+
 /// One tick each 10 seconds of the monotonic clock since this was made, or since the clock could
-/// first be read. No tick passes in a call that finds the clock unreadable; a later one makes up
-/// for it.
+/// first be read. It looks at the clock at its first call and then at each sixteenth. No tick passes
+/// in a call between, nor in one that finds the clock unreadable; a later one makes up for it.
 #[derive(Drop)]
 pub struct ClockTicks<R: Clock> {
     clock: R,
     first: Option<Instant>,
     handed_out: u64,
+    // how many calls are to come before the next look
+    without_a_look: u32,
 }
 
 impl<R: Clock> ClockTicks<R> {
@@ -63,6 +78,7 @@ impl<R: Clock> ClockTicks<R> {
             clock,
             first,
             handed_out: 0,
+            without_a_look: 0,
         }
     }
 
@@ -90,6 +106,11 @@ impl<R: Clock> Ticks for ClockTicks<R> {
     ghost tells = { λ _ _. ⊥ };
 
     fn passed(&mut self) -> u32 {
+        if self.without_a_look > 0 {
+            self.without_a_look -= 1;
+            return none_after(self.handed_out);
+        }
+        self.without_a_look = CALLS_WITHOUT_A_LOOK;
         let seconds = seconds_passed(&self.clock, &mut self.first);
         self.passed_at(seconds)
     }
