@@ -20,7 +20,7 @@ use Rattle.cell_format.specs.Layout.{bytes_of, read_of}
 use Rattle.cell_format.specs.Commits.{Holds, again, after, anew}
 use Rattle.cell_format.specs.declared.cell.Cell.{Cell}
 use Rattle.cell_format.proofs.LayoutLemmas.{read_of-bytes_of}
-use Rattle.std.specs.Borrow.{Bor}
+use Rattle.storm_stores.specs.declared.key.KeyBytes.{KeyBytes}
 use Rattle.state_cells.specs.Groups.{Group, job_of, restores_in}
 use Rattle.state_cells.specs.Known.{AreKnown, FollowsFrom, IsAfter, IsKnownAt, IsListedOf, Knows, keys_in}
 use Rattle.state_cells.specs.Scans.{IsNotLater, carriers, carries_of, is_carrier}
@@ -211,9 +211,9 @@ module _ {S T E : Type 0} (tells : S → CellMap → Type 0) (one_map : (s : S) 
 
 -- ---- the keys that are written, and then the others
 
-pub keys-jobs : (groups : List Group) → map (λ (k : Bor (List ℕ)). k.now) (keys_of groups) ≡ keys_in (map job_of groups)
+pub keys-jobs : (groups : List Group) → map (λ (k : KeyBytes). k.bytes.now) (keys_of groups) ≡ keys_in (map job_of groups)
 keys-jobs [] = refl
-keys-jobs (e ∷ es) = ap (λ (ks : List (List ℕ)). e.0.now ∷ ks) (keys-jobs es)
+keys-jobs (e ∷ es) = ap (λ (ks : List (List ℕ)). e.0.bytes.now ∷ ks) (keys-jobs es)
 
 pub keys-whole : (jobs : List Job) (keys : List (List ℕ)) → keys_in jobs ++ keys ≡ keys_in (jobs ++ restores_in keys)
 keys-whole [] [] = refl

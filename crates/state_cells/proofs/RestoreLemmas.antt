@@ -1,6 +1,6 @@
 -- Jobs without amounts.
 use Rattle.std.proofs.Common.{◌≡◌, ◌≢◌, ℕ, ℤ, Bool, true, false, not, ◌&&◌, ◌||◌, cond, true≢false, List, [], ◌∷◌, ◌++◌, filter, length, arith, Option, None, Some, find, option_map, is_some, refl, sym, ap, subst, ◌∙◌}
-use Rattle.std.specs.Borrow.{Bor}
+use Rattle.storm_stores.specs.declared.key.KeyBytes.{KeyBytes}
 use Rattle.std.specs.List.{list_any, slice_get}
 use Rattle.std.proofs.lemmas.Grind.{common_steps}
 use Rattle.std.proofs.lemmas.Option.{slice_get-map}
@@ -86,7 +86,7 @@ or_none : (o : Option (List ℤ)) → option_or o None ≡ o
 or_none None = refl
 or_none (Some xs) = refl
 
-module _ {S : Type 0} (groups : IndexMap (Bor (List ℕ)) (SmallVec ℤ) S) (restores : List (List ℕ)) where
+module _ {S : Type 0} (groups : IndexMap KeyBytes (SmallVec ℤ) S) (restores : List (List ℕ)) where
   module _ (keys : List (List ℕ)) (is : restores ≡ filter (λ key. not (is_some (group_of groups key))) keys) where
     restore_at : (key : List ℕ) → job_at (restores_in restores) key ≡ cond (list_any (bytes_eq key) keys && not (is_some (group_of groups key))) (Some []) None
     restore_at key =

@@ -10,13 +10,14 @@ use Rattle.topology_plan.specs.declared.parts.Fold.{Fold}
 use Rattle.topology_plan.specs.declared.parts.Kind.{Kind}
 use Rattle.storm_stores.specs.CellMaps.{CellMap, cell_at}
 use Rattle.storm_stores.proofs.CellMapLemmas.{bytes_eq-same}
+use Rattle.storm_stores.specs.declared.key.KeyBytes.{KeyBytes}
 use Rattle.cell_format.specs.Commits.{Commits, IsPerhapsDone}
 use Rattle.state_cells.specs.Groups.{Group, job_of}
 use Rattle.state_cells.specs.Turns.{AreApart, IsPerhapsWorked, IsWorked, Job, OnlyAt, Turns, job_at}
 use Rattle.state_cells.proofs.JobLemmas.{job_at-append, work_broken, work_more}
 
 abbrev Shown : Type 0
-Shown = Bor (Bor (List ℕ)) × Bor (SmallVec ℤ)
+Shown = Bor KeyBytes × Bor (SmallVec ℤ)
 
 -- ---- a walk over the keys that are written
 
@@ -58,16 +59,16 @@ module _ {S : Type 0} (tells : S → CellMap → Type 0) (kind : Kind) (by : Fol
     whole : map job_of all ≡ map job_of (map deref_pair ys) ++ job_of (deref_pair x) ∷ map job_of next
     whole = ap (map job_of) (sym parts ∙ ap (λ r. map deref_pair ys ++ r) step) ∙ map_join job_of (map deref_pair ys) (deref_pair x ∷ next)
 
-    fresh : job_at (map job_of (map deref_pair ys)) x.0.now.now ≡ None
+    fresh : job_at (map job_of (map deref_pair ys)) x.0.now.bytes.now ≡ None
     fresh = not_before (map job_of (map deref_pair ys)) (map job_of next) (job_of (deref_pair x)) (subst AreApart whole apart)
 
     done : map job_of (map deref_pair (ys ++ x ∷ [])) ≡ map job_of (map deref_pair ys) ++ job_of (deref_pair x) ∷ []
     done = ap (map job_of) (map_join deref_pair ys (x ∷ [])) ∙ map_join job_of (map deref_pair ys) (deref_pair x ∷ [])
 
-    pub group_done : Turns tells (OnlyAt x.0.now.now (Commits kind by txid x.1.now.items)) b c → Turns tells (λ key. IsWorked kind by txid (job_at (map job_of (map deref_pair (ys ++ x ∷ []))) key)) a c
+    pub group_done : Turns tells (OnlyAt x.0.now.bytes.now (Commits kind by txid x.1.now.items)) b c → Turns tells (λ key. IsWorked kind by txid (job_at (map job_of (map deref_pair (ys ++ x ∷ []))) key)) a c
     group_done then = subst (λ (js : List Job). Turns tells (λ key. IsWorked kind by txid (job_at js key)) a c) (sym done) (work_more tells kind by txid (map job_of (map deref_pair ys)) (job_of (deref_pair x)) a b c fresh first then)
 
-    pub group_broken : Turns tells (OnlyAt x.0.now.now (IsPerhapsDone kind by txid x.1.now.items)) b c → Turns tells (λ key. IsPerhapsWorked kind by txid (job_at (map job_of all) key)) a c
+    pub group_broken : Turns tells (OnlyAt x.0.now.bytes.now (IsPerhapsDone kind by txid x.1.now.items)) b c → Turns tells (λ key. IsPerhapsWorked kind by txid (job_at (map job_of all) key)) a c
     group_broken then = subst (λ (js : List Job). Turns tells (λ key. IsPerhapsWorked kind by txid (job_at js key)) a c) (sym whole) (work_broken tells kind by txid (map job_of (map deref_pair ys)) (map job_of next) (job_of (deref_pair x)) a b c fresh first then)
 
 -- ---- one walk after the other

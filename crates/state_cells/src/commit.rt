@@ -133,7 +133,7 @@ fn commit_groups<C: CellStore>(
     ensures never_falls { C.fault_count store.old ≤ C.fault_count store.new }
 {
     for (key, amounts) in groups {
-        commit_key(alloc, store, batch, key.as_bytes(), amounts.as_slice())?;
+        commit_key(alloc, store, batch, key.bytes, amounts.as_slice())?;
     }
     Ok(())
 }

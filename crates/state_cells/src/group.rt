@@ -6,6 +6,7 @@ ghost use Rattle.state_cells.specs.Groups.{amounts_in, group_of, jobs_in};
 use indexmap::IndexMap;
 use smallvec::SmallVec;
 use std::alloc::Global;
+use storm_stores::KeyBytes;
 use storm_values::{Bytes, Memory};
 use tree_model::Writes;
 
@@ -14,7 +15,7 @@ pub(crate) type Amounts = SmallVec<i64, 4>;
 
 /// The amounts by key, found by hash, in the order in which the keys came first. The keys lie in
 /// the writes.
-pub(crate) type Groups<'w> = IndexMap<&'w str, Amounts>;
+pub(crate) type Groups<'w> = IndexMap<KeyBytes<'w>, Amounts>;
 
 /// Room is taken at once for as many keys as there are writes, and for this many at most.
 const ROOM: usize = 256;
@@ -27,7 +28,10 @@ pub(crate) fn group<'w>(alloc: Global, writes: &'w Writes) -> Result<Groups<'w>,
 {
     let mut groups: Groups<'w> = IndexMap::with_capacity(alloc, writes.len().min(ROOM))?;
     for write in writes.as_slice() {
-        let amounts = groups.entry(write.key.as_str())?.or_default();
+        let key = KeyBytes {
+            bytes: write.key.as_bytes(),
+        };
+        let amounts = groups.entry(key)?.or_default();
         amounts.push(write.amount)?;
     }
     // the length tells that no key stands twice
@@ -35,26 +39,11 @@ pub(crate) fn group<'w>(alloc: Global, writes: &'w Writes) -> Result<Groups<'w>,
     Ok(groups)
 }
 
-/// Whether something is written for a key, with one look-up. A key that is no text is compared with
-/// each that is written.
+/// Whether something is written for a key, with one look-up.
 fn has_write(groups: &Groups<'_>, key: &[u8]) -> bool
     ensures { result ≡ is_some (group_of groups.now key.now) }
 {
-    match str::from_utf8(key) {
-        Ok(text) => groups.contains_key(text),
-        Err(_) => is_among(groups, key),
-    }
-}
-
-fn is_among(groups: &Groups<'_>, key: &[u8]) -> bool
-    ensures { result ≡ is_some (group_of groups.now key.now) }
-{
-    for written in groups.keys() {
-        if key == written.as_bytes() {
-            return true;
-        }
-    }
-    false
+    groups.contains_key(KeyBytes { bytes: key })
 }
 
 /// Those of these keys for which nothing is written.

@@ -82,7 +82,7 @@ fn keys_of(
 {
     let mut keys = Vec::with_capacity(alloc, groups.len())?;
     for key in groups.keys() {
-        keys.push(Bytes::from_vec(key.as_bytes().to_vec(alloc)?))?;
+        keys.push(Bytes::from_slice(alloc, key.bytes)?)?;
     }
     keys.append(&mut restores)?;
     Ok(keys)

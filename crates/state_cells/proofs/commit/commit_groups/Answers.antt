@@ -15,7 +15,7 @@ loop-key-preserved g c = record {
   parts = parts_more deref_pair c.loop-key.yielded (c.in-Some.key, c.in-Some.amounts) c.loop-key.key-iterator c.next.new.self c.args.groups.now.entries c.loop-key.invariant.parts c.in-Some.ensures.steps;
   worked = λ apart. group_done g.C.CellStore.tells c.args.batch.kind c.args.batch.by c.args.batch.txid c.loop-key.yielded (c.in-Some.key, c.in-Some.amounts) c.loop-key.key-iterator c.next.new.self c.args.groups.now.entries
       c.loop-key.invariant.parts c.in-Some.ensures.steps apart c.args.store.now c.loop-key.store c.commit_key.new.store (c.loop-key.invariant.worked apart)
-      (rw (← c.as_bytes.ensures.value, ← c.as_slice.ensures) c.in_ok-commit_key.ensures.ok);
+      (rw (← c.as_slice.ensures) c.in_ok-commit_key.ensures.ok);
   told_before = λ cells told.
       let x = c.commit_key.ensures.told_before cells told in
       c.loop-key.invariant.told_before x.0 x.1;
@@ -26,7 +26,7 @@ pub returns-in_err-commit_key-clause-err : goal.returns-in_err-commit_key-clause
 returns-in_err-commit_key-clause-err g c = on_err c.from_residual.result (λ apart.
     group_broken g.C.CellStore.tells c.args.batch.kind c.args.batch.by c.args.batch.txid c.loop-key.yielded (c.in-Some.key, c.in-Some.amounts) c.loop-key.key-iterator c.next.new.self c.args.groups.now.entries
     c.loop-key.invariant.parts c.in-Some.ensures.steps apart c.args.store.now c.loop-key.store c.commit_key.new.store (c.loop-key.invariant.worked apart)
-    (rw (← c.as_bytes.ensures.value, ← c.as_slice.ensures) c.in_err-commit_key.ensures.err))
+    (rw (← c.as_slice.ensures) c.in_err-commit_key.ensures.err))
 
 pub returns-in_err-commit_key-clause-bad : goal.returns-in_err-commit_key-clause-bad
 returns-in_err-commit_key-clause-bad g c = λ k is apart cells told.
