@@ -9,17 +9,19 @@ use storm_values::{Row, Rows};
 pub struct Batches {
     rows: Rows,
     size: u32,
+    // kept, since a run asks for it at each event
+    count: u64,
 }
 
 impl Model for Batches {
-    ghost use Rattle.std.specs.Prelude.{◌<◌};
-    ghost use Rattle.trident_batches.specs.Batches.{Cut};
+    ghost use Rattle.std.specs.Prelude.{◌≡◌, ◌<◌, length};
+    ghost use Rattle.trident_batches.specs.Batches.{Cut, batch_count};
 
     ghost Value = { Cut };
 
     ghost view = { λ b. record { records = b.rows; size = b.size } };
 
-    ghost invariant = { λ b. 0 < b.size };
+    ghost invariant = { λ b. (0 < b.size) × (b.count ≡ batch_count (length b.rows) b.size) };
 }
 
 impl Batches {
@@ -29,7 +31,8 @@ impl Batches {
         ensures records { result.records ≡ rows }
         ensures size { result.size ≡ size }
     {
-        Batches { rows, size }
+        let count = (rows.len() as u64).div_ceil(u64::from(size));
+        Batches { rows, size, count }
     }
 
     /// How many batches there are.
@@ -38,7 +41,7 @@ impl Batches {
         ensures enough { length self.now.records ≤ result * self.now.size }
         ensures sized { 0 < self.now.size }
     {
-        (self.rows.len() as u64).div_ceil(u64::from(self.size))
+        self.count
     }
 
     /// The most records of a batch.

@@ -1,9 +1,9 @@
-use Rattle.std.proofs.Common.{◌≡◌, length, arith, rules}
-use Rattle.std.proofs.lemmas.Grind.{div_ceil_times}
+use Rattle.std.proofs.Common.{◌*◌, ◌≤◌, ℕ, length, subst, sym}
+use Rattle.trident_batches.proofs.CutLemmas.{enough}
 use Rattle.trident_batches.proofs.batches.Batches.count.Goals as goal
 
+-- the count that is kept is that of the rows
 pub returns-clause-enough : goal.returns-clause-enough
 returns-clause-enough c =
-    let records : length c.args.self.now.records ≡ c.len.result = search rules in
-    let size : c.args.self.now.size ≡ c.from.result = search rules in
-    rw (records, size, c.div_ceil.ensures) (div_ceil_times c.len.result c.from.result (omega arith)).0
+    rw (← c.self.view_is)
+    (subst (λ (n : ℕ). length c.self.inside.rows ≤ n * c.self.inside.size) (sym c.self.invariant.1) (enough (length c.self.inside.rows) c.self.inside.size c.self.invariant.0))
