@@ -11,11 +11,12 @@ use Rattle.std.proofs.lemmas.Map.Text.{is_eq-slice_cmp}
 use Rattle.std.proofs.lemmas.Slice.Eq.{bytes_eq-Decides}
 use Rattle.std.specs.BTreeSet.{insert_key}
 use Rattle.std.specs.Cmp.Lexicographic.{slice_cmp}
-use Rattle.std.specs.List.{IsDistinct, dedup, dedup_from, list_any}
+use Rattle.std.specs.List.{IsDistinct, dedup, dedup_from, list_any, slice_get}
 use Rattle.std.specs.List.Sorted.{IsPermutation, IsSorted, IsStrictlySortedBy}
 use Rattle.std.specs.Map.{keys_of, lookup, set_value}
 use Rattle.std.specs.Str.{bytes_eq}
-use Rattle.indexmap.specs.IndexMap.{insert_entry}
+use Rattle.indexmap.proofs.CallerLemmas.{updates-with_value_at}
+use Rattle.indexmap.specs.IndexMap.{IndexMap, IsUnique, insert_entry, with_value_at}
 use Rattle.storm_stores.specs.CellMaps.{CellMap, InKeyOrder, cell_at, with_cell}
 use Rattle.storm_stores.specs.MemoryStore.{cells_of}
 use Rattle.storm_stores.proofs.CellMapLemmas.{InKeyOrder-none, InKeyOrder-with_cell, cell_at-any, keys_of-with_cell, length-with_cell, same_cells}
@@ -136,6 +137,13 @@ cells_of-insert entries key cell = written entries (insert_entry bytes_eq entrie
 
 pub cells_of-set : (entries : CellMap) (key cell : List ℕ) → IsSome (cell_at entries key) → cells_of (set_value (bytes_eq key) entries cell) ≡ with_cell (cells_of entries) key cell
 cells_of-set entries key cell there = written entries (set_value (bytes_eq key) entries cell) key cell (λ at. lookup-set entries key cell at there)
+
+-- the key that stands at a number has the cell that is written there
+pub cells_of-at : {S : Type 0} (table : IndexMap (List ℕ) (List ℕ) S) (i : ℕ) (key old cell : List ℕ) → IsUnique bytes_eq table → slice_get table.entries i ≡ Some (key, old)
+    → cells_of (with_value_at table i cell).entries ≡ with_cell (cells_of table.entries) key cell
+cells_of-at table i key old cell unique here =
+    let updates = updates-with_value_at table i cell nat_list_eq_equiv unique key old here in
+    written table.entries (with_value_at table i cell).entries key cell (λ at. updates.0 at ∙ ap (λ b. cond b (Some cell) (cell_at table.entries at)) (nat_list_eq_equiv.symm key at))
 
 -- the keys of the map are given by the keys alone
 pub keys_of-cells_of : (old new : CellMap) → keys_of new ≡ keys_of old → keys_of (cells_of new) ≡ keys_of (cells_of old)

@@ -1,4 +1,4 @@
-ghost use Rattle.std.specs.Prelude.{◌≡◌, ◌≤◌, ◌↔◌, ◌⊎◌, ℕ, List, [], length, Option, None, Some, true, false, IfNone, IsSome, IfOk, IsErrOf, OnOk, OnErr, slice_get, option_copied, IfSome, map};
+ghost use Rattle.std.specs.Prelude.{◌≡◌, ◌≤◌, ◌↔◌, ◌⊎◌, ℕ, List, [], length, Option, None, Some, true, false, IsTrue, IfNone, IsSome, IfOk, IsErrOf, OnOk, OnErr, slice_get, option_copied, IfSome, map};
 ghost use Rattle.std.specs.Cmp.Lexicographic.{slice_cmp};
 ghost use Rattle.std.specs.List.{IsDistinct};
 ghost use Rattle.std.specs.List.Sorted.{IsPermutation, IsSorted};
@@ -23,13 +23,15 @@ use storm_values::{Bytes, Memory};
 /// The cells by key, found by hash.
 type Cells = IndexMap<Key, Bytes>;
 
-/// Cells in memory. A get and a put take one look-up by hash, and a put of a new key two. For a
-/// cell of up to 48 bytes they take no memory, and for a new key of up to 30 bytes only where the
-/// table grows. The first `key_at` after a new key sorts all keys, and each other one finds its
-/// key by its number.
+/// Cells in memory. A get and a put take one look-up by hash, a put of a new key two, and a put of
+/// the key that was found last none. For a cell of up to 46 bytes they take no memory, and for a
+/// new key of up to 30 bytes only where the table grows. The first `key_at` after a new key sorts
+/// all keys, and each other one finds its key by its number.
 #[derive(Debug, Drop)]
 pub struct MemStore {
     cells: Cells,
+    /// Where the last key lies that was found, so that a put of it takes no look-up.
+    last: usize,
     /// The keys in order, until there is a new one.
     order: Option<Vec<Bytes>>,
     gets: Calls,
@@ -60,18 +62,50 @@ impl Model for MemStore {
         IfSome s.order (λ order. order.items ≡ keys_of (cells_of s.cells.entries)) };
 }
 
-/// The cell of a key.
-fn find_cell(cells: &Cells, key: &[u8]) -> Result<Option<Bytes>, Memory>
+/// The cell of a key. Where the key lies is noted.
+fn find_cell(cells: &Cells, last: &mut usize, key: &[u8]) -> Result<Option<Bytes>, Memory>
     ensures { IfOk result (λ cell. cell ≡ cell_at (cells_of cells.now.entries) key.now) }
 {
-    match cells.get(KeyBytes { bytes: key }) {
-        Some(cell) => Ok(Some(cell.copy()?)),
+    match cells.get_full(KeyBytes { bytes: key }) {
+        Some((at, _, cell)) => {
+            *last = at;
+            Ok(Some(cell.copy()?))
+        }
         None => Ok(None),
     }
 }
 
+/// Whether a key lies here.
+fn is_key_at(cells: &Cells, at: usize, key: &[u8]) -> bool
+    ensures { IsTrue result →
+        (cell : List ℕ) × (slice_get cells.now.entries at ≡ Some (key.now, cell)) }
+{
+    match cells.get_index(at) {
+        Some((held, _)) => held.as_slice() == key,
+        None => false,
+    }
+}
+
+/// Gives the key that lies here a cell.
+fn set_cell(cells: &mut Cells, at: usize, key: &[u8], cell: Bytes)
+    requires { (cell : List ℕ) × (slice_get cells.old.entries at ≡ Some (key.now, cell)) }
+    ensures cells { cells_of cells.new.entries ≡ with_cell (cells_of cells.old.entries) key.now cell }
+    ensures keys { keys_of (cells_of cells.new.entries) ≡ keys_of (cells_of cells.old.entries) }
+{
+    match cells.get_index_mut(at) {
+        Some(old) => *old = cell,
+        None => unreachable!(),
+    }
+}
+
 /// Gives a key a cell, and tells whether the key is new. A new key is copied.
-fn put_cell(alloc: Global, cells: &mut Cells, key: &[u8], cell: &[u8]) -> Result<bool, Memory>
+fn put_cell(
+    alloc: Global,
+    cells: &mut Cells,
+    last: usize,
+    key: &[u8],
+    cell: &[u8],
+) -> Result<bool, Memory>
     ensures ok { OnOk result
         (cells_of cells.new.entries ≡ with_cell (cells_of cells.old.entries) key.now cell.now) }
     ensures known { IfOk result
@@ -82,6 +116,10 @@ fn put_cell(alloc: Global, cells: &mut Cells, key: &[u8], cell: &[u8]) -> Result
     ensures err { OnErr result (cells_of cells.new.entries ≡ cells_of cells.old.entries) }
 {
     let cell = Bytes::from_slice(alloc, cell)?;
+    if is_key_at(cells, last, key) {
+        set_cell(cells, last, key, cell);
+        return Ok(false);
+    }
     match cells.get_mut(KeyBytes { bytes: key }) {
         Some(old) => {
             *old = cell;
@@ -138,6 +176,7 @@ impl MemStore {
     {
         MemStore {
             cells: IndexMap::new(alloc),
+            last: 0,
             order: None,
             gets: Calls::new(alloc),
             puts: Calls::new(alloc),
@@ -196,7 +235,7 @@ impl MemStore {
         ensures ordered_before { OnOk result (InKeyOrder self.old.cells) }
         ensures err { OnErr result (self.new ≡ self.old) }
     {
-        let new = put_cell(self.alloc, &mut self.cells, key, cell)?;
+        let new = put_cell(self.alloc, &mut self.cells, self.last, key, cell)?;
         if new {
             self.order = None;
         }
@@ -253,7 +292,7 @@ impl CellStore for MemStore {
         if self.gets.next().is_some() {
             return Err(count_fault(&mut self.faults));
         }
-        Ok(find_cell(&self.cells, key)?)
+        Ok(find_cell(&self.cells, &mut self.last, key)?)
     }
 
     fn put(&mut self, key: &[u8], cell: &[u8]) -> Result<(), StoreFault>

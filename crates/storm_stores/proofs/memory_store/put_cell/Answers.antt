@@ -5,6 +5,13 @@ use Rattle.storm_stores.specs.MemoryStore.{cells_of}
 use Rattle.storm_stores.proofs.TableCells.{cells_of-insert, cells_of-set, keys_of-cells_of, InKeyOrder-cells_of}
 use Rattle.storm_stores.proofs.memory_store.put_cell.Goals as goal
 
+-- the key was found last
+pub returns-then-is_key_at-clause-ordered : goal.returns-then-is_key_at-clause-ordered
+returns-then-is_key_at-clause-ordered c = InKeyOrder-cells_of c.set_cell.new.cells.entries
+
+pub returns-then-is_key_at-clause-ordered_before : goal.returns-then-is_key_at-clause-ordered_before
+returns-then-is_key_at-clause-ordered_before c = InKeyOrder-cells_of c.args.cells.now.entries
+
 -- the key is there, and the cell is written through what was found
 pub returns-in-Some-clause-ok : goal.returns-in-Some-clause-ok
 returns-in-Some-clause-ok c =
