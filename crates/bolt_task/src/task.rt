@@ -61,8 +61,8 @@ impl<'p, I: Ids> BoltTask<'p, I> {
     /// is told, and of a mute one nothing comes. A state makes no tuples and tells its write. What
     /// the operation costs, and the rows that it makes.
     ///
-    /// The parcels come in the memory of `room`, which grows where they need more. What `room` holds
-    /// is dropped first.
+    /// The parcels come in the memory of `room`, which grows where they need more. What `room`
+    /// holds is dropped first.
     pub fn execute<O: RowOp>(
         &mut self,
         tuple: Tuple,
