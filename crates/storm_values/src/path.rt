@@ -12,8 +12,7 @@ use std::marker::Model;
 const MOST_INSIDE: usize = 5;
 
 /// The place of a node in a tuple tree: at each level the number of the child, from 0. Contracts
-/// see the list of these numbers. Up to five of them lie in the value itself, of 24 bytes, and take
-/// no memory.
+/// see the list of these numbers. Up to five of them lie in the value itself and take no memory.
 #[derive(Debug, Drop)]
 pub struct Path {
     numbers: Numbers,
