@@ -15,23 +15,6 @@ fn store(alloc: Global) -> Result<MemStore, Memory> {
     Ok(store)
 }
 
-#[test]
-fn keys_stand_in_the_order_of_bytes(rt: HostRuntime) -> Result<(), Fail> {
-    let alloc = rt.alloc();
-    let mut store = store(alloc)?;
-    store.put(b"a", b"1")?;
-    assert_eq!(rt; store.count()?, 3);
-    let want: [&[u8]; 3] = [b"a", b"b", &[0x80]];
-    for (i, key) in (0..3).zip(want) {
-        match store.key_at(i)? {
-            Some(found) => assert_eq!(rt; found.as_slice(), key),
-            None => assert!(rt; false),
-        }
-    }
-    assert!(rt; store.key_at(3)?.is_none());
-    Ok(())
-}
-
 // Whether a key has this number.
 fn has_key(store: &mut MemStore, i: u64, want: &[u8]) -> Result<bool, StoreFault> {
     match store.key_at(i)? {
@@ -40,13 +23,36 @@ fn has_key(store: &mut MemStore, i: u64, want: &[u8]) -> Result<bool, StoreFault
     }
 }
 
+// That store with a key before both.
+fn store_of_three(alloc: Global) -> Result<MemStore, StoreFault> {
+    let mut store = store(alloc)?;
+    store.put(b"a", b"1")?;
+    Ok(store)
+}
+
+#[test]
+fn keys_stand_in_the_order_of_bytes(rt: HostRuntime) -> Result<(), Fail> {
+    let mut store = store_of_three(rt.alloc())?;
+    assert!(rt; has_key(&mut store, 0, b"a")?);
+    assert!(rt; has_key(&mut store, 1, b"b")?);
+    assert!(rt; has_key(&mut store, 2, &[0x80])?);
+    Ok(())
+}
+
+#[test]
+fn no_key_stands_behind_the_last(rt: HostRuntime) -> Result<(), Fail> {
+    let mut store = store_of_three(rt.alloc())?;
+    assert!(rt; store.count()? == 3);
+    assert!(rt; store.key_at(3)?.is_none());
+    Ok(())
+}
+
 #[test]
 fn a_new_key_comes_to_its_place(rt: HostRuntime) -> Result<(), Fail> {
     let mut store = store(rt.alloc())?;
     assert!(rt; has_key(&mut store, 0, b"b")?);
     store.put(b"a", b"1")?;
     assert!(rt; has_key(&mut store, 0, b"a")?);
-    assert!(rt; has_key(&mut store, 1, b"b")?);
     Ok(())
 }
 
@@ -58,14 +64,20 @@ fn has_cell(store: &mut MemStore, key: &[u8], want: &[u8]) -> Result<bool, Store
     }
 }
 
-// The first of the two cells does not lie in place.
+// A cell that does not lie in place.
+const LARGE: &[u8] = b"forty-seven bytes, which do not lie in place: 1";
+
+// Puts a cell, and tells whether the key then has it.
+fn takes(store: &mut MemStore, key: &[u8], cell: &[u8]) -> Result<bool, StoreFault> {
+    store.put(key, cell)?;
+    has_cell(store, key, cell)
+}
+
 #[test]
 fn a_key_has_its_last_cell(rt: HostRuntime) -> Result<(), Fail> {
     let mut store = store(rt.alloc())?;
-    store.put(b"b", &[7; 49])?;
-    assert!(rt; has_cell(&mut store, b"b", &[7; 49])?);
-    store.put(b"b", b"4")?;
-    assert!(rt; has_cell(&mut store, b"b", b"4")?);
+    assert!(rt; takes(&mut store, b"b", LARGE)?);
+    assert!(rt; takes(&mut store, b"b", b"4")?);
     Ok(())
 }
 
