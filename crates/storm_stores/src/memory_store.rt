@@ -89,7 +89,8 @@ fn is_key_at(cells: &Cells, at: usize, key: &[u8]) -> bool
 /// Gives the key that lies here a cell.
 fn set_cell(cells: &mut Cells, at: usize, key: &[u8], cell: Bytes)
     requires { (cell : List ℕ) × (slice_get cells.old.entries at ≡ Some (key.now, cell)) }
-    ensures cells { cells_of cells.new.entries ≡ with_cell (cells_of cells.old.entries) key.now cell }
+    ensures cells { cells_of cells.new.entries
+        ≡ with_cell (cells_of cells.old.entries) key.now cell }
     ensures keys { keys_of (cells_of cells.new.entries) ≡ keys_of (cells_of cells.old.entries) }
 {
     match cells.get_index_mut(at) {

@@ -58,8 +58,9 @@ fn none_after(handed_out: u64) -> u32
 }
 
 /// One tick each 10 seconds of the monotonic clock since this was made, or since the clock could
-/// first be read. It looks at the clock at its first call and then at each sixteenth. No tick passes
-/// in a call between, nor in one that finds the clock unreadable; a later one makes up for it.
+/// first be read. It looks at the clock at its first call and then at each sixteenth. No tick
+/// passes in a call between, nor in one that finds the clock unreadable; a later one makes up for
+/// it.
 #[derive(Drop)]
 pub struct ClockTicks<R: Clock> {
     clock: R,
