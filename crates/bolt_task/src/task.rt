@@ -27,7 +27,7 @@ pub struct BoltTask<'p, I: Ids> {
     task: u32,
     collector: Collector<'p, I>,
     // where the next key is written
-    room: Vec<u8>,
+    room: String,
     ghost placed: { IsPlaced plan.now component task collector },
 }
 
@@ -53,7 +53,7 @@ impl<'p, I: Ids> BoltTask<'p, I> {
             component,
             task,
             collector,
-            room: Vec::new(alloc),
+            room: String::new(alloc),
         })
     }
 

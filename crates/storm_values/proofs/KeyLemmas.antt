@@ -1,10 +1,10 @@
 -- The bytes and the text of a key, a value at a time.
-use Rattle.std.proofs.Common.{◌≡◌, ℕ, ◌==◌, Bool, true, false, List, [], ◌∷◌, ◌++◌, length, map, fold, pos, negsuc, refl, ap, sym, ◌∙◌, arith}
+use Rattle.std.proofs.Common.{◌≡◌, ℕ, ◌≤◌, ◌==◌, nat_lt, Bool, true, false, List, [], ◌∷◌, ◌++◌, length, map, fold, pos, negsuc, refl, ap, sym, ◌∙◌, arith}
 use Rattle.std.proofs.lemmas.Bool.Decides.{nat_tests}
 use Rattle.std.proofs.lemmas.List.{append_assoc}
 use Rattle.std.proofs.lemmas.List.Sums.{fold-append}
 use Rattle.json.specs.Token.{Token}
-use Rattle.json.specs.Print.{print, print_from}
+use Rattle.json.specs.Print.{print, print_from, escape, escape_byte}
 use Rattle.serde_json.specs.Written.{compact_text, items_text}
 use Rattle.storm_values.specs.declared.value.Value.{Value}
 use Rattle.storm_values.specs.declared.value.Value.TheVariants.{Int, Text}
@@ -50,3 +50,21 @@ print-values false (Text bytes ∷ key) = ap (λ rest. compact_text (data_of (Te
 pub print-key : (key : List Value) → print ((Token.begin_array ∷ map token_of key) ++ Token.end_array ∷ []) ≡ text_of key
 unfolding text_of print_from
 print-key key = ap (λ rest. 91 ∷ rest) (print-values false key)
+
+-- a byte that is no control character, no quotation mark and no backslash stands for itself
+pub plain-byte : (x : ℕ) → 32 ≤ x → (x ≡ 34 → ⊥) → (x == 92) ≡ false → escape_byte x ≡ x ∷ []
+unfolding escape_byte
+plain-byte x shown quote slash =
+    let q : (x == 34) ≡ false = grind (arith, nat_tests) in
+    let e : (x == 8) ≡ false = grind (arith, nat_tests) in
+    let f : (x == 12) ≡ false = grind (arith, nat_tests) in
+    let n : (x == 10) ≡ false = grind (arith, nat_tests) in
+    let r : (x == 13) ≡ false = grind (arith, nat_tests) in
+    let t : (x == 9) ≡ false = grind (arith, nat_tests) in
+    let control : nat_lt x 32 ≡ false = grind (arith, nat_tests) in
+    rw (q, slash, e, f, n, r, t, control) refl
+
+-- the text of a key that is one text in which nothing is escaped
+pub text_of-plain : (bytes : List ℕ) → escape bytes ≡ bytes → text_of (Text bytes ∷ []) ≡ 91 ∷ 34 ∷ (bytes ++ 34 ∷ 93 ∷ [])
+unfolding text_of
+text_of-plain bytes plain = rw plain (ap (λ rest. 91 ∷ 34 ∷ rest) (append_assoc bytes (34 ∷ []) (93 ∷ [])))

@@ -1,4 +1,5 @@
-ghost use Rattle.std.specs.Prelude.{◌≡◌, List, ◌∷◌, ◌++◌, [], fold, map, slice_get, option_copied, string_bytes, IfOk, OnOk};
+ghost use Rattle.std.specs.Prelude.{◌≡◌, List, ◌∷◌, ◌++◌, [], fold, map, slice_get, false, option_copied, string_bytes, IfOk, IfSome, OnOk};
+ghost use Rattle.json.specs.Print.{escape, escape_byte};
 ghost use Rattle.json.specs.Token.{begin_array};
 ghost use Rattle.storm_values.specs.declared.value.Value.{Value as SpecValue};
 ghost use Rattle.storm_values.specs.Keys.{value_bytes, fnv_step, hash_of, text_of, token_of};
@@ -106,16 +107,66 @@ pub fn key_text(alloc: Global, key: &[Value]) -> Result<Txt, Memory>
 /// one buffer serves many keys, and a short key takes no memory. No value is copied on the way.
 pub fn key_text_in(
     alloc: Global,
-    room: &mut Vec<u8>,
+    room: &mut String,
     row: &[Value],
     fields: &[u32],
 ) -> Result<Txt, Memory>
     ensures { IfOk result (λ text. text ≡ text_of (values_in row.now fields.now)) }
 {
-    let text = key_string(mem::replace(room, Vec::new(alloc)), row, fields)?;
-    let key = Txt::from_str(alloc, text.as_str())?;
-    *room = text.into_bytes();
-    Ok(key)
+    match plain_text(row, fields) {
+        Some(text) => put_plain(room, text)?,
+        None => {
+            let used = mem::replace(room, String::new(alloc));
+            *room = key_string(used.into_bytes(), row, fields)?;
+        }
+    }
+    Txt::from_str(alloc, room.as_str())
+}
+
+/// The text that is the whole key, where it is one and nothing in it is escaped, as in most keys.
+fn plain_text<'r>(row: &'r [Value], fields: &[u32]) -> Option<&'r str>
+    ensures whole { IfSome result
+        (λ text. values_in row.now fields.now ≡ SpecValue.Text text.now ∷ []) }
+    ensures plain { IfSome result (λ text. escape text.now ≡ text.now) }
+{
+    if fields.len() != 1 {
+        return None;
+    }
+    match value_at(row, fields[0]) {
+        Some(Value::Text(text)) => plain(text.as_str()),
+        _ => None,
+    }
+}
+
+/// A text in which nothing is escaped.
+fn plain(text: &str) -> Option<&str>
+    ensures value { IfSome result (λ same. same.now ≡ text.now) }
+    ensures plain { IfSome result (λ same. escape same.now ≡ same.now) }
+{
+    for byte in text.as_bytes() {
+        if is_escaped(*byte) {
+            return None;
+        }
+    }
+    Some(text)
+}
+
+fn is_escaped(byte: u8) -> bool
+    ensures { result ≡ false → escape_byte byte ≡ byte ∷ [] }
+{
+    byte < b' ' || byte == b'"' || byte == b'\\'
+}
+
+/// Writes the text of a key that is one text, over what `room` holds.
+fn put_plain(room: &mut String, text: &str) -> Result<(), Memory>
+    requires { escape text.now ≡ text.now }
+    ensures { OnOk result (string_bytes room.new ≡ text_of (SpecValue.Text text.now ∷ [])) }
+{
+    room.clear();
+    room.push_str("[\"")?;
+    room.push_str(text)?;
+    room.push_str("\"]")?;
+    Ok(())
 }
 
 /// The text of the key that some fields of a row are, written over what `room` holds.

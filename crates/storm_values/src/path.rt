@@ -9,10 +9,10 @@ use std::cmp::Ordering;
 use std::marker::Model;
 
 /// The most numbers of a path that takes no memory.
-const MOST_INSIDE: usize = 5;
+const MOST_INSIDE: usize = 4;
 
 /// The place of a node in a tuple tree: at each level the number of the child, from 0. Contracts
-/// see the list of these numbers. Up to five of them lie in the value itself and take no memory.
+/// see the list of these numbers. Up to four of them lie in the value itself and take no memory.
 #[derive(Debug, Drop)]
 pub struct Path {
     numbers: Numbers,

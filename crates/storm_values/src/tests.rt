@@ -23,7 +23,7 @@ fn hashes_and_texts_of_keys(rt: HostRuntime) -> Result<(), Fail> {
         (&[1, 2, 1], "[\"a\\\"b\",\"a\\\"b\"]"),
         (&[], "[]"),
     ] {
-        let mut room = vec![in alloc; b'x']?;
+        let mut room = String::from_str(alloc, "x")?;
         assert!(rt;
             key_text_in(alloc, &mut room, &row, fields)?.as_str() == text,
             "at {text}"

@@ -18,7 +18,7 @@ type Values = IndexMap<String, i128>;
 pub struct RunningTables {
     values: Vec<Values>,
     // where the next key is written
-    room: Vec<u8>,
+    room: String,
 }
 
 impl Model for RunningTables {
@@ -41,7 +41,7 @@ impl RunningTables {
         for _ in 0..plan.components() {
             values.push(IndexMap::new(alloc))?;
         }
-        let room = Vec::new(alloc);
+        let room = String::new(alloc);
         Ok(RunningTables { values, room })
     }
 
@@ -54,7 +54,7 @@ impl RunningTables {
             ((before : List Write) → AreRunningTables plan.now before self.old
             → (done : ℕ) × AreRunningTables plan.now (before ++ take done writes) self.new) }
     {
-        let alloc = *self.room.allocator();
+        let alloc = *self.values.allocator();
         add_all(alloc, &mut self.values, plan, writes.into_vec())
     }
 

@@ -89,7 +89,7 @@ impl Visitor for Writes {
     ) -> Result<(), Memory> {
         let at = plan.component(component);
         if let Body::State(spec) = &at.body {
-            let mut room = Vec::new(alloc);
+            let mut room = String::new(alloc);
             self.push(write_at(alloc, &mut room, component, at.tasks, spec, row)?)?;
         }
         Ok(())
@@ -100,7 +100,7 @@ impl Visitor for Writes {
 /// serves again and again.
 pub fn write_at(
     alloc: Global,
-    room: &mut Vec<u8>,
+    room: &mut String,
     state: u32,
     parts: u32,
     spec: &StateSpec,
