@@ -25,6 +25,9 @@ use storm_program::{Fates, Status, storm};
 use storm_stores::{MemMaker, StoreMaker};
 use storm_ticks::{ClockTicks, Ticks};
 
+/// In bytes: as much as the allocator of the C library learns from at once is 32 MiB.
+const LARGE: usize = 24 << 20;
+
 /// Carries out the words over some files, an output, ticks, stores and sources of ids, and gives
 /// the exit status.
 fn exit_status<R: Threads + Wait + Sync, H: Shelf, K: Sink, T: Ticks, M: StoreMaker, N: IdMaker>(
@@ -51,8 +54,16 @@ fn exit_status<R: Threads + Wait + Sync, H: Shelf, K: Sink, T: Ticks, M: StoreMa
     status.code()
 }
 
+/// Takes a large piece of memory and gives it back before any of it is touched. The C library's
+/// allocator, which the program stands on, then keeps what later calls free, up to twice as much,
+/// in place of giving it to the system and asking for it anew a batch later.
+fn keep_what_is_freed(alloc: Global) {
+    let _ = Vec::<u8>::with_capacity(alloc, LARGE);
+}
+
 fn main(rt: HostRuntime) -> ExitCode {
     let alloc = rt.alloc();
+    keep_what_is_freed(alloc);
     let Ok(words) = words(&rt, alloc) else {
         return ExitCode::from(Status::Memory.code());
     };
