@@ -14,6 +14,3 @@ pub use key::KeyBytes;
 pub use memory_maker::MemMaker;
 pub use memory_store::MemStore;
 pub use store::{CellStore, StoreMaker, puts_change_one_key};
-
-#[cfg(test)]
-mod tests;
