@@ -45,14 +45,22 @@ fn the_second_look_at_a_key_fails(rt: HostRuntime) -> Result<(), Trouble> {
     check(rt.alloc(), &CELLS, Some(second(CallKind::KeyAt)), &LOOKS)
 }
 
-const NOT_PUT: [Step; 2] = [(Put(b"c", b"1"), Failed), (Get(b"c"), Nothing)];
+const NOT_PUT: [Step; 3] = [
+    (Put(b"c", b"1"), Failed),
+    (Faults, Number(1)),
+    (Get(b"c"), Nothing),
+];
 
 #[test]
 fn a_put_fails_and_nothing_happens(rt: HostRuntime) -> Result<(), Trouble> {
     check(rt.alloc(), &CELLS, Some(first_put(false)), &NOT_PUT)
 }
 
-const PUT: [Step; 2] = [(Put(b"c", b"4"), Failed), (Get(b"c"), Found(b"4"))];
+const PUT: [Step; 3] = [
+    (Put(b"c", b"4"), Failed),
+    (Faults, Number(1)),
+    (Get(b"c"), Found(b"4")),
+];
 
 #[test]
 fn a_put_fails_after_it_happened(rt: HostRuntime) -> Result<(), Trouble> {

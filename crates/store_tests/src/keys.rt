@@ -37,8 +37,9 @@ fn a_new_key_comes_to_its_place(rt: HostRuntime) -> Result<(), Trouble> {
     check(rt.alloc(), &CELLS, None, &NEW)
 }
 
-// One cell lies in place, and one does not.
-const CHANGED: [Step; 4] = [
+// The first cell does not lie in place. The last key is found by hash, as it is not the one that
+// was found before.
+const CHANGED: [Step; 7] = [
     (
         Put(b"b", b"forty-seven bytes, which do not lie in place: 1"),
         Done,
@@ -49,6 +50,9 @@ const CHANGED: [Step; 4] = [
     ),
     (Put(b"b", b"4"), Done),
     (Get(b"b"), Found(b"4")),
+    (Get(b"b"), Found(b"4")),
+    (Put(&[0x80], b"5"), Done),
+    (Get(&[0x80]), Found(b"5")),
 ];
 
 #[test]
