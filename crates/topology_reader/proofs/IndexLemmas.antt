@@ -1,11 +1,11 @@
 -- The sources of names, as they are put into a map one bolt after the other.
 use Rattle.std.proofs.Common.{◌≡◌, ℕ, zero, suc, ◌+◌, ◌<◌, ◌≤◌, Bool, true, false, cond, List, [], ◌∷◌, ◌++◌, map, length, take, get_or, Option, Some, None, option_map, unwrap_or, refl, sym, ap, ◌∙◌, inl, inr, arith}
 use Rattle.topology_reader.proofs.Common.{cases_Bool, FileParts, take_all, take_more, map_push, length-map, length-take-le, Bor, option_or, bytes_eq, Origin, ComponentPart, place_of}
-use Rattle.indexmap.specs.IndexMap.{IndexMap, get_by}
+use Rattle.indexmap.specs.IndexMap.{IndexMap}
 use Rattle.topology_plan.specs.declared.parts.Origin.TheVariants as origin
 use Rattle.topology_reader.proofs.Distinct.{bytes_same}
 use Rattle.topology_reader.proofs.Places.{place_of-position}
-use Rattle.topology_reader.specs.Steps.{IsIndexOf}
+use Rattle.topology_reader.specs.Steps.{source_in, IsIndexOf, IsWith}
 
 -- ---- one name more
 
@@ -65,9 +65,6 @@ source_more spout bolts i bolt below is name =
 
 -- ---- the map
 
-abbrev source_in : {S : Type 0} → IndexMap (Bor (List ℕ)) Origin S → Bor (List ℕ) → Option Origin
-source_in m name = get_by (λ (key : Bor (List ℕ)). bytes_eq name.now key.now) m
-
 -- the map holds the sources among the spout and the first bolts
 abbrev pub HoldsSources : {S : Type 0} → List ℕ → List ComponentPart → ℕ → IndexMap (Bor (List ℕ)) Origin S → Type 0
 HoldsSources spout bolts i m = (name : Bor (List ℕ)) → source_in m name ≡ source_among spout (names_to bolts i) name.now
@@ -75,15 +72,14 @@ HoldsSources spout bolts i m = (name : Bor (List ℕ)) → source_in m name ≡ 
 -- one bolt more, which counts where its name is new
 pub holds_more : {S : Type 0} (spout : List ℕ) (bolts : List ComponentPart) (i : ℕ) (bolt : ComponentPart) → i < length bolts → bolt ≡ get_or bolts i bolt
     → (old new : IndexMap (Bor (List ℕ)) Origin S) → HoldsSources spout bolts i old
-    → (key : Bor (List ℕ)) → key.now ≡ bolt.name → (source : Origin) → source ≡ unwrap_or (source_in old key) (origin.Component i)
-    → ((name : Bor (List ℕ)) → source_in new name ≡ cond (bytes_eq key.now name.now) (Some source) (source_in old name))
-    → HoldsSources spout bolts (i + 1) new
-holds_more spout bolts i bolt below is old new holds key named source first sets = λ name.
+    → (key : Bor (List ℕ)) → key.now ≡ bolt.name → IsWith old key (origin.Component i) new → HoldsSources spout bolts (i + 1) new
+holds_more spout bolts i bolt below is old new holds key named with = λ name.
     let among = source_among spout (names_to bolts i) in
-    sets name
+    let source = unwrap_or (source_in old key) (origin.Component i) in
+    with name
     ∙ ap (λ text. cond (bytes_eq text name.now) (Some source) (source_in old name)) named
     ∙ ap (cond (bytes_eq bolt.name name.now) (Some source)) (holds name)
-    ∙ ap (λ s. cond (bytes_eq bolt.name name.now) (Some s) (among name.now)) (first ∙ ap (λ o. unwrap_or o (origin.Component i)) (holds key ∙ ap among named))
+    ∙ ap (λ o. cond (bytes_eq bolt.name name.now) (Some (unwrap_or o (origin.Component i))) (among name.now)) (holds key ∙ ap among named)
     ∙ sym (source_more spout bolts i bolt below is name.now)
 
 -- with all bolts the map is the file's

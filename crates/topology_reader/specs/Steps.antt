@@ -1,5 +1,5 @@
 -- What the steps of the checks have done, which no public contract cites.
-use Rattle.std.specs.Prelude.{bit_or, if◌then◌else◌, ◌≡◌, ◌<◌, ◌==◌, ℕ, ◌+◌, Bool, List, [], ◌∷◌, ◌++◌, length, map, fold, slice_index, slice_index_or, slice_set, Vec}
+use Rattle.std.specs.Prelude.{bit_or, if◌then◌else◌, ◌≡◌, ◌<◌, ◌==◌, ℕ, ◌+◌, Bool, List, [], ◌∷◌, ◌++◌, length, map, fold, Option, Some, unwrap_or, slice_index, slice_index_or, slice_set, Vec}
 use Rattle.std.specs.declared.alloc.Global.{Global}
 use Rattle.std.specs.Borrow.{Bor}
 use Rattle.std.specs.Int.{bit_at}
@@ -14,11 +14,20 @@ use Rattle.topology_reader.specs.Wiring.{source_of, reaches_over}
 
 -- ---- sources
 
+-- the source that a map has of a name
+abbrev pub source_in : {S : Type 0} → IndexMap (Bor (List ℕ)) Origin S → Bor (List ℕ) → Option Origin
+source_in m name = get_by (λ (key : Bor (List ℕ)). bytes_eq name.now key.now) m
+
 -- a map from a name to the source of that name
 abbrev pub IsIndexOf : {S : Type 0} → FileParts → IndexMap (Bor (List ℕ)) Origin S → Type 0
-IsIndexOf p m =
+IsIndexOf p m = (name : Bor (List ℕ)) → source_in m name ≡ source_of p name.now
+
+-- m, and the source of one name more, which counts where the name is new
+abbrev pub IsWith : {S : Type 0} → IndexMap (Bor (List ℕ)) Origin S → Bor (List ℕ) → Origin → IndexMap (Bor (List ℕ)) Origin S → Type 0
+IsWith m key source more =
     (name : Bor (List ℕ))
-    → get_by (λ (key : Bor (List ℕ)). bytes_eq name.now key.now) m ≡ source_of p name.now
+    → source_in more name
+        ≡ (if bytes_eq key.now name.now then Some (unwrap_or (source_in m key) source) else source_in m name)
 
 -- the set of the bits that are 1 has this number
 abbrev pub has : ℕ → ℕ → Bool

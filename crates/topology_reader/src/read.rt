@@ -2,7 +2,7 @@
 
 ghost use Rattle.std.specs.Prelude.{◌≡◌, ◌≢◌, ◌<◌, ◌^◌, sum_by, Some, None, IfOk, IfErr};
 ghost use Rattle.topology_reader.specs.Prelude.{Checks, Component, view, json_of, IsValid, IsWired, IsInRange};
-ghost use Rattle.topology_reader.specs.FirstFault.{size_fault, meaning_fault, first_fault, IsFilePlan};
+ghost use Rattle.topology_reader.specs.FirstFault.{twice_fault, source_fault, cycle_fault, size_fault, meaning_fault, first_fault, IsFilePlan};
 ghost use Rattle.topology_reader.specs.Planned.{plan_of};
 ghost use Rattle.topology_reader.specs.Steps.{IsMade};
 
@@ -67,10 +67,25 @@ fn plan_from(alloc: Global, parts: &FileParts) -> Result<Plan, TopoFault>
     check_sources(&sources)?;
     check_cycles(&sources)?;
     let wiring = Wiring::of(sources)?;
-    check_fields(&wiring)?;
-    check_replays(parts)?;
-    let made = make(&wiring)?;
-    check_size(alloc, made.tasks, made.weight)?;
+    wired_plan(&wiring)
+}
+
+/// The plan of a file whose names and cycles have no fault, or the first fault of the rest.
+#[tactic(auto, unfolding(crate::specs::FirstFault::meaning_fault))]
+fn wired_plan(wiring: &Wiring<'_>) -> Result<Plan, TopoFault>
+    requires range { IsInRange wiring.now }
+    requires once { twice_fault wiring.now ≡ None }
+    requires named { source_fault wiring.now ≡ None }
+    requires acyclic { cycle_fault wiring.now ≡ None }
+    ensures plan { IfOk result
+        (λ plan. (meaning_fault wiring.now ≡ None) × (plan ≡ plan_of wiring.now)) }
+    ensures fault { IfErr result
+        (λ fault. fault ≢ TopoFault.Memory → meaning_fault wiring.now ≡ Some fault) }
+{
+    check_fields(wiring)?;
+    check_replays(wiring.sources().parts())?;
+    let made = make(wiring)?;
+    check_size(wiring.alloc(), made.tasks, made.weight)?;
     Ok(Plan::of(made))
 }
 

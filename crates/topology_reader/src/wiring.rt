@@ -4,7 +4,7 @@
 ghost use Rattle.std.specs.Prelude.{◌≡◌, ◌<◌, ◌^◌, [], ◌∷◌, ◌++◌, length, slice_get, None, Some, IfOk};
 ghost use Rattle.topology_reader.specs.FirstFault.{cycle_fault};
 ghost use Rattle.topology_reader.specs.Prelude.{IsInRange, components_of, filter_map, IsClosed, IsSettled, option_copied, feeds_at, fed_by, read};
-ghost use Rattle.topology_reader.specs.Steps.{IsIndexOf};
+ghost use Rattle.topology_reader.specs.Steps.{IsIndexOf, IsWith};
 ghost use Rattle.topology_reader.specs.Wiring.{source_of, component_at, copies_said, feed_of, graph_of, body_of, name_at, fields_after, first_of, fields_rule, fields_of, fields_to};
 
 use indexmap::IndexMap;
@@ -113,10 +113,21 @@ fn sources_by_name(alloc: Global, parts: &FileParts) -> Result<IndexMap<&str, Or
     let mut by_name = IndexMap::new(alloc);
     by_name.insert(parts.spout.name.as_str(), Origin::Spout)?;
     for (i, bolt) in parts.bolts.as_slice().iter().enumerate() {
-        let origin = Origin::Component(i as u32);
-        by_name.entry(bolt.name.as_str())?.or_insert(origin);
+        add(&mut by_name, bolt.name.as_str(), Origin::Component(i as u32))?;
     }
     Ok(by_name)
+}
+
+/// Adds the source of a name that is new.
+fn add<'p>(
+    by_name: &mut IndexMap<&'p str, Origin>,
+    name: &'p str,
+    source: Origin,
+) -> Result<(), Memory>
+    ensures { IfOk result (λ _. IsWith by_name.old name.entry source by_name.new) }
+{
+    by_name.entry(name)?.or_insert(source);
+    Ok(())
 }
 
 /// The graph of a file without a cycle.
