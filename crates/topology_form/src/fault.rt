@@ -58,25 +58,21 @@ impl TopoFault {
         match self {
             TopoFault::TooLong(_) => format!(in alloc; "longer than {MOST_TOPOLOGY_BYTES} bytes"),
             TopoFault::NotJson => String::from_str(alloc, "no JSON"),
-            TopoFault::Missing(member) => format!(in alloc; "missing {}", shown(alloc, member)?),
-            TopoFault::WrongKind(name) => format!(in alloc; "wrong kind {}", shown(alloc, name)?),
-            TopoFault::UnknownName(text) => format!(in alloc; "unknown {}", shown(alloc, text)?),
+            TopoFault::Missing(member) => after(alloc, "missing ", member),
+            TopoFault::WrongKind(name) => after(alloc, "wrong kind ", name),
+            TopoFault::UnknownName(text) => after(alloc, "unknown ", text),
             TopoFault::OutOfRange(member, found, least, most) => {
                 ranged(alloc, member, *found, *least, *most)
             }
             TopoFault::Twice(text) => format!(in alloc; "{} twice", shown(alloc, text)?),
-            TopoFault::NoSource(name) => format!(in alloc; "no source {}", shown(alloc, name)?),
-            TopoFault::Cycle(bolt) => format!(in alloc; "cycle at {}", shown(alloc, bolt)?),
-            TopoFault::FieldsDiffer(component) => {
-                format!(in alloc; "fields differ at {}", shown(alloc, component)?)
-            }
+            TopoFault::NoSource(name) => after(alloc, "no source ", name),
+            TopoFault::Cycle(bolt) => after(alloc, "cycle at ", bolt),
+            TopoFault::FieldsDiffer(component) => after(alloc, "fields differ at ", component),
             TopoFault::NoField(component, field) => {
                 let field = shown(alloc, field)?;
                 format!(in alloc; "no field {field} at {}", shown(alloc, component)?)
             }
-            TopoFault::NotExactlyOnce(state) => {
-                format!(in alloc; "not exactly once {}", shown(alloc, state)?)
-            }
+            TopoFault::NotExactlyOnce(state) => after(alloc, "not exactly once ", state),
             TopoFault::Weight(found) => too_heavy(alloc, *found, MOST_WEIGHT),
             TopoFault::Memory => String::from_str(alloc, "out of memory"),
         }
@@ -89,6 +85,12 @@ fn shown(alloc: Global, text: &Txt) -> Result<String, Memory>
 {
     let value = Value::String(String::from_str(alloc, text.as_str())?);
     value.to_string(alloc)
+}
+
+fn after(alloc: Global, words: &str, text: &Txt) -> Result<String, Memory>
+    ensures { IfOk result (λ made. string_bytes made ≡ words.now ++ shown text.now) }
+{
+    format!(in alloc; "{words}{}", shown(alloc, text)?)
 }
 
 fn ranged(alloc: Global, name: &Txt, found: i64, least: u32, most: u32) -> Result<String, Memory>

@@ -1,11 +1,11 @@
 //! One decoder an object: its members in the order of the format's lines, each taken out by its
 //! form, and then the first member that is left over.
 
-ghost use Rattle.std.specs.Prelude.{◌≡◌, ◌≢◌, Some, None, IfOk, IfErr};
+ghost use Rattle.std.specs.Prelude.{◌≡◌, ◌≢◌, Some, None, IfOk, IfErr, codes};
 ghost use Rattle.topology_form.specs.Prelude.{Data, view};
-ghost use Rattle.topology_form.specs.Format.{form_fault, parts_said, a_spout, an_operation, grouping_of, an_input, a_bolt, amount_for, grouped_by, a_state, a_file};
+ghost use Rattle.topology_form.specs.Format.{form_fault, parts_said, a_spout, operations, an_operation, grouping_of, an_input, a_bolt, amount_for, grouped_by, a_state, a_file};
 ghost use Rattle.topology_form.specs.Ranges.{IsInRange};
-ghost use Rattle.topology_form.specs.Reading.{Takes, left_in};
+ghost use Rattle.topology_form.specs.Reading.{Gives, Takes, chosen, left_in};
 
 use crate::fault::TopoFault;
 use crate::forms::{Constant, Form, Name, Number, SomeNames, SomeObjects, Text, Word};
@@ -80,38 +80,79 @@ impl Form for BoltOperation {
         let mut object = Object::from_value(alloc, name, value)?;
         let word = object.required("do", &Text)?;
         match word.as_str() {
-            "split" => {
-                let field = object.required("field", &Name)?;
-                let into = object.required("as", &Name)?;
-                ends(Operation::Split { field, into }, object)
-            }
-            "project" => ends(
-                Operation::Project(object.required("fields", &FIELDS)?),
-                object,
-            ),
-            "filter" => {
-                let field = object.required("field", &Name)?;
-                let test = object.required("test", &Word(&TESTS))?;
-                let value = object.required("value", &Constant)?;
-                ends(Operation::Filter(field, test, value), object)
-            }
-            "set" => {
-                let field = object.required("field", &Name)?;
-                let value = object.required("value", &Constant)?;
-                ends(Operation::Set(field, value), object)
-            }
-            "len" => {
-                let field = object.required("field", &Name)?;
-                let into = object.required("as", &Name)?;
-                ends(Operation::Len { field, into }, object)
-            }
-            "route" => ends(Operation::Route(object.required("field", &Name)?), object),
-            "flaky" => ends(Operation::Flaky(object.required("below", &BELOW)?), object),
-            "mute" => ends(Operation::Mute(object.required("below", &BELOW)?), object),
+            "split" => split_from(object),
+            "project" => project_from(object),
+            "filter" => filter_from(object),
+            "set" => set_from(object),
+            "len" => len_from(object),
+            "route" => route_from(object),
+            "flaky" => flaky_from(object),
+            "mute" => mute_from(object),
             "custom" => ends(Operation::Custom, object),
             _ => Err(TopoFault::UnknownName(word)),
         }
     }
+}
+
+fn split_from(mut object: Object) -> Result<Operation, TopoFault>
+    ensures { Gives result (chosen operations (codes "split") (left_in object)) }
+{
+    let field = object.required("field", &Name)?;
+    let into = object.required("as", &Name)?;
+    ends(Operation::Split { field, into }, object)
+}
+
+fn project_from(mut object: Object) -> Result<Operation, TopoFault>
+    ensures { Gives result (chosen operations (codes "project") (left_in object)) }
+{
+    let fields = object.required("fields", &FIELDS)?;
+    ends(Operation::Project(fields), object)
+}
+
+fn filter_from(mut object: Object) -> Result<Operation, TopoFault>
+    ensures { Gives result (chosen operations (codes "filter") (left_in object)) }
+{
+    let field = object.required("field", &Name)?;
+    let test = object.required("test", &Word(&TESTS))?;
+    let value = object.required("value", &Constant)?;
+    ends(Operation::Filter(field, test, value), object)
+}
+
+fn set_from(mut object: Object) -> Result<Operation, TopoFault>
+    ensures { Gives result (chosen operations (codes "set") (left_in object)) }
+{
+    let field = object.required("field", &Name)?;
+    let value = object.required("value", &Constant)?;
+    ends(Operation::Set(field, value), object)
+}
+
+fn len_from(mut object: Object) -> Result<Operation, TopoFault>
+    ensures { Gives result (chosen operations (codes "len") (left_in object)) }
+{
+    let field = object.required("field", &Name)?;
+    let into = object.required("as", &Name)?;
+    ends(Operation::Len { field, into }, object)
+}
+
+fn route_from(mut object: Object) -> Result<Operation, TopoFault>
+    ensures { Gives result (chosen operations (codes "route") (left_in object)) }
+{
+    let field = object.required("field", &Name)?;
+    ends(Operation::Route(field), object)
+}
+
+fn flaky_from(mut object: Object) -> Result<Operation, TopoFault>
+    ensures { Gives result (chosen operations (codes "flaky") (left_in object)) }
+{
+    let below = object.required("below", &BELOW)?;
+    ends(Operation::Flaky(below), object)
+}
+
+fn mute_from(mut object: Object) -> Result<Operation, TopoFault>
+    ensures { Gives result (chosen operations (codes "mute") (left_in object)) }
+{
+    let below = object.required("below", &BELOW)?;
+    ends(Operation::Mute(below), object)
 }
 
 fn grouping_from(object: &mut Object) -> Result<GroupingPart, TopoFault>
