@@ -81,13 +81,20 @@ impl Form for BoltOperation {
         let word = object.required("do", &Text)?;
         match word.as_str() {
             "split" => split_from(object),
-            "project" => project_from(object),
+            "project" => ends(
+                Operation::Project(object.required("fields", &FIELDS)?),
+                object,
+            ),
             "filter" => filter_from(object),
-            "set" => set_from(object),
+            "set" => {
+                let field = object.required("field", &Name)?;
+                let value = object.required("value", &Constant)?;
+                ends(Operation::Set(field, value), object)
+            }
             "len" => len_from(object),
-            "route" => route_from(object),
-            "flaky" => flaky_from(object),
-            "mute" => mute_from(object),
+            "route" => ends(Operation::Route(object.required("field", &Name)?), object),
+            "flaky" => ends(Operation::Flaky(object.required("below", &BELOW)?), object),
+            "mute" => ends(Operation::Mute(object.required("below", &BELOW)?), object),
             "custom" => ends(Operation::Custom, object),
             _ => Err(TopoFault::UnknownName(word)),
         }
@@ -102,13 +109,6 @@ fn split_from(mut object: Object) -> Result<Operation, TopoFault>
     ends(Operation::Split { field, into }, object)
 }
 
-fn project_from(mut object: Object) -> Result<Operation, TopoFault>
-    ensures { Gives result (chosen operations (codes "project") (left_in object)) }
-{
-    let fields = object.required("fields", &FIELDS)?;
-    ends(Operation::Project(fields), object)
-}
-
 fn filter_from(mut object: Object) -> Result<Operation, TopoFault>
     ensures { Gives result (chosen operations (codes "filter") (left_in object)) }
 {
@@ -118,41 +118,12 @@ fn filter_from(mut object: Object) -> Result<Operation, TopoFault>
     ends(Operation::Filter(field, test, value), object)
 }
 
-fn set_from(mut object: Object) -> Result<Operation, TopoFault>
-    ensures { Gives result (chosen operations (codes "set") (left_in object)) }
-{
-    let field = object.required("field", &Name)?;
-    let value = object.required("value", &Constant)?;
-    ends(Operation::Set(field, value), object)
-}
-
 fn len_from(mut object: Object) -> Result<Operation, TopoFault>
     ensures { Gives result (chosen operations (codes "len") (left_in object)) }
 {
     let field = object.required("field", &Name)?;
     let into = object.required("as", &Name)?;
     ends(Operation::Len { field, into }, object)
-}
-
-fn route_from(mut object: Object) -> Result<Operation, TopoFault>
-    ensures { Gives result (chosen operations (codes "route") (left_in object)) }
-{
-    let field = object.required("field", &Name)?;
-    ends(Operation::Route(field), object)
-}
-
-fn flaky_from(mut object: Object) -> Result<Operation, TopoFault>
-    ensures { Gives result (chosen operations (codes "flaky") (left_in object)) }
-{
-    let below = object.required("below", &BELOW)?;
-    ends(Operation::Flaky(below), object)
-}
-
-fn mute_from(mut object: Object) -> Result<Operation, TopoFault>
-    ensures { Gives result (chosen operations (codes "mute") (left_in object)) }
-{
-    let below = object.required("below", &BELOW)?;
-    ends(Operation::Mute(below), object)
 }
 
 fn grouping_from(object: &mut Object) -> Result<GroupingPart, TopoFault>

@@ -25,9 +25,7 @@ IsIndexOf p m = (name : Bor (List ℕ)) → source_in m name ≡ source_of p nam
 -- m, and the source of one name more, which counts where the name is new
 abbrev pub IsWith : {S : Type 0} → IndexMap (Bor (List ℕ)) Origin S → Bor (List ℕ) → Origin → IndexMap (Bor (List ℕ)) Origin S → Type 0
 IsWith m key source more =
-    (name : Bor (List ℕ))
-    → source_in more name
-        ≡ (if bytes_eq key.now name.now then Some (unwrap_or (source_in m key) source) else source_in m name)
+    (name : Bor (List ℕ)) → source_in more name ≡ (if bytes_eq key.now name.now then Some (unwrap_or (source_in m key) source) else source_in m name)
 
 -- the set of the bits that are 1 has this number
 abbrev pub has : ℕ → ℕ → Bool

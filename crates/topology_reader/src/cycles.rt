@@ -18,10 +18,7 @@ pub(crate) fn check_cycles(sources: &Sources<'_>) -> Result<(), TopoFault>
 {
     let sets = reach_sets(sources)?;
     match own_member(sets.as_slice()) {
-        Some(c) => {
-            let name = sources.component(c).name.copy()?;
-            Err(TopoFault::Cycle(name))
-        }
+        Some(c) => Err(TopoFault::Cycle(sources.component(c).name.copy()?)),
         None => Ok(()),
     }
 }

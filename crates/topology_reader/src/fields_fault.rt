@@ -46,9 +46,7 @@ fn check_same(wiring: &Wiring<'_>, c: usize) -> Result<(), TopoFault>
 }
 
 fn differs(wiring: &Wiring<'_>, c: usize) -> bool
-    ensures { result
-        ≡ list_any
-        (λ (feed : Feed).
+    ensures { result ≡ list_any (λ (feed : Feed).
         not (pointwise bytes_eq (fields_of wiring.now feed.from) (fields_to wiring.now c)))
         (feeds_at (graph_of wiring.now) c) }
 {
@@ -167,6 +165,5 @@ fn check_added(alloc: Global, fields: &[Txt], body: &BodyPart) -> Result<(), Top
     if is_among(fields, into) {
         return Err(TopoFault::Twice(into.copy()?));
     }
-    let count = fields.len() + 1;
-    within(alloc, "fields", count as i64, 1, 8)
+    within(alloc, "fields", (fields.len() + 1) as i64, 1, 8)
 }

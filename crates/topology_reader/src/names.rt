@@ -66,19 +66,12 @@ fn check_items<N: Named>(alloc: Global, items: &[N]) -> Result<(), TopoFault>
     }
 }
 
-fn check_names(alloc: Global, names: &[Txt]) -> Result<(), TopoFault>
-    ensures { Checks result (again_fault names.now) }
-{
-    check_items(alloc, names)
-}
-
 pub(crate) fn check_twice(sources: &Sources<'_>) -> Result<(), TopoFault>
     ensures { Checks result (twice_fault sources.now) }
 {
-    let alloc = sources.alloc();
     let names = all_names(sources)?;
-    check_items(alloc, names.as_slice())?;
-    check_names(alloc, sources.parts().spout.fields.as_slice())?;
+    check_items(sources.alloc(), names.as_slice())?;
+    check_items(sources.alloc(), sources.parts().spout.fields.as_slice())?;
     check_components(sources)
 }
 
@@ -108,10 +101,10 @@ fn check_component(alloc: Global, part: &ComponentPart) -> Result<(), TopoFault>
     ensures { Checks result (component_twice part.now) }
 {
     let inputs = part.inputs.as_slice();
-    check_names(alloc, own_key(&part.body))?;
+    check_items(alloc, own_key(&part.body))?;
     check_items(alloc, inputs)?;
     check_keys(alloc, inputs)?;
-    check_names(alloc, projected(&part.body))
+    check_items(alloc, projected(&part.body))
 }
 
 fn check_keys(alloc: Global, inputs: &[Input]) -> Result<(), TopoFault>
@@ -119,7 +112,7 @@ fn check_keys(alloc: Global, inputs: &[Input]) -> Result<(), TopoFault>
         (first_some (map (λ (input : Input). again_fault (key_of input.grouping)) inputs.now)) }
 {
     for input in inputs {
-        check_names(alloc, key_of(&input.grouping))?;
+        check_items(alloc, key_of(&input.grouping))?;
     }
     Ok(())
 }
