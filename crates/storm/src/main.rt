@@ -25,7 +25,7 @@ use storm_program::{Fates, Status, storm};
 use storm_stores::{MemMaker, StoreMaker};
 use storm_ticks::{ClockTicks, Ticks};
 
-/// In bytes: as much as the allocator of the C library learns from at once is 32 MiB.
+/// In bytes. The C library's allocator learns from pieces of up to 32 MiB.
 const LARGE: usize = 24 << 20;
 
 /// Carries out the words over some files, an output, ticks, stores and sources of ids, and gives
