@@ -16,11 +16,18 @@ fn hashes_and_texts_of_keys(rt: HostRuntime) -> Result<(), Fail> {
         let key = [Value::Text(Txt::from_str(alloc, text)?)];
         assert_eq!(rt; key_hash(&key), hash, "at {text}");
     }
-    let row = [Value::Int(-5), Value::Text(Txt::from_str(alloc, "a\"b")?)];
-    assert!(rt; key_text(alloc, &row)?.as_str() == "[-5,\"a\\\"b\"]");
+    let row = [
+        Value::Int(-5),
+        Value::Text(Txt::from_str(alloc, "a\"b")?),
+        Value::Text(Txt::from_str(alloc, "é")?),
+    ];
+    assert!(rt; key_text(alloc, &row)?.as_str() == "[-5,\"a\\\"b\",\"é\"]");
     for (fields, text) in [
         (&[1, 0][..], "[\"a\\\"b\",-5]"),
-        (&[1, 2, 1], "[\"a\\\"b\",\"a\\\"b\"]"),
+        (&[1, 3, 1], "[\"a\\\"b\",\"a\\\"b\"]"),
+        (&[2], "[\"é\"]"),
+        (&[1], "[\"a\\\"b\"]"),
+        (&[0], "[-5]"),
         (&[], "[]"),
     ] {
         let mut room = String::from_str(alloc, "x")?;
@@ -29,7 +36,7 @@ fn hashes_and_texts_of_keys(rt: HostRuntime) -> Result<(), Fail> {
             "at {text}"
         );
     }
-    assert_eq!(rt; key_hash_in(&row, &[0, 1]), key_hash(&row));
+    assert_eq!(rt; key_hash_in(&row, &[0, 1, 2]), key_hash(&row));
     Ok(())
 }
 
