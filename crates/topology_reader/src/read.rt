@@ -132,7 +132,8 @@ fn tasks_in_all(components: &[Component]) -> u32
 fn check_size(alloc: Global, tasks: u32, weight: u64) -> Result<(), TopoFault>
     ensures { Checks result (size_fault tasks weight) }
 {
-    within(alloc, "tasks in all", i64::from(tasks), 1, MOST_TASKS_IN_ALL)?;
+    let found = i64::from(tasks);
+    within(alloc, "tasks in all", found, 1, MOST_TASKS_IN_ALL)?;
     if weight > MOST_WEIGHT {
         return Err(TopoFault::Weight(weight));
     }

@@ -113,20 +113,17 @@ fn sources_by_name(alloc: Global, parts: &FileParts) -> Result<IndexMap<&str, Or
     let mut by_name = IndexMap::new(alloc);
     by_name.insert(parts.spout.name.as_str(), Origin::Spout)?;
     for (i, bolt) in parts.bolts.as_slice().iter().enumerate() {
-        add(&mut by_name, bolt.name.as_str(), Origin::Component(i as u32))?;
+        let source = Origin::Component(i as u32);
+        add(&mut by_name, bolt.name.as_str(), source)?;
     }
     Ok(by_name)
 }
 
 /// Adds the source of a name that is new.
-fn add<'p>(
-    by_name: &mut IndexMap<&'p str, Origin>,
-    name: &'p str,
-    source: Origin,
-) -> Result<(), Memory>
-    ensures { IfOk result (λ _. IsWith by_name.old name.entry source by_name.new) }
+fn add<'p>(to: &mut IndexMap<&'p str, Origin>, name: &'p str, source: Origin) -> Result<(), Memory>
+    ensures { IfOk result (λ _. IsWith to.old name.entry source to.new) }
 {
-    by_name.entry(name)?.or_insert(source);
+    to.entry(name)?.or_insert(source);
     Ok(())
 }
 
