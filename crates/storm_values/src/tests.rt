@@ -10,33 +10,45 @@ use std::cmp::Ordering;
 use std::test::Fail;
 
 #[test]
-fn hashes_and_texts_of_keys(rt: HostRuntime) -> Result<(), Fail> {
+fn hashes_of_keys(rt: HostRuntime) -> Result<(), Fail> {
     let alloc = rt.alloc();
     for (text, hash) in [("a", 0xaf63_dc4c_8601_ec8c), ("", 0xcbf2_9ce4_8422_2325)] {
         let key = [Value::Text(Txt::from_str(alloc, text)?)];
         assert_eq!(rt; key_hash(&key), hash, "at {text}");
     }
+    let row = [Value::Int(-5), Value::Text(Txt::from_str(alloc, "a\"b")?)];
+    assert_eq!(rt; key_hash_in(&row, &[0, 1]), key_hash(&row));
+    Ok(())
+}
+
+// Keys of the row [-5,"a\"b","é"], by the numbers of their fields, with their texts.
+const KEYS: [(&[u32], &str); 6] = [
+    (&[1, 0], "[\"a\\\"b\",-5]"),
+    (&[1, 3, 1], "[\"a\\\"b\",\"a\\\"b\"]"),
+    (&[2], "[\"é\"]"),
+    (&[1], "[\"a\\\"b\"]"),
+    (&[0], "[-5]"),
+    (&[], "[]"),
+];
+
+fn is_key_text(alloc: Global, row: &[Value], fields: &[u32], text: &str) -> Result<bool, Memory> {
+    let mut room = String::from_str(alloc, "x")?;
+    let key = key_text_in(alloc, &mut room, row, fields)?;
+    Ok(key.as_str() == text)
+}
+
+#[test]
+fn texts_of_keys(rt: HostRuntime) -> Result<(), Memory> {
+    let alloc = rt.alloc();
     let row = [
         Value::Int(-5),
         Value::Text(Txt::from_str(alloc, "a\"b")?),
         Value::Text(Txt::from_str(alloc, "é")?),
     ];
     assert!(rt; key_text(alloc, &row)?.as_str() == "[-5,\"a\\\"b\",\"é\"]");
-    for (fields, text) in [
-        (&[1, 0][..], "[\"a\\\"b\",-5]"),
-        (&[1, 3, 1], "[\"a\\\"b\",\"a\\\"b\"]"),
-        (&[2], "[\"é\"]"),
-        (&[1], "[\"a\\\"b\"]"),
-        (&[0], "[-5]"),
-        (&[], "[]"),
-    ] {
-        let mut room = String::from_str(alloc, "x")?;
-        assert!(rt;
-            key_text_in(alloc, &mut room, &row, fields)?.as_str() == text,
-            "at {text}"
-        );
+    for (fields, text) in KEYS {
+        assert!(rt; is_key_text(alloc, &row, fields, text)?);
     }
-    assert_eq!(rt; key_hash_in(&row, &[0, 1, 2]), key_hash(&row));
     Ok(())
 }
 

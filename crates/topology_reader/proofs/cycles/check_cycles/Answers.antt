@@ -15,7 +15,7 @@ pub returns-in-Some : goal.returns-in-Some
 returns-in-Some c =
     let p = c.args.sources.now in
     let found = rw c.as_slice.ensures.value at c.in-Some.ensures in
-    let name = c.in_ok-name-in-Some.ensures ∙ sym (ap (λ there. option_map_or (λ (part : ComponentPart). part.name) there []) c.component.ensures) in
+    let name = c.in_ok-copy-in-Some.ensures ∙ sym (ap (λ there. option_map_or (λ (part : ComponentPart). part.name) there []) c.component.ensures) in
     λ other.
     cycle_fault-reached p c.in_ok-sets.sets.items c.in_ok-sets.ensures
     ∙ sym (ap (option_map (λ i. Cycle (name_at p i))) found)
