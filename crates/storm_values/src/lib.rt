@@ -9,8 +9,6 @@ mod limits;
 mod lines;
 mod list;
 mod path;
-#[cfg(test)]
-mod tests;
 mod text;
 mod value;
 
