@@ -1,16 +1,14 @@
 -- What holds of whatever is read, by how it is read.
-use Rattle.std.proofs.Common.{◌≡◌, ℕ, ◌&&◌, ℤ, pos, negsuc, List, [], ◌∷◌, length, All, Bool, true, false, int_le, if◌then◌else◌, Option, Some, None, option_and_then, unsigned_abs, Result, Ok, Err, IfOk, suc, refl, ap, sym, subst, arith}
+use Rattle.std.proofs.Common.{◌≡◌, ℕ, ◌&&◌, ℤ, pos, negsuc, List, ◌∷◌, length, All, Bool, true, false, int_le, if◌then◌else◌, Option, Some, None, option_and_then, unsigned_abs, Result, Ok, Err, IfOk, suc, refl, ap, sym, subst, arith}
 use Rattle.std.proofs.lemmas.Bool.Decides.{nat_tests}
 use Rattle.std.proofs.lemmas.List.Elements.{All-nil, All-cons}
-use Rattle.std.specs.List.{AllByRecursion}
 use Rattle.std.specs.Option.{option_map_or}
-use Rattle.std.specs.Str.{bytes_eq}
 use Rattle.topology_form.specs.Prelude.{Data, Items, no_items, item, Members, no_members, member, is_name, IsName, TopoFault, Missing, WrongKind, OutOfRange, get_member, as_str, as_number, as_array, as_object, as_i64, items_len, Value}
 use Rattle.storm_values.specs.Json.{value_of}
 use Rattle.storm_values.specs.declared.value.Value.TheVariants.{Int, Text}
 use Rattle.topology_plan.specs.Valid.{IsBetween}
 use Rattle.topology_plan.specs.Wired.{IsConstant}
-use Rattle.topology_form.specs.Reading.{Form, Reader, of_kind, within, each, some_names, some_objects, a_number, a_name, short, a_constant, an_object, and_then, ◌>>=◌, done, ends, without, read_or, required, optional, found_in, chosen}
+use Rattle.topology_form.specs.Reading.{Form, Reader, of_kind, within, each, some_names, some_objects, a_number, a_name, short, a_constant, an_object, and_then, ◌>>=◌, done, ends, without, read_or, required, optional}
 
 -- P holds of what is read by the form
 pub record IsOf {A : Type 0} (P : A → Type 0) (form : Form A) : Type 0 where
@@ -38,9 +36,6 @@ ended : {A : Type 0} (P : A → Type 0) (x : A) → P x → (object : Members) �
 ended P x good no_members = good
 ended P x good (member name value rest) = tt
 
-pub last : {A : Type 0} {P : A → Type 0} {x : A} → P x → Makes P (ends x)
-last {A} {P} {x} good = record { holds = λ object. ended P x good object }
-
 pub had : {A : Type 0} (P : A → Type 0) {x : A} → P x → Makes (λ y. P y.0) (done x)
 had P good = record { holds = λ object. good }
 
@@ -51,19 +46,11 @@ of_kind_makes : {A B : Type 0} (P : B → Type 0) (name : List ℕ) (found : Opt
 of_kind_makes P name None next good = tt
 of_kind_makes P name (Some x) next good = good x
 
-pub object_of : {A : Type 0} {P : A → Type 0} {part_of : Members → Result A TopoFault} → Makes P part_of → IsOf P (an_object part_of)
-object_of {A} {P} {part_of} good = record { holds = λ name value. of_kind_makes P name (as_object value) part_of good.holds }
-
-either : {C : Type 0} (P : C → Type 0) (test : Bool) (a b : Result C TopoFault) → IfOk a P → IfOk b P → IfOk (if test then a else b) P
-either P true a b x y = x
-either P false a b x y = y
-
-in_table : {C : Type 0} (P : C → Type 0) (table : List (List ℕ × (Members → Result C TopoFault))) → AllByRecursion (λ pair. Makes P pair.1) table → (word : List ℕ) → IfOk (found_in table word) (Makes P)
-in_table P [] good word = tt
-in_table P (pair ∷ pairs) good word = either (Makes P) (bytes_eq word pair.0) (Ok pair.1) (found_in pairs word) good.0 (in_table P pairs good.1 word)
-
-pub chosen_makes : {C : Type 0} {P : C → Type 0} (table : List (List ℕ × (Members → Result C TopoFault))) (word : List ℕ) → AllByRecursion (λ pair. Makes P pair.1) table → Makes P (chosen table word)
-chosen_makes {C} {P} table word good = record { holds = λ object. after (Makes P) P (found_in table word) (λ next. next object) (in_table P table good word) (λ next makes. makes.holds object) }
+pub object_of : {A : Type 0} {P : A → Type 0} {reader : Reader A} → Makes (λ x. P x.0) reader → IsOf P (an_object reader)
+object_of {A} {P} {reader} good = record {
+  holds = λ name value. of_kind_makes P name (as_object value) (reader >>= ends)
+      (λ object. after (λ x. P x.0) P (reader object) (λ read. ends read.0 read.1) (good.holds object) (λ x holds. ended P x.0 holds x.1));
+}
 
 -- ---- members
 

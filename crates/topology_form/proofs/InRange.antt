@@ -1,79 +1,74 @@
 -- What a file says is in range.
-use Rattle.topology_form.specs.Prelude.{Data, TopoFault, FileParts, Fold, Count, Sum, Last, Max, Input, ComponentPart}
+use Rattle.topology_form.specs.Prelude.{Data, most_ackers, most_pending, least_buckets, most_buckets, most_attempts, IsName, TopoFault, FileParts, Fold, Count, Sum, Last, Max, Input, ComponentPart}
+use Rattle.topology_form.specs.declared.parts.{GroupingWord.GroupingWord, OperationWord.OperationWord}
 use Rattle.topology_form.specs.declared.parts.GroupingPart.TheVariants as said
+use Rattle.topology_form.specs.declared.parts.GroupingWord.TheVariants as word
+use Rattle.topology_form.specs.declared.parts.OperationWord.TheVariants as op
 use Rattle.topology_plan.specs.Valid.{IsBetween}
 use Rattle.std.proofs.Common.{◌≡◌, ℕ, List, [], ◌∷◌, length, All, Bool, true, false, subst, codes, None, Result, Ok, Err, IfOk, refl, sym, lit≤}
 use Rattle.std.specs.Result.{result_err, result_unwrap_or}
 use Rattle.std.proofs.lemmas.List.{length-map}
 use Rattle.std.proofs.lemmas.List.Elements.{All-nil, All-cons, All-append, All-weaker}
 use Rattle.std.proofs.lemmas.Option.{none-some}
-use Rattle.topology_form.specs.Format.{form_fault, parts_said, blank, file_of, operations, groupings, grouping_of, amount_for, grouped_by, a_spout, an_operation, an_input, a_bolt, a_state, a_file}
+use Rattle.topology_form.specs.Format.{form_fault, parts_said, blank, file_of, operation_of, grouping_of, a_grouping, amount_for, grouped_by, a_spout, two_fields, an_operation, an_input, a_bolt, a_state, some_numbers, a_file}
+use Rattle.topology_form.specs.Reading.{an_object}
 use Rattle.topology_form.specs.Ranges.{IsSpoutInRange, IsOperationInRange, IsGroupingInRange, HasAmount, IsComponentInRange, is_bolt, IsInRange}
-use Rattle.topology_form.proofs.Good.{IsOf, Reads, first, last, had, reads, object_of, chosen_makes, a_member, may_be, number_of, name_of, any_of, names_of, objects_of, constant_of}
+use Rattle.topology_form.proofs.Good.{IsOf, Reads, Makes, first, had, reads, object_of, a_member, may_be, number_of, name_of, any_of, names_of, objects_of, constant_of}
 
-pub spout_of : IsOf IsSpoutInRange a_spout
+pub spout_of : IsOf IsSpoutInRange (an_object a_spout)
 spout_of =
     object_of
     (first (a_member _ name_of) (λ name named.
     first (a_member _ any_of) (λ kind _.
     first (a_member _ names_of) (λ fields are.
     first (a_member _ number_of) (λ batch is.
-    last (record { name = named; fields = are.0; field_names = are.1; batch = is }))))))
+    had _ (record { name = named; fields = are.0; field_names = are.1; batch = is }))))))
 
 -- ---- bolts
 
-pub operation_of : IsOf IsOperationInRange an_operation
-operation_of =
-    object_of
-    (first (a_member _ any_of) (λ word _.
-    chosen_makes operations word (
-      first (a_member _ any_of) (λ field _. first (a_member _ name_of) (λ into named. last named)),
-      (
-        first (a_member _ names_of) (λ fields are. last are),
-        (
-          first (a_member _ any_of) (λ field _. first (a_member _ any_of) (λ test _. first (a_member _ constant_of) (λ value is. last is))),
-          (
-            first (a_member _ any_of) (λ field _. first (a_member _ constant_of) (λ value is. last is)),
-            (
-              first (a_member _ any_of) (λ field _. first (a_member _ name_of) (λ into named. last named)),
-              (
-                first (a_member _ any_of) (λ field _. last tt),
-                (
-                  first (a_member _ number_of) (λ below is. last is),
-                  (
-                    first (a_member _ number_of) (λ below is. last is),
-                    (last tt, tt),
-                  ),
-                ),
-              ),
-            ),
-          ),
-        ),
-      ),
-    )))
+two_read : Reads (λ (fields : List ℕ × List ℕ). IsName fields.1) two_fields
+two_read = reads (first (a_member _ any_of) (λ field _. first (a_member _ name_of) (λ into named. had _ named)))
 
-grouping_reads : Reads IsGroupingInRange grouping_of
-grouping_reads =
-    reads (first (a_member _ any_of) (λ word _.
-    chosen_makes groupings word
-    (had IsGroupingInRange tt, (first (a_member _ names_of) (λ key are. had IsGroupingInRange are.0), (had IsGroupingInRange tt, (had IsGroupingInRange tt, (had IsGroupingInRange tt, (had IsGroupingInRange tt, (had IsGroupingInRange tt, tt)))))))))
+operation_makes : (word : OperationWord) → Makes (λ x. IsOperationInRange x.0) (operation_of word)
+operation_makes op.Split = first two_read (λ fields named. had _ named)
+operation_makes op.Project = first (a_member _ names_of) (λ fields are. had _ are)
+operation_makes op.Filter = first (a_member _ any_of) (λ field _. first (a_member _ any_of) (λ test _. first (a_member _ constant_of) (λ value is. had _ is)))
+operation_makes op.Set = first (a_member _ any_of) (λ field _. first (a_member _ constant_of) (λ value is. had _ is))
+operation_makes op.Len = first two_read (λ fields named. had _ named)
+operation_makes op.Route = first (a_member _ any_of) (λ field _. had _ tt)
+operation_makes op.Flaky = first (a_member _ number_of) (λ below is. had _ is)
+operation_makes op.Mute = first (a_member _ number_of) (λ below is. had _ is)
+operation_makes op.Custom = had _ tt
 
-pub input_of : IsOf (λ (input : Input). IsGroupingInRange input.grouping) an_input
-input_of = object_of (first (a_member _ any_of) (λ from _. first grouping_reads (λ grouping is. last is)))
+pub operation_good : IsOf IsOperationInRange (an_object an_operation)
+operation_good = object_of (first (a_member _ any_of) (λ word _. operation_makes word))
+
+grouping_makes : (word : GroupingWord) → Makes (λ x. IsGroupingInRange x.0) (grouping_of word)
+grouping_makes word.Shuffle = had _ tt
+grouping_makes word.Fields = first (a_member _ names_of) (λ key are. had _ are.0)
+grouping_makes word.All = had _ tt
+grouping_makes word.Global = had _ tt
+grouping_makes word.Direct = had _ tt
+
+grouping_reads : Reads IsGroupingInRange a_grouping
+grouping_reads = reads (first (a_member _ any_of) (λ word _. grouping_makes word))
+
+pub input_of : IsOf (λ (input : Input). IsGroupingInRange input.grouping) (an_object an_input)
+input_of = object_of (first (a_member _ any_of) (λ from _. first grouping_reads (λ grouping is. had _ is)))
 
 -- a component in range that is a bolt, or a state
 pub record IsOfKind (bolt : Bool) (part : ComponentPart) : Type 0 where
   pub range : IsComponentInRange part
   pub kind : is_bolt part.body ≡ bolt
 
-pub bolt_of : IsOf (IsOfKind true) a_bolt
+pub bolt_of : IsOf (IsOfKind true) (an_object a_bolt)
 bolt_of =
     object_of
     (first (a_member _ name_of) (λ name named.
     first (a_member _ number_of) (λ tasks is.
-    first (a_member _ operation_of) (λ operation does.
+    first (a_member _ operation_good) (λ operation does.
     first (a_member _ (objects_of input_of)) (λ inputs are.
-    last (record { range = record { name = named; tasks = is; groupings = are.1; body = (does, are.0) }; kind = refl }))))))
+    had _ (record { range = record { name = named; tasks = is; groupings = are.1; body = (does, are.0) }; kind = refl }))))))
 
 -- ---- states
 
@@ -94,7 +89,7 @@ count_grouped key names least most is =
     let same : length (grouped_by key names) ≡ length names = length-map {B = Input} names (λ from. record { from = from; grouping = said.Fields key }) in
     subst (λ n. IsBetween n least most) (sym same) is
 
-pub state_of : IsOf (IsOfKind false) a_state
+pub state_of : IsOf (IsOfKind false) (an_object a_state)
 state_of =
     object_of
     (first (a_member _ name_of) (λ name named.
@@ -104,7 +99,7 @@ state_of =
     first (a_member _ any_of) (λ fold _.
     first (amount_reads fold) (λ amount has.
     first (a_member _ names_of) (λ names some.
-    last (record {
+    had _ (record {
       range = record {
         name = named;
         tasks = is;
@@ -116,18 +111,26 @@ state_of =
 
 -- ---- the file
 
-file_in_range : IsOf IsInRange a_file
+abbrev AreNumbers : ℕ × ℕ × ℕ × ℕ → Type 0
+AreNumbers n = IsBetween n.0 1 most_ackers × IsBetween n.1 1 most_pending × IsBetween n.2 least_buckets most_buckets × IsBetween n.3 1 most_attempts
+
+numbers_read : Reads AreNumbers some_numbers
+numbers_read =
+    reads
+    (first (may_be _ _ (lit≤ tt, lit≤ tt) number_of) (λ ackers a.
+    first (may_be _ _ (lit≤ tt, lit≤ tt) number_of) (λ pending p.
+    first (may_be _ _ (lit≤ tt, lit≤ tt) number_of) (λ buckets b.
+    first (may_be _ _ (lit≤ tt, lit≤ tt) number_of) (λ attempts t. had _ (a, p, b, t))))))
+
+file_in_range : IsOf IsInRange (an_object a_file)
 file_in_range =
     object_of
     (first (a_member _ any_of) (λ version _.
     first (a_member _ spout_of) (λ spout good.
     first (a_member _ (objects_of bolt_of)) (λ bolts are.
     first (a_member _ (objects_of state_of)) (λ states some.
-    first (may_be _ _ (lit≤ tt, lit≤ tt) number_of) (λ ackers a.
-    first (may_be _ _ (lit≤ tt, lit≤ tt) number_of) (λ pending p.
-    first (may_be _ _ (lit≤ tt, lit≤ tt) number_of) (λ buckets b.
-    first (may_be _ _ (lit≤ tt, lit≤ tt) number_of) (λ attempts t.
-    last (record {
+    first numbers_read (λ numbers are_so.
+    had _ (record {
       spout = good;
       bolts = are.0.1;
       are_bolts = All-weaker (IsOfKind true) (λ (part : ComponentPart). is_bolt part.body ≡ true) (λ part of. of.kind) bolts are.1;
@@ -136,11 +139,11 @@ file_in_range =
       each =
           All-append IsComponentInRange bolts states (All-weaker (IsOfKind true) IsComponentInRange (λ part of. of.range) bolts are.1)
           (All-weaker (IsOfKind false) IsComponentInRange (λ part of. of.range) states some.1);
-      ackers = a;
-      pending = p;
-      buckets = b;
-      attempts = t;
-    }))))))))))
+      ackers = are_so.0;
+      pending = are_so.1;
+      buckets = are_so.2;
+      attempts = are_so.3;
+    })))))))
 
 said_in_range : (read : Result FileParts TopoFault) → IfOk read IsInRange → result_err read ≡ None → IsInRange (result_unwrap_or read blank)
 said_in_range (Ok parts) good faultless = good

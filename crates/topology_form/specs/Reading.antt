@@ -62,10 +62,6 @@ a_number least most name value =
     of_kind name (option_and_then as_i64 (as_number value))
     (λ n. within name least most n (Ok (unsigned_abs n)))
 
--- a text
-abbrev pub a_text : Form (List ℕ)
-a_text name value = of_kind name (as_str value) Ok
-
 -- a name
 abbrev pub a_name : Form (List ℕ)
 a_name name value =
@@ -92,10 +88,6 @@ short name (Text text) = within name 0 256 (pos (length text)) (Ok (Text text))
 
 abbrev pub a_constant : Form Value
 a_constant name value = of_kind name (value_of value) (short name)
-
--- an object
-abbrev pub an_object : {A : Type 0} → (Members → Result A TopoFault) → Form A
-an_object part_of name value = of_kind name (as_object value) part_of
 
 -- an array of these, this many: first its length, then item by item
 abbrev pub some_objects : {A : Type 0} → ℕ → ℕ → Form A → Form (List A)
@@ -132,6 +124,10 @@ abbrev pub ends : {A : Type 0} → A → Members → Result A TopoFault
 ends x no_members = Ok x
 ends x (member name value rest) = Err (UnknownName name)
 
+-- an object with these members and no other
+abbrev pub an_object : {A : Type 0} → Reader A → Form A
+an_object reader name value = of_kind name (as_object value) (reader >>= ends)
+
 -- the members that an object still has
 abbrev pub left_in : Object → Members
 left_in object = members_view object.members.entries
@@ -156,11 +152,6 @@ required name form = read_or (Err (Missing name)) name form
 -- a member that may be absent
 unfoldable pub optional : {A : Type 0} → List ℕ → A → Form A → Reader A
 optional name default form = read_or (Ok default) name form
-
--- what follows a word by a table
-abbrev pub chosen : {C : Type 0} → List (List ℕ × (Members → Result C TopoFault)) → List ℕ → Members
-    → Result C TopoFault
-chosen table word object = and_then (found_in table word) (λ next. next object)
 
 -- a table as its words and what is beside them
 abbrev pub pairs_of : {A : Type 0} → List (Bor (List ℕ) × A) → List (List ℕ × A)

@@ -1,17 +1,18 @@
 //! One decoder an object: its members in the order of the format's lines, each taken out by its
 //! form, and then the first member that is left over.
 
-ghost use Rattle.std.specs.Prelude.{◌≡◌, ◌≢◌, Some, None, IfOk, IfErr, codes};
+ghost use Rattle.std.specs.Prelude.{◌≡◌, ◌≢◌, Some, None, IfOk, IfErr};
 ghost use Rattle.topology_form.specs.Prelude.{Data, view};
-ghost use Rattle.topology_form.specs.Format.{form_fault, parts_said, a_spout, operations, an_operation, grouping_of, an_input, a_bolt, amount_for, grouped_by, a_state, a_file};
+ghost use Rattle.topology_form.specs.Format.{form_fault, parts_said, a_spout, two_fields, an_operation, operation_of, a_grouping, an_input, a_bolt, amount_for, grouped_by, a_state, some_numbers, a_file};
 ghost use Rattle.topology_form.specs.Ranges.{IsInRange};
-ghost use Rattle.topology_form.specs.Reading.{Gives, Takes, chosen, left_in};
+ghost use Rattle.topology_form.specs.Reading.{Takes, left_in};
 
 use crate::fault::TopoFault;
-use crate::forms::{Constant, Form, Name, Number, SomeNames, SomeObjects, Text, Word};
-use crate::object::{Object, ends};
+use crate::forms::{Constant, Form, Name, Number, SomeNames, SomeObjects, Word};
+use crate::object::{Object, ObjectOf, Reader};
 use crate::parts::{
-    BodyPart, ComponentPart, FileParts, GroupingPart, Input, Operation, SpoutPart, StatePart,
+    BodyPart, ComponentPart, FileParts, GroupingPart, GroupingWord, Input, Operation,
+    OperationWord, SpoutPart, StatePart,
 };
 use serde_json::Value as Json;
 use std::alloc::Global;
@@ -31,7 +32,7 @@ pub fn parts_from(alloc: Global, value: Json) -> Result<FileParts, TopoFault>
     ensures fault { IfErr result
         (λ fault. fault ≢ TopoFault.Memory → form_fault (view value) ≡ Some fault) }
 {
-    File.read(alloc, "topology", value)
+    ObjectOf(File).read(alloc, "topology", value)
 }
 
 /// A law: what a file without a fault of form says is in range.
@@ -48,131 +49,133 @@ const FIELDS: SomeNames = SomeNames(1, MOST_FIELDS);
 
 struct Spout;
 
-impl Form for Spout {
-    type Part = SpoutPart;
+impl Reader<SpoutPart> for Spout {
+    ghost reader = { λ _. a_spout };
 
-    ghost form = { λ _. a_spout };
-
-    fn read(&self, alloc: Global, name: &str, value: Json) -> Result<SpoutPart, TopoFault> {
-        let mut object = Object::from_value(alloc, name, value)?;
-        let spout = SpoutPart {
+    fn read(&self, object: &mut Object) -> Result<SpoutPart, TopoFault> {
+        Ok(SpoutPart {
             name: object.required("name", &Name)?,
             kind: object.required("kind", &Word(&KINDS))?,
             fields: object.required("fields", &FIELDS)?,
             batch: object.required("batch", &Number(1, MOST_BATCH))?,
-        };
-        ends(spout, object)
+        })
     }
 }
 
 const TESTS: [(&str, Test); 3] = [("eq", Test::Eq), ("ne", Test::Ne), ("lt", Test::Lt)];
 
+const OPERATIONS: [(&str, OperationWord); 9] = [
+    ("split", OperationWord::Split),
+    ("project", OperationWord::Project),
+    ("filter", OperationWord::Filter),
+    ("set", OperationWord::Set),
+    ("len", OperationWord::Len),
+    ("route", OperationWord::Route),
+    ("flaky", OperationWord::Flaky),
+    ("mute", OperationWord::Mute),
+    ("custom", OperationWord::Custom),
+];
+
 const BELOW: Number = Number(1, MOST_BELOW);
 
 struct BoltOperation;
 
-impl Form for BoltOperation {
-    type Part = Operation;
+impl Reader<Operation> for BoltOperation {
+    ghost reader = { λ _. an_operation };
 
-    ghost form = { λ _. an_operation };
-
-    fn read(&self, alloc: Global, name: &str, value: Json) -> Result<Operation, TopoFault> {
-        let mut object = Object::from_value(alloc, name, value)?;
-        let word = object.required("do", &Text)?;
-        match word.as_str() {
-            "split" => split_from(object),
-            "project" => ends(
-                Operation::Project(object.required("fields", &FIELDS)?),
-                object,
-            ),
-            "filter" => filter_from(object),
-            "set" => {
-                let field = object.required("field", &Name)?;
-                let value = object.required("value", &Constant)?;
-                ends(Operation::Set(field, value), object)
-            }
-            "len" => len_from(object),
-            "route" => ends(Operation::Route(object.required("field", &Name)?), object),
-            "flaky" => ends(Operation::Flaky(object.required("below", &BELOW)?), object),
-            "mute" => ends(Operation::Mute(object.required("below", &BELOW)?), object),
-            "custom" => ends(Operation::Custom, object),
-            _ => Err(TopoFault::UnknownName(word)),
-        }
+    fn read(&self, object: &mut Object) -> Result<Operation, TopoFault> {
+        let word = object.required("do", &Word(&OPERATIONS))?;
+        operation_from(object, word)
     }
 }
 
-fn split_from(mut object: Object) -> Result<Operation, TopoFault>
-    ensures { Gives result (chosen operations (codes "split") (left_in object)) }
+fn operation_from(object: &mut Object, word: OperationWord) -> Result<Operation, TopoFault>
+    ensures { Takes result (left_in object.new) (operation_of word (left_in object.old)) }
 {
-    let field = object.required("field", &Name)?;
-    let into = object.required("as", &Name)?;
-    ends(Operation::Split { field, into }, object)
+    match word {
+        OperationWord::Split => {
+            let (field, into) = two_fields_from(object)?;
+            Ok(Operation::Split { field, into })
+        }
+        OperationWord::Project => Ok(Operation::Project(object.required("fields", &FIELDS)?)),
+        OperationWord::Filter => {
+            let field = object.required("field", &Name)?;
+            let test = object.required("test", &Word(&TESTS))?;
+            Ok(Operation::Filter(field, test, object.required("value", &Constant)?))
+        }
+        OperationWord::Set => {
+            let field = object.required("field", &Name)?;
+            Ok(Operation::Set(field, object.required("value", &Constant)?))
+        }
+        OperationWord::Len => {
+            let (field, into) = two_fields_from(object)?;
+            Ok(Operation::Len { field, into })
+        }
+        OperationWord::Route => Ok(Operation::Route(object.required("field", &Name)?)),
+        OperationWord::Flaky => Ok(Operation::Flaky(object.required("below", &BELOW)?)),
+        OperationWord::Mute => Ok(Operation::Mute(object.required("below", &BELOW)?)),
+        OperationWord::Custom => Ok(Operation::Custom),
+    }
 }
 
-fn filter_from(mut object: Object) -> Result<Operation, TopoFault>
-    ensures { Gives result (chosen operations (codes "filter") (left_in object)) }
+/// The field that is read, and the one that is made.
+fn two_fields_from(object: &mut Object) -> Result<(Txt, Txt), TopoFault>
+    ensures { Takes result (left_in object.new) (two_fields (left_in object.old)) }
 {
     let field = object.required("field", &Name)?;
-    let test = object.required("test", &Word(&TESTS))?;
-    let value = object.required("value", &Constant)?;
-    ends(Operation::Filter(field, test, value), object)
+    Ok((field, object.required("as", &Name)?))
 }
 
-fn len_from(mut object: Object) -> Result<Operation, TopoFault>
-    ensures { Gives result (chosen operations (codes "len") (left_in object)) }
-{
-    let field = object.required("field", &Name)?;
-    let into = object.required("as", &Name)?;
-    ends(Operation::Len { field, into }, object)
-}
+const GROUPINGS: [(&str, GroupingWord); 7] = [
+    ("shuffle", GroupingWord::Shuffle),
+    ("fields", GroupingWord::Fields),
+    ("all", GroupingWord::All),
+    ("global", GroupingWord::Global),
+    ("direct", GroupingWord::Direct),
+    ("none", GroupingWord::Shuffle),
+    ("local_or_shuffle", GroupingWord::Shuffle),
+];
 
 fn grouping_from(object: &mut Object) -> Result<GroupingPart, TopoFault>
-    ensures { Takes result (left_in object.new) (grouping_of (left_in object.old)) }
+    ensures { Takes result (left_in object.new) (a_grouping (left_in object.old)) }
 {
-    let word = object.required("grouping", &Text)?;
-    match word.as_str() {
-        "shuffle" | "none" | "local_or_shuffle" => Ok(GroupingPart::Shuffle),
-        "fields" => Ok(GroupingPart::Fields(object.required("key", &FIELDS)?)),
-        "all" => Ok(GroupingPart::All),
-        "global" => Ok(GroupingPart::Global),
-        "direct" => Ok(GroupingPart::Direct),
-        _ => Err(TopoFault::UnknownName(word)),
+    match object.required("grouping", &Word(&GROUPINGS))? {
+        GroupingWord::Shuffle => Ok(GroupingPart::Shuffle),
+        GroupingWord::Fields => Ok(GroupingPart::Fields(object.required("key", &FIELDS)?)),
+        GroupingWord::All => Ok(GroupingPart::All),
+        GroupingWord::Global => Ok(GroupingPart::Global),
+        GroupingWord::Direct => Ok(GroupingPart::Direct),
     }
 }
 
 struct BoltInput;
 
-impl Form for BoltInput {
-    type Part = Input;
+impl Reader<Input> for BoltInput {
+    ghost reader = { λ _. an_input };
 
-    ghost form = { λ _. an_input };
-
-    fn read(&self, alloc: Global, name: &str, value: Json) -> Result<Input, TopoFault> {
-        let mut object = Object::from_value(alloc, name, value)?;
-        let input = Input {
+    fn read(&self, object: &mut Object) -> Result<Input, TopoFault> {
+        Ok(Input {
             from: object.required("from", &Name)?,
-            grouping: grouping_from(&mut object)?,
-        };
-        ends(input, object)
+            grouping: grouping_from(object)?,
+        })
     }
 }
 
 struct Bolt;
 
-impl Form for Bolt {
-    type Part = ComponentPart;
+impl Reader<ComponentPart> for Bolt {
+    ghost reader = { λ _. a_bolt };
 
-    ghost form = { λ _. a_bolt };
-
-    fn read(&self, alloc: Global, name: &str, value: Json) -> Result<ComponentPart, TopoFault> {
-        let mut object = Object::from_value(alloc, name, value)?;
-        let bolt = ComponentPart {
+    fn read(&self, object: &mut Object) -> Result<ComponentPart, TopoFault> {
+        Ok(ComponentPart {
             name: object.required("name", &Name)?,
             tasks: object.required("tasks", &Number(1, MOST_TASKS))?,
-            body: BodyPart::Bolt(object.required("op", &BoltOperation)?),
-            inputs: object.required("inputs", &SomeObjects(1, MOST_BOLT_INPUTS, BoltInput))?,
-        };
-        ends(bolt, object)
+            body: BodyPart::Bolt(object.required("op", &ObjectOf(BoltOperation))?),
+            inputs: object.required(
+                "inputs",
+                &SomeObjects(1, MOST_BOLT_INPUTS, ObjectOf(BoltInput)),
+            )?,
+        })
     }
 }
 
@@ -205,54 +208,63 @@ fn grouped_by(alloc: Global, key: &Names, names: Names) -> Result<Seq<Input>, Me
 
 struct State;
 
-impl Form for State {
-    type Part = ComponentPart;
+impl Reader<ComponentPart> for State {
+    ghost reader = { λ _. a_state };
 
-    ghost form = { λ _. a_state };
-
-    fn read(&self, alloc: Global, name: &str, value: Json) -> Result<ComponentPart, TopoFault> {
-        let mut object = Object::from_value(alloc, name, value)?;
+    fn read(&self, object: &mut Object) -> Result<ComponentPart, TopoFault> {
         let name = object.required("name", &Name)?;
         let kind = object.required("kind", &Word(&KINDS))?;
         let tasks = object.required("parts", &Number(1, MOST_TASKS))?;
         let key = object.required("key", &FIELDS)?;
         let fold = object.required("fold", &Word(&FOLDS))?;
-        let amount = amount_from(&mut object, fold)?;
+        let amount = amount_from(object, fold)?;
         let names = object.required("inputs", &SomeNames(1, MOST_STATE_INPUTS))?;
-        let state = ComponentPart {
+        let inputs = grouped_by(object.alloc, &key, names)?;
+        Ok(ComponentPart {
             name,
             tasks,
-            inputs: grouped_by(alloc, &key, names)?,
+            inputs,
             body: BodyPart::State(StatePart {
                 kind,
                 key,
                 fold,
                 amount,
             }),
-        };
-        ends(state, object)
+        })
     }
+}
+
+/// The numbers of ackers, of batches in flight, of buckets and of attempts.
+fn numbers_from(object: &mut Object) -> Result<(u32, u32, u32, u32), TopoFault>
+    ensures { Takes result (left_in object.new) (some_numbers (left_in object.old)) }
+{
+    Ok((
+        object.optional("ackers", 1, &Number(1, MOST_ACKERS))?,
+        object.optional("pending", 1, &Number(1, MOST_PENDING))?,
+        object.optional("buckets", 3, &Number(LEAST_BUCKETS, MOST_BUCKETS))?,
+        object.optional("attempts", 10, &Number(1, MOST_ATTEMPTS))?,
+    ))
 }
 
 struct File;
 
-impl Form for File {
-    type Part = FileParts;
+impl Reader<FileParts> for File {
+    ghost reader = { λ _. a_file };
 
-    ghost form = { λ _. a_file };
-
-    fn read(&self, alloc: Global, name: &str, value: Json) -> Result<FileParts, TopoFault> {
-        let mut object = Object::from_value(alloc, name, value)?;
+    fn read(&self, object: &mut Object) -> Result<FileParts, TopoFault> {
         object.required("version", &Number(1, 1))?;
-        let file = FileParts {
-            spout: object.required("spout", &Spout)?,
-            bolts: object.required("bolts", &SomeObjects(0, MOST_BOLTS, Bolt))?,
-            states: object.required("states", &SomeObjects(1, MOST_STATES, State))?,
-            ackers: object.optional("ackers", 1, &Number(1, MOST_ACKERS))?,
-            pending: object.optional("pending", 1, &Number(1, MOST_PENDING))?,
-            buckets: object.optional("buckets", 3, &Number(LEAST_BUCKETS, MOST_BUCKETS))?,
-            attempts: object.optional("attempts", 10, &Number(1, MOST_ATTEMPTS))?,
-        };
-        ends(file, object)
+        let spout = object.required("spout", &ObjectOf(Spout))?;
+        let bolts = object.required("bolts", &SomeObjects(0, MOST_BOLTS, ObjectOf(Bolt)))?;
+        let states = object.required("states", &SomeObjects(1, MOST_STATES, ObjectOf(State)))?;
+        let (ackers, pending, buckets, attempts) = numbers_from(object)?;
+        Ok(FileParts {
+            spout,
+            bolts,
+            states,
+            ackers,
+            pending,
+            buckets,
+            attempts,
+        })
     }
 }

@@ -1,9 +1,9 @@
 //! The forms of members: what a value says, if it is of its form. Texts are moved.
 
-ghost use Rattle.std.specs.Prelude.{◌≡◌, ◌≢◌, ℕ, List, pos, Result};
+ghost use Rattle.std.specs.Prelude.{◌≡◌, ◌≢◌, ℕ, List, pos, Result, Ok};
 ghost use Rattle.std.specs.List.{list_all};
-ghost use Rattle.topology_form.specs.Prelude.{Data, view, items_view, is_name, is_name_byte, TopoFault, WrongKind, Memory, items_len};
-ghost use Rattle.topology_form.specs.Reading.{Gives, Checks, a_number, a_text, a_name, a_word, some_names, some_objects, a_constant, each, found_in, range_fault, pairs_of};
+ghost use Rattle.topology_form.specs.Prelude.{Data, view, items_view, as_str, is_name, is_name_byte, TopoFault, WrongKind, Memory, items_len};
+ghost use Rattle.topology_form.specs.Reading.{Gives, Checks, of_kind, a_number, a_name, a_word, some_names, some_objects, a_constant, each, found_in, range_fault, pairs_of};
 
 use crate::fault::TopoFault;
 use serde_json::Value as Json;
@@ -11,12 +11,10 @@ use std::alloc::Global;
 use storm_values::{MOST_CONSTANT_BYTES, MOST_NAME_BYTES, Names, Seq, Txt, Value};
 
 /// A form of a member's value, and what is read from it.
-pub trait Form {
-    type Part: Drop;
+pub trait Form<T: Drop> {
+    ghost form: { Self → List ℕ → Data → Result T TopoFault };
 
-    ghost form: { Self → List ℕ → Data → Result Self.Part TopoFault };
-
-    fn read(&self, alloc: Global, name: &str, value: Json) -> Result<Self::Part, TopoFault>
+    fn read(&self, alloc: Global, name: &str, value: Json) -> Result<T, TopoFault>
         ensures { Gives result (form self.now name.now (view value)) };
 }
 
@@ -43,9 +41,7 @@ pub fn within(alloc: Global, name: &str, found: i64, least: u32, most: u32) -> R
 /// A number from the least to the most.
 pub struct Number(pub u32, pub u32);
 
-impl Form for Number {
-    type Part = u32;
-
+impl Form<u32> for Number {
     ghost form = { λ number. a_number number.0 number.1 };
 
     fn read(&self, alloc: Global, name: &str, value: Json) -> Result<u32, TopoFault> {
@@ -57,35 +53,27 @@ impl Form for Number {
     }
 }
 
-pub struct Text;
-
-impl Form for Text {
-    type Part = Txt;
-
-    ghost form = { λ _. a_text };
-
-    fn read(&self, alloc: Global, name: &str, value: Json) -> Result<Txt, TopoFault> {
-        match value {
-            Json::String(text) => Ok(Txt::from_string(text)),
-            _ => Err(wrong_kind(alloc, name)),
-        }
-    }
-}
-
 pub struct Name;
 
-impl Form for Name {
-    type Part = Txt;
-
+impl Form<Txt> for Name {
     ghost form = { λ _. a_name };
 
     fn read(&self, alloc: Global, name: &str, value: Json) -> Result<Txt, TopoFault> {
-        let text = Text.read(alloc, name, value)?;
+        let text = text_from(alloc, name, value)?;
         if is_name(text.as_bytes()) {
             Ok(text)
         } else {
             Err(wrong_kind(alloc, name))
         }
+    }
+}
+
+fn text_from(alloc: Global, name: &str, value: Json) -> Result<Txt, TopoFault>
+    ensures { Gives result (of_kind name.now (as_str (view value)) Ok) }
+{
+    match value {
+        Json::String(text) => Ok(Txt::from_string(text)),
+        _ => Err(wrong_kind(alloc, name)),
     }
 }
 
@@ -113,9 +101,7 @@ fn is_name_byte(byte: u8) -> bool
 /// Names, this many at least and at most.
 pub struct SomeNames(pub u32, pub u32);
 
-impl Form for SomeNames {
-    type Part = Names;
-
+impl Form<Names> for SomeNames {
     ghost form = { λ names. some_names names.0 names.1 };
 
     fn read(&self, alloc: Global, name: &str, value: Json) -> Result<Names, TopoFault> {
@@ -128,12 +114,12 @@ impl Form for SomeNames {
     }
 }
 
-fn each<F: Form>(
+fn each<T: Drop, F: Form<T>>(
     alloc: Global,
     name: &str,
     form: &F,
     items: Vec<Json>,
-) -> Result<Seq<F::Part>, TopoFault>
+) -> Result<Seq<T>, TopoFault>
     ensures { Gives result (each (F.form form.now) name.now (items_view items.items)) }
 {
     let mut read = Seq::new(alloc);
@@ -146,7 +132,7 @@ fn each<F: Form>(
 /// Objects of a form, this many at least and at most.
 pub struct SomeObjects<F>(pub u32, pub u32, pub F);
 
-impl<F: Form> SomeObjects<F> {
+impl<F> SomeObjects<F> {
     fn check_count(&self, alloc: Global, name: &str, items: &Vec<Json>) -> Result<(), TopoFault>
         ensures { Checks result (range_fault name.now self.now.0 self.now.1
             (pos (items_len (items_view items.now.items)))) }
@@ -155,12 +141,10 @@ impl<F: Form> SomeObjects<F> {
     }
 }
 
-impl<F: Form> Form for SomeObjects<F> {
-    type Part = Seq<F::Part>;
-
+impl<T: Drop, F: Form<T>> Form<Seq<T>> for SomeObjects<F> {
     ghost form = { λ objects. some_objects objects.0 objects.1 (F.form objects.2) };
 
-    fn read(&self, alloc: Global, name: &str, value: Json) -> Result<Seq<F::Part>, TopoFault> {
+    fn read(&self, alloc: Global, name: &str, value: Json) -> Result<Seq<T>, TopoFault> {
         let Json::Array(items) = value else {
             return Err(wrong_kind(alloc, name));
         };
@@ -172,9 +156,7 @@ impl<F: Form> Form for SomeObjects<F> {
 /// A number, or a text that is not too long.
 pub struct Constant;
 
-impl Form for Constant {
-    type Part = Value;
-
+impl Form<Value> for Constant {
     ghost form = { λ _. a_constant };
 
     fn read(&self, alloc: Global, name: &str, value: Json) -> Result<Value, TopoFault> {
@@ -195,13 +177,11 @@ impl Form for Constant {
 /// One of the words of a table.
 pub struct Word<'w, T>(pub &'w [(&'w str, T)]);
 
-impl<'w, T: Copy> Form for Word<'w, T> {
-    type Part = T;
-
+impl<'w, T: Copy> Form<T> for Word<'w, T> {
     ghost form = { λ word. a_word (pairs_of word.0.now) };
 
     fn read(&self, alloc: Global, name: &str, value: Json) -> Result<T, TopoFault> {
-        found_in(self.0, Text.read(alloc, name, value)?)
+        found_in(self.0, text_from(alloc, name, value)?)
     }
 }
 

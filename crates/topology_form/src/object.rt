@@ -2,7 +2,7 @@
 
 ghost use Rattle.std.specs.Prelude.{◌≡◌, ◌≢◌, Some, None, option_map, IfOk, IfErr};
 ghost use Rattle.topology_form.specs.Prelude.{get_member, as_object, view, WrongKind, Memory};
-ghost use Rattle.topology_form.specs.Reading.{Gives, Takes, left_in, without, ends, required, optional};
+ghost use Rattle.topology_form.specs.Reading.{Gives, Takes, Reader, left_in, without, an_object, ends, required, optional};
 
 use crate::fault::TopoFault;
 use crate::forms::{Form, wrong_kind};
@@ -13,7 +13,7 @@ use storm_values::Txt;
 /// The members of an object that are not read yet.
 #[derive(Drop)]
 pub struct Object {
-    alloc: Global,
+    pub alloc: Global,
     members: Map<String, Json>,
 }
 
@@ -37,7 +37,7 @@ impl Object {
     }
 
     /// What a member says that has to be there.
-    pub fn required<F: Form>(&mut self, name: &str, form: &F) -> Result<F::Part, TopoFault>
+    pub fn required<T: Drop, F: Form<T>>(&mut self, name: &str, form: &F) -> Result<T, TopoFault>
         ensures { Takes result (left_in self.new)
             (required name.now (F.form form.now) (left_in self.old)) }
     {
@@ -47,12 +47,12 @@ impl Object {
         }
     }
 
-    pub fn optional<F: Form>(
+    pub fn optional<T: Drop, F: Form<T>>(
         &mut self,
         name: &str,
-        default: F::Part,
+        default: T,
         form: &F,
-    ) -> Result<F::Part, TopoFault>
+    ) -> Result<T, TopoFault>
         ensures { Takes result (left_in self.new)
             (optional name.now default (F.form form.now) (left_in self.old)) }
     {
@@ -63,8 +63,29 @@ impl Object {
     }
 }
 
+/// What the members of an object say.
+pub trait Reader<T: Drop> {
+    ghost reader: { Self → Reader T };
+
+    fn read(&self, object: &mut Object) -> Result<T, TopoFault>
+        ensures { Takes result (left_in object.new) (reader self.now (left_in object.old)) };
+}
+
+/// An object with these members and no other.
+pub struct ObjectOf<R>(pub R);
+
+impl<T: Drop, R: Reader<T>> Form<T> for ObjectOf<R> {
+    ghost form = { λ object. an_object (R.reader object.0) };
+
+    fn read(&self, alloc: Global, name: &str, value: Json) -> Result<T, TopoFault> {
+        let mut object = Object::from_value(alloc, name, value)?;
+        let part = self.0.read(&mut object)?;
+        ends(part, object)
+    }
+}
+
 /// What was read, where no member is left.
-pub fn ends<T: Drop>(part: T, object: Object) -> Result<T, TopoFault>
+fn ends<T: Drop>(part: T, object: Object) -> Result<T, TopoFault>
     ensures { Gives result (ends part (left_in object)) }
 {
     let mut members = object.members;

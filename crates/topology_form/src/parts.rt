@@ -4,7 +4,7 @@ use storm_values::{Memory, Names, Seq, Txt, Value};
 use topology_plan::{Fold, Kind, Test};
 
 /// What a file says of a grouping. `none` and `local_or_shuffle` are `Shuffle` too.
-#[derive(Debug, Drop)]
+#[derive(Drop)]
 pub enum GroupingPart {
     Shuffle,
     Fields(Names),
@@ -13,14 +13,38 @@ pub enum GroupingPart {
     Direct,
 }
 
-#[derive(Debug, Drop)]
+#[derive(Drop)]
 pub struct Input {
     pub from: Txt,
     pub grouping: GroupingPart,
 }
 
+/// What the word of `grouping` says.
+#[derive(Clone, Copy)]
+pub enum GroupingWord {
+    Shuffle,
+    Fields,
+    All,
+    Global,
+    Direct,
+}
+
+/// The word of `do`.
+#[derive(Clone, Copy)]
+pub enum OperationWord {
+    Split,
+    Project,
+    Filter,
+    Set,
+    Len,
+    Route,
+    Flaky,
+    Mute,
+    Custom,
+}
+
 /// An operation, with fields by their names: the one that it reads comes first.
-#[derive(Debug, Drop)]
+#[derive(Drop)]
 pub enum Operation {
     Split { field: Txt, into: Txt },
     Project(Names),
@@ -33,7 +57,7 @@ pub enum Operation {
     Custom,
 }
 
-#[derive(Debug, Drop)]
+#[derive(Drop)]
 pub struct SpoutPart {
     pub name: Txt,
     pub kind: Kind,
@@ -41,7 +65,7 @@ pub struct SpoutPart {
     pub batch: u32,
 }
 
-#[derive(Debug, Drop)]
+#[derive(Drop)]
 pub struct StatePart {
     pub kind: Kind,
     pub key: Names,
@@ -49,14 +73,14 @@ pub struct StatePart {
     pub amount: Option<Txt>,
 }
 
-#[derive(Debug, Drop)]
+#[derive(Drop)]
 pub enum BodyPart {
     Bolt(Operation),
     State(StatePart),
 }
 
 /// A bolt or a state. Each input of a state is grouped by the state's key.
-#[derive(Debug, Drop)]
+#[derive(Drop)]
 pub struct ComponentPart {
     pub name: Txt,
     /// A state's are its parts.
@@ -66,7 +90,7 @@ pub struct ComponentPart {
 }
 
 /// All that a file says.
-#[derive(Debug, Drop)]
+#[derive(Drop)]
 pub struct FileParts {
     pub spout: SpoutPart,
     pub bolts: Seq<ComponentPart>,
