@@ -37,7 +37,7 @@ pub use Rattle.topology_reader.specs.Planned.{planned_subs, planned_component, i
 unfoldable pub use Rattle.topology_reader.specs.Planned.{plan_of}
 pub use Rattle.topology_reader.specs.Prelude.{Checks, range_fault, first_some, FileParts, TopoFault, IsValid, IsInRange, Topology, tasks_in_all, range_with_len, list_any, bytes_eq, Origin, Twice, NoSource, NoField, FieldsDiffer, Input, Operation, Split, Project, Filter, Set, Len, Route, Flaky, Mute, Custom, BodyPart, Bolt, State, ComponentPart, components_of, IsBetween, feeds_at, Feed, Cycle, TooLong, option_map_or, fed, IsClosed, IsSettled, filter_map, flat_map, enumerate_from, Contains, WrongKind, NotExactlyOnce, Weight, GroupingPart}
 pub use Rattle.topology_reader.specs.Wiring.{IsPath, IsPathThrough}
-pub use Rattle.topology_reader.specs.Steps.{IsMade, has, AreReached, led, place_in, with_sub, with_inputs, items_by}
+pub use Rattle.topology_reader.specs.Steps.{IsMade, has, AreReached, led, place_in, with_sub, with_inputs, items_by, names_fault}
 pub use Rattle.topology_reader.specs.ValidFile.{IsValidFile, HasFields, IsValidInput, IsValidComponent, IsNumbered}
 pub use Rattle.topology_reader.specs.Wiring.{component_names, name_at, source_of, inputs_by_component, inputs_at, fields_after, fields_to, body_of, graph_of, first_of, fields_rule, is_component, feeds, component_at, copies_said, reaches_over, sources_among, feed_of}
 unfoldable pub use Rattle.topology_reader.specs.Wiring.{fields_of, reaches}

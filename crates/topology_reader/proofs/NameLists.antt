@@ -1,7 +1,6 @@
 -- The first name that stands again in a list.
 use Rattle.std.proofs.Common.{◌≡◌, ℕ, ◌+◌, ◌<◌, Bool, true, false, ◌||◌, cond, List, [], ◌∷◌, ◌++◌, map, length, drop, get_or, Option, Some, None, refl, sym, ap, ◌∙◌}
-use Rattle.topology_reader.proofs.Common.{cond-true, cond-false, drop_more, map_push, YieldsList, Bor, list_any, bytes_eq, is_among, first_again, list_any-append}
-use Rattle.std.specs.Iterator.{AlwaysYields}
+use Rattle.topology_reader.proofs.Common.{cond-true, cond-false, drop_more, map_push, Bor, list_any, bytes_eq, is_among, first_again, list_any-append}
 use Rattle.std.proofs.Math.Bool.{or_comm, or-false}
 
 -- ---- again
@@ -48,12 +47,3 @@ module _ {A : Type 0} (name_of : A → List ℕ) (items : List A) (i : ℕ) (ite
       again_next
       ∙ cond-false (has_key keys name) _ _ none
       ∙ ap (λ before. again_in before (map name_of (drop (i + 1) items))) (sym (map_push (λ (key : Bor (List ℕ)). key.now) keys name))
-
--- ---- what an iterator gives, seen by a function
-
-seen_always : {S A B : Type 0} (steps : S → Option A → S → Type 0) (see : A → B) (ys : List A) (s : S) → AlwaysYields steps (λ x. x) s ys → AlwaysYields steps see s (map see ys)
-seen_always steps see [] s gives = gives
-seen_always steps see (y ∷ ys) s gives = (gives.0, λ x t step. let now = gives.1 x t step in (ap see now.0, seen_always steps see ys t now.1))
-
-pub YieldsList-seen : {S A B : Type 0} {steps : S → Option A → S → Type 0} {s : S} {ys : List A} (see : A → B) → YieldsList steps (λ x. x) s ys → YieldsList steps see s (map see ys)
-YieldsList-seen {S} {A} {B} {steps} {s} {ys} see road = record { runs = seen_always steps see ys s road.runs }

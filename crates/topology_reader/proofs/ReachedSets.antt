@@ -1,7 +1,9 @@
 -- Sets of bolts as words of bits, and the paths that they hold.
-use Rattle.std.proofs.Common.{◌≡◌, ℕ, zero, suc, ◌+◌, ◌-◌, ◌*◌, ◌%◌, ◌^◌, max, ◌<◌, ◌==◌, Bool, true, false, ◌||◌, ◌&&◌, cond, List, [], ◌∷◌, ◌++◌, map, length, take, get_or, slice_index, bit_or, Option, Some, None, option_map, refl, sym, ap, ◌∙◌, inl, inr, w64, add-one, arith}
-use Rattle.topology_reader.proofs.Common.{cond-false, cases_eq, eq-eqb, ne_eqb, take_more, length-map, get_or-map, filter_map-append, cons_option, list_any, range_with_len, option_map_or, Origin, Input, FileParts, Cycle, name_at, source_of, is_component, reaches_over, reaches, sources_among, cycle_fault, has, AreReached, led, list_any-append}
+use Rattle.std.proofs.Common.{◌≡◌, ℕ, zero, suc, ◌+◌, ◌-◌, ◌*◌, ◌%◌, ◌^◌, max, ◌<◌, ◌≤◌, ◌==◌, Bool, true, false, ◌||◌, ◌&&◌, cond, List, [], ◌∷◌, ◌++◌, map, length, take, get_or, slice_index, bit_or, Option, Some, None, option_map, refl, sym, ap, ◌∙◌, inl, inr, w64, add-one, arith, get_or-append-add}
+use Rattle.topology_reader.proofs.Common.{cond-true, cond-false, cases_eq, eq-eqb, ne_eqb, take_more, length-map, get_or-map, filter_map-append, cons_option, list_any, range_with_len, option_map_or, Origin, Input, FileParts, Cycle, name_at, source_of, is_component, reaches_over, reaches, sources_among, feeds, component_at, ComponentPart, cycle_fault, has, AreReached, led, list_any-append}
 use Rattle.std.specs.List.{find}
+use Rattle.std.proofs.lemmas.List.{get_or_append_left}
+use Rattle.topology_reader.proofs.Numbered.{inputs_are}
 use Rattle.std.proofs.lemmas.Nat.Bits.{bit_at_or, bit_at-lt, bit_at-zero, bit_at_set_same, bit_at_set_other}
 use Rattle.std.specs.Int.{bit_at}
 use Rattle.topology_plan.specs.declared.parts.Origin.TheVariants as origin
@@ -73,12 +75,36 @@ sources-more p inputs i a input below is =
     ∙ list_any-append (is_component a) (sources_among p (take i inputs)) (sources_among p (input ∷ []))
     ∙ ap (λ b. list_any (is_component a) (sources_among p (take i inputs)) || b) (one_source a (source_of p input.from))
 
+-- the set of one bolt more
+pub sets_pushed : (p : FileParts) (sets : List ℕ) (set c : ℕ) (part : ComponentPart) → component_at p c ≡ Some part → length sets ≡ c → ((a b : ℕ) → b < c → has (slice_index sets b) a ≡ feeds p a b)
+    → ((a : ℕ) → has set a ≡ list_any (is_component a) (sources_among p part.inputs)) → (a b : ℕ) → b < c + 1 → has (slice_index (sets ++ set ∷ []) b) a ≡ feeds p a b
+sets_pushed p sets set c part at counted held is a b below =
+    elim (cases_eq b c) [
+      | inl same ↦
+          let last : b ≡ length sets + 0 = omega (arith, same, counted) in
+          ap (λ i. has (slice_index (sets ++ set ∷ []) i) a) last
+          ∙ ap (λ word. has word a) (get_or-append-add sets (set ∷ []) 0 0)
+          ∙ is a
+          ∙ sym (ap (λ i. feeds p a i) same ∙ ap (λ inputs. list_any (is_component a) (sources_among p inputs)) (inputs_are p c part at))
+      | inr other ↦ ap (λ word. has word a) (get_or_append_left sets (set ∷ []) 0 b (omega arith)) ∙ held a b (omega arith)
+    ]
+
 -- ---- the first in a range
 
 pub range-past : (test : ℕ → Bool) (i n : ℕ) → i < n → test i ≡ false → find test (range_with_len (i + 1) (n - (i + 1))) ≡ find test (range_with_len i (n - i))
 range-past test i n below fails =
     let left : n - i ≡ suc (n - (i + 1)) = omega arith in
     rw left (sym (cond-false (test i) (Some i) (find test (range_with_len (i + 1) (n - (i + 1)))) fails))
+
+pub range-here : (test : ℕ → Bool) (i n : ℕ) → i < n → test i ≡ true → find test (range_with_len i (n - i)) ≡ Some i
+range-here test i n below passes =
+    let left : n - i ≡ suc (n - (i + 1)) = omega arith in
+    rw left (cond-true (test i) (Some i) (find test (range_with_len (i + 1) (n - (i + 1)))) passes)
+
+pub range-end : (test : ℕ → Bool) (i n : ℕ) → n ≤ i → find test (range_with_len i (n - i)) ≡ None
+range-end test i n past =
+    let left : n - i ≡ zero = omega arith in
+    rw left refl
 
 pub range-same : (left right : ℕ → Bool) (first n : ℕ) → ((c : ℕ) → c < first + n → left c ≡ right c) → find left (range_with_len first n) ≡ find right (range_with_len first n)
 range-same left right first zero same = refl

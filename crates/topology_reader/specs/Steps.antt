@@ -1,14 +1,15 @@
 -- What the steps of the checks have done, which no public contract cites.
-use Rattle.std.specs.Prelude.{bit_or, if◌then◌else◌, ◌≡◌, ◌<◌, ◌==◌, ℕ, ◌+◌, Bool, List, [], ◌∷◌, ◌++◌, length, map, fold, Option, Some, unwrap_or, slice_index, slice_index_or, slice_set, Vec}
+use Rattle.std.specs.Prelude.{bit_or, if◌then◌else◌, ◌≡◌, ◌<◌, ◌==◌, ℕ, ◌+◌, Bool, List, [], ◌∷◌, ◌++◌, length, map, fold, Option, slice_index, slice_index_or, slice_set, Vec}
 use Rattle.std.specs.declared.alloc.Global.{Global}
 use Rattle.std.specs.Borrow.{Bor}
 use Rattle.std.specs.Int.{bit_at}
-use Rattle.topology_reader.specs.Prelude.{option_map_or, bytes_eq, Origin, tasks_in_all, depth_of, weight_of, Input, FileParts}
+use Rattle.topology_reader.specs.Prelude.{option_map_or, bytes_eq, first_some, Origin, tasks_in_all, depth_of, weight_of, Input, FileParts, TopoFault}
 use Rattle.indexmap.specs.IndexMap.{IndexMap, get_by}
 use Rattle.topology_plan.specs.declared.parts.Origin.TheVariants as origin
 use Rattle.topology_plan.specs.declared.parts.Sub.{Sub}
 use Rattle.topology_plan.specs.declared.plan.Made.{Made}
 use Rattle.topology_plan.specs.Inside.{topology_of}
+use Rattle.topology_reader.specs.FirstFault.{twice_fault, source_fault, cycle_fault}
 use Rattle.topology_reader.specs.Planned.{planned_grouping, plan_of}
 use Rattle.topology_reader.specs.Wiring.{source_of, reaches_over}
 
@@ -22,10 +23,9 @@ source_in m name = get_by (λ (key : Bor (List ℕ)). bytes_eq name.now key.now)
 abbrev pub IsIndexOf : {S : Type 0} → FileParts → IndexMap (Bor (List ℕ)) Origin S → Type 0
 IsIndexOf p m = (name : Bor (List ℕ)) → source_in m name ≡ source_of p name.now
 
--- m, and the source of one name more, which counts where the name is new
-abbrev pub IsWith : {S : Type 0} → IndexMap (Bor (List ℕ)) Origin S → Bor (List ℕ) → Origin → IndexMap (Bor (List ℕ)) Origin S → Type 0
-IsWith m key source more =
-    (name : Bor (List ℕ)) → source_in more name ≡ (if bytes_eq key.now name.now then Some (unwrap_or (source_in m key) source) else source_in m name)
+-- the first fault of names: one that stands twice, one without a source, a cycle
+abbrev pub names_fault : FileParts → Option TopoFault
+names_fault p = first_some (twice_fault p ∷ source_fault p ∷ cycle_fault p ∷ [])
 
 -- the set of the bits that are 1 has this number
 abbrev pub has : ℕ → ℕ → Bool

@@ -1,15 +1,15 @@
 //! Bolts that can be reached from themselves, and states that an opaque spout does not allow.
 
-ghost use Rattle.std.specs.Prelude.{◌≡◌, ◌≤◌, ◌<◌, ℕ, length, map, slice_index, option_map, false, IfOk};
-ghost use Rattle.topology_reader.specs.Prelude.{Checks, find, list_any, range_with_len, option_copied, option_map_or, ComponentPart};
+ghost use Rattle.std.specs.Prelude.{◌≡◌, ◌≤◌, ◌<◌, ℕ, length, map, slice_index, IfOk};
+ghost use Rattle.topology_reader.specs.Prelude.{Checks, list_any};
 ghost use Rattle.topology_reader.specs.FirstFault.{cycle_fault, keeps_exact, replay_fault};
 ghost use Rattle.topology_reader.specs.Steps.{has, led, AreReached};
-ghost use Rattle.topology_reader.specs.Wiring.{is_component, source_of, sources_among};
+ghost use Rattle.topology_reader.specs.Wiring.{is_component, sources_among};
 
 use crate::wiring::Sources;
 use std::alloc::Global;
-use storm_values::{Memory, Txt};
-use topology_form::{BodyPart, ComponentPart, FileParts, Input, TopoFault};
+use storm_values::Memory;
+use topology_form::{BodyPart, FileParts, Input, TopoFault};
 use topology_plan::{Kind, Origin};
 
 pub(crate) fn check_cycles(sources: &Sources<'_>) -> Result<(), TopoFault>
@@ -17,23 +17,12 @@ pub(crate) fn check_cycles(sources: &Sources<'_>) -> Result<(), TopoFault>
     ensures { Checks result (cycle_fault sources.now) }
 {
     let sets = reach_sets(sources)?;
-    match own_member(sets.as_slice()) {
-        Some(c) => Err(TopoFault::Cycle(sources.component(c).name.copy()?)),
-        None => Ok(()),
-    }
-}
-
-fn own_member(sets: &[u64]) -> Option<usize>
-    requires few { length sets.now ≤ 64 }
-    ensures { result
-        ≡ find (λ c. has (slice_index sets.now c) c) (range_with_len 0 (length sets.now)) }
-{
     for (c, set) in sets.iter().enumerate() {
         if has(*set, c) {
-            return Some(c);
+            return Err(TopoFault::Cycle(sources.component(c).name.copy()?));
         }
     }
-    None
+    Ok(())
 }
 
 /// For each bolt the set of the bolts from which it can be reached. After the look-up of each input
@@ -83,20 +72,13 @@ fn bolt_sources(sources: &Sources<'_>, inputs: &[Input]) -> u64
 {
     let mut set = 0;
     for input in inputs {
-        set |= source_set(sources, &input.from);
+        set |= match sources.source_of(&input.from) {
+            Some(Origin::Component(a)) => 1 << a,
+            Some(Origin::Spout) => 0,
+            None => 0,
+        };
     }
     set
-}
-
-fn source_set(sources: &Sources<'_>, name: &Txt) -> u64
-    requires few { length sources.now.bolts ≤ 32 }
-    ensures { (a : ℕ)
-        → has result a ≡ option_map_or (is_component a) (source_of sources.now name.now) false }
-{
-    match sources.source_of(name) {
-        Some(Origin::Component(a)) => 1 << a,
-        Some(Origin::Spout) | None => 0,
-    }
 }
 
 fn has(set: u64, a: usize) -> bool
@@ -112,19 +94,15 @@ pub(crate) fn check_replays(parts: &FileParts) -> Result<(), TopoFault>
 {
     match parts.spout.kind {
         Kind::Transactional => Ok(()),
-        Kind::Opaque => match exact_name(parts.states.as_slice()) {
-            Some(name) => Err(TopoFault::NotExactlyOnce(name.copy()?)),
-            None => Ok(()),
-        },
+        Kind::Opaque => {
+            for state in parts.states.as_slice() {
+                if keeps_exact(&state.body) {
+                    return Err(TopoFault::NotExactlyOnce(state.name.copy()?));
+                }
+            }
+            Ok(())
+        }
     }
-}
-
-fn exact_name(states: &[ComponentPart]) -> Option<&Txt>
-    ensures { option_copied result ≡ option_map (λ (part : ComponentPart). part.name)
-        (find (λ (part : ComponentPart). keeps_exact part.body) states.now) }
-{
-    let part = states.iter().find(|part| keeps_exact(&part.body))?;
-    Some(&part.name)
 }
 
 fn keeps_exact(body: &BodyPart) -> bool

@@ -1,9 +1,8 @@
 //! The faults of fields: what differs, what is not there, and what is there already.
 
-ghost use Rattle.std.specs.Prelude.{◌≡◌, not, find, map};
-ghost use Rattle.topology_reader.specs.Prelude.{pointwise, Checks, list_any, option_copied, bytes_eq, first_some, Feed, feeds_at};
+ghost use Rattle.std.specs.Prelude.{◌≡◌, map};
+ghost use Rattle.topology_reader.specs.Prelude.{pointwise, Checks, bytes_eq, first_some};
 ghost use Rattle.topology_reader.specs.FirstFault.{is_among, differ_fault, field_fault, chooses, direct_fault, input_fault, fields_read, added_fault, component_fault, fields_fault};
-ghost use Rattle.topology_reader.specs.Wiring.{graph_of, fields_of, fields_to};
 
 use crate::names::key_of;
 use crate::wiring::Wiring;
@@ -39,22 +38,13 @@ fn check_component(wiring: &Wiring<'_>, c: usize) -> Result<(), TopoFault>
 fn check_same(wiring: &Wiring<'_>, c: usize) -> Result<(), TopoFault>
     ensures { Checks result (differ_fault wiring.now c) }
 {
-    if differs(wiring, c) {
-        return Err(TopoFault::FieldsDiffer(wiring.name_of(c)?));
+    let fields = wiring.fields_to(c);
+    for feed in wiring.feeds_at(c) {
+        if !are_same(wiring.fields_of(feed.from), fields) {
+            return Err(TopoFault::FieldsDiffer(wiring.name_of(c)?));
+        }
     }
     Ok(())
-}
-
-fn differs(wiring: &Wiring<'_>, c: usize) -> bool
-    ensures { result ≡ list_any (λ (feed : Feed).
-        not (pointwise bytes_eq (fields_of wiring.now feed.from) (fields_to wiring.now c)))
-        (feeds_at (graph_of wiring.now) c) }
-{
-    let fields = wiring.fields_to(c);
-    wiring
-        .feeds_at(c)
-        .iter()
-        .any(|feed| !are_same(wiring.fields_of(feed.from), fields))
 }
 
 fn are_same(a: &[Txt], b: &[Txt]) -> bool
@@ -74,16 +64,13 @@ fn are_same(a: &[Txt], b: &[Txt]) -> bool
 fn check_there(wiring: &Wiring<'_>, c: usize, names: &[Txt]) -> Result<(), TopoFault>
     ensures { Checks result (field_fault wiring.now c names.now) }
 {
-    match first_other(wiring.fields_to(c), names) {
-        Some(name) => Err(TopoFault::NoField(wiring.name_of(c)?, name.copy()?)),
-        None => Ok(()),
+    let fields = wiring.fields_to(c);
+    for name in names {
+        if !is_among(fields, name) {
+            return Err(TopoFault::NoField(wiring.name_of(c)?, name.copy()?));
+        }
     }
-}
-
-fn first_other<'n>(fields: &[Txt], names: &'n [Txt]) -> Option<&'n Txt>
-    ensures { option_copied result ≡ find (λ name. not (is_among fields.now name)) names.now }
-{
-    names.iter().find(|name| !is_among(fields, name))
+    Ok(())
 }
 
 fn is_among(texts: &[Txt], text: &Txt) -> bool
@@ -96,16 +83,10 @@ fn check_inputs(wiring: &Wiring<'_>, c: usize, inputs: &[Input]) -> Result<(), T
     ensures { Checks result (first_some (map (input_fault wiring.now c) inputs.now)) }
 {
     for input in inputs {
-        check_input(wiring, c, input)?;
+        check_there(wiring, c, key_of(&input.grouping))?;
+        check_direct(wiring, input)?;
     }
     Ok(())
-}
-
-fn check_input(wiring: &Wiring<'_>, c: usize, input: &Input) -> Result<(), TopoFault>
-    ensures { Checks result (input_fault wiring.now c input.now) }
-{
-    check_there(wiring, c, key_of(&input.grouping))?;
-    check_direct(wiring, input)
 }
 
 fn check_direct(wiring: &Wiring<'_>, input: &Input) -> Result<(), TopoFault>

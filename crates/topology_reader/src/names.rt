@@ -103,18 +103,10 @@ fn check_component(alloc: Global, part: &ComponentPart) -> Result<(), TopoFault>
     let inputs = part.inputs.as_slice();
     check_items(alloc, own_key(&part.body))?;
     check_items(alloc, inputs)?;
-    check_keys(alloc, inputs)?;
-    check_items(alloc, projected(&part.body))
-}
-
-fn check_keys(alloc: Global, inputs: &[Input]) -> Result<(), TopoFault>
-    ensures { Checks result
-        (first_some (map (λ (input : Input). again_fault (key_of input.grouping)) inputs.now)) }
-{
     for input in inputs {
         check_items(alloc, key_of(&input.grouping))?;
     }
-    Ok(())
+    check_items(alloc, projected(&part.body))
 }
 
 pub(crate) fn check_sources(sources: &Sources<'_>) -> Result<(), TopoFault>

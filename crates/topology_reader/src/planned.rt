@@ -3,7 +3,7 @@
 ghost use Rattle.std.specs.Prelude.{◌≡◌, ◌<◌, ◌^◌, ℕ, List, [], ◌∷◌, length, map, replicate, option_map, IfOk, IfSome, OnOk};
 ghost use Rattle.topology_reader.specs.Prelude.{Input, components_of, enumerate_from, option_map_or};
 ghost use Rattle.topology_reader.specs.Planned.{number_of, numbers_of, planned_operation, planned_body, route_field, planned_grouping, planned_component, first_task_of, planned_subs};
-ghost use Rattle.topology_reader.specs.Steps.{items_by, place_in, with_sub, with_inputs};
+ghost use Rattle.topology_reader.specs.Steps.{items_by, with_sub, with_inputs};
 ghost use Rattle.topology_reader.specs.Wiring.{inputs_by_component, fields_of, body_of};
 ghost use Rattle.topology_plan.specs.declared.parts.Origin.TheVariants as origin;
 
@@ -154,20 +154,14 @@ fn add_inputs(
 fn add_sub(subs: &mut Vec<Vec<Sub>>, from: Origin, sub: Sub) -> Result<(), Memory>
     ensures { OnOk result (items_by subs.new.items ≡ with_sub (items_by subs.old.items) from sub) }
 {
-    let place = place_in(from);
+    let place = match from {
+        Origin::Spout => 0,
+        Origin::Component(c) => c as usize + 1,
+    };
     if place < subs.len() {
         subs[place].push(sub)?;
     }
     Ok(())
-}
-
-fn place_in(from: Origin) -> usize
-    ensures { result ≡ place_in from }
-{
-    match from {
-        Origin::Spout => 0,
-        Origin::Component(c) => c as usize + 1,
-    }
 }
 
 fn planned_component(

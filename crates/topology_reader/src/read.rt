@@ -1,10 +1,10 @@
 //! From the bytes of a topology file to its plan.
 
-ghost use Rattle.std.specs.Prelude.{◌≡◌, ◌≢◌, ◌<◌, ◌^◌, sum_by, Some, None, IfOk, IfErr};
+ghost use Rattle.std.specs.Prelude.{◌≡◌, ◌≢◌, ◌≤◌, ◌<◌, ◌^◌, length, sum_by, Some, None, IfOk, IfErr};
 ghost use Rattle.topology_reader.specs.Prelude.{Checks, Component, view, json_of, IsValid, IsWired, IsInRange};
 ghost use Rattle.topology_reader.specs.FirstFault.{twice_fault, source_fault, cycle_fault, size_fault, meaning_fault, first_fault, IsFilePlan};
 ghost use Rattle.topology_reader.specs.Planned.{plan_of};
-ghost use Rattle.topology_reader.specs.Steps.{IsMade};
+ghost use Rattle.topology_reader.specs.Steps.{IsMade, names_fault};
 
 use crate::cycles::{check_cycles, check_replays};
 use crate::fields_fault::check_fields;
@@ -14,7 +14,7 @@ use crate::wiring::{Sources, Wiring};
 use serde_json::Value;
 use std::alloc::Global;
 use storm_values::{MOST_TASKS_IN_ALL, MOST_TOPOLOGY_BYTES, MOST_WEIGHT, Memory};
-use topology_form::{FileParts, TopoFault, parts_from, within};
+use topology_form::{TopoFault, parts_from, within};
 use topology_graph::{DepthRule, TuplesRule, greatest, numbers_by, total};
 use topology_plan::{Component, Made, Plan};
 
@@ -35,7 +35,8 @@ pub fn read_topology(alloc: Global, bytes: &[u8]) -> Result<Plan, TopoFault>
     }
     let value = parse(alloc, bytes)?;
     let parts = parts_from(alloc, value)?;
-    plan_from(alloc, &parts)
+    let sources = Sources::of(alloc, &parts)?;
+    plan_from(&sources)
 }
 
 fn parse(alloc: Global, bytes: &[u8]) -> Result<Value, TopoFault>
@@ -55,19 +56,25 @@ fn parse(alloc: Global, bytes: &[u8]) -> Result<Value, TopoFault>
 /// The faults in their order: a name that stands twice, an input without a source, a cycle, fields,
 /// a transactional state under an opaque spout, the tasks in all, and the weight.
 #[tactic(auto, unfolding(crate::specs::FirstFault::meaning_fault))]
-fn plan_from(alloc: Global, parts: &FileParts) -> Result<Plan, TopoFault>
-    requires { IsInRange parts.now }
+fn plan_from(sources: &Sources<'_>) -> Result<Plan, TopoFault>
+    requires { IsInRange sources.now }
     ensures plan { IfOk result
-        (λ plan. (meaning_fault parts.now ≡ None) × (plan ≡ plan_of parts.now)) }
+        (λ plan. (meaning_fault sources.now ≡ None) × (plan ≡ plan_of sources.now)) }
     ensures fault { IfErr result
-        (λ fault. fault ≢ TopoFault.Memory → meaning_fault parts.now ≡ Some fault) }
+        (λ fault. fault ≢ TopoFault.Memory → meaning_fault sources.now ≡ Some fault) }
 {
-    let sources = Sources::of(alloc, parts)?;
-    check_twice(&sources)?;
-    check_sources(&sources)?;
-    check_cycles(&sources)?;
+    check_names(sources)?;
     let wiring = Wiring::of(sources)?;
     wired_plan(&wiring)
+}
+
+fn check_names(sources: &Sources<'_>) -> Result<(), TopoFault>
+    requires few { length sources.now.bolts ≤ 32 }
+    ensures { Checks result (names_fault sources.now) }
+{
+    check_twice(sources)?;
+    check_sources(sources)?;
+    check_cycles(sources)
 }
 
 /// The plan of a file whose names and cycles have no fault, or the first fault of the rest.

@@ -4,7 +4,6 @@
 ghost use Rattle.std.specs.Prelude.{◌≡◌, ◌<◌, ◌^◌, [], ◌∷◌, ◌++◌, length, slice_get, None, Some, IfOk};
 ghost use Rattle.topology_reader.specs.FirstFault.{cycle_fault};
 ghost use Rattle.topology_reader.specs.Prelude.{IsInRange, components_of, filter_map, IsClosed, IsSettled, option_copied, feeds_at, fed_by, read};
-ghost use Rattle.topology_reader.specs.Steps.{IsIndexOf, IsWith};
 ghost use Rattle.topology_reader.specs.Wiring.{source_of, component_at, copies_said, feed_of, graph_of, body_of, name_at, fields_after, first_of, fields_rule, fields_of, fields_to};
 
 use indexmap::IndexMap;
@@ -44,7 +43,12 @@ impl<'p> Sources<'p> {
         requires { length (components_of parts.now) < 2 ^ 32 }
         ensures { IfOk result (λ sources. sources ≡ parts.now) }
     {
-        let by_name = sources_by_name(alloc, parts)?;
+        let mut by_name = IndexMap::new(alloc);
+        for i in (0..parts.bolts.len()).rev() {
+            let name = parts.bolts.at(i).name.as_str();
+            by_name.insert(name, Origin::Component(i as u32))?;
+        }
+        by_name.insert(parts.spout.name.as_str(), Origin::Spout)?;
         Ok(Sources {
             alloc,
             parts,
@@ -106,27 +110,6 @@ impl<'p> Sources<'p> {
     }
 }
 
-fn sources_by_name(alloc: Global, parts: &FileParts) -> Result<IndexMap<&str, Origin>, Memory>
-    requires { length (components_of parts.now) < 2 ^ 32 }
-    ensures { IfOk result (IsIndexOf parts.now) }
-{
-    let mut by_name = IndexMap::new(alloc);
-    by_name.insert(parts.spout.name.as_str(), Origin::Spout)?;
-    for (i, bolt) in parts.bolts.as_slice().iter().enumerate() {
-        let source = Origin::Component(i as u32);
-        add(&mut by_name, bolt.name.as_str(), source)?;
-    }
-    Ok(by_name)
-}
-
-/// Adds the source of a name that is new.
-fn add<'p>(to: &mut IndexMap<&'p str, Origin>, name: &'p str, source: Origin) -> Result<(), Memory>
-    ensures { IfOk result (λ _. IsWith to.old name.entry source to.new) }
-{
-    to.entry(name)?.or_insert(source);
-    Ok(())
-}
-
 /// The graph of a file without a cycle.
 pub(crate) fn graph_of(sources: &Sources<'_>) -> Result<Graph, Memory>
     requires range { IsInRange sources.now }
@@ -174,9 +157,16 @@ fn copies_said(said: &GroupingPart, tasks: u32) -> u32
 }
 
 /// What a component's body leaves of the fields of its first source.
-#[derive(Drop)]
-struct FieldsLeft<'p> {
-    sources: &'p Sources<'p>,
+impl<'p> Along<Names> for Sources<'p> {
+    ghost rule = { λ s. fields_rule s };
+
+    fn over(&self, c: usize, feeds: &[Feed], known: &[Option<Names>]) -> Result<Names, Memory> {
+        let come = of_first(self.parts, feeds, known);
+        match self.component_at(c) {
+            Some(part) => fields_after(self.alloc, &part.body, come),
+            None => Ok(Names::new(self.alloc)),
+        }
+    }
 }
 
 fn of_first<'f>(parts: &'f FileParts, feeds: &[Feed], known: &'f [Option<Names>]) -> &'f [Txt]
@@ -185,19 +175,6 @@ fn of_first<'f>(parts: &'f FileParts, feeds: &[Feed], known: &'f [Option<Names>]
     match feeds.first() {
         Some(feed) => fields_known(parts, known, feed.from),
         None => &[],
-    }
-}
-
-impl<'p> Along<Names> for FieldsLeft<'p> {
-    ghost rule = { λ s. fields_rule s.sources.now };
-
-    fn over(&self, c: usize, feeds: &[Feed], known: &[Option<Names>]) -> Result<Names, Memory> {
-        let alloc = self.sources.alloc();
-        let come = of_first(self.sources.parts(), feeds, known);
-        match self.sources.component_at(c) {
-            Some(part) => fields_after(alloc, &part.body, come),
-            None => Ok(Names::new(alloc)),
-        }
     }
 }
 
@@ -218,7 +195,7 @@ fn fields_known<'f>(parts: &'f FileParts, known: &'f [Option<Names>], from: Orig
 /// file says.
 #[derive(Drop)]
 pub(crate) struct Wiring<'p> {
-    sources: Sources<'p>,
+    sources: &'p Sources<'p>,
     graph: Graph,
     /// Of each component.
     fields: Vec<Option<Names>>,
@@ -232,24 +209,23 @@ impl<'p> Model for Wiring<'p> {
 
     ghost Value = { FileParts };
 
-    ghost view = { λ w. w.sources };
+    ghost view = { λ w. w.sources.now };
 
     ghost invariant = { λ w.
-        (w.graph ≡ graph_of w.sources)
-        × (w.fields.items ≡ map Some (values_of (fields_rule w.sources) (graph_of w.sources)))
-        × IsInRange w.sources × (cycle_fault w.sources ≡ None) };
+        (w.graph ≡ graph_of w.sources.now)
+        × (w.fields.items ≡ map Some (values_of (fields_rule w.sources.now) w.graph))
+        × IsInRange w.sources.now × (cycle_fault w.sources.now ≡ None) };
 }
 
 impl<'p> Wiring<'p> {
     /// Each component and each subscription is looked at once.
-    pub(crate) fn of(sources: Sources<'p>) -> Result<Self, Memory>
-        requires range { IsInRange sources }
-        requires acyclic { cycle_fault sources ≡ None }
-        ensures { IfOk result (λ wiring. wiring ≡ sources.entry) }
+    pub(crate) fn of(sources: &'p Sources<'p>) -> Result<Self, Memory>
+        requires range { IsInRange sources.now }
+        requires acyclic { cycle_fault sources.now ≡ None }
+        ensures { IfOk result (λ wiring. wiring ≡ sources.now) }
     {
-        let graph = graph_of(&sources)?;
-        let rule = FieldsLeft { sources: &sources };
-        let fields = values_along(sources.alloc(), &rule, &graph)?;
+        let graph = graph_of(sources)?;
+        let fields = values_along(sources.alloc, sources, &graph)?;
         Ok(Wiring {
             sources,
             graph,
@@ -267,7 +243,7 @@ impl<'p> Wiring<'p> {
     {
         // brings in the invariant
         let _ = &self.fields;
-        &self.sources
+        self.sources
     }
 
     pub(crate) fn graph(&self) -> &Graph
