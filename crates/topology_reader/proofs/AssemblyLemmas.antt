@@ -1,28 +1,28 @@
 -- A plan put together from its parts.
-use Rattle.std.proofs.Common.{◌≡◌, ℕ, ◌≤◌, List, sum_by, None, refl, sym, ap, subst, ◌∙◌, Option}
-use Rattle.topology_reader.proofs.Common.{FileParts, TopoFault, IsValid, IsInRange, Topology, tasks_in_all, Sub, Kind, IsWired, IsMade, meaning_fault, size_fault, twice_fault, source_fault, cycle_fault, fields_fault, replay_fault, planned_components, planned_component_subs, planned_subs, plan_of}
+use Rattle.std.proofs.Common.{◌≡◌, ℕ, ◌≤◌, List, map, take, sum_by, None, refl, sym, ap, subst, ◌∙◌, Option}
+use Rattle.topology_reader.proofs.Common.{FileParts, TopoFault, IsValid, IsInRange, Topology, tasks_in_all, Sub, Kind, IsWired, IsMade, meaning_fault, size_fault, twice_fault, source_fault, cycle_fault, fields_fault, replay_fault, take_all, enumerate_from, ComponentPart, components_of, component_count, planned_component, first_task_of, plan_of}
 use Rattle.topology_plan.specs.Topology.{depth_of, weight_of}
 use Rattle.topology_plan.specs.declared.parts.Component.{Component}
-use Rattle.topology_plan.specs.declared.parts.Origin.TheVariants as origin
 use Rattle.topology_plan.specs.declared.plan.Made.{Made}
 use Rattle.topology_plan.specs.Inside.{IsSound}
 use Rattle.topology_reader.proofs.ValidPlan.{valid_plan}
 use Rattle.topology_reader.proofs.WiredPlan.{wired_plan}
-use Rattle.topology_reader.proofs.TaskLemmas.{tasks_in_all-le}
 use Rattle.topology_reader.proofs.FileFaults.{next_alone}
 use Rattle.topology_reader.proofs.ValidFile.{sum_of_tasks}
 
--- ---- how many tasks and components there are
+-- ---- components and their tasks
 
-pub sum_by-planned-le : (p : FileParts) → IsInRange p → sum_by (λ (component : Component). component.tasks) (planned_components p) ≤ 2560
+-- all components as planned, and the tasks in all
+pub all_planned : (p : FileParts) (c : ℕ) (components : List Component) (tasks : ℕ) → component_count p ≤ c → components ≡ map (planned_component p) (enumerate_from 0 (take c (components_of p))) → tasks ≡ first_task_of p c
+    → (components ≡ (plan_of p).components) × (tasks ≡ tasks_in_all (plan_of p))
 unfolding plan_of
-sum_by-planned-le p range = subst (λ n. n ≤ 2560) (sum_of_tasks p) (tasks_in_all-le p range)
+all_planned p c components tasks past made counted =
+    let whole = take_all c (components_of p) past in (
+      made ∙ ap (λ parts. map (planned_component p) (enumerate_from 0 parts)) whole,
+      counted ∙ ap (sum_by (λ (part : ComponentPart). part.tasks)) whole ∙ sum_of_tasks p,
+    )
 
 -- ---- the plan
-
-pub tasks-plan : (p : FileParts) (components : List Component) → components ≡ planned_components p → sum_by (λ (component : Component). component.tasks) components ≡ tasks_in_all (plan_of p)
-unfolding plan_of
-tasks-plan p components made = ap (sum_by (λ (component : Component). component.tasks)) made
 
 -- where no other comes before it the fault is that of the size
 pub fault_of_size : (p : FileParts) (made : Made) (found : Option TopoFault) → twice_fault p ≡ None → source_fault p ≡ None → cycle_fault p ≡ None → fields_fault p ≡ None → replay_fault p p.spout.kind ≡ None
@@ -47,7 +47,7 @@ topology_with fields kind batch components spout_subs component_subs ackers pend
 }
 
 pub topology-planned : (p : FileParts) (fields : List (List ℕ)) (kind : Kind) (batch : ℕ) (components : List Component) (from_spout : List Sub) (from_components : List (List Sub)) (ackers pending buckets attempts : ℕ)
-    → fields ≡ p.spout.fields → kind ≡ p.spout.kind → batch ≡ p.spout.batch → components ≡ planned_components p → from_spout ≡ planned_subs p origin.Spout → from_components ≡ planned_component_subs p
+    → fields ≡ p.spout.fields → kind ≡ p.spout.kind → batch ≡ p.spout.batch → components ≡ (plan_of p).components → from_spout ≡ (plan_of p).spout_subs → from_components ≡ (plan_of p).component_subs
     → ackers ≡ p.ackers → pending ≡ p.pending → buckets ≡ p.buckets → attempts ≡ p.attempts
     → topology_with fields kind batch components from_spout from_components ackers pending buckets attempts ≡ plan_of p
 unfolding plan_of

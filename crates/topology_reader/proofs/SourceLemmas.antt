@@ -1,6 +1,6 @@
 -- The sources of names, and the graph of a file as the program makes it.
-use Rattle.std.proofs.Common.{◌≡◌, ℕ, zero, suc, ◌<◌, List, [], ◌∷◌, length, map, Bool, true, false, cond, Option, Some, None, option_map, slice_get, slice_index_or, refl, sym, ap, subst, ◌∙◌, arith}
-use Rattle.topology_reader.proofs.Common.{eq-eqb, length-map, none-some, same_Some, slice_get_within, get_or_from_slice_get, cons_option, bytes_eq, Origin, ComponentPart, components_of, Input, FileParts, Feed, feeds_at, IsSource, component_count, bolt_names, place_of, source_of, inputs_by_component, inputs_at, sources_among, sources_at, is_component, feeds, feeds_of, graph_of, copies_said, map-map}
+use Rattle.std.proofs.Common.{◌≡◌, ℕ, zero, suc, ◌+◌, ◌<◌, List, [], ◌∷◌, ◌++◌, length, map, take, get_or, Bool, true, false, cond, Option, Some, None, option_map, slice_get, slice_index_or, refl, sym, ap, subst, ◌∙◌, arith}
+use Rattle.topology_reader.proofs.Common.{take_more, filter_map-append, feed_of, eq-eqb, length-map, none-some, same_Some, slice_get_within, get_or_from_slice_get, cons_option, bytes_eq, Origin, ComponentPart, components_of, Input, FileParts, Feed, feeds_at, IsSource, component_count, bolt_names, place_of, source_of, inputs_by_component, inputs_at, sources_among, sources_at, is_component, feeds, feeds_of, graph_of, copies_said, map-map}
 use Rattle.topology_plan.specs.declared.parts.Origin.TheVariants as origin
 use Rattle.topology_reader.proofs.Distinct.{bytes_same, place_named}
 use Rattle.topology_reader.proofs.Places.{place_of-position}
@@ -62,6 +62,18 @@ length_graph p = length-map (components_of p) (λ (part : ComponentPart). feeds_
 
 abbrev pub froms : List Feed → List Origin
 froms feeds = map (λ (feed : Feed). feed.from) feeds
+
+-- one input more, with the subscription that it is
+pub feeds_next : (p : FileParts) (tasks : ℕ) (inputs : List Input) (i : ℕ) (input : Input) (source : Option Origin) (old new : List Feed) → i < length inputs → input ≡ get_or inputs i input → source_of p input.from ≡ source
+    → old ≡ feeds_of p tasks (take i inputs) → new ≡ old ++ cons_option (option_map (λ from. record { from = from; copies = copies_said input.grouping tasks }) source) [] → new ≡ feeds_of p tasks (take (i + 1) inputs)
+feeds_next p tasks inputs i input source old new below at is so_far added =
+    let longer : take (i + 1) inputs ≡ take i inputs ++ input ∷ [] = take_more inputs i input below ∙ ap (λ x. take i inputs ++ x ∷ []) (sym at) in
+    added
+    ∙ ap (λ feeds. feeds ++ cons_option (option_map (λ from. record { from = from; copies = copies_said input.grouping tasks }) source) []) so_far
+    ∙ sym
+    (ap (feeds_of p tasks) longer
+    ∙ filter_map-append (feed_of p tasks) (take i inputs) (input ∷ [])
+    ∙ ap (λ found. feeds_of p tasks (take i inputs) ++ cons_option (option_map (λ from. record { from = from; copies = copies_said input.grouping tasks }) found) []) is)
 
 from_one : (source : Option Origin) (copies : ℕ) (feeds : List Feed) (sources : List Origin) → froms feeds ≡ sources
     → froms (cons_option (option_map (λ from. record { from = from; copies = copies }) source) feeds) ≡ cons_option source sources

@@ -1,6 +1,6 @@
 -- The subscriptions of all sources, made in one walk over the inputs.
 use Rattle.std.proofs.Common.{◌≡◌, ◌≢◌, ℕ, ◌+◌, ◌<◌, ◌==◌, Bool, true, false, cond, inl, inr, List, [], ◌∷◌, ◌++◌, length, map, filter, take, drop, replicate, slice_index_or, get_or, set, fold, suc, Option, Some, None, Vec, refl, sym, ap, ◌∙◌, subst, arith, append_assoc}
-use Rattle.topology_reader.proofs.Common.{cases_Bool, eqb-true, eqb-false, map-set, get_or-map, append-nil, length-take-le, slice_get_within, length-set, length-replicate, get_or-replicate, get_or-set_same, get_or-set_other, fill_by_all, fold_push, enumerate_from, flat_map, range_with_len, Origin, ComponentPart, Input, FileParts, Sub, is_origin, is_from, planned_grouping, subs_of_component, planned_subs, planned_component_subs, place_in, with_sub, with_input, with_inputs, items_by, source_of, inputs_by_component, component_count}
+use Rattle.topology_reader.proofs.Common.{take_more, cases_Bool, eqb-true, eqb-false, map-set, get_or-map, append-nil, length-take-le, slice_get_within, length-set, length-replicate, get_or-replicate, get_or-set_same, get_or-set_other, fill_by_all, fold_push, enumerate_from, flat_map, range_with_len, Origin, ComponentPart, Input, FileParts, Sub, is_origin, is_from, planned_grouping, subs_of_component, planned_subs, plan_of, place_in, with_sub, with_input, with_inputs, items_by, source_of, inputs_by_component, component_count}
 use Rattle.std.specs.declared.alloc.Global.{Global}
 use Rattle.topology_plan.specs.declared.parts.Origin.TheVariants as origin
 use Rattle.topology_reader.proofs.Numbered.{IsAt, inputs_at_part, take_at}
@@ -44,6 +44,13 @@ walk_next p c part start old new at so_far added =
     ∙ ap (λ table. with_inputs p table (c, part.inputs)) so_far
     ∙ sym (fold_push (with_inputs p) start (enumerate_from 0 (take c rows)) (c, part.inputs))
     ∙ ap (fold (with_inputs p) start) (sym numbered)
+
+-- one input more
+pub inputs_next : (p : FileParts) (to : ℕ) (inputs : List Input) (i : ℕ) (input : Input) (start old new : List (List Sub)) → i < length inputs → input ≡ get_or inputs i input → old ≡ fold (with_input p to) start (take i inputs) → new ≡ with_input p to old input
+    → new ≡ fold (with_input p to) start (take (i + 1) inputs)
+inputs_next p to inputs i input start old new below at so_far added =
+    let longer : take (i + 1) inputs ≡ take i inputs ++ input ∷ [] = take_more inputs i input below ∙ ap (λ x. take i inputs ++ x ∷ []) (sym at) in
+    added ∙ ap (λ table. with_input p to table input) so_far ∙ sym (ap (fold (with_input p to) start) longer ∙ fold_push (with_input p to) start (take i inputs) input)
 
 -- ---- what a table holds
 
@@ -143,7 +150,8 @@ IsTable-walk n f table p (component ∷ components) holds =
 
 -- ---- the whole walk
 
-pub subs-walked : (p : FileParts) (table : List (List Sub)) → table ≡ fold (with_inputs p) (replicate (component_count p + 1) []) (enumerate_from 0 (inputs_by_component p)) → table ≡ planned_subs p origin.Spout ∷ planned_component_subs p
+pub subs-walked : (p : FileParts) (table : List (List Sub)) → table ≡ fold (with_inputs p) (replicate (component_count p + 1) []) (enumerate_from 0 (inputs_by_component p)) → table ≡ (plan_of p).spout_subs ∷ (plan_of p).component_subs
+unfolding plan_of
 subs-walked p table walked =
     let whole = subst (IsTable (component_count p) (planned_subs p)) (sym walked) (IsTable-walk (component_count p) (λ _. []) (replicate (component_count p + 1) []) p (enumerate_from 0 (inputs_by_component p)) (IsTable-none (component_count p))) in
     IsTable-split (component_count p) (planned_subs p) table whole

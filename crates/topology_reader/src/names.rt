@@ -69,8 +69,7 @@ fn check_items<N: Named>(alloc: Global, items: &[N]) -> Result<(), TopoFault>
 pub(crate) fn check_twice(sources: &Sources<'_>) -> Result<(), TopoFault>
     ensures { Checks result (twice_fault sources.now) }
 {
-    let names = all_names(sources)?;
-    check_items(sources.alloc(), names.as_slice())?;
+    check_items(sources.alloc(), all_names(sources)?.as_slice())?;
     check_items(sources.alloc(), sources.parts().spout.fields.as_slice())?;
     check_components(sources)
 }

@@ -1,11 +1,10 @@
 //! What a topology file says, with components and fields by their numbers.
 
-ghost use Rattle.std.specs.Prelude.{◌≡◌, ◌<◌, ◌^◌, ℕ, List, [], ◌∷◌, length, map, replicate, option_map, IfOk, IfSome, OnOk};
-ghost use Rattle.topology_reader.specs.Prelude.{Input, components_of, enumerate_from, option_map_or};
-ghost use Rattle.topology_reader.specs.Planned.{number_of, numbers_of, planned_operation, planned_body, route_field, planned_grouping, planned_component, first_task_of, planned_subs};
+ghost use Rattle.std.specs.Prelude.{◌≡◌, ◌<◌, ◌^◌, [], ◌∷◌, length, replicate, option_map, IfOk, IfSome, OnOk};
+ghost use Rattle.topology_reader.specs.Prelude.{option_map_or, tasks_in_all};
+ghost use Rattle.topology_reader.specs.Planned.{number_of, numbers_of, planned_operation, planned_body, route_field, planned_grouping, planned_component, first_task_of, plan_of};
 ghost use Rattle.topology_reader.specs.Steps.{items_by, with_sub, with_inputs};
-ghost use Rattle.topology_reader.specs.Wiring.{inputs_by_component, fields_of, body_of};
-ghost use Rattle.topology_plan.specs.declared.parts.Origin.TheVariants as origin;
+ghost use Rattle.topology_reader.specs.Wiring.{fields_of, body_of};
 
 use crate::wiring::{Wiring, copied};
 use std::alloc::Global;
@@ -108,9 +107,7 @@ fn chosen_field(wiring: &Wiring<'_>, from: Origin) -> u32
 /// consumers, in time linear in the inputs but for the search of their sources' names.
 pub(crate) fn subs_by_source(wiring: &Wiring<'_>) -> Result<Vec<Vec<Sub>>, Memory>
     ensures { IfOk result (λ subs. items_by subs.items
-        ≡ planned_subs wiring.now origin.Spout
-        ∷ map (λ (numbered : ℕ × List Input). planned_subs wiring.now (origin.Component numbered.0))
-        (enumerate_from 0 (inputs_by_component wiring.now))) }
+        ≡ (plan_of wiring.now).spout_subs ∷ (plan_of wiring.now).component_subs) }
 {
     let sources = wiring.sources();
     let count = sources.count();
@@ -183,10 +180,10 @@ fn planned_component(
     })
 }
 
-/// The components, whose tasks are numbered through.
-pub(crate) fn planned_components(wiring: &Wiring<'_>) -> Result<Vec<Component>, Memory>
-    ensures { IfOk result (λ components. components.items
-        ≡ map (planned_component wiring.now) (enumerate_from 0 (components_of wiring.now))) }
+/// The components, whose tasks are numbered through, and the tasks in all.
+pub(crate) fn planned_components(wiring: &Wiring<'_>) -> Result<(Vec<Component>, u32), Memory>
+    ensures { IfOk result (λ made. (made.0.items ≡ (plan_of wiring.now).components)
+        × (made.1 ≡ tasks_in_all (plan_of wiring.now))) }
 {
     let sources = wiring.sources();
     let count = sources.count();
@@ -197,5 +194,5 @@ pub(crate) fn planned_components(wiring: &Wiring<'_>) -> Result<Vec<Component>, 
         components.push(planned_component(wiring, c as u32, first_task, part)?)?;
         first_task += part.tasks;
     }
-    Ok(components)
+    Ok((components, first_task))
 }

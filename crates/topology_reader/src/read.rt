@@ -1,7 +1,7 @@
 //! From the bytes of a topology file to its plan.
 
-ghost use Rattle.std.specs.Prelude.{◌≡◌, ◌≢◌, ◌≤◌, ◌<◌, ◌^◌, length, sum_by, Some, None, IfOk, IfErr};
-ghost use Rattle.topology_reader.specs.Prelude.{Checks, Component, view, json_of, IsValid, IsWired, IsInRange};
+ghost use Rattle.std.specs.Prelude.{◌≡◌, ◌≢◌, ◌≤◌, length, Some, None, IfOk, IfErr};
+ghost use Rattle.topology_reader.specs.Prelude.{Checks, view, json_of, IsValid, IsWired, IsInRange};
 ghost use Rattle.topology_reader.specs.FirstFault.{twice_fault, source_fault, cycle_fault, size_fault, meaning_fault, first_fault, IsFilePlan};
 ghost use Rattle.topology_reader.specs.Planned.{plan_of};
 ghost use Rattle.topology_reader.specs.Steps.{IsMade, names_fault};
@@ -16,7 +16,7 @@ use std::alloc::Global;
 use storm_values::{MOST_TASKS_IN_ALL, MOST_TOPOLOGY_BYTES, MOST_WEIGHT, Memory};
 use topology_form::{TopoFault, parts_from, within};
 use topology_graph::{DepthRule, TuplesRule, greatest, numbers_by, total};
-use topology_plan::{Component, Made, Plan};
+use topology_plan::{Made, Plan};
 
 /// The plan of a topology file, or the file's first fault: its length, JSON, its
 /// form, and then what it says.
@@ -100,16 +100,16 @@ fn make(wiring: &Wiring<'_>) -> Result<Made, Memory>
     ensures { IfOk result (IsMade wiring.now) }
 {
     let alloc = wiring.alloc();
-    let components = planned_components(wiring)?;
-    let mut component_subs = subs_by_source(wiring)?;
-    let spout_subs = component_subs.remove(0);
     let graph = wiring.graph();
-    let tasks = tasks_in_all(&components);
     let depth = greatest(&numbers_by(alloc, &DepthRule, graph)?) as u32;
     let weight = total(&numbers_by(alloc, &TuplesRule, graph)?);
     let parts = wiring.sources().parts();
+    let spout_fields = parts.spout.fields.copy()?;
+    let mut component_subs = subs_by_source(wiring)?;
+    let spout_subs = component_subs.remove(0);
+    let (components, tasks) = planned_components(wiring)?;
     Ok(Made {
-        spout_fields: parts.spout.fields.copy()?,
+        spout_fields,
         spout_kind: parts.spout.kind,
         batch: parts.spout.batch,
         components,
@@ -123,17 +123,6 @@ fn make(wiring: &Wiring<'_>) -> Result<Made, Memory>
         depth,
         weight,
     })
-}
-
-fn tasks_in_all(components: &[Component]) -> u32
-    requires { sum_by (λ (component : Component). component.tasks) components.now < 2 ^ 32 }
-    ensures { result ≡ sum_by (λ (component : Component). component.tasks) components.now }
-{
-    let mut tasks = 0;
-    for component in components {
-        tasks += component.tasks;
-    }
-    tasks
 }
 
 fn check_size(alloc: Global, tasks: u32, weight: u64) -> Result<(), TopoFault>

@@ -11,7 +11,7 @@ use std::alloc::Global;
 use std::marker::Model;
 use std::slice::from_ref;
 use storm_values::{Memory, Names, Seq, Txt};
-use topology_form::{BodyPart, ComponentPart, FileParts, GroupingPart, Input, Operation};
+use topology_form::{BodyPart, ComponentPart, FileParts, GroupingPart, Operation};
 use topology_graph::{Along, Feed, Graph, values_along};
 use topology_plan::Origin;
 
@@ -131,20 +131,14 @@ fn feeds_to(sources: &Sources<'_>, part: &ComponentPart) -> Result<Vec<Feed>, Me
     ensures { IfOk result
         (λ feeds. feeds.items ≡ filter_map (feed_of sources.now part.now.tasks) part.now.inputs) }
 {
-    let tasks = part.tasks;
-    part.inputs
-        .as_slice()
-        .iter()
-        .filter_map(|input| feed_of(sources, tasks, input))
-        .collect(sources.alloc)
-}
-
-fn feed_of(sources: &Sources<'_>, tasks: u32, input: &Input) -> Option<Feed>
-    ensures { result ≡ feed_of sources.now tasks input.now }
-{
-    let from = sources.source_of(&input.from)?;
-    let copies = u64::from(copies_said(&input.grouping, tasks));
-    Some(Feed { from, copies })
+    let mut feeds = Vec::with_capacity(sources.alloc, part.inputs.len())?;
+    for input in part.inputs.as_slice() {
+        if let Some(from) = sources.source_of(&input.from) {
+            let copies = u64::from(copies_said(&input.grouping, part.tasks));
+            feeds.push(Feed { from, copies })?;
+        }
+    }
+    Ok(feeds)
 }
 
 fn copies_said(said: &GroupingPart, tasks: u32) -> u32

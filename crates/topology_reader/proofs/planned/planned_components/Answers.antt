@@ -1,6 +1,7 @@
 use Rattle.std.proofs.Common.{◌+◌, sym, ap, ◌∙◌, arith}
-use Rattle.topology_reader.proofs.Common.{components_of, planned_component}
+use Rattle.topology_reader.proofs.Common.{components_of, component_count, planned_component}
 use Rattle.topology_reader.proofs.Numbered.{IsAt}
+use Rattle.topology_reader.proofs.AssemblyLemmas.{all_planned}
 use Rattle.topology_reader.proofs.TaskLemmas.{numbered_next, next_task, first_task-le}
 use Rattle.topology_reader.proofs.planned.planned_components.Goals as goal
 
@@ -19,3 +20,6 @@ loop-c-preserved c =
       added = numbered_next (planned_component p) (components_of p) c.loop-c.c part _ _ _ at c.in_ok-push.ensures.items c.loop-c.invariant.added c.in_ok-planned_component.ensures;
       first_task = ap (λ n. n + part.tasks) c.loop-c.invariant.first_task ∙ sym (next_task p c.loop-c.c part at);
     }
+
+pub returns : goal.returns
+returns c = all_planned c.args.wiring.now c.loop-c.c c.loop-c.components.items c.loop-c.first_task (omega (arith, c.count-count.ensures.value, ap component_count c.sources-sources.ensures.value)) c.loop-c.invariant.added c.loop-c.invariant.first_task
