@@ -65,9 +65,7 @@ operation_of op.Mute = do below ← a_limit; done (Mute below)
 operation_of op.Custom = done Custom
 
 abbrev pub an_operation : Reader Operation
-an_operation = do
-  word ← required (codes "do") (a_word operation_words)
-  operation_of word
+an_operation = do word ← required (codes "do") (a_word operation_words); operation_of word
 
 abbrev pub a_key : Reader (List (List ℕ))
 a_key = required (codes "key") (some_names 1 most_fields)
@@ -88,9 +86,7 @@ grouping_of word.Global = done said.Global
 grouping_of word.Direct = done said.Direct
 
 abbrev pub a_grouping : Reader GroupingPart
-a_grouping = do
-  word ← required (codes "grouping") (a_word grouping_words)
-  grouping_of word
+a_grouping = do word ← required (codes "grouping") (a_word grouping_words); grouping_of word
 
 -- an input of a bolt
 abbrev pub an_input : Reader Input

@@ -167,14 +167,19 @@ impl Reader<ComponentPart> for Bolt {
     ghost reader = { λ _. a_bolt };
 
     fn read(&self, object: &mut Object) -> Result<ComponentPart, TopoFault> {
+        let name = object.required("name", &Name)?;
+        let tasks = object.required("tasks", &Number(1, MOST_TASKS))?;
+        let operation = object.required("op", &ObjectOf(BoltOperation))?;
+        let (operation, inputs) = object.required_beside(
+            operation,
+            "inputs",
+            &SomeObjects(1, MOST_BOLT_INPUTS, ObjectOf(BoltInput)),
+        )?;
         Ok(ComponentPart {
-            name: object.required("name", &Name)?,
-            tasks: object.required("tasks", &Number(1, MOST_TASKS))?,
-            body: BodyPart::Bolt(object.required("op", &ObjectOf(BoltOperation))?),
-            inputs: object.required(
-                "inputs",
-                &SomeObjects(1, MOST_BOLT_INPUTS, ObjectOf(BoltInput)),
-            )?,
+            name,
+            tasks,
+            inputs,
+            body: BodyPart::Bolt(operation),
         })
     }
 }

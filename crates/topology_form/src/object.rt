@@ -1,6 +1,6 @@
 #![tactic(auto, unfolding(crate::specs::Reading::required, crate::specs::Reading::optional))]
 
-ghost use Rattle.std.specs.Prelude.{◌≡◌, ◌≢◌, Some, None, option_map, IfOk, IfErr};
+ghost use Rattle.std.specs.Prelude.{◌≡◌, ◌≢◌, Some, None, Ok, Err, option_map, IfOk, IfErr};
 ghost use Rattle.topology_form.specs.Prelude.{get_member, as_object, view, WrongKind, Memory};
 ghost use Rattle.topology_form.specs.Reading.{Gives, Takes, Reader, left_in, without, an_object, ends, required, optional};
 
@@ -45,6 +45,23 @@ impl Object {
             Some(value) => form.read(self.alloc, name, value),
             None => Err(TopoFault::Missing(Txt::from_str(self.alloc, name)?)),
         }
+    }
+
+    /// What a member says that has to be there, and what was read before it, which is let go here
+    /// where the member has a fault: in a generic function that is one call for any type.
+    pub fn required_beside<P: Drop, T: Drop, F: Form<T>>(
+        &mut self,
+        part: P,
+        name: &str,
+        form: &F,
+    ) -> Result<(P, T), TopoFault>
+        ensures ok { IfOk result (λ read. (read.0 ≡ part)
+            × (required name.now (F.form form.now) (left_in self.old)
+            ≡ Ok (read.1, left_in self.new))) }
+        ensures fault { IfErr result (λ fault. fault ≢ Memory
+            → required name.now (F.form form.now) (left_in self.old) ≡ Err fault) }
+    {
+        Ok((part, self.required(name, form)?))
     }
 
     pub fn optional<T: Drop, F: Form<T>>(
