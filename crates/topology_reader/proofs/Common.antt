@@ -41,4 +41,4 @@ pub use Rattle.topology_reader.specs.Steps.{IsMade, has, AreReached, led, place_
 pub use Rattle.topology_reader.specs.ValidFile.{IsValidFile, HasFields, IsValidInput, IsValidComponent, IsNumbered}
 pub use Rattle.topology_reader.specs.Wiring.{component_names, name_at, source_of, inputs_by_component, inputs_at, fields_after, fields_to, body_of, graph_of, first_of, fields_rule, is_component, feeds, component_at, copies_said, reaches_over, sources_among, feed_of}
 unfoldable pub use Rattle.topology_reader.specs.Wiring.{fields_of, reaches}
-pub use Rattle.topology_reader.proofs.Shorthands.{IsSource, AreDistinct, tasks_by_component, planned_components, planned_component_subs, with_input, component_count, bolt_names, place_of, sources_at, feeds_of, field_table, is_from, value_fault}
+pub use Rattle.topology_reader.proofs.Shorthands.{IsSource, AreDistinct, tasks_by_component, with_input, component_count, bolt_names, place_of, sources_at, feeds_of, field_table, is_from, value_fault}

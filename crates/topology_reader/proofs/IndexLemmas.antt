@@ -1,5 +1,5 @@
 -- The sources of names, as they are put into a map, the last bolt first and the spout at the end.
-use Rattle.std.proofs.Common.{◌≡◌, ℕ, zero, suc, ◌+◌, Bool, true, false, cond, List, [], ◌∷◌, map, drop, slice_get, Option, Some, None, option_map, refl, sym, ap, subst, ◌∙◌, arith}
+use Rattle.std.proofs.Common.{◌≡◌, ℕ, zero, suc, ◌+◌, Bool, true, false, cond, List, map, drop, slice_get, Option, Some, None, option_map, refl, sym, ap, subst, ◌∙◌, arith}
 use Rattle.topology_reader.proofs.Common.{FileParts, Bor, bytes_eq, Origin, ComponentPart, place_of}
 use Rattle.indexmap.specs.IndexMap.{IndexMap}
 use Rattle.topology_plan.specs.declared.parts.Origin.TheVariants as origin

@@ -1,11 +1,10 @@
 -- Short words for what the definitions say in full.
 use Rattle.std.specs.Prelude.{◌≢◌, ℕ, zero, suc, List, [], ◌∷◌, length, map, Bool, false, if◌then◌else◌, Option, Some, None, option_map, AllPairs}
-use Rattle.topology_reader.specs.Prelude.{IsThere, enumerate_from, Data, NotJson, TopoFault, form_fault, parts_said, first_some, option_map_or, filter_map, bytes_eq, Origin, Input, ComponentPart, FileParts, components_of, Feed, values_of}
-use Rattle.topology_reader.specs.Wiring.{source_of, inputs_by_component, inputs_at, sources_among, feed_of, graph_of, fields_rule}
-use Rattle.topology_reader.specs.Planned.{is_origin, planned_component, planned_subs, planned_grouping}
+use Rattle.topology_reader.specs.Prelude.{IsThere, Data, NotJson, TopoFault, form_fault, parts_said, first_some, option_map_or, filter_map, bytes_eq, Origin, Input, ComponentPart, FileParts, components_of, Feed, values_of}
+use Rattle.topology_reader.specs.Wiring.{source_of, inputs_at, sources_among, feed_of, graph_of, fields_rule}
+use Rattle.topology_reader.specs.Planned.{is_origin, planned_grouping}
 use Rattle.topology_reader.specs.Steps.{with_sub}
-use Rattle.topology_plan.specs.declared.parts.{Component.Component, Sub.Sub}
-use Rattle.topology_plan.specs.declared.parts.Origin.TheVariants as origin
+use Rattle.topology_plan.specs.declared.parts.{Sub.Sub}
 use Rattle.topology_reader.specs.FirstFault.{meaning_fault}
 
 -- how many components there are
@@ -53,16 +52,6 @@ IsSource p from = IsThere (length p.bolts) from
 -- tasks and parts of the components
 abbrev pub tasks_by_component : FileParts → List ℕ
 tasks_by_component p = map (λ (part : ComponentPart). part.tasks) (components_of p)
-
--- the bolts and then the states
-abbrev pub planned_components : FileParts → List Component
-planned_components p = map (planned_component p) (enumerate_from 0 (components_of p))
-
--- the subscriptions to each component's rows
-abbrev pub planned_component_subs : FileParts → List (List Sub)
-planned_component_subs p =
-    map (λ (numbered : ℕ × List Input). planned_subs p (origin.Component numbered.0))
-    (enumerate_from 0 (inputs_by_component p))
 
 -- an input of a component, at its source
 abbrev pub with_input : FileParts → ℕ → List (List Sub) → Input → List (List Sub)

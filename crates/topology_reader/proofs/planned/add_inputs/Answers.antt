@@ -1,4 +1,4 @@
-use Rattle.std.proofs.Common.{◌≡◌, Some, None, Vec, sym, ap, ◌∙◌, arith}
+use Rattle.std.proofs.Common.{◌≡◌, Vec, sym, ap, ◌∙◌, arith}
 use Rattle.std.specs.declared.alloc.Global.{Global}
 use Rattle.topology_reader.proofs.Common.{Sub, items_by, option_map_or, source_of, with_sub, with_input, planned_grouping}
 use Rattle.topology_reader.proofs.SubLemmas.{inputs_next}
