@@ -1,5 +1,5 @@
 -- What one more write does to the running tables.
-use Rattle.std.proofs.Common.{◌≡◌, ℕ, zero, suc, ◌+◌, ◌%◌, arith, slice_get, replicate, ◌==◌, ◌<◌, ◌⊎◌, false, inl, inr, ℤ, List, [], ◌∷◌, ◌++◌, map, length, get_or, set, fold, append_assoc, Option, Some, None, IfSome, String, ◌≤◌, sym, refl, ap, ◌∙◌, subst, ⊎_elim, length-set}
+use Rattle.std.proofs.Common.{◌≡◌, ℕ, zero, suc, ◌+◌, ◌%◌, arith, slice_get, replicate, ◌<◌, ◌⊎◌, inl, inr, ℤ, List, [], ◌∷◌, ◌++◌, length, get_or, set, fold, append_assoc, Option, Some, None, IfSome, ◌≤◌, sym, refl, ap, ◌∙◌, subst, ⊎_elim, length-set}
 use Rattle.std.proofs.lemmas.Bool.{cases_eq, eq-eqb, ne_eqb}
 use Rattle.std.proofs.lemmas.List.{append-nil, map-id, length-map, length-replicate, map-set, get_or-map, get_or-set_same, get_or-set_other}
 use Rattle.std.proofs.lemmas.List.Elements.{filter_map-append}
@@ -24,7 +24,7 @@ use Rattle.topology_plan.specs.Topology.{Topology}
 use Rattle.tree_model.specs.declared.write.Pair.{Pair}
 use Rattle.tree_model.specs.declared.write.Table.{Table}
 use Rattle.tree_model.specs.declared.write.Write.{Write}
-use Rattle.tree_model.specs.Tables.{StateOf, folded, tallied, with_amount, written, state_by, state_at, IsTally, IsTableOf, AreRunningTables, AddsTable}
+use Rattle.tree_model.specs.Tables.{StateOf, tallied, with_amount, written, state_by, state_at, IsTally, IsTableOf, AreRunningTables, AddsTable}
 use Rattle.tree_model.specs.Inside.{pairs_of, pairs_by}
 use Rattle.tree_model.specs.Trees.{Node, kids, nodes_from, nodes_of, key_of, amount_by, write_by, write_of, writes}
 use Rattle.tree_model.proofs.Folding.{IsTally-push, IsTally-other}
@@ -93,9 +93,9 @@ AreRunningTables-fold t before (write ∷ writes) tables is =
 
 -- ---- the maps behind the tables
 
-module _ {Y S : Type 0} (olds : List (IndexMap (String Y) ℤ S)) (state : ℕ) (by : Fold) (key : List ℕ) (amount : ℤ) where
+module _ {S : Type 0} (olds : List (IndexMap (List ℕ) ℤ S)) (state : ℕ) (by : Fold) (key : List ℕ) (amount : ℤ) where
   -- the map of a state has the amount folded in
-  pub pairs_by-put : (old new : IndexMap (String Y) ℤ S) → state < length olds → old ≡ get_or olds state old → pairs_of new ≡ tallied by (pairs_of old) key amount
+  pub pairs_by-put : (old new : IndexMap (List ℕ) ℤ S) → state < length olds → old ≡ get_or olds state old → pairs_of new ≡ tallied by (pairs_of old) key amount
       → pairs_by (set olds state new) ≡ with_amount (pairs_by olds) state by key amount
   pairs_by-put old new within read puts =
       let was : get_or (pairs_by olds) state [] ≡ pairs_of old = get_or-map pairs_of olds state old [] within ∙ ap pairs_of (sym read) in
@@ -123,7 +123,7 @@ module _ (t : Topology) (write : Write) (tables : List (List Pair)) where
       at (Some state) is = absurd (none-some state.by is)
 
 -- where a map's pairs stay, all do
-pub pairs_by-set_same : {Y S : Type 0} (olds : List (IndexMap (String Y) ℤ S)) (i : ℕ) (old new : IndexMap (String Y) ℤ S) → old ≡ get_or olds i old → pairs_of new ≡ pairs_of old → pairs_by (set olds i new) ≡ pairs_by olds
+pub pairs_by-set_same : {S : Type 0} (olds : List (IndexMap (List ℕ) ℤ S)) (i : ℕ) (old new : IndexMap (List ℕ) ℤ S) → old ≡ get_or olds i old → pairs_of new ≡ pairs_of old → pairs_by (set olds i new) ≡ pairs_by olds
 pairs_by-set_same olds i old new read same = map-set_same pairs_of olds i new old (same ∙ ap pairs_of read)
 
 -- ---- a walk that adds each node's write

@@ -10,8 +10,8 @@ use std::marker::Model;
 use storm_values::{Memory, Row, Seq, Txt, key_text_in};
 use topology_plan::{Body, Component, Fold, Plan};
 
-/// The values of a state by key, found by hash.
-type Values = IndexMap<String, i128>;
+/// The values of a state by key, found by hash. A key of up to 30 bytes lies where it is found.
+type Values = IndexMap<Txt, i128>;
 
 /// The tables of the states so far.
 #[derive(Debug, Drop)]
@@ -54,8 +54,7 @@ impl RunningTables {
             ((before : List Write) → AreRunningTables plan.now before self.old
             → (done : ℕ) × AreRunningTables plan.now (before ++ take done writes) self.new) }
     {
-        let alloc = *self.values.allocator();
-        add_all(alloc, &mut self.values, plan, writes.into_vec())
+        add_all(&mut self.values, plan, writes.into_vec())
     }
 
     /// The tables of the states, whose keys are sorted here, once.
@@ -90,7 +89,7 @@ impl Visitor for RunningTables {
             let fields = spec.key.as_slice();
             let key = key_text_in(alloc, &mut self.room, row.as_slice(), fields)?;
             let amount = amount(spec, row);
-            add_amount(alloc, &mut self.values, component, spec.fold, &key, amount)?;
+            add_amount(&mut self.values, component, spec.fold, &key, amount)?;
         }
         Ok(())
     }
@@ -129,52 +128,38 @@ fn pairs(alloc: Global, values: Values) -> Result<Pairs, Memory>
 {
     let pairs = values
         .into_iter()
-        .map(|(key, value)| Pair {
-            key: Txt::from_string(key),
-            value,
-        })
+        .map(|(key, value)| Pair { key, value })
         .collect(alloc)?;
     Ok(Seq::from_vec(pairs))
 }
 
 /// Adds writes to the maps of the components, in order.
-fn add_all(
-    alloc: Global,
-    values: &mut Vec<Values>,
-    plan: &Plan,
-    writes: Vec<Write>,
-) -> Result<(), Memory>
+fn add_all(values: &mut Vec<Values>, plan: &Plan, writes: Vec<Write>) -> Result<(), Memory>
     ensures ok { OnOk result (pairs_by values.new.items
         ≡ fold (written plan.now) (pairs_by values.old.items) writes.items) }
     ensures err { OnErr result ((done : ℕ) × (pairs_by values.new.items
         ≡ fold (written plan.now) (pairs_by values.old.items) (take done writes.items))) }
 {
     for write in writes {
-        add_one(alloc, values, plan, &write)?;
+        add_one(values, plan, &write)?;
     }
     Ok(())
 }
 
 /// Adds a write to the map of its state.
-fn add_one(
-    alloc: Global,
-    values: &mut Vec<Values>,
-    plan: &Plan,
-    write: &Write,
-) -> Result<(), Memory>
+fn add_one(values: &mut Vec<Values>, plan: &Plan, write: &Write) -> Result<(), Memory>
     ensures ok { OnOk result
         (pairs_by values.new.items ≡ written plan.now (pairs_by values.old.items) write.now) }
     ensures err { OnErr result (pairs_by values.new.items ≡ pairs_by values.old.items) }
 {
     match fold_of(plan, write.state) {
-        Some(by) => add_amount(alloc, values, write.state, by, &write.key, write.amount),
+        Some(by) => add_amount(values, write.state, by, &write.key, write.amount),
         None => Ok(()),
     }
 }
 
 /// Folds an amount into the map of a state, if there is one.
 fn add_amount(
-    alloc: Global,
     values: &mut Vec<Values>,
     state: u32,
     by: Fold,
@@ -187,7 +172,7 @@ fn add_amount(
 {
     let state = state as usize;
     if state < values.len() {
-        put(alloc, &mut values[state], by, key, amount)
+        put(&mut values[state], by, key, amount)
     } else {
         Ok(())
     }
@@ -208,20 +193,18 @@ fn fold_of(plan: &Plan, number: u32) -> Option<Fold>
 
 /// Folds an amount into the value of a key, with one search where the key has one. A new key is
 /// copied.
-fn put(alloc: Global, values: &mut Values, by: Fold, key: &Txt, amount: i64) -> Result<(), Memory>
+fn put(values: &mut Values, by: Fold, key: &Txt, amount: i64) -> Result<(), Memory>
     ensures ok { OnOk result
         (pairs_of values.new ≡ tallied by (pairs_of values.old) key.now amount) }
     ensures err { OnErr result (pairs_of values.new ≡ pairs_of values.old) }
 {
-    let text = key.as_str();
-    match values.get_mut(text) {
+    match values.get_mut(key) {
         Some(value) => {
             *value = folded(by, Some(*value), amount);
             Ok(())
         }
         None => {
-            let name = String::from_str(alloc, text)?;
-            values.insert(name, folded(by, None, amount))?;
+            values.insert(key.copy()?, folded(by, None, amount))?;
             Ok(())
         }
     }

@@ -1,7 +1,5 @@
 use Rattle.std.proofs.Common.{◌≡◌, [], ◌∷◌, ◌∙◌, fold, ap, sym}
-use Rattle.std.specs.List.{flat_map}
-use Rattle.topology_plan.specs.declared.parts.Origin.TheVariants as origin
-use Rattle.tree_model.specs.Trees.{Node, kids, nodes_from}
+use Rattle.tree_model.specs.Trees.{Node, nodes_from}
 use Rattle.tree_model.proofs.Walks.{nodes_from-more}
 use Rattle.tree_model.proofs.tree.Tree.+walk.Goals.{visit_node-then-not-is_empty+in_ok-visit_rows, visit_node-else-not-is_empty}
 use Rattle.tree_model.proofs.tree.Tree.+walk.Goals as goal
