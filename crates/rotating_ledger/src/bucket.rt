@@ -36,6 +36,10 @@ impl<V: Drop> Bucket<V> {
     pub fn slot_of(&self, root: Root) -> Option<usize>
         ensures { result ≡ slot_at self.now.places root }
     {
+        // most buckets are empty, and a root is not hashed for them
+        if self.places.is_empty() {
+            return None;
+        }
         let key = Key {
             txid: root.txid,
             attempt: root.attempt,
