@@ -12,7 +12,8 @@ use storm_values::{Memory, Root};
 
 /// Values of roots in buckets, after Storm's `RotatingMap`. A rotation drops the oldest bucket and
 /// adds an empty one, so a value goes at the rotation that has the number of buckets since it was
-/// put. A root is found by one look-up a bucket, whatever number of roots is held.
+/// put. A root is found by one look-up in each bucket that is not empty, whatever number of roots
+/// is held.
 #[derive(Debug, Drop)]
 pub struct Rotating<V> {
     // the oldest first
