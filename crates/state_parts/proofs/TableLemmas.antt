@@ -1,5 +1,5 @@
 -- What the rows of parts come to together.
-use Rattle.std.proofs.Common.{Result, Err, ◌≡◌, ◌+◌, ◌≤◌, ◌<◌, ◌==◌, ◌||◌, ◌⊎◌, inl, inr, ℕ, ℤ, zero, suc, Bool, true, false, cond, List, [], ◌∷◌, ◌++◌, length, map, get_or, set, take, Less, Option, None, Some, String, BTreeMap, slice_get, string_bytes, refl, sym, ap, subst, ◌∙◌, arith}
+use Rattle.std.proofs.Common.{Result, Err, ◌≡◌, ◌+◌, ◌≤◌, ◌<◌, ◌==◌, ◌||◌, ◌⊎◌, inl, inr, ℕ, ℤ, zero, suc, Bool, true, false, cond, List, [], ◌∷◌, ◌++◌, length, map, get_or, set, take, Less, Option, None, Some, BTreeMap, slice_get, refl, sym, ap, subst, ◌∙◌, arith}
 use Rattle.std.proofs.lemmas.Bool.{eq-eqb, ne_eqb}
 use Rattle.std.proofs.lemmas.List.{append-nil, length-map, length-take-le, map-id, take_all, take_more, get_or-map}
 use Rattle.std.proofs.lemmas.List.Elements.{filter_map-append}
@@ -7,7 +7,7 @@ use Rattle.std.proofs.lemmas.List.FromFn.{map-range_with_len_more}
 use Rattle.std.proofs.lemmas.Map.Text.{is_eq-slice_cmp}
 use Rattle.std.proofs.lemmas.Option.{get_or_from_slice_get, slice_get-get_or, slice_get_within}
 use Rattle.std.proofs.lemmas.Slice.Zip.{AllZip-long, all_zipped_more}
-use Rattle.std.specs.BTreeMap.{IsOrdered, get_by_text, is_at}
+use Rattle.std.specs.BTreeMap.{IsOrdered, Updates, is_at}
 use Rattle.std.specs.Cmp.Lexicographic.{slice_cmp, bytes_decides}
 use Rattle.std.specs.List.{AllByRecursion, AllZip, cons_option, filter_map, find, list_any, range_with_len}
 use Rattle.std.specs.List.Sorted.{IsStrictlySortedBy}
@@ -15,7 +15,6 @@ use Rattle.std.specs.Map.{keys_of, lookup, update}
 use Rattle.std.specs.Option.{option_and_then, option_map, option_or}
 use Rattle.std.specs.Ordering.{nat_cmp}
 use Rattle.std.specs.Str.{bytes_eq}
-use Rattle.std.specs.String.{string_cmp}
 use Rattle.storm_outside.specs.Counts.{Rose}
 use Rattle.storm_stores.specs.CellMaps.{CellMap, cell_at}
 use Rattle.topology_plan.specs.declared.parts.Component.{Component}
@@ -23,7 +22,7 @@ use Rattle.topology_plan.specs.declared.parts.Kind.{Kind}
 use Rattle.topology_plan.specs.Topology.{Topology}
 use Rattle.tree_model.specs.declared.write.Pair.{Pair}
 use Rattle.tree_model.specs.declared.write.Table.{Table}
-use Rattle.state_parts.specs.Gathered.{pair_of, pairs_of}
+use Rattle.state_parts.specs.Gathered.{pair_of, pairs_of, value_of}
 use Rattle.tree_model.specs.Tables.{StateOf, state_at, state_by, value_at}
 use Rattle.state_cells.specs.Rows.{IsBadRow, row_by, rows_of, value_in}
 use Rattle.state_parts.specs.declared.parts.StatePart.{StatePart}
@@ -121,42 +120,45 @@ values_stay number component cells old other key =
 
 -- ---- a map of texts as a table
 
-module _ {Y : Type 0} where
-  found : (b : Bool) (entry : String Y × ℤ) (rest : Option Pair) → option_map (λ (pair : Pair). pair.value) (cond b (Some (pair_of entry)) rest) ≡ cond b (Some entry.1) (option_map (λ (pair : Pair). pair.value) rest)
-  found true entry rest = refl
-  found false entry rest = refl
+found : (b : Bool) (entry : List ℕ × ℤ) (rest : Option Pair) → option_map (λ (pair : Pair). pair.value) (cond b (Some (pair_of entry)) rest) ≡ cond b (Some entry.1) (option_map (λ (pair : Pair). pair.value) rest)
+found true entry rest = refl
+found false entry rest = refl
 
-  value_at-entries : (key : List ℕ) (entries : List (String Y × ℤ)) → value_at (map pair_of entries) key ≡ lookup (is_at (λ (k : String Y). slice_cmp nat_cmp key (string_bytes k))) entries
-  value_at-entries key [] = refl
-  value_at-entries key (entry ∷ entries) =
-      found (bytes_eq key (string_bytes entry.0)) entry (find (λ (pair : Pair). bytes_eq key pair.key) (map pair_of entries))
-      ∙ ap (cond (bytes_eq key (string_bytes entry.0)) (Some entry.1)) (value_at-entries key entries)
-      ∙ ap (λ b. cond b (Some entry.1) (lookup (is_at (λ (k : String Y). slice_cmp nat_cmp key (string_bytes k))) entries)) (sym (is_eq-slice_cmp key (string_bytes entry.0)))
+value_at-entries : (key : List ℕ) (entries : List (List ℕ × ℤ)) → value_at (map pair_of entries) key ≡ lookup (is_at (slice_cmp nat_cmp key)) entries
+value_at-entries key [] = refl
+value_at-entries key (entry ∷ entries) =
+    found (bytes_eq key entry.0) entry (find (λ (pair : Pair). bytes_eq key pair.key) (map pair_of entries))
+    ∙ ap (cond (bytes_eq key entry.0) (Some entry.1)) (value_at-entries key entries)
+    ∙ ap (λ b. cond b (Some entry.1) (lookup (is_at (slice_cmp nat_cmp key)) entries)) (sym (is_eq-slice_cmp key entry.0))
 
-  value_at-pairs : (m : BTreeMap (String Y) ℤ) (key : List ℕ) → value_at (pairs_of m) key ≡ get_by_text m key
-  value_at-pairs m key = value_at-entries key m.entries
+value_at-pairs : (m : BTreeMap (List ℕ) ℤ) (key : List ℕ) → value_at (pairs_of m) key ≡ value_of m key
+value_at-pairs m key = value_at-entries key m.entries
 
-  above : (key : String Y) (entries : List (String Y × ℤ)) → AllByRecursion (λ k. string_cmp key k ≡ Less) (map (λ (e : String Y × ℤ). e.0) entries) → AllByRecursion (λ k. slice_cmp nat_cmp (string_bytes key) k ≡ Less) (map (λ (pair : Pair). pair.key) (map pair_of entries))
-  above key [] all = tt
-  above key (entry ∷ entries) all = (all.0, above key entries all.1)
+above : (key : List ℕ) (entries : List (List ℕ × ℤ)) → AllByRecursion (λ k. slice_cmp nat_cmp key k ≡ Less) (map (λ (e : List ℕ × ℤ). e.0) entries) → AllByRecursion (λ k. slice_cmp nat_cmp key k ≡ Less) (map (λ (pair : Pair). pair.key) (map pair_of entries))
+above key [] all = tt
+above key (entry ∷ entries) all = (all.0, above key entries all.1)
 
-  entries_ordered : (entries : List (String Y × ℤ)) → IsStrictlySortedBy string_cmp (map (λ (e : String Y × ℤ). e.0) entries) → IsStrictlySortedBy (slice_cmp nat_cmp) (map (λ (pair : Pair). pair.key) (map pair_of entries))
-  unfolding IsStrictlySortedBy
-  entries_ordered [] sorted = tt
-  entries_ordered (entry ∷ entries) sorted = (above entry.0 entries sorted.0, entries_ordered entries sorted.1)
+entries_ordered : (entries : List (List ℕ × ℤ)) → IsStrictlySortedBy (slice_cmp nat_cmp) (map (λ (e : List ℕ × ℤ). e.0) entries) → IsStrictlySortedBy (slice_cmp nat_cmp) (map (λ (pair : Pair). pair.key) (map pair_of entries))
+unfolding IsStrictlySortedBy
+entries_ordered [] sorted = tt
+entries_ordered (entry ∷ entries) sorted = (above entry.0 entries sorted.0, entries_ordered entries sorted.1)
 
-  -- a map without entries
-  pub value_none : (m : BTreeMap (String Y) ℤ) → m.entries ≡ [] → (key : List ℕ) → get_by_text m key ≡ None
-  value_none m none key = ap (lookup (is_at (λ (k : String Y). slice_cmp nat_cmp key (string_bytes k)))) none
+-- a map without entries
+pub value_none : (m : BTreeMap (List ℕ) ℤ) → m.entries ≡ [] → (key : List ℕ) → value_of m key ≡ None
+value_none m none key = ap (lookup (is_at (slice_cmp nat_cmp key))) none
 
-  -- a map with the values of the state's parts is the state's table
-  pub table_of_map : {S : Type 0} (tells : S → CellMap → Type 0) (parts : List (StatePart S)) (state : StateOf) (m : BTreeMap (String Y) ℤ) (table : Table) → table.name ≡ state.name → table.pairs ≡ pairs_of m → IsOrdered string_cmp m
-      → ((maps : List CellMap) → Tell tells parts maps → (key : List ℕ) → get_by_text m key ≡ value_among state.number (components_of parts) maps key) → IsTableOver tells parts state table
-  table_of_map tells parts state m table named same sorted values = record {
-    name = named;
-    ordered = subst (λ (pairs : List Pair). IsStrictlySortedBy (slice_cmp nat_cmp) (map (λ (pair : Pair). pair.key) pairs)) (sym same) (entries_ordered m.entries sorted);
-    values = λ maps told key. ap (λ (pairs : List Pair). value_at pairs key) same ∙ value_at-pairs m key ∙ values maps told key;
-  }
+-- a map with one more key and its value
+pub value_put : (old new : BTreeMap (List ℕ) ℤ) (key : List ℕ) (value : ℤ) → Updates (slice_cmp nat_cmp) old new key (Some value) → (k : List ℕ) → value_of new k ≡ update bytes_eq (value_of old) key (Some value) k
+value_put old new key value updates k = updates.0 k ∙ ap (λ b. cond b (Some value) (value_of old k)) (is_eq-slice_cmp key k)
+
+-- a map with the values of the state's parts is the state's table
+pub table_of_map : {S : Type 0} (tells : S → CellMap → Type 0) (parts : List (StatePart S)) (state : StateOf) (m : BTreeMap (List ℕ) ℤ) (table : Table) → table.name ≡ state.name → table.pairs ≡ pairs_of m → IsOrdered (slice_cmp nat_cmp) m
+    → ((maps : List CellMap) → Tell tells parts maps → (key : List ℕ) → value_of m key ≡ value_among state.number (components_of parts) maps key) → IsTableOver tells parts state table
+table_of_map tells parts state m table named same sorted values = record {
+  name = named;
+  ordered = subst (λ (pairs : List Pair). IsStrictlySortedBy (slice_cmp nat_cmp) (map (λ (pair : Pair). pair.key) pairs)) (sym same) (entries_ordered m.entries sorted);
+  values = λ maps told key. ap (λ (pairs : List Pair). value_at pairs key) same ∙ value_at-pairs m key ∙ values maps told key;
+}
 
 pub same_fault : {T U E : Type 0} (r : Result T E) (e fault : E) → r ≡ Err e → ◌≡◌ {A = Result U E} (Err e) (Err fault) → r ≡ Err fault
 same_fault r e fault is same = let one : e ≡ fault = cc in is ∙ ap Err one

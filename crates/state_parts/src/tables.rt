@@ -1,11 +1,12 @@
 ghost use Rattle.std.specs.Prelude.{◌≡◌, ◌++◌, ◌∷◌, [], ℕ, List, Some, IfOk, OnOk, IsErrOf};
-ghost use Rattle.std.specs.BTreeMap.{IsOrdered, get_by_text};
+ghost use Rattle.std.specs.BTreeMap.{IsOrdered};
+ghost use Rattle.std.specs.Cmp.Lexicographic.{slice_cmp};
 ghost use Rattle.std.specs.List.{AllZip};
 ghost use Rattle.std.specs.Option.{option_or};
-ghost use Rattle.std.specs.String.{string_cmp};
+ghost use Rattle.std.specs.Ordering.{nat_cmp};
 ghost use Rattle.storm_outside.specs.Counts.{Rose};
 ghost use Rattle.storm_stores.specs.CellMaps.{CellMap, cell_at};
-ghost use Rattle.state_parts.specs.Gathered.{pairs_of};
+ghost use Rattle.state_parts.specs.Gathered.{pairs_of, value_of};
 ghost use Rattle.tree_model.specs.Tables.{StateOf, state_by, states_of};
 ghost use Rattle.state_cells.specs.Rows.{IsBadRow};
 ghost use Rattle.state_parts.specs.PartPlans.{plans_of};
@@ -20,34 +21,32 @@ use storm_values::{Memory, Txt};
 use topology_plan::{Body, Component, Plan};
 use tree_model::{Pair, Pairs, Table, Tables};
 
-type Values = BTreeMap<String, i128>;
+type Values = BTreeMap<Txt, i128>;
 
 /// Gives the keys of pairs their values, one after another.
-fn put_pairs(alloc: Global, values: &mut Values, pairs: Pairs) -> Result<(), Memory>
-    requires { IsOrdered string_cmp values.old }
-    ensures ordered { IsOrdered string_cmp values.new }
+fn put_pairs(values: &mut Values, pairs: Pairs) -> Result<(), Memory>
+    requires { IsOrdered (slice_cmp nat_cmp) values.old }
+    ensures ordered { IsOrdered (slice_cmp nat_cmp) values.new }
     ensures put { OnOk result ((key : List ℕ) →
-        get_by_text values.new key ≡ put_all (get_by_text values.old) pairs key) }
+        value_of values.new key ≡ put_all (value_of values.old) pairs key) }
 {
     for pair in pairs.into_vec() {
-        let key = pair.key.into_string(alloc)?;
-        values.insert(key, pair.value)?;
+        values.insert(pair.key, pair.value)?;
     }
     Ok(())
 }
 
 /// Adds the keys and values of a part, if it is one of the state.
 fn add_values<C: CellStore>(
-    alloc: Global,
     at: &mut StatePart<C>,
     number: u32,
     values: &mut Values,
 ) -> Result<(), PartFault>
-    requires { IsOrdered string_cmp values.old }
-    ensures ordered { IsOrdered string_cmp values.new }
+    requires { IsOrdered (slice_cmp nat_cmp) values.old }
+    ensures ordered { IsOrdered (slice_cmp nat_cmp) values.new }
     ensures added { OnOk result ((cells : CellMap) → C.tells at.old.over.store cells →
-        (key : List ℕ) → get_by_text values.new key
-        ≡ option_or (value_for number at.old.component cells key) (get_by_text values.old key)) }
+        (key : List ℕ) → value_of values.new key
+        ≡ option_or (value_for number at.old.component cells key) (value_of values.old key)) }
     ensures read { IsRead C.tells C.fault_count at.old at.new }
     ensures failed { IsErrOf result PartFault.Store →
         Rose (C.fault_count at.old.over.store) (C.fault_count at.new.over.store) }
@@ -61,7 +60,7 @@ fn add_values<C: CellStore>(
         Ok(pairs) => pairs,
         Err(fault) => return Err(fault),
     };
-    match put_pairs(alloc, values, pairs) {
+    match put_pairs(values, pairs) {
         Ok(()) => {}
         Err(_) => return Err(PartFault::Memory),
     }
@@ -74,9 +73,9 @@ fn values_of<C: CellStore>(
     parts: &mut Vec<StatePart<C>>,
     number: u32,
 ) -> Result<Values, PartFault>
-    ensures ordered { IfOk result (IsOrdered string_cmp) }
+    ensures ordered { IfOk result (IsOrdered (slice_cmp nat_cmp)) }
     ensures values { IfOk result (λ values. (maps : List CellMap) →
-        Tell C.tells parts.old.items maps → (key : List ℕ) → get_by_text values key
+        Tell C.tells parts.old.items maps → (key : List ℕ) → value_of values key
         ≡ value_among number (components_of parts.old.items) maps key) }
     ensures read { AreRead C.tells C.fault_count parts.old.items parts.new.items }
     ensures failed { IsErrOf result PartFault.Store →
@@ -86,7 +85,7 @@ fn values_of<C: CellStore>(
 {
     let mut values = BTreeMap::new(alloc);
     for i in 0..parts.len() {
-        match add_values(alloc, &mut parts[i], number, &mut values) {
+        match add_values(&mut parts[i], number, &mut values) {
             Ok(()) => {}
             Err(fault) => return Err(fault),
         }
@@ -99,10 +98,7 @@ fn pairs_in(alloc: Global, values: Values) -> Result<Pairs, Memory>
 {
     let pairs = values
         .into_iter()
-        .map(|(key, value)| Pair {
-            key: Txt::from_string(key),
-            value,
-        })
+        .map(|(key, value)| Pair { key, value })
         .collect(alloc)?;
     Ok(Pairs::from_vec(pairs))
 }

@@ -133,17 +133,6 @@ impl Txt {
         }
     }
 
-    /// The string of the text. A long text is moved.
-    pub fn into_string(self, alloc: Global) -> Result<String, Memory>
-        ensures { IfOk result (λ made. string_bytes made ≡ self) }
-    {
-        let Txt { text } = self;
-        match text {
-            Place::Inside(short) => String::from_str(alloc, short.as_str()),
-            Place::Apart(text) => Ok(text),
-        }
-    }
-
     /// The number of bytes.
     pub fn len(&self) -> usize
         ensures { result ≡ length self.now }

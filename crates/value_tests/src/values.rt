@@ -64,7 +64,6 @@ fn texts_of_any_length_keep_their_bytes(rt: HostRuntime) -> Result<(), Fail> {
         let made = Txt::from_str(alloc, text)?;
         assert_eq!(rt; (made.as_str(), made.len()), (text, text.len()));
         assert!(rt; made.copy()?.as_str() == text, "at {text}");
-        assert!(rt; made.into_string(alloc)?.as_str() == text, "at {text}");
         let moved = Txt::from_string(String::from_str(alloc, text)?);
         assert!(rt; moved.as_str() == text, "at {text}");
     }

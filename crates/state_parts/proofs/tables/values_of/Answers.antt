@@ -1,6 +1,6 @@
 use Rattle.std.proofs.Common.{◌<◌, length, arith}
-use Rattle.std.specs.BTreeMap.{get_by_text}
 use Rattle.state_cells.specs.declared.fault.PartFault.TheVariants.{BadCell, Store}
+use Rattle.state_parts.specs.Gathered.{value_of}
 use Rattle.state_parts.proofs.TableLemmas.{all_read, bad_at, read_set, reading_last, reading_more, rose_at, same_fault, value_none}
 use Rattle.state_parts.proofs.tables.values_of.Goals as goal
 
@@ -15,7 +15,7 @@ loop-i-preserved g c =
     let within : c.loop-i.i < length c.args.parts.now.items = omega (arith, c.len-i-end.ensures, c.args.parts.now.ok.0) in
     record {
       ordered = c.add_values.ensures.ordered;
-      reading = reading_more g.C.CellStore.tells g.C.CellStore.fault_count c.args.number c.args.parts.now.items c.loop-i.parts.items c.loop-i.i (get_by_text c.loop-i.values) (get_by_text c.add_values.new.values)
+      reading = reading_more g.C.CellStore.tells g.C.CellStore.fault_count c.args.number c.args.parts.now.items c.loop-i.parts.items c.loop-i.i (value_of c.loop-i.values) (value_of c.add_values.new.values)
           c.index_mut.result.now c.add_values.new.at within c.index_mut.ensures.value c.in-Ok.ensures.added c.add_values.ensures.read c.loop-i.invariant.reading;
     }
 
@@ -36,4 +36,4 @@ returns-in-Err-clause-bad g c = λ key is.
 
 pub returns-clause-values : goal.returns-clause-values
 returns-clause-values g c = λ maps told key.
-    reading_last g.C.CellStore.tells g.C.CellStore.fault_count c.args.number c.args.parts.now.items c.loop-i.parts.items c.loop-i.i (get_by_text c.loop-i.values) (omega (arith, c.len-i-end.ensures, c.args.parts.now.ok.0)) c.loop-i.invariant.reading maps told key
+    reading_last g.C.CellStore.tells g.C.CellStore.fault_count c.args.number c.args.parts.now.items c.loop-i.parts.items c.loop-i.i (value_of c.loop-i.values) (omega (arith, c.len-i-end.ensures, c.args.parts.now.ok.0)) c.loop-i.invariant.reading maps told key
