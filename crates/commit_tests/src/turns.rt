@@ -19,27 +19,27 @@ const ONE_PENDING: &str = r#"{"version":1,
    "fold":"count","inputs":["words"]}],
  "ackers":1,"pending":1,"buckets":3,"attempts":1}"#;
 
-const R11: Root = Root {
+const ROOT_1_1: Root = Root {
     txid: 1,
     attempt: 1,
 };
 
-const R12: Root = Root {
+const ROOT_1_2: Root = Root {
     txid: 1,
     attempt: 2,
 };
 
-const R21: Root = Root {
+const ROOT_2_1: Root = Root {
     txid: 2,
     attempt: 1,
 };
 
-const R22: Root = Root {
+const ROOT_2_2: Root = Root {
     txid: 2,
     attempt: 2,
 };
 
-const R31: Root = Root {
+const ROOT_3_1: Root = Root {
     txid: 3,
     attempt: 1,
 };
@@ -58,7 +58,7 @@ fn begins(told: Told, begun: &'static [Root]) -> Step {
 // The first turn of two that may be pending.
 const FIRST: Step = Step {
     call: Call::Turn(Told::Nothing, 0),
-    begun: &[R11, R21],
+    begun: &[ROOT_1_1, ROOT_2_1],
     commit: None,
     ended: &[],
     stop: None,
@@ -69,11 +69,11 @@ const FIRST: Step = Step {
 fn commits_come_in_order_one_a_turn(rt: HostRuntime) -> Result<(), Mismatch> {
     let steps = [
         FIRST,
-        begins(Told::Closed(R21), &[]),
+        begins(Told::Closed(ROOT_2_1), &[]),
         Step {
-            call: Call::Turn(Told::Closed(R11), 0),
+            call: Call::Turn(Told::Closed(ROOT_1_1), 0),
             begun: &[],
-            commit: Some(R11),
+            commit: Some(ROOT_1_1),
             ended: &[],
             stop: None,
         },
@@ -82,7 +82,7 @@ fn commits_come_in_order_one_a_turn(rt: HostRuntime) -> Result<(), Mismatch> {
             begun: &[],
             commit: None,
             ended: &[Ended {
-                root: R11,
+                root: ROOT_1_1,
                 start: 0,
                 finish: 0,
                 how: How::Committed,
@@ -91,8 +91,8 @@ fn commits_come_in_order_one_a_turn(rt: HostRuntime) -> Result<(), Mismatch> {
         },
         Step {
             call: Call::Turn(Told::Nothing, 0),
-            begun: &[R31],
-            commit: Some(R21),
+            begun: &[ROOT_3_1],
+            commit: Some(ROOT_2_1),
             ended: &[],
             stop: None,
         },
@@ -101,7 +101,7 @@ fn commits_come_in_order_one_a_turn(rt: HostRuntime) -> Result<(), Mismatch> {
             begun: &[],
             commit: None,
             ended: &[Ended {
-                root: R21,
+                root: ROOT_2_1,
                 start: 0,
                 finish: 0,
                 how: How::Committed,
@@ -119,18 +119,18 @@ fn a_failed_attempt_begins_again(rt: HostRuntime) -> Result<(), Mismatch> {
     let steps = [
         FIRST,
         Step {
-            call: Call::Turn(Told::Fails(R11), 0),
-            begun: &[R12],
+            call: Call::Turn(Told::Fails(ROOT_1_1), 0),
+            begun: &[ROOT_1_2],
             commit: None,
             ended: &[Ended {
-                root: R11,
+                root: ROOT_1_1,
                 start: 0,
                 finish: 0,
                 how: How::Failed,
             }],
             stop: None,
         },
-        begins(Told::Closed(R11), &[]),
+        begins(Told::Closed(ROOT_1_1), &[]),
     ];
     check_steps(rt.alloc(), TWO_PENDING, 2, &steps, 0)
 }
@@ -141,11 +141,11 @@ fn a_coincided_attempt_begins_again_in_the_same_turn(rt: HostRuntime) -> Result<
     let steps = [
         FIRST,
         Step {
-            call: Call::Turn(Told::Open(R21), 0),
-            begun: &[R22],
+            call: Call::Turn(Told::Open(ROOT_2_1), 0),
+            begun: &[ROOT_2_2],
             commit: None,
             ended: &[Ended {
-                root: R21,
+                root: ROOT_2_1,
                 start: 0,
                 finish: 0,
                 how: How::Coincided,
@@ -162,9 +162,9 @@ fn a_failed_commit_begins_again_in_the_next_turn(rt: HostRuntime) -> Result<(), 
     let steps = [
         FIRST,
         Step {
-            call: Call::Turn(Told::Closed(R11), 0),
+            call: Call::Turn(Told::Closed(ROOT_1_1), 0),
             begun: &[],
-            commit: Some(R11),
+            commit: Some(ROOT_1_1),
             ended: &[],
             stop: None,
         },
@@ -173,14 +173,14 @@ fn a_failed_commit_begins_again_in_the_next_turn(rt: HostRuntime) -> Result<(), 
             begun: &[],
             commit: None,
             ended: &[Ended {
-                root: R11,
+                root: ROOT_1_1,
                 start: 0,
                 finish: 0,
                 how: How::CommitFailed,
             }],
             stop: None,
         },
-        begins(Told::Nothing, &[R12]),
+        begins(Told::Nothing, &[ROOT_1_2]),
     ];
     check_steps(rt.alloc(), TWO_PENDING, 2, &steps, 0)
 }
@@ -191,7 +191,7 @@ fn attempts_time_out_at_their_last_tick(rt: HostRuntime) -> Result<(), Mismatch>
     let steps = [
         FIRST,
         Step {
-            call: Call::Turn(Told::Closed(R21), 2),
+            call: Call::Turn(Told::Closed(ROOT_2_1), 2),
             begun: &[],
             commit: None,
             ended: &[],
@@ -199,10 +199,10 @@ fn attempts_time_out_at_their_last_tick(rt: HostRuntime) -> Result<(), Mismatch>
         },
         Step {
             call: Call::Turn(Told::Nothing, 1),
-            begun: &[R12],
+            begun: &[ROOT_1_2],
             commit: None,
             ended: &[Ended {
-                root: R11,
+                root: ROOT_1_1,
                 start: 0,
                 finish: 3,
                 how: How::TimedOut,
@@ -217,13 +217,13 @@ fn attempts_time_out_at_their_last_tick(rt: HostRuntime) -> Result<(), Mismatch>
 #[test]
 fn attempts_run_out_at_a_verdict(rt: HostRuntime) -> Result<(), Mismatch> {
     let steps = [
-        begins(Told::Nothing, &[R11]),
+        begins(Told::Nothing, &[ROOT_1_1]),
         Step {
-            call: Call::Turn(Told::Fails(R11), 5),
+            call: Call::Turn(Told::Fails(ROOT_1_1), 5),
             begun: &[],
             commit: None,
             ended: &[Ended {
-                root: R11,
+                root: ROOT_1_1,
                 start: 0,
                 finish: 0,
                 how: How::Failed,
@@ -249,17 +249,17 @@ fn attempts_run_out_at_a_tick(rt: HostRuntime) -> Result<(), Mismatch> {
         FIRST,
         Step {
             call: Call::Turn(Told::Nothing, 3),
-            begun: &[R12, R22],
+            begun: &[ROOT_1_2, ROOT_2_2],
             commit: None,
             ended: &[
                 Ended {
-                    root: R11,
+                    root: ROOT_1_1,
                     start: 0,
                     finish: 3,
                     how: How::TimedOut,
                 },
                 Ended {
-                    root: R21,
+                    root: ROOT_2_1,
                     start: 0,
                     finish: 3,
                     how: How::TimedOut,
@@ -273,13 +273,13 @@ fn attempts_run_out_at_a_tick(rt: HostRuntime) -> Result<(), Mismatch> {
             commit: None,
             ended: &[
                 Ended {
-                    root: R12,
+                    root: ROOT_1_2,
                     start: 3,
                     finish: 6,
                     how: How::TimedOut,
                 },
                 Ended {
-                    root: R22,
+                    root: ROOT_2_2,
                     start: 3,
                     finish: 6,
                     how: How::TimedOut,
@@ -296,9 +296,9 @@ fn attempts_run_out_at_a_tick(rt: HostRuntime) -> Result<(), Mismatch> {
 fn verdicts_of_other_roots_change_nothing(rt: HostRuntime) -> Result<(), Mismatch> {
     let steps = [
         FIRST,
-        begins(Told::Closed(R21), &[]),
-        begins(Told::Fails(R21), &[]),
-        begins(Told::Fails(R31), &[]),
+        begins(Told::Closed(ROOT_2_1), &[]),
+        begins(Told::Fails(ROOT_2_1), &[]),
+        begins(Told::Fails(ROOT_3_1), &[]),
     ];
     check_steps(rt.alloc(), TWO_PENDING, 3, &steps, 0)
 }
