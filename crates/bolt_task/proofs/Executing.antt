@@ -20,7 +20,7 @@ use Rattle.tree_model.specs.declared.messages.AckMsg.TheVariants.{Done, Failed}
 use Rattle.tree_model.specs.declared.messages.Parcel.{Parcel}
 use Rattle.tree_model.specs.declared.messages.Tuple.{Tuple}
 use Rattle.tree_model.specs.Trees.{Node, exec_by, exec_at, kids, kids_of, rows_by, write_of}
-use Rattle.tuple_runs.specs.Issued.{Run, children_of, course_of_run, draw_from, edges_of, node_of, notes_by, tuples_from}
+use Rattle.tuple_account.specs.Issued.{Run, children_of, course_of_run, draw_from, edges_of, node_of, notes_by, tuples_from}
 use Rattle.tuple_account.specs.Histories.{Execution, GoTo, IsExecution, execution_parcels, to_acker, to_tasks}
 use Rattle.output_collector.specs.Outlets.{HasItsLanes, Outlet, tasks_for, tuples_for}
 use Rattle.output_collector.proofs.Lanes.{at_place}

@@ -13,7 +13,7 @@ use Rattle.tree_model.specs.declared.messages.Parcel.{Parcel}
 use Rattle.tree_model.specs.declared.messages.Tuple.{Tuple}
 use Rattle.tree_model.specs.declared.write.Write.{Write}
 use Rattle.tree_model.specs.Trees.{exec_at, kids}
-use Rattle.tuple_runs.specs.Issued.{draw_from, edges_of, node_of}
+use Rattle.tuple_account.specs.Issued.{draw_from, edges_of, node_of}
 use Rattle.tuple_account.specs.Histories.{Execution, IsExecution, execution_parcels, to_acker}
 use Rattle.output_collector.specs.declared.collector.Collector.{Collector}
 use Rattle.output_collector.specs.Collectors.{outlet_of, ids_in, given_by}

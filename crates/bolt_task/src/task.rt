@@ -5,7 +5,7 @@ ghost use Rattle.topology_plan.specs.Valid.{IsValid};
 ghost use Rattle.topology_plan.specs.Wired.{IsWired};
 ghost use Rattle.tree_model.specs.declared.messages.AckMsg.TheVariants.{Failed};
 ghost use Rattle.tree_model.specs.Trees.{exec_at, write_of};
-ghost use Rattle.tuple_runs.specs.Issued.{node_of};
+ghost use Rattle.tuple_account.specs.Issued.{node_of};
 ghost use Rattle.tuple_account.specs.Histories.{acker_of, to_acker};
 ghost use Rattle.output_collector.specs.Collectors.{IsStarted};
 ghost use Rattle.bolt_task.specs.Places.{IsPlaced};

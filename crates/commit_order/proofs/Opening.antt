@@ -26,7 +26,7 @@ use Rattle.tree_model.specs.declared.messages.Parcel.TheVariants.{ToAcker}
 use Rattle.trident_batches.specs.Batches.{Cut}
 use Rattle.tuple_account.specs.Histories.{Opening, acker_of, opening_parcels, to_acker, to_tasks}
 use Rattle.tuple_account.specs.Places.{ids_of}
-use Rattle.tuple_runs.specs.Issued.{draw_from, edges_of, first_tuples, init_of, tuples_from}
+use Rattle.tuple_account.specs.Issued.{draw_from, edges_of, first_tuples, init_of, tuples_from}
 use Rattle.tuple_tickets.specs.declared.edge.Edge.{Edge}
 
 open-then : (cut : Cut) (source : ℕ) (a b c : Stand) (xs ys : List Opening) → OpenFrom cut source a xs b → OpenFrom cut source b ys c

@@ -35,7 +35,7 @@ use Rattle.tree_model.specs.declared.messages.Tuple.{Tuple}
 use Rattle.tree_model.specs.Trees.{Node, kids, kids_of}
 use Rattle.trident_batches.specs.Batches.{Cut}
 use Rattle.tuple_account.specs.Histories.{Execution, GoTo, IsExecution, IsOpening, Opening, execution_parcels, opening_parcels, to_acker, to_tasks}
-use Rattle.tuple_runs.specs.Issued.{children_of, course_of_run, first_tuples, init_of, node_of, notes_of, tuples_from}
+use Rattle.tuple_account.specs.Issued.{children_of, course_of_run, first_tuples, init_of, node_of, notes_of, tuples_from}
 use Rattle.tuple_tickets.specs.Tickets.{made_by}
 use Rattle.tuple_tickets.specs.Trees.{Course, goes, fails, mute}
 

@@ -15,7 +15,7 @@ use Rattle.tuple_account.specs.Histories.{IsOpening, Opening, opening_parcels, o
 use Rattle.tuple_account.specs.Moves.{AreRows}
 use Rattle.tuple_account.specs.Places.{HasWords, spans}
 use Rattle.tuple_account.proofs.Placing.{spans-more}
-use Rattle.tuple_runs.specs.Issued.{edges_of, first_tuples}
+use Rattle.tuple_account.specs.Issued.{edges_of, first_tuples}
 
 -- ---- words
 

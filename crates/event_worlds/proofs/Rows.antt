@@ -38,7 +38,7 @@ use Rattle.tree_model.specs.Courses.{course_by, course_of}
 use Rattle.tree_model.specs.Trees.{Node, copies_at, exec_by, kids, kids_by, kids_of, rows_by}
 use Rattle.trident_batches.specs.Batches.{Cut}
 use Rattle.tuple_account.specs.Histories.{GoTo}
-use Rattle.tuple_runs.specs.Issued.{tuples_from}
+use Rattle.tuple_account.specs.Issued.{tuples_from}
 use Rattle.tuple_tickets.specs.Tickets.{made_by}
 use Rattle.tuple_tickets.specs.Trees.{mute}
 

@@ -27,7 +27,7 @@ use Rattle.tuple_account.specs.Moves.{Moves, beside}
 use Rattle.tuple_account.specs.Parts.{executing, holding}
 use Rattle.tuple_account.specs.Places.{before, spans}
 use Rattle.tuple_account.proofs.Moving.{drawn-both}
-use Rattle.tuple_runs.specs.Issued.{Run, children_of, course_of_run, edges_of, node_of, notes_by}
+use Rattle.tuple_account.specs.Issued.{Run, children_of, course_of_run, edges_of, node_of, notes_by}
 use Rattle.tuple_tickets.specs.Trees.{Course, fails, goes, mute}
 use Rattle.std.specs.Option.{option_to_list}
 

@@ -33,7 +33,7 @@ use Rattle.tree_model.specs.declared.messages.Parcel.{Parcel}
 use Rattle.tree_model.specs.declared.messages.Parcel.TheVariants.{ToTask, ToAcker}
 use Rattle.tree_model.specs.declared.messages.Tuple.{Tuple}
 use Rattle.trident_batches.specs.Batches.{Cut}
-use Rattle.tuple_runs.specs.Issued.{node_of}
+use Rattle.tuple_account.specs.Issued.{node_of}
 use Rattle.tuple_tickets.specs.Tickets.{made_by}
 use Rattle.tuple_account.specs.Histories.{Execution, Opening, execution_parcels, opening_parcels}
 

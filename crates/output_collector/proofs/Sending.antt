@@ -12,7 +12,7 @@ use Rattle.tree_model.specs.declared.messages.Parcel.{Parcel}
 use Rattle.tree_model.specs.declared.messages.Parcel.TheVariants.{ToTask}
 use Rattle.tree_model.specs.declared.messages.Tuple.{Tuple}
 use Rattle.tree_model.specs.Trees.{Node}
-use Rattle.tuple_runs.specs.Issued.{tuples_from, edges_of}
+use Rattle.tuple_account.specs.Issued.{tuples_from, edges_of}
 use Rattle.tuple_account.specs.Histories.{to_tasks}
 use Rattle.tuple_account.specs.Places.{ids_of}
 use Rattle.tuple_account.proofs.Drawing.{ids_are, as_many_edges}

@@ -19,7 +19,7 @@ use Rattle.groupings.specs.Allowed.{IsLane, IsAllowed, told}
 use Rattle.groupings.specs.Routing.{first_task_of, moved, targets}
 use Rattle.groupings.proofs.Choices.{targets_allowed}
 use Rattle.tree_model.specs.Trees.{Node, kids, kids_by, copies_at}
-use Rattle.tuple_runs.specs.Issued.{tuples_from}
+use Rattle.tuple_account.specs.Issued.{tuples_from}
 use Rattle.tuple_account.specs.Histories.{IsTaskOf, GoTo}
 use Rattle.output_collector.specs.Outlets.{IsLaneOf, AreLanesOf, tasks_for_row, tasks_for}
 use Rattle.output_collector.proofs.Lanes.{length-told, AreLanesOf-moved, All-moved}

@@ -14,7 +14,7 @@ use Rattle.groupings.specs.Routing.{first_task_of, moved, targets}
 use Rattle.tree_model.specs.declared.messages.Parcel.{Parcel}
 use Rattle.tree_model.specs.declared.messages.Tuple.{Tuple}
 use Rattle.tree_model.specs.Trees.{kids}
-use Rattle.tuple_runs.specs.Issued.{tuples_from}
+use Rattle.tuple_account.specs.Issued.{tuples_from}
 use Rattle.tuple_account.specs.Histories.{to_tasks}
 
 -- a source of a topology, with the lanes of its subscriptions

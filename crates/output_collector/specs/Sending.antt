@@ -11,7 +11,7 @@ use Rattle.groupings.specs.Routing.{targets}
 use Rattle.tuple_tickets.specs.declared.edge.Edge.{Edge}
 use Rattle.tree_model.specs.declared.messages.Parcel.{Parcel}
 use Rattle.tree_model.specs.Trees.{Node}
-use Rattle.tuple_runs.specs.Issued.{tuples_from, edges_of}
+use Rattle.tuple_account.specs.Issued.{tuples_from, edges_of}
 use Rattle.tuple_account.specs.Histories.{to_tasks}
 use Rattle.output_collector.specs.declared.collector.Collector.{Collector}
 use Rattle.output_collector.specs.declared.outlet.Route.{Route}

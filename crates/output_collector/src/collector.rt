@@ -6,7 +6,7 @@ ghost use Rattle.groupings.specs.Routing.{moved};
 ghost use Rattle.topology_plan.specs.Valid.{IsValid};
 ghost use Rattle.topology_plan.specs.Wired.{IsWired};
 ghost use Rattle.tree_model.specs.Trees.{kids, kids_by};
-ghost use Rattle.tuple_runs.specs.Issued.{draw_from, edges_of};
+ghost use Rattle.tuple_account.specs.Issued.{draw_from, edges_of};
 ghost use Rattle.tuple_account.specs.Places.{ids_of};
 ghost use Rattle.output_collector.specs.Collectors.{outlet_of, ids_in, source_of, given_by, IsStarted};
 ghost use Rattle.output_collector.specs.Draws.{Draws, given_after};

@@ -8,7 +8,7 @@ ghost use Rattle.topology_plan.specs.Wired.{IsWired};
 ghost use Rattle.groupings.specs.declared.lane.Lane.{Lane};
 ghost use Rattle.groupings.specs.Allowed.{IsLane};
 ghost use Rattle.tree_model.specs.Trees.{kids};
-ghost use Rattle.tuple_runs.specs.Issued.{tuples_from};
+ghost use Rattle.tuple_account.specs.Issued.{tuples_from};
 ghost use Rattle.tuple_account.specs.Histories.{GoTo};
 ghost use Rattle.output_collector.specs.Outlets.{AreLanesOf, lanes_after, tasks_for};
 

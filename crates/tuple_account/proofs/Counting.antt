@@ -15,9 +15,9 @@ use Rattle.tuple_tickets.specs.Trees.{Course, goes, fails, mute}
 use Rattle.tuple_tickets.proofs.Roots.{same_root, root_itself}
 use Rattle.tree_model.specs.declared.messages.Tuple.{Tuple}
 use Rattle.tree_model.specs.Trees.{Node, kids, kids_of, nodes_of, node_count}
-use Rattle.tuple_runs.specs.Accounts.{is_of}
-use Rattle.tuple_runs.specs.Accounts as tuples
-use Rattle.tuple_runs.specs.Issued.{node_of, tuples_from, first_tuples, course_of_run, children_of}
+use Rattle.tuple_account.specs.Accounts.{is_of}
+use Rattle.tuple_account.specs.Accounts as tuples
+use Rattle.tuple_account.specs.Issued.{node_of, tuples_from, first_tuples, course_of_run, children_of}
 use Rattle.tuple_account.specs.Drawn.{started}
 use Rattle.tuple_account.specs.Histories.{Start, Opening, Execution, History, IsOpening, IsExecution, start_spans, opening_spans, execution_spans, drawn_in, rows_in}
 use Rattle.tuple_account.specs.Moves.{Station, Reached, account_of}

@@ -16,10 +16,10 @@ use Rattle.tree_model.specs.declared.messages.AckMsg.{AckMsg}
 use Rattle.tree_model.specs.declared.messages.AckMsg.TheVariants as msg
 use Rattle.tree_model.specs.declared.messages.Tuple.{Tuple}
 use Rattle.tree_model.specs.Trees.{Node, kids, kids_of}
-use Rattle.tuple_runs.specs.Accounts.{IsNode, issued_notes}
-use Rattle.tuple_runs.specs.Issued.{Begun, Run, node_of, tuples_from, edges_of, first_tuples, init_of, course_of_run, children_of, notes_by, notes_of}
-use Rattle.tuple_runs.proofs.Codes.{msg_code}
-use Rattle.tuple_runs.proofs.Sound as sound
+use Rattle.tuple_account.specs.Accounts.{IsNode, issued_notes}
+use Rattle.tuple_account.specs.Issued.{Begun, Run, node_of, tuples_from, edges_of, first_tuples, init_of, course_of_run, children_of, notes_by, notes_of}
+use Rattle.tuple_account.proofs.Codes.{msg_code}
+use Rattle.tuple_account.proofs.Sound as sound
 use Rattle.tuple_account.specs.Drawn.{IsDrawn, IsBelow, AreDrawn}
 use Rattle.tuple_account.specs.Histories.{Opening, Execution, Receipt, Told, History, IsTaskOf, IsOpening, IsExecution, opening_spans, execution_spans, drawn_in}
 use Rattle.tuple_account.specs.Moves.{Station, Reached, AreRows, HasDrawn, account_of}

@@ -1,3 +1,6 @@
+pub mod Codes
+pub mod Tickets
+pub mod Sound
 pub mod Moving
 pub mod Entering
 pub mod Stretching

@@ -12,9 +12,9 @@ use Rattle.tuple_tickets.specs.Roots.{root_eq}
 use Rattle.tuple_tickets.proofs.Roots.{same_root, root_itself}
 use Rattle.tree_model.specs.declared.messages.AckMsg.{AckMsg}
 use Rattle.tree_model.specs.Lists.{root_of}
-use Rattle.tuple_runs.specs.Accounts.{notes_about, issued_notes}
-use Rattle.tuple_runs.proofs.Reading.{weigh-notes_about}
-use Rattle.tuple_runs.proofs.Sound.{are_true, are_single, are_steady}
+use Rattle.tuple_account.specs.Accounts.{notes_about, issued_notes}
+use Rattle.tuple_account.proofs.Tickets.{weigh-notes_about}
+use Rattle.tuple_account.proofs.Sound.{are_true, are_single, are_steady}
 use Rattle.tuple_account.specs.Histories.{Receipt, Told, History, met_in, told_in, dropped_in}
 use Rattle.tuple_account.specs.Moves.{Station, Reached, AreRows, account_of}
 use Rattle.tuple_account.specs.Sound.{IsSound}

@@ -18,10 +18,10 @@ use Rattle.tree_model.specs.declared.messages.AckMsg.{AckMsg}
 use Rattle.tree_model.specs.declared.messages.Parcel.TheVariants.{ToAcker}
 use Rattle.tree_model.specs.declared.messages.Tuple.{Tuple}
 use Rattle.tree_model.specs.Trees.{kids_of, node_count}
-use Rattle.tuple_runs.specs.Accounts.{is_begun, is_of, is_at, issued_notes, IsBegun, IsRun, IsAccount, IsNode}
-use Rattle.tuple_runs.specs.Accounts as tuples
-use Rattle.tuple_runs.specs.Issued.{Begun, Run, node_of, first_tuples, init_of, course_of_run, children_of, notes_of}
-use Rattle.tuple_runs.proofs.Sound as sound
+use Rattle.tuple_account.specs.Accounts.{is_begun, is_of, is_at, issued_notes, IsBegun, IsRun, IsAccount, IsNode}
+use Rattle.tuple_account.specs.Accounts as tuples
+use Rattle.tuple_account.specs.Issued.{Begun, Run, node_of, first_tuples, init_of, course_of_run, children_of, notes_of}
+use Rattle.tuple_account.proofs.Sound as sound
 use Rattle.tuple_account.specs.Histories.{Packet, of_parcel, of_verdict, Opening, Execution, Receipt, Told, History, IsOpening, IsExecution, weigh_parcels, opening_parcels, execution_parcels, on_tuple, taken, issued, opens, rows_in, met_in, told_in, dropped_in}
 use Rattle.tuple_account.specs.Moves.{Station, Reached, AreRows, account_of}
 use Rattle.tuple_account.proofs.Sending.{on_message, opening_tuples, execution_tuples, issued_messages}

@@ -18,8 +18,8 @@ use Rattle.tree_model.specs.declared.messages.AckMsg.{AckMsg}
 use Rattle.tree_model.specs.declared.messages.Parcel.{Parcel}
 use Rattle.tree_model.specs.declared.messages.Parcel.TheVariants.{ToTask, ToAcker}
 use Rattle.tree_model.specs.declared.messages.Tuple.{Tuple}
-use Rattle.tuple_runs.specs.Issued.{first_tuples, init_of, children_of, notes_of}
-use Rattle.tuple_runs.proofs.Codes.{value_code, msg_code}
+use Rattle.tuple_account.specs.Issued.{first_tuples, init_of, children_of, notes_of}
+use Rattle.tuple_account.proofs.Codes.{value_code, msg_code}
 use Rattle.tuple_account.specs.Histories.{Packet, of_parcel, of_verdict, Opening, Execution, Told, History, GoTo, IsOpening, IsExecution, to_tasks, to_acker, weigh_parcels, opening_parcels, execution_parcels, taken, issued}
 use Rattle.tuple_account.specs.Moves.{Station, Reached}
 use Rattle.tuple_account.specs.Sound.{IsRouted}

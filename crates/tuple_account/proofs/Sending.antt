@@ -9,7 +9,7 @@ use Rattle.tree_model.specs.declared.messages.AckMsg.{AckMsg}
 use Rattle.tree_model.specs.declared.messages.Parcel.{Parcel}
 use Rattle.tree_model.specs.declared.messages.Parcel.TheVariants.{ToTask, ToAcker}
 use Rattle.tree_model.specs.declared.messages.Tuple.{Tuple}
-use Rattle.tuple_runs.specs.Issued.{first_tuples, init_of, children_of, notes_of}
+use Rattle.tuple_account.specs.Issued.{first_tuples, init_of, children_of, notes_of}
 use Rattle.tuple_account.specs.Histories.{Packet, of_parcel, of_verdict, Opening, Execution, Told, History, GoTo, to_tasks, to_acker, weigh_parcels, opening_parcels, execution_parcels, on_tuple, issued}
 
 abbrev pub on_message : (AckMsg → ℕ) → Packet → ℕ

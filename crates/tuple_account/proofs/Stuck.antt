@@ -19,10 +19,10 @@ use Rattle.tree_model.specs.declared.messages.AckMsg.{AckMsg}
 use Rattle.tree_model.specs.declared.messages.AckMsg.TheVariants as msg
 use Rattle.tree_model.specs.Lists.{is_init, is_failed, word, IsClosed}
 use Rattle.tree_model.proofs.ListLaws.{open_edges, word_open, closed_empty, covering_closed}
-use Rattle.tuple_runs.specs.Accounts.{is_begun, notes_about, issued_notes}
-use Rattle.tuple_runs.specs.Issued.{Run, init_of, course_of_run}
-use Rattle.tuple_runs.proofs.Reading.{weigh-notes_about}
-use Rattle.tuple_runs.proofs.Sound as sound
+use Rattle.tuple_account.specs.Accounts.{is_begun, notes_about, issued_notes}
+use Rattle.tuple_account.specs.Issued.{Run, init_of, course_of_run}
+use Rattle.tuple_account.proofs.Tickets.{weigh-notes_about}
+use Rattle.tuple_account.proofs.Sound as sound
 use Rattle.tuple_account.specs.Histories.{Opening, Execution, Receipt, Told, History, opens, rows_in, told_in, dropped_in, on_tuple}
 use Rattle.tuple_account.specs.Moves.{Station, Reached, account_of}
 use Rattle.tuple_account.specs.Parts.{weigh_entries}

@@ -18,8 +18,8 @@ use Rattle.tuple_tickets.specs.Trees.{Course, goes, fails, mute}
 use Rattle.tree_model.specs.declared.messages.AckMsg.{AckMsg}
 use Rattle.tree_model.specs.declared.messages.AckMsg.TheVariants as msg
 use Rattle.tree_model.specs.Lists.{is_init, word, AreTrueOf, IsComplete}
-use Rattle.tuple_runs.specs.Accounts.{issued_notes}
-use Rattle.tuple_runs.specs.Issued.{Run, init_of, course_of_run, notes_by, notes_of}
+use Rattle.tuple_account.specs.Accounts.{issued_notes}
+use Rattle.tuple_account.specs.Issued.{Run, init_of, course_of_run, notes_by, notes_of}
 use Rattle.tuple_account.specs.Histories.{opens, Opening, Execution, Told, History, IsTold}
 use Rattle.tuple_account.specs.Moves.{Station, Reached, AreRows, account_of}
 use Rattle.tuple_account.specs.Sound.{IsSound, FailsAt, IsCaused, is_about, tells}

@@ -17,7 +17,7 @@ use Rattle.tree_model.specs.declared.messages.Parcel.TheVariants.{ToTask, ToAcke
 use Rattle.tree_model.specs.declared.messages.Tuple.{Tuple}
 use Rattle.tree_model.specs.Lists.{root_of}
 use Rattle.tree_model.specs.Trees.{kids, kids_of}
-use Rattle.tuple_runs.specs.Issued.{Begun, Run, node_of, first_tuples, init_of, course_of_run, children_of, notes_of}
+use Rattle.tuple_account.specs.Issued.{Begun, Run, node_of, first_tuples, init_of, course_of_run, children_of, notes_of}
 use Rattle.tuple_account.specs.Places.{spans}
 
 -- what stands in a box or an outbox: a parcel, with the box that it is for, or a

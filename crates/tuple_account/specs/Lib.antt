@@ -1,3 +1,5 @@
+pub mod Issued
+pub mod Accounts
 pub mod Places
 pub mod Histories
 pub mod Moves

@@ -9,7 +9,7 @@ use Rattle.storm_values.specs.declared.value.Root.{Root}
 use Rattle.storm_values.specs.declared.value.Value.{Value}
 use Rattle.topology_plan.specs.Topology.{Topology}
 use Rattle.tree_model.specs.declared.messages.AckMsg.{AckMsg}
-use Rattle.tuple_runs.specs.Accounts.{Account}
+use Rattle.tuple_account.specs.Accounts.{Account}
 use Rattle.tuple_account.specs.Histories.{Packet, Opening, Execution, History, IsOpening, IsExecution, IsTold, opens, on_tuple, issued, taken, met_in, told_in, dropped_in, drawn_in}
 use Rattle.tuple_account.specs.Places.{HasWords}
 

@@ -10,7 +10,7 @@ use Rattle.topology_plan.specs.Topology.{Topology}
 use Rattle.tuple_tickets.specs.Roots.{root_eq}
 use Rattle.tuple_tickets.specs.Trees.{mute}
 use Rattle.tree_model.specs.declared.messages.AckMsg.{AckMsg}
-use Rattle.tuple_runs.specs.Issued.{course_of_run}
+use Rattle.tuple_account.specs.Issued.{course_of_run}
 use Rattle.tuple_account.specs.Histories.{Packet, Execution, History}
 use Rattle.tuple_account.specs.Moves.{Station}
 use Rattle.tuple_account.specs.Parts.{weigh_entries}

@@ -28,9 +28,9 @@ use Rattle.tuple_account.specs.Sound.{tells}
 use Rattle.tuple_account.proofs.Reading.{few, messages_weight, notes_are, packets, tuples_weight}
 use Rattle.tuple_account.proofs.Sending.{issued_verdicts, on_message, on_verdict}
 use Rattle.tuple_account.proofs.Telling.{told_begun}
-use Rattle.tuple_runs.specs.Accounts.{is_of, issued_notes}
-use Rattle.tuple_runs.specs.Accounts as tuples
-use Rattle.tuple_runs.specs.Issued.{Run, course_of_run, notes_by, notes_of}
+use Rattle.tuple_account.specs.Accounts.{is_of, issued_notes}
+use Rattle.tuple_account.specs.Accounts as tuples
+use Rattle.tuple_account.specs.Issued.{Run, course_of_run, notes_by, notes_of}
 use Rattle.tuple_tickets.specs.Roots.{root_eq}
 use Rattle.tuple_tickets.specs.Trees.{Course, fails, goes, mute}
 use Rattle.tuple_tickets.proofs.Roots.{root_itself}

@@ -43,9 +43,9 @@ use Rattle.tuple_account.specs.Stuck.{IsStuck, holds}
 use Rattle.tuple_account.proofs.Reading.{few, packets, rows_are_found, tuples_weight}
 use Rattle.tuple_account.proofs.Routing as routing
 use Rattle.tuple_account.proofs.Settling as settling
-use Rattle.tuple_runs.specs.Accounts.{is_of}
-use Rattle.tuple_runs.specs.Accounts as tuples
-use Rattle.tuple_runs.specs.Issued.{course_of_run}
+use Rattle.tuple_account.specs.Accounts.{is_of}
+use Rattle.tuple_account.specs.Accounts as tuples
+use Rattle.tuple_account.specs.Issued.{course_of_run}
 use Rattle.tuple_tickets.specs.Roots.{root_eq}
 use Rattle.tuple_tickets.specs.Trees.{fails, goes, mute}
 use Rattle.tuple_tickets.proofs.Roots.{root_itself, same_root}

@@ -11,8 +11,8 @@ ghost use Rattle.tree_model.specs.declared.messages.AckMsg.{AckMsg};
 ghost use Rattle.tree_model.specs.declared.messages.Tuple.{Tuple};
 ghost use Rattle.tree_model.specs.Lists.{is_failed, AreTrueOf, IsSingle, IsSteady, Covers};
 ghost use Rattle.tree_model.specs.Trees.{node_count};
-ghost use Rattle.tuple_runs.specs.Accounts.{Account, is_begun, is_of, is_at, issued, issued_notes, notes_about, IsAccount, IsNode};
-ghost use Rattle.tuple_runs.specs.Issued.{Run, course_of_run};
+ghost use Rattle.tuple_account.specs.Accounts.{Account, is_begun, is_of, is_at, issued, issued_notes, notes_about, IsAccount, IsNode};
+ghost use Rattle.tuple_account.specs.Issued.{Run, course_of_run};
 
 /// A law: where each issued tuple was executed or waits, a root and a path have one tuple at most,
 /// and each tuple has the node of its path.

@@ -1,5 +1,5 @@
-use Rattle.tuple_runs.proofs.Sound.{once, nodes}
-use Rattle.tuple_runs.proofs.laws.tuples_grow_along_trees.Goals as goal
+use Rattle.tuple_account.proofs.Sound.{once, nodes}
+use Rattle.tuple_account.proofs.issued.tuples_grow_along_trees.Goals as goal
 
 pub returns-clause-once : goal.returns-clause-once
 returns-clause-once c = once

@@ -14,7 +14,7 @@ use Rattle.tree_model.specs.declared.messages.AckMsg.{AckMsg}
 use Rattle.tree_model.specs.declared.messages.Tuple.{Tuple}
 use Rattle.tree_model.specs.Lists.{root_of}
 use Rattle.tree_model.specs.Trees.{kids, kids_of, node_at}
-use Rattle.tuple_runs.specs.Issued.{Begun, Run, node_of, first_tuples, init_of, course_of_run, children_of, notes_of}
+use Rattle.tuple_account.specs.Issued.{Begun, Run, node_of, first_tuples, init_of, course_of_run, children_of, notes_of}
 
 -- The roots that were begun, the tuples that were executed, and a weight of those that wait.
 pub record Account : Type 0 where

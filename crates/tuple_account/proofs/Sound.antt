@@ -30,10 +30,10 @@ use Rattle.tree_model.specs.Lists.{root_of, said, is_failed, IsTrueOf, AreTrueOf
 use Rattle.tree_model.specs.Trees.{Node, kids, kids_of, node_count}
 use Rattle.tree_model.proofs.Reading.{read_at, inits_said, failures_said, consumed_said, single_read, steady_read}
 use Rattle.tree_model.proofs.TreePaths.{paths, paths_are, as_many_paths}
-use Rattle.tuple_runs.specs.Accounts.{Account, is_begun, is_of, is_at, notes_about, issued, issued_notes, IsBegun, IsRun, IsAccount, IsNode}
-use Rattle.tuple_runs.specs.Issued.{Begun, Run, node_of, tuples_from, edges_of, init_of, course_of_run, notes_by, notes_of}
-use Rattle.tuple_runs.proofs.Codes.{node_code, msg_code}
-use Rattle.tuple_runs.proofs.Reading.{ticket_of, begun_read, run_read, account_read, tuples_read, edges_read, grows, issued_read, within_read, has_all_read, account_is}
+use Rattle.tuple_account.specs.Accounts.{Account, is_begun, is_of, is_at, notes_about, issued, issued_notes, IsBegun, IsRun, IsAccount, IsNode}
+use Rattle.tuple_account.specs.Issued.{Begun, Run, node_of, tuples_from, edges_of, init_of, course_of_run, notes_by, notes_of}
+use Rattle.tuple_account.proofs.Codes.{node_code, msg_code}
+use Rattle.tuple_account.proofs.Tickets.{ticket_of, begun_read, run_read, account_read, tuples_read, edges_read, grows, issued_read, within_read, has_all_read, account_is}
 
 -- what each note has, each note of the root has
 each_about : (P : AckMsg → Type 0) (r : Root) (ms : List AckMsg) → AllByRecursion P ms → AllByRecursion (λ m. (root_of m ≡ r) × P m) (notes_about r ms)

@@ -24,8 +24,8 @@ use Rattle.tree_model.specs.declared.messages.Tuple.{Tuple}
 use Rattle.tree_model.specs.Courses.{growth_of}
 use Rattle.tree_model.specs.Lists.{root_of, said}
 use Rattle.tree_model.specs.Trees.{Node, kids, kids_of}
-use Rattle.tuple_runs.specs.Accounts.{Account, notes_about, issued, issued_notes, IsBegun, IsAccount}
-use Rattle.tuple_runs.specs.Issued.{Begun, Run, node_of, tuples_from, edges_of, first_tuples, init_of, course_of_run, children_of, notes_by, notes_of}
+use Rattle.tuple_account.specs.Accounts.{Account, notes_about, issued, issued_notes, IsBegun, IsAccount}
+use Rattle.tuple_account.specs.Issued.{Begun, Run, node_of, tuples_from, edges_of, first_tuples, init_of, course_of_run, children_of, notes_by, notes_of}
 
 abbrev pub ticket_of : Tuple → Ticket Node
 ticket_of tuple = record { root = tuple.root; edge = tuple.edge; node = node_of tuple }

@@ -1,5 +1,5 @@
-use Rattle.tuple_runs.proofs.Sound.{are_true, are_single, are_steady}
-use Rattle.tuple_runs.proofs.laws.issued_lists_are_sound.Goals as goal
+use Rattle.tuple_account.proofs.Sound.{are_true, are_single, are_steady}
+use Rattle.tuple_account.proofs.issued.issued_lists_are_sound.Goals as goal
 
 pub returns-clause-are_true : goal.returns-clause-are_true
 returns-clause-are_true c = are_true
