@@ -4,6 +4,9 @@ use sample_topologies::{
     COPIES_TO_ALL, COUNTED_SENTENCES, FAILS_ALWAYS, FAILS_TWICE, LAST_VALUE, MUTE_ALWAYS,
     MUTE_ONCE, SENTENCES, SIDE_BY_SIDE, SMALL_WORD_COUNT, STEADY, TURNED, WORD_COUNT,
 };
+use std::alloc::Global;
+use std::sync::Wait;
+use std::thread::Threads;
 use storm_ids::ChaChaMaker;
 use storm_program::{Fates, Status, storm_replay};
 use storm_stores::MemMaker;
@@ -321,9 +324,27 @@ fn ids_coincide(rt: HostRuntime) -> Result<(), Mismatch> {
 
 // ---- beside `plain`
 
+// Replays a schedule that commits every batch, and compares the tables with those of `plain`.
+fn check_beside_plain<R: Threads + Wait + Sync>(
+    rt: &R,
+    alloc: Global,
+    topology: &str,
+    input: &str,
+    schedule: &str,
+    outside: Outside<'_>,
+) -> Result<(), Mismatch> {
+    let plain = call(rt, alloc, plain_of(topology, input), CALM)?;
+    let scene = replay_of(topology, input, schedule);
+    check_tables(rt, alloc, scene, outside, plain.text.as_str())
+}
+
 // Topologies, inputs and schedules that commit every batch.
-const WHOLE: [(&str, &str, &str); 5] = [
+const WHOLE: [(&str, &str, &str); 9] = [
     (WORD_COUNT, SENTENCES, "rounds 1000"),
+    (WORD_COUNT, "[\"\"]", "rounds 1000"),
+    (COPIES_TO_ALL, "[\"a b\"]", "rounds 1000"),
+    (SIDE_BY_SIDE, "[\"a\"]\n[\"b\"]\n", "rounds 1000"),
+    (SMALL_WORD_COUNT, "[\"x y\"]", "rounds 200"),
     (LAST_VALUE, "[\"x\",1]\n[\"x\",2]\n", SECOND_FIRST),
     (FAILS_TWICE, RECORD, "rounds 200"),
     (MUTE_ALWAYS, "", ""),
@@ -336,13 +357,27 @@ const WHOLE: [(&str, &str, &str); 5] = [
 
 #[test]
 fn tables_are_the_plain_ones(rt: HostRuntime) -> Result<(), Mismatch> {
-    let alloc = rt.alloc();
     for (topology, input, schedule) in WHOLE {
-        let plain = call(&rt, alloc, plain_of(topology, input), CALM)?;
-        let scene = replay_of(topology, input, schedule);
-        check_tables(&rt, alloc, scene, CALM, plain.text.as_str())?;
+        check_beside_plain(&rt, rt.alloc(), topology, input, schedule, CALM)?;
     }
     Ok(())
+}
+
+#[test]
+fn tables_after_a_coincidence_are_the_plain_ones(rt: HostRuntime) -> Result<(), Mismatch> {
+    let outside = Outside {
+        words: Some(&TWO_OF_ONE_ID),
+        ..CALM
+    };
+    let input = "[\"x y\"]";
+    check_beside_plain(
+        &rt,
+        rt.alloc(),
+        SMALL_WORD_COUNT,
+        input,
+        ROOT_FIRST,
+        outside,
+    )
 }
 
 // ---- without words

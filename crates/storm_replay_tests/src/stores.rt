@@ -77,3 +77,28 @@ fn a_bad_cell_is_not_met_without_a_commit(rt: HostRuntime) -> Result<(), Mismatc
     let scene = replay_of(STEADY, RECORD, "rounds 3");
     check_refusal(&rt, rt.alloc(), scene, outside, 8, "unfinished 0\n")
 }
+
+// A cell of the value 5, of no transaction of the run.
+const FIVE: [u8; 42] = [
+    1, 1, 0, 0, 0, 0, 0, 0, 0, 0, 0, 0, 0, 0, 0, 0, 0, 0, 0, 0, 0, 0, 0, 0, 0, 5, 0, 0, 0, 0, 0, 0,
+    0, 0, 0, 0, 0, 0, 0, 0, 0, 0,
+];
+
+const COMMITTED_BESIDE_FIVE: &str = "attempt 1.1 records 1-1 ticks 0-0 committed
+cell counts [\"a\"] 1
+cell counts [\"b\"] 5
+ok 1 records 1 batches
+";
+
+// The key stands in no record, so the tables are not those of `plain`.
+const BESIDE: [Cell; 1] = [(1, 0, "[\"b\"]", &FIVE)];
+
+#[test]
+fn a_cell_of_another_key_stays(rt: HostRuntime) -> Result<(), Mismatch> {
+    let outside = Outside {
+        cells: &BESIDE,
+        ..CALM
+    };
+    let scene = replay_of(STEADY, RECORD, "rounds 200");
+    check_faults(&rt, rt.alloc(), scene, outside, 0, 0, COMMITTED_BESIDE_FIVE)
+}
