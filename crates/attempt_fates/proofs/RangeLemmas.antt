@@ -3,17 +3,6 @@ use Rattle.std.proofs.Common.{◌≡◌, ℕ, ◌+◌, ◌<◌, ◌≤◌, zero,
 use Rattle.std.specs.List.{range_with_len, list_any}
 use Rattle.std.proofs.lemmas.Bool.Decides.{nat_tests}
 
--- a range is a front of it and the rest
-pub range-append : (a m k : ℕ) → range_with_len a m ++ range_with_len (a + m) k ≡ range_with_len a (m + k)
-range-append a zero k =
-    let none : 0 + k ≡ k = omega arith in
-    let same : a + 0 ≡ a = omega arith in
-    rw (none, same) refl
-range-append a (suc m) k =
-    let next : suc m + k ≡ suc (m + k) = omega arith in
-    let start : a + suc m ≡ a + 1 + m = omega arith in
-    rw (next, start) (ap (λ numbers. a ∷ numbers) (range-append (a + 1) m k))
-
 -- two lists whose join is a range are ranges
 pub record AreParts (xs ys : List ℕ) (a m : ℕ) : Type 0 where
   pub first : xs ≡ range_with_len a (length xs)

@@ -8,7 +8,7 @@ use Rattle.attempt_fates.specs.declared.fates.Attempt.{Attempt}
 use Rattle.attempt_fates.specs.declared.fates.End.{End}
 use Rattle.commit_order.proofs.Places.{found, none_found, passes, true_false, first_of_two}
 use Rattle.commit_order.proofs.Steps.{office_by}
-use Rattle.commit_order.specs.Offices.{AddsSome, GoesOn, IsBatch, IsFoundAt, IsInTime, Office, counted_by, is_settled_after, is_timed_of, try_of}
+use Rattle.commit_order.specs.Offices.{GoesOn, IsBatch, IsFoundAt, IsInTime, Office, counted_by, is_settled_after, is_timed_of, try_of}
 use Rattle.commit_turns.specs.Desks.{Desk, ended_at, has_txid, is_timed, still, timed_of, without}
 use Rattle.commit_turns.specs.Turns.{decided, end_by, end_timed, free_txid, is_closed, next_by, next_root, next_to_commit}
 use Rattle.commit_turns.specs.declared.wait.Wait.{Wait}
@@ -94,9 +94,6 @@ on_err (Err e) p = p
 
 pub still_goes : (o : Office) (fates : List Attempt) → GoesOn (still o.desk) o o fates fates
 still_goes o fates = record { office = refl; fates = sym (append-nil fates) }
-
-pub adds_none : (ended fates : List Attempt) → AddsSome ended fates fates
-adds_none ended fates = record { done = []; rest = ended; are_first = refl; added = sym (append-nil fates) }
 
 -- ---- a timed attempt ends
 

@@ -30,9 +30,6 @@ none_some : {X : Type 0} (x : X) → None ≡ Some x → ⊥
 none_some x e = cc
 
 module _ (t : Topology) (cut : Cut) where
-  abbrev batches : ℕ
-  batches = batch_count (length cut.records) cut.size
-
   -- ---- filling goes on until no root begins
 
   full : (d : Desk) → t.pending ≤ length d.pending → next_root t cut d ≡ None

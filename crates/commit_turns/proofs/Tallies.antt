@@ -41,13 +41,6 @@ own-few txid other = by (other == txid)
 pub own-none : (txid other : ℕ) → own txid other ≡ 0 → other ≢ txid
 own-none txid other none same = absurd (omega (arith, own-itself txid other same))
 
-pub own-one : (txid other : ℕ) → 1 ≤ own txid other → other ≡ txid
-own-one txid other some = by (other == txid) refl
-  where
-    by : (b : Bool) → (other == txid) ≡ b → other ≡ txid
-    by true on = eqb-true other txid on
-    by false off = let none : own txid other ≡ 0 = ap (λ (b : Bool). cond {A = ℕ} b 1 0) off in absurd (omega arith)
-
 -- how many of the attempts are of a transaction
 abbrev pub tally : ℕ → List Wait → ℕ
 tally txid ws = weigh (λ (w : Wait). own txid w.root.txid) ws

@@ -1,26 +1,23 @@
 -- What the engine's events do, from what its parts do.
-use Rattle.std.proofs.Common.{◌≡◌, ◌<◌, ℕ, zero, suc, List, [], ◌∷◌, ◌++◌, length, map, append-nil, Option, None, Some, get_or, set, sym, refl, ap, subst, ◌∙◌, arith}
+use Rattle.std.proofs.Common.{◌≡◌, ◌<◌, ℕ, zero, suc, List, [], ◌∷◌, ◌++◌, length, map, append-nil, Option, None, Some, get_or, set, sym, refl, ap, subst, ◌∙◌}
 use Rattle.std.specs.Prelude.{slice_get}
 use Rattle.std.specs.List.{AllByRecursion}
-use Rattle.std.specs.Option.{option_to_list}
 use Rattle.std.proofs.lemmas.List.{length-map, length-set, map-set}
-use Rattle.acker_core.specs.declared.verdict.Verdict.{Verdict}
 use Rattle.bolt_ops.specs.RowOp.{Custom, IsCustom}
 use Rattle.commit_order.specs.Orders.{IsOwn, collector_of, cut_of, desk_of, plan_of, wanted_memory}
 use Rattle.commit_order.specs.declared.coordinator.Coordinator.{Coordinator}
 use Rattle.event_engine.specs.Engines.{Happens, IsReady, IsSeated, IsStill, IsThere, shape, sources}
-use Rattle.event_engine.specs.Seats.{Acts, ActsAt, AnswersAt, AreSeats, HasBuckets, Puts, TakesAt, acker_side, source_in, task_side}
+use Rattle.event_engine.specs.Seats.{Acts, ActsAt, AreSeats, HasBuckets, Puts, TakesAt, acker_side, source_in, task_side}
 use Rattle.event_engine.specs.declared.engine.Engine.{Engine}
 use Rattle.event_engine.specs.declared.task.TaskSeat.{TaskSeat}
 use Rattle.event_engine.proofs.SeatLemmas.{acts_of, fits_there, get-map, get-map_some, handed_fits, seat_at, seats_set, side-same, side-set, takes_of}
 use Rattle.event_worlds.specs.Orderly.{IsOrderly, IsTaskOrderly}
-use Rattle.event_worlds.specs.Worlds.{TaskSide, World, acker_step, acted, delivered, gets_tuple, no_task, sent, task_at, task_needs, task_step, tick_step}
+use Rattle.event_worlds.specs.Worlds.{TaskSide, acker_step, acted, gets_tuple, no_task, sent, task_at, task_needs, task_step, tick_step}
 use Rattle.event_worlds.proofs.Orderly.{orderly-acker, orderly-task, orderly-tick, task-seat}
 use Rattle.output_collector.specs.Collectors.{ids_in}
 use Rattle.storm_ids.specs.declared.ids.Ids.{Ghosts}
 use Rattle.topology_plan.specs.Topology.{Topology, tasks_in_all}
 use Rattle.tree_model.specs.declared.messages.Parcel.{Parcel}
-use Rattle.tree_model.specs.declared.messages.Parcel.TheVariants.{ToTask, ToAcker}
 use Rattle.tree_model.specs.declared.messages.Tuple.{Tuple}
 use Rattle.trident_batches.specs.Batches.{Cut}
 
@@ -37,10 +34,6 @@ set-front (z ∷ zs) ys zero x y is = refl
 set-front (z ∷ zs) ys (suc n) x y is = ap (λ ws. z ∷ ws) (set-front zs ys n x y is)
 
 -- ---- hand-overs
-
-delivered_fates : (t : Topology) (parcel : Parcel) (w : World) → (delivered t parcel w).fates ≡ w.fates
-delivered_fates t (ToTask n tuple) w = refl
-delivered_fates t (ToAcker n m) w = refl
 
 module _ {I : Type 0} {g : Ghosts I} where
   -- a tuple in a task's box
@@ -83,9 +76,6 @@ module _ {I : Type 0} {g : Ghosts I} (tells : I → (ℕ → ℕ) → ℕ → Ty
       let seat = task-seat t (shape e) ready.orderly n there in
       let side : task_at t n (shape e) ≡ task_side s = get-map task_side e.tasks.items n s (no_task t) at in
       takes_of t n s (seat_at t n e.tasks.items s ready.seated.tasks at) (subst (IsTaskOrderly t n) side seat.0)
-
-  pub task_within : (e : Engine I g) → IsOrderly t (shape e) → n < tasks_in_all t → n < length e.tasks.items
-  task_within e orderly there = let len = length-map e.tasks.items (task_side {I = I} {g = g}) in let count = orderly.task_count in omega arith
 
   -- the parcel that it hands over names what is there
   pub handed_there : (parcel : Parcel) (found : Option Parcel) (old : Engine I g) (tasks : List (TaskSeat I g)) → IsOrderly t (shape old) → n < tasks_in_all t → AreSeats t 0 old.tasks.items
@@ -135,17 +125,6 @@ module _ {I : Type 0} {g : Ghosts I} (tells : I → (ℕ → ℕ) → ℕ → Ty
       (subst (IsOrderly t) (sym done.same) (orderly-task t cut custom (shape old) ready.input keeps n there ready.orderly done.ids done.enough))
 
 -- ---- an acker's event
-
-module _ {I : Type 0} {g : Ghosts I} (t : Topology) (n : ℕ) where
-  pub acker_within : (e : Engine I g) → IsOrderly t (shape e) → n < t.ackers → n < length e.ackers.items
-  acker_within e orderly there = let len = length-map e.ackers.items acker_side in let count = orderly.acker_count in omega arith
-
-  pub acker_steps : (buckets : ℕ) (verdict : Option Verdict) (old new : Engine I g) → buckets ≡ t.buckets → AnswersAt buckets old.tick n verdict old.ackers.items new.ackers.items
-      → new.verdicts.items ≡ old.verdicts.items ++ option_to_list verdict → shape new ≡ record (shape old) { ackers = map acker_side new.ackers.items; verdicts = new.verdicts.items }
-      → shape new ≡ acker_step t n (shape old)
-  acker_steps buckets verdict old new own a verdicts is =
-      let at : AnswersAt t.buckets old.tick n verdict old.ackers.items new.ackers.items = subst (λ (b : ℕ). AnswersAt b old.tick n verdict old.ackers.items new.ackers.items) own a in
-      is ∙ (λ i. record (shape old) { ackers = at.sides i; verdicts = (verdicts ∙ ap (λ (v : Option Verdict). old.verdicts.items ++ option_to_list v) at.sent) i })
 
 module _ {I : Type 0} {g : Ghosts I} (t : Topology) (cut : Cut) (old new : Engine I g) where
   pub acker_ready : (n : ℕ) → IsReady t cut old → IsStill old new → IsSeated t cut new → shape new ≡ acker_step t n (shape old) → IsReady t cut new

@@ -30,10 +30,6 @@ use Rattle.topology_plan.specs.declared.parts.Origin.TheVariants as origin
 use Rattle.topology_plan.specs.Topology.{Topology, component_of, subs_of, tasks_in_all}
 use Rattle.trident_batches.specs.Batches.{Cut}
 
-pub one_more : {X : Type 0} (n : ℕ) (x : X) → replicate (n + 1) x ≡ replicate n x ++ x ∷ []
-one_more zero x = refl
-one_more (suc n) x = ap (λ (k : ℕ). replicate k x) (let e : suc n + 1 ≡ suc (n + 1) = omega arith in e) ∙ ap (λ xs. x ∷ xs) (one_more n x)
-
 pub from_push : {X : Type 0} (P : ℕ → X → Type 0) (k : ℕ) (xs : List X) (x : X) → AllFrom P k xs → P (k + length xs) x → AllFrom P k (xs ++ x ∷ [])
 from_push P k [] x all here = let e : k + 0 ≡ k = omega arith in (subst (λ (n : ℕ). P n x) e here, tt)
 from_push P k (y ∷ ys) x all here = let e : k + suc (length ys) ≡ suc k + length ys = omega arith in (all.0, from_push P (suc k) ys x all.1 (subst (λ (n : ℕ). P n x) e here))

@@ -18,16 +18,16 @@ use Rattle.commit_turns.specs.Kept.{IsKept}
 use Rattle.commit_turns.specs.declared.wait.Wait.{Wait}
 use Rattle.commit_turns.specs.Desks.{Desk, Progress}
 use Rattle.commit_turns.specs.Turns.{Turned, decided, is_finished, last_tick, next_to_commit, turned}
-use Rattle.event_engine.specs.Engines.{Answers, DrawsAt, Goes, Happens, HasOrdered, IsIdle, IsReady, IsSeated, IsStill, IsThere, TakesTurn, cut_in, has_ended, shape, sources, topology_in}
+use Rattle.event_engine.specs.Engines.{Answers, DrawsAt, Goes, Happens, HasOrdered, IsIdle, IsReady, IsSeated, IsStill, TakesTurn, cut_in, has_ended, shape, sources, topology_in}
 use Rattle.event_engine.specs.Seats.{AreSeats, HasBuckets, acker_side, source_in, task_side}
 use Rattle.event_engine.specs.declared.engine.Engine.{Engine}
 use Rattle.event_engine.proofs.EngineLemmas.{ready_still, seated_by}
 use Rattle.event_engine.proofs.FatesLemmas.{kept_once, short_once}
 use Rattle.event_engine.proofs.GoesLemmas.{goes-outcome}
 use Rattle.event_engine.proofs.OpenLemmas.{AreOf, openings_are}
-use Rattle.event_engine.proofs.SeatLemmas.{draws-none, fits_there}
+use Rattle.event_engine.proofs.SeatLemmas.{draws-none}
 use Rattle.event_engine.proofs.TurnLemmas.{decided_out, decided_tells, decided_tick, goes_on_by, next_follows, no_stop, over_by, stopped_begins, turned_passes}
-use Rattle.event_worlds.specs.Orderly.{FitsParcel, IsOrderly}
+use Rattle.event_worlds.specs.Orderly.{IsOrderly}
 use Rattle.event_worlds.proofs.Orderly.{orderly-outcome, orderly-turn}
 use Rattle.event_worlds.specs.Worlds.{World, delivered, is_over, of_outcome, opened, outcome_step, outcomes_of, stand_past, turn_needs, turn_needs_past, turn_past, turn_step, turned_in, with_progress, with_turn, first_needs}
 use Rattle.output_collector.specs.declared.collector.Collector.{Collector}
@@ -426,11 +426,6 @@ module _ {I : Type 0} {g : Ghosts I} (t : Topology) (cut : Cut) (old new : Engin
 
 -- ---- what the coordinator hands over
 
--- a list that is its own rest is empty
-pub no_rest : {X : Type 0} (xs ys : List X) → xs ≡ ys → ys ≡ drop 1 xs → xs ≡ []
-no_rest [] ys same is = refl
-no_rest {X} (x ∷ xs) ys same is = absurd (let e = ap (length {A = X}) same in let f = ap (length {A = X}) is in omega arith)
-
 module _ {I : Type 0} {g : Ghosts I} (t : Topology) (cut : Cut) (old mid : Engine I g) where
   -- an engine that is the same world, with the same coordinator
   pub record IsAlike : Type 0 where
@@ -464,12 +459,6 @@ module _ {I : Type 0} {g : Ghosts I} (t : Topology) (cut : Cut) (old mid : Engin
       subst (λ (c : Coordinator I). cond (is_some (desk_of c).exhausted) true (is_finished (plan_of c) (cut_of c) (desk_of c)) ≡ false → (desk_of c).out ≡ false) (sym still.coordinator) idle
 
 module _ {I : Type 0} {g : Ghosts I} (t : Topology) (cut : Cut) (old new : Engine I g) (ready : IsReady t cut old) where
-  -- the front parcel of the coordinator's outbox names what is there
-  pub order_there : (parcel : Parcel) (rest : List Parcel) → old.orders.items ≡ parcel ∷ rest → IsThere (length old.tasks.items) (length old.ackers.items) parcel
-  order_there parcel rest front =
-      fits_there t (length old.tasks.items) (length old.ackers.items) parcel (tasks_are t cut old old ready) (sym (length-map old.ackers.items acker_side) ∙ ready.orderly.acker_count)
-      (subst (AllByRecursion (FitsParcel t)) front ready.orderly.orders).0
-
   pub ready_handed : (tells : I → (ℕ → ℕ) → ℕ → Type 0) → Happens tells (tasks_in_all t) (turn_needs t cut (shape old)) (λ ids w. turn_step t cut ids w) old new → IsStill old new → IsSeated t cut new → IsReady t cut new
   ready_handed tells done still seated =
       ready_still t cut old new ready still seated (subst (IsOrderly t) (sym done.same) (orderly-turn t cut (shape old) ready.input ready.orderly done.ids done.enough))

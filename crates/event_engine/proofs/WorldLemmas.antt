@@ -52,15 +52,6 @@ module _ {I : Type 0} {g : Ghosts I} (told : (ℕ → ℕ → ℕ) → Type 0) (
       gives s (Some source) at =
           sym ((goes.draws s source at).2.are_next (words s) (first_counts t words s) (subst (tells source (words s)) (started.counted words s) (started.goes_on words is s source at)))
 
-  -- by some words, whatever the sources tell
-  pub some_world : (words : ℕ → ℕ → ℕ) × ((outcomes : List CommitOutcome) → HasOutcomes outcomes new.fates → shape new ≡ world_after t custom cut words outcomes steps)
-  some_world =
-      let words : ℕ → ℕ → ℕ = joined_words started.given goes.given in (
-        words,
-        λ outcomes has. from_start words outcomes (joined_first started.given goes.given)
-            (λ s. subst (λ (n : ℕ). map (words s) (range_with_len n (length (goes.given s))) ≡ goes.given s) (started.counted words s) (joined_more started.given goes.given s)) has,
-      )
-
   -- some words begin with those that were given, at the start and after it
   pub some_words : (words : ℕ → ℕ → ℕ) × Gives words (λ s. 0) started.given × Gives words (first_counts t words) goes.given
   some_words =

@@ -113,12 +113,6 @@ no_items : {X : Type 0} (xs : List X) → length xs ≡ 0 → xs ≡ []
 no_items [] none = refl
 no_items (x ∷ xs) none = absurd (omega arith)
 
-pub routed_nowhere : (o : Outlet) → length o.lanes ≡ 0 → o ≡ record o { lanes = map moved o.lanes }
-routed_nowhere o none =
-    let no_lanes : o.lanes ≡ [] = no_items o.lanes none in
-    let e : o.lanes ≡ map moved o.lanes = no_lanes ∙ ap (map moved) (sym no_lanes) in
-    ap (λ lanes. record o { lanes = lanes }) e
-
 module _ {I : Type 0} (tells : I → (ℕ → ℕ) → ℕ → Type 0) (root : Root) (path : List ℕ) where
   pub goes_along : (o : Outlet) (row : List Value) (i : ℕ) (route : Route) (start a b : Sent I) → IsPart o row i route
       → Goes tells root path (nodes_left o row 0) (tasks_left o row 0) start (nodes_left o row i) (tasks_left o row i) a

@@ -26,9 +26,6 @@ use Rattle.output_collector.proofs.Lanes.{length-told, AreLanesOf-moved, All-mov
 
 -- ---- the component of a task
 
-tasks_by : Component → ℕ
-tasks_by = λ (component : Component). component.tasks
-
 abbrev first_of : ℕ → List Component → ℕ
 first_of c components = sum (take c (map (λ (component : Component). component.tasks) components))
 

@@ -17,7 +17,7 @@ use Rattle.attempt_fates.specs.declared.fates.End.TheVariants as ends
 use Rattle.run_report.specs.declared.report.Tail.{Tail}
 use Rattle.run_report.specs.Cells.{cells_of}
 use Rattle.run_report.specs.Fated.{edge_line, name_at, AreOpenOf, IsEndOf, line_with, IsLineOf, AreLinesOf, tail_of, IsReportText}
-use Rattle.run_report.specs.Report.{EdgeText, edges_text, EndText, failed, coincided, commit_failed, end_text, AttemptText, attempt_text, cell_text, tail_text, report_text}
+use Rattle.run_report.specs.Report.{EdgeText, EndText, failed, coincided, commit_failed, end_text, AttemptText, attempt_text, cell_text, tail_text, report_text}
 use Rattle.run_report.specs.Steps.{heading_of, AddsOpen, AddsCoincided, AddsEnd, AddsLine, AddsLines}
 use Rattle.run_report.proofs.Left.{left_is_one}
 
@@ -61,20 +61,6 @@ adds_nothing list text closed = record {
   added = sym (append-nil text);
 }
 
-pub adds_edges : (list : List AckMsg) (edges : List Edge) (old new : List ℕ) → AreLeft (occurrences list) edges → new ≡ old ++ edges_text (map edge_line edges) → AddsOpen list old new
-adds_edges list edges old new left added = record {
-  edges = map edge_line edges;
-  are_open = record { edges = edges; are_left = left; are_told = refl };
-  added = added;
-}
-
-pub adds_coincided : (list : List AckMsg) (old mid new : List ℕ) → mid ≡ old ++ codes "coincided " → AddsOpen list mid new → AddsCoincided list old new
-adds_coincided list old mid new begun adds = record {
-  edges = adds.edges;
-  are_open = adds.are_open;
-  added = adds.added ∙ (ap (λ text. text ++ edges_text adds.edges) begun ∙ append_assoc old (codes "coincided ") (edges_text adds.edges));
-}
-
 module _ (plan : Topology) (end : End) where
   pub failed_adds : {T E : Type 0} (path old new : List ℕ) (r : Result T E) → end ≡ ends.Failed path → OnOk r (new ≡ old ++ end_text (failed path)) → OnOk r (AddsEnd plan end old new)
   failed_adds path old new r is adds =
@@ -99,9 +85,6 @@ zip_more plan (f ∷ fates) (suc i) a [] line there is are more = absurd are
 zip_more plan (f ∷ fates) (suc i) a (l ∷ lines) line there is are more =
     let next : suc (i + 1) ≡ suc i + 1 = omega arith in
     subst (λ k. AreLinesOf plan (take k (f ∷ fates)) (l ∷ (lines ++ line ∷ []))) next (are.0, zip_more plan fates i a lines line (omega arith) is are.1 more)
-
-pub adds_none : (plan : Topology) (fates : List Attempt) (text : List ℕ) → AddsLines plan (take 0 fates) text text
-adds_none plan fates text = record { lines = []; are_lines = tt; added = sym (append-nil text) }
 
 pub adds_more : (plan : Topology) (fates : List Attempt) (i : ℕ) (a : Attempt) (old mid new : List ℕ) → i < length fates → a ≡ get_or fates i a → AddsLines plan (take i fates) old mid → AddsLine plan a mid new → AddsLines plan (take (i + 1) fates) old new
 adds_more plan fates i a old mid new there is adds more = record {

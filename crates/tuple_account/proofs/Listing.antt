@@ -54,9 +54,6 @@ module _ (t : Topology) (custom : Custom) (h : History) (b : Station) (reached :
   told_held : (x : Told) → ((f : Told → ℕ) → f x ≤ weigh f h.told) → (g : Root → AckMsg → ℕ) → weigh (g x.root) x.list ≤ b.kept g + (told_in g h + dropped_in g h)
   told_held x few g = let w = few (λ (y : Told). weigh (g y.root) y.list) in omega arith
 
-  pub told_of : AllByRecursion (λ (x : Told). AreOf x.root x.list) h.told
-  told_of = each-weaker (λ (x : Told). (f : Told → ℕ) → f x ≤ weigh f h.told) (λ (x : Told). AreOf x.root x.list) (λ x few. held_of x.root x.list (told_held x few)) h.told (each-weighs h.told)
-
 module _ (t : Topology) (custom : Custom) (h : History) (b : Station) (reached : Reached t custom h b) (rows_of : Root → List (List Value)) (rows_are : AreRows rows_of h.begun) where
   -- a list of one root within what was met
   pub sound_list : (root : Root) (list : List AckMsg) → AreOf root list → ((g : AckMsg → ℕ) → weigh g list ≤ weigh (λ (x : Receipt). g x.message) h.met) → IsSound t custom (rows_of root) root list

@@ -106,9 +106,6 @@ module _ (t : Topology) (custom : Custom) (cut : Cut) (words : ℕ → ℕ → �
     fine : AllByRecursion IsFine v.fates
 
   module _ (w : World) (seats : AreSeats t w) (fine : AllByRecursion IsFine w.fates) where
-    safe_delivered : (p : Parcel) → IsSafe nothing (delivered t p w)
-    safe_delivered p = record { seats = seats-delivered t p w seats; dropped = refl; fine = subst (AllByRecursion IsFine) (sym (fates-delivered t p w)) fine }
-
     safe_acker : (n : ℕ) → w.tick < t.buckets → ((m : AckMsg) (rest : List AckMsg) → (acker_at n w).inbox ≡ m ∷ rest → acker_of t (root_of m) ≡ n) → IsSafe (acker_adds n t.buckets w.tick (acker_at n w)) (acker_step t n w)
     safe_acker n short routed = record {
       seats = at-set (λ (k : ℕ) (side : AckerSide). IsSeat t k w.tick side) w.ackers n (answered t.buckets w.tick (acker_at n w)).side no_acker seats
