@@ -4,7 +4,7 @@ use Rattle.std.specs.Coded.{Coded}
 use Rattle.std.specs.List.{AllByRecursion}
 use base.Stored.{Gv, gnil, gnum, gcons}
 use Rattle.counted_items.specs.Codes.{code_eq, is_same, is_item, times}
-use Rattle.counted_items.specs.Weights.{Same, Within}
+use Rattle.counted_items.specs.Weights.{Within}
 
 pub and-true : (a b : Bool) → (a && b) ≡ true → (a ≡ true) × (b ≡ true)
 and-true true true e = (refl, refl)
@@ -62,6 +62,3 @@ module _ {X : Type 0} (coded : Coded X) where
     counted P x ys all (let w = within (is_item coded x) in let s = is_item-refl x in omega arith),
     each-within P xs ys (λ f. let w = within f in omega arith) all,
   )
-
-  pub each-same : (P : X → Type 0) (xs ys : List X) → Same xs ys → AllByRecursion P ys → AllByRecursion P xs
-  each-same P xs ys same all = each-within P xs ys (λ f. let e = same f in omega arith) all

@@ -1,8 +1,8 @@
 -- Weights of lists.
-use Rattle.std.proofs.Common.{◌≡◌, ℕ, zero, suc, ◌+◌, ◌*◌, ◌≤◌, List, [], ◌∷◌, ◌++◌, map, length, replicate, flat_map, sym, refl, ap, ◌∙◌, arith}
+use Rattle.std.proofs.Common.{◌≡◌, ℕ, ◌+◌, ◌≤◌, List, [], ◌∷◌, ◌++◌, map, length, flat_map, refl, ap, ◌∙◌, arith}
 use Rattle.std.proofs.lemmas.List.Elements.{All-contains, All-from_recursion}
 use Rattle.std.specs.List.{AllByRecursion, Contains}
-use Rattle.counted_items.specs.Weights.{weigh, Same, Within}
+use Rattle.counted_items.specs.Weights.{weigh}
 
 module _ {X : Type 0} where
   pub weigh-append : (f : X → ℕ) (xs ys : List X) → weigh f (xs ++ ys) ≡ weigh f xs + weigh f ys
@@ -19,10 +19,6 @@ module _ {X : Type 0} where
   pub weigh-flat_map : {Y : Type 0} (f : X → ℕ) (g : Y → List X) (ys : List Y) → weigh f (flat_map g ys) ≡ weigh (λ y. weigh f (g y)) ys
   weigh-flat_map f g [] = refl
   weigh-flat_map f g (y ∷ ys) = weigh-append f (g y) (flat_map g ys) ∙ ap (λ (n : ℕ). weigh f (g y) + n) (weigh-flat_map f g ys)
-
-  pub weigh-replicate : (f : X → ℕ) (n : ℕ) (x : X) → weigh f (replicate n x) ≡ n * f x
-  weigh-replicate f zero x = omega arith
-  weigh-replicate f (suc n) x = omega (arith, weigh-replicate f n x)
 
   pub weigh-zero : (f : X → ℕ) → ((x : X) → f x ≡ 0) → (xs : List X) → weigh f xs ≡ 0
   weigh-zero f none [] = refl
@@ -82,47 +78,3 @@ module _ {X : Type 0} where
       few : (ys : List X) → AllByRecursion (λ y. (h : X → ℕ) → h y ≤ weigh h xs) ys → AllByRecursion (λ y. f y ≤ weigh f xs) ys
       few [] all = tt
       few (y ∷ ys) all = (all.0 f, few ys all.1)
-
-  -- ---- lists with each item as often
-
-  pub same-refl : (xs : List X) → Same xs xs
-  same-refl xs f = refl
-
-  pub same-sym : (xs ys : List X) → Same xs ys → Same ys xs
-  same-sym xs ys same f = sym (same f)
-
-  pub same-trans : (xs ys zs : List X) → Same xs ys → Same ys zs → Same xs zs
-  same-trans xs ys zs first second f = first f ∙ second f
-
-  pub same-append : (xs ys us vs : List X) → Same xs us → Same ys vs → Same (xs ++ ys) (us ++ vs)
-  same-append xs ys us vs first second f = let a = weigh-append f xs ys in let b = weigh-append f us vs in let c = first f in let d = second f in omega arith
-
-  pub same-exchange : (xs ys : List X) → Same (xs ++ ys) (ys ++ xs)
-  same-exchange xs ys f = let a = weigh-append f xs ys in let b = weigh-append f ys xs in omega arith
-
-  pub within-same : (xs ys : List X) → Same xs ys → Within xs ys
-  within-same xs ys same f = let e = same f in omega arith
-
-  pub same-within : (xs ys : List X) → Within xs ys → Within ys xs → Same xs ys
-  same-within xs ys less more f = let a = less f in let b = more f in omega arith
-
-  pub within-trans : (xs ys zs : List X) → Within xs ys → Within ys zs → Within xs zs
-  within-trans xs ys zs first second f = let a = first f in let b = second f in omega arith
-
-  pub within-append : (xs ys us vs : List X) → Within xs us → Within ys vs → Within (xs ++ ys) (us ++ vs)
-  within-append xs ys us vs first second f = let a = weigh-append f xs ys in let b = weigh-append f us vs in let c = first f in let d = second f in omega arith
-
-  pub within-front : (xs ys : List X) → Within xs (xs ++ ys)
-  within-front xs ys f = let a = weigh-append f xs ys in omega arith
-
-  pub within-back : (xs ys : List X) → Within ys (xs ++ ys)
-  within-back xs ys f = let a = weigh-append f xs ys in omega arith
-
-  pub within-map : {Y : Type 0} (g : Y → X) (xs ys : List Y) → Within xs ys → Within (map g xs) (map g ys)
-  within-map g xs ys within f = let a = weigh-map f g xs in let b = weigh-map f g ys in let w = within (λ y. f (g y)) in omega arith
-
-  pub same-map : {Y : Type 0} (g : Y → X) (xs ys : List Y) → Same xs ys → Same (map g xs) (map g ys)
-  same-map g xs ys same f = weigh-map f g xs ∙ same (λ y. f (g y)) ∙ sym (weigh-map f g ys)
-
-  pub within-flat_map : {Y : Type 0} (g : Y → List X) (xs ys : List Y) → Within xs ys → Within (flat_map g xs) (flat_map g ys)
-  within-flat_map g xs ys within f = let a = weigh-flat_map f g xs in let b = weigh-flat_map f g ys in let w = within (λ y. weigh f (g y)) in omega arith

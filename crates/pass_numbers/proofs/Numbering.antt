@@ -1,5 +1,5 @@
 -- No number stands twice, a split gives one more, and a whole holder leaves none to others.
-use Rattle.std.proofs.Common.{◌≡◌, ◌≢◌, ◌⊎◌, ℕ, suc, ◌+◌, ◌<◌, ◌≤◌, nat_lt, nat_eq, eqb-true, eq-eqb, Bool, true, false, cond, true≢false, List, [], ◌∷◌, ◌++◌, set, length, get_or, inl, inr, ⊎_elim, sym, refl, ap, ◌∙◌, arith}
+use Rattle.std.proofs.Common.{◌≡◌, ◌≢◌, ◌⊎◌, ℕ, ◌+◌, ◌≤◌, nat_lt, nat_eq, eqb-true, eq-eqb, Bool, true, false, cond, true≢false, List, [], ◌∷◌, ◌++◌, set, inl, inr, ⊎_elim, sym, refl, ap, ◌∙◌, arith}
 use Rattle.std.proofs.lemmas.Slice.Eq.{bytes_eq-Decides}
 use Rattle.std.proofs.lemmas.Bool.Decides.{nat_tests, same_from_decides}
 use Rattle.std.specs.Str.{bytes_eq}
@@ -265,13 +265,3 @@ first_whole = (refl, λ p k. later p k (bytes_eq [] (p ++ k ∷ [])) refl (bytes
     later p k true is u = absurd (ends-apart p k (sym ((bytes_eq-Decides [] (p ++ k ∷ [])).0 is)))
     later p k false is true = grind (arith, nat_tests)
     later p k false is false = grind (arith, nat_tests)
-
--- holders that keep their numbers, one by one
-pub same_numbers : {W : Type 0} (numbers_of : W → List Number) (f : Number → ℕ) (after before : List W) → length after ≡ length before
-    → ((i : ℕ) (d : W) → i < length before → numbers_of (get_or after i d) ≡ numbers_of (get_or before i d)) → over numbers_of f after ≡ over numbers_of f before
-same_numbers numbers_of f [] [] count each = refl
-same_numbers numbers_of f [] (y ∷ ys) count each = absurd (omega arith)
-same_numbers numbers_of f (x ∷ xs) [] count each = absurd (omega arith)
-same_numbers numbers_of f (x ∷ xs) (y ∷ ys) count each =
-    let here : weigh f (numbers_of x) ≡ weigh f (numbers_of y) = ap (weigh f) (each 0 x (omega arith)) in
-    let rest = same_numbers numbers_of f xs ys (omega arith) (λ i d l. each (suc i) d (omega arith)) in omega arith

@@ -7,7 +7,7 @@ use Rattle.storm_values.specs.declared.value.Root.{Root}
 use Rattle.std.specs.FinMap as fin_map
 use Rattle.rotating_ledger.specs.Held.{Rotation, dropped, root_eq, rotated, value_of, without}
 use Rattle.rotating_ledger.proofs.HeldLemmas.{without-absent, without-entered}
-use Rattle.replay_pending.specs.InFlight.{Awaited, AreDistinct, Counts, InFlight, awaited, begun, due, ended, has_txid, is_due, is_pending, is_timed, none_in_flight, older, settled, ticked, untimed}
+use Rattle.replay_pending.specs.InFlight.{Awaited, AreDistinct, Counts, InFlight, awaited, begun, due, ended, has_txid, is_due, is_pending, is_timed, older, settled, ticked, untimed}
 use Rattle.replay_pending.specs.Places.{Stands, Timed, flight, joined, roots_of, timed_item, timed_of}
 use Rattle.replay_pending.proofs.BeginLemmas.{fresh-pending, joined-back, placed-push, timed-push, value-absent}
 use Rattle.replay_pending.proofs.Lists.{distinct-filter, distinct-map, distinct-push, length-filter}
@@ -167,14 +167,3 @@ pub undone : (old put taken : Rotation (Unit {0})) (root : Root) → value_of ro
 undone old put taken root none is then =
     then ∙ ap (λ (t : Rotation (Unit {0})). record t { held = without root t.held }) is
     ∙ ap (λ (hs : List Timed). record old { held = hs }) (without-entered root None (timed_item 0 root).value old.held none ∙ without-absent root old.held none)
-
--- ---- no root yet
-
-pub none_call : (cap buckets : ℕ) (new : Rotation (Unit {0})) (after : List Root) (counts : Counts) → new ≡ record { buckets = buckets; held = [] }
-    → after ≡ [] → counts ≡ fin_map.empty
-    → Stands cap new.held after (joined after new.held) × (flight cap new after counts ≡ none_in_flight cap buckets)
-none_call cap buckets new after counts is placed counted =
-    let none : Stands cap [] [] [] = record { timed = refl; placed = refl; distinct = tt; most = omega arith } in
-    let start : Rotation (Unit {0}) = record { buckets = buckets; held = [] } in
-    let later = after_call cap start new [] [] after [] none is placed in
-    (later.0, later.1 counts ∙ ap (made cap buckets []) counted)

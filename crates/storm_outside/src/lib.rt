@@ -15,7 +15,6 @@ pub use memory_shelf::MemShelf;
 pub use memory_sink::MemSink;
 pub use shelf::{InFault, Shelf, read_all};
 pub use sink::{Sink, write_all};
-pub use storm_ids::{ChaChaIds, ChaChaMaker, IdMaker, Ids, ScriptIds, ScriptSource, Words};
 pub use system::{FileShelf, OutSink};
 
 #[cfg(test)]

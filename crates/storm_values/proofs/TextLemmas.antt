@@ -253,10 +253,6 @@ module _ (n : ℕ) where
     Keeps-items zero ts fit = tt
     Keeps-items (suc turns) ts fit = item_turn (json.items parse turns) (Keeps-items turns) ts (json.after_end_array ts) refl fit
 
-    after_key_token : (key : Option (List ℕ)) (rest : List Token) → AreFit (key_token key ∷ rest) → AreFit rest
-    after_key_token None rest fit = fit.1
-    after_key_token (Some name) rest fit = fit.1
-
     member_turn : (more : json.Parse json.Members) → Keeps Anything more → (ts : List Token) (found : Option (Option (List ℕ) × List Token)) → json.read_key ts ≡ found → AreFit ts
         → Reads Anything (option_and_then (λ q. json.members_step parse more q.0 q.1) found)
     member_turn more again ts None is fit = tt

@@ -6,11 +6,11 @@ pub use Rattle.serde_json.specs.View.{members_view, view, items_view}
 pub use Rattle.storm_values.specs.Limits.{most_topology_bytes, most_weight, most_fields, most_batch, most_below, most_tasks, most_bolt_inputs, most_state_inputs, most_bolts, most_states, most_ackers, most_pending, least_buckets, most_buckets, most_attempts}
 pub use Rattle.storm_values.specs.declared.value.Value.{Value}
 pub use Rattle.topology_form.specs.declared.fault.TopoFault.{TopoFault}
-pub use Rattle.topology_form.specs.declared.fault.TopoFault.TheVariants.{TooLong, NotJson, Missing, WrongKind, UnknownName, OutOfRange, Twice, NoSource, Cycle, FieldsDiffer, NoField, NotExactlyOnce, Weight, Memory}
-pub use Rattle.topology_form.specs.declared.parts.{BodyPart.BodyPart, ComponentPart.ComponentPart, FileParts.FileParts, GroupingPart.GroupingPart, Input.Input, Operation.Operation, SpoutPart.SpoutPart, StatePart.StatePart}
+pub use Rattle.topology_form.specs.declared.fault.TopoFault.TheVariants.{Missing, WrongKind, UnknownName, OutOfRange, Memory}
+pub use Rattle.topology_form.specs.declared.parts.{BodyPart.BodyPart, ComponentPart.ComponentPart, FileParts.FileParts, GroupingPart.GroupingPart, Input.Input, Operation.Operation, SpoutPart.SpoutPart}
 pub use Rattle.topology_form.specs.declared.parts.BodyPart.TheVariants.{Bolt, State}
 pub use Rattle.topology_form.specs.declared.parts.Operation.TheVariants.{Split, Project, Filter, Set, Len, Route, Flaky, Mute, Custom}
-pub use Rattle.topology_plan.specs.Texts.{is_name, is_name_byte, begins_with_letter}
+pub use Rattle.topology_plan.specs.Texts.{is_name, is_name_byte}
 unfoldable pub use Rattle.topology_plan.specs.Texts.{IsName}
 pub use Rattle.topology_plan.specs.declared.parts.{Fold.Fold, Kind.Kind, Test.Test}
 pub use Rattle.topology_plan.specs.declared.parts.Fold.TheVariants.{Count, Sum, Last, Max}

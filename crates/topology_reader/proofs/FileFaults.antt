@@ -1,7 +1,7 @@
 -- The first fault of a file, step by step.
 use Rattle.std.proofs.Common.{◌≡◌, ◌<◌, ◌≤◌, ℕ, ◌+◌, List, [], ◌∷◌, length, map, drop, slice_get, true, false, leb, Option, Some, None, Result, Ok, Err, IfOk, IfErr, ◌≢◌, refl, sym, ap, subst, ◌∙◌, arith}
 use Rattle.std.proofs.lemmas.Bool.Decides.{nat_tests}
-use Rattle.topology_reader.proofs.Common.{none-some, names_fault, twice_fault, source_fault, cycle_fault, FileParts, meaning_fault, Data, json_of, first_some, TopoFault, TooLong, Topology, first_fault, value_fault, IsFilePlan, plan_of}
+use Rattle.topology_reader.proofs.Common.{FileParts, meaning_fault, Data, json_of, first_some, TopoFault, TooLong, Topology, first_fault, value_fault, IsFilePlan, plan_of}
 use Rattle.topology_form.specs.declared.fault.TopoFault.TheVariants as topo_fault
 use Rattle.topology_form.specs.Format.{form_fault, parts_said}
 use Rattle.topology_reader.proofs.Numbered.{drop_at}
@@ -10,23 +10,6 @@ use Rattle.topology_reader.proofs.Numbered.{drop_at}
 pub next_alone : {X : Type 0} (fault : Option X) → first_some (fault ∷ []) ≡ fault
 next_alone None = refl
 next_alone (Some x) = refl
-
--- of three faults that are none each is none, and a fault of theirs comes before others
-pub three_none : {X : Type 0} (a b c : Option X) → first_some (a ∷ b ∷ c ∷ []) ≡ None → (a ≡ None) × (b ≡ None) × (c ≡ None)
-three_none None None None none = (refl, refl, refl)
-three_none None None (Some x) none = absurd (none-some x (sym none))
-three_none None (Some x) c none = absurd (none-some x (sym none))
-three_none (Some x) b c none = absurd (none-some x (sym none))
-
-three_told : {X : Type 0} (a b c : Option X) (rest : List (Option X)) (x : X) → first_some (a ∷ b ∷ c ∷ []) ≡ Some x → first_some (a ∷ b ∷ c ∷ rest) ≡ Some x
-three_told None None None rest x told = absurd (none-some x told)
-three_told None None (Some y) rest x told = told
-three_told None (Some y) c rest x told = told
-three_told (Some y) b c rest x told = told
-
-pub names_told : (p : FileParts) (fault : TopoFault) → names_fault p ≡ Some fault → meaning_fault p ≡ Some fault
-unfolding meaning_fault
-names_told p fault told = three_told (twice_fault p) (source_fault p) (cycle_fault p) _ fault told
 
 -- of items that are checked in turn one more has no fault, or is the first that has one
 pub next_passed : {X F : Type 0} (f : X → Option F) (xs : List X) (c : ℕ) (x : X) (whole : Option F) → slice_get xs c ≡ Some x → f x ≡ None → first_some (map f (drop c xs)) ≡ whole → first_some (map f (drop (c + 1) xs)) ≡ whole

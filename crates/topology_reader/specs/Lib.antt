@@ -1,6 +1,4 @@
 pub use Rattle.topology_form.specs.declared.fault.TopoFault
-pub use Rattle.topology_form.specs.Format
-pub use Rattle.topology_form.specs.Ranges
 pub use Rattle.topology_form.specs.Faults
 pub mod Prelude
 pub mod Wiring

@@ -19,4 +19,4 @@ pub use Rattle.topology_graph.specs.Graph.{feeds_at, value_of, values_of, Rule, 
 pub use Rattle.topology_graph.specs.declared.values.Feed.{Feed}
 pub use Rattle.topology_plan.specs.Topology.{Topology, tasks_in_all, weight_of, depth_of}
 pub use Rattle.topology_plan.specs.{Valid.IsBetween, Valid.IsValid, Wired.IsWired}
-pub use Rattle.topology_plan.specs.declared.parts.{Component.Component, Origin.Origin}
+pub use Rattle.topology_plan.specs.declared.parts.{Origin.Origin}

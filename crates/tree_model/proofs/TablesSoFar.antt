@@ -1,32 +1,29 @@
 -- What one more write does to the running tables.
-use Rattle.std.proofs.Common.{◌≡◌, ℕ, zero, suc, ◌+◌, ◌%◌, arith, slice_get, replicate, ◌<◌, ◌⊎◌, inl, inr, ℤ, List, [], ◌∷◌, ◌++◌, length, get_or, set, fold, append_assoc, Option, Some, None, IfSome, ◌≤◌, sym, refl, ap, ◌∙◌, subst, ⊎_elim, length-set}
+use Rattle.std.proofs.Common.{◌≡◌, ℕ, zero, suc, ◌+◌, arith, slice_get, replicate, ◌<◌, ◌⊎◌, inl, inr, ℤ, List, [], ◌∷◌, ◌++◌, length, get_or, set, fold, append_assoc, Option, Some, None, IfSome, sym, refl, ap, ◌∙◌, subst, ⊎_elim, length-set}
 use Rattle.std.proofs.lemmas.Bool.{cases_eq, eq-eqb, ne_eqb}
-use Rattle.std.proofs.lemmas.List.{append-nil, map-id, length-map, length-replicate, map-set, get_or-map, get_or-set_same, get_or-set_other}
+use Rattle.std.proofs.lemmas.List.{append-nil, map-id, length-replicate, map-set, get_or-map, get_or-set_same, get_or-set_other}
 use Rattle.std.proofs.lemmas.List.Elements.{filter_map-append}
 use Rattle.std.proofs.lemmas.List.FromFn.{map-range_with_len_more}
 use Rattle.std.proofs.lemmas.Slice.Zip.{all_zipped_more}
 use Rattle.std.proofs.lemmas.Option.{none-some, same_Some, slice_get_cases, option_and_then_some}
-use Rattle.std.proofs.Math.Seq.{map-set_same, set_out}
+use Rattle.std.proofs.Math.Seq.{map-set_same}
 use Rattle.std.specs.List.{AllZip, cons_option, filter_map, flat_map, range_with_len}
-use Rattle.std.specs.Option.{option_map, option_map_or, option_and_then}
+use Rattle.std.specs.Option.{option_map_or, option_and_then}
 use Rattle.bolt_ops.specs.RowOp.{Custom}
 use Rattle.indexmap.specs.IndexMap.{IndexMap}
 use Rattle.storm_values.specs.declared.value.Value.{Value}
-use Rattle.storm_values.specs.Keys.{hash_of, text_of}
 use Rattle.topology_plan.specs.declared.parts.Body.{Body}
 use Rattle.topology_plan.specs.declared.parts.Body.TheVariants.{Bolt, State}
 use Rattle.topology_plan.specs.declared.parts.Component.{Component}
 use Rattle.topology_plan.specs.declared.parts.Fold.{Fold}
-use Rattle.topology_plan.specs.declared.parts.Op.{Op}
 use Rattle.topology_plan.specs.declared.parts.Origin.TheVariants as origin
-use Rattle.topology_plan.specs.declared.parts.StateSpec.{StateSpec}
 use Rattle.topology_plan.specs.Topology.{Topology}
 use Rattle.tree_model.specs.declared.write.Pair.{Pair}
 use Rattle.tree_model.specs.declared.write.Table.{Table}
 use Rattle.tree_model.specs.declared.write.Write.{Write}
 use Rattle.tree_model.specs.Tables.{StateOf, tallied, with_amount, written, state_by, state_at, IsTally, IsTableOf, AreRunningTables, AddsTable}
 use Rattle.tree_model.specs.Inside.{pairs_of, pairs_by}
-use Rattle.tree_model.specs.Trees.{Node, kids, nodes_from, nodes_of, key_of, amount_by, write_by, write_of, writes}
+use Rattle.tree_model.specs.Trees.{Node, kids, nodes_from, nodes_of, write_of, writes}
 use Rattle.tree_model.proofs.Folding.{IsTally-push, IsTally-other}
 
 -- what follows of the value that is there
@@ -101,27 +98,6 @@ module _ {S : Type 0} (olds : List (IndexMap (List ℕ) ℤ S)) (state : ℕ) (b
       let was : get_or (pairs_by olds) state [] ≡ pairs_of old = get_or-map pairs_of olds state old [] within ∙ ap pairs_of (sym read) in
       map-set pairs_of olds state new ∙ ap (set (pairs_by olds) state) (puts ∙ ap (λ pairs. tallied by pairs key amount) (sym was))
 
-  -- there is no map to change
-  pub pairs_by-out : length olds ≤ state → pairs_by olds ≡ with_amount (pairs_by olds) state by key amount
-  pairs_by-out out = sym (set_out (pairs_by olds) state _ (rw length-map out))
-
-module _ (t : Topology) (write : Write) (tables : List (List Pair)) where
-  -- a write for a state changes its pairs alone
-  pub written-state : (by : Fold) → Some by ≡ option_map (λ (state : StateOf). state.by) (state_at t write.state) → with_amount tables write.state by write.key write.amount ≡ written t tables write
-  written-state by has = at (state_at t write.state) has
-    where
-      at : (o : Option StateOf) → Some by ≡ option_map (λ (state : StateOf). state.by) o → with_amount tables write.state by write.key write.amount ≡ option_map_or (λ (state : StateOf). with_amount tables write.state state.by write.key write.amount) o tables
-      at None none = absurd (none-some by (sym none))
-      at (Some state) same = ap (λ f. with_amount tables write.state f write.key write.amount) (same_Some _ _ same)
-
-  -- one for no state changes none
-  pub written-ignored : None ≡ option_map (λ (state : StateOf). state.by) (state_at t write.state) → tables ≡ written t tables write
-  written-ignored none = at (state_at t write.state) none
-    where
-      at : (o : Option StateOf) → None ≡ option_map (λ (state : StateOf). state.by) o → tables ≡ option_map_or (λ (state : StateOf). with_amount tables write.state state.by write.key write.amount) o tables
-      at None is = refl
-      at (Some state) is = absurd (none-some state.by is)
-
 -- where a map's pairs stay, all do
 pub pairs_by-set_same : {S : Type 0} (olds : List (IndexMap (List ℕ) ℤ S)) (i : ℕ) (old new : IndexMap (List ℕ) ℤ S) → old ≡ get_or olds i old → pairs_of new ≡ pairs_of old → pairs_by (set olds i new) ≡ pairs_by olds
 pairs_by-set_same olds i old new read same = map-set_same pairs_of olds i new old (same ∙ ap pairs_of read)
@@ -130,26 +106,6 @@ pairs_by-set_same olds i old new read same = map-set_same pairs_of olds i new ol
 
 abbrev pub at_node : Topology → List (List Pair) → Node → List (List Pair)
 at_node t tables node = option_map_or (written t tables) (write_of t node) tables
-
--- at a state's node an amount is added, and at a bolt's nothing
-pub at_node-state : (t : Topology) (tables : List (List Pair)) (node : Node) (component : Component) (spec : StateSpec) → slice_get t.components node.component ≡ Some component → component.body ≡ State spec
-    → with_amount tables node.component spec.fold (text_of (key_of spec node.row)) (amount_by spec.fold (option_and_then (slice_get node.row) spec.amount)) ≡ at_node t tables node
-at_node-state t tables node component spec there state =
-    let write : Write = record {
-      state = node.component;
-      part = hash_of (key_of spec node.row) % component.tasks;
-      key = text_of (key_of spec node.row);
-      amount = amount_by spec.fold (option_and_then (slice_get node.row) spec.amount);
-    } in
-    let writes_it : write_of t node ≡ Some write =
-    ap (option_and_then (λ (c : Component). write_by node.component c.tasks c.body node.row)) there ∙ ap (λ body. write_by node.component component.tasks body node.row) state in
-    let by_state : state_at t node.component ≡ state_by node.component component (State spec) =
-    ap (option_and_then (λ (c : Component). state_by node.component c c.body)) there ∙ ap (state_by node.component component) state in
-    sym (ap (λ o. option_map_or (written t tables) o tables) writes_it ∙ ap (λ o. option_map_or (λ (s : StateOf). with_amount tables node.component s.by write.key write.amount) o tables) by_state)
-
-pub at_node-bolt : (t : Topology) (tables : List (List Pair)) (node : Node) (component : Component) (op : Op) → slice_get t.components node.component ≡ Some component → component.body ≡ Bolt op → tables ≡ at_node t tables node
-at_node-bolt t tables node component op there bolt =
-    sym (ap (λ o. option_map_or (written t tables) o tables) (ap (option_and_then (λ (c : Component). write_by node.component c.tasks c.body node.row)) there ∙ ap (λ body. write_by node.component component.tasks body node.row) bolt))
 
 fold-at_node : (t : Topology) (nodes : List Node) (tables : List (List Pair)) → fold (at_node t) tables nodes ≡ fold (written t) tables (filter_map (write_of t) nodes)
 fold-at_node t [] tables = refl

@@ -1,34 +1,20 @@
 -- The nodes below some nodes, piece by piece.
-use Rattle.std.proofs.Common.{◌≡◌, ◌≢◌, ℕ, zero, suc, ◌+◌, ◌-◌, ◌^◌, ◌<◌, ◌≤◌, min, arith, zero-add, List, [], ◌∷◌, ◌++◌, length, take, get_or, fold, slice_get, Option, Some, None, sym, refl, ap, ◌∙◌}
-use Rattle.std.proofs.lemmas.List.{take_more, append-nil, append_assoc}
+use Rattle.std.proofs.Common.{◌≡◌, ◌≢◌, ℕ, zero, suc, ◌+◌, ◌-◌, ◌^◌, ◌≤◌, min, arith, zero-add, List, [], ◌∷◌, ◌++◌, length, fold, Option, Some, None, sym, refl, ap, ◌∙◌}
+use Rattle.std.proofs.lemmas.List.{append-nil, append_assoc}
 use Rattle.std.proofs.lemmas.List.Concat.{flat_map-append}
 use Rattle.std.proofs.lemmas.List.Elements.{filter_map-append}
 use Rattle.std.specs.List.{flat_map, filter_map, cons_option}
-use Rattle.std.specs.Option.{option_map_or, option_to_list}
+use Rattle.std.specs.Option.{option_to_list}
 use Rattle.storm_values.specs.declared.value.Value.{Value}
-use Rattle.bolt_ops.specs.Operations.{out}
 use Rattle.bolt_ops.specs.RowOp.{Custom}
-use Rattle.topology_plan.specs.declared.parts.Body.TheVariants.{Bolt, State}
 use Rattle.topology_plan.specs.declared.parts.Component.{Component}
-use Rattle.topology_plan.specs.declared.parts.Op.{Op}
 use Rattle.topology_plan.specs.declared.parts.Origin.TheVariants as origin
-use Rattle.topology_plan.specs.declared.parts.StateSpec.{StateSpec}
 use Rattle.topology_plan.specs.Topology.{Topology}
 use Rattle.tree_model.specs.declared.plain.NodeCounter.{NodeCounter}
 use Rattle.tree_model.specs.declared.write.Write.{Write}
-use Rattle.tree_model.specs.Trees.{Node, kids, kids_of, kids_by, rows_by, nodes_from, nodes_of, write_of, writes, node_count}
+use Rattle.tree_model.specs.Trees.{Node, kids, kids_of, kids_by, nodes_from, nodes_of, write_of, writes, node_count}
 
 module _ (t : Topology) (custom : Custom) where
-  pub kids_of-state : (node : Node) (component : Component) (spec : StateSpec) → slice_get t.components node.component ≡ Some component → component.body ≡ State spec → kids_of t custom node ≡ []
-  kids_of-state node component spec there state =
-      ap (λ o. option_map_or (λ (c : Component). kids t (origin.Component node.component) (rows_by custom c.body node.row)) o []) there
-      ∙ ap (λ body. kids t (origin.Component node.component) (rows_by custom body node.row)) state
-
-  pub kids_of-bolt : (node : Node) (component : Component) (op : Op) → slice_get t.components node.component ≡ Some component → component.body ≡ Bolt op → kids_of t custom node ≡ kids t (origin.Component node.component) (out custom op node.row)
-  kids_of-bolt node component op there bolt =
-      ap (λ o. option_map_or (λ (c : Component). kids t (origin.Component node.component) (rows_by custom c.body node.row)) o []) there
-      ∙ ap (λ body. kids t (origin.Component node.component) (rows_by custom body node.row)) bolt
-
   -- a node, and what is below the nodes that its rows make
   pub nodes_from-more : (levels : ℕ) (node : Node) (rows : List (List Value)) → levels ≢ 0 → kids t (origin.Component node.component) rows ≡ kids_of t custom node
       → nodes_from levels t custom node ≡ node ∷ flat_map (nodes_from (levels - 1) t custom) (kids t (origin.Component node.component) rows)
@@ -66,15 +52,6 @@ module _ (t : Topology) (custom : Custom) where
 
   pub writes-append : (xs ys : List (List Value)) → writes t custom (xs ++ ys) ≡ writes t custom xs ++ writes t custom ys
   writes-append xs ys = ap (filter_map (write_of t)) (nodes_of-append xs ys) ∙ filter_map-append (write_of t) (nodes_of t custom xs) (nodes_of t custom ys)
-
-  pub writes-nil : writes t custom [] ≡ []
-  unfolding nodes_of
-  writes-nil = refl
-
-  -- one more row's writes
-  pub writes-take_more : (rows : List (List Value)) (i : ℕ) (row : List Value) → i < length rows → row ≡ get_or rows i row → writes t custom (take i rows) ++ writes t custom (row ∷ []) ≡ writes t custom (take (i + 1) rows)
-  writes-take_more rows i row below read =
-      sym (writes-append (take i rows) (row ∷ [])) ∙ ap (writes t custom) (ap (λ y. take i rows ++ y ∷ []) read ∙ sym (take_more rows i row below))
 
 -- ---- a count of the nodes, which ends at 2^64 - 1
 

@@ -25,10 +25,6 @@ use Rattle.tree_model.specs.Trees.{Node, kids, kids_by, kids_of, copies_at, rows
 use Rattle.tree_model.proofs.Lists.{each-flat_map, each-replicate, each-weaker, each_at}
 
 module _ (t : Topology) (custom : Custom) (valid : IsValid t) (wired : IsWired t) (keeps : IsCustom custom) where
-  -- the node's row is within limits and as wide as its component's input
-  IsNode : Node → Type 0
-  IsNode node = IsRow (width_to t node.component) node.row
-
   -- what rows of a source make
   within_kids : (from : Origin) (rows : List (List Value)) → AllByRecursion (IsRow (width_of t from)) rows → AllByRecursion (λ (node : Node). IsRow (width_to t node.component) node.row) (kids t from rows)
   within_kids from rows all =

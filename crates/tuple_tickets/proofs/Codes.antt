@@ -4,7 +4,6 @@ use Rattle.std.specs.Coded.{Coded, code_by, coded×, coded⊎, coded_ℕ, coded_
 use Rattle.storm_values.specs.declared.value.Root.{Root}
 use Rattle.tuple_tickets.specs.declared.edge.Edge.{Edge}
 use Rattle.tuple_tickets.specs.Lists.{Message, init, done, failed}
-use Rattle.tuple_tickets.specs.Notes.{Note}
 use Rattle.tuple_tickets.specs.Tickets.{Ticket}
 
 pub root_code : Coded Root
@@ -34,6 +33,3 @@ message_back (failed path) = refl
 
 pub message_code : Coded Message
 message_code = code_by (List Edge ⊎ ((Edge × List Edge) ⊎ List ℕ)) (coded⊎ (coded_list edge_code) (coded⊎ (coded× edge_code (coded_list edge_code)) (coded_list coded_ℕ))) message_out message_in message_back
-
-pub note_code : Coded Note
-note_code = code_by (Root × Message) (coded× root_code message_code) (λ n. (n.root, n.said)) (λ c. record { root = c.0; said = c.1 }) (λ n. refl)

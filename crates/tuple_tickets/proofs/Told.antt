@@ -40,14 +40,6 @@ each-said_about r P (n ∷ ns) all = cases (root_eq n.root r) refl (each-said_ab
     cases true is later = (all.0 (same_root n.root r is), later)
     cases false is later = later
 
--- notes of one root that are within others say what is within what the others say of the root
-pub within-said_about : (r : Root) (ns ms : List Note) → AllByRecursion (λ (n : Note). n.root ≡ r) ns → Within ns ms → Within (map (λ (n : Note). n.said) ns) (said_about r ms)
-within-said_about r ns ms are_of within f = let w = within (of_root r f) in let s = weigh-said_about r f ms in let m = said ns are_of in omega arith
-  where
-    said : (xs : List Note) → AllByRecursion (λ (n : Note). n.root ≡ r) xs → weigh f (map (λ (n : Note). n.said) xs) ≡ weigh (of_root r f) xs
-    said [] all = refl
-    said (x ∷ xs) all = let here : of_root r f x ≡ f x.said = rw (root_itself x.root r all.0) refl in let rest = said xs all.1 in omega arith
-
 module _ {N : Type 0} where
   -- the paths of tickets below a path
   pub paths_of_tickets : (root : Root) (path : List ℕ) (j : ℕ) (ns : List N) (ids : List ℕ) → length ids ≡ length ns → paths_of (edges_of (tickets_from root path j ns ids)) ≡ paths_below path j (length ns)
