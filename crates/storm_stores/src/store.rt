@@ -1,6 +1,6 @@
 ghost use Rattle.std.specs.Prelude.{◌≡◌, ◌≢◌, ◌≤◌, ◌⊎◌, ℕ, List, length, Option, Some, slice_get, IfOk, OnOk, OnErr, IsErrOf};
 ghost use Rattle.std.specs.Map.{keys_of};
-ghost use Rattle.storm_outside.specs.Counts.{Rose};
+ghost use Rattle.storm_values.specs.Counts.{Rose};
 ghost use Rattle.storm_stores.specs.CellMaps.{CellMap, InKeyOrder, cell_at, with_cell};
 ghost use Rattle.storm_stores.specs.Counts.{RoseBy};
 
