@@ -1,4 +1,4 @@
-use Rattle.std.proofs.Common.{◌≡◌, ◌++◌, map, rules, sym, ap, subst, ◌∙◌, List, append-nil, arith}
+use Rattle.std.proofs.Common.{◌≡◌, ◌++◌, map, rules, sym, ap, subst, ◌∙◌, List, append-nil}
 use Rattle.std.specs.Prelude.{IsErrOf}
 use Rattle.std.specs.Map.Iter.{deref_pair}
 use Rattle.storm_values.specs.Counts.{raised}

@@ -1,4 +1,4 @@
-use Rattle.std.proofs.Common.{◌≤◌, rules, subst, ◌∙◌, ap, sym, take, List, Some, arith}
+use Rattle.std.proofs.Common.{◌≤◌, rules, subst, ◌∙◌, ap, sym, take, List, Some}
 use Rattle.std.proofs.lemmas.List.{take_all}
 use Rattle.std.proofs.lemmas.Option.{slice_get-get_or}
 use Rattle.std.specs.Prelude.{IsErrOf, ℕ, length}
