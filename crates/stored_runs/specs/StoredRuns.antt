@@ -12,7 +12,7 @@ use Rattle.event_worlds.specs.Worlds.{Step}
 use Rattle.schedule_core.specs.declared.ended.Ended.TheVariants as ended
 use Rattle.schedule_core.specs.Runs.{HasRoundsOf, HasRunOut, committed_count, first_answers}
 use Rattle.schedule_core.specs.Schedules.{IsOfWorld}
-use Rattle.storm_outside.specs.Counts.{Rose}
+use Rattle.storm_values.specs.Counts.{Rose}
 use Rattle.storm_ticks.specs.Ticking.{handed_on}
 use Rattle.stored_runs.specs.declared.ending.RunEnd.{RunEnd}
 use Rattle.stored_runs.specs.declared.ending.RunEnd.TheVariants as end

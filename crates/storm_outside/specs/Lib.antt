@@ -1,6 +1,4 @@
-pub mod Counts
 pub mod Calls
-pub mod Faults
 pub mod Pieces
 pub mod Files
 pub mod Place
