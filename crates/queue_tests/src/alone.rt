@@ -85,3 +85,44 @@ fn passes_are_split_and_joined_again(rt: HostRuntime) -> Result<(), Fail> {
     assert!(rt; is_left(&rt, mailbox, pass, &[2, 3]));
     Ok(())
 }
+
+// Whether a pass tells that it is not whole while others are out that were split from it, and whole
+// when they are back.
+fn tells_whether_whole(mailbox: &Mailbox<Message>, pass: &mut Pass<Message>) -> Result<bool, Memory>
+    requires { IsPassOf mailbox.now pass.old }
+    ensures { IsPassOf mailbox.now pass.new }
+{
+    let at_first = pass.is_whole();
+    let mut second = mailbox.split(pass)?;
+    let third = mailbox.split(&mut second)?;
+    let in_part = pass.is_whole() | second.is_whole() | third.is_whole();
+    mailbox.join(pass, third);
+    let in_two = pass.is_whole();
+    mailbox.join(pass, second);
+    Ok(at_first & !in_part & !in_two & pass.is_whole())
+}
+
+// Looks into a box whose pass tells that it is whole, and ends it. Whether these are left.
+fn look_at_last<R: Wait>(
+    rt: &R,
+    mailbox: Mailbox<Message>,
+    mut pass: Pass<Message>,
+    numbers: &[u32],
+) -> bool
+    requires { IsPassOf mailbox pass }
+{
+    mailbox.look(&mut pass);
+    if pass.is_whole() {
+        return is_left(rt, mailbox, pass, numbers);
+    }
+    false
+}
+
+#[test]
+fn a_pass_tells_whether_it_is_whole(rt: HostRuntime) -> Result<(), Fail> {
+    let (mailbox, mut pass) = new_box(rt.alloc(), 4)?;
+    assert!(rt; tells_whether_whole(&mailbox, &mut pass)?);
+    assert!(rt; send(&rt, &mailbox, &mut pass, 1));
+    assert!(rt; look_at_last(&rt, mailbox, pass, &[1]));
+    Ok(())
+}

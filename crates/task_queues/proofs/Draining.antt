@@ -77,7 +77,7 @@ pub record Drains {M : Type 0} (is_true : Topology → ℕ → M → Type 0) (ol
 
 module _ {M : Type 0} (is_true : Topology → ℕ → M → Type 0) where
   -- what the box held is no more than the pass knows as its capacity
-  stood_few : (v : View M) (items : List M) → v.books ≢ [] → Stood is_true v items → length items ≤ v.capacity
+  pub stood_few : (v : View M) (items : List M) → v.books ≢ [] → Stood is_true v items → length items ≤ v.capacity
   stood_few v items some_book stood =
       first v.books some_book (each-at (λ (u : View M). AllByRecursion (IsKept is_true stood.kept.plan stood.kept.owner stood.kept.capacity stood.kept.held u) u.books) stood.views stood.pass v stood.kept.books stood.here)
     where
@@ -127,9 +127,9 @@ module _ {M : Type 0} (is_true : Topology → ℕ → M → Type 0) where
       -- one more fits
       pub drain_fits : length items < old.capacity
       drain_fits =
-          let left = takes.4 whole_now in
-          let e = same-length (sent_of now.books) (taken_of now.books ++ takes.0 ∷ left.0) left.1 in
-          let a = length-append (taken_of now.books) (takes.0 ∷ left.0) in
+          let next_one = takes.4 in
+          let e = same-length (sent_of now.books) (taken_of now.books ++ takes.0 ∷ next_one.rest) (next_one.whole whole_now) in
+          let a = length-append (taken_of now.books) (takes.0 ∷ next_one.rest) in
           let b = sent_now in
           let c = taken_now in
           let d = count in
@@ -158,9 +158,9 @@ module _ {M : Type 0} (is_true : Topology → ℕ → M → Type 0) where
       -- fewer are left
       pub drain_nears : length (sent_of next.books) - length (taken_of next.books) < length (sent_of now.books) - length (taken_of now.books)
       drain_nears =
-          let left = takes.4 whole_now in
-          let e = same-length (sent_of now.books) (taken_of now.books ++ takes.0 ∷ left.0) left.1 in
-          let a = length-append (taken_of now.books) (takes.0 ∷ left.0) in
+          let next_one = takes.4 in
+          let e = same-length (sent_of now.books) (taken_of now.books ++ takes.0 ∷ next_one.rest) (next_one.whole whole_now) in
+          let a = length-append (taken_of now.books) (takes.0 ∷ next_one.rest) in
           let b = sent_now in
           let c = taken_now in
           let s : length (sent_of next.books) ≡ length (sent_of old.books) = ap (λ (v : View M). length (sent_of v.books)) next_is ∙ ap length (all-sent old.books (drains.stamps ++ takes.0 ∷ [])) in

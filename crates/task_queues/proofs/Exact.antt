@@ -1,5 +1,5 @@
 -- What send and take answer to a pass with all numbers, and the passes that a caller holds.
-use Rattle.std.proofs.Common.{◌≡◌, ◌≢◌, ℕ, ◌+◌, ◌↔◌, true≢false, List, [], ◌∷◌, ◌++◌, length, length-append, sym, refl, ap, subst, ◌∙◌, arith}
+use Rattle.std.proofs.Common.{◌≡◌, ◌≢◌, ℕ, ◌+◌, ◌↔◌, false, true≢false, List, [], ◌∷◌, ◌++◌, length, length-append, sym, refl, ap, subst, ◌∙◌, arith}
 use Rattle.std.specs.Prelude.{Option, Some, None, Result, Ok, Err, IsErr, IsNone, IfSome, MatchResult, MatchOption}
 use Rattle.crossbeam_queue.specs.Fifo.{Held}
 use Rattle.counted_items.specs.Weights.{Same}
@@ -13,7 +13,7 @@ use Rattle.task_queues.specs.declared.rule.Stamped.{Stamped}
 use Rattle.task_queues.specs.declared.rule.View.{View}
 use Rattle.task_queues.specs.Books.{no_view, sent_of, taken_of, sent_first, taken_first, took, kept_first, cut_first, kept_of, cut_of, both_of, numbers_in, numbers_of}
 use Rattle.task_queues.specs.Rule.{items_of, Stood}
-use Rattle.task_queues.specs.Steps.{SendsOne, TakesOne}
+use Rattle.task_queues.specs.Steps.{SendsOne, IsNext, TakesOne}
 use Rattle.task_queues.proofs.Whole.{same-length, whole_balanced, whole_left}
 
 module _ {M : Type 0} (is_true : Topology → ℕ → M → Type 0) where
@@ -30,10 +30,10 @@ module _ {M : Type 0} (is_true : Topology → ℕ → M → Type 0) where
   take_whole v w (Some x) taken whole = (
     (λ bad. absurd (true≢false bad)),
     λ same.
-        let left = taken.4 whole in
-        let e = same-length (sent_of v.books) (taken_of v.books ++ taken.0 ∷ left.0) left.1 in
+        let next = taken.4 in
+        let e = same-length (sent_of v.books) (taken_of v.books ++ taken.0 ∷ next.rest) (next.whole whole) in
         let f = same-length (sent_of v.books) (taken_of v.books) same in
-        let a = length-append (taken_of v.books) (taken.0 ∷ left.0) in absurd (omega arith),
+        let a = length-append (taken_of v.books) (taken.0 ∷ next.rest) in absurd (omega arith),
   )
   take_whole v w None none whole =
       let stood = none.1.2 in
@@ -45,8 +45,8 @@ module _ {M : Type 0} (is_true : Topology → ℕ → M → Type 0) where
       nothing_held items (s ∷ held) are few same = let e = ap length are in absurd (omega arith)
 
   pub take_stamp : (v w : View M) (r : Option M) → MatchOption r ((w ≡ v) × Held 0 (Stood is_true v)) (λ x. TakesOne is_true v x w)
-      → IfSome r (λ m. (s : Stamped M) × (s.item ≡ m) × (w ≡ took v s))
-  take_stamp v w (Some x) taken = (taken.0, taken.1, taken.2)
+      → IfSome r (λ m. (s : Stamped M) × (s.item ≡ m) × (w ≡ took v s) × IsNext is_true v s)
+  take_stamp v w (Some x) taken = (taken.0, taken.1, taken.2, taken.4)
   take_stamp v w None none = tt
 
 module _ {M : Type 0} where
@@ -85,6 +85,9 @@ module _ {M : Type 0} where
 
   pub join_others : (v u x : View M) (others : List (View M)) → x ≡ both_of v u → Numbered numbers_of (v ∷ u ∷ others) → Numbered numbers_of (x ∷ others)
   join_others v u x others is = join_beside numbers_of v u x others (ap numbers_of is ∙ map-append (λ (b : Book M). b.number) v.books u.books)
+
+  pub joined_fresh : (v u x : View M) → v.fresh ≡ false → x ≡ both_of v u → x.fresh ≡ false
+  joined_fresh v u x named is = ap (λ (z : View M). z.fresh) is ∙ named
 
   pub joined_some : (v u x : View M) → v.books ≢ [] → x ≡ both_of v u → x.books ≢ []
   joined_some v u x some_book is = subst (λ (z : View M). z.books ≢ []) (sym is) (some-append v.books u.books some_book)

@@ -1,5 +1,6 @@
 mod Weighed
 mod Stamps
+mod Shares
 mod Sending
 mod Taking
 mod Splitting
@@ -9,3 +10,4 @@ mod Exact
 mod Order
 mod Arriving
 mod Draining
+mod Looking

@@ -16,6 +16,7 @@ use Rattle.task_queues.specs.declared.rule.View.{View}
 use Rattle.task_queues.specs.Books.{viewed, stamp, stamped_from, numbers_of}
 use Rattle.task_queues.specs.Rule.{Below, Rises, IsKept, Kept}
 use Rattle.task_queues.proofs.Weighed.{sent_weight, taken_weight, in_view, books-set, balanced_in, balanced_out}
+use Rattle.task_queues.proofs.Shares.{shared_set}
 use Rattle.task_queues.proofs.Stamps.{stamped-more, late, all-below, early, Rises-more}
 
 -- what a book keeps is the same of views with the same terms
@@ -25,15 +26,15 @@ with_view is_true plan owner capacity held v w p o c bs all =
     each-weaker (IsKept is_true plan owner capacity held v) (IsKept is_true plan owner capacity held w)
     (λ b old. record { plan_is = p ∙ old.plan_is; owner_is = o ∙ old.owner_is; capacity_is = c ∙ old.capacity_is; sent_true = old.sent_true; taken_true = old.taken_true; rises = old.rises }) bs all
 
-module _ {M : Type 0} (is_true : Topology → ℕ → M → Type 0) (plan : Topology) (owner capacity : ℕ) (b : Book M) (bs : List (Book M)) where
+module _ {M : Type 0} (is_true : Topology → ℕ → M → Type 0) (plan : Topology) (owner capacity share : ℕ) (b : Book M) (bs : List (Book M)) where
   abbrev sent_book : M → Book M
   sent_book x = record { number = b.number; sent = b.sent ++ x ∷ []; taken = b.taken }
 
-  pub push_kept : (n port : ℕ) (x : M) (items : List M) (views : List (View M)) → capacity ≡ n → is_true plan owner x → length items < n → Kept is_true items views → get_elem? views port ≡ some (viewed plan owner capacity (b ∷ bs))
-      → Kept is_true (items ++ x ∷ []) (set views port (viewed plan owner capacity (sent_book x ∷ bs)))
+  pub push_kept : (n port : ℕ) (x : M) (items : List M) (views : List (View M)) → capacity ≡ n → is_true plan owner x → length items < n → Kept is_true items views → get_elem? views port ≡ some (viewed plan owner capacity share (b ∷ bs))
+      → Kept is_true (items ++ x ∷ []) (set views port (viewed plan owner capacity share (sent_book x ∷ bs)))
   push_kept n port x items views room true_x short kept at =
-      let v : View M = viewed plan owner capacity (b ∷ bs) in
-      let w : View M = viewed plan owner capacity (sent_book x ∷ bs) in
+      let v : View M = viewed plan owner capacity share (b ∷ bs) in
+      let w : View M = viewed plan owner capacity share (sent_book x ∷ bs) in
       let s : Stamped M = stamp b.number.digits (length b.sent) x in
       let L : Stamped M → ℕ = late b.number.digits (length b.sent) in
       let P : View M → Type 0 = λ u. AllByRecursion (IsKept is_true kept.plan kept.owner kept.capacity kept.held u) u.books in
@@ -76,4 +77,5 @@ module _ {M : Type 0} (is_true : Topology → ℕ → M → Type 0) (plan : Topo
             let before = balanced_in kept.held views kept.balanced h in
             omega (arith, weigh-append h kept.held (s ∷ [])));
         numbered = numbered_set numbers_of views port v w at refl kept.numbered;
+        shared = shared_set views port v w b bs at refl refl kept.shared;
       }

@@ -1,5 +1,5 @@
 -- A split and a join keep the rule, and a box gets its terms.
-use Rattle.std.proofs.Common.{◌≡◌, ℕ, zero, suc, ◌+◌, false, true≢false, List, [], ◌∷◌, ◌++◌, set, inr, ⊎_elim, sym, refl, ap, ◌∙◌, arith}
+use Rattle.std.proofs.Common.{◌≡◌, ℕ, zero, suc, ◌+◌, false, true≢false, List, [], ◌∷◌, ◌++◌, set, inl, inr, ⊎_elim, sym, refl, ap, ◌∙◌, arith}
 use Rattle.std.specs.List.{AllByRecursion}
 use mathlib.Core.Option.{some, some-injective, some-ne-none}
 use lib.ListN.{get_elem?}
@@ -14,9 +14,10 @@ use Rattle.pass_numbers.proofs.Numbering.{first_whole, one_numbered, numbered_as
 use Rattle.topology_plan.specs.Topology.{Topology}
 use Rattle.task_queues.specs.declared.rule.Book.{Book}
 use Rattle.task_queues.specs.declared.rule.View.{View}
-use Rattle.task_queues.specs.Books.{viewed, no_view, blank, first_view, numbers_in, numbers_of, kept_first, cut_first}
+use Rattle.task_queues.specs.Books.{viewed, no_view, blank, first_view, numbers_in, numbers_of, kept_first, cut_first, left_share, given_share}
 use Rattle.task_queues.specs.Rule.{IsKept, Kept, Ruled}
 use Rattle.task_queues.proofs.Weighed.{sent_weight, taken_weight, in_view, over_books, books-set, books-set-append, balanced_in, balanced_out}
+use Rattle.task_queues.proofs.Shares.{shared_cut, shared_join}
 use Rattle.task_queues.proofs.Sending.{with_view}
 
 module _ {M : Type 0} (is_true : Topology → ℕ → M → Type 0) where
@@ -49,6 +50,7 @@ module _ {M : Type 0} (is_true : Topology → ℕ → M → Type 0) where
     balanced = λ h. refl;
     numbered = numbered_as (numbers_of {M = M}) (numbers_of {M = M}) (first_view plan owner capacity ∷ []) (first_view plan owner capacity ∷ no_view ∷ []) (λ f. omega arith)
         (one_numbered (numbers_of {M = M}) (first_view plan owner capacity) first_whole);
+    shared = inr (omega arith, (inr (omega arith), (inl refl, tt)));
   }
 
   pub names : (port : ℕ) (v : View M) (plan : Topology) (owner capacity : ℕ) (items : List M) (views : List (View M)) → v ≡ blank → Ruled is_true items views → get_elem? views port ≡ some v
@@ -60,18 +62,18 @@ module _ {M : Type 0} (is_true : Topology → ℕ → M → Type 0) where
       port_is zero at = refl
       port_is (suc port) at = absurd (some-ne-none v (sym at))
 
-module _ {M : Type 0} (is_true : Topology → ℕ → M → Type 0) (plan : Topology) (owner capacity : ℕ) (b : Book M) (bs : List (Book M)) where
+module _ {M : Type 0} (is_true : Topology → ℕ → M → Type 0) (plan : Topology) (owner capacity share : ℕ) (b : Book M) (bs : List (Book M)) where
   -- ---- a split
 
   abbrev kept_view : View M
-  kept_view = viewed plan owner capacity (kept_first (b ∷ bs))
+  kept_view = viewed plan owner capacity (left_share share) (kept_first (b ∷ bs))
 
   abbrev cut_view : View M
-  cut_view = viewed plan owner capacity (cut_first (b ∷ bs))
+  cut_view = viewed plan owner capacity (given_share share) (cut_first (b ∷ bs))
 
-  pub cut_kept : (port : ℕ) (items : List M) (views : List (View M)) → Kept is_true items views → get_elem? views port ≡ some (viewed plan owner capacity (b ∷ bs)) → Kept is_true items (set views port kept_view ++ cut_view ∷ [])
+  pub cut_kept : (port : ℕ) (items : List M) (views : List (View M)) → Kept is_true items views → get_elem? views port ≡ some (viewed plan owner capacity share (b ∷ bs)) → Kept is_true items (set views port kept_view ++ cut_view ∷ [])
   cut_kept port items views kept at =
-      let v : View M = viewed plan owner capacity (b ∷ bs) in
+      let v : View M = viewed plan owner capacity share (b ∷ bs) in
       let w : View M = kept_view in
       let r : View M = cut_view in
       let after : List (View M) = set views port w ++ r ∷ [] in
@@ -97,16 +99,17 @@ module _ {M : Type 0} (is_true : Topology → ℕ → M → Type 0) (plan : Topo
             let taken = same (taken_weight h) refl refl in
             let before = balanced_in kept.held views kept.balanced h in omega arith);
         numbered = split_numbered numbers_of no_view refl views port v w r at (λ nil. cc) refl refl kept.numbered;
+        shared = shared_cut views port v w r b bs at refl refl refl kept.shared;
       }
 
   -- ---- a join
 
-  pub join_kept : (port other : ℕ) (u : View M) (items : List M) (views : List (View M)) → Kept is_true items views → get_elem? views port ≡ some (viewed plan owner capacity (b ∷ bs))
-      → get_elem? (set views port (viewed plan owner capacity ((b ∷ bs) ++ u.books))) other ≡ some u → get_elem? views other ≡ some u
-      → Kept is_true items (set (set views port (viewed plan owner capacity ((b ∷ bs) ++ u.books))) other no_view)
+  pub join_kept : (port other : ℕ) (u : View M) (items : List M) (views : List (View M)) → Kept is_true items views → get_elem? views port ≡ some (viewed plan owner capacity share (b ∷ bs))
+      → get_elem? (set views port (viewed plan owner capacity (share + u.share) ((b ∷ bs) ++ u.books))) other ≡ some u → get_elem? views other ≡ some u
+      → Kept is_true items (set (set views port (viewed plan owner capacity (share + u.share) ((b ∷ bs) ++ u.books))) other no_view)
   join_kept port other u items views kept at there was =
-      let v : View M = viewed plan owner capacity (b ∷ bs) in
-      let w : View M = viewed plan owner capacity ((b ∷ bs) ++ u.books) in
+      let v : View M = viewed plan owner capacity share (b ∷ bs) in
+      let w : View M = viewed plan owner capacity (share + u.share) ((b ∷ bs) ++ u.books) in
       let after : List (View M) = set (set views port w) other no_view in
       let P : View M → Type 0 = λ z. AllByRecursion (IsKept is_true kept.plan kept.owner kept.capacity kept.held z) z.books in
       let own = each-at P views port v kept.books at in
@@ -137,4 +140,5 @@ module _ {M : Type 0} (is_true : Topology → ℕ → M → Type 0) (plan : Topo
         rises = kept.rises;
         balanced = balanced_out kept.held after (λ h. same (sent_weight h) ∙ balanced_in kept.held views kept.balanced h ∙ ap (λ (n : ℕ). n + weigh h kept.held) (sym (same (taken_weight h))));
         numbered = numbered_as numbers_of numbers_of views after numbers kept.numbered;
+        shared = shared_join views port other v u w b bs at there refl refl kept.shared;
       }

@@ -14,25 +14,26 @@ use Rattle.task_queues.specs.declared.rule.View.{View}
 use Rattle.task_queues.specs.Books.{viewed, numbers_of}
 use Rattle.task_queues.specs.Rule.{items_of, Rises, Balanced, IsKept, Kept}
 use Rattle.task_queues.proofs.Weighed.{sent_weight, taken_weight, books-set, balanced_in, balanced_out}
+use Rattle.task_queues.proofs.Shares.{shared_set}
 use Rattle.task_queues.proofs.Stamps.{Rises-skip}
 use Rattle.task_queues.proofs.Sending.{with_view}
 
-module _ {M : Type 0} (is_true : Topology → ℕ → M → Type 0) (plan : Topology) (owner capacity : ℕ) (b : Book M) (bs : List (Book M)) where
+module _ {M : Type 0} (is_true : Topology → ℕ → M → Type 0) (plan : Topology) (owner capacity share : ℕ) (b : Book M) (bs : List (Book M)) where
   abbrev taken_book : Stamped M → Book M
   taken_book s = record { number = b.number; sent = b.sent; taken = b.taken ++ s ∷ [] }
 
   -- the stamp that was taken, what is held after it, the rule, and that the message is true
   abbrev pub Popped : (port : ℕ) (x : M) (items : List M) (views : List (View M)) → Kept is_true (x ∷ items) views → Type 0
-  Popped port x items views kept = (s : Stamped M) × (rest : List (Stamped M)) × (s.item ≡ x) × (kept.held ≡ s ∷ rest) × Kept is_true items (set views port (viewed plan owner capacity (taken_book s ∷ bs))) × is_true plan owner x
+  Popped port x items views kept = (s : Stamped M) × (rest : List (Stamped M)) × (s.item ≡ x) × (kept.held ≡ s ∷ rest) × Kept is_true items (set views port (viewed plan owner capacity share (taken_book s ∷ bs))) × is_true plan owner x
 
-  pub pop_kept : (port : ℕ) (x : M) (items : List M) (views : List (View M)) (kept : Kept is_true (x ∷ items) views) → get_elem? views port ≡ some (viewed plan owner capacity (b ∷ bs)) → Popped port x items views kept
+  pub pop_kept : (port : ℕ) (x : M) (items : List M) (views : List (View M)) (kept : Kept is_true (x ∷ items) views) → get_elem? views port ≡ some (viewed plan owner capacity share (b ∷ bs)) → Popped port x items views kept
   pop_kept port x items views kept at = popped kept.held refl
     where
       popped : (held : List (Stamped M)) → kept.held ≡ held → Popped port x items views kept
       popped [] is = let e : items_of [] ≡ x ∷ items = subst (λ (ss : List (Stamped M)). items_of ss ≡ x ∷ items) is kept.held_are in absurd (cc)
       popped (s ∷ ss) is =
-          let v : View M = viewed plan owner capacity (b ∷ bs) in
-          let w : View M = viewed plan owner capacity (taken_book s ∷ bs) in
+          let v : View M = viewed plan owner capacity share (b ∷ bs) in
+          let w : View M = viewed plan owner capacity share (taken_book s ∷ bs) in
           let P : View M → Type 0 = λ u. AllByRecursion (IsKept is_true kept.plan kept.owner kept.capacity (s ∷ ss) u) u.books in
           let Q : View M → Type 0 = λ u. AllByRecursion (IsKept is_true kept.plan kept.owner kept.capacity ss u) u.books in
           let are : items_of (s ∷ ss) ≡ x ∷ items = subst (λ (zs : List (Stamped M)). items_of zs ≡ x ∷ items) is kept.held_are in
@@ -72,6 +73,7 @@ module _ {M : Type 0} (is_true : Topology → ℕ → M → Type 0) (plan : Topo
                   let before = balanced_in (s ∷ ss) views balanced h in
                   omega arith);
               numbered = numbered_set numbers_of views port v w at refl kept.numbered;
+              shared = shared_set views port v w b bs at refl refl kept.shared;
             },
             subst (λ (k : ℕ). is_true plan k x) (sym own.0.owner_is) (subst (λ (p : Topology). is_true p kept.owner x) (sym own.0.plan_is) kept.items_true.0),
           )

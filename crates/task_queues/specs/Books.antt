@@ -1,6 +1,6 @@
 -- What the passes of a box know: the terms of the box, and a book for each number of what was sent
 -- and taken under it. This project's own.
-use Rattle.std.specs.Prelude.{ℕ, suc, ◌+◌, true, false, List, [], ◌∷◌, ◌++◌, map}
+use Rattle.std.specs.Prelude.{ℕ, suc, ◌+◌, ◌-◌, ◌/◌, max, nat_lt, if◌then◌else◌, true, false, List, [], ◌∷◌, ◌++◌, map}
 use Rattle.std.specs.List.{flat_map}
 use Rattle.pass_numbers.specs.declared.Number.{Number}
 use Rattle.pass_numbers.specs.Numbers.{fresh}
@@ -24,6 +24,20 @@ no_plan = record {
   buckets = 0;
   attempts = 0;
 }
+
+-- ---- shares
+
+-- the share of a box's first pass
+abbrev pub all_shares : ℕ
+all_shares = 65535
+
+-- what a split gives the new pass of a share: a 256th, at least 1; a share below 2 is lost
+abbrev pub given_share : ℕ → ℕ
+given_share share = if nat_lt share 2 then 0 else max 1 (share / 256)
+
+-- what a split leaves
+abbrev pub left_share : ℕ → ℕ
+left_share share = if nat_lt share 2 then 0 else share - max 1 (share / 256)
 
 module _ {M : Type 0} where
   -- ---- stamps
@@ -86,32 +100,53 @@ module _ {M : Type 0} where
 
   -- ---- views
 
-  abbrev pub viewed : Topology → ℕ → ℕ → List (Book M) → View M
-  viewed plan owner capacity books =
-      record { fresh = false; plan = plan; owner = owner; capacity = capacity; books = books }
+  abbrev pub viewed : Topology → ℕ → ℕ → ℕ → List (Book M) → View M
+  viewed plan owner capacity share books =
+      record {
+        fresh = false;
+        plan = plan;
+        owner = owner;
+        capacity = capacity;
+        share = share;
+        books = books;
+      }
 
   -- the view of a pass that is no more
   abbrev pub no_view : View M
-  no_view = viewed no_plan 0 0 []
+  no_view = viewed no_plan 0 0 0 []
 
   -- the view of a box that is being made
   abbrev pub blank : View M
-  blank = record { fresh = true; plan = no_plan; owner = 0; capacity = 0; books = [] }
+  blank =
+      record {
+        fresh = true;
+        plan = no_plan;
+        owner = 0;
+        capacity = 0;
+        share = 0;
+        books = [];
+      }
 
   -- the view of a box's first pass
   abbrev pub first_view : Topology → ℕ → ℕ → View M
-  first_view plan owner capacity = viewed plan owner capacity (empty_book (fresh []) ∷ [])
+  first_view plan owner capacity =
+      viewed plan owner capacity all_shares (empty_book (fresh []) ∷ [])
 
-  -- the same terms with other books
-  abbrev pub with_books : View M → List (Book M) → View M
-  with_books v books =
+  -- the same terms with another share and other books
+  abbrev pub with_share : View M → ℕ → List (Book M) → View M
+  with_share v share books =
       record {
         fresh = v.fresh;
         plan = v.plan;
         owner = v.owner;
         capacity = v.capacity;
+        share = share;
         books = books;
       }
+
+  -- the same terms with other books
+  abbrev pub with_books : View M → List (Book M) → View M
+  with_books v books = with_share v v.share books
 
   abbrev pub sent_to : View M → M → View M
   sent_to v x = with_books v (sent_first v.books x)
@@ -120,14 +155,14 @@ module _ {M : Type 0} where
   took v s = with_books v (taken_first v.books s)
 
   abbrev pub kept_of : View M → View M
-  kept_of v = with_books v (kept_first v.books)
+  kept_of v = with_share v (left_share v.share) (kept_first v.books)
 
   abbrev pub cut_of : View M → View M
-  cut_of v = with_books v (cut_first v.books)
+  cut_of v = with_share v (given_share v.share) (cut_first v.books)
 
-  -- a join appends the other's books
+  -- a join adds the other's share, and appends its books
   abbrev pub both_of : View M → View M → View M
-  both_of v w = with_books v (v.books ++ w.books)
+  both_of v w = with_share v (v.share + w.share) (v.books ++ w.books)
 
   -- the numbers of a pass
   abbrev pub numbers_of : View M → List Number

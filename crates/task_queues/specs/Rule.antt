@@ -4,13 +4,13 @@ use Rattle.std.specs.Prelude.{◌≡◌, ◌⊎◌, ℕ, ◌<◌, ◌≤◌, fal
 use Rattle.std.specs.List.{AllByRecursion, flat_map}
 use mathlib.Core.Option.{some}
 use lib.ListN.{get_elem?}
-use Rattle.counted_items.specs.Weights.{Same}
+use Rattle.counted_items.specs.Weights.{weigh, Same}
 use Rattle.pass_numbers.specs.Numbers.{Numbered}
 use Rattle.topology_plan.specs.Topology.{Topology}
 use Rattle.task_queues.specs.declared.rule.Book.{Book}
 use Rattle.task_queues.specs.declared.rule.Stamped.{Stamped}
 use Rattle.task_queues.specs.declared.rule.View.{View}
-use Rattle.task_queues.specs.Books.{blank, sent_of, taken_of, numbers_of}
+use Rattle.task_queues.specs.Books.{all_shares, blank, sent_of, taken_of, numbers_of}
 
 module _ {M : Type 0} where
   -- the messages without their stamps
@@ -32,6 +32,16 @@ module _ {M : Type 0} where
   Balanced held views =
       Same (flat_map (λ (v : View M). sent_of v.books) views)
       (flat_map (λ (v : View M). taken_of v.books) views ++ held)
+
+  -- a pass with a number has some share
+  abbrev pub HasShare : View M → Type 0
+  HasShare v = (v.books ≡ []) ⊎ (1 ≤ v.share)
+
+  -- part of the first pass's share was lost, or all of it is there and each pass has some
+  abbrev pub Shared : List (View M) → Type 0
+  Shared views =
+      (weigh (λ (v : View M). v.share) views < all_shares)
+      ⊎ ((weigh (λ (v : View M). v.share) views ≡ all_shares) × AllByRecursion HasShare views)
 
 module _ {M : Type 0} (is_true : Topology → ℕ → M → Type 0) where
   -- A book of a view: the view names the terms of the box, what was sent and taken is true, and the
@@ -60,6 +70,7 @@ module _ {M : Type 0} (is_true : Topology → ℕ → M → Type 0) where
     pub rises : Rises held
     pub balanced : Balanced held views
     pub numbered : Numbered numbers_of views
+    pub shared : Shared views
 
   -- a box that is being made, or one whose passes name its terms
   abbrev pub Ruled : List M → List (View M) → Type 0

@@ -1,11 +1,13 @@
 -- What a pass with all numbers knows of its box.
-use Rattle.std.specs.Prelude.{◌≡◌, ℕ, List, ◌++◌, filter, Any}
+use Rattle.std.specs.Prelude.{◌≡◌, ℕ, ◌≤◌, List, ◌++◌, length, filter, Any}
 use Rattle.std.specs.List.{AllByRecursion}
 use Rattle.std.specs.Str.{bytes_eq}
 use Rattle.std.specs.Coded.{Coded}
 use Rattle.counted_items.specs.Weights.{Same}
 use Rattle.task_queues.specs.declared.rule.Book.{Book}
 use Rattle.task_queues.specs.declared.rule.Stamped.{Stamped}
+use Rattle.task_queues.specs.declared.rule.View.{View}
+use Rattle.topology_plan.specs.Topology.{Topology}
 use Rattle.task_queues.specs.Books.{stamped, sent_of, taken_of}
 use Rattle.task_queues.specs.Rule.{items_of, Rises}
 
@@ -33,3 +35,13 @@ module _ {M : Type 0} where
     pub rises : Rises held
     pub above : AllByRecursion (λ (b : Book M). Rises (b.taken ++ held)) books
     pub arrives : Coded M → HasOneTaker books → Arrives books (taken_of books ++ held)
+
+  -- These stamps are what the box holds: with what was taken they are all that was sent, each once.
+  -- They are true and no more than the capacity, and of each number they rise, above what was taken.
+  pub record HoldsRest (is_true : Topology → ℕ → M → Type 0) (v : View M) : Type 0 where
+    pub held : List (Stamped M)
+    pub all : Same (sent_of v.books) (taken_of v.books ++ held)
+    pub are_true : AllByRecursion (λ (s : Stamped M). is_true v.plan v.owner s.item) held
+    pub few : length held ≤ v.capacity
+    pub rises : Rises held
+    pub above : AllByRecursion (λ (b : Book M). Rises (b.taken ++ held)) v.books

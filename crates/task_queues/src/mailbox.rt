@@ -1,6 +1,6 @@
 //! The calls of a box. Each is one step on its queue.
-ghost use Rattle.std.specs.Prelude.{◌≡◌, ◌<◌, ◌≤◌, ◌+◌, ◌↔◌, ◌++◌, ◌∷◌, [], ◌≢◌, false, vec_capacity, List, length};
-ghost use Rattle.std.specs.Prelude.{IfOk, IsOk, IsErr, IfErr, OnOk, OnErr, IsNone, IfSome, OnSome};
+ghost use Rattle.std.specs.Prelude.{◌≡◌, ◌==◌, ◌<◌, ◌≤◌, ◌+◌, ◌↔◌, ◌++◌, ◌∷◌, [], ◌≢◌, false, vec_capacity, List, length};
+ghost use Rattle.std.specs.Prelude.{IfOk, IsOk, IsErr, IfErr, OnOk, OnErr, IsNone, IfSome, OnSome, IsTrue};
 ghost use Rattle.std.specs.Option.{IfNone};
 ghost use Rattle.crossbeam_queue.specs.Passes.{view, IsSamePass, ruled_capacity};
 ghost use Rattle.counted_items.specs.Weights.{Same};
@@ -9,8 +9,10 @@ ghost use Rattle.task_queues.specs.declared.rule.Stamped.{Stamped};
 ghost use Rattle.task_queues.specs.declared.rule.View.{View};
 ghost use Rattle.task_queues.specs.Books.{blank, first_view, sent_to, took, kept_of, cut_of, both_of};
 ghost use Rattle.task_queues.specs.Books.{numbers_of, sent_of, taken_of};
+ghost use Rattle.task_queues.specs.Books.{all_shares, given_share, left_share};
 ghost use Rattle.task_queues.specs.Passes.{IsPassOf, HeldAt, view_of};
-ghost use Rattle.task_queues.specs.Whole.{IsLeft};
+ghost use Rattle.task_queues.specs.Steps.{IsNext};
+ghost use Rattle.task_queues.specs.Whole.{HoldsRest, IsLeft};
 ghost use Rattle.std.specs.List.{AllByRecursion};
 
 use crate::pass::{Mailbox, Pass, Rest};
@@ -39,11 +41,12 @@ impl<M: Truth + Drop> Mailbox<M> {
         let room = Vec::with_capacity(alloc, capacity as usize)?;
         let (queue, mut inner) = RuledArrayQueue::ruled(alloc, capacity as usize)?;
         name::<M, Brand>(&queue, &mut inner, plan, owner, capacity);
-        Ok((Mailbox { queue, room }, Pass { inner, size: 0 }))
+        Ok((Mailbox { queue, room }, Pass { inner, share: ALL }))
     }
 
     /// Puts a message at the end of the box, and notes it. The message comes back only if the box
-    /// was full at a moment of this call. It may wait for a step of another thread.
+    /// was full at a moment of this call, which the contract shows of a pass with all numbers alone.
+    /// It may wait for a step of another thread.
     pub fn send<R: Wait>(&self, rt: &R, pass: &mut Pass<M>, m: M) -> Result<(), M>
         requires pass { IsPassOf self.now pass.old }
         requires is_true { M.is_true (view_of pass.old).plan (view_of pass.old).owner m }
@@ -64,14 +67,16 @@ impl<M: Truth + Drop> Mailbox<M> {
     }
 
     /// Takes the oldest message, and notes it. `None` comes only if the box was empty at a moment
-    /// of this call. It may wait for a step of another thread.
+    /// of this call, which the contract shows of a pass with all numbers alone. It may wait for a
+    /// step of another thread.
     pub fn take<R: Wait>(&self, rt: &R, pass: &mut Pass<M>) -> Option<M>
         requires { IsPassOf self.now pass.old }
         ensures pass { IsPassOf self.now pass.new }
         ensures is_true { IfSome result
             (M.is_true (view_of pass.old).plan (view_of pass.old).owner) }
         ensures taken { IfSome result (λ m. (s : Stamped M)
-            × (s.item ≡ m) × (view_of pass.new ≡ took (view_of pass.old) s)) }
+            × (s.item ≡ m) × (view_of pass.new ≡ took (view_of pass.old) s)
+            × IsNext M.is_true (view_of pass.old) s) }
         ensures numbers { numbers_of (view_of pass.new) ≡ numbers_of (view_of pass.old) }
         ensures same { IfNone result (view_of pass.new ≡ view_of pass.old) }
         ensures empty { IfNone result (HeldAt M.is_true pass.old 0) }
@@ -84,7 +89,8 @@ impl<M: Truth + Drop> Mailbox<M> {
         self.queue.pop_as::<Takes<M>, R>(rt, &mut pass.inner)
     }
 
-    /// A second pass, with the next number. It takes no memory today.
+    /// A second pass, with the next number and some of the share. It takes no memory today. Where the
+    /// share is below 2 it is lost: no pass is told to be whole by `is_whole` after that.
     pub fn split(&self, pass: &mut Pass<M>) -> Result<Pass<M>, Memory>
         requires { IsPassOf self.now pass.old }
         ensures ok { IsOk result }
@@ -99,22 +105,44 @@ impl<M: Truth + Drop> Mailbox<M> {
             Numbered numbers_of (view_of pass.new ∷ view_of made ∷ others)) }
     {
         let inner = self.queue.another::<Cut>(&mut pass.inner);
-        Ok(Pass { inner, size: 0 })
+        let share = given(pass.share);
+        pass.share = left(pass.share);
+        Ok(Pass { inner, share })
     }
 
-    /// Puts the other's books behind those of `into`. The other's view is empty after that.
+    /// Puts the other's books behind those of `into`, and adds its share. The other's view is empty
+    /// after that.
     pub fn join(&self, into: &mut Pass<M>, other: Pass<M>)
         requires pass { IsPassOf self.now into.old }
         requires other { IsPassOf self.now other }
         ensures pass { IsPassOf self.now into.new }
         ensures view { view_of into.new ≡ both_of (view_of into.old) (view_of other) }
 
+        // A pass that has all numbers then knows what the box holds.
+        ensures whole { IsWhole (numbers_of (view_of into.new)) →
+            HoldsRest M.is_true (view_of into.new) }
+
         // Passes that had all numbers, each once, have them without the other.
         ensures numbered { (others : List (View M)) →
             Numbered numbers_of (view_of into.old ∷ view_of other ∷ others) →
             Numbered numbers_of (view_of into.new ∷ others) }
     {
+        let share = other.share;
         self.queue.absorb::<Joined>(&mut into.inner, other.inner);
+        self.queue.learn_as::<Takes<M>>(&mut into.inner);
+        into.share += share;
+    }
+
+    /// What a pass with all numbers knows of its box: what was sent was taken or is held, and what is
+    /// held is true. It is no step of the box, and never waits.
+    pub fn look(&self, pass: &mut Pass<M>)
+        requires { IsPassOf self.now pass.old }
+        ensures pass { IsPassOf self.now pass.new }
+        ensures view { view_of pass.new ≡ view_of pass.old }
+        ensures holds { IsWhole (numbers_of (view_of pass.old)) →
+            HoldsRest M.is_true (view_of pass.old) }
+    {
+        self.queue.learn_as::<Takes<M>>(&mut pass.inner);
     }
 }
 
@@ -130,6 +158,38 @@ impl<M: Truth + Drop> Mailbox<M> {
     {
         let Mailbox { queue, room } = self;
         Rest::from_vec(drain(rt, &queue, pass.inner, room))
+    }
+}
+
+impl<M> Pass<M> {
+    /// Whether this pass has all of the share that the first one had. It has all numbers then, so that
+    /// it may be used as a whole one where no contract says that it is.
+    pub fn is_whole(&self) -> bool
+        ensures share { result ≡ ((view_of self.now).share == all_shares) }
+        ensures whole { IsTrue result → IsWhole (numbers_of (view_of self.now)) }
+    {
+        self.share == ALL
+    }
+}
+
+// The share of a box's first pass.
+const ALL: u16 = 65535;
+
+// What a split gives the new pass of a share.
+fn given(share: u16) -> u16
+    ensures { result ≡ given_share share }
+{
+    if share < 2 { 0 } else { (share / 256).max(1) }
+}
+
+// What it leaves.
+fn left(share: u16) -> u16
+    ensures { result ≡ left_share share }
+{
+    if share < 2 {
+        0
+    } else {
+        share - (share / 256).max(1)
     }
 }
 

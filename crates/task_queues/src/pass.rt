@@ -1,6 +1,8 @@
 //! A box, and a pass to it.
 ghost use Rattle.std.specs.Prelude.{◌≡◌, ◌≢◌, ◌≤◌, [], false, vec_len, vec_capacity, length};
 ghost use Rattle.crossbeam_queue.specs.Passes.{view, ruled_capacity};
+ghost use Rattle.pass_numbers.specs.Numbers.{IsWhole};
+ghost use Rattle.task_queues.specs.Books.{all_shares, numbers_of};
 
 use crate::rule::{Books, Truth, View};
 use crossbeam_queue::RuledArrayQueue;
@@ -19,14 +21,15 @@ pub struct Mailbox<M: Truth + Drop> {
     ghost no_message: { vec_len room ≡ 0 },
 }
 
-/// The right to use a box, with what it knows: the plan, the owner, the capacity, and the books of
-/// what it sent and took.
+/// The right to use a box, with what it knows: the plan, the owner, the capacity, its share, and the
+/// books of what it sent and took. At run time it is its share, two bytes.
 #[derive(Drop)]
 pub struct Pass<M> {
     pub(crate) inner: crossbeam_queue::Pass<M, View<M>>,
-    // a size, so that a pass in a list of passes can be lent
-    pub(crate) size: u8,
+    pub(crate) share: u16,
     ghost no_slot: { length inner.me.1 ≡ 0 },
     ghost named: { (view inner).fresh ≡ false },
     ghost some_book: { (view inner).books ≢ [] },
+    ghost share_is: { share ≡ (view inner).share },
+    ghost all_is_whole: { (view inner).share ≡ all_shares → IsWhole (numbers_of (view inner)) },
 }

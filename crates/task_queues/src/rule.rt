@@ -36,6 +36,8 @@ pub struct View<M> {
     pub plan: Plan,
     pub owner: u64,
     pub capacity: u64,
+    /// What the pass has of the share that the first pass had.
+    pub share: u64,
     /// A book for each number of the pass. It sends and takes under the first.
     pub books: LinkedList<Book<M>>,
 }
