@@ -28,14 +28,16 @@ enum Handed {
     SlowTicks,
     /// The words of `TASK_WORDS` and `COORDINATOR_WORDS` as ids.
     TwoOfOneId,
-    /// A store whose first put fails when it has happened.
-    FailingPut,
+    /// A store of which a put fails.
+    FailingPut(FailAt),
 }
 
 // The folders of operations and groupings, and what is handed in to a run.
-const OPERATIONS: [(&str, Handed); 18] = [
+const OPERATIONS: [(&str, Handed); 20] = [
     ("word_count", Handed::Nothing),
     ("pairs", Handed::Nothing),
+    ("log_lines", Handed::Nothing),
+    ("opaque", Handed::Nothing),
     ("split", Handed::Nothing),
     ("project", Handed::Nothing),
     ("filter", Handed::Nothing),
@@ -55,14 +57,20 @@ const OPERATIONS: [(&str, Handed); 18] = [
 ];
 
 // The folders of ends, the command, and what is handed in.
-const ENDS: [(&str, &str, Handed); 7] = [
+const ENDS: [(&str, &str, Handed); 9] = [
     ("end_committed", "run", Handed::Nothing),
     ("end_failed", "run", Handed::Nothing),
     ("end_timed_out", "replay", Handed::Nothing),
     ("end_coincided", "replay", Handed::TwoOfOneId),
-    ("end_commit_failed", "run", Handed::FailingPut),
+    ("end_commit_failed", "run", Handed::FailingPut(FIRST_PUT)),
     ("end_exhausted", "run", Handed::Nothing),
     ("end_unfinished", "replay", Handed::Nothing),
+    (
+        "opaque_commit_failed",
+        "run",
+        Handed::FailingPut(FOURTH_PUT),
+    ),
+    ("retries", "replay", Handed::Nothing),
 ];
 
 // Of `end_coincided` the task is the source 0 of ids, and the coordinator the source 2. The first
@@ -71,11 +79,19 @@ const TASK_WORDS: [u64; 5] = [0, 9, 9, 7, 8];
 
 const COORDINATOR_WORDS: [u64; 3] = [0, 5, 6];
 
-// Of `end_commit_failed` the state is the component 1, and has one part.
+// Where a put fails the state is the component 1, and has one part.
 const FIRST_PUT: FailAt = FailAt {
     kind: CallKind::Put,
     number: 1,
     happened: true,
+};
+
+// Of two batches with two keys each it is the second batch's second put, so that of its first
+// attempt one cell is written and the other is not.
+const FOURTH_PUT: FailAt = FailAt {
+    kind: CallKind::Put,
+    number: 4,
+    happened: false,
 };
 
 // The most bytes of what is printed.
@@ -101,8 +117,8 @@ fn ticks(alloc: Global, handed: Handed) -> Result<ScriptTicks, Memory> {
 
 fn stores(alloc: Global, handed: Handed) -> Result<MemMaker, Memory> {
     let mut stores = MemMaker::new(alloc);
-    if matches!(handed, Handed::FailingPut) {
-        stores.fail(1, 0, FIRST_PUT)?;
+    if let Handed::FailingPut(at) = handed {
+        stores.fail(1, 0, at)?;
     }
     Ok(stores)
 }

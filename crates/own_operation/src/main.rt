@@ -1,0 +1,57 @@
+//! A program of one's own over the crates of storm: it counts the links of each page, whichever
+//! way they lead. Copy it to run topologies with an operation that you write in Rattle.
+//!
+//! It runs `topology.json` over `input.jsonl` in the current folder, and prints the report.
+#![tactic(auto)]
+
+ghost use Rattle.own_operation.specs.BothWays.{both_ways, IsCustom-both_ways};
+
+use bolt_ops::RowOp;
+use std::alloc::Global;
+use std::process::ExitCode;
+use storm_ids::ChaChaMaker;
+use storm_outside::{FileShelf, OutSink};
+use storm_program::{Fates, storm_run};
+use storm_stores::MemMaker;
+use storm_ticks::ClockTicks;
+use storm_values::{Duplicate, Memory, Row, Rows};
+
+/// Makes two rows of one: the row, and the row with its values in reverse order.
+struct BothWays;
+
+impl RowOp for BothWays {
+    ghost meaning = { λ _. both_ways };
+
+    ghost keeps = { λ _. IsCustom-both_ways };
+
+    fn rows(&self, alloc: Global, row: &Row) -> Result<Rows, Memory> {
+        let mut reversed = Row::new(alloc);
+        for value in row.as_slice().iter().rev() {
+            reversed.push(value.copy()?)?;
+        }
+        let mut rows = Rows::new(alloc);
+        rows.push(row.copy()?)?;
+        rows.push(reversed)?;
+        Ok(rows)
+    }
+}
+
+fn main(rt: HostRuntime) -> ExitCode {
+    let alloc = rt.alloc();
+    let mut fates = Fates::new(alloc);
+    let status = storm_run(
+        &rt,
+        alloc,
+        "topology.json",
+        "input.jsonl",
+        4,
+        &mut FileShelf::new(&rt),
+        &mut OutSink::new(&rt),
+        &mut ClockTicks::new(&rt),
+        &mut MemMaker::new(alloc),
+        &mut ChaChaMaker { key: [0; 32] },
+        &BothWays,
+        &mut fates,
+    );
+    ExitCode::from(status.code())
+}
