@@ -6,3 +6,4 @@ pub mod TellLemmas
 pub mod StepLemmas
 pub mod OwnEntries
 pub mod Traces
+pub mod Undisturbed

@@ -39,7 +39,7 @@ module _ (m : AckMsg) (es : List (Held (List AckMsg))) (once : AreHeldOnce es) w
       by_verdict (told_of m es)
       ∙ ap (λ (list : List AckMsg). kept_unless (tell (root_of m) list) (with_message m entry)) (sym (ap list_now parts))
 
-step : (buckets : ℕ) (root : Root) (x : Met) (es : List (Held (List AckMsg))) → AreHeldOnce es → entry_of root (after buckets es x) ≡ entry_after buckets root (entry_of root es) x
+pub step : (buckets : ℕ) (root : Root) (x : Met) (es : List (Held (List AckMsg))) → AreHeldOnce es → entry_of root (after buckets es x) ≡ entry_after buckets root (entry_of root es) x
 step buckets root tick es once = entry-rotated root buckets es once
 step buckets root (message m) es once = cases (root_eq root (root_of m)) refl
   where
@@ -53,7 +53,7 @@ step buckets root (message m) es once = cases (root_eq root (root_of m)) refl
     cases false is =
         entry-settled_other root (root_of m) is (value_of (root_of m) es) (list_with m es) es (is_some (told_of m es)) ∙ sym (now false is)
 
-once-after : (buckets : ℕ) (x : Met) (es : List (Held (List AckMsg))) → AreHeldOnce es → AreHeldOnce (after buckets es x)
+pub once-after : (buckets : ℕ) (x : Met) (es : List (Held (List AckMsg))) → AreHeldOnce es → AreHeldOnce (after buckets es x)
 once-after buckets tick es once = once-rotated buckets es once
 once-after buckets (message m) es once = once-settled (root_of m) (value_of (root_of m) es) (list_with m es) es (is_some (told_of m es)) refl once
 

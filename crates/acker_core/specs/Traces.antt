@@ -1,6 +1,6 @@
 -- What traces come to for one root: its entry by itself, its messages, and where neither a rotation
 -- nor a verdict disturbs its entry. After Storm's acker.
-use Rattle.std.specs.Prelude.{◌≡◌, ℕ, true, if◌then◌else◌, Option, None, Some, List, [], ◌∷◌, ◌++◌}
+use Rattle.std.specs.Prelude.{◌≡◌, ℕ, ◌+◌, true, if◌then◌else◌, Option, None, Some, List, [], ◌∷◌, ◌++◌}
 use Rattle.storm_values.specs.declared.value.Root.{Root}
 use Rattle.rotating_ledger.specs.Held.{Held, root_eq, value_of, aged, rotated}
 use Rattle.tree_model.specs.declared.messages.AckMsg.{AckMsg}
@@ -52,3 +52,21 @@ IsUndisturbed buckets root entries [] = Unit {0}
 IsUndisturbed buckets root entries (met ∷ trace) =
     Spares buckets root entries met
     × IsUndisturbed buckets root (after buckets entries met) trace
+
+-- ---- when there are none that disturb it
+
+abbrev pub ticks_in : List Met → ℕ
+ticks_in [] = 0
+ticks_in (message m ∷ trace) = ticks_in trace
+ticks_in (tick ∷ trace) = ticks_in trace + 1
+
+-- the ticks in a trace since the first message of a root
+abbrev pub ticks_since : Root → List Met → ℕ
+ticks_since root [] = 0
+ticks_since root (message m ∷ trace) =
+    if root_eq root (root_of m) then ticks_in trace else ticks_since root trace
+ticks_since root (tick ∷ trace) = ticks_since root trace
+
+-- no beginning of a root's messages tells anything
+abbrev pub AreUntold : Root → List AckMsg → Type 0
+AreUntold root list = (front back : List AckMsg) → list ≡ front ++ back → tell root front ≡ None

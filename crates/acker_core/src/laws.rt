@@ -1,4 +1,4 @@
-ghost use Rattle.std.specs.Prelude.{◌≡◌, ◌↔◌, ◌∷◌, ◌++◌, ℕ, [], None, Some, List, fold};
+ghost use Rattle.std.specs.Prelude.{◌≡◌, ◌↔◌, ◌<◌, ◌∷◌, ◌++◌, ℕ, [], None, Some, List, fold};
 ghost use Rattle.bolt_ops.specs.RowOp.{Custom};
 ghost use Rattle.storm_values.specs.declared.value.Root.{Root};
 ghost use Rattle.storm_values.specs.declared.value.Value.{Value};
@@ -7,7 +7,7 @@ ghost use Rattle.topology_plan.specs.Topology.{Topology};
 ghost use Rattle.tree_model.specs.declared.messages.AckMsg.{AckMsg};
 ghost use Rattle.tree_model.specs.Lists.{AreTrueOf, IsSingle, IsSteady, Covers, Coincides, NoneCancel, root_of};
 ghost use Rattle.acker_core.specs.Entries.{Met, after, entries_of, list_with, tell, told_of};
-ghost use Rattle.acker_core.specs.Traces.{entry_after, messages_of, IsUndisturbed};
+ghost use Rattle.acker_core.specs.Traces.{entry_after, messages_of, ticks_since, AreUntold, IsUndisturbed};
 ghost use Rattle.acker_core.specs.declared.verdict.Verdict.TheVariants.{Complete};
 
 /// A law: of a true, single, steady list whose ids do not coincide, complete is told exactly where
@@ -28,6 +28,14 @@ pub fn entries_go_by_their_roots()
         → AreHeldOnce entries
         → entry_of root (fold (after buckets) entries trace)
         ≡ fold (entry_after buckets root) (entry_of root entries) trace }
+{}
+
+/// A law: nothing disturbs a root of whose messages no beginning tells anything, where fewer ticks
+/// came since the first of them than there are buckets.
+pub fn young_roots_are_undisturbed()
+    ensures { (buckets : ℕ) (root : Root) (trace : List Met)
+        → ticks_since root trace < buckets → AreUntold root (messages_of root trace)
+        → IsUndisturbed buckets root [] trace }
 {}
 
 /// A law of a trace in which no rotation dropped the entry of a message's root and nothing was told
