@@ -4,3 +4,6 @@ pub mod Meeting
 pub mod StateLemmas
 pub mod TellLemmas
 pub mod StepLemmas
+pub mod OwnEntries
+pub mod Traces
+pub mod Undisturbed

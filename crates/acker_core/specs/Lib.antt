@@ -2,3 +2,4 @@ pub mod Edges
 pub mod Entries
 pub mod Check
 pub mod States
+pub mod Traces

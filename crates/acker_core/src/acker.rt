@@ -1,6 +1,7 @@
-ghost use Rattle.std.specs.Prelude.{◌≡◌, ◌≤◌, [], IfOk, OnOk, OnErr, option_and_then};
-ghost use Rattle.rotating_ledger.specs.Held.{value_of, without, entered, rotated};
+ghost use Rattle.std.specs.Prelude.{◌≡◌, ◌≤◌, [], None, IfOk, IsSome, OnOk, OnErr, option_and_then};
+ghost use Rattle.rotating_ledger.specs.Held.{AreHeldOnce, AreYoung, value_of, without, entered, rotated};
 ghost use Rattle.rotating_ledger.specs.Told.{told};
+ghost use Rattle.tree_model.specs.Lists.{root_of};
 ghost use Rattle.acker_core.specs.Entries.{AreSilent, appended, met, tell, told_of};
 ghost use Rattle.acker_core.specs.States.{state_of};
 
@@ -57,6 +58,8 @@ impl Acker {
         ensures told { IfOk result (λ told. told ≡ told_of message self.old.held) }
         ensures met { OnOk result
             (self.new ≡ record self.old { held = met message self.old.held }) }
+        ensures gone { IfOk result (λ told.
+            IsSome told → value_of (root_of message) self.new.held ≡ None) }
         ensures err { OnErr result (self.new ≡ self.old) }
     {
         let root = root_in(&message);
@@ -81,6 +84,14 @@ impl Acker {
         ensures { AreSilent self.now.held }
     {
         let _ = &self.entries;
+    }
+
+    /// No root has two entries, and no entry is as many ticks old as there are buckets.
+    pub fn entries_are_young(&self)
+        ensures once { AreHeldOnce self.now.held }
+        ensures young { AreYoung self.now.buckets self.now.held }
+    {
+        self.entries.held_are_young();
     }
 }
 
@@ -128,6 +139,7 @@ fn add_message(
 fn take_verdict(entries: &mut Rotating<Entry>, root: Root) -> Option<Verdict>
     ensures told { result ≡ option_and_then (tell root) (value_of root entries.old.held) }
     ensures others { entries.new ≡ record entries.old { held = without root entries.old.held } }
+    ensures gone { value_of root entries.new.held ≡ None }
 {
     match entries.take(root) {
         Some(entry) => entry.into_verdict(root),

@@ -12,5 +12,8 @@ mod verdict;
 
 pub use acker::Acker;
 pub use check::{Check, check_list};
-pub use laws::complete_verdicts_cover;
+pub use laws::{
+    complete_verdicts_cover, entries_go_by_their_roots, undisturbed_roots_complete,
+    young_roots_are_undisturbed,
+};
 pub use verdict::Verdict;

@@ -1,5 +1,5 @@
 -- What buckets hold, and the places of roots in them.
-use Rattle.std.proofs.Common.{◌≡◌, ◌⊎◌, inl, inr, ℕ, suc, zero, ◌+◌, ◌-◌, ◌<◌, ◌≤◌, Bool, true, false, cond, nat_lt, Option, Some, None, List, [], ◌∷◌, ◌++◌, length, get_or, drop, take, length-append, append_assoc, refl, sym, ap, subst, ◌∙◌, arith}
+use Rattle.std.proofs.Common.{◌≡◌, ℕ, suc, zero, ◌+◌, ◌-◌, ◌<◌, ◌≤◌, Bool, true, false, cond, nat_lt, Option, Some, None, List, [], ◌∷◌, ◌++◌, length, get_or, drop, take, length-append, append_assoc, refl, sym, ap, subst, ◌∙◌, arith}
 use Rattle.std.specs.Prelude.{slice_get, slice_set}
 use Rattle.std.proofs.lemmas.Option.{slice_get-get_or}
 use Rattle.std.proofs.lemmas.Bool.Decides.{nat_tests}
@@ -10,7 +10,7 @@ use Rattle.rotating_ledger.specs.declared.bucket.Bucket.{Bucket}
 use Rattle.rotating_ledger.specs.declared.slot.Slot.{Slot}
 use Rattle.rotating_ledger.specs.declared.slot.Slot.TheVariants.{Full, Empty}
 use Rattle.rotating_ledger.proofs.RootLemmas.{root_eq-refl, root_eq-same}
-use Rattle.rotating_ledger.proofs.SlotLemmas.{same_some, held_in-append, held_in-trims, full_root, empty_full, AreFound-trims}
+use Rattle.rotating_ledger.proofs.SlotLemmas.{same_some, held_in-append, held_in-trims, empty_full}
 
 length_set : {X : Type 0} (xs : List X) (i : ℕ) (x : X) → length (slice_set xs i x) ≡ length xs
 length_set [] i x = refl

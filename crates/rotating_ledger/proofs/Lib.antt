@@ -2,5 +2,9 @@ pub mod RootLemmas
 pub mod SlotLemmas
 pub mod BucketLemmas
 pub mod HeldLemmas
+pub mod OtherLemmas
+pub mod OnceLemmas
+pub mod EntryLemmas
+pub mod YoungLemmas
 pub mod ResultLemmas
 pub mod LedgerLemmas

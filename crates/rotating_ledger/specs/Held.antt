@@ -1,6 +1,7 @@
 -- Values of roots, as contracts see them: one list in the order in which they were put.
 -- After Storm's `RotatingMap`.
 use Rattle.std.specs.Prelude.{◌≡◌, ℕ, ◌+◌, ◌<◌, ◌==◌, ◌&&◌, nat_lt, Bool, true, false, if◌then◌else◌, Option, None, Some, List, [], ◌∷◌, ◌++◌, refl}
+use Rattle.std.specs.List.{AllByRecursion}
 use Rattle.std.specs.Coded.{Coded, code_by, coded×, coded_ℕ, coded_list}
 use Rattle.storm_values.specs.declared.value.Root.{Root}
 
@@ -52,6 +53,12 @@ module _ {V : Type 0} where
   value_of root [] = None
   value_of root (h ∷ hs) = if root_eq root h.root then Some h.value else value_of root hs
 
+  -- its age with its value, if it is held
+  abbrev pub entry_of : Root → List (Held V) → Option (ℕ × V)
+  entry_of root [] = None
+  entry_of root (h ∷ hs) =
+      if root_eq root h.root then Some (h.age, h.value) else entry_of root hs
+
   -- the others, where the root is held
   abbrev pub without : Root → List (Held V) → List (Held V)
   without root [] = []
@@ -71,6 +78,12 @@ module _ {V : Type 0} where
       if nat_lt (h.age + 1) buckets then record h { age = h.age + 1 } ∷ rotated buckets hs
       else rotated buckets hs
 
+  -- an age and value after one more rotation, by themselves
+  abbrev pub aged : ℕ → Option (ℕ × V) → Option (ℕ × V)
+  aged buckets None = None
+  aged buckets (Some entry) =
+      if nat_lt (entry.0 + 1) buckets then Some (entry.0 + 1, entry.1) else None
+
   -- the roots and values that go at one more rotation, in the order in which they were put
   abbrev pub dropped : ℕ → List (Held V) → List (Root × V)
   dropped buckets [] = []
@@ -87,3 +100,14 @@ module _ {V : Type 0} where
   abbrev pub settled : Root → Option V → V → List (Held V) → Bool → List (Held V)
   settled root before value held false = entered root before value held
   settled root before value held true = without root held
+
+  -- ---- what is true of all that are held
+
+  -- no root is held twice
+  abbrev pub AreHeldOnce : List (Held V) → Type 0
+  AreHeldOnce [] = Unit {0}
+  AreHeldOnce (h ∷ hs) = (value_of h.root hs ≡ None) × AreHeldOnce hs
+
+  -- each was put fewer rotations ago than there are buckets
+  abbrev pub AreYoung : ℕ → List (Held V) → Type 0
+  AreYoung buckets held = AllByRecursion (λ (h : Held V). h.age < buckets) held

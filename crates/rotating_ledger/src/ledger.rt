@@ -1,5 +1,5 @@
-ghost use Rattle.std.specs.Prelude.{◌≡◌, ◌≤◌, [], None, Some, Option, IfOk, OnOk, OnErr, IfNone, OnSome};
-ghost use Rattle.rotating_ledger.specs.Held.{value_of, with_value, settled, rotated};
+ghost use Rattle.std.specs.Prelude.{◌≡◌, ◌≤◌, [], None, Some, Option, IsTrue, IfOk, OnOk, OnErr, IfNone, OnSome};
+ghost use Rattle.rotating_ledger.specs.Held.{AreHeldOnce, AreYoung, value_of, with_value, settled, rotated};
 ghost use Rattle.rotating_ledger.specs.Told.{init_of, ack_of, fail_note, met, merged, tells, told, told_of};
 
 use crate::rotating::Rotating;
@@ -45,6 +45,8 @@ impl Ledger {
         ensures told { IfOk result (λ told. told ≡ told_of root (init_of word) self.old.held) }
         ensures met { OnOk result
             (self.new ≡ record self.old { held = met root (init_of word) self.old.held }) }
+        ensures gone { IfOk result (λ told.
+            IsTrue (tells told) → value_of root self.new.held ≡ None) }
         ensures err { OnErr result (self.new ≡ self.old) }
         ensures err_absent { OnErr result (value_of root self.old.held ≡ None) }
     {
@@ -56,6 +58,8 @@ impl Ledger {
         ensures told { IfOk result (λ told. told ≡ told_of root (ack_of word) self.old.held) }
         ensures met { OnOk result
             (self.new ≡ record self.old { held = met root (ack_of word) self.old.held }) }
+        ensures gone { IfOk result (λ told.
+            IsTrue (tells told) → value_of root self.new.held ≡ None) }
         ensures err { OnErr result (self.new ≡ self.old) }
         ensures err_absent { OnErr result (value_of root self.old.held ≡ None) }
     {
@@ -67,6 +71,8 @@ impl Ledger {
         ensures told { IfOk result (λ told. told ≡ told_of root fail_note self.old.held) }
         ensures met { OnOk result
             (self.new ≡ record self.old { held = met root fail_note self.old.held }) }
+        ensures gone { IfOk result (λ told.
+            IsTrue (tells told) → value_of root self.new.held ≡ None) }
         ensures err { OnErr result (self.new ≡ self.old) }
         ensures err_absent { OnErr result (value_of root self.old.held ≡ None) }
     {
@@ -80,11 +86,21 @@ impl Ledger {
         let _ = self.states.rotate();
     }
 
+    /// No root has two entries, and no entry is as many ticks old as there are buckets.
+    pub fn entries_are_young(&self)
+        ensures once { AreHeldOnce self.now.held }
+        ensures young { AreYoung self.now.buckets self.now.held }
+    {
+        self.states.held_are_young();
+    }
+
     // A message of a root.
     fn meet(&mut self, root: Root, message: AckState) -> Result<Told, Memory>
         ensures told { IfOk result (λ told. told ≡ told_of root message self.old.held) }
         ensures met { OnOk result
             (self.new ≡ record self.old { held = met root message self.old.held }) }
+        ensures gone { IfOk result (λ told.
+            IsTrue (tells told) → value_of root self.new.held ≡ None) }
         ensures err { OnErr result (self.new ≡ self.old) }
         ensures err_absent { OnErr result (value_of root self.old.held ≡ None) }
     {
@@ -108,6 +124,8 @@ fn begin(states: &mut Rotating<AckState>, root: Root, message: AckState) -> Resu
     ensures met { OnOk result (states.new ≡ record states.old {
       held = settled root None message states.old.held (tells (told message));
     }) }
+    ensures gone { IfOk result (λ told.
+        IsTrue (tells told) → value_of root states.new.held ≡ None) }
     ensures err { OnErr result (states.new ≡ states.old) }
 {
     let told = message.told();

@@ -1,6 +1,6 @@
 ghost use Rattle.std.specs.Prelude.{◌≡◌, ◌∷◌, ◌++◌, ◌+◌, ◌≤◌, ◌<◌, ℕ, [], Option, None, Some, length, slice_get, slice_set, IfOk, OnOk, OnErr, IfErr};
 ghost use Rattle.std.specs.Option.{option_copied_mut};
-ghost use Rattle.rotating_ledger.specs.Held.{Held, held_at, value_of, without, rotated, dropped};
+ghost use Rattle.rotating_ledger.specs.Held.{AreHeldOnce, AreYoung, Held, held_at, value_of, without, rotated, dropped};
 ghost use Rattle.rotating_ledger.specs.Slots.{held_of, place_from, AllFound};
 
 use crate::bucket::Bucket;
@@ -22,7 +22,7 @@ pub struct Rotating<V> {
 
 impl<V> Model for Rotating<V> {
     ghost use Rattle.std.specs.Prelude.{◌≡◌, ◌≤◌, ℕ, vec_len};
-    ghost use Rattle.rotating_ledger.specs.Held.{Rotation, rotation_code};
+    ghost use Rattle.rotating_ledger.specs.Held.{AreHeldOnce, Rotation, rotation_code};
 
     ghost Value = { Rotation V };
 
@@ -36,7 +36,8 @@ impl<V> Model for Rotating<V> {
     } };
 
     ghost invariant = { λ r.
-        (2 ≤ vec_len r.buckets) × (vec_len r.buckets ≤ 16) × AllFound r.buckets.items };
+        (2 ≤ vec_len r.buckets) × (vec_len r.buckets ≤ 16) × AllFound r.buckets.items
+        × AreHeldOnce (held_of r.buckets.items) };
 }
 
 // The first bucket that has a root, and its slot there.
@@ -99,6 +100,7 @@ impl<V: Drop> Rotating<V> {
     pub fn take(&mut self, root: Root) -> Option<V>
         ensures value { result ≡ value_of root self.old.held }
         ensures others { self.new ≡ record self.old { held = without root self.old.held } }
+        ensures gone { value_of root self.new.held ≡ None }
     {
         match place_of(&self.buckets, root) {
             Some((place, slot)) => {
@@ -120,5 +122,13 @@ impl<V: Drop> Rotating<V> {
         let oldest = mem::replace(&mut self.buckets[0], empty);
         self.buckets.rotate_left(1);
         Dropped::new(oldest.slots)
+    }
+
+    /// No root is held twice, and none for as many rotations as there are buckets.
+    pub fn held_are_young(&self)
+        ensures once { AreHeldOnce self.now.held }
+        ensures young { AreYoung self.now.buckets self.now.held }
+    {
+        let _ = &self.buckets;
     }
 }

@@ -1,6 +1,4 @@
-use Rattle.std.proofs.Common.{◌≡◌, ◌++◌, ◌∷◌, [], Some, rules, subst, List}
-use Rattle.rotating_ledger.specs.Slots.{Trims}
-use Rattle.rotating_ledger.specs.declared.slot.Slot.{Slot}
+use Rattle.std.proofs.Common.{◌≡◌, Some, rules}
 use Rattle.rotating_ledger.specs.declared.slot.Slot.TheVariants.{Empty}
 use Rattle.rotating_ledger.proofs.SlotLemmas.{trims-none, trims-more}
 use Rattle.rotating_ledger.proofs.bucket.trim.Goals as goal

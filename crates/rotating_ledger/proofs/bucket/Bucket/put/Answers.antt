@@ -1,4 +1,4 @@
-use Rattle.std.proofs.Common.{◌≡◌, ◌∷◌, ◌++◌, [], Some, None, ℕ, length, cond, rules, ap, ◌∙◌}
+use Rattle.std.proofs.Common.{◌≡◌, ◌∷◌, ◌++◌, [], Some, ℕ, length, cond, rules, ap, ◌∙◌}
 use Rattle.std.specs.HashMap.{Updates}
 use Rattle.storm_values.specs.declared.value.Root.{Root}
 use Rattle.rotating_ledger.specs.Held.{root_eq}

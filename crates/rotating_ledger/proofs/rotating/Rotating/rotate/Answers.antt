@@ -1,5 +1,7 @@
-use Rattle.std.proofs.Common.{◌≡◌, ◌++◌, ◌∷◌, [], ◌≤◌, length, drop, sym, ap, ◌∙◌, arith}
+use Rattle.std.proofs.Common.{◌≡◌, ◌++◌, ◌∷◌, [], drop, ap, ◌∙◌, arith}
 use Rattle.rotating_ledger.proofs.BucketLemmas.{turned, rotated-items, dropped-items, AllFound-turned, rotation_of}
+use Rattle.rotating_ledger.specs.Slots.{held_of}
+use Rattle.rotating_ledger.proofs.OnceLemmas.{once-rotated}
 use Rattle.rotating_ledger.proofs.rotating.Rotating.rotate.Goals as goal
 
 pub invariant_of-self : goal.invariant_of-self
@@ -14,6 +16,11 @@ invariant_of-self g c =
       omega arith,
       omega arith,
       rw now (AllFound-turned c.self.inside.buckets.items c.new-empty.result c.self.invariant.2 c.new-empty.ensures.found),
+      rw (
+        now,
+        rotated-items c.self.inside.buckets.len c.self.inside.buckets.items c.new-empty.result len (omega arith) c.new-empty.ensures.empty,
+      )
+          (once-rotated c.self.inside.buckets.len (held_of c.self.inside.buckets.items) c.self.invariant.3),
     )
 
 pub returns-clause-dropped : goal.returns-clause-dropped

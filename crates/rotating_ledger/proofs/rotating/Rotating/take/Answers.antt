@@ -1,6 +1,8 @@
-use Rattle.std.proofs.Common.{◌≡◌, ℕ, Option, Some, None, sym, ap, ◌∙◌, arith}
-use Rattle.rotating_ledger.specs.Slots.{place_from}
+use Rattle.std.proofs.Common.{◌≡◌, ℕ, Some, None, sym, ap, subst, ◌∙◌, arith}
+use Rattle.rotating_ledger.specs.Held.{value_of, AreHeldOnce}
+use Rattle.rotating_ledger.specs.Slots.{place_from, held_of}
 use Rattle.rotating_ledger.proofs.BucketLemmas.{found_at, taking, taken-value, taken-others, AllFound-set, place-none, value-nowhere, without-nowhere, rotation_of}
+use Rattle.rotating_ledger.proofs.OnceLemmas.{once-without, gone-without}
 use Rattle.rotating_ledger.proofs.rotating.Rotating.take.Goals as goal
 
 pub index_mut-bucket-requires : goal.index_mut-bucket-requires
@@ -24,11 +26,17 @@ take_at-requires-clause-here g c =
     (taking c.self.inside.buckets.items c.args.root p c.index_mut-bucket.result.now c.self.invariant.2 at c.index_mut-bucket.ensures.value).1
 
 pub invariant_of-self : goal.invariant_of-self
-invariant_of-self g c = (
-  c.self.invariant.0,
-  c.self.invariant.1,
-  AllFound-set c.self.inside.buckets.items c.in-Some.place c.take_at.new.self c.self.invariant.2 c.take_at.ensures.found,
-)
+invariant_of-self g c =
+    let p : ℕ × ℕ = (c.in-Some.place, c.in-Some.slot) in
+    let at : place_from 0 c.args.root c.self.inside.buckets.items ≡ Some p = ap (place_from 0 c.args.root) (sym c.deref.ensures.value) ∙ sym c.in-Some.ensures in (
+      c.self.invariant.0,
+      c.self.invariant.1,
+      AllFound-set c.self.inside.buckets.items c.in-Some.place c.take_at.new.self c.self.invariant.2 c.take_at.ensures.found,
+      subst AreHeldOnce
+          (sym (taken-others c.self.inside.buckets.items c.args.root p c.index_mut-bucket.result.now c.take_at.new.self c.take_at.result c.self.invariant.2 at
+          c.index_mut-bucket.ensures.value c.take_at.ensures.value c.take_at.ensures.slots))
+          (once-without c.args.root (held_of c.self.inside.buckets.items) c.self.invariant.3),
+    )
 
 pub returns-in-Some-clause-value : goal.returns-in-Some-clause-value
 returns-in-Some-clause-value g c =
@@ -58,3 +66,18 @@ returns-in-None-clause-others g c =
     rw (← c.self.view_is)
     (ap (rotation_of c.self.inside.buckets.len)
     (sym (without-nowhere c.args.root c.self.inside.buckets.items c.self.invariant.2 (place-none 0 c.args.root c.self.inside.buckets.items at))))
+
+pub returns-in-Some-clause-gone : goal.returns-in-Some-clause-gone
+returns-in-Some-clause-gone g c =
+    let p : ℕ × ℕ = (c.in-Some.place, c.in-Some.slot) in
+    let at : place_from 0 c.args.root c.self.inside.buckets.items ≡ Some p = ap (place_from 0 c.args.root) (sym c.deref.ensures.value) ∙ sym c.in-Some.ensures in
+    ap (value_of c.args.root)
+    (taken-others c.self.inside.buckets.items c.args.root p c.index_mut-bucket.result.now c.take_at.new.self c.take_at.result c.self.invariant.2 at
+    c.index_mut-bucket.ensures.value c.take_at.ensures.value c.take_at.ensures.slots)
+    ∙ gone-without c.args.root (held_of c.self.inside.buckets.items) c.self.invariant.3
+
+pub returns-in-None-clause-gone : goal.returns-in-None-clause-gone
+returns-in-None-clause-gone g c =
+    let at : place_from 0 c.args.root c.self.inside.buckets.items ≡ None = ap (place_from 0 c.args.root) (sym c.deref.ensures.value) ∙ sym c.in-None.ensures in
+    rw (← c.self.view_is)
+    (value-nowhere c.args.root c.self.inside.buckets.items c.self.invariant.2 (place-none 0 c.args.root c.self.inside.buckets.items at))
