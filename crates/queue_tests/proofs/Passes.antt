@@ -1,5 +1,5 @@
 -- Passes that are split, used and joined again have the numbers that they had.
-use Rattle.std.proofs.Common.{◌≡◌, ◌+◌, List, [], ◌∷◌, ap, arith}
+use Rattle.std.proofs.Common.{◌≡◌, List, [], ◌∷◌, ap, arith}
 use Rattle.counted_items.specs.Weights.{weigh}
 use Rattle.pass_numbers.specs.Numbers.{IsWhole, Numbered}
 use Rattle.pass_numbers.proofs.Numbering.{one_numbered, one_whole, numbered_as, swap_beside, same_beside}

@@ -105,8 +105,8 @@ impl<M: Truth + Drop> Mailbox<M> {
             Numbered numbers_of (view_of pass.new ∷ view_of made ∷ others)) }
     {
         let inner = self.queue.another::<Cut>(&mut pass.inner);
-        let share = given(pass.share);
-        pass.share = left(pass.share);
+        let share = given_share(pass.share);
+        pass.share = left_share(pass.share);
         Ok(Pass { inner, share })
     }
 
@@ -176,14 +176,14 @@ impl<M> Pass<M> {
 const ALL: u16 = 65535;
 
 // What a split gives the new pass of a share.
-fn given(share: u16) -> u16
+fn given_share(share: u16) -> u16
     ensures { result ≡ given_share share }
 {
     if share < 2 { 0 } else { (share / 256).max(1) }
 }
 
 // What it leaves.
-fn left(share: u16) -> u16
+fn left_share(share: u16) -> u16
     ensures { result ≡ left_share share }
 {
     if share < 2 {

@@ -1,4 +1,4 @@
-use Rattle.std.proofs.Common.{length, ap, ◌∙◌, sym, subst, arith}
+use Rattle.std.proofs.Common.{length, ap, ◌∙◌, arith}
 use Rattle.crossbeam_queue.specs.Passes.{view}
 use Rattle.task_queues.proofs.Steps.{merges, stands}
 use Rattle.task_queues.proofs.Exact.{join_others, joined_fresh, joined_some}
