@@ -1,14 +1,14 @@
 #!/usr/bin/env bash
 # Where the instructions of a run go: bench/profile.sh [plain|run] [LINES] counts those of a word count
 # of so many lines of ten words, and prints the functions that take most, and who asks for memory.
-# Needs valgrind and rustc, and the program built (./storm builds it).
+# Needs valgrind and rustc, and the proved program (./storm --prove builds it).
 set -euo pipefail
 here="$(cd "$(dirname "${BASH_SOURCE[0]}")" && pwd)"
 command="${1:-run}"
 lines="${2:-10000}"
 program="${PROGRAM:-$here/../crates/storm/out/storm}"
 work="$here/out"
-[ -x "$program" ] || { echo "profile: no program at $program; ./storm builds it" >&2; exit 1; }
+[ -x "$program" ] || { echo "profile: no program at $program; ./storm --prove builds it" >&2; exit 1; }
 mkdir -p "$work"
 [ -x "$work/gen" ] || rustc -C opt-level=3 -o "$work/gen" "$here/gen.rs"
 text="$work/$lines-lines.jsonl"

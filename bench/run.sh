@@ -2,12 +2,12 @@
 # Times the built program's `plain` and `run` on word counts of 1, 4 and 16 MiB, and of 10,000 and
 # 100,000 lines of ten words, beside `single`, the word count by hand in one thread. Five rounds over
 # all commands in turn; the table has medians.
-# Needs rustc and python3, and the program built (./storm builds it).
+# Needs rustc and python3, and the proved program (./storm --prove builds it).
 set -euo pipefail
 here="$(cd "$(dirname "${BASH_SOURCE[0]}")" && pwd)"
 program="${1:-$here/../crates/storm/out/storm}"
 work="$here/out"
-[ -x "$program" ] || { echo "bench: no program at $program; ./storm builds it" >&2; exit 1; }
+[ -x "$program" ] || { echo "bench: no program at $program; ./storm --prove builds it" >&2; exit 1; }
 mkdir -p "$work"
 for name in gen single; do
   rustc -C opt-level=3 -o "$work/$name" "$here/$name.rs"
