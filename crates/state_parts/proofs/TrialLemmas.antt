@@ -1,5 +1,5 @@
 -- What follows of the parts' answers to a commit.
-use Rattle.std.proofs.Common.{◌≡◌, ◌+◌, ◌≤◌, ◌<◌, ◌||◌, ◌&&◌, ◌==◌, inl, inr, ⊎_elim, ℕ, zero, suc, Bool, true, false, List, [], ◌∷◌, ◌++◌, length, map, get_or, set, slice_get, drop, All, Option, None, Some, Result, Ok, Err, OnOk, OnErr, IsErrOf, refl, sym, ap, subst, ◌∙◌, append_assoc, arith}
+use Rattle.std.proofs.Common.{◌≡◌, ◌+◌, ◌≤◌, ◌<◌, ◌||◌, ◌&&◌, ◌==◌, inl, inr, ⊎_elim, ℕ, zero, suc, Bool, true, false, List, [], ◌∷◌, ◌++◌, length, map, get_or, set, slice_get, drop, All, Option, None, Some, Result, Ok, Err, OnOk, refl, sym, ap, subst, ◌∙◌, append_assoc, arith}
 use Rattle.std.proofs.lemmas.Bool.{cases_eq, eq-eqb, ne_eqb}
 use Rattle.std.proofs.lemmas.List.{append-nil, drop_all, drop_more, get_or-map, get_or_at, length-map, length_push, map-append, set_at}
 use Rattle.std.proofs.lemmas.List.Elements.{All-head, All-nil, All-push, All-tail}
@@ -9,13 +9,10 @@ use Rattle.std.specs.List.{list_any}
 use Rattle.std.specs.Option.{option_or}
 use Rattle.storm_values.specs.Lines.{first_some}
 use Rattle.storm_values.specs.Counts.{raised}
-use Rattle.storm_stores.specs.CellMaps.{CellMap, cell_at}
+use Rattle.storm_stores.specs.CellMaps.{CellMap}
 use Rattle.tree_model.specs.declared.write.Write.{Write}
-use Rattle.cell_format.specs.Commits.{IsDone, IsPerhapsDone, amounts_at}
-use Rattle.cell_format.proofs.CommitLemmas.{perhaps_if_done}
 use Rattle.state_cells.specs.declared.fault.PartFault.{PartFault}
 use Rattle.state_cells.specs.declared.fault.PartFault.TheVariants as fault
-use Rattle.state_cells.specs.Turns.{IsBad, Turns}
 use Rattle.state_parts.specs.declared.answer.CommitFault.{CommitFault}
 use Rattle.state_parts.specs.declared.answer.CommitFault.TheVariants.{BadCell}
 use Rattle.state_parts.specs.declared.answer.CommitOutcome.{CommitOutcome}
@@ -117,57 +114,7 @@ pub record Trying {S : Type 0} (tells : S → CellMap → Type 0) (count : S →
   pub news : map (λ (trial : Trial S). trial.new) trials ++ drop i old ≡ now
   pub tally_is : tally ≡ tally_of count trials
 
--- ---- one part
-
 module _ {S : Type 0} (tells : S → CellMap → Type 0) (count : S → ℕ) (txid : ℕ) where
-  same_plan : (old new : StatePart S) → new.component ≡ old.component → new.part ≡ old.part → new.over.kind ≡ old.over.kind → new.over.by ≡ old.over.by → plan_of new ≡ plan_of old
-  same_plan old new one two three four = rw (one, two, three, four) refl
-
-  perhaps_from_done : (own : List Write) (old new : StatePart S) → Turns tells (λ key. IsDone old.over.kind old.over.by txid (amounts_at own key)) old.over.store new.over.store
-      → Turns tells (λ key. IsPerhapsDone old.over.kind old.over.by txid (amounts_at own key)) old.over.store new.over.store
-  perhaps_from_done own old new turns = record {
-    to = λ cells told.
-        let x = turns.to cells told in
-        (x.0, x.1, λ key. perhaps_if_done old.over.kind old.over.by txid (amounts_at own key) (cell_at cells key) (cell_at x.0 key) (x.2 key));
-  }
-
-  turned : (own : List Write) (old new : StatePart S) (answer : Result (Unit {0}) PartFault)
-      → OnOk answer (Turns tells (λ key. IsDone old.over.kind old.over.by txid (amounts_at own key)) old.over.store new.over.store)
-      → OnErr answer (Turns tells (λ key. IsPerhapsDone old.over.kind old.over.by txid (amounts_at own key)) old.over.store new.over.store)
-      → Turns tells (λ key. IsPerhapsDone old.over.kind old.over.by txid (amounts_at own key)) old.over.store new.over.store
-  turned own old new (Ok done) ok err = perhaps_from_done own old new ok
-  turned own old new (Err why) ok err = err
-
-  committed_if : (own : List Write) (old new : StatePart S) (answer : Result (Unit {0}) PartFault) → plan_of new ≡ plan_of old
-      → OnOk answer (Turns tells (λ key. IsDone old.over.kind old.over.by txid (amounts_at own key)) old.over.store new.over.store) → OnOk answer (Committed tells txid own old new)
-  committed_if own old new (Ok done) plan ok = record { plan = plan; turns = ok }
-  committed_if own old new (Err why) plan ok = tt
-
-  pub tries_of : (own : List Write) (old new : StatePart S) (answer : Result (Unit {0}) PartFault) (before after : Tally) (b a : ℕ)
-      → new.component ≡ old.component → new.part ≡ old.part → new.over.kind ≡ old.over.kind → new.over.by ≡ old.over.by
-      → OnOk answer (Turns tells (λ key. IsDone old.over.kind old.over.by txid (amounts_at own key)) old.over.store new.over.store)
-      → OnErr answer (Turns tells (λ key. IsPerhapsDone old.over.kind old.over.by txid (amounts_at own key)) old.over.store new.over.store)
-      → (IsErrOf answer fault.Store → count new.over.store ≡ raised (count old.over.store))
-      → ((IsErrOf answer fault.Store → ⊥) → count new.over.store ≡ count old.over.store)
-      → ((key : List ℕ) → IsErrOf answer (fault.BadCell key) → (cells : CellMap) → tells old.over.store cells → IsBad old.over.kind (cell_at cells key))
-      → count old.over.store ≤ count new.over.store
-      → b ≡ count old.over.store → a ≡ count new.over.store → after ≡ noted before answer (Failed old.component old.part b a) → Tries tells count txid own old new before after
-  tries_of own old new answer before after b a one two three four ok err failed quiet bad up was is notes =
-      let plan = same_plan old new one two three four in
-      record {
-        answer = answer;
-        trial = record {
-          plan = plan;
-          done = committed_if own old new answer plan ok;
-          kept = record { plan = plan; turns = turned own old new answer ok err };
-          failed = failed;
-          quiet = quiet;
-          bad = bad;
-          never_falls = up;
-        };
-        notes = notes ∙ ap (λ (k : ℕ). noted before answer (Failed old.component old.part k a)) was ∙ ap (λ (k : ℕ). noted before answer (Failed old.component old.part (count old.over.store) k)) is;
-      }
-
   -- ---- the loop over the parts
 
   module _ (writes : List Write) where
