@@ -8,6 +8,7 @@ use Rattle.std.proofs.lemmas.List.{append-nil, append_assoc}
 use Rattle.acker_core.specs.declared.verdict.Verdict.{Verdict}
 use Rattle.acker_core.specs.declared.verdict.Verdict.TheVariants.{Complete, Fails}
 use Rattle.attempt_fates.specs.declared.fates.Attempt.{Attempt}
+use Rattle.attempt_fates.specs.declared.fates.End.{End}
 use Rattle.attempt_fates.specs.declared.fates.End.TheVariants as end
 use Rattle.counted_items.specs.Weights.{weigh}
 use Rattle.counted_items.proofs.Each.{each-back, each-both, each-weaker}
@@ -29,7 +30,7 @@ use Rattle.commit_turns.specs.Account.{ended_of, ending_of}
 use Rattle.commit_turns.specs.Desks.{Desk, ended_at, is_late, is_of_root, is_timed, settled, timed_of, without}
 use Rattle.commit_turns.specs.Outcomes.{IsOutcome}
 use Rattle.commit_turns.specs.Turns.{begun, complete_timed, decided, decided_by, end_by, end_timed, filled, heard, is_closed, last_try, next_root, next_to_commit, one_tick, ordered, turned}
-use Rattle.commit_turns.proofs.Booking.{Books, IsUnheard, books_begun, books_commit, books_fall, books_heard, books_settled, unheard_beside, is_root, not_begun}
+use Rattle.commit_turns.proofs.Booking.{Books, IsChecked, IsUnheard, books_begun, books_commit, books_fall, books_heard, books_settled, books_told, unheard_beside, is_root, not_begun}
 use Rattle.commit_turns.proofs.Closing.{closed_off}
 use Rattle.commit_turns.proofs.Deciding.{is_next, turn_of}
 use Rattle.commit_turns.proofs.Going.{left, going_out}
@@ -99,6 +100,12 @@ module _ (t : Topology) (cut : Cut) (d : Desk) (fates : List Attempt) (going : I
 
       unheard : AllByRecursion (IsUnheard (told ++ v ∷ [])) (at.before ++ at.behind)
       unheard = unheard_others v root about told (at.before ++ at.behind) beside (unheard_beside t cut d.committed d.attempts d.tick at.before at.behind w fates roots told split)
+
+      books_end_now : (how : End) → commits_by (ending_of how) ≡ 0 → ((f : Verdict → ℕ) → weigh f (verdicts_by w.root (ending_of how)) ≡ f v) → IsChecked t (ended_at cut d.tick how w)
+          → HasBooks t (record d { pending = without w.root d.pending }) (fates ++ ended_at cut d.tick how w ∷ []) roots (told ++ v ∷ [])
+      books_end_now how free says checked =
+          subst (λ (ps : List Wait). Books t d.committed d.attempts ps (fates ++ ended_at cut d.tick how w ∷ []) roots (told ++ v ∷ [])) (left t cut d fates going none (is_timed_of root) w at)
+          (books_told t cut d.committed d.attempts d.tick at.before at.behind w fates roots told split how free v says checked unheard)
 
       books_settle_now : (list : List AckMsg) → ((f : Verdict → ℕ) → weigh f (verdicts_settled w.root (Some list)) ≡ f v) → HasBooks t (record d { pending = settled w.root list d.pending }) fates roots (told ++ v ∷ [])
       books_settle_now list says =

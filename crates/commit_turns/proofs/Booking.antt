@@ -104,6 +104,12 @@ module _ (t : Topology) (cut : Cut) (committed : ℕ) (attempts : Counts) (tick 
       → Books t committed attempts (before ++ behind) (fates ++ ended_at cut tick how w ∷ []) roots heard
   books_fall how none silent checked = books_end how committed heard (λ f. (let s = silent f in omega arith)) unheard_beside checked (none_more how none)
 
+  -- by a verdict that is heard now
+  pub books_told : (how : End) → commits_by (ending_of how) ≡ 0 → (v : Verdict) → ((f : Verdict → ℕ) → weigh f (verdicts_by w.root (ending_of how)) ≡ f v) → IsChecked t (ended_at cut tick how w)
+      → AllByRecursion (IsUnheard (heard ++ v ∷ [])) (before ++ behind) → Books t committed attempts (before ++ behind) (fates ++ ended_at cut tick how w ∷ []) roots (heard ++ v ∷ [])
+  books_told how none v says checked unheard =
+      books_end how committed (heard ++ v ∷ []) (λ f. (let s = says f in let p = weigh-push f heard v in omega arith)) unheard checked (none_more how none)
+
   one_first : (txid other : ℕ) → other ≡ committed + 1 → is_first committed txid + own txid other ≡ is_first (committed + 1) txid
   one_first txid other is = grind (arith, nat_tests)
 
