@@ -23,7 +23,6 @@ Closes tells count t answer old new (Ok (end.Exhausted txid)) = answer ≡ Err (
 Closes tells count t answer old new (Ok (end.Unfinished k)) = answer ≡ Ok (ended.Unfinished k)
 Closes tells count t answer old new (Ok end.StoreFault) =
     (answer ≡ Ok ended.All) × SomeRose count old new
-Closes tells count t answer old new (Ok end.BadCell) =
-    ((key : List ℕ) × (answer ≡ Err (stop.BadCell key)))
-    ⊎ ((answer ≡ Ok ended.All) × ((key : List ℕ) × IsBadRowAt tells old key))
+Closes tells count t answer old new (Ok (end.BadCell key)) =
+    (answer ≡ Err (stop.BadCell key)) ⊎ ((answer ≡ Ok ended.All) × IsBadRowAt tells old key)
 Closes tells count t answer old new (Err e) = Unit {0}

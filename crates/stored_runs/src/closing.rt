@@ -30,7 +30,7 @@ pub(crate) fn close<C: CellStore>(
         Ok(Ended::All) => read(plan, parts),
         Ok(Ended::Unfinished(count)) => Ok(RunEnd::Unfinished(count)),
         Err(Stop::Exhausted(txid)) => Ok(RunEnd::Exhausted(txid)),
-        Err(Stop::BadCell(_)) => Ok(RunEnd::BadCell),
+        Err(Stop::BadCell(key)) => Ok(RunEnd::BadCell(key)),
         Err(Stop::Memory) => Err(AllocError),
     }
 }
@@ -45,7 +45,7 @@ fn read<C: CellStore>(plan: &Plan, parts: &mut Parts<C>) -> Result<RunEnd, Memor
     match parts.tables(plan) {
         Ok(tables) => Ok(RunEnd::All(tables)),
         Err(PartFault::Store) => Ok(RunEnd::StoreFault),
-        Err(PartFault::BadCell(_)) => Ok(RunEnd::BadCell),
+        Err(PartFault::BadCell(key)) => Ok(RunEnd::BadCell(key)),
         Err(PartFault::Memory) => Err(AllocError),
     }
 }
