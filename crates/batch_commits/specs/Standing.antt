@@ -15,7 +15,7 @@ use Rattle.state_parts.specs.declared.answer.CommitOutcome.TheVariants.{Failed}
 use Rattle.state_parts.specs.declared.parts.StatePart.{StatePart}
 use Rattle.state_parts.specs.PartPlans.{IsOneOf, PartPlan}
 use Rattle.state_parts.specs.Standing.{AllAreAt, AllStand}
-use Rattle.storm_outside.specs.Counts.{Rose}
+use Rattle.storm_values.specs.Counts.{Rose}
 use Rattle.storm_stores.specs.CellMaps.{CellMap, cell_at}
 use Rattle.topology_plan.specs.declared.parts.Kind.{Kind}
 use Rattle.topology_plan.specs.Topology.{Topology}

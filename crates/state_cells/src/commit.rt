@@ -1,5 +1,5 @@
 ghost use Rattle.std.specs.Prelude.{◌≡◌, ◌≤◌, ◌⊎◌, ℕ, List, Option, IfOk, IfSome, OnOk, OnErr, IsErrOf};
-ghost use Rattle.storm_outside.specs.Counts.{Rose};
+ghost use Rattle.storm_values.specs.Counts.{Rose};
 ghost use Rattle.storm_stores.specs.CellMaps.{CellMap, cell_at, with_cell};
 ghost use Rattle.cell_format.specs.Commits.{Commits, Holds, IsCellOf, IsPerhapsDone};
 ghost use Rattle.cell_format.specs.Layout.{IsWhole, bytes_of};

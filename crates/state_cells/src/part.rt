@@ -1,5 +1,5 @@
 ghost use Rattle.std.specs.Prelude.{◌≡◌, ◌≤◌, ℕ, List, IfOk, IfSome, OnOk, OnErr, IsErrOf};
-ghost use Rattle.storm_outside.specs.Counts.{Rose};
+ghost use Rattle.storm_values.specs.Counts.{Rose};
 ghost use Rattle.storm_stores.specs.CellMaps.{CellMap, cell_at};
 ghost use Rattle.cell_format.specs.Commits.{IsDone, IsPerhapsDone, amounts_at};
 ghost use Rattle.state_cells.specs.Known.{Knows};

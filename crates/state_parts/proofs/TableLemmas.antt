@@ -15,7 +15,7 @@ use Rattle.std.specs.Map.{keys_of, lookup, update}
 use Rattle.std.specs.Option.{option_and_then, option_map, option_or}
 use Rattle.std.specs.Ordering.{nat_cmp}
 use Rattle.std.specs.Str.{bytes_eq}
-use Rattle.storm_outside.specs.Counts.{Rose}
+use Rattle.storm_values.specs.Counts.{Rose}
 use Rattle.storm_stores.specs.CellMaps.{CellMap, cell_at}
 use Rattle.topology_plan.specs.declared.parts.Component.{Component}
 use Rattle.topology_plan.specs.declared.parts.Kind.{Kind}

@@ -6,7 +6,7 @@ use Rattle.std.proofs.lemmas.List.Folds.{list_any-append}
 use Rattle.std.specs.List.{list_any}
 use Rattle.std.specs.Option.{option_or}
 use Rattle.storm_values.specs.Lines.{first_some}
-use Rattle.storm_outside.specs.Counts.{Rose}
+use Rattle.storm_values.specs.Counts.{Rose}
 use Rattle.storm_stores.specs.CellMaps.{CellMap, cell_at}
 use Rattle.tree_model.specs.declared.write.Write.{Write}
 use Rattle.cell_format.specs.Commits.{IsDone, IsPerhapsDone, amounts_at}

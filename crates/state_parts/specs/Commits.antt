@@ -2,7 +2,7 @@
 use Rattle.std.specs.Prelude.{◌≡◌, ◌≤◌, ◌==◌, ◌&&◌, ℕ, Bool, true, false, List, map, filter, All, Option, None, Some, unwrap_or, Result, Ok, Err, OnOk, IsErrOf, slice_get}
 use Rattle.std.specs.List.{list_any, AllZip}
 use Rattle.storm_values.specs.Lines.{first_some}
-use Rattle.storm_outside.specs.Counts.{Rose}
+use Rattle.storm_values.specs.Counts.{Rose}
 use Rattle.storm_stores.specs.CellMaps.{CellMap, cell_at}
 use Rattle.tree_model.specs.declared.write.Write.{Write}
 use Rattle.cell_format.specs.Commits.{IsDone, IsPerhapsDone, amounts_at}

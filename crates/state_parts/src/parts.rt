@@ -1,6 +1,6 @@
 ghost use Rattle.std.specs.Prelude.{◌≡◌, ◌≤◌, ◌⊎◌, ℕ, List, All, Ok, Err, IfOk, OnOk, OnErr, IsErrOf};
 ghost use Rattle.std.specs.List.{AllZip};
-ghost use Rattle.storm_outside.specs.Counts.{Rose};
+ghost use Rattle.storm_values.specs.Counts.{Rose};
 ghost use Rattle.storm_stores.specs.CellMaps.{CellMap, cell_at};
 ghost use Rattle.tree_model.specs.Tables.{states_of};
 ghost use Rattle.state_parts.specs.Commits.{AreCommitted, ArePerhapsCommitted, Comes, IsBadAt, IsFailedPart, NoCountFell};

@@ -4,7 +4,7 @@ ghost use Rattle.std.specs.Cmp.Lexicographic.{slice_cmp};
 ghost use Rattle.std.specs.List.{AllZip};
 ghost use Rattle.std.specs.Option.{option_or};
 ghost use Rattle.std.specs.Ordering.{nat_cmp};
-ghost use Rattle.storm_outside.specs.Counts.{Rose};
+ghost use Rattle.storm_values.specs.Counts.{Rose};
 ghost use Rattle.storm_stores.specs.CellMaps.{CellMap, cell_at};
 ghost use Rattle.state_parts.specs.Gathered.{pairs_of, value_of};
 ghost use Rattle.tree_model.specs.Tables.{StateOf, state_by, states_of};

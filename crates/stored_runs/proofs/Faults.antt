@@ -15,7 +15,7 @@ use Rattle.state_parts.specs.declared.parts.StatePart.{StatePart}
 use Rattle.state_parts.specs.Makers.{HasNotFailed, RoseBySum, faults_of}
 use Rattle.state_parts.specs.PartPlans.{IsOneOf, PartPlan, plans_of}
 use Rattle.state_parts.specs.PartTables.{IsRead, SomeRose}
-use Rattle.storm_outside.specs.Counts.{Rose}
+use Rattle.storm_values.specs.Counts.{Rose}
 use Rattle.stored_runs.proofs.Lent.{Lent}
 use Rattle.stored_runs.specs.Makers.{FaultsAreCounted, maker_use}
 use Rattle.storm_stores.specs.CellMaps.{CellMap}

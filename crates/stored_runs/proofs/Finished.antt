@@ -25,7 +25,7 @@ use Rattle.schedule_core.specs.Schedules.{IsOfWorld, answer_by, answer_of}
 use Rattle.state_parts.specs.declared.answer.CommitOutcome.{CommitOutcome}
 use Rattle.state_parts.specs.declared.answer.CommitOutcome.TheVariants.{Done}
 use Rattle.state_parts.specs.Makers.{RoseBySum}
-use Rattle.storm_outside.specs.Counts.{Rose}
+use Rattle.storm_values.specs.Counts.{Rose}
 use Rattle.stored_runs.proofs.Prefixes.{Front, front_of, grows-run, over-finished, run-both, run-over, sum_of_first}
 use Rattle.stored_runs.specs.Laws.{WorldLaws}
 use Rattle.topology_plan.specs.Topology.{Topology}

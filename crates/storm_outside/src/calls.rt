@@ -1,5 +1,5 @@
 ghost use Rattle.std.specs.Prelude.{◌≡◌, ◌≤◌, ◌↔◌, IsTrue, OnOk, OnErr};
-ghost use Rattle.storm_outside.specs.Counts.{Rose, raised};
+ghost use Rattle.storm_values.specs.Counts.{Rose, raised};
 ghost use Rattle.storm_outside.specs.Calls.{no_calls, failing_at, counted, NextFails};
 
 use crate::failed::Failed;

@@ -1,6 +1,6 @@
 ghost use Rattle.std.specs.Prelude.{◌≡◌, ℕ, ◌<◌, ◌≤◌, ◌↔◌, List, [], ◌∷◌, ◌++◌, length, take, drop, min, Some, None, IsTrue, IsSome, IfSome, IfOk, IsErr, OnOk, OnErr, position};
 ghost use Rattle.std.specs.Str.{bytes_eq};
-ghost use Rattle.storm_outside.specs.Counts.{Rose, raised};
+ghost use Rattle.storm_values.specs.Counts.{Rose, raised};
 ghost use Rattle.storm_outside.specs.Calls.{counted, failing_at, NextFails};
 ghost use Rattle.storm_outside.specs.Files.{file_of, one_file};
 ghost use Rattle.storm_outside.specs.Pieces.{GivesFirst};

@@ -1,5 +1,5 @@
 ghost use Rattle.std.specs.Prelude.{◌≡◌, ◌<◌, ◌≤◌, ◌↔◌, ◌++◌, length, take, min, Some, IfOk, IsErr, OnOk, OnErr};
-ghost use Rattle.storm_outside.specs.Counts.{Rose, raised};
+ghost use Rattle.storm_values.specs.Counts.{Rose, raised};
 ghost use Rattle.storm_outside.specs.Calls.{counted, failing_at};
 ghost use Rattle.storm_outside.specs.MemorySink.{empty_sink, free, WriteFails};
 

@@ -1,7 +1,7 @@
 // One read of a source and one write to an output, with the faults counted.
 ghost use Rattle.std.specs.Prelude.{◌≡◌, ◌<◌, ◌≤◌, length, IfOk, OnOk, OnErr};
 ghost use Rattle.std.specs.Io.KnownBytes.{ReadConsumes, WriteAppends};
-ghost use Rattle.storm_outside.specs.Counts.{Rose, raised};
+ghost use Rattle.storm_values.specs.Counts.{Rose, raised};
 
 use crate::calls::count_fault;
 use crate::failed::Failed;

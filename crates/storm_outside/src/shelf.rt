@@ -1,5 +1,5 @@
 ghost use Rattle.std.specs.Prelude.{◌≡◌, ℕ, ◌+◌, ◌-◌, ◌%◌, ◌^◌, ◌<◌, ◌≤◌, List, length, take, drop, Option, Some, IsOk, IfOk, OnOk, OnErr, IfSome, IsNone, IsErrOf};
-ghost use Rattle.storm_outside.specs.Counts.{Rose};
+ghost use Rattle.storm_values.specs.Counts.{Rose};
 ghost use Rattle.storm_outside.specs.Faults.{in_fault_text};
 ghost use Rattle.storm_outside.specs.Pieces.{GivesFirst, HasGiven};
 ghost use Rattle.storm_outside.specs.declared.shelf.InFault.TheVariants as fault;

@@ -1,5 +1,5 @@
 ghost use Rattle.std.specs.Prelude.{◌≡◌, ℕ, ◌<◌, ◌≤◌, ◌++◌, List, length, take, Option, Some, IfOk, OnOk, OnErr, IfSome, IsNone};
-ghost use Rattle.storm_outside.specs.Counts.{Rose};
+ghost use Rattle.storm_values.specs.Counts.{Rose};
 ghost use Rattle.storm_outside.specs.Pieces.{HasTaken};
 
 use crate::failed::Failed;

@@ -8,7 +8,7 @@ use Rattle.storm_values.specs.declared.lines.InputFault.{InputFault}
 use Rattle.storm_values.specs.declared.lines.InputFault.TheVariants as input_fault_is
 use Rattle.storm_values.specs.Lines.{input_fault, records_of}
 use Rattle.storm_values.proofs.InputLemmas.{input_fault-take, records_of-take}
-use Rattle.storm_outside.specs.Counts.{Rose}
+use Rattle.storm_values.specs.Counts.{Rose}
 use Rattle.schedule_reader.specs.declared.event.Event.{Event}
 use Rattle.schedule_reader.specs.declared.fault.ScheduleFault.{ScheduleFault}
 use Rattle.schedule_reader.specs.declared.fault.ScheduleFault.TheVariants as schedule_fault_is

@@ -1,6 +1,6 @@
 ghost use Rattle.std.specs.Prelude.{◌≡◌, ◌≤◌, ◌<◌, ◌+◌, ◌-◌, ◌%◌, ◌^◌, ℕ, List, length, All, IfOk, IfErr, OnOk, IsErrOf};
 ghost use Rattle.storm_values.specs.Rows.{IsRow};
-ghost use Rattle.storm_outside.specs.Counts.{Rose};
+ghost use Rattle.storm_values.specs.Counts.{Rose};
 ghost use Rattle.storm_program.specs.Files.{IsAccepted, AreRecords, AreAccepted, FilesCome};
 ghost use Rattle.storm_program.specs.Outside.{shelf_use, Fetched};
 ghost use Rattle.storm_program.specs.steps.Reading.{TopologyComes, WasRead, NotReadComes, InputComes};

@@ -2,6 +2,5 @@ pub mod CellMaps
 pub mod Faults
 pub mod Calls
 pub mod MemoryStore
-pub mod Counts
 pub mod MemoryMaker
 pub mod Keys

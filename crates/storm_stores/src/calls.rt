@@ -1,5 +1,5 @@
 ghost use Rattle.std.specs.Prelude.{◌≡◌, ◌≤◌, OnOk, OnErr};
-ghost use Rattle.storm_outside.specs.Counts.{Rose, raised};
+ghost use Rattle.storm_values.specs.Counts.{Rose, raised};
 ghost use Rattle.storm_stores.specs.Calls.{no_calls, failing_at, counted, fate_in, next_fate};
 
 use crate::fault::StoreFault;

@@ -2,7 +2,6 @@ ghost use Rattle.std.specs.Prelude.{◌≡◌, ◌≤◌, ℕ, ◌+◌, ◌-◌,
 ghost use Rattle.std.proofs.Common.{sym, ◌∙◌};
 ghost use Rattle.std.specs.List.{position_or_len};
 ghost use Rattle.storm_stores.specs.CellMaps.{CellMap, InKeyOrder, with_cell};
-ghost use Rattle.storm_stores.specs.Counts.{RoseBy};
 ghost use Rattle.storm_stores.specs.MemoryStore.{store_of, failing_of};
 ghost use Rattle.storm_stores.specs.MemoryMaker.{ChangesPart, HasMade, HoldsFor, IsOther, SameParts, is_slot, made_at, no_parts, store_at};
 

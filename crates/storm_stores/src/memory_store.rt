@@ -6,7 +6,7 @@ ghost use Rattle.std.specs.Map.{keys_of};
 ghost use Rattle.std.specs.Ordering.{nat_cmp};
 ghost use Rattle.std.specs.Str.{bytes_eq};
 ghost use Rattle.std.proofs.Common.{sym, ◌∙◌};
-ghost use Rattle.storm_outside.specs.Counts.{Rose, raised};
+ghost use Rattle.storm_values.specs.Counts.{Rose, raised};
 ghost use Rattle.storm_stores.specs.CellMaps.{CellMap, InKeyOrder, cell_at, with_cell};
 ghost use Rattle.storm_stores.specs.Calls.{counted, next_fate};
 ghost use Rattle.storm_stores.specs.MemoryStore.{Holds, cells_after, cells_of, failing_of, store_of};

@@ -1,8 +1,7 @@
-ghost use Rattle.std.specs.Prelude.{◌≡◌, ◌≢◌, ◌≤◌, ◌⊎◌, ℕ, List, length, Option, Some, slice_get, IfOk, OnOk, OnErr, IsErrOf};
+ghost use Rattle.std.specs.Prelude.{◌≡◌, ◌≢◌, ◌≤◌, ◌-◌, ◌^◌, ◌⊎◌, ℕ, List, length, Option, Some, slice_get, IfOk, OnOk, OnErr, IsErrOf};
 ghost use Rattle.std.specs.Map.{keys_of};
-ghost use Rattle.storm_outside.specs.Counts.{Rose};
+ghost use Rattle.storm_values.specs.Counts.{raised, raised_by};
 ghost use Rattle.storm_stores.specs.CellMaps.{CellMap, InKeyOrder, cell_at, with_cell};
-ghost use Rattle.storm_stores.specs.Counts.{RoseBy};
 
 use crate::fault::StoreFault;
 use storm_values::{Bytes, Memory};
@@ -23,7 +22,9 @@ pub trait CellStore: Drop {
         ensures same { (cells : CellMap) → tells self.old cells → tells self.new cells }
         ensures told_before { (cells : CellMap) → tells self.new cells → tells self.old cells }
         ensures failed { IsErrOf result StoreFault.Failed →
-            Rose (fault_count self.old) (fault_count self.new) }
+            fault_count self.new ≡ raised (fault_count self.old) }
+        ensures quiet { (IsErrOf result StoreFault.Failed → ⊥) →
+            fault_count self.new ≡ fault_count self.old }
         ensures never_falls { fault_count self.old ≤ fault_count self.new };
 
     /// Gives a key a cell. Where the call fails the key has its old cell or the new one.
@@ -38,7 +39,9 @@ pub trait CellStore: Drop {
         ensures told_before { (cells : CellMap) → tells self.new cells →
             (before : CellMap) × tells self.old before }
         ensures failed { IsErrOf result StoreFault.Failed →
-            Rose (fault_count self.old) (fault_count self.new) }
+            fault_count self.new ≡ raised (fault_count self.old) }
+        ensures quiet { (IsErrOf result StoreFault.Failed → ⊥) →
+            fault_count self.new ≡ fault_count self.old }
         ensures never_falls { fault_count self.old ≤ fault_count self.new };
 
     /// The number of keys.
@@ -48,7 +51,9 @@ pub trait CellStore: Drop {
         ensures same { (cells : CellMap) → tells self.old cells → tells self.new cells }
         ensures told_before { (cells : CellMap) → tells self.new cells → tells self.old cells }
         ensures failed { IsErrOf result StoreFault.Failed →
-            Rose (fault_count self.old) (fault_count self.new) }
+            fault_count self.new ≡ raised (fault_count self.old) }
+        ensures quiet { (IsErrOf result StoreFault.Failed → ⊥) →
+            fault_count self.new ≡ fault_count self.old }
         ensures never_falls { fault_count self.old ≤ fault_count self.new };
 
     /// The key of a number, the keys being numbered from 0 in the order of their bytes, and `None`
@@ -59,7 +64,9 @@ pub trait CellStore: Drop {
         ensures same { (cells : CellMap) → tells self.old cells → tells self.new cells }
         ensures told_before { (cells : CellMap) → tells self.new cells → tells self.old cells }
         ensures failed { IsErrOf result StoreFault.Failed →
-            Rose (fault_count self.old) (fault_count self.new) }
+            fault_count self.new ≡ raised (fault_count self.old) }
+        ensures quiet { (IsErrOf result StoreFault.Failed → ⊥) →
+            fault_count self.new ≡ fault_count self.old }
         ensures never_falls { fault_count self.old ≤ fault_count self.new };
 
     /// How often the store has failed. It takes no memory.
@@ -71,6 +78,9 @@ pub trait CellStore: Drop {
 
     /// Its keys stand in order.
     ghost in_order: { (s : Self) (cells : CellMap) → tells s cells → InKeyOrder cells };
+
+    /// The count ends at 2^64 - 1.
+    ghost count_ends: { (s : Self) → fault_count s ≤ 2 ^ 64 - 1 };
 }
 
 /// Makes the store of each part of each state, and takes the stores back.
@@ -113,14 +123,17 @@ pub trait StoreMaker {
             holds self.old c p cells → holds self.new c p cells }
         ensures stays_made { (c p : ℕ) → has_made self.old c p → has_made self.new c p }
         ensures made_before { (c p : ℕ) → has_made self.new c p → has_made self.old c p }
-        ensures count { RoseBy (Self.C.fault_count store)
-            (fault_count self.old) (fault_count self.new) }
+        ensures count {
+            fault_count self.new ≡ raised_by (fault_count self.old) (Self.C.fault_count store) }
         ensures never_falls { fault_count self.old ≤ fault_count self.new }
         ensures same_count { Self.C.fault_count store ≡ 0 →
             fault_count self.new ≡ fault_count self.old };
 
     /// A part has one map.
     ghost one_map: { (s : Self) (c p : ℕ) (a b : CellMap) → holds s c p a → holds s c p b → a ≡ b };
+
+    /// The count ends at 2^64 - 1.
+    ghost count_ends: { (s : Self) → fault_count s ≤ 2 ^ 64 - 1 };
 }
 
 /// A law: a put changes one key.

@@ -1,4 +1,5 @@
 pub mod Json
+pub mod Counts
 pub mod Limits
 pub mod Lines
 pub mod Faults

@@ -3,7 +3,7 @@
 use Rattle.std.specs.Prelude.{◌≡◌, ◌≤◌, ◌<◌, ℕ, ◌+◌, ◌&&◌, nat_lt, Bool, if◌then◌else◌, List, ◌++◌, length, None, Some}
 use Rattle.std.specs.List.{AllByRecursion}
 use Rattle.counted_items.specs.Weights.{weigh, Within}
-use Rattle.storm_outside.specs.Counts.{Rose}
+use Rattle.storm_values.specs.Counts.{Rose}
 use Rattle.storm_values.specs.declared.value.Root.{Root}
 use Rattle.storm_values.specs.declared.value.Value.{Value}
 use Rattle.topology_plan.specs.Topology.{Topology}

@@ -8,3 +8,7 @@ Rose before after = (before < after) ⊎ (after ≡ 2 ^ 64 - 1)
 -- one more in such a count
 abbrev pub raised : ℕ → ℕ
 raised count = min (count + 1) (2 ^ 64 - 1)
+
+-- so many more in such a count
+abbrev pub raised_by : ℕ → ℕ → ℕ
+raised_by count many = min (count + many) (2 ^ 64 - 1)
