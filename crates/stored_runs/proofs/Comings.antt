@@ -26,7 +26,7 @@ use Rattle.stored_runs.specs.declared.ending.RunEnd.{RunEnd}
 use Rattle.stored_runs.specs.declared.ending.RunEnd.TheVariants as end
 use Rattle.stored_runs.specs.Laws.{PartLaws, WorldLaws}
 use Rattle.stored_runs.specs.Makers.{BeganEmpty, CameBack, FaultsAreCounted, maker_use}
-use Rattle.stored_runs.specs.StoredRuns.{EndComes, IsAll, IsEndOfWorld, IsRun, IsRunByRounds, IsRunOfWorld, MetNoBadCell, NothingIsInTheWay, more_faults}
+use Rattle.stored_runs.specs.StoredRuns.{EndComes, IsAll, IsEndOfWorld, IsRun, IsRunByRounds, IsRunOfWorld, NothingIsInTheWay, StandsWithoutMemory}
 use Rattle.storm_stores.specs.CellMaps.{CellMap}
 use Rattle.topology_plan.specs.Topology.{Topology}
 use Rattle.tree_model.specs.declared.write.Table.{Table}
@@ -51,6 +51,14 @@ pub all_back : {S M : Type 0} {tells : S → CellMap → Type 0} {count : S → 
     → Lent tells count holds faults t old mid new parts ran closed
     → CameBack t (maker_use holds made faults old new)
 all_back made lent = came_back _ _ _ made _ _ _ _ _ _ _ _ lent
+
+-- no bad cell was met
+abbrev MetNoBadCell : RunEnd → Type 0
+MetNoBadCell (end.All tables) = Unit {0}
+MetNoBadCell (end.Exhausted txid) = Unit {0}
+MetNoBadCell (end.Unfinished k) = Unit {0}
+MetNoBadCell end.StoreFault = Unit {0}
+MetNoBadCell (end.BadCell key) = ⊥
 
 -- A run over parts came to an answer, by the words that sources of ids told.
 pub record Ran {S : Type 0} (tells : S → CellMap → Type 0) (count : S → ℕ) (t : Topology)

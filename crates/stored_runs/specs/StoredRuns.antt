@@ -6,7 +6,6 @@ use Rattle.batch_commits.specs.Standing.{batches_in}
 use Rattle.bolt_ops.specs.RowOp.{Custom}
 use Rattle.commit_order.specs.declared.stop.Stop.TheVariants as stop
 use Rattle.commit_turns.specs.Kept.{FailsInTurn}
-use Rattle.commit_turns.specs.Turns.{last_tick}
 use Rattle.event_worlds.specs.Accounted.{AreCaused}
 use Rattle.event_worlds.specs.Rounds.{CanFinish, DoesNotCoincide}
 use Rattle.event_worlds.specs.Worlds.{Step}
@@ -49,14 +48,6 @@ FaultsCome t maker fates (end.Unfinished k) = FaultsAreCounted t maker fates
 FaultsCome t maker fates end.StoreFault = ReadingFailed t maker fates
 FaultsCome t maker fates (end.BadCell key) = FaultsBeforeBadCell t maker fates
 
--- no bad cell was met
-abbrev pub MetNoBadCell : RunEnd → Type 0
-MetNoBadCell (end.All tables) = Unit {0}
-MetNoBadCell (end.Exhausted txid) = Unit {0}
-MetNoBadCell (end.Unfinished k) = Unit {0}
-MetNoBadCell end.StoreFault = Unit {0}
-MetNoBadCell (end.BadCell key) = ⊥
-
 -- ---- a run
 
 -- Each end of an attempt has its cause, with so many ticks handed out: by some words of the sources
@@ -78,16 +69,14 @@ pub record IsRun (told : (ℕ → ℕ → ℕ) → Type 0) (t : Topology) (custo
   pub failed_in_turn : FailsInTurn fates
   pub counted : FaultsCome t maker fates ending
   -- over stores that began empty all maps stand at the batches that were committed
-  pub stands : MetNoBadCell ending → BeganEmpty t maker
-      → MapsStand t custom cut (committed_count fates) maker
-
--- A run over the stores of a maker that ended without memory: each batch was committed once at most,
--- and in order, and over stores that began empty all maps stand at the batches that were committed.
--- The commit of the next one may have been under way: each key has its old cell or that of it.
-pub record IsCutShort (t : Topology) (custom : Custom) (cut : Cut) (maker : MakerUse)
-    (fates : List Attempt) : Type 0 where
-  pub once : IsOnce (length cut.records) cut.size last_tick fates
   pub stands : BeganEmpty t maker → MapsStand t custom cut (committed_count fates) maker
+
+-- Of a run that ended without memory: over stores that began empty all maps stand at the batches
+-- that were committed. The commit of the next one may have been under way, so that each key has its
+-- old cell or that of this commit.
+abbrev pub StandsWithoutMemory : Topology → Custom → Cut → MakerUse → List Attempt → Type 0
+StandsWithoutMemory t custom cut maker fates =
+    BeganEmpty t maker → MapsStand t custom cut (committed_count fates) maker
 
 -- ---- worlds
 

@@ -43,7 +43,8 @@ fn exit_status<R: Threads + Wait + Sync, H: Shelf, K: Sink, T: Ticks, M: StoreMa
     ensures { Exits reversed (map string_bytes words.now)
         (shelf_use H.holds H.ready H.fetches H.faults shelf.old shelf.new)
         (sink_use K.taken K.faults out.old out.new)
-        (run_use (maker_use M.holds M.has_made M.fault_count stores.old stores.new)
+        (run_use (maker_use M.C.tells M.C.fault_count M.holds M.has_made M.fault_count
+        stores.old stores.new)
         (N.tells ids.old))
         (ticks_use T.handed_out T.tells ticks.old ticks.new) result }
 {
