@@ -192,6 +192,14 @@ module _ {S M : Type 0} {tells : S → CellMap → Type 0} {count : S → ℕ}
 
     -- ---- the run
 
+    -- whatever was answered, maps stand where parts do
+    stands_at : BeganEmpty t (maker_use tells count holds made faults old new)
+        → MapsStand t custom cut (committed_count fates)
+        (maker_use tells count holds made faults old new)
+    stands_at empty =
+        maps_stand tells count holds made faults t old mid new custom cut (committed_count fates)
+        parts ran closed lent (stands_by empty)
+
     run_at : (ending : RunEnd) → ClosesAs ending → Quiet ending
         → IsRun told t custom cut ticks (maker_use tells count holds made faults old new) fates
         ending
@@ -208,14 +216,6 @@ module _ {S M : Type 0} {tells : S → CellMap → Type 0} {count : S → ℕ}
           counted = counted_by ending closes quiet;
           stands = stands_at;
         }
-
-    -- whatever was answered, maps stand where parts do
-    stands_at : BeganEmpty t (maker_use tells count holds made faults old new)
-        → MapsStand t custom cut (committed_count fates)
-        (maker_use tells count holds made faults old new)
-    stands_at empty =
-        maps_stand tells count holds made faults t old mid new custom cut (committed_count fates)
-        parts ran closed lent (stands_by empty)
 
     -- what a run over the stores of a maker comes to
     pub run_is : (r : Result RunEnd E) → Closes tells count t answer ran closed r
