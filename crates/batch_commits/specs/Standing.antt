@@ -1,6 +1,6 @@
 -- When all parts stand at the batches that were committed. This project's own.
-use Rattle.std.specs.Prelude.{◌≡◌, ◌≤◌, ◌⊎◌, ◌+◌, ◌==◌, ◌&&◌, if◌then◌else◌, ℕ, List, [], ◌∷◌, IsSome, Option, Some, filter, length, slice_get}
-use Rattle.std.specs.List.{AllZip, flat_map}
+use Rattle.std.specs.Prelude.{◌≡◌, ◌≤◌, ◌⊎◌, ◌+◌, ◌*◌, ℕ, List, [], ◌∷◌, IsSome, Option, Some, filter, length, slice_get}
+use Rattle.std.specs.List.{AllZip}
 use Rattle.std.specs.Str.{IsUtf8}
 use Rattle.attempt_fates.specs.declared.fates.Attempt.{Attempt}
 use Rattle.attempt_fates.specs.declared.fates.End.{End}
@@ -9,13 +9,13 @@ use Rattle.bolt_ops.specs.RowOp.{Custom}
 use Rattle.commit_turns.specs.Account.{rows_in}
 use Rattle.commit_turns.specs.Kept.{is_failed_commit}
 use Rattle.state_cells.specs.Turns.{IsBad}
-use Rattle.state_parts.specs.Commits.{IsFailedPart}
+use Rattle.state_parts.specs.Commits.{CountFollows, FailedOnceAtMost, IsFailedPart}
 use Rattle.state_parts.specs.declared.answer.CommitOutcome.{CommitOutcome}
 use Rattle.state_parts.specs.declared.answer.CommitOutcome.TheVariants.{Failed}
 use Rattle.state_parts.specs.declared.parts.StatePart.{StatePart}
+use Rattle.state_parts.specs.Makers.{RoseBySum}
 use Rattle.state_parts.specs.PartPlans.{IsOneOf, PartPlan}
 use Rattle.state_parts.specs.Standing.{AllAreAt, AllStand}
-use Rattle.storm_values.specs.Counts.{Rose}
 use Rattle.storm_stores.specs.CellMaps.{CellMap, cell_at}
 use Rattle.topology_plan.specs.declared.parts.Kind.{Kind}
 use Rattle.topology_plan.specs.Topology.{Topology}
@@ -49,14 +49,14 @@ pub record PartsStand {S : Type 0} (tells : S → CellMap → Type 0) (t : Topol
 abbrev pub IsStrange : Kind → List ℕ → Option (List ℕ) → Type 0
 IsStrange kind key held = IsBad kind held ⊎ (IsSome held × (IsUtf8 key → ⊥))
 
--- the stores of the parts tell such a cell, where they tell any
-pub record HasStrange {S : Type 0} (tells : S → CellMap → Type 0) (parts : List (StatePart S))
-    : Type 0 where
+-- the store of one of the parts tells such a cell at this key, where it tells any
+pub record HasStrangeAt {S : Type 0} (tells : S → CellMap → Type 0) (parts : List (StatePart S))
+    (key : List ℕ) : Type 0 where
   pub place : ℕ
   pub at : StatePart S
   pub is_at : slice_get parts place ≡ Some at
   pub strange : (cells : CellMap) → tells at.over.store cells
-      → (key : List ℕ) × IsStrange at.over.kind key (cell_at cells key)
+      → IsStrange at.over.kind key (cell_at cells key)
 
 -- the key of a write is a text
 abbrev pub HasTextKey : Write → Type 0
@@ -64,34 +64,41 @@ HasTextKey write = IsUtf8 write.key
 
 -- ---- counts of faults
 
--- a count rose from one failure to the next, each of which has the count before it and after it
-abbrev pub RunsUp : ℕ → List (ℕ × ℕ) → ℕ → Type 0
-RunsUp low [] high = low ≤ high
-RunsUp low (failure ∷ failures) high =
-    (low ≤ failure.0) × Rose failure.0 failure.1 × RunsUp failure.1 failures high
+-- What the end of an attempt says of the count of a part: the part at which a commit is told to
+-- have failed failed once, by the told counts, and another one once at most. At any other end no
+-- part failed.
+abbrev pub CountStep : (component part : ℕ) → End → (low high : ℕ) → Type 0
+CountStep component part (end.Committed list) low high = high ≡ low
+CountStep component part (end.Failed path) low high = high ≡ low
+CountStep component part end.TimedOut low high = high ≡ low
+CountStep component part (end.Coincided list) low high = high ≡ low
+CountStep component part (end.CommitFailed c p before after) low high =
+    CountFollows (Failed c p before after) component part low high
 
--- the counts before and after, where the commit of an attempt failed at a part
-abbrev pub failure_at : ℕ → ℕ → End → List (ℕ × ℕ)
-failure_at component part (end.Committed list) = []
-failure_at component part (end.Failed path) = []
-failure_at component part end.TimedOut = []
-failure_at component part (end.Coincided list) = []
-failure_at component part (end.CommitFailed c p before after) =
-    if (c == component) && (p == part) then (before, after) ∷ [] else []
+-- a count went from `low` to `high` along the ends of these attempts, one after another
+abbrev pub CountsRun : (component part low : ℕ) → List Attempt → ℕ → Type 0
+CountsRun component part low [] high = low ≡ high
+CountsRun component part low (a ∷ fates) high =
+    (mid : ℕ) × CountStep component part a.end low mid × CountsRun component part mid fates high
 
--- the same of all attempts, in the order of their ends
-abbrev pub failures_at : ℕ → ℕ → List Attempt → List (ℕ × ℕ)
-failures_at component part fates =
-    flat_map (λ (a : Attempt). failure_at component part a.end) fates
-
--- of each part the counts in these fates lie between its store's counts before and after
+-- the counts of all parts went along these fates, and no part failed otherwise
 abbrev pub FailuresAreCounted : {S : Type 0} → (S → ℕ) → List Attempt → List (StatePart S)
     → List (StatePart S) → Type 0
 FailuresAreCounted count fates old new =
     AllZip
     (λ was is.
-    RunsUp (count was.over.store) (failures_at was.component was.part fates)
-    (count is.over.store))
+    CountsRun was.component was.part (count was.over.store) fates (count is.over.store))
+    old new
+
+-- the same where one more commit was tried, which no fate tells: each part may have failed once
+-- more
+abbrev pub AllButLastAreCounted : {S : Type 0} → (S → ℕ) → List Attempt → List (StatePart S)
+    → List (StatePart S) → Type 0
+AllButLastAreCounted count fates old new =
+    AllZip
+    (λ was is.
+    (mid : ℕ) × CountsRun was.component was.part (count was.over.store) fates mid
+    × FailedOnceAtMost mid (count is.over.store))
     old new
 
 -- where the commit of an attempt failed, it failed at one of these parts
@@ -103,6 +110,15 @@ FailsAtOneOf plans a =
 -- how many commits failed
 abbrev pub failed_commits : List Attempt → ℕ
 failed_commits fates = length (filter (λ (a : Attempt). is_failed_commit a.end) fates)
+
+-- How much the counts of so many parts rose together where so many commits failed: by one at least
+-- and by one a part at most for each of them, and by nothing where none failed. A count that has
+-- come to its end rises no more.
+pub record RoseByFailures (parts failed before after : ℕ) : Type 0 where
+  pub at_least : RoseBySum failed before after
+  pub at_most : after ≤ before + failed * parts
+  pub never_falls : before ≤ after
+  pub none : failed ≡ 0 → after ≡ before
 
 -- where an outcome tells that a part's store failed, that part's count rose as it tells
 abbrev pub TellsFailedPart : {S : Type 0} → (S → ℕ) → List (StatePart S) → List (StatePart S)

@@ -1,14 +1,15 @@
-ghost use Rattle.std.specs.Prelude.{◌≡◌, ◌<◌, ◌+◌, ℕ, List, [], ◌∷◌, ◌++◌, All, Option};
+ghost use Rattle.std.specs.Prelude.{◌≡◌, ◌<◌, ◌+◌, ℕ, List, [], ◌∷◌, ◌++◌, All, Option, Some, length};
 ghost use Rattle.std.specs.List.{AllZip};
 ghost use Rattle.acker_core.specs.declared.verdict.Verdict.{Verdict};
 ghost use Rattle.attempt_fates.specs.declared.fates.Attempt.{Attempt};
-ghost use Rattle.batch_commits.specs.Standing.{FailsAtOneOf, FailuresAreCounted, HasStrange, HasTextKey, PartsStand, TellsFailedPart, batches_in, failed_commits, writes_at};
+ghost use Rattle.batch_commits.specs.Standing.{AllButLastAreCounted, FailsAtOneOf, FailuresAreCounted, HasStrangeAt, HasTextKey, PartsStand, RoseByFailures, TellsFailedPart, batches_in, failed_commits, writes_at};
 ghost use Rattle.bolt_ops.specs.RowOp.{Custom};
 ghost use Rattle.commit_turns.specs.Desks.{Desk};
 ghost use Rattle.commit_turns.specs.Outcomes.{IsOutcome};
-ghost use Rattle.commit_turns.specs.Turns.{decided, end_by, turned};
-ghost use Rattle.state_parts.specs.Commits.{AreCommitted, ArePerhapsCommitted, IsBadAt, NoCountFell};
-ghost use Rattle.state_parts.specs.Makers.{RoseBySum, faults_of};
+ghost use Rattle.commit_turns.specs.declared.wait.Wait.{Wait};
+ghost use Rattle.commit_turns.specs.Turns.{decided, end_by, next_to_commit, turned};
+ghost use Rattle.state_parts.specs.Commits.{AreCommitted, ArePerhapsCommitted, CountsFollow, FailOnceAtMost, IsBadAt, SameCounts};
+ghost use Rattle.state_parts.specs.Makers.{faults_of};
 ghost use Rattle.state_parts.specs.PartPlans.{AreParts, IsOneOf, plans_of};
 ghost use Rattle.state_parts.specs.PartTables.{IsBadRowAt, IsTableOver};
 ghost use Rattle.state_parts.specs.Standing.{IsEmpty};
@@ -69,45 +70,45 @@ pub fn parts_that_stand_have_the_tables<C: CellStore>()
     batches_in_order_are_all_records();
 }
 
-/// A law: a cell that no part takes, or one at a key that is no text, was there before a commit of
-/// writes whose keys are texts; and a fault that tells of a bad cell tells of such a one.
+/// A law: a cell that no part takes, or one at a key that is no text, was there at that key before a
+/// commit of writes whose keys are texts; and a fault that tells of a bad cell tells of such a one.
 pub fn strange_cells_were_there<C: CellStore>()
-    ensures commit { (txid : ℕ) (made : List Write) (old new : List (StatePart C))
+    ensures commit { (txid : ℕ) (made : List Write) (old new : List (StatePart C)) (key : List ℕ)
         → All HasTextKey made → ArePerhapsCommitted C.tells txid made old new
-        → HasStrange C.tells new → HasStrange C.tells old }
+        → HasStrangeAt C.tells new key → HasStrangeAt C.tells old key }
+    ensures bad_before { (txid : ℕ) (made : List Write) (old new : List (StatePart C))
+        (key : List ℕ)
+        → ArePerhapsCommitted C.tells txid made old new
+        → IsBadAt C.tells new key → IsBadAt C.tells old key }
     ensures bad_cell { (parts : List (StatePart C)) (key : List ℕ)
-        → IsBadAt C.tells parts key → HasStrange C.tells parts }
+        → IsBadAt C.tells parts key → HasStrangeAt C.tells parts key }
     ensures bad_row { (parts : List (StatePart C)) (key : List ℕ)
-        → IsBadRowAt C.tells parts key → HasStrange C.tells parts }
+        → IsBadRowAt C.tells parts key → HasStrangeAt C.tells parts key }
 {}
 
-/// A law: of each part the failure that a commit's outcome tells lies between its store's counts
-/// before the commit and after it, and the attempts that end in a turn tell none. A part at which
-/// a commit fails is one of a state, and each of these stands among the parts.
+/// A law: the counts of stores go along the end of the attempt whose commit came to an outcome, and
+/// the attempts that end in a turn tell of no failure. A part at which a commit fails is one of a
+/// state, and each of these stands among the parts.
 pub fn failures_of_commits_are_counted<C: CellStore>()
     ensures counted { (t : Topology) (cut : Cut) (ended : Attempt) (how : CommitOutcome)
         (list : Option (List AckMsg)) (old new : List (StatePart C))
-        → AreParts t old → NoCountFell C.fault_count old new
-        → TellsFailedPart C.fault_count old new how → ended.end ≡ end_by t cut how list
+        → CountsFollow C.fault_count how old new → ended.end ≡ end_by t cut how list
         → FailuresAreCounted C.fault_count (ended ∷ []) old new }
-    ensures decided { (t : Topology) (cut : Cut) (d : Desk) (how : CommitOutcome)
+    ensures decided { (t : Topology) (cut : Cut) (d : Desk) (w : Wait) (how : CommitOutcome)
         (old new : List (StatePart C))
-        → AreParts t old → NoCountFell C.fault_count old new
-        → TellsFailedPart C.fault_count old new how
+        → next_to_commit t cut d ≡ Some w → CountsFollow C.fault_count how old new
         → FailuresAreCounted C.fault_count (decided t cut how d).ended old new }
     ensures turn { (t : Topology) (cut : Cut) (d : Desk) (verdict : Option Verdict) (ticks : ℕ)
-        (old new : List (StatePart C))
-        → NoCountFell C.fault_count old new
-        → FailuresAreCounted C.fault_count (turned t cut verdict ticks d).ended old new }
+        → failed_commits (turned t cut verdict ticks d).ended ≡ 0 }
     ensures outcome { (t : Topology) (how : CommitOutcome) (old new : List (StatePart C))
         → AreParts t old → TellsFailedPart C.fault_count old new how → IsOutcome t how }
     ensures part { (t : Topology) (parts : List (StatePart C)) (component part : ℕ)
         → AreParts t parts → IsPart t component part → IsOneOf (plans_of parts) component part }
 {}
 
-/// A law: counts that ran up through the failures of some attempts and then of others ran up
-/// through those of all, and where no attempt ended it is enough that they did not fall. Together
-/// they rose by as many as commits failed, or have come to their end.
+/// A law: counts that went along the ends of some attempts and then of others went along those of
+/// all, and where no commit failed they stayed. A last commit that no fate tells may have failed
+/// once more at each part. Together the counts rose by as many as commits failed at least.
 pub fn counts_run_on<C: CellStore>()
     ensures then { (xs ys : List Attempt) (a b c : List (StatePart C))
         → plans_of b ≡ plans_of a → FailuresAreCounted C.fault_count xs a b
@@ -115,9 +116,22 @@ pub fn counts_run_on<C: CellStore>()
         → FailuresAreCounted C.fault_count (xs ++ ys) a c }
     ensures none { (parts : List (StatePart C))
         → FailuresAreCounted C.fault_count [] parts parts }
-    ensures quiet { (xs : List Attempt) (a b : List (StatePart C))
-        → xs ≡ [] → NoCountFell C.fault_count a b → FailuresAreCounted C.fault_count xs a b }
+    ensures quiet { (xs : List Attempt) (parts : List (StatePart C))
+        → failed_commits xs ≡ 0 → FailuresAreCounted C.fault_count xs parts parts }
+    ensures same { (xs : List Attempt) (a b : List (StatePart C))
+        → failed_commits xs ≡ 0 → FailuresAreCounted C.fault_count xs a b
+        → SameCounts C.fault_count a b }
+    ensures last { (xs : List Attempt) (a b c : List (StatePart C))
+        → FailuresAreCounted C.fault_count xs a b → FailOnceAtMost C.fault_count b c
+        → AllButLastAreCounted C.fault_count xs a c }
+    ensures then_last { (xs ys : List Attempt) (a b c : List (StatePart C))
+        → plans_of b ≡ plans_of a → FailuresAreCounted C.fault_count xs a b
+        → AllButLastAreCounted C.fault_count ys b c
+        → AllButLastAreCounted C.fault_count (xs ++ ys) a c }
+    ensures all_told { (xs : List Attempt) (a b : List (StatePart C))
+        → FailuresAreCounted C.fault_count xs a b → AllButLastAreCounted C.fault_count xs a b }
     ensures sum { (xs : List Attempt) (a b : List (StatePart C))
         → All (FailsAtOneOf (plans_of a)) xs → FailuresAreCounted C.fault_count xs a b
-        → RoseBySum (failed_commits xs) (faults_of C.fault_count a) (faults_of C.fault_count b) }
+        → RoseByFailures (length a) (failed_commits xs) (faults_of C.fault_count a)
+        (faults_of C.fault_count b) }
 {}

@@ -1,13 +1,14 @@
 -- An engine as a world, and what its events do. This project's own.
 use Rattle.std.specs.Prelude.{◌≡◌, ◌<◌, ◌≤◌, ◌+◌, ◌-◌, ◌^◌, ℕ, Bool, true, false, Option, None, Some, List, [], ◌∷◌, ◌++◌, map, length, slice_get, slice_set}
 use Rattle.std.specs.List.{AllByRecursion, range_with_len}
+use Rattle.acker_core.specs.declared.verdict.Verdict.{Verdict}
 use Rattle.attempt_fates.specs.declared.fates.Attempt.{Attempt}
 use Rattle.bolt_ops.specs.RowOp.{Custom}
-use Rattle.commit_order.specs.Offices.{IsCommitOf}
+use Rattle.commit_order.specs.Offices.{AddsSome, IsCommitOf}
 use Rattle.commit_order.specs.Orders.{IsOwn, collector_of, cut_of, desk_of, plan_of, stand_of, wanted_memory}
 use Rattle.commit_turns.specs.declared.wait.Wait.{Wait}
 use Rattle.commit_turns.specs.Kept.{IsKept}
-use Rattle.commit_turns.specs.Turns.{next_to_commit}
+use Rattle.commit_turns.specs.Turns.{decided, next_to_commit, turned}
 use Rattle.event_engine.specs.Seats.{AreSeats, HasBuckets, acker_side, source_in, task_side}
 use Rattle.event_engine.specs.declared.engine.Engine.{Engine}
 use Rattle.event_worlds.specs.Accounted.{IsInput}
@@ -118,6 +119,21 @@ module _ {I : Type 0} {g : Ghosts I} where
   abbrev pub Answers : Option Commit → Engine I g → Type 0
   Answers None e = IsIdle e
   Answers (Some commit) e = IsOrder commit e
+
+  -- Memory was wanted in a turn, which left these fates: of the attempts that end in it some were
+  -- added, the first first.
+  pub record TurnsShort (old : Engine I g) (fates : List Attempt) : Type 0 where
+    pub verdict : Option Verdict
+    pub ticks : ℕ
+    pub some : AddsSome
+        (turned (topology_in old) (cut_in old) verdict ticks (desk_of old.coordinator)).ended
+        old.fates fates
+
+  -- the same where an outcome was told
+  abbrev pub DecidesShort : CommitOutcome → Engine I g → List Attempt → Type 0
+  DecidesShort how old fates =
+      AddsSome (decided (topology_in old) (cut_in old) how (desk_of old.coordinator)).ended
+      old.fates fates
 
   -- the coordinator and the fates are as they were
   pub record IsStill (old new : Engine I g) : Type 0 where

@@ -5,7 +5,7 @@ ghost use Rattle.bolt_ops.specs.RowOp.{Custom};
 ghost use Rattle.commit_order.specs.Orders.{desk_of};
 ghost use Rattle.commit_order.specs.declared.stop.Stop.TheVariants as stop;
 ghost use Rattle.commit_turns.specs.Turns.{is_finished};
-ghost use Rattle.event_engine.specs.Engines.{Answers, Goes, Happens, IsIdle, IsReady, IsSeated, IsStill, IsThere, MayDecide, TakesTurn, cut_in, has_ended, shape, sources, topology_in};
+ghost use Rattle.event_engine.specs.Engines.{Answers, DecidesShort, Goes, Happens, IsIdle, IsReady, IsSeated, IsStill, IsThere, MayDecide, TakesTurn, TurnsShort, cut_in, has_ended, shape, sources, topology_in};
 ghost use Rattle.event_worlds.specs.Worlds.{acker_step, delivered, of_acker, of_outcome, of_task, of_tick, of_turn, outcomes_of, task_at, task_needs, task_step, tick_step};
 ghost use Rattle.topology_plan.specs.Topology.{Topology, tasks_in_all};
 ghost use Rattle.trident_batches.specs.Batches.{Cut};
@@ -127,6 +127,7 @@ impl<'p, I: Ids> Engine<'p, I> {
         ensures answers { IfOk result (λ commit. Answers commit self.new) }
         ensures once { OnErr result (IsOnce (length (cut_in self.old).records)
             (cut_in self.old).size (2 ^ 64 - 1) self.new.fates) }
+        ensures short { OnErr result (TurnsShort self.old self.new.fates) }
     {
         if self.is_over() {
             return Ok(None);
@@ -156,6 +157,7 @@ impl<'p, I: Ids> Engine<'p, I> {
             (outcomes_of self.new.fates ≡ outcomes_of self.old.fates ++ how ∷ []) }
         ensures once { OnErr result (IsOnce (length (cut_in self.old).records)
             (cut_in self.old).size (2 ^ 64 - 1) self.new.fates) }
+        ensures short { OnErr result (DecidesShort how self.old self.new.fates) }
     {
         // a law: what is kept
         desks_are_kept();
@@ -299,6 +301,7 @@ impl<'p, I: Ids> Engine<'p, I> {
             (cut_in self.old) commit self.old self.new) }
         ensures once { OnErr result (IsOnce (length (cut_in self.old).records)
             (cut_in self.old).size (2 ^ 64 - 1) self.new.fates) }
+        ensures short { OnErr result (TurnsShort self.old self.new.fates) }
     {
         // laws: what is kept, and what is out
         desks_are_kept();

@@ -1,13 +1,16 @@
 -- What the steps of an engine do to the parts that its commits go to. This project's own.
-use Rattle.std.specs.Prelude.{◌≡◌, ℕ, List, ◌++◌, All}
+use Rattle.std.specs.Prelude.{◌≡◌, ℕ, List, ◌++◌, All, length}
 use Rattle.std.specs.List.{AllZip}
-use Rattle.batch_commits.specs.Standing.{FailuresAreCounted, HasStrange, PartsStand}
+use Rattle.attempt_fates.specs.declared.fates.Attempt.{Attempt}
+use Rattle.attempt_fates.specs.Fates.{committed_txids}
+use Rattle.batch_commits.specs.Standing.{AllButLastAreCounted, FailuresAreCounted, HasStrangeAt, PartsStand}
 use Rattle.bolt_ops.specs.RowOp.{Custom, IsCustom}
 use Rattle.commit_turns.specs.Outcomes.{IsOutcome}
 use Rattle.event_engine.specs.declared.engine.Engine.{Engine}
 use Rattle.event_engine.specs.Engines.{Gives, Goes, HasOutcomes, IsIdle, IsReady, cut_in, shape, topology_in}
 use Rattle.event_worlds.specs.Accounted.{Accounted, IsInput}
 use Rattle.event_worlds.specs.Worlds.{Step, outcomes_of}
+use Rattle.state_parts.specs.Commits.{IsBadAt}
 use Rattle.state_parts.specs.declared.answer.CommitOutcome.{CommitOutcome}
 use Rattle.state_parts.specs.declared.parts.StatePart.{StatePart}
 use Rattle.state_parts.specs.PartPlans.{AreParts, plans_of}
@@ -61,15 +64,43 @@ module _ {I S : Type 0} {g : Ghosts I} where
         → Accounted t custom cut words (record { world = shape old; counts = counts })
         → PartsStand holds t custom cut (committed_by old) was
         → PartsStand holds t custom cut (committed_by new) is
-    pub strange : HasStrange holds is → HasStrange holds was
+    -- a bad or strange cell was there before, at the same key
+    pub bad : (key : List ℕ) → IsBadAt holds is key → IsBadAt holds was key
+    pub strange : (key : List ℕ) → HasStrangeAt holds is key → HasStrangeAt holds was key
     pub counted : FailuresAreCounted count goes.more was is
 
-  -- a bad cell was met after the first of these steps, and a strange one was there before them
+  -- A fault stopped an engine, which left these fates and parts: some attempts may have ended, and
+  -- a last commit may have been tried that no fate tells.
+  pub record Leaves (holds : S → CellMap → Type 0) (count : S → ℕ) (t : Topology)
+      (custom : Custom) (cut : Cut) (old : Engine I g) (fates : List Attempt)
+      (was is : List (StatePart S)) : Type 0 where
+    pub more : List Attempt
+    pub added : fates ≡ old.fates ++ more
+    pub stands : (words : ℕ → ℕ → ℕ) (counts : ℕ → ℕ) → IsInput t cut
+        → Accounted t custom cut words (record { world = shape old; counts = counts })
+        → PartsStand holds t custom cut (committed_by old) was
+        → PartsStand holds t custom cut (length (committed_txids fates)) is
+    pub strange : (key : List ℕ) → HasStrangeAt holds is key → HasStrangeAt holds was key
+    pub counted : AllButLastAreCounted count more was is
+
+  -- a bad cell was met after the first of these steps, which was there before them at that key
   pub record Breaks (tells : I → (ℕ → ℕ) → ℕ → Type 0) (holds : S → CellMap → Type 0)
       (count : S → ℕ) (t : Topology) (custom : Custom) (cut : Cut) (whole : List Step)
-      (old new : Engine I g) (was is : List (StatePart S)) : Type 0 where
+      (key : List ℕ) (old new : Engine I g) (was is : List (StatePart S)) : Type 0 where
     pub steps : List Step
     pub rest : List Step
     pub first : whole ≡ steps ++ rest
-    pub drives : Drives tells holds count t custom cut steps old new was is
-    pub strange : HasStrange holds was
+    pub between : List (StatePart S)
+    pub drives : Drives tells holds count t custom cut steps old new was between
+    pub leaves : Leaves holds count t custom cut new new.fates between is
+    pub bad : IsBadAt holds was key
+
+  -- memory was wanted after some steps, which left these fates and parts
+  pub record WantsMemory (tells : I → (ℕ → ℕ) → ℕ → Type 0) (holds : S → CellMap → Type 0)
+      (count : S → ℕ) (t : Topology) (custom : Custom) (cut : Cut) (old : Engine I g)
+      (fates : List Attempt) (was is : List (StatePart S)) : Type 0 where
+    pub steps : List Step
+    pub mid : Engine I g
+    pub between : List (StatePart S)
+    pub drives : Drives tells holds count t custom cut steps old mid was between
+    pub leaves : Leaves holds count t custom cut mid fates between is

@@ -1,17 +1,16 @@
 -- The laws of worlds and of parts that runs rest on. This project's own.
 use Rattle.std.specs.Prelude.{◌≡◌, ◌<◌, ℕ, ◌+◌, List, [], ◌++◌, All, Option, Some, slice_get}
-use Rattle.acker_core.specs.declared.verdict.Verdict.{Verdict}
 use Rattle.attempt_fates.specs.declared.fates.Attempt.{Attempt}
-use Rattle.batch_commits.specs.Standing.{FailuresAreCounted, HasStrange, HasTextKey, PartsStand, TellsFailedPart, batches_in, writes_at}
+use Rattle.batch_commits.specs.Standing.{AllButLastAreCounted, FailuresAreCounted, HasStrangeAt, HasTextKey, PartsStand, TellsFailedPart, batches_in, failed_commits, writes_at}
 use Rattle.bolt_ops.specs.RowOp.{Custom, IsCustom}
 use Rattle.commit_turns.specs.Account.{rows_in}
 use Rattle.commit_turns.specs.declared.wait.Wait.{Wait}
 use Rattle.commit_turns.specs.Desks.{Desk}
 use Rattle.commit_turns.specs.Outcomes.{IsOutcome}
-use Rattle.commit_turns.specs.Turns.{decided, turned}
+use Rattle.commit_turns.specs.Turns.{decided, next_to_commit}
 use Rattle.event_worlds.specs.Accounted.{Accounted, AreCaused, IsInput}
 use Rattle.event_worlds.specs.Worlds.{Known, Step, first_known, run}
-use Rattle.state_parts.specs.Commits.{AreCommitted, ArePerhapsCommitted, NoCountFell}
+use Rattle.state_parts.specs.Commits.{AreCommitted, ArePerhapsCommitted, CountsFollow, FailOnceAtMost, IsBadAt}
 use Rattle.state_parts.specs.declared.answer.CommitOutcome.{CommitOutcome}
 use Rattle.state_parts.specs.declared.parts.StatePart.{StatePart}
 use Rattle.state_parts.specs.PartPlans.{AreParts, plans_of}
@@ -46,17 +45,20 @@ pub record CommitLaws {S : Type 0} (holds : S → CellMap → Type 0) (count : S
       → n < batches_in cut
       → ArePerhapsCommitted holds (n + 1) (writes_at t custom cut (n + 1)) old new
       → PartsStand holds t custom cut n new
-  pub strange : (txid : ℕ) (made : List Write) (old new : List (StatePart S))
-      → All HasTextKey made → ArePerhapsCommitted holds txid made old new → HasStrange holds new
-      → HasStrange holds old
-  pub decided_counts : (d : Desk) (how : CommitOutcome) (old new : List (StatePart S))
-      → AreParts t old → NoCountFell count old new → TellsFailedPart count old new how
+  pub strange : (txid : ℕ) (made : List Write) (old new : List (StatePart S)) (key : List ℕ)
+      → All HasTextKey made → ArePerhapsCommitted holds txid made old new
+      → HasStrangeAt holds new key → HasStrangeAt holds old key
+  pub bad : (txid : ℕ) (made : List Write) (old new : List (StatePart S)) (key : List ℕ)
+      → ArePerhapsCommitted holds txid made old new → IsBadAt holds new key
+      → IsBadAt holds old key
+  pub decided_counts : (d : Desk) (w : Wait) (how : CommitOutcome) (old new : List (StatePart S))
+      → next_to_commit t cut d ≡ Some w → CountsFollow count how old new
       → FailuresAreCounted count (decided t cut how d).ended old new
-  pub turn_counts : (d : Desk) (verdict : Option Verdict) (ticks : ℕ)
-      (old new : List (StatePart S)) → NoCountFell count old new
-      → FailuresAreCounted count (turned t cut verdict ticks d).ended old new
-  pub quiet_counts : (xs : List Attempt) (a b : List (StatePart S)) → xs ≡ []
-      → NoCountFell count a b → FailuresAreCounted count xs a b
+  pub quiet_counts : (xs : List Attempt) (parts : List (StatePart S)) → failed_commits xs ≡ 0
+      → FailuresAreCounted count xs parts parts
+  pub last_counts : (xs : List Attempt) (a b c : List (StatePart S))
+      → FailuresAreCounted count xs a b → FailOnceAtMost count b c
+      → AllButLastAreCounted count xs a c
   pub outcome : (how : CommitOutcome) (old new : List (StatePart S)) → AreParts t old
       → TellsFailedPart count old new how → IsOutcome t how
   pub settled : (words : ℕ → ℕ → ℕ) (k : Known) → IsInput t cut
@@ -66,8 +68,8 @@ pub record CommitLaws {S : Type 0} (holds : S → CellMap → Type 0) (count : S
       × Covers t custom (rows_in cut w.root.txid) list
 
 -- what a run from its start rests on
-pub record WorldLaws {S : Type 0} (holds : S → CellMap → Type 0) (t : Topology) (custom : Custom)
-    (cut : Cut) : Type 0 where
+pub record WorldLaws {S : Type 0} (holds : S → CellMap → Type 0) (count : S → ℕ) (t : Topology)
+    (custom : Custom) (cut : Cut) : Type 0 where
   pub first : (words : ℕ → ℕ → ℕ) → IsInput t cut
       → Accounted t custom cut words (first_known t words)
   pub led : (words : ℕ → ℕ → ℕ) (outcomes : List CommitOutcome) (steps : List Step) (k : Known)
@@ -78,3 +80,9 @@ pub record WorldLaws {S : Type 0} (holds : S → CellMap → Type 0) (t : Topolo
       → AreCaused t custom cut k.world.desk.tick words k.world.fates
   pub begin : (parts : List (StatePart S)) → 0 < cut.size → All (IsEmpty holds) parts
       → PartsStand holds t custom cut 0 parts
+  pub none_counted : (parts : List (StatePart S)) → FailuresAreCounted count [] parts parts
+  pub counts_last : (xs ys : List Attempt) (a b c : List (StatePart S)) → plans_of b ≡ plans_of a
+      → FailuresAreCounted count xs a b → AllButLastAreCounted count ys b c
+      → AllButLastAreCounted count (xs ++ ys) a c
+  pub all_told : (xs : List Attempt) (a b : List (StatePart S)) → FailuresAreCounted count xs a b
+      → AllButLastAreCounted count xs a b

@@ -8,7 +8,7 @@ use Rattle.event_engine.specs.declared.engine.Engine.{Engine}
 use Rattle.event_worlds.specs.Rounds.{round_with}
 use Rattle.event_worlds.specs.Worlds.{Step, coordinator_steps, of_acker, of_task, of_tick}
 use Rattle.schedule_core.specs.declared.ended.Ended.{Ended}
-use Rattle.schedule_core.specs.Driving.{Breaks, Drives}
+use Rattle.schedule_core.specs.Driving.{Breaks, Drives, WantsMemory}
 use Rattle.schedule_core.specs.Runs.{first_answers}
 use Rattle.state_parts.specs.declared.answer.CommitFault.{CommitFault}
 use Rattle.state_parts.specs.declared.answer.CommitFault.TheVariants as fault
@@ -58,4 +58,6 @@ pub record Rounded {I S T : Type 0} {g : Ghosts I} (tells : I → (ℕ → ℕ) 
   pub drives : OnOk done
       (Drives tells holds count t custom cut (rounds_with t answers) old new was is)
   pub bad : (key : List ℕ) → done ≡ Err (fault.BadCell key)
-      → Breaks tells holds count t custom cut (rounds_with t answers) old new was is
+      → Breaks tells holds count t custom cut (rounds_with t answers) key old new was is
+  pub short : done ≡ Err fault.Memory
+      → WantsMemory tells holds count t custom cut old new.fates was is

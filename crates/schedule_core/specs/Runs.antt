@@ -3,7 +3,7 @@ use Rattle.std.specs.Prelude.{◌≡◌, ◌<◌, ◌-◌, ◌^◌, ℕ, List, [
 use Rattle.std.specs.List.{range_with_len}
 use Rattle.attempt_fates.specs.declared.fates.Attempt.{Attempt}
 use Rattle.attempt_fates.specs.Fates.{IsOnce, IsWhole, attempt_numbers, committed_txids}
-use Rattle.batch_commits.specs.Standing.{FailuresAreCounted, HasStrange, PartsStand, batches_in}
+use Rattle.batch_commits.specs.Standing.{AllButLastAreCounted, FailuresAreCounted, HasStrangeAt, PartsStand, batches_in}
 use Rattle.bolt_ops.specs.RowOp.{Custom}
 use Rattle.commit_order.specs.declared.stop.Stop.{Stop}
 use Rattle.commit_order.specs.declared.stop.Stop.TheVariants as stop
@@ -15,6 +15,7 @@ use Rattle.schedule_core.specs.declared.ended.Ended.{Ended}
 use Rattle.schedule_core.specs.declared.ended.Ended.TheVariants as ending
 use Rattle.schedule_core.specs.Driving.{AreKept}
 use Rattle.schedule_core.specs.Schedules.{HadMemory, IsAnswer, IsOfWorld}
+use Rattle.state_parts.specs.Commits.{IsBadAt}
 use Rattle.state_parts.specs.declared.parts.StatePart.{StatePart}
 use Rattle.state_parts.specs.Standing.{IsEmpty}
 use Rattle.storm_stores.specs.CellMaps.{CellMap}
@@ -56,14 +57,15 @@ pub record RunComes {S : Type 0} (tells : S → CellMap → Type 0) (count : S �
   -- it is the run of a world
   pub of_world : IsAnswer answer
       → (words : ℕ → ℕ → ℕ) × IsOfWorld t custom cut words steps answer fates
-  -- a bad cell was there before the run
-  pub bad_cell : (key : List ℕ) → answer ≡ Err (stop.BadCell key) → HasStrange tells old
-  pub strange : HadMemory answer → HasStrange tells new → HasStrange tells old
-  -- parts that were empty stand at the batches that were committed
-  pub stands : IsAnswer answer → All (IsEmpty tells) old
-      → PartsStand tells t custom cut (committed_count fates) new
-  -- the failed commits are counted by the stores
-  pub counted : HadMemory answer → FailuresAreCounted count fates old new
+  -- a bad cell was there before the run, and so was each strange one, at the same key
+  pub bad_cell : (key : List ℕ) → answer ≡ Err (stop.BadCell key) → IsBadAt tells old key
+  pub strange : (key : List ℕ) → HasStrangeAt tells new key → HasStrangeAt tells old key
+  -- parts that were empty stand at the batches that were committed, whatever the answer
+  pub stands : All (IsEmpty tells) old → PartsStand tells t custom cut (committed_count fates) new
+  -- no store failed but at the commits that failed, and, where a fault stopped the run, at the last
+  -- one that was tried
+  pub counted : IsAnswer answer → FailuresAreCounted count fates old new
+  pub but_last : AllButLastAreCounted count fates old new
   -- the parts can be given back
   pub kept : AreKept tells old new
 

@@ -7,7 +7,7 @@ ghost use Rattle.bolt_ops.specs.RowOp.{Custom};
 ghost use Rattle.commit_turns.specs.Turns.{last_tick};
 ghost use Rattle.event_engine.specs.Engines.{Goes, IsReady, IsStill, cut_in, topology_in};
 ghost use Rattle.event_worlds.specs.Worlds.{coordinator_steps, of_tick, round_steps, rounds_steps};
-ghost use Rattle.schedule_core.specs.Driving.{AreKept, Breaks, Drives, IsAtRest, IsOfSameRun};
+ghost use Rattle.schedule_core.specs.Driving.{AreKept, Breaks, Drives, IsAtRest, IsOfSameRun, WantsMemory};
 ghost use Rattle.schedule_core.specs.Rounding.{closing_steps, opening_steps};
 ghost use Rattle.schedule_core.specs.Schedules.{all_steps, steps_of};
 ghost use Rattle.schedule_reader.specs.Events.{FitsEvent};
@@ -15,7 +15,6 @@ ghost use Rattle.state_parts.specs.declared.answer.CommitFault.TheVariants as fa
 ghost use Rattle.state_parts.specs.PartPlans.{AreParts};
 
 use crate::laws::{laws_of_commits, laws_of_steps};
-use batch_commits::strange_cells_were_there;
 use bolt_ops::RowOp;
 use event_engine::Engine;
 use schedule_reader::{Event, Events};
@@ -39,14 +38,16 @@ fn coordinate<I: Ids, C: CellStore>(
         coordinator_steps engine.old engine.new parts.old parts.new) }
     ensures bad { (custom : Custom) (key : List ℕ) → result ≡ Err (fault.BadCell key)
         → Breaks I.tells C.tells C.fault_count (topology_in engine.old) custom (cut_in engine.old)
-        coordinator_steps engine.old engine.new parts.old parts.new }
+        coordinator_steps key engine.old engine.new parts.old parts.new }
+    ensures short { (custom : Custom) → result ≡ Err fault.Memory
+        → WantsMemory I.tells C.tells C.fault_count (topology_in engine.old) custom
+        (cut_in engine.old) engine.old engine.new.fates parts.old parts.new }
     ensures once { OnErr result (IsOnce (length (cut_in engine.old).records)
         (cut_in engine.old).size last_tick engine.new.fates) }
     ensures kept { AreKept C.tells parts.old parts.new }
 {
     laws_of_steps::<C>();
     laws_of_commits::<C>();
-    strange_cells_were_there::<C>();
     let Some(commit) = engine.turn()? else {
         return Ok(());
     };
@@ -75,7 +76,7 @@ pub(crate) fn open_round<I: Ids, O: RowOp>(
     ensures same_run { OnOk result (IsOfSameRun engine.old engine.new) }
     ensures goes { OnOk result (Goes I.tells (topology_in engine.old) (O.meaning custom.now)
         (cut_in engine.old) (opening_steps (topology_in engine.old)) engine.old engine.new) }
-    ensures still { OnOk result (IsStill engine.old engine.new) }
+    ensures still { IsStill engine.old engine.new }
     ensures once { OnErr result (IsOnce (length (cut_in engine.old).records)
         (cut_in engine.old).size last_tick engine.new.fates) }
 {
@@ -113,7 +114,10 @@ pub(crate) fn close_round<I: Ids, C: CellStore>(
         (closing_steps passed) engine.old engine.new parts.old parts.new) }
     ensures bad { (custom : Custom) (key : List ℕ) → result ≡ Err (fault.BadCell key)
         → Breaks I.tells C.tells C.fault_count (topology_in engine.old) custom (cut_in engine.old)
-        (closing_steps passed) engine.old engine.new parts.old parts.new }
+        (closing_steps passed) key engine.old engine.new parts.old parts.new }
+    ensures short { (custom : Custom) → result ≡ Err fault.Memory
+        → WantsMemory I.tells C.tells C.fault_count (topology_in engine.old) custom
+        (cut_in engine.old) engine.old engine.new.fates parts.old parts.new }
     ensures once { OnErr result (IsOnce (length (cut_in engine.old).records)
         (cut_in engine.old).size last_tick engine.new.fates) }
     ensures kept { AreKept C.tells parts.old parts.new }
@@ -140,7 +144,10 @@ fn round<I: Ids, C: CellStore, O: RowOp>(
     ensures bad { (key : List ℕ) → result ≡ Err (fault.BadCell key)
         → Breaks I.tells C.tells C.fault_count (topology_in engine.old) (O.meaning custom.now)
         (cut_in engine.old) (round_steps (topology_in engine.old))
-        engine.old engine.new parts.old parts.new }
+        key engine.old engine.new parts.old parts.new }
+    ensures short { result ≡ Err fault.Memory
+        → WantsMemory I.tells C.tells C.fault_count (topology_in engine.old) (O.meaning custom.now)
+        (cut_in engine.old) engine.old engine.new.fates parts.old parts.new }
     ensures once { OnErr result (IsOnce (length (cut_in engine.old).records)
         (cut_in engine.old).size last_tick engine.new.fates) }
     ensures kept { AreKept C.tells parts.old parts.new }
@@ -169,7 +176,10 @@ fn rounds<I: Ids, C: CellStore, O: RowOp>(
     ensures bad { (key : List ℕ) → result ≡ Err (fault.BadCell key)
         → Breaks I.tells C.tells C.fault_count (topology_in engine.old) (O.meaning custom.now)
         (cut_in engine.old) (rounds_steps (topology_in engine.old) count)
-        engine.old engine.new parts.old parts.new }
+        key engine.old engine.new parts.old parts.new }
+    ensures short { result ≡ Err fault.Memory
+        → WantsMemory I.tells C.tells C.fault_count (topology_in engine.old) (O.meaning custom.now)
+        (cut_in engine.old) engine.old engine.new.fates parts.old parts.new }
     ensures once { OnErr result (IsOnce (length (cut_in engine.old).records)
         (cut_in engine.old).size last_tick engine.new.fates) }
     ensures kept { AreKept C.tells parts.old parts.new }
@@ -202,7 +212,10 @@ fn carry_out<I: Ids, C: CellStore, O: RowOp>(
     ensures bad { (key : List ℕ) → result ≡ Err (fault.BadCell key)
         → Breaks I.tells C.tells C.fault_count (topology_in engine.old) (O.meaning custom.now)
         (cut_in engine.old) (steps_of (topology_in engine.old) event)
-        engine.old engine.new parts.old parts.new }
+        key engine.old engine.new parts.old parts.new }
+    ensures short { result ≡ Err fault.Memory
+        → WantsMemory I.tells C.tells C.fault_count (topology_in engine.old) (O.meaning custom.now)
+        (cut_in engine.old) engine.old engine.new.fates parts.old parts.new }
     ensures once { OnErr result (IsOnce (length (cut_in engine.old).records)
         (cut_in engine.old).size last_tick engine.new.fates) }
     ensures kept { AreKept C.tells parts.old parts.new }
@@ -236,7 +249,10 @@ pub(crate) fn carry_out_all<I: Ids, C: CellStore, O: RowOp>(
     ensures bad { (key : List ℕ) → result ≡ Err (fault.BadCell key)
         → Breaks I.tells C.tells C.fault_count (topology_in engine.old) (O.meaning custom.now)
         (cut_in engine.old) (all_steps (topology_in engine.old) events.now)
-        engine.old engine.new parts.old parts.new }
+        key engine.old engine.new parts.old parts.new }
+    ensures short { result ≡ Err fault.Memory
+        → WantsMemory I.tells C.tells C.fault_count (topology_in engine.old) (O.meaning custom.now)
+        (cut_in engine.old) engine.old engine.new.fates parts.old parts.new }
     ensures once { OnErr result (IsOnce (length (cut_in engine.old).records)
         (cut_in engine.old).size last_tick engine.new.fates) }
     ensures kept { AreKept C.tells parts.old parts.new }

@@ -33,9 +33,11 @@ pub(crate) fn laws_of_commits<C: CellStore>()
 
 /// A law: where worlds and parts begin, what they come to, and the causes of ends.
 pub(crate) fn laws_of_runs<C: CellStore>()
-    ensures { (t : Topology) (custom : Custom) (cut : Cut) → WorldLaws C.tells t custom cut }
+    ensures { (t : Topology) (custom : Custom) (cut : Cut)
+        → WorldLaws C.tells C.fault_count t custom cut }
 {
     worlds_are_accounted();
     ends_of_worlds_have_causes();
     commits_of_batches_move_parts::<C>();
+    counts_run_on::<C>();
 }

@@ -1,5 +1,5 @@
 -- A store in memory.
-use Rattle.std.specs.Prelude.{ℕ, ◌≡◌, List, [], ◌∷◌, Bool, true, false, Option, Some, None}
+use Rattle.std.specs.Prelude.{ℕ, ◌≡◌, ◌-◌, ◌^◌, min, List, [], ◌∷◌, Bool, true, false, Option, Some, None}
 use Rattle.storm_stores.specs.CellMaps.{CellMap, InKeyOrder, with_cell}
 use Rattle.storm_stores.specs.Calls.{CallLog, no_calls, failing_at}
 use Rattle.storm_stores.specs.declared.calls.CallKind.{CallKind}
@@ -33,6 +33,10 @@ failing_of Get call store = record store { gets = failing_at store.gets call }
 failing_of Put call store = record store { puts = failing_at store.puts call }
 failing_of Count call store = record store { counts = failing_at store.counts call }
 failing_of KeyAt call store = record store { keys = failing_at store.keys call }
+
+-- a count that ends at 2^64 - 1
+abbrev pub ended : ℕ → ℕ
+ended count = min count (2 ^ 64 - 1)
 
 -- the cells, their keys in order
 abbrev pub Holds : StoreState → CellMap → Type 0

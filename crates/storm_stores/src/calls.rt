@@ -1,5 +1,6 @@
 ghost use Rattle.std.specs.Prelude.{◌≡◌, ◌≤◌, OnOk, OnErr};
-ghost use Rattle.storm_values.specs.Counts.{Rose, raised};
+ghost use Rattle.storm_values.specs.Counts.{raised};
+ghost use Rattle.storm_stores.specs.MemoryStore.{ended};
 ghost use Rattle.storm_stores.specs.Calls.{no_calls, failing_at, counted, fate_in, next_fate};
 
 use crate::fault::StoreFault;
@@ -90,8 +91,8 @@ fn find_fate(failing: &[Failing], number: u64) -> Option<bool>
 /// Counts a fault, up to 2^64 - 1.
 pub(crate) fn count_fault(faults: &mut u64) -> StoreFault
     ensures raised { faults.new ≡ raised faults.old }
-    ensures rose { Rose faults.old faults.new }
-    ensures never_falls { faults.old ≤ faults.new }
+    ensures ended { ended faults.new ≡ raised (ended faults.old) }
+    ensures never_falls { ended faults.old ≤ ended faults.new }
     ensures fault { result ≡ StoreFault.Failed }
 {
     *faults = faults.saturating_add(1);

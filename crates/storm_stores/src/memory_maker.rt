@@ -1,8 +1,10 @@
 ghost use Rattle.std.specs.Prelude.{◌≡◌, ◌≤◌, ℕ, ◌+◌, ◌-◌, ◌^◌, ◌<◌, List, [], length, true, min, position, IfSome, IfOk, OnOk, OnErr};
 ghost use Rattle.std.proofs.Common.{sym, ◌∙◌};
+ghost use Rattle.std.proofs.Math.Nat.{min-le_right};
 ghost use Rattle.std.specs.List.{position_or_len};
+ghost use Rattle.storm_values.specs.Counts.{raised_by};
 ghost use Rattle.storm_stores.specs.CellMaps.{CellMap, InKeyOrder, with_cell};
-ghost use Rattle.storm_stores.specs.MemoryStore.{store_of, failing_of};
+ghost use Rattle.storm_stores.specs.MemoryStore.{ended, store_of, failing_of};
 ghost use Rattle.storm_stores.specs.MemoryMaker.{ChangesPart, HasMade, HoldsFor, IsOther, SameParts, is_slot, made_at, no_parts, store_at};
 
 use crate::calls::FailAt;
@@ -139,9 +141,11 @@ impl StoreMaker for MemMaker {
 
     ghost has_made = { HasMade };
 
-    ghost fault_count = { λ m. m.faults };
+    ghost fault_count = { λ m. ended m.faults };
 
     ghost one_map = { λ m c p a b is_a is_b. is_a.0 ∙ sym is_b.0 };
+
+    ghost count_ends = { λ m. min-le_right m.faults (2 ^ 64 - 1) };
 
     fn make(&mut self, component: u32, part: u32) -> Result<MemStore, Memory>
         ensures store { IfOk result
@@ -164,9 +168,10 @@ impl StoreMaker for MemMaker {
         requires { HasMade self.old component part }
         ensures ok { ChangesPart self.old.slots self.new.slots component part store true }
         ensures sum { self.new.faults ≡ min (self.old.faults + store.faults) (2 ^ 64 - 1) }
-        ensures count { RoseBy store.faults self.old.faults self.new.faults }
-        ensures never_falls { self.old.faults ≤ self.new.faults }
-        ensures same_count { store.faults ≡ 0 → self.new.faults ≡ self.old.faults }
+        ensures count { ended self.new.faults ≡ raised_by (ended self.old.faults) (ended store.faults) }
+        ensures never_falls { ended self.old.faults ≤ ended self.new.faults }
+        ensures same_count { ended store.faults ≡ 0 →
+            ended self.new.faults ≡ ended self.old.faults }
     {
         self.faults = self.faults.saturating_add(store.faults());
         let i = find_slot(&self.slots, component, part);

@@ -1,4 +1,4 @@
-ghost use Rattle.std.specs.Prelude.{◌≡◌, ◌≤◌, ◌↔◌, ◌⊎◌, ℕ, List, [], length, Option, None, Some, true, false, IsTrue, IfNone, IsSome, IfOk, IsErrOf, OnOk, OnErr, slice_get, option_copied, IfSome, map};
+ghost use Rattle.std.specs.Prelude.{◌≡◌, ◌≤◌, ◌-◌, ◌^◌, ◌↔◌, ◌⊎◌, ℕ, List, [], length, Option, None, Some, true, false, IsTrue, IfNone, IsSome, IfOk, IsErrOf, OnOk, OnErr, slice_get, option_copied, IfSome, map};
 ghost use Rattle.std.specs.Cmp.Lexicographic.{slice_cmp};
 ghost use Rattle.std.specs.List.{IsDistinct};
 ghost use Rattle.std.specs.List.Sorted.{IsPermutation, IsSorted};
@@ -6,10 +6,11 @@ ghost use Rattle.std.specs.Map.{keys_of};
 ghost use Rattle.std.specs.Ordering.{nat_cmp};
 ghost use Rattle.std.specs.Str.{bytes_eq};
 ghost use Rattle.std.proofs.Common.{sym, ◌∙◌};
-ghost use Rattle.storm_values.specs.Counts.{Rose, raised};
+ghost use Rattle.std.proofs.Math.Nat.{min-le_right};
+ghost use Rattle.storm_values.specs.Counts.{raised};
 ghost use Rattle.storm_stores.specs.CellMaps.{CellMap, InKeyOrder, cell_at, with_cell};
 ghost use Rattle.storm_stores.specs.Calls.{counted, next_fate};
-ghost use Rattle.storm_stores.specs.MemoryStore.{Holds, cells_after, cells_of, failing_of, store_of};
+ghost use Rattle.storm_stores.specs.MemoryStore.{Holds, cells_after, cells_of, ended, failing_of, store_of};
 
 use crate::calls::{CallKind, Calls, FailAt, Failing, count_fault};
 use crate::fault::StoreFault;
@@ -271,11 +272,13 @@ fn copy_key(order: &[Bytes], i: u64) -> Result<Option<Bytes>, Memory>
 impl CellStore for MemStore {
     ghost tells = { Holds };
 
-    ghost fault_count = { λ s. s.faults };
+    ghost fault_count = { λ s. ended s.faults };
 
     ghost one_map = { λ s a b is_a is_b. is_a.0 ∙ sym is_b.0 };
 
     ghost in_order = { λ s cells is. is.1 };
+
+    ghost count_ends = { λ s. min-le_right s.faults (2 ^ 64 - 1) };
 
     fn get(&mut self, key: &[u8]) -> Result<Option<Bytes>, StoreFault>
         ensures fails { IsErrOf result StoreFault.Failed ↔ IsSome (next_fate self.old.gets) }
@@ -287,8 +290,11 @@ impl CellStore for MemStore {
           gets = counted self.old.gets;
           faults = raised self.old.faults;
         } }
-        ensures failed { IsErrOf result StoreFault.Failed → Rose self.old.faults self.new.faults }
-        ensures never_falls { self.old.faults ≤ self.new.faults }
+        ensures failed { IsErrOf result StoreFault.Failed →
+            ended self.new.faults ≡ raised (ended self.old.faults) }
+        ensures quiet { (IsErrOf result StoreFault.Failed → ⊥) →
+            self.new.faults ≡ self.old.faults }
+        ensures never_falls { ended self.old.faults ≤ ended self.new.faults }
     {
         if self.gets.next().is_some() {
             return Err(count_fault(&mut self.faults));
@@ -318,8 +324,11 @@ impl CellStore for MemStore {
             Holds self.new cells ⊎ Holds self.new (with_cell cells key.now cell.now) }
         ensures told_before { (cells : CellMap) → Holds self.new cells →
             (before : CellMap) × Holds self.old before }
-        ensures failed { IsErrOf result StoreFault.Failed → Rose self.old.faults self.new.faults }
-        ensures never_falls { self.old.faults ≤ self.new.faults }
+        ensures failed { IsErrOf result StoreFault.Failed →
+            ended self.new.faults ≡ raised (ended self.old.faults) }
+        ensures quiet { (IsErrOf result StoreFault.Failed → ⊥) →
+            self.new.faults ≡ self.old.faults }
+        ensures never_falls { ended self.old.faults ≤ ended self.new.faults }
     {
         match self.puts.next() {
             None => Ok(self.write(key, cell)?),
@@ -342,8 +351,11 @@ impl CellStore for MemStore {
           counts = counted self.old.counts;
           faults = raised self.old.faults;
         } }
-        ensures failed { IsErrOf result StoreFault.Failed → Rose self.old.faults self.new.faults }
-        ensures never_falls { self.old.faults ≤ self.new.faults }
+        ensures failed { IsErrOf result StoreFault.Failed →
+            ended self.new.faults ≡ raised (ended self.old.faults) }
+        ensures quiet { (IsErrOf result StoreFault.Failed → ⊥) →
+            self.new.faults ≡ self.old.faults }
+        ensures never_falls { ended self.old.faults ≤ ended self.new.faults }
     {
         if self.counts.next().is_some() {
             return Err(count_fault(&mut self.faults));
@@ -361,8 +373,11 @@ impl CellStore for MemStore {
           keys = counted self.old.keys;
           faults = raised self.old.faults;
         } }
-        ensures failed { IsErrOf result StoreFault.Failed → Rose self.old.faults self.new.faults }
-        ensures never_falls { self.old.faults ≤ self.new.faults }
+        ensures failed { IsErrOf result StoreFault.Failed →
+            ended self.new.faults ≡ raised (ended self.old.faults) }
+        ensures quiet { (IsErrOf result StoreFault.Failed → ⊥) →
+            self.new.faults ≡ self.old.faults }
+        ensures never_falls { ended self.old.faults ≤ ended self.new.faults }
     {
         if self.keys.next().is_some() {
             return Err(count_fault(&mut self.faults));

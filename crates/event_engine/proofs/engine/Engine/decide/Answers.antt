@@ -27,6 +27,7 @@ returns-in-Ok g c =
       idle = decided_idle t cut old new c.args.how w ready ordered decides;
       told = decided_told t cut old new c.args.how w ready ordered decides;
       once = tt;
+      short = tt;
     }
 
 pub returns-in_ok-fail_without_memory-in-Err : goal.returns-in_ok-fail_without_memory-in-Err
@@ -50,6 +51,7 @@ returns-in_ok-fail_without_memory-in-Err g c =
       idle = decided_idle t cut old new c.args.how w ready ordered decides;
       told = decided_told t cut old new c.args.how w ready ordered decides;
       once = tt;
+      short = tt;
     }
 
 pub returns-in_err-fail_without_memory-in-Err-clause-once : goal.returns-in_err-fail_without_memory-in-Err-clause-once
@@ -65,3 +67,10 @@ returns-in_err-fail_without_memory-in-Err-clause-once g c =
     let short = c.committed.ensures.short goes (c.in-Err.is ∙ ap Err c.in_err-fail_without_memory-in-Err.ensures.err) in
     on_err c.from_residual.result
     (short_once t cut (decided t cut c.args.how d).desk (decided t cut c.args.how d).ended old.fates c.committed.new.fates kept (decided_few_of t cut old c.args.how ready) short.some)
+
+pub returns-in_err-fail_without_memory-in-Err-clause-short : goal.returns-in_err-fail_without_memory-in-Err-clause-short
+returns-in_err-fail_without_memory-in-Err-clause-short g c =
+    let old = c.args.self.now in
+    let goes = has_stop_none (topology_in old) (cut_in old) old c.requires.ready c.requires.out.1.goes_on in
+    let short = c.committed.ensures.short goes (c.in-Err.is ∙ ap Err c.in_err-fail_without_memory-in-Err.ensures.err) in
+    on_err c.from_residual.result short.some

@@ -32,6 +32,7 @@ returns-in-Ok g c =
           })
           to (c.in-Ok.ensures.fates goes) c.in-Ok.ensures.own (c.orders_are_decided.ensures.ordered t cut d found old.unheard to.goes_on) (c.orders_are_decided.ensures.out t cut d found old.unheard c.requires.idle);
       once = tt;
+      short = tt;
     }
 
 pub returns-in_ok-fail_without_memory-in-Err : goal.returns-in_ok-fail_without_memory-in-Err
@@ -60,6 +61,7 @@ returns-in_ok-fail_without_memory-in-Err g c =
           })
           (c.turn.ensures.stops goes stop.0 stop.1) c.turn.ensures.own;
       once = tt;
+      short = tt;
     }
 
 pub returns-in_err-fail_without_memory-in-Err-clause-once : goal.returns-in_err-fail_without_memory-in-Err-clause-once
@@ -74,3 +76,10 @@ returns-in_err-fail_without_memory-in-Err-clause-once g c =
     let kept = c.desks_are_kept.ensures.turn t cut d old.fates ready.input.valid (size_some t cut old old ready) (none_exhausted t cut old c.requires.goes_on) ready.kept found old.unheard in
     on_err c.from_residual.result
     (turn_short g.I.Ids.tells old (record old { coordinator = c.turn.new.self }) found ready c.requires.goes_on c.requires.empty kept c.turn.new.fates (c.turn.ensures.short goes (c.in-Err.is ∙ ap Err c.in_err-fail_without_memory-in-Err.ensures.err)))
+
+pub returns-in_err-fail_without_memory-in-Err-clause-short : goal.returns-in_err-fail_without_memory-in-Err-clause-short
+returns-in_err-fail_without_memory-in-Err-clause-short g c =
+    let old = c.args.self.now in
+    let goes = has_stop_none (topology_in old) (cut_in old) old c.requires.ready c.requires.goes_on in
+    let short = c.turn.ensures.short goes (c.in-Err.is ∙ ap Err c.in_err-fail_without_memory-in-Err.ensures.err) in
+    on_err c.from_residual.result (record { verdict = c.pop_front-verdict.result; ticks = old.unheard; some = short.some })

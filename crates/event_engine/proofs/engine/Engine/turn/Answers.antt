@@ -29,6 +29,7 @@ returns-in_ok-deliver-in-Some g c =
       goes = λ custom. goes-turn g.I.Ids.tells t custom cut old new (sym c.is_over.ensures ∙ c.if-is_over.false) happens;
       answers = idle_still t cut old new c.requires.idle (record { coordinator = still.coordinator; fates = still.fates });
       once = tt;
+      short = tt;
     }
 
 pub take_turn-requires-clause-ready : goal.take_turn-requires-clause-ready
