@@ -139,7 +139,7 @@ module _ {S M : Type 0} {tells : S → CellMap → Type 0} {count : S → ℕ}
         (laws.bad_cell parts key (run.comes.bad_cell key bad))
     end_comes (end.BadCell key) (inr bad) =
         had_strange tells count holds made faults t old new parts key lent.planned lent.began
-        (run.comes.strange (subst HadMemory (sym bad.0) tt) key (laws.bad_row ran key bad.1))
+        (run.comes.strange key (laws.bad_row ran key bad.1))
 
     -- ---- counts
 
@@ -166,7 +166,7 @@ module _ {S M : Type 0} {tells : S → CellMap → Type 0} {count : S → ℕ}
     broken_by key closes same =
         let ok = had_memory (end.BadCell key) closes in
         counted_broken tells count holds made faults t old mid new parts ran closed lent fates
-        (run.comes.counted_but_last ok) (fails ok) same
+        run.comes.but_last (fails ok) same
 
     -- no reading failed that answers otherwise
     abbrev Quiet : RunEnd → Type 0
