@@ -4,7 +4,7 @@ use Rattle.std.specs.Prelude.{slice_get}
 use Rattle.std.proofs.lemmas.List.Elements.{All-head, All-tail}
 use Rattle.std.specs.Cmp.Lexicographic.{bytes_decides}
 use Rattle.std.specs.Str.{IsUtf8, bytes_eq}
-use Rattle.batch_commits.specs.Standing.{HasStrange, HasTextKey, IsStrange}
+use Rattle.batch_commits.specs.Standing.{HasStrangeAt, HasTextKey, IsStrange}
 use Rattle.cell_format.specs.Commits.{Commits, Holds, IsPerhapsDone, after, amounts_at}
 use Rattle.cell_format.specs.declared.cell.Cell.{Cell}
 use Rattle.cell_format.specs.Layout.{bytes_of}
@@ -64,42 +64,53 @@ commit_strange kind by txid amounts key old new none (inr done) (inl bad) = absu
 commit_strange kind by txid amounts key old new none (inr done) (inr strange) =
     inr (had_some kind by txid old new (subst (λ (xs : List ℤ). Commits kind by txid xs old new) (none strange.1) done) strange.0, strange.1)
 
+-- nor a bad one
+commit_bad : (kind : Kind) (by : Fold) (txid : ℕ) (amounts : List ℤ) (old new : Option (List ℕ)) → IsPerhapsDone kind by txid amounts old new → IsBad kind new → IsBad kind old
+commit_bad kind by txid amounts old new (inl same) bad = subst (IsBad kind) same bad
+commit_bad kind by txid amounts old new (inr done) bad = absurd (not_bad kind new _ done.is bad)
+
 module _ {S : Type 0} (tells : S → CellMap → Type 0) where
-  abbrev IsStrangeAt : StatePart S → Type 0
-  IsStrangeAt at = (cells : CellMap) → tells at.over.store cells → (key : List ℕ) × IsStrange at.over.kind key (cell_at cells key)
+  -- what a part's cells have at a key
+  abbrev HasAt : (Kind → List ℕ → Option (List ℕ) → Type 0) → StatePart S → List ℕ → Type 0
+  HasAt What at key = (cells : CellMap) → tells at.over.store cells → What at.over.kind key (cell_at cells key)
 
-  part_strange : (txid : ℕ) (made : List Write) (old new : StatePart S) → All HasTextKey made → PerhapsCommitted tells txid (own_writes made old) old new → IsStrangeAt new → IsStrangeAt old
-  part_strange txid made old new texts done strange = λ cells told.
+  part_before : (What : Kind → List ℕ → Option (List ℕ) → Type 0) (txid : ℕ) (made : List Write) (old new : StatePart S) (key : List ℕ)
+      → ((was is : Option (List ℕ)) → IsPerhapsDone old.over.kind old.over.by txid (amounts_at (own_writes made old) key) was is → What old.over.kind key is → What old.over.kind key was)
+      → PerhapsCommitted tells txid (own_writes made old) old new → HasAt What new key → HasAt What old key
+  part_before What txid made old new key back done found = λ cells told.
       let went = done.turns.to cells told in
-      let found = strange went.0 went.1 in
-      let kind : new.over.kind ≡ old.over.kind = ap (λ (p : PartPlan). p.kind) done.plan in (
-        found.0,
-        commit_strange old.over.kind old.over.by txid (amounts_at (own_writes made old) found.0) found.0 (cell_at cells found.0) (cell_at went.0 found.0)
-            (λ odd. none_at old.component old.part made texts found.0 odd)
-            (went.2 found.0)
-            (subst (λ (k : Kind). IsStrange k found.0 (cell_at went.0 found.0)) kind found.1),
-      )
+      let kind : new.over.kind ≡ old.over.kind = ap (λ (p : PartPlan). p.kind) done.plan in
+      back (cell_at cells key) (cell_at went.0 key) (went.2 key) (subst (λ (k : Kind). What k key (cell_at went.0 key)) kind (found went.0 went.1))
 
-  strange_at : (txid : ℕ) (made : List Write) → All HasTextKey made → (place : ℕ) (old new : List (StatePart S)) → ArePerhapsCommitted tells txid made old new → (at : StatePart S) → slice_get new place ≡ Some at → IsStrangeAt at
-      → (was : StatePart S) × (slice_get old place ≡ Some was) × IsStrangeAt was
-  strange_at txid made texts place old [] done at is strange = absurd (let e : None ≡ Some at = is in cc)
-  strange_at txid made texts place [] (y ∷ ys) done at is strange = absurd done
-  strange_at txid made texts zero (x ∷ xs) (y ∷ ys) done at is strange =
-      let same : at ≡ y = (let e : Some y ≡ Some at = is in cc) in (x, refl, part_strange txid made x y texts done.0 (subst IsStrangeAt same strange))
-  strange_at txid made texts (suc place) (x ∷ xs) (y ∷ ys) done at is strange = strange_at txid made texts place xs ys done.1 at is strange
+  found_before : (What : Kind → List ℕ → Option (List ℕ) → Type 0) (txid : ℕ) (made : List Write) (key : List ℕ)
+      → ((x : StatePart S) (was is : Option (List ℕ)) → IsPerhapsDone x.over.kind x.over.by txid (amounts_at (own_writes made x) key) was is → What x.over.kind key is → What x.over.kind key was)
+      → (place : ℕ) (old new : List (StatePart S)) → ArePerhapsCommitted tells txid made old new → (at : StatePart S) → slice_get new place ≡ Some at → HasAt What at key
+      → (was : StatePart S) × (slice_get old place ≡ Some was) × HasAt What was key
+  found_before What txid made key back place old [] done at is found = absurd (let e : None ≡ Some at = is in cc)
+  found_before What txid made key back place [] (y ∷ ys) done at is found = absurd done
+  found_before What txid made key back zero (x ∷ xs) (y ∷ ys) done at is found =
+      let same : at ≡ y = (let e : Some y ≡ Some at = is in cc) in (x, refl, part_before What txid made x y key (back x) done.0 (subst (λ (z : StatePart S). HasAt What z key) same found))
+  found_before What txid made key back (suc place) (x ∷ xs) (y ∷ ys) done at is found = found_before What txid made key back place xs ys done.1 at is found
 
-  pub strange_before : (txid : ℕ) (made : List Write) (old new : List (StatePart S)) → All HasTextKey made → ArePerhapsCommitted tells txid made old new → HasStrange tells new → HasStrange tells old
-  strange_before txid made old new texts done strange =
-      let found = strange_at txid made texts strange.place old new done strange.at strange.is_at strange.strange in
+  pub strange_before : (txid : ℕ) (made : List Write) (old new : List (StatePart S)) (key : List ℕ) → All HasTextKey made → ArePerhapsCommitted tells txid made old new → HasStrangeAt tells new key → HasStrangeAt tells old key
+  strange_before txid made old new key texts done strange =
+      let found =
+      found_before IsStrange txid made key (λ x was is done bad. commit_strange x.over.kind x.over.by txid (amounts_at (own_writes made x) key) key was is (λ odd. none_at x.component x.part made texts key odd) done bad) strange.place old new done strange.at strange.is_at
+      strange.strange in
       record { place = strange.place; at = found.0; is_at = found.1; strange = found.2 }
 
-  pub strange_cell : (parts : List (StatePart S)) (key : List ℕ) → IsBadAt tells parts key → HasStrange tells parts
-  strange_cell parts key bad = record { place = bad.place; at = bad.was; is_at = bad.was_at; strange = λ cells told. (key, inl (bad.bad cells told)) }
+  pub bad_before : (txid : ℕ) (made : List Write) (old new : List (StatePart S)) (key : List ℕ) → ArePerhapsCommitted tells txid made old new → IsBadAt tells new key → IsBadAt tells old key
+  bad_before txid made old new key done bad =
+      let found = found_before (λ kind k held. IsBad kind held) txid made key (λ x was is done bad. commit_bad x.over.kind x.over.by txid (amounts_at (own_writes made x) key) was is done bad) bad.place old new done bad.was bad.was_at bad.bad in
+      record { place = bad.place; was = found.0; was_at = found.1; bad = found.2 }
+
+  pub strange_cell : (parts : List (StatePart S)) (key : List ℕ) → IsBadAt tells parts key → HasStrangeAt tells parts key
+  strange_cell parts key bad = record { place = bad.place; at = bad.was; is_at = bad.was_at; strange = λ cells told. inl (bad.bad cells told) }
 
   row_strange : (kind : Kind) (key : List ℕ) (held : Option (List ℕ)) → IsBadRow kind key held → IsStrange kind key held
   row_strange kind key held (inl bad) = inl bad
   row_strange kind key None (inr odd) = absurd (let e = odd.0 in search rules)
   row_strange kind key (Some bytes) (inr odd) = inr (search rules, odd.1)
 
-  pub strange_row : (parts : List (StatePart S)) (key : List ℕ) → IsBadRowAt tells parts key → HasStrange tells parts
-  strange_row parts key bad = record { place = bad.place; at = bad.was; is_at = bad.was_at; strange = λ cells told. (key, row_strange bad.was.over.kind key (cell_at cells key) (bad.bad cells told)) }
+  pub strange_row : (parts : List (StatePart S)) (key : List ℕ) → IsBadRowAt tells parts key → HasStrangeAt tells parts key
+  strange_row parts key bad = record { place = bad.place; at = bad.was; is_at = bad.was_at; strange = λ cells told. row_strange bad.was.over.kind key (cell_at cells key) (bad.bad cells told) }

@@ -15,4 +15,5 @@ mod writes;
 
 pub use attempt_fates::{Attempt, End, Fates};
 pub use coordinator::{Coordinator, Orders};
+pub use state_parts::{Commit, CommitOutcome, Parts};
 pub use stop::Stop;

@@ -2,14 +2,18 @@ ghost use Rattle.std.specs.Prelude.{◌≡◌};
 ghost use Rattle.commit_order.specs.declared.stop.Stop.TheVariants as stop;
 
 use storm_values::{Bytes, Memory};
+use thiserror::Error;
 
 /// Why a run stops before every batch is committed.
-#[derive(Debug, Drop)]
+#[derive(Debug, Drop, Error)]
 pub enum Stop {
     /// All attempts of this transaction that a plan allows have ended, none by a commit.
+    #[error("all attempts of transaction {0} have ended")]
     Exhausted(u64),
     /// A store has a cell at this key that its part does not take.
+    #[error("a store has a bad cell at the key {key:?}", key = .0.as_slice())]
     BadCell(Bytes),
+    #[error("out of memory")]
     Memory,
 }
 

@@ -1,5 +1,5 @@
 -- The coordinator's steps over the parts.
-use Rattle.std.proofs.Common.{◌≡◌, ◌⊎◌, ◌≤◌, ◌<◌, ℕ, suc, ◌+◌, ◌==◌, ◌&&◌, Bool, true, false, cond, List, [], ◌∷◌, ◌++◌, All, length, find, get_or, slice_index_or, take, Option, None, Some, is_some, Result, Ok, Err, refl, sym, ap, subst, ◌∙◌, append-nil, inl, inr, arith, true≢false}
+use Rattle.std.proofs.Common.{◌≡◌, ◌⊎◌, ◌≤◌, ◌<◌, ℕ, suc, ◌+◌, ◌==◌, ◌&&◌, Bool, true, false, cond, List, [], ◌∷◌, ◌++◌, All, length, find, get_or, slice_index_or, take, Option, None, Some, is_some, Result, Ok, Err, refl, sym, ap, subst, ◌∙◌, append-nil, inl, inr, ⊎_elim, arith, true≢false}
 use Rattle.std.specs.Prelude.{slice_get}
 use Rattle.std.specs.Result.{IsErrAnd}
 use Rattle.std.specs.Str.{IsUtf8}
@@ -9,28 +9,29 @@ use Rattle.std.proofs.lemmas.List.FromFn.{fill_by_all}
 use Rattle.std.proofs.lemmas.Option.{get_or_from_slice_get, slice_get_within}
 use Rattle.acker_core.specs.declared.verdict.Verdict.{Verdict}
 use Rattle.attempt_fates.specs.declared.fates.Attempt.{Attempt}
-use Rattle.batch_commits.specs.Standing.{FailuresAreCounted, HasStrange, HasTextKey, PartsStand, TellsFailedPart, batches_in, writes_at}
+use Rattle.attempt_fates.specs.Fates.{committed_txids}
+use Rattle.batch_commits.specs.Standing.{FailuresAreCounted, HasTextKey, PartsStand, TellsFailedPart, batches_in, failed_commits, writes_at}
 use Rattle.bolt_ops.specs.RowOp.{Custom}
-use Rattle.commit_order.specs.Offices.{IsCommitOf}
+use Rattle.commit_order.specs.Offices.{AddsSome, IsCommitOf}
 use Rattle.commit_turns.specs.Account.{rows_in}
 use Rattle.commit_turns.specs.declared.wait.Wait.{Wait}
-use Rattle.commit_turns.specs.Desks.{Desk}
+use Rattle.commit_turns.specs.Desks.{Desk, ended_at}
 use Rattle.commit_turns.specs.Kept.{IsWaiting}
 use Rattle.commit_turns.specs.Outcomes.{IsOutcome}
-use Rattle.commit_turns.specs.Turns.{decided, next_to_commit, turned}
+use Rattle.commit_turns.specs.Turns.{decided, decided_by, end_by, next_to_commit, turned}
 use Rattle.commit_writes.proofs.Whole.{whole_writes}
 use Rattle.event_engine.proofs.GoesLemmas.{goes-idle, next-told, outcomes-append}
 use Rattle.event_engine.proofs.LoopLemmas.{goes_there}
 use Rattle.event_engine.specs.declared.engine.Engine.{Engine}
-use Rattle.event_engine.specs.Engines.{Goes, HasOutcomes, IsIdle, IsOrder, IsReady, cut_in, has_ended, shape, topology_in}
+use Rattle.event_engine.specs.Engines.{DecidesShort, Goes, HasOutcomes, IsIdle, IsOrder, IsReady, cut_in, has_ended, shape, topology_in}
 use Rattle.event_worlds.proofs.Committed.{decided-done, decided-failed}
 use Rattle.event_worlds.specs.Accounted.{Accounted, IsInput}
 use Rattle.event_worlds.specs.Worlds.{Known, Step, World, is_over, next_outcome, next_words, of_outcome, of_turn, coordinator_steps, outcome_step, outcomes_of, run, step, turn_needs, turn_step, with_progress}
-use Rattle.schedule_core.specs.Driving.{Breaks, Drives, committed_by}
+use Rattle.schedule_core.specs.Driving.{Breaks, Drives, Leaves, WantsMemory, committed_by}
 use Rattle.schedule_core.specs.Laws.{CommitLaws, Laws}
-use Rattle.schedule_core.proofs.Drives.{drives-still, drives-then}
-use Rattle.schedule_core.proofs.Quiet.{IsQuiet, quiet_nothing, quiet_same, quiet_turn}
-use Rattle.state_parts.specs.Commits.{AreCommitted, ArePerhapsCommitted, NoCountFell}
+use Rattle.schedule_core.proofs.Drives.{drives-none, drives-still, drives-then}
+use Rattle.schedule_core.proofs.Quiet.{IsQuiet, commits_append, none_commits, none_failed_of, none_turned, quiet_nothing, quiet_same, quiet_turn, some_none}
+use Rattle.state_parts.specs.Commits.{AreCommitted, ArePerhapsCommitted, CountsFollow, FailOnceAtMost, IsBadAt}
 use Rattle.state_parts.specs.declared.answer.Commit.{Commit}
 use Rattle.state_parts.specs.declared.answer.CommitOutcome.{CommitOutcome}
 use Rattle.state_parts.specs.declared.answer.CommitOutcome.TheVariants.{Done, Failed}
@@ -54,9 +55,11 @@ found_at {X} p (y ∷ ys) x is = by (p y) refl is (found_at p ys x)
     by true here is rest = let same : y ≡ x = (let e : Some y ≡ Some x = is in cc) in (0, is, subst (λ (z : X). p z ≡ true) same here)
     by false here is rest = let r = rest is in (suc r.0, r.1, r.2)
 
-no_fall : {S : Type 0} (count : S → ℕ) (parts : List (StatePart S)) → NoCountFell count parts parts
-no_fall count [] = tt
-no_fall count (x ∷ xs) = (omega arith, no_fall count xs)
+-- of the first items of a list of one there is none or that one
+one_or_none : {X : Type 0} (done rest : List X) (x : X) → x ∷ [] ≡ done ++ rest → (done ≡ []) ⊎ (done ≡ x ∷ [])
+one_or_none [] rest x is = inl refl
+one_or_none {X} (y ∷ []) rest x is = inr (let e : x ∷ [] ≡ y ∷ rest = is in cc)
+one_or_none {X} (y ∷ z ∷ zs) rest x is = absurd (let e : x ∷ [] ≡ y ∷ z ∷ (zs ++ rest) = is in cc)
 
 both_true : (a b : Bool) → (a && b) ≡ true → b ≡ true
 both_true true b is = is
@@ -104,7 +107,7 @@ pub record CommitComes {S : Type 0} (holds : S → CellMap → Type 0) (count : 
   pub done : how ≡ Done → AreCommitted holds txid made was is
   pub kept : ArePerhapsCommitted holds txid made was is
   pub failed : TellsFailedPart count was is how
-  pub never_falls : NoCountFell count was is
+  pub counted : CountsFollow count how was is
 
 module _ {S : Type 0} (holds : S → CellMap → Type 0) (count : S → ℕ) (t : Topology) (custom : Custom) (cut : Cut) where
   -- the writes of a commit that was ordered are those of its batch
@@ -139,15 +142,11 @@ module _ {I S : Type 0} {g : Ghosts I} (tells : I → (ℕ → ℕ) → ℕ → 
       quiet_same t cut (shape old) (shape mid) _ (sym some.1) (turned_quietly t custom cut some.0 (outcomes_of mid.fates) k (is_over t cut (shape old)) refl)
 
   -- the attempts that end in a turn tell of no failure
-  turn_counted : (more : CommitLaws holds count t custom cut) (old mid : Engine I g) (was is : List (StatePart S)) → NoCountFell count was is → (goes : Goes tells t custom cut (of_turn ∷ []) old mid) → FailuresAreCounted count goes.more was is
-  turn_counted more old mid was is falls goes =
+  turn_counted : (more : CommitLaws holds count t custom cut) (old mid : Engine I g) (parts : List (StatePart S)) (goes : Goes tells t custom cut (of_turn ∷ []) old mid) → FailuresAreCounted count goes.more parts parts
+  turn_counted more old mid parts goes =
       let q = turn_quiet old mid goes in
       let more_is : goes.more ≡ q.more = append_cancel_left old.fates goes.more q.more (sym goes.added ∙ q.added) in
-      subst (λ (xs : List Attempt). FailuresAreCounted count xs was is) (sym more_is) (counts q.more q.made)
-    where
-      counts : (xs : List Attempt) → (xs ≡ []) ⊎ ((verdict : Option Verdict) × (ticks : ℕ) × (xs ≡ (turned t cut verdict ticks (shape old).desk).ended)) → FailuresAreCounted count xs was is
-      counts xs (inl none) = more.quiet_counts xs was is none falls
-      counts xs (inr made) = subst (λ (ys : List Attempt). FailuresAreCounted count ys was is) (sym made.2) (more.turn_counts (shape old).desk made.0 made.1 was is falls)
+      more.quiet_counts goes.more parts (ap failed_commits more_is ∙ none_failed_of q.more q.quiet)
 
   -- and tell no outcome of a commit
   turn_told : (old mid : Engine I g) → Goes tells t custom cut (of_turn ∷ []) old mid → outcomes_of mid.fates ≡ outcomes_of old.fates
@@ -161,34 +160,80 @@ module _ {I S : Type 0} {g : Ghosts I} (tells : I → (ℕ → ℕ) → ℕ → 
     plans = refl;
     outcomes = λ are good. subst (λ (hs : List CommitOutcome). All (IsOutcome t) hs) (sym (turn_told old mid goes)) good;
     stands = λ words counts outcomes gives has input keeps good led stand. subst (λ (n : ℕ). PartsStand holds t custom cut n parts) (sym (turn_quiet old mid goes).committed) stand;
-    strange = λ found. found;
-    counted = turn_counted more old mid parts parts (no_fall count parts) goes;
+    bad = λ key found. found;
+    strange = λ key found. found;
+    counted = turn_counted more old mid parts goes;
   }
 
-  -- a turn, and the commit that it ordered, which was broken off
-  pub drives-broken : (laws : Laws count t custom cut) (more : CommitLaws holds count t custom cut) (old mid : Engine I g) (was is : List (StatePart S)) (w : Wait) (commit : Commit)
-      → next_to_commit t cut (shape mid).desk ≡ Some w → IsCommitOf (Some w) (Some commit) → commit.root.txid ≡ committed_by mid + 1 → All HasTextKey commit.writes
-      → plans_of is ≡ plans_of was → ArePerhapsCommitted holds commit.root.txid commit.writes was is → NoCountFell count was is
-      → Goes tells t custom cut (of_turn ∷ []) old mid → Drives tells holds count t custom cut (of_turn ∷ []) old mid was is
-  drives-broken laws more old mid was is w commit next ordered txid texts plans kept falls goes = record {
-    goes = goes;
-    plans = plans;
-    outcomes = λ are good. subst (λ (hs : List CommitOutcome). All (IsOutcome t) hs) (sym (turn_told old mid goes)) good;
-    stands = λ words counts outcomes gives has input keeps good led stand.
-        let start : Known = record { world = shape old; counts = counts } in
-        let k : Known = run t custom cut words outcomes (of_turn ∷ []) start in
-        let led_mid : Accounted t custom cut words k = laws.accounted words outcomes (of_turn ∷ []) start input keeps good led in
-        let world_is : k.world ≡ shape mid = (goes.runs words counts outcomes gives has).0 in
-        let mid_known : Known = record { world = shape mid; counts = k.counts } in
-        let led_next : Accounted t custom cut words mid_known = subst (λ (x : World). Accounted t custom cut words (record { world = x; counts = k.counts })) world_is led_mid in
-        let made = ordered_writes holds count t custom cut more words mid_known w commit input led_next next ordered in
-        let number : w.root.txid ≡ committed_by mid + 1 = sym (ap (λ r. r.txid) ordered.0) ∙ txid in
-        let writes_are : commit.writes ≡ writes_at t custom cut (committed_by mid + 1) = made.0 ∙ ap (writes_at t custom cut) number in
-        more.broken_off (committed_by mid) was is (subst (λ (n : ℕ). PartsStand holds t custom cut n was) (sym (turn_quiet old mid goes).committed) stand) (let e = number in let f = made.1 in omega arith)
-        (subst (λ (ws : List Write). ArePerhapsCommitted holds (committed_by mid + 1) ws was is) writes_are (subst (λ (n : ℕ). ArePerhapsCommitted holds n commit.writes was is) txid kept));
-    strange = λ found. more.strange commit.root.txid commit.writes was is texts kept found;
-    counted = turn_counted more old mid was is falls goes;
-  }
+  -- the writes of a commit that was ordered are those of the next batch, which is there
+  next_writes : (more : CommitLaws holds count t custom cut) (words : ℕ → ℕ → ℕ) (counts : ℕ → ℕ) (mid : Engine I g) (w : Wait) (commit : Commit) → IsInput t cut → Accounted t custom cut words (record { world = shape mid; counts = counts })
+      → next_to_commit t cut (shape mid).desk ≡ Some w → IsCommitOf (Some w) (Some commit) → commit.root.txid ≡ committed_by mid + 1 → (commit.writes ≡ writes_at t custom cut (committed_by mid + 1)) × (committed_by mid < batches_in cut)
+  next_writes more words counts mid w commit input led next ordered txid =
+      let made = ordered_writes holds count t custom cut more words (record { world = shape mid; counts = counts }) w commit input led next ordered in
+      let number : w.root.txid ≡ committed_by mid + 1 = sym (ap (λ r. r.txid) ordered.0) ∙ txid in
+      let below : committed_by mid < batches_in cut = (let e = number in let f = made.1 in omega arith) in
+      (made.0 ∙ ap (writes_at t custom cut) number, below)
+
+  -- what a commit left that was ordered and came to its outcome or was broken off
+  module _ (laws : Laws count t custom cut) (more : CommitLaws holds count t custom cut) (mid : Engine I g) (was is : List (StatePart S)) (w : Wait) (commit : Commit)
+      (next : next_to_commit t cut (shape mid).desk ≡ Some w) (ordered : IsCommitOf (Some w) (Some commit)) (txid : commit.root.txid ≡ committed_by mid + 1) (texts : All HasTextKey commit.writes)
+      (kept : ArePerhapsCommitted holds commit.root.txid commit.writes was is) where
+    -- no fate tells of it
+    leaves-broken : (fates : List Attempt) → fates ≡ mid.fates → FailOnceAtMost count was is → Leaves holds count t custom cut mid fates was is
+    leaves-broken fates same once = record {
+      more = [];
+      added = same ∙ sym (append-nil mid.fates);
+      stands = λ words counts input led stand.
+          let made = next_writes more words counts mid w commit input led next ordered txid in
+          let commits : length (committed_txids fates) ≡ committed_by mid = ap (λ (fs : List Attempt). length (committed_txids fs)) same ∙ led.1.kept.commits in
+          subst (λ (n : ℕ). PartsStand holds t custom cut n is) (sym commits)
+          (more.broken_off (committed_by mid) was is stand made.1
+          (subst (λ (ws : List Write). ArePerhapsCommitted holds (committed_by mid + 1) ws was is) made.0 (subst (λ (n : ℕ). ArePerhapsCommitted holds n commit.writes was is) txid kept)));
+      strange = λ key found. more.strange commit.root.txid commit.writes was is key texts kept found;
+      counted = more.last_counts [] was was is (laws.counts_none was) once;
+    }
+
+    -- parts that stood at what was committed stand at what is, where it came to an outcome
+    stands-decided : (how : CommitOutcome) → CommitComes holds count commit.root.txid commit.writes how was is → commit.writes ≡ writes_at t custom cut (committed_by mid + 1) → committed_by mid < batches_in cut
+        → PartsStand holds t custom cut (committed_by mid) was → PartsStand holds t custom cut (decided t cut how (shape mid).desk).desk.committed is
+    stands-decided Done came writes_are below stand =
+        subst (λ (n : ℕ). PartsStand holds t custom cut n is) (sym (decided-done t cut (shape mid).desk w next))
+        (more.done (committed_by mid) was is stand (subst (λ (ws : List Write). AreCommitted holds (committed_by mid + 1) ws was is) writes_are (subst (λ (n : ℕ). AreCommitted holds n commit.writes was is) txid (came.done refl))))
+    stands-decided (Failed component part before after) came writes_are below stand =
+        subst (λ (n : ℕ). PartsStand holds t custom cut n is) (sym (decided-failed t cut (shape mid).desk component part before after))
+        (more.broken_off (committed_by mid) was is stand below (subst (λ (ws : List Write). ArePerhapsCommitted holds (committed_by mid + 1) ws was is) writes_are (subst (λ (n : ℕ). ArePerhapsCommitted holds n commit.writes was is) txid came.kept)))
+
+    -- a fate tells of it
+    leaves-told : (how : CommitOutcome) (fates : List Attempt) → fates ≡ mid.fates ++ (decided t cut how (shape mid).desk).ended → CommitComes holds count commit.root.txid commit.writes how was is → Leaves holds count t custom cut mid fates was is
+    leaves-told how fates added comes = record {
+      more = (decided t cut how (shape mid).desk).ended;
+      added = added;
+      stands = λ words counts input led stand.
+          let made = next_writes more words counts mid w commit input led next ordered txid in
+          let commits : length (committed_txids fates) ≡ (decided t cut how (shape mid).desk).desk.committed =
+          ap (λ (fs : List Attempt). length (committed_txids fs)) added ∙ commits_append mid.fates (decided t cut how (shape mid).desk).ended
+          ∙ ap (λ (n : ℕ). n + length (committed_txids (decided t cut how (shape mid).desk).ended)) led.1.kept.commits ∙ sym (decided_commits how (next_to_commit t cut (shape mid).desk)) in
+          subst (λ (n : ℕ). PartsStand holds t custom cut n is) (sym commits) (stands-decided how comes made.0 made.1 stand);
+      strange = λ key found. more.strange commit.root.txid commit.writes was is key texts kept found;
+      counted = more.all_told (decided t cut how (shape mid).desk).ended was is (more.decided_counts (shape mid).desk w how was is next comes.counted);
+    }
+      where
+        decided_commits : (h : CommitOutcome) (o : Option Wait) → (decided_by t cut h o (shape mid).desk).desk.committed ≡ committed_by mid + length (committed_txids (decided_by t cut h o (shape mid).desk).ended)
+        decided_commits h None = omega arith
+        decided_commits Done (Some x) = settled x.settled
+          where
+            settled : (list : Option (List AckMsg)) → committed_by mid + 1 ≡ committed_by mid + length (committed_txids (ended_at cut (shape mid).desk.tick (end_by t cut Done list) x ∷ []))
+            settled None = refl
+            settled (Some list) = refl
+        decided_commits (Failed component part before after) (Some x) = omega arith
+
+    -- memory was wanted where the outcome was to be told: a fate tells of it or none does
+    leaves-undecided : (how : CommitOutcome) (fates : List Attempt) → AddsSome (decided t cut how (shape mid).desk).ended mid.fates fates → CommitComes holds count commit.root.txid commit.writes how was is → FailOnceAtMost count was is → Leaves holds count t custom cut mid fates was is
+    leaves-undecided how fates some comes once =
+        let ended_is : (decided t cut how (shape mid).desk).ended ≡ ended_at cut (shape mid).desk.tick (end_by t cut how w.settled) w ∷ [] = ap (λ (o : Option Wait). (decided_by t cut how o (shape mid).desk).ended) next in
+        ⊎_elim (λ (none : some.done ≡ []). leaves-broken fates (some.added ∙ ap (λ (xs : List Attempt). mid.fates ++ xs) none ∙ append-nil mid.fates) once)
+        (λ (told : some.done ≡ ended_at cut (shape mid).desk.tick (end_by t cut how w.settled) w ∷ []). leaves-told how fates (some.added ∙ ap (λ (xs : List Attempt). mid.fates ++ xs) (told ∙ sym ended_is)) comes)
+        (one_or_none some.done some.rest (ended_at cut (shape mid).desk.tick (end_by t cut how w.settled) w) (sym ended_is ∙ some.are_first))
 
   -- what an outcome makes of an engine
   outcome_is : (mid new : Engine I g) (how : CommitOutcome) → is_over t cut (shape mid) ≡ false → (shape mid).desk.out ≡ true → outcomes_of new.fates ≡ outcomes_of mid.fates ++ how ∷ [] → Goes tells t custom cut (of_outcome ∷ []) mid new
@@ -218,24 +263,13 @@ module _ {I S : Type 0} {g : Ghosts I} (tells : I → (ℕ → ℕ) → ℕ → 
         plans = comes.plans;
         outcomes = λ planned good. subst (λ (hs : List CommitOutcome). All (IsOutcome t) hs) (sym told) (All-append (IsOutcome t) (outcomes_of mid.fates) (how ∷ []) good (All-cons (IsOutcome t) how [] (more.outcome how was is planned comes.failed) (All-nil (IsOutcome t))));
         stands = λ words counts outcomes gives has input keeps good led stand.
-            let k : Known = record { world = shape mid; counts = counts } in
-            let made = ordered_writes holds count t custom cut more words k w commit input led next ordered in
-            let number : w.root.txid ≡ committed_by mid + 1 = sym (ap (λ r. r.txid) ordered.0) ∙ txid in
-            let writes_are : commit.writes ≡ writes_at t custom cut (committed_by mid + 1) = made.0 ∙ ap (writes_at t custom cut) number in
+            let made = next_writes more words counts mid w commit input led next ordered txid in
             subst (λ (n : ℕ). PartsStand holds t custom cut n is) (sym (ap (λ (d : Desk). d.committed) desk_is))
-            (by how comes writes_are (let e = number in let f = made.1 in omega arith) stand);
-        strange = λ found. more.strange commit.root.txid commit.writes was is texts comes.kept found;
-        counted = subst (λ (xs : List Attempt). FailuresAreCounted count xs was is) (sym more_is) (more.decided_counts (shape mid).desk how was is are comes.never_falls comes.failed);
+            (stands-decided laws more mid was is w commit next ordered txid texts comes.kept how comes made.0 made.1 stand);
+        bad = λ key found. more.bad commit.root.txid commit.writes was is key comes.kept found;
+        strange = λ key found. more.strange commit.root.txid commit.writes was is key texts comes.kept found;
+        counted = subst (λ (xs : List Attempt). FailuresAreCounted count xs was is) (sym more_is) (more.decided_counts (shape mid).desk w how was is next comes.counted);
       }
-    where
-      by : (h : CommitOutcome) → CommitComes holds count commit.root.txid commit.writes h was is → commit.writes ≡ writes_at t custom cut (committed_by mid + 1) → committed_by mid < batches_in cut → PartsStand holds t custom cut (committed_by mid) was
-          → PartsStand holds t custom cut (decided t cut h (shape mid).desk).desk.committed is
-      by Done came writes_are below stand =
-          subst (λ (n : ℕ). PartsStand holds t custom cut n is) (sym (decided-done t cut (shape mid).desk w next))
-          (more.done (committed_by mid) was is stand (subst (λ (ws : List Write). AreCommitted holds (committed_by mid + 1) ws was is) writes_are (subst (λ (n : ℕ). AreCommitted holds n commit.writes was is) txid (came.done refl))))
-      by (Failed component part before after) came writes_are below stand =
-          subst (λ (n : ℕ). PartsStand holds t custom cut n is) (sym (decided-failed t cut (shape mid).desk component part before after))
-          (more.broken_off (committed_by mid) was is stand below (subst (λ (ws : List Write). ArePerhapsCommitted holds (committed_by mid + 1) ws was is) writes_are (subst (λ (n : ℕ). ArePerhapsCommitted holds n commit.writes was is) txid came.kept)))
 
   -- ---- the coordinator's steps as a whole
 
@@ -263,13 +297,64 @@ module _ {I S : Type 0} {g : Ghosts I} (tells : I → (ℕ → ℕ) → ℕ → 
       (goes_there t cut mid ready tells custom (of_outcome ∷ []) new after))
 
   -- a commit was ordered, and met a bad cell
-  pub breaks-ordered : (laws : Laws count t custom cut) (more : CommitLaws holds count t custom cut) (old mid : Engine I g) (was is : List (StatePart S)) (commit : Commit)
-      → Goes tells t custom cut (of_turn ∷ []) old mid → IsReady t cut mid → IsOrder commit mid → All HasTextKey commit.writes → plans_of is ≡ plans_of was → ArePerhapsCommitted holds commit.root.txid commit.writes was is → NoCountFell count was is
-      → HasStrange holds was → Breaks tells holds count t custom cut coordinator_steps old mid was is
-  breaks-ordered laws more old mid was is commit goes ready order texts plans kept falls strange = record {
+  pub breaks-ordered : (laws : Laws count t custom cut) (more : CommitLaws holds count t custom cut) (key : List ℕ) (old mid : Engine I g) (was is : List (StatePart S)) (commit : Commit)
+      → Goes tells t custom cut (of_turn ∷ []) old mid → IsReady t cut mid → IsOrder commit mid → All HasTextKey commit.writes → ArePerhapsCommitted holds commit.root.txid commit.writes was is → FailOnceAtMost count was is
+      → IsBadAt holds was key → Breaks tells holds count t custom cut coordinator_steps key old mid was is
+  breaks-ordered laws more key old mid was is commit goes ready order texts kept once bad = record {
     steps = of_turn ∷ [];
     rest = of_outcome ∷ [];
     first = refl;
-    drives = drives-broken laws more old mid was is order.wait commit (sym (next_here mid ready) ∙ order.ordered.next) order.is order.txid texts plans kept falls goes;
-    strange = strange;
+    between = was;
+    drives = drives-turn more old mid was goes;
+    leaves = leaves-broken laws more mid was is order.wait commit (sym (next_here mid ready) ∙ order.ordered.next) order.is order.txid texts kept mid.fates refl once;
+    bad = bad;
   }
+
+  -- or it wanted memory
+  pub wants-ordered : (laws : Laws count t custom cut) (more : CommitLaws holds count t custom cut) (old mid : Engine I g) (was is : List (StatePart S)) (commit : Commit)
+      → Goes tells t custom cut (of_turn ∷ []) old mid → IsReady t cut mid → IsOrder commit mid → All HasTextKey commit.writes → ArePerhapsCommitted holds commit.root.txid commit.writes was is → FailOnceAtMost count was is
+      → WantsMemory tells holds count t custom cut old mid.fates was is
+  wants-ordered laws more old mid was is commit goes ready order texts kept once = record {
+    steps = of_turn ∷ [];
+    mid = mid;
+    between = was;
+    drives = drives-turn more old mid was goes;
+    leaves = leaves-broken laws more mid was is order.wait commit (sym (next_here mid ready) ∙ order.ordered.next) order.is order.txid texts kept mid.fates refl once;
+  }
+
+  -- or memory was wanted where its outcome was to be told
+  pub wants-undecided : (laws : Laws count t custom cut) (more : CommitLaws holds count t custom cut) (old mid : Engine I g) (fates : List Attempt) (was is : List (StatePart S)) (commit : Commit) (how : CommitOutcome)
+      → Goes tells t custom cut (of_turn ∷ []) old mid → IsReady t cut mid → IsOrder commit mid → All HasTextKey commit.writes → CommitComes holds count commit.root.txid commit.writes how was is → FailOnceAtMost count was is
+      → DecidesShort how mid fates → WantsMemory tells holds count t custom cut old fates was is
+  wants-undecided laws more old mid fates was is commit how goes ready order texts comes once short = record {
+    steps = of_turn ∷ [];
+    mid = mid;
+    between = was;
+    drives = drives-turn more old mid was goes;
+    leaves =
+        leaves-undecided laws more mid was is order.wait commit (sym (next_here mid ready) ∙ order.ordered.next) order.is order.txid texts comes.kept how fates
+        (subst (λ (u : Topology). AddsSome (decided u cut how (shape mid).desk).ended mid.fates fates) ready.seated.of_topology
+        (subst (λ (k : Cut). AddsSome (decided (topology_in mid) k how (shape mid).desk).ended mid.fates fates) ready.seated.of_cut short)) comes once;
+  }
+
+  -- memory was wanted in the turn
+  pub wants-turn : (laws : Laws count t custom cut) (more : CommitLaws holds count t custom cut) (old : Engine I g) (fates : List Attempt) (parts : List (StatePart S)) (verdict : Option Verdict) (ticks : ℕ)
+      → AddsSome (turned t cut verdict ticks (shape old).desk).ended old.fates fates → WantsMemory tells holds count t custom cut old fates parts parts
+  wants-turn laws more old fates parts verdict ticks some =
+      let quiet : outcomes_of some.done ≡ [] = some_none (turned t cut verdict ticks (shape old).desk).ended old.fates fates (none_turned t cut verdict ticks (shape old).desk) some in record {
+        steps = [];
+        mid = old;
+        between = parts;
+        drives = drives-none tells holds count t custom cut laws old parts;
+        leaves = record {
+          more = some.done;
+          added = some.added;
+          stands = λ words counts input led stand.
+              let commits : length (committed_txids fates) ≡ committed_by old =
+              ap (λ (fs : List Attempt). length (committed_txids fs)) some.added ∙ commits_append old.fates some.done
+              ∙ (let a = none_commits some.done quiet in let b = led.1.kept.commits in omega arith) in
+              subst (λ (n : ℕ). PartsStand holds t custom cut n parts) (sym commits) stand;
+          strange = λ key found. found;
+          counted = more.all_told some.done parts parts (more.quiet_counts some.done parts (none_failed_of some.done quiet));
+        };
+      }

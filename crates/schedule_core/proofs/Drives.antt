@@ -1,6 +1,7 @@
 -- Steps of an engine over parts, one after another.
-use Rattle.std.proofs.Common.{◌≡◌, ℕ, true, List, [], ◌∷◌, ◌++◌, All, refl, sym, ap, subst, ◌∙◌, append_assoc}
+use Rattle.std.proofs.Common.{◌≡◌, ℕ, true, List, [], ◌∷◌, ◌++◌, All, length, refl, sym, ap, subst, ◌∙◌, append_assoc, append-nil}
 use Rattle.attempt_fates.specs.declared.fates.Attempt.{Attempt}
+use Rattle.attempt_fates.specs.Fates.{committed_txids}
 use Rattle.batch_commits.specs.Standing.{FailuresAreCounted, PartsStand}
 use Rattle.bolt_ops.specs.RowOp.{Custom}
 use Rattle.commit_order.specs.Orders.{desk_of}
@@ -10,7 +11,7 @@ use Rattle.event_engine.specs.declared.engine.Engine.{Engine}
 use Rattle.event_engine.specs.Engines.{Goes, IsStill, shape}
 use Rattle.event_worlds.specs.Accounted.{Accounted}
 use Rattle.event_worlds.specs.Worlds.{Known, Step, World, is_over, outcomes_of, run}
-use Rattle.schedule_core.specs.Driving.{Breaks, Drives}
+use Rattle.schedule_core.specs.Driving.{Breaks, Drives, Leaves, WantsMemory}
 use Rattle.schedule_core.specs.Laws.{Laws}
 use Rattle.state_parts.specs.declared.parts.StatePart.{StatePart}
 use Rattle.storm_ids.specs.declared.ids.Ids.{Ghosts}
@@ -31,7 +32,8 @@ module _ {I S : Type 0} {g : Ghosts I} (tells : I → (ℕ → ℕ) → ℕ → 
     plans = refl;
     outcomes = λ are good. subst (λ (fs : List Attempt). All (IsOutcome t) (outcomes_of fs)) (sym still.fates) good;
     stands = λ words counts outcomes gives has input keeps good led stand. subst (λ (n : ℕ). PartsStand holds t custom cut n parts) (ap (λ c. (desk_of c).committed) (sym still.coordinator)) stand;
-    strange = λ found. found;
+    bad = λ key found. found;
+    strange = λ key found. found;
     counted = subst (λ (xs : List Attempt). FailuresAreCounted count xs parts parts) (sym (none_added old.fates goes.more (sym still.fates ∙ goes.added))) (laws.counts_none parts);
   }
 
@@ -55,27 +57,56 @@ module _ {I S : Type 0} {g : Ghosts I} (tells : I → (ℕ → ℕ) → ℕ → 
         let led_next = subst (λ (w : World). Accounted t custom cut words (record { world = w; counts = mid.counts })) world_is led_mid in
         second.stands words mid.counts outcomes both.2 has input keeps good led_next
         (first.stands words counts outcomes both.0 both.1 input keeps good led stand);
-    strange = λ found. first.strange (second.strange found);
+    bad = λ key found. first.bad key (second.bad key found);
+    strange = λ key found. first.strange key (second.strange key found);
     counted = subst (λ (xs : List Attempt). FailuresAreCounted count xs p r) (sym (then-more tells t custom cut xs ys a b c first.goes second.goes)) (laws.counts_then first.goes.more second.goes.more p q r first.plans first.counted second.counted);
   }
 
   -- steps, and then some of further ones, up to a bad cell
-  pub breaks-then : (xs ys : List Step) (a b c : Engine I g) (p q r : List (StatePart S)) → Drives tells holds count t custom cut xs a b p q → Breaks tells holds count t custom cut ys b c q r → Breaks tells holds count t custom cut (xs ++ ys) a c p r
-  breaks-then xs ys a b c p q r first second = record {
+  pub breaks-then : (xs ys : List Step) (key : List ℕ) (a b c : Engine I g) (p q r : List (StatePart S)) → Drives tells holds count t custom cut xs a b p q → Breaks tells holds count t custom cut ys key b c q r → Breaks tells holds count t custom cut (xs ++ ys) key a c p r
+  breaks-then xs ys key a b c p q r first second = record {
     steps = xs ++ second.steps;
     rest = second.rest;
     first = ap (λ (zs : List Step). xs ++ zs) second.first ∙ sym (append_assoc xs second.steps second.rest);
-    drives = drives-then xs second.steps a b c p q r first second.drives;
-    strange = first.strange second.strange;
+    between = second.between;
+    drives = drives-then xs second.steps a b c p q second.between first second.drives;
+    leaves = second.leaves;
+    bad = first.bad key second.bad;
   }
 
+  -- or up to where memory was wanted
+  pub wants-then : (xs : List Step) (a b : Engine I g) (fates : List Attempt) (p q r : List (StatePart S)) → Drives tells holds count t custom cut xs a b p q → WantsMemory tells holds count t custom cut b fates q r → WantsMemory tells holds count t custom cut a fates p r
+  wants-then xs a b fates p q r first second = record {
+    steps = xs ++ second.steps;
+    mid = second.mid;
+    between = second.between;
+    drives = drives-then xs second.steps a b second.mid p q second.between first second.drives;
+    leaves = second.leaves;
+  }
+
+  -- an engine that stopped with the fates and the parts that it had
+  pub leaves-still : (e : Engine I g) (fates : List Attempt) (parts : List (StatePart S)) → fates ≡ e.fates → Leaves holds count t custom cut e fates parts parts
+  leaves-still e fates parts same = record {
+    more = [];
+    added = same ∙ sym (append-nil e.fates);
+    stands = λ words counts input led stand.
+        subst (λ (n : ℕ). PartsStand holds t custom cut n parts) (sym (ap (λ (fs : List Attempt). length (committed_txids fs)) same ∙ led.1.kept.commits)) stand;
+    strange = λ key found. found;
+    counted = laws.none_but_last parts;
+  }
+
+  pub wants-still : (e : Engine I g) (fates : List Attempt) (parts : List (StatePart S)) → fates ≡ e.fates → WantsMemory tells holds count t custom cut e fates parts parts
+  wants-still e fates parts same = record { steps = []; mid = e; between = parts; drives = drives-none e parts; leaves = leaves-still e fates parts same }
+
 -- more steps were to come
-pub breaks-longer : {I S : Type 0} {g : Ghosts I} (tells : I → (ℕ → ℕ) → ℕ → Type 0) (holds : S → CellMap → Type 0) (count : S → ℕ) (t : Topology) (custom : Custom) (cut : Cut) (whole more all : List Step) (a b : Engine I g) (p q : List (StatePart S))
-    → all ≡ whole ++ more → Breaks tells holds count t custom cut whole a b p q → Breaks tells holds count t custom cut all a b p q
-breaks-longer tells holds count t custom cut whole more all a b p q are breaks = record {
+pub breaks-longer : {I S : Type 0} {g : Ghosts I} (tells : I → (ℕ → ℕ) → ℕ → Type 0) (holds : S → CellMap → Type 0) (count : S → ℕ) (t : Topology) (custom : Custom) (cut : Cut) (whole more all : List Step) (key : List ℕ) (a b : Engine I g) (p q : List (StatePart S))
+    → all ≡ whole ++ more → Breaks tells holds count t custom cut whole key a b p q → Breaks tells holds count t custom cut all key a b p q
+breaks-longer tells holds count t custom cut whole more all key a b p q are breaks = record {
   steps = breaks.steps;
   rest = breaks.rest ++ more;
   first = are ∙ ap (λ (zs : List Step). zs ++ more) breaks.first ∙ append_assoc breaks.steps breaks.rest more;
+  between = breaks.between;
   drives = breaks.drives;
-  strange = breaks.strange;
+  leaves = breaks.leaves;
+  bad = breaks.bad;
 }

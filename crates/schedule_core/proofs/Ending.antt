@@ -5,7 +5,7 @@ use Rattle.std.specs.Prelude.{OnErr, OnOk}
 use Rattle.std.specs.List.{AllByRecursion}
 use Rattle.attempt_fates.specs.Fates.{IsOnce}
 use Rattle.attempt_fates.specs.declared.fates.Attempt.{Attempt}
-use Rattle.batch_commits.specs.Standing.{FailuresAreCounted, HasStrange, PartsStand}
+use Rattle.batch_commits.specs.Standing.{AllButLastAreCounted, FailuresAreCounted, HasStrangeAt, PartsStand}
 use Rattle.bolt_ops.specs.RowOp.{Custom, IsCustom}
 use Rattle.commit_order.specs.declared.stop.Stop.{Stop}
 use Rattle.commit_order.specs.declared.stop.Stop.TheVariants as stop
@@ -19,12 +19,12 @@ use Rattle.event_engine.specs.Engines.{Goes, HasOutcomes, IsIdle, IsReady, cut_i
 use Rattle.event_engine.specs.Starts.{IsStarted}
 use Rattle.event_worlds.specs.Accounted.{Accounted, AreCaused, IsInput}
 use Rattle.event_worlds.specs.Rounds.{ticks_in}
-use Rattle.event_worlds.specs.Worlds.{Step, World, first_counts, first_known, first_world, outcomes_of, run, world_after}
+use Rattle.event_worlds.specs.Worlds.{Known, Step, World, first_counts, first_known, first_world, outcomes_of, run, world_after}
 use Rattle.schedule_core.proofs.FatesOfRuns.{AnswersFor, answers-from, once-later, once-none}
 use Rattle.schedule_core.proofs.Keeping.{kept-none}
 use Rattle.schedule_core.proofs.TicksOfRuns.{caused-later, desk-ticks, ticks-of-rounds}
 use Rattle.schedule_core.specs.declared.ended.Ended.{Ended}
-use Rattle.schedule_core.specs.Driving.{AreKept, Breaks, Drives, IsAtRest, IsOfSameRun, committed_by}
+use Rattle.schedule_core.specs.Driving.{AreKept, Breaks, Drives, IsAtRest, IsOfSameRun, Leaves, WantsMemory, committed_by}
 use Rattle.schedule_core.specs.Laws.{WorldLaws}
 use Rattle.schedule_core.specs.Rounding.{end_by}
 use Rattle.schedule_core.specs.Runs.{Answers, RunComes, committed_count}
@@ -34,7 +34,8 @@ use Rattle.schedule_reader.specs.declared.event.Event.{Event}
 use Rattle.state_parts.specs.declared.answer.CommitFault.{CommitFault}
 use Rattle.state_parts.specs.declared.answer.CommitFault.TheVariants as fault
 use Rattle.state_parts.specs.declared.parts.StatePart.{StatePart}
-use Rattle.state_parts.specs.PartPlans.{AreParts}
+use Rattle.state_parts.specs.Commits.{IsBadAt}
+use Rattle.state_parts.specs.PartPlans.{AreParts, plans_of}
 use Rattle.state_parts.specs.Standing.{IsEmpty}
 use Rattle.storm_ids.specs.declared.ids.Ids.{Ghosts}
 use Rattle.storm_stores.specs.CellMaps.{CellMap}
@@ -74,39 +75,48 @@ pub record Ends {S : Type 0} (words_are : (ℕ → ℕ → ℕ) → Type 0) (hol
 is_no_cell : (answer : Result Ended Stop) (key : List ℕ) → answer ≡ Err stop.Memory → answer ≡ Err (stop.BadCell key) → ⊥
 is_no_cell answer key short bad = cc
 
+same_cell : (key k : List ℕ) → Err (stop.BadCell key) ≡ Err (stop.BadCell k) → key ≡ k
+same_cell key k same = cc
+
 -- memory was wanted
 short_comes : {S : Type 0} (holds : S → CellMap → Type 0) (count : S → ℕ) (t : Topology) (custom : Custom) (cut : Cut) (steps : List Step) (ticks : ℕ) (fates : List Attempt) (was is : List (StatePart S))
-    → IsOnce (length cut.records) cut.size last_tick fates → AreKept holds was is → RunComes holds count t custom cut steps ticks (Err stop.Memory) fates was is
-short_comes holds count t custom cut steps ticks fates was is once kept = record {
+    → IsOnce (length cut.records) cut.size last_tick fates → AreKept holds was is → ((key : List ℕ) → HasStrangeAt holds is key → HasStrangeAt holds was key)
+    → (All (IsEmpty holds) was → PartsStand holds t custom cut (committed_count fates) is) → AllButLastAreCounted count fates was is → RunComes holds count t custom cut steps ticks (Err stop.Memory) fates was is
+short_comes holds count t custom cut steps ticks fates was is once kept strange stands counted = record {
   once = once;
   in_time = λ ok. absurd ok;
   answers = tt;
   caused = λ ok. absurd ok;
   failed_in_turn = λ ok. absurd ok;
   of_world = λ ok. absurd ok;
-  strange = λ ok found. absurd ok;
+  strange = strange;
   bad_cell = λ key is_bad. absurd (is_no_cell (Err stop.Memory) key refl is_bad);
-  stands = λ ok. absurd ok;
+  stands = stands;
   counted = λ ok. absurd ok;
+  but_last = counted;
   kept = kept;
 }
 
 -- it was wanted before anything was done
-pub not_begun : {S : Type 0} (holds : S → CellMap → Type 0) (count : S → ℕ) (t : Topology) (custom : Custom) (cut : Cut) (steps : List Step) (ticks : ℕ) (fates : List Attempt) (parts : List (StatePart S))
-    → fates ≡ [] → RunComes holds count t custom cut steps ticks (Err stop.Memory) fates parts parts
-not_begun holds count t custom cut steps ticks fates parts none =
+pub not_begun : {S : Type 0} (holds : S → CellMap → Type 0) (count : S → ℕ) (t : Topology) (custom : Custom) (cut : Cut) (laws : WorldLaws holds count t custom cut) (steps : List Step) (ticks : ℕ) (fates : List Attempt) (parts : List (StatePart S))
+    → 0 < cut.size → fates ≡ [] → RunComes holds count t custom cut steps ticks (Err stop.Memory) fates parts parts
+not_begun holds count t custom cut laws steps ticks fates parts some none =
     short_comes holds count t custom cut steps ticks fates parts parts (subst (λ (fs : List Attempt). IsOnce (length cut.records) cut.size last_tick fs) (sym none) (once-none (length cut.records) cut.size last_tick)) (kept-none holds parts)
+    (λ key found. found)
+    (λ empty. subst (λ (fs : List Attempt). PartsStand holds t custom cut (committed_count fs) parts) (sym none) (laws.begin parts some empty))
+    (subst (λ (fs : List Attempt). AllButLastAreCounted count fs parts parts) (sym none) (laws.none_but_last parts))
 
 module _ {I S : Type 0} {g : Ghosts I} (told : (ℕ → ℕ → ℕ) → Type 0) (tells : I → (ℕ → ℕ) → ℕ → Type 0) (holds : S → CellMap → Type 0) (count : S → ℕ) (t : Topology) (custom : Custom) (cut : Cut)
-    (laws : WorldLaws holds t custom cut) (input : IsInput t cut) (keeps : IsCustom custom) (some : 0 < cut.size) where
+    (laws : WorldLaws holds count t custom cut) (input : IsInput t cut) (keeps : IsCustom custom) (some : 0 < cut.size) where
   -- what an engine that was started and its parts have come to, by some words
   pub record CameTo (steps : List Step) (e : Engine I g) (was is : List (StatePart S)) : Type 0 where
     pub words : ℕ → ℕ → ℕ
     pub shape_is : shape e ≡ world_after t custom cut words (outcomes_of e.fates) steps
     pub led : Accounted t custom cut words (run t custom cut words (outcomes_of e.fates) steps (first_known t words))
     pub stands : All (IsEmpty holds) was → PartsStand holds t custom cut (committed_by e) is
+    pub plans : plans_of is ≡ plans_of was
     pub counted : FailuresAreCounted count e.fates was is
-    pub strange : HasStrange holds is → HasStrange holds was
+    pub strange : (key : List ℕ) → HasStrangeAt holds is key → HasStrangeAt holds was key
 
   pub came_to : (steps : List Step) (e0 e : Engine I g) (was is : List (StatePart S)) → IsStarted told tells t e0 → e0.fates ≡ [] → AreParts t was → Drives tells holds count t custom cut steps e0 e was is → CameTo steps e was is
   came_to steps e0 e was is started none planned drives =
@@ -127,6 +137,7 @@ module _ {I S : Type 0} {g : Ghosts I} (told : (ℕ → ℕ → ℕ) → Type 0)
         stands = λ empty.
             drives.stands words (first_counts t words) outcomes some_are.2 has input keeps good led_e0
             (subst (λ (n : ℕ). PartsStand holds t custom cut n was) (sym (ap (λ (w : World). w.desk.committed) start_is)) (laws.begin was some empty));
+        plans = drives.plans;
         counted = subst (λ (xs : List Attempt). FailuresAreCounted count xs was is) (sym (drives.goes.added ∙ ap (λ (fs : List Attempt). fs ++ drives.goes.more) none)) drives.counted;
         strange = drives.strange;
       }
@@ -165,26 +176,39 @@ module _ {I S : Type 0} {g : Ghosts I} (told : (ℕ → ℕ → ℕ) → Type 0)
     caused = λ ok. (came.words, caused_at steps e was is came ticks low);
     failed_in_turn = λ ok. (kept_then steps e was is came).fails_in_turn;
     of_world = λ ok. (came.words, record { fates_are = ap (λ (w : World). w.fates) came.shape_is; answer_is = ap (answer_of t cut) came.shape_is });
-    strange = λ ok found. came.strange found;
+    strange = came.strange;
     bad_cell = λ key is_bad. absurd (no_bad_cell (shape e).desk.exhausted (is_finished t cut (shape e).desk) (shape e).desk.committed key is_bad);
-    stands = λ ok empty. subst (λ (n : ℕ). PartsStand holds t custom cut n is) (sym (commits_then steps e was is came)) (came.stands empty);
+    stands = λ empty. subst (λ (n : ℕ). PartsStand holds t custom cut n is) (sym (commits_then steps e was is came)) (came.stands empty);
     counted = λ ok. came.counted;
+    but_last = laws.all_told e.fates was is came.counted;
     kept = kept;
   }
 
+  -- what a fault left that stopped it
+  left_stands : (steps : List Step) (e : Engine I g) (fates : List Attempt) (was between is : List (StatePart S)) → CameTo steps e was between → Leaves holds count t custom cut e fates between is → All (IsEmpty holds) was → PartsStand holds t custom cut (committed_count fates) is
+  left_stands steps e fates was between is came leaves empty =
+      let last : Known = run t custom cut came.words (outcomes_of e.fates) steps (first_known t came.words) in
+      leaves.stands came.words last.counts input (subst (λ (w : World). Accounted t custom cut came.words (record { world = w; counts = last.counts })) (sym came.shape_is) came.led) (came.stands empty)
+
+  left_counted : (steps : List Step) (e : Engine I g) (fates : List Attempt) (was between is : List (StatePart S)) → CameTo steps e was between → Leaves holds count t custom cut e fates between is → AllButLastAreCounted count fates was is
+  left_counted steps e fates was between is came leaves =
+      subst (λ (fs : List Attempt). AllButLastAreCounted count fs was is) (sym leaves.added) (laws.counts_last e.fates leaves.more was between is came.plans came.counted leaves.counted)
+
   -- a bad cell stopped it
-  breaks_come : (whole steps : List Step) (ticks : ℕ) (e : Engine I g) (was is : List (StatePart S)) (key : List ℕ) → CameTo steps e was is → (shape e).desk.tick ≤ ticks → AreKept holds was is → HasStrange holds was → RunComes holds count t custom cut whole ticks (Err (stop.BadCell key)) e.fates was is
-  breaks_come whole steps ticks e was is key came low kept strange = record {
-    once = once-later (length cut.records) cut.size (shape e).desk.tick last_tick e.fates (kept_then steps e was is came).once (last_then steps e was is came);
-    in_time = λ ok. once-later (length cut.records) cut.size (shape e).desk.tick ticks e.fates (kept_then steps e was is came).once low;
+  breaks_come : (whole steps : List Step) (ticks : ℕ) (e : Engine I g) (was between is : List (StatePart S)) (key : List ℕ) → CameTo steps e was between → (shape e).desk.tick ≤ ticks → AreKept holds was is → Leaves holds count t custom cut e e.fates between is → IsBadAt holds was key
+      → RunComes holds count t custom cut whole ticks (Err (stop.BadCell key)) e.fates was is
+  breaks_come whole steps ticks e was between is key came low kept leaves bad = record {
+    once = once-later (length cut.records) cut.size (shape e).desk.tick last_tick e.fates (kept_then steps e was between came).once (last_then steps e was between came);
+    in_time = λ ok. once-later (length cut.records) cut.size (shape e).desk.tick ticks e.fates (kept_then steps e was between came).once low;
     answers = tt;
-    caused = λ ok. (came.words, caused_at steps e was is came ticks low);
-    failed_in_turn = λ ok. (kept_then steps e was is came).fails_in_turn;
+    caused = λ ok. (came.words, caused_at steps e was between came ticks low);
+    failed_in_turn = λ ok. (kept_then steps e was between came).fails_in_turn;
     of_world = λ ok. absurd ok;
-    strange = λ ok found. came.strange found;
-    bad_cell = λ k is_bad. strange;
-    stands = λ ok. absurd ok;
-    counted = λ ok. came.counted;
+    strange = λ k found. came.strange k (leaves.strange k found);
+    bad_cell = λ k is_bad. subst (IsBadAt holds was) (same_cell key k is_bad) bad;
+    stands = left_stands steps e e.fates was between is came leaves;
+    counted = λ ok. absurd ok;
+    but_last = left_counted steps e e.fates was between is came leaves;
     kept = kept;
   }
 
@@ -220,16 +244,18 @@ module _ {I S : Type 0} {g : Ghosts I} (told : (ℕ → ℕ → ℕ) → Type 0)
     pub allows : Allows whole ticks
     pub same_run : OnOk done (IsOfSameRun e0 e)
     pub drives : OnOk done (Drives tells holds count t custom cut whole e0 e was is)
-    pub bad : (key : List ℕ) → done ≡ Err (fault.BadCell key) → Breaks tells holds count t custom cut whole e0 e was is
+    pub bad : (key : List ℕ) → done ≡ Err (fault.BadCell key) → Breaks tells holds count t custom cut whole key e0 e was is
+    pub short : done ≡ Err fault.Memory → WantsMemory tells holds count t custom cut e0 e.fates was is
     pub once : OnErr done (IsOnce (length cut.records) cut.size last_tick e.fates)
     pub kept : AreKept holds was is
 
   -- what is so for the engine's own plan and input is so for these
   pub ran-from : (steps : Topology → List Step) (ticks : ℕ) (done : Result (Unit {0}) CommitFault) (e0 e : Engine I g) (was is : List (StatePart S)) → IsReady t cut e0 → IsStarted told tells t e0 → AreParts t was → Allows (steps t) ticks
       → OnOk done (IsOfSameRun e0 e) → OnOk done (Drives tells holds count (topology_in e0) custom (cut_in e0) (steps (topology_in e0)) e0 e was is)
-      → ((key : List ℕ) → done ≡ Err (fault.BadCell key) → Breaks tells holds count (topology_in e0) custom (cut_in e0) (steps (topology_in e0)) e0 e was is)
+      → ((key : List ℕ) → done ≡ Err (fault.BadCell key) → Breaks tells holds count (topology_in e0) custom (cut_in e0) (steps (topology_in e0)) key e0 e was is)
+      → (done ≡ Err fault.Memory → WantsMemory tells holds count (topology_in e0) custom (cut_in e0) e0 e.fates was is)
       → OnErr done (IsOnce (length (cut_in e0).records) (cut_in e0).size last_tick e.fates) → AreKept holds was is → Ran (steps t) ticks done e0 e was is
-  ran-from steps ticks done e0 e was is ready started planned allows same drives bad once kept = record {
+  ran-from steps ticks done e0 e was is ready started planned allows same drives bad short once kept = record {
     ready = ready;
     started = started;
     planned = planned;
@@ -239,8 +265,11 @@ module _ {I S : Type 0} {g : Ghosts I} (told : (ℕ → ℕ → ℕ) → Type 0)
         subst (λ (u : Topology). OnOk done (Drives tells holds count u custom cut (steps u) e0 e was is)) ready.seated.of_topology
         (subst (λ (k : Cut). OnOk done (Drives tells holds count (topology_in e0) custom k (steps (topology_in e0)) e0 e was is)) ready.seated.of_cut drives);
     bad = λ key met.
-        subst (λ (u : Topology). Breaks tells holds count u custom cut (steps u) e0 e was is) ready.seated.of_topology
-        (subst (λ (k : Cut). Breaks tells holds count (topology_in e0) custom k (steps (topology_in e0)) e0 e was is) ready.seated.of_cut (bad key met));
+        subst (λ (u : Topology). Breaks tells holds count u custom cut (steps u) key e0 e was is) ready.seated.of_topology
+        (subst (λ (k : Cut). Breaks tells holds count (topology_in e0) custom k (steps (topology_in e0)) key e0 e was is) ready.seated.of_cut (bad key met));
+    short = λ met.
+        subst (λ (u : Topology). WantsMemory tells holds count u custom cut e0 e.fates was is) ready.seated.of_topology
+        (subst (λ (k : Cut). WantsMemory tells holds count (topology_in e0) custom k e0 e.fates was is) ready.seated.of_cut (short met));
     once = subst (λ (k : Cut). OnErr done (IsOnce (length k.records) k.size last_tick e.fates)) ready.seated.of_cut once;
     kept = kept;
   }
@@ -259,17 +288,21 @@ module _ {I S : Type 0} {g : Ghosts I} (told : (ℕ → ℕ → ℕ) → Type 0)
       }
   ends_by whole ticks (Err (fault.BadCell key)) e0 e was is ran =
       let breaks = ran.bad key refl in
-      let came = came_to breaks.steps e0 e was is ran.started (no_fates breaks.steps e0 e ran.started breaks.drives.goes) ran.planned breaks.drives in
-      let low : (shape e).desk.tick ≤ ticks = ticks_then whole breaks.steps breaks.rest ticks e was is came breaks.first ran.allows in record {
-        comes = breaks_come whole breaks.steps ticks e was is key came low ran.kept breaks.strange;
+      let came = came_to breaks.steps e0 e was breaks.between ran.started (no_fates breaks.steps e0 e ran.started breaks.drives.goes) ran.planned breaks.drives in
+      let low : (shape e).desk.tick ≤ ticks = ticks_then whole breaks.steps breaks.rest ticks e was breaks.between came breaks.first ran.allows in record {
+        comes = breaks_come whole breaks.steps ticks e was breaks.between is key came low ran.kept breaks.leaves breaks.bad;
         told = λ words are is_answer. absurd is_answer;
-        drawn = λ words are had. caused-later t custom cut (shape e).desk.tick ticks words e.fates (told_causes breaks.steps e0 e was is ran.started ran.planned breaks.drives words are) low;
+        drawn = λ words are had. caused-later t custom cut (shape e).desk.tick ticks words e.fates (told_causes breaks.steps e0 e was breaks.between ran.started ran.planned breaks.drives words are) low;
       }
-  ends_by whole ticks (Err fault.Memory) e0 e was is ran = record {
-    comes = short_comes holds count t custom cut whole ticks e.fates was is ran.once ran.kept;
-    told = λ words are is_answer. absurd is_answer;
-    drawn = λ words are had. absurd had;
-  }
+  ends_by whole ticks (Err fault.Memory) e0 e was is ran =
+      let short = ran.short refl in
+      let came = came_to short.steps e0 short.mid was short.between ran.started (no_fates short.steps e0 short.mid ran.started short.drives.goes) ran.planned short.drives in record {
+        comes =
+            short_comes holds count t custom cut whole ticks e.fates was is ran.once ran.kept (λ key found. came.strange key (short.leaves.strange key found))
+            (left_stands short.steps short.mid e.fates was short.between is came short.leaves) (left_counted short.steps short.mid e.fates was short.between is came short.leaves);
+        told = λ words are is_answer. absurd is_answer;
+        drawn = λ words are had. absurd had;
+      }
 
   -- a run ends so
   pub ends : (whole : List Step) (ticks : ℕ) (done : Result (Unit {0}) CommitFault) (e0 e : Engine I g) (was is : List (StatePart S)) (answer : Result Ended Stop) (fates : List Attempt) → Ran whole ticks done e0 e was is

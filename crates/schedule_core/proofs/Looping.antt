@@ -1,16 +1,17 @@
 -- Rounds and events over an engine and parts, one after another, until all is over.
 use Rattle.std.proofs.Common.{◌≡◌, ◌≤◌, ◌<◌, ℕ, zero, suc, ◌+◌, true, List, [], ◌∷◌, ◌++◌, length, take, get_or, refl, sym, ap, subst, ◌∙◌, arith, append_assoc, append-nil}
 use Rattle.std.specs.List.{AllByRecursion, flat_map, range_with_len}
+use Rattle.attempt_fates.specs.declared.fates.Attempt.{Attempt}
 use Rattle.attempt_fates.specs.Fates.{IsOnce}
 use Rattle.bolt_ops.specs.RowOp.{Custom}
 use Rattle.commit_turns.specs.Turns.{last_tick}
 use Rattle.event_engine.specs.declared.engine.Engine.{Engine}
 use Rattle.event_engine.specs.Engines.{cut_in, has_ended, shape, topology_in}
 use Rattle.event_worlds.specs.Worlds.{Step, is_over, round_steps, rounds_steps}
-use Rattle.schedule_core.specs.Driving.{AreKept, Breaks, Drives, IsAtRest, IsOfSameRun}
-use Rattle.schedule_core.proofs.Drives.{breaks-longer, breaks-then, drives-none, drives-over, drives-then}
+use Rattle.schedule_core.specs.Driving.{AreKept, Breaks, Drives, IsAtRest, IsOfSameRun, WantsMemory}
+use Rattle.schedule_core.proofs.Drives.{breaks-longer, breaks-then, drives-none, drives-over, drives-then, wants-then}
 use Rattle.schedule_core.proofs.Keeping.{kept-none, kept-then}
-use Rattle.schedule_core.proofs.Resting.{breaks_there, drives_there}
+use Rattle.schedule_core.proofs.Resting.{breaks_there, drives_there, wants_there}
 use Rattle.schedule_core.specs.Laws.{Laws}
 use Rattle.schedule_reader.specs.declared.event.Event.{Event}
 use Rattle.schedule_reader.specs.Events.{FitsEvent}
@@ -130,11 +131,17 @@ module _ {I S : Type 0} {g : Ghosts I} (tells : I → (ℕ → ℕ) → ℕ → 
           }
 
       -- further steps up to a bad cell, and more that were to come
-      pub driven-breaks : (all more : List Step) (steps : Topology → List Step) (new : Engine I g) (r : List (StatePart S)) → all ≡ (first ++ steps (topology_in old)) ++ more → Breaks tells holds count (topology_in mid) custom (cut_in mid) (steps (topology_in mid)) mid new q r → Breaks tells holds count (topology_in old) custom (cut_in old) all old new p r
-      driven-breaks all more steps new r are own =
+      pub driven-breaks : (all more : List Step) (steps : Topology → List Step) (key : List ℕ) (new : Engine I g) (r : List (StatePart S)) → all ≡ (first ++ steps (topology_in old)) ++ more
+          → Breaks tells holds count (topology_in mid) custom (cut_in mid) (steps (topology_in mid)) key mid new q r → Breaks tells holds count (topology_in old) custom (cut_in old) all key old new p r
+      driven-breaks all more steps key new r are own =
           let t = topology_in old in
-          breaks-longer tells holds count t custom (cut_in old) (first ++ steps t) more all old new p r are
-          (breaks-then tells holds count t custom (cut_in old) laws first (steps t) old mid new p q r kept.drives (breaks_there tells holds count custom steps old mid new q r kept.same_run own))
+          breaks-longer tells holds count t custom (cut_in old) (first ++ steps t) more all key old new p r are
+          (breaks-then tells holds count t custom (cut_in old) laws first (steps t) key old mid new p q r kept.drives (breaks_there tells holds count custom steps key old mid new q r kept.same_run own))
+
+      -- or up to where memory was wanted
+      pub driven-wants : (fates : List Attempt) (r : List (StatePart S)) → WantsMemory tells holds count (topology_in mid) custom (cut_in mid) mid fates q r → WantsMemory tells holds count (topology_in old) custom (cut_in old) old fates p r
+      driven-wants fates r own =
+          wants-then tells holds count (topology_in old) custom (cut_in old) laws first old mid fates p q r kept.drives (wants_there tells holds count custom old mid fates q r kept.same_run own)
 
       pub parts_here : AreParts (topology_in mid) q
       parts_here = subst (λ (u : Topology). AreParts u q) (sym kept.same_run.topology) kept.parts

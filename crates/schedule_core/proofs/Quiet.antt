@@ -1,17 +1,25 @@
 -- What the coordinator's steps do to the fates and to the number of commits.
-use Rattle.std.proofs.Common.{◌≡◌, ◌⊎◌, ℕ, zero, suc, ◌+◌, Bool, true, false, cond, List, [], ◌∷◌, ◌++◌, map, filter, Option, None, Some, refl, sym, ap, ◌∙◌, append-nil, inl, inr}
+use Rattle.std.proofs.Common.{◌≡◌, ℕ, zero, suc, ◌+◌, Bool, true, false, cond, List, [], ◌∷◌, ◌++◌, map, filter, cons_option, Option, None, Some, refl, sym, ap, ◌∙◌, append-nil, length, subst, length-append}
 use Rattle.std.specs.Prelude.{slice_get}
+use Rattle.std.proofs.lemmas.List.{map-append}
+use Rattle.std.proofs.lemmas.List.Elements.{filter-append}
 use Rattle.acker_core.specs.declared.verdict.Verdict.{Verdict}
 use Rattle.acker_core.specs.declared.verdict.Verdict.TheVariants.{Complete, Fails}
 use Rattle.attempt_fates.specs.declared.fates.Attempt.{Attempt}
+use Rattle.attempt_fates.specs.declared.fates.End.{End}
 use Rattle.attempt_fates.specs.declared.fates.End.TheVariants as end
+use Rattle.attempt_fates.specs.Fates.{committed, committed_txids, is_committed}
+use Rattle.batch_commits.specs.Standing.{failed_commits}
+use Rattle.commit_order.specs.Offices.{AddsSome}
 use Rattle.commit_turns.specs.declared.wait.Wait.{Wait}
 use Rattle.commit_turns.specs.Desks.{Desk, Progress, ended_at, is_late, still, timed_of}
+use Rattle.commit_turns.specs.Kept.{is_failed_commit}
 use Rattle.commit_turns.specs.Turns.{and_then, complete_timed, end_timed, has_no_tick, heard, is_closed, one_tick, passed, ticked, turned, turned_by}
 use Rattle.event_engine.proofs.GoesLemmas.{outcomes-append}
 use Rattle.event_worlds.proofs.Committed.{turned-committed}
-use Rattle.event_worlds.specs.Worlds.{World, delivered, outcomes_of, turn_past, turn_step}
+use Rattle.event_worlds.specs.Worlds.{World, delivered, outcome_by, outcomes_of, turn_past, turn_step}
 use Rattle.state_parts.specs.declared.answer.CommitOutcome.{CommitOutcome}
+use Rattle.state_parts.specs.declared.answer.CommitOutcome.TheVariants.{Done, Failed}
 use Rattle.topology_plan.specs.Topology.{Topology}
 use Rattle.tree_model.specs.declared.messages.AckMsg.{AckMsg}
 use Rattle.tree_model.specs.declared.messages.Parcel.{Parcel}
@@ -20,6 +28,49 @@ use Rattle.trident_batches.specs.Batches.{Cut}
 
 none_in_both : (xs ys : List Attempt) → outcomes_of xs ≡ [] → outcomes_of ys ≡ [] → outcomes_of (xs ++ ys) ≡ []
 none_in_both xs ys one two = outcomes-append xs ys ∙ ap (λ (hs : List CommitOutcome). hs ++ outcomes_of ys) one ∙ two
+
+-- where no outcome of a commit is told, none is told to have failed and none to be done
+pub none_failed_of : (xs : List Attempt) → outcomes_of xs ≡ [] → failed_commits xs ≡ 0
+none_failed_of [] none = refl
+none_failed_of (x ∷ xs) none = at x.end none
+  where
+    at : (e : End) → cons_option (outcome_by e) (outcomes_of xs) ≡ [] → length (cond (is_failed_commit e) (x ∷ filter (λ (a : Attempt). is_failed_commit a.end) xs) (filter (λ (a : Attempt). is_failed_commit a.end) xs)) ≡ 0
+    at (end.Committed list) told = absurd (let e : Done ∷ outcomes_of xs ≡ [] = told in cc)
+    at (end.Failed path) told = none_failed_of xs told
+    at end.TimedOut told = none_failed_of xs told
+    at (end.Coincided list) told = none_failed_of xs told
+    at (end.CommitFailed component part before after) told = absurd (let e : Failed component part before after ∷ outcomes_of xs ≡ [] = told in cc)
+
+none_done_of : (xs : List Attempt) → outcomes_of xs ≡ [] → committed xs ≡ []
+none_done_of [] none = refl
+none_done_of (x ∷ xs) none = at x.end none
+  where
+    at : (e : End) → cons_option (outcome_by e) (outcomes_of xs) ≡ [] → cond (is_committed e) (x ∷ committed xs) (committed xs) ≡ []
+    at (end.Committed list) told = absurd (let e : Done ∷ outcomes_of xs ≡ [] = told in cc)
+    at (end.Failed path) told = none_done_of xs told
+    at end.TimedOut told = none_done_of xs told
+    at (end.Coincided list) told = none_done_of xs told
+    at (end.CommitFailed component part before after) told = absurd (let e : Failed component part before after ∷ outcomes_of xs ≡ [] = told in cc)
+
+-- the commits of attempts that follow others
+pub commits_append : (xs ys : List Attempt) → length (committed_txids (xs ++ ys)) ≡ length (committed_txids xs) + length (committed_txids ys)
+commits_append xs ys =
+    ap (λ (as : List Attempt). length (map (λ (a : Attempt). a.root.txid) as)) (filter-append (λ (a : Attempt). is_committed a.end) xs ys)
+    ∙ ap length (map-append (λ (a : Attempt). a.root.txid) (committed xs) (committed ys))
+    ∙ length-append (committed_txids xs) (committed_txids ys)
+
+pub none_commits : (xs : List Attempt) → outcomes_of xs ≡ [] → length (committed_txids xs) ≡ 0
+none_commits xs none = ap (λ (as : List Attempt). length (map (λ (a : Attempt). a.root.txid) as)) (none_done_of xs none)
+
+-- the first of attempts that tell of no commit tell of none
+first_none : (xs ys : List CommitOutcome) → xs ++ ys ≡ [] → xs ≡ []
+first_none [] ys none = refl
+first_none (x ∷ xs) ys none = absurd (let e : x ∷ (xs ++ ys) ≡ [] = none in cc)
+
+pub some_none : (ended old new : List Attempt) → outcomes_of ended ≡ [] → (some : AddsSome ended old new) → outcomes_of some.done ≡ []
+some_none ended old new none some =
+    first_none (outcomes_of some.done) (outcomes_of some.rest)
+    (sym (outcomes-append some.done some.rest) ∙ sym (ap outcomes_of some.are_first) ∙ none)
 
 none_late : (cut : Cut) (tick : ℕ) (ws : List Wait) → outcomes_of (map (ended_at cut tick end.TimedOut) ws) ≡ []
 none_late cut tick [] = refl
@@ -53,7 +104,7 @@ module _ (t : Topology) (cut : Cut) where
   none_turned_by (Some txid) p none = none
 
   -- the attempts that end in a turn tell of no commit
-  none_turned : (verdict : Option Verdict) (ticks : ℕ) (d : Desk) → outcomes_of (turned t cut verdict ticks d).ended ≡ []
+  pub none_turned : (verdict : Option Verdict) (ticks : ℕ) (d : Desk) → outcomes_of (turned t cut verdict ticks d).ended ≡ []
   none_turned verdict ticks d =
       let first = heard t cut verdict d in
       none_turned_by (passed t cut ticks first).desk.exhausted (passed t cut ticks first)
@@ -63,7 +114,6 @@ module _ (t : Topology) (cut : Cut) where
   pub record IsQuiet (w v : World) : Type 0 where
     pub more : List Attempt
     pub added : v.fates ≡ w.fates ++ more
-    pub made : (more ≡ []) ⊎ ((verdict : Option Verdict) × (ticks : ℕ) × (more ≡ (turned t cut verdict ticks w.desk).ended))
     pub quiet : outcomes_of more ≡ []
     pub committed : v.desk.committed ≡ w.desk.committed
 
@@ -71,7 +121,6 @@ module _ (t : Topology) (cut : Cut) where
   quiet_still w v fates desk = record {
     more = [];
     added = fates ∙ sym (append-nil w.fates);
-    made = inl refl;
     quiet = refl;
     committed = ap (λ (d : Desk). d.committed) desk;
   }
@@ -85,7 +134,6 @@ module _ (t : Topology) (cut : Cut) where
   quiet_past ids w [] = record {
     more = (turned t cut (slice_get w.verdicts 0) w.unheard w.desk).ended;
     added = refl;
-    made = inr (slice_get w.verdicts 0, w.unheard, refl);
     quiet = none_turned (slice_get w.verdicts 0) w.unheard w.desk;
     committed = turned-committed t cut (slice_get w.verdicts 0) w.unheard w.desk;
   }
@@ -100,7 +148,6 @@ module _ (t : Topology) (cut : Cut) where
   quiet_same w v x same quiet = record {
     more = quiet.more;
     added = ap (λ (y : World). y.fates) same ∙ quiet.added;
-    made = quiet.made;
     quiet = quiet.quiet;
     committed = ap (λ (y : World). y.desk.committed) same ∙ quiet.committed;
   }

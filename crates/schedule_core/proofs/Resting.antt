@@ -3,6 +3,7 @@ use Rattle.std.proofs.Common.{◌≡◌, ℕ, List, ◌++◌, map, refl, sym, ap
 use Rattle.std.specs.Prelude.{Err, Ok, OnErr, Result, replicate}
 use Rattle.std.specs.List.{range_with_len}
 use Rattle.std.specs.Result.{IsErrAnd}
+use Rattle.attempt_fates.specs.declared.fates.Attempt.{Attempt}
 use Rattle.bolt_ops.specs.RowOp.{Custom}
 use Rattle.commit_order.specs.Orders.{desk_of}
 use Rattle.event_engine.proofs.GoesLemmas.{goes-then}
@@ -10,10 +11,10 @@ use Rattle.event_engine.specs.declared.engine.Engine.{Engine}
 use Rattle.event_engine.specs.Engines.{Goes, IsReady, IsStill, cut_in, has_ended, topology_in}
 use Rattle.event_worlds.specs.Rounds.{round_with}
 use Rattle.event_worlds.specs.Worlds.{Step, coordinator_steps, of_acker, of_task, of_tick}
-use Rattle.schedule_core.proofs.Drives.{breaks-then, drives-still, drives-then}
+use Rattle.schedule_core.proofs.Drives.{breaks-then, drives-still, drives-then, wants-then}
 use Rattle.schedule_core.specs.Laws.{Laws}
 use Rattle.schedule_core.specs.Rounding.{closing_steps, opening_steps}
-use Rattle.schedule_core.specs.Driving.{Breaks, Drives, IsAtRest, IsOfSameRun}
+use Rattle.schedule_core.specs.Driving.{Breaks, Drives, IsAtRest, IsOfSameRun, WantsMemory}
 use Rattle.schedule_core.specs.Schedules.{steps_of}
 use Rattle.schedule_reader.specs.declared.event.Event.{Event}
 use Rattle.state_parts.specs.declared.parts.StatePart.{StatePart}
@@ -83,12 +84,19 @@ module _ {I S : Type 0} {g : Ghosts I} (tells : I → (ℕ → ℕ) → ℕ → 
       subst (λ (u : Topology). Drives tells holds count u custom (cut_in old) (steps u) mid new p q) same.topology
       (subst (λ (k : Cut). Drives tells holds count (topology_in mid) custom k (steps (topology_in mid)) mid new p q) same.cut own)
 
-  pub breaks_there : (steps : Topology → List Step) (old mid new : Engine I g) (p q : List (StatePart S)) → IsOfSameRun old mid
-      → Breaks tells holds count (topology_in mid) custom (cut_in mid) (steps (topology_in mid)) mid new p q
-      → Breaks tells holds count (topology_in old) custom (cut_in old) (steps (topology_in old)) mid new p q
-  breaks_there steps old mid new p q same own =
-      subst (λ (u : Topology). Breaks tells holds count u custom (cut_in old) (steps u) mid new p q) same.topology
-      (subst (λ (k : Cut). Breaks tells holds count (topology_in mid) custom k (steps (topology_in mid)) mid new p q) same.cut own)
+  pub breaks_there : (steps : Topology → List Step) (key : List ℕ) (old mid new : Engine I g) (p q : List (StatePart S)) → IsOfSameRun old mid
+      → Breaks tells holds count (topology_in mid) custom (cut_in mid) (steps (topology_in mid)) key mid new p q
+      → Breaks tells holds count (topology_in old) custom (cut_in old) (steps (topology_in old)) key mid new p q
+  breaks_there steps key old mid new p q same own =
+      subst (λ (u : Topology). Breaks tells holds count u custom (cut_in old) (steps u) key mid new p q) same.topology
+      (subst (λ (k : Cut). Breaks tells holds count (topology_in mid) custom k (steps (topology_in mid)) key mid new p q) same.cut own)
+
+  pub wants_there : (old mid : Engine I g) (fates : List Attempt) (p q : List (StatePart S)) → IsOfSameRun old mid
+      → WantsMemory tells holds count (topology_in mid) custom (cut_in mid) mid fates p q
+      → WantsMemory tells holds count (topology_in old) custom (cut_in old) mid fates p q
+  wants_there old mid fates p q same own =
+      subst (λ (u : Topology). WantsMemory tells holds count u custom (cut_in old) mid fates p q) same.topology
+      (subst (λ (k : Cut). WantsMemory tells holds count (topology_in mid) custom k mid fates p q) same.cut own)
 
   -- an event's steps, where the event, the engine and the parts are told by equations
   pub drives_as : (t : Topology) (cut : Cut) (event known : Event) (old new end : Engine I g) (p q r : List (StatePart S)) → event ≡ known → end ≡ new → r ≡ q
@@ -100,11 +108,11 @@ module _ {I S : Type 0} {g : Ghosts I} (tells : I → (ℕ → ℕ) → ℕ → 
       (subst (λ (x : List (StatePart S)). Drives tells holds count t custom cut (steps_of t known) old new p x) (sym of_parts) drives))
 
   -- the same of a bad cell
-  pub breaks_as : (t : Topology) (cut : Cut) (event known : Event) (old new : Engine I g) (p q : List (StatePart S)) → event ≡ known
-      → Breaks tells holds count t custom cut (steps_of t known) old new p q
-      → Breaks tells holds count t custom cut (steps_of t event) old new p q
-  breaks_as t cut event known old new p q of_event breaks =
-      subst (λ (k : Event). Breaks tells holds count t custom cut (steps_of t k) old new p q) (sym of_event) breaks
+  pub breaks_as : (t : Topology) (cut : Cut) (event known : Event) (key : List ℕ) (old new : Engine I g) (p q : List (StatePart S)) → event ≡ known
+      → Breaks tells holds count t custom cut (steps_of t known) key old new p q
+      → Breaks tells holds count t custom cut (steps_of t event) key old new p q
+  breaks_as t cut event known key old new p q of_event breaks =
+      subst (λ (k : Event). Breaks tells holds count t custom cut (steps_of t k) key old new p q) (sym of_event) breaks
 
   -- steps that leave the coordinator alone, and then others
   module _ (first next : Topology → List Step) (a b d : Engine I g) (p q : List (StatePart S)) (laws : Laws count (topology_in a) custom (cut_in a)) (same : IsOfSameRun a b)
@@ -117,12 +125,21 @@ module _ {I S : Type 0} {g : Ghosts I} (tells : I → (ℕ → ℕ) → ℕ → 
         (drives_there next a b d p q same last)
 
     -- or up to a bad cell
-    pub breaks_on : Breaks tells holds count (topology_in b) custom (cut_in b) (next (topology_in b)) b d p q
-        → Breaks tells holds count (topology_in a) custom (cut_in a) (first (topology_in a) ++ next (topology_in a)) a d p q
-    breaks_on last =
-        breaks-then tells holds count (topology_in a) custom (cut_in a) laws (first (topology_in a)) (next (topology_in a)) a b d p p q
+    pub breaks_on : (key : List ℕ) → Breaks tells holds count (topology_in b) custom (cut_in b) (next (topology_in b)) key b d p q
+        → Breaks tells holds count (topology_in a) custom (cut_in a) (first (topology_in a) ++ next (topology_in a)) key a d p q
+    breaks_on key last =
+        breaks-then tells holds count (topology_in a) custom (cut_in a) laws (first (topology_in a)) (next (topology_in a)) key a b d p p q
         (drives-still tells holds count (topology_in a) custom (cut_in a) laws (first (topology_in a)) a b p goes still)
-        (breaks_there next a b d p q same last)
+        (breaks_there next key a b d p q same last)
+
+  -- or up to where memory was wanted
+  pub wants_on : (first : Topology → List Step) (a b : Engine I g) (fates : List Attempt) (p q : List (StatePart S)) → Laws count (topology_in a) custom (cut_in a) → IsOfSameRun a b
+      → Goes tells (topology_in a) custom (cut_in a) (first (topology_in a)) a b → IsStill a b → WantsMemory tells holds count (topology_in b) custom (cut_in b) b fates p q
+      → WantsMemory tells holds count (topology_in a) custom (cut_in a) a fates p q
+  wants_on first a b fates p q laws same goes still last =
+      wants-then tells holds count (topology_in a) custom (cut_in a) laws (first (topology_in a)) a b fates p p q
+      (drives-still tells holds count (topology_in a) custom (cut_in a) laws (first (topology_in a)) a b p goes still)
+      (wants_there a b fates p q same last)
 
 -- the steps of both parts of a round are those of the round
 pub both_parts : (t : Topology) (n : ℕ) → opening_steps t ++ closing_steps n ≡ round_with t n

@@ -14,13 +14,14 @@ use Rattle.event_engine.specs.Starts.{IsStarted}
 use Rattle.event_worlds.specs.Accounted.{IsInput}
 use Rattle.event_worlds.specs.Rounds.{round_with}
 use Rattle.event_worlds.specs.Worlds.{Step}
+use Rattle.schedule_core.proofs.Drives.{wants-still}
 use Rattle.schedule_core.proofs.Ending.{Ends, ends, not_begun, ran-from, some_size}
-use Rattle.schedule_core.proofs.Looping.{Driven, driven-breaks, driven-none, driven-then}
-use Rattle.schedule_core.proofs.Resting.{both_parts, breaks_on, drives_on, same_run_then}
+use Rattle.schedule_core.proofs.Looping.{Driven, driven-breaks, driven-none, driven-then, driven-wants}
+use Rattle.schedule_core.proofs.Resting.{both_parts, breaks_on, drives_on, same_run_then, wants_on}
 use Rattle.schedule_core.proofs.Rounding.{allows-between, asked-more, asked-none, has-rounds, one-round-more}
 use Rattle.schedule_core.specs.declared.ended.Ended.{Ended}
 use Rattle.schedule_core.specs.declared.ended.Ended.TheVariants as ending
-use Rattle.schedule_core.specs.Driving.{AreKept, Breaks, Drives, IsAtRest, IsOfSameRun}
+use Rattle.schedule_core.specs.Driving.{AreKept, Breaks, Drives, IsAtRest, IsOfSameRun, WantsMemory}
 use Rattle.schedule_core.specs.Laws.{Laws, WorldLaws}
 use Rattle.schedule_core.specs.Rounding.{Asked, Rounded, closing_steps, end_by, opening_steps, rounds_with}
 use Rattle.schedule_core.specs.Runs.{RoundsCome, ended, ticks_between}
@@ -54,11 +55,11 @@ rounds-come handed ticking told holds count t custom cut answers before after an
     }
 
 -- memory was wanted before anything was done
-pub rounds-not-begun : {S T : Type 0} (handed : T → ℕ) (ticking : T → List ℕ → Type 0) (told : (ℕ → ℕ → ℕ) → Type 0) (holds : S → CellMap → Type 0) (count : S → ℕ) (t : Topology) (custom : Custom) (cut : Cut) (source : T) (fates : List Attempt) (parts : List (StatePart S))
-    → fates ≡ [] → RoundsCome told (ticking source) holds count t custom cut (handed source) (handed source) (Err stop.Memory) fates parts parts
-rounds-not-begun handed ticking told holds count t custom cut source fates parts none =
+pub rounds-not-begun : {S T : Type 0} (handed : T → ℕ) (ticking : T → List ℕ → Type 0) (told : (ℕ → ℕ → ℕ) → Type 0) (holds : S → CellMap → Type 0) (count : S → ℕ) (t : Topology) (custom : Custom) (cut : Cut) (laws : WorldLaws holds count t custom cut) (source : T) (fates : List Attempt) (parts : List (StatePart S))
+    → IsInput t cut → fates ≡ [] → RoundsCome told (ticking source) holds count t custom cut (handed source) (handed source) (Err stop.Memory) fates parts parts
+rounds-not-begun handed ticking told holds count t custom cut laws source fates parts input none =
     rounds-come handed ticking told holds count t custom cut [] source source (Err stop.Memory) (Err stop.Memory) fates parts parts (asked-none handed ticking source) refl (record {
-      comes = not_begun holds count t custom cut (rounds_with t []) (ticks_between (handed source) (handed source)) fates parts none;
+      comes = not_begun holds count t custom cut laws (rounds_with t []) (ticks_between (handed source) (handed source)) fates parts (some_size t cut input) none;
       told = λ words are ok. absurd ok;
       drawn = λ words are ok. absurd ok;
     })
@@ -88,6 +89,11 @@ short_ok : (X : Type 0) (done : Result (Unit {0}) CommitFault) (error : CommitFa
 short_ok X (Ok ok) error exits = absurd exits
 short_ok X (Err e) error exits = tt
 
+-- want of memory is no bad cell
+no_key : (done : Result (Unit {0}) CommitFault) (error : CommitFault) (key : List ℕ) → IsErrAnd done (λ e. e ≡ error) → error ≡ fault.Memory → done ≡ Err (fault.BadCell key) → ⊥
+no_key (Ok ok) error key exits is bad = absurd exits
+no_key (Err e) error key exits is bad = let a : e ≡ error = exits in cc
+
 module _ {I S T : Type 0} {g : Ghosts I} (tells : I → (ℕ → ℕ) → ℕ → Type 0) (holds : S → CellMap → Type 0) (count : S → ℕ) (handed : T → ℕ) (ticking : T → List ℕ → Type 0) (custom : Custom) where
   -- rounds were carried out with these answers, and the next may come
   pub record Turning (old mid : Engine I g) (p q : List (StatePart S)) (before now : T) : Type 0 where
@@ -104,6 +110,18 @@ module _ {I S T : Type 0} {g : Ghosts I} (tells : I → (ℕ → ℕ) → ℕ �
     }
 
     module _ (mid : Engine I g) (q : List (StatePart S)) (now : T) (turning : Turning old mid p q before now) where
+      -- memory was wanted before the source was asked
+      pub turned-short : (done : Result (Unit {0}) CommitFault) (error : CommitFault) (b : Engine I g) → IsErrAnd done (λ e. e ≡ error) → error ≡ fault.Memory → IsStill mid b → Rounded tells holds count handed ticking (topology_in old) custom (cut_in old) done old b p q before now
+      turned-short done error b exits is still = record {
+        answers = turning.answers;
+        asked = turning.asked;
+        drives = short_ok _ done error exits;
+        bad = λ key bad. absurd (no_key done error key exits is bad);
+        short = λ met.
+            driven-wants tells holds count custom old p (laws (topology_in old) (cut_in old)) (rounds_with (topology_in old) turning.answers) mid q turning.driven b.fates q
+            (wants-still tells holds count (topology_in mid) custom (cut_in mid) (laws (topology_in mid) (cut_in mid)) mid b.fates q still.fates);
+      }
+
       -- a round was opened, and the source was asked
       module _ (b : Engine I g) (n : ℕ) (later : T) (same : IsOfSameRun mid b) (goes : Goes tells (topology_in mid) custom (cut_in mid) (opening_steps (topology_in mid)) mid b) (still : IsStill mid b)
           (counted : handed later ≡ handed_on (handed now) n) (first : (xs : List ℕ) → ticking now xs → n ≡ first_answer xs) (rest : (xs : List ℕ) → ticking now xs → ticking later (drop 1 xs)) where
@@ -122,23 +140,27 @@ module _ {I S T : Type 0} {g : Ghosts I} (tells : I → (ℕ → ℕ) → ℕ �
 
           -- or it met a fault
           pub turned-bad : (done : Result (Unit {0}) CommitFault) (error : CommitFault) → IsErrAnd done (λ e. e ≡ error)
-              → ((key : List ℕ) → done ≡ Err (fault.BadCell key) → Breaks tells holds count (topology_in b) custom (cut_in b) (closing_steps n) b c q r)
+              → ((key : List ℕ) → done ≡ Err (fault.BadCell key) → Breaks tells holds count (topology_in b) custom (cut_in b) (closing_steps n) key b c q r)
+              → (done ≡ Err fault.Memory → WantsMemory tells holds count (topology_in b) custom (cut_in b) b c.fates q r)
               → Rounded tells holds count handed ticking (topology_in old) custom (cut_in old) done old c p r before later
-          turned-bad done error exits bad = record {
+          turned-bad done error exits bad short = record {
             answers = turning.answers ++ n ∷ [];
             asked = asked-more handed ticking turning.answers n before now later turning.asked counted first rest;
             drives = short_ok _ done error exits;
             bad = λ key is.
-                driven-breaks tells holds count custom old p (laws (topology_in old) (cut_in old)) (rounds_with (topology_in old) turning.answers) mid q turning.driven (rounds_with (topology_in old) (turning.answers ++ n ∷ [])) [] (λ (u : Topology). round_with u n) c r
+                driven-breaks tells holds count custom old p (laws (topology_in old) (cut_in old)) (rounds_with (topology_in old) turning.answers) mid q turning.driven (rounds_with (topology_in old) (turning.answers ++ n ∷ [])) [] (λ (u : Topology). round_with u n) key c r
                 (one-round-more (topology_in old) turning.answers n ∙ sym (append-nil (rounds_with (topology_in old) turning.answers ++ round_with (topology_in old) n)))
-                (subst (λ (steps : List Step). Breaks tells holds count (topology_in mid) custom (cut_in mid) steps mid c q r) (both_parts (topology_in mid) n)
-                (breaks_on tells holds count custom opening_steps (λ (u : Topology). closing_steps n) mid b c q r (laws (topology_in mid) (cut_in mid)) same goes still (bad key is)));
+                (subst (λ (steps : List Step). Breaks tells holds count (topology_in mid) custom (cut_in mid) steps key mid c q r) (both_parts (topology_in mid) n)
+                (breaks_on tells holds count custom opening_steps (λ (u : Topology). closing_steps n) mid b c q r (laws (topology_in mid) (cut_in mid)) same goes still key (bad key is)));
+            short = λ is.
+                driven-wants tells holds count custom old p (laws (topology_in old) (cut_in old)) (rounds_with (topology_in old) turning.answers) mid q turning.driven c.fates r
+                (wants_on tells holds count custom opening_steps mid b c.fates q r (laws (topology_in mid) (cut_in mid)) same goes still (short is));
           }
 
 -- ---- the whole
 
 module _ {I S T : Type 0} {g : Ghosts I} (told : (ℕ → ℕ → ℕ) → Type 0) (tells : I → (ℕ → ℕ) → ℕ → Type 0) (holds : S → CellMap → Type 0) (count : S → ℕ) (handed : T → ℕ) (ticking : T → List ℕ → Type 0) (t : Topology) (custom : Custom) (cut : Cut)
-    (laws : WorldLaws holds t custom cut) (input : IsInput t cut) (keeps : IsCustom custom) where
+    (laws : WorldLaws holds count t custom cut) (input : IsInput t cut) (keeps : IsCustom custom) where
   -- what a run by rounds comes to whose steps came to this
   pub rounds-end : (done : Result (Unit {0}) CommitFault) (e0 e : Engine I g) (was is : List (StatePart S)) (before after : T) (answer : Result (Unit {0}) Stop) (end : Result Ended Stop) (fates : List Attempt)
       → IsReady t cut e0 → IsStarted told tells t e0 → AreParts t was → OnOk done (IsOfSameRun e0 e)
@@ -149,6 +171,6 @@ module _ {I S T : Type 0} {g : Ghosts I} (told : (ℕ → ℕ → ℕ) → Type 
   rounds-end done e0 e was is before after answer end fates ready started planned same rounded once kept end_is fates_are answer_is =
       let some = some_size t cut input in
       let ticks : ℕ = ticks_between (handed before) (handed after) in
-      let ran = ran-from told tells holds count t custom cut laws input keeps some (λ (u : Topology). rounds_with u rounded.answers) ticks done e0 e was is ready started planned (allows-between t rounded.answers (handed before) (handed after) rounded.asked.handed_out) same rounded.drives rounded.bad once kept in
+      let ran = ran-from told tells holds count t custom cut laws input keeps some (λ (u : Topology). rounds_with u rounded.answers) ticks done e0 e was is ready started planned (allows-between t rounded.answers (handed before) (handed after) rounded.asked.handed_out) same rounded.drives rounded.bad rounded.short once kept in
       let ends_so = ends told tells holds count t custom cut laws input keeps some (rounds_with t rounded.answers) ticks done e0 e was is end fates ran end_is fates_are in
       rounds-come handed ticking told holds count t custom cut rounded.answers before after answer end fates was is rounded.asked answer_is ends_so

@@ -34,6 +34,7 @@ pub record Laws {S : Type 0} (count : S → ℕ) (t : Topology) (custom : Custom
   pub counts_then : (xs ys : List Attempt) (a b c : List (StatePart S)) → plans_of b ≡ plans_of a
       → FailuresAreCounted count xs a b → FailuresAreCounted count ys b c
       → FailuresAreCounted count (xs ++ ys) a c
+  pub none_but_last : (parts : List (StatePart S)) → AllButLastAreCounted count [] parts parts
 
 -- what the coordinator's steps rest on
 pub record CommitLaws {S : Type 0} (holds : S → CellMap → Type 0) (count : S → ℕ) (t : Topology)
@@ -59,6 +60,8 @@ pub record CommitLaws {S : Type 0} (holds : S → CellMap → Type 0) (count : S
   pub last_counts : (xs : List Attempt) (a b c : List (StatePart S))
       → FailuresAreCounted count xs a b → FailOnceAtMost count b c
       → AllButLastAreCounted count xs a c
+  pub all_told : (xs : List Attempt) (a b : List (StatePart S)) → FailuresAreCounted count xs a b
+      → AllButLastAreCounted count xs a b
   pub outcome : (how : CommitOutcome) (old new : List (StatePart S)) → AreParts t old
       → TellsFailedPart count old new how → IsOutcome t how
   pub settled : (words : ℕ → ℕ → ℕ) (k : Known) → IsInput t cut
@@ -80,7 +83,7 @@ pub record WorldLaws {S : Type 0} (holds : S → CellMap → Type 0) (count : S 
       → AreCaused t custom cut k.world.desk.tick words k.world.fates
   pub begin : (parts : List (StatePart S)) → 0 < cut.size → All (IsEmpty holds) parts
       → PartsStand holds t custom cut 0 parts
-  pub none_counted : (parts : List (StatePart S)) → FailuresAreCounted count [] parts parts
+  pub none_but_last : (parts : List (StatePart S)) → AllButLastAreCounted count [] parts parts
   pub counts_last : (xs ys : List Attempt) (a b c : List (StatePart S)) → plans_of b ≡ plans_of a
       → FailuresAreCounted count xs a b → AllButLastAreCounted count ys b c
       → AllButLastAreCounted count (xs ++ ys) a c

@@ -10,6 +10,6 @@ mod plan;
 mod scan;
 mod table;
 
-pub use cell_format::{Cell, CellFault, decode_cell, encode_cell};
+pub use cell_format::{Cell, CellFault, commits_move_parts_on, decode_cell, encode_cell};
 pub use fault::PartFault;
 pub use part::Part;

@@ -67,6 +67,6 @@ pub record AreBack {S M : Type 0} (tells : S → CellMap → Type 0) (count : S 
       → holds old c p cells → holds new c p cells
   pub stays_made : (c p : ℕ) → made old c p → made new c p
   pub made_before : (c p : ℕ) → made new c p → made old c p
-  pub count : faults new ≡ raised_by (faults old) (faults_of count parts)
+  pub counted : faults new ≡ raised_by (faults old) (faults_of count parts)
   pub never_falls : faults old ≤ faults new
   pub same_count : faults_of count parts ≡ 0 → faults new ≡ faults old

@@ -1,5 +1,4 @@
 pub mod Calls
-pub mod Faults
 pub mod Pieces
 pub mod Files
 pub mod Place

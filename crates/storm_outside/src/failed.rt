@@ -1,18 +1,6 @@
-ghost use Rattle.std.specs.Prelude.{Some, codes};
-
-use std::error::Error;
-use std::fmt;
+use thiserror::Error;
 
 /// A call to the outside failed.
-#[derive(Clone, Copy, Debug, PartialEq, Eq)]
+#[derive(Clone, Copy, Debug, PartialEq, Eq, Error)]
+#[error("the outside failed")]
 pub struct Failed;
-
-impl fmt::Display for Failed {
-    ghost output = { λ _. Some (codes "the outside failed") };
-
-    fn fmt<W: fmt::Write>(&self, f: &mut fmt::Formatter<W>) -> fmt::Result {
-        write!(f, "the outside failed")
-    }
-}
-
-impl Error for Failed {}

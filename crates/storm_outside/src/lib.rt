@@ -1,4 +1,5 @@
-//! The world outside: files by name and an output, as traits, with objects in memory and real ones.
+//! The world outside, as traits, with objects in memory and real ones: files by name and an output,
+//! and passed on the stores, the ids and the ticks.
 #![tactic(auto)]
 
 mod calls;
@@ -16,6 +17,10 @@ pub use memory_sink::MemSink;
 pub use shelf::{InFault, Shelf, read_all};
 pub use sink::{Sink, write_all};
 pub use storm_ids::{ChaChaIds, ChaChaMaker, IdMaker, Ids, ScriptIds, ScriptSource, Words};
+pub use storm_stores::{
+    CallKind, CellStore, FailAt, MemMaker, MemStore, StoreFault, StoreMaker, puts_change_one_key,
+};
+pub use storm_ticks::{ClockTicks, ScriptTicks, Ticks, handed_out_is_the_sum_of_answers, ticks_at};
 pub use system::{FileShelf, OutSink};
 
 #[cfg(test)]

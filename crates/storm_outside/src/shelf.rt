@@ -1,14 +1,12 @@
 ghost use Rattle.std.specs.Prelude.{◌≡◌, ℕ, ◌+◌, ◌-◌, ◌%◌, ◌^◌, ◌<◌, ◌≤◌, List, length, take, drop, Option, Some, IsOk, IfOk, OnOk, OnErr, IfSome, IsNone, IsErrOf};
 ghost use Rattle.storm_values.specs.Counts.{Rose};
-ghost use Rattle.storm_outside.specs.Faults.{in_fault_text};
 ghost use Rattle.storm_outside.specs.Pieces.{GivesFirst, HasGiven};
 ghost use Rattle.storm_outside.specs.declared.shelf.InFault.TheVariants as fault;
 
 use crate::failed::Failed;
 use std::alloc::Global;
-use std::error::Error;
-use std::fmt;
 use storm_values::{Bytes, Memory};
+use thiserror::Error;
 
 /// Files by name, of which the one that was fetched last is read.
 pub trait Shelf {
@@ -74,24 +72,13 @@ pub trait Shelf {
 }
 
 /// Why a file was not read.
-#[derive(Debug, PartialEq, Eq, Drop)]
+#[derive(Debug, PartialEq, Eq, Drop, Error)]
 pub enum InFault {
+    #[error("the outside failed")]
     Failed,
+    #[error("out of memory")]
     Memory,
 }
-
-impl fmt::Display for InFault {
-    ghost output = { λ fault. Some (in_fault_text fault) };
-
-    fn fmt<W: fmt::Write>(&self, f: &mut fmt::Formatter<W>) -> fmt::Result {
-        match self {
-            InFault::Failed => write!(f, "the outside failed"),
-            InFault::Memory => write!(f, "out of memory"),
-        }
-    }
-}
-
-impl Error for InFault {}
 
 impl From<Failed> for InFault {
     ghost from_gives = { λ _ e. e ≡ fault.Failed };

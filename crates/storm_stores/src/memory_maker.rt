@@ -168,7 +168,8 @@ impl StoreMaker for MemMaker {
         requires { HasMade self.old component part }
         ensures ok { ChangesPart self.old.slots self.new.slots component part store true }
         ensures sum { self.new.faults ≡ min (self.old.faults + store.faults) (2 ^ 64 - 1) }
-        ensures count { ended self.new.faults ≡ raised_by (ended self.old.faults) (ended store.faults) }
+        ensures count { (let of_store = ended store.faults in
+            ended self.new.faults ≡ raised_by (ended self.old.faults) of_store) }
         ensures never_falls { ended self.old.faults ≤ ended self.new.faults }
         ensures same_count { ended store.faults ≡ 0 →
             ended self.new.faults ≡ ended self.old.faults }

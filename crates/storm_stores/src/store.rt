@@ -123,7 +123,8 @@ pub trait StoreMaker {
             holds self.old c p cells → holds self.new c p cells }
         ensures stays_made { (c p : ℕ) → has_made self.old c p → has_made self.new c p }
         ensures made_before { (c p : ℕ) → has_made self.new c p → has_made self.old c p }
-        ensures count { fault_count self.new ≡ raised_by (fault_count self.old) (Self.C.fault_count store) }
+        ensures count { (let of_store = Self.C.fault_count store in
+            fault_count self.new ≡ raised_by (fault_count self.old) of_store) }
         ensures never_falls { fault_count self.old ≤ fault_count self.new }
         ensures same_count { Self.C.fault_count store ≡ 0 →
             fault_count self.new ≡ fault_count self.old };

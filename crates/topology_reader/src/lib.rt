@@ -13,3 +13,6 @@ mod wiring;
 pub use laws::{cycles_are_paths, first_bytes_decide, plans_of_files_are_valid};
 pub use read::read_topology;
 pub use topology_form::TopoFault;
+pub use topology_plan::{
+    Body, Component, Fold, Grouping, Kind, Made, Op, Origin, Plan, StateSpec, Sub, Test,
+};

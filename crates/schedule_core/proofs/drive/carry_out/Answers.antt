@@ -1,7 +1,7 @@
 use Rattle.std.proofs.Common.{[], ◌∷◌}
 use Rattle.event_engine.specs.Engines.{cut_in, topology_in}
 use Rattle.event_worlds.specs.Worlds.{of_acker, of_task, of_tick}
-use Rattle.schedule_core.proofs.Drives.{drives-still}
+use Rattle.schedule_core.proofs.Drives.{drives-still, wants-still}
 use Rattle.schedule_core.proofs.Keeping.{kept-as, kept-none}
 use Rattle.schedule_core.proofs.Resting.{at_rest_after, at_rest_as, breaks_as, drives_as, handed_on}
 use Rattle.schedule_core.proofs.drive.carry_out.Goals as goal
@@ -11,15 +11,38 @@ pub returns-in_err-coordinate-in-Coord-clause-bad : goal.returns-in_err-coordina
 returns-in_err-coordinate-in-Coord-clause-bad g c = λ key is.
     let old = c.args.engine.now in
     let custom = g.O.RowOp.meaning c.args.custom.now in
-    breaks_as g.I.Ids.tells g.C.CellStore.tells g.C.CellStore.fault_count custom (topology_in old) (cut_in old) c.args.event _ old c.coordinate.new.engine c.args.parts.now c.coordinate.new.parts c.in-Coord.is
+    breaks_as g.I.Ids.tells g.C.CellStore.tells g.C.CellStore.fault_count custom (topology_in old) (cut_in old) c.args.event _ key old c.coordinate.new.engine c.args.parts.now c.coordinate.new.parts c.in-Coord.is
     (c.coordinate.ensures.bad custom key (handed_on c.from_residual-in_err-coordinate-in-Coord.result c.coordinate.result _ _ c.from_residual-in_err-coordinate-in-Coord.ensures.1 c.in_err-coordinate-in-Coord.was is))
 
 pub returns-in_err-rounds-in-Rounds-clause-bad : goal.returns-in_err-rounds-in-Rounds-clause-bad
 returns-in_err-rounds-in-Rounds-clause-bad g c = λ key is.
     let old = c.args.engine.now in
     let custom = g.O.RowOp.meaning c.args.custom.now in
-    breaks_as g.I.Ids.tells g.C.CellStore.tells g.C.CellStore.fault_count custom (topology_in old) (cut_in old) c.args.event _ old c.rounds.new.engine c.args.parts.now c.rounds.new.parts c.in-Rounds.is
+    breaks_as g.I.Ids.tells g.C.CellStore.tells g.C.CellStore.fault_count custom (topology_in old) (cut_in old) c.args.event _ key old c.rounds.new.engine c.args.parts.now c.rounds.new.parts c.in-Rounds.is
     (c.rounds.ensures.bad key (handed_on c.from_residual-in_err-rounds-in-Rounds.result c.rounds.result _ _ c.from_residual-in_err-rounds-in-Rounds.ensures.1 c.in_err-rounds-in-Rounds.was is))
+
+pub returns-in_err-coordinate-in-Coord-clause-short : goal.returns-in_err-coordinate-in-Coord-clause-short
+returns-in_err-coordinate-in-Coord-clause-short g c = λ is.
+    let custom = g.O.RowOp.meaning c.args.custom.now in
+    c.coordinate.ensures.short custom (handed_on c.from_residual-in_err-coordinate-in-Coord.result c.coordinate.result _ _ c.from_residual-in_err-coordinate-in-Coord.ensures.1 c.in_err-coordinate-in-Coord.was is)
+
+pub returns-in_err-rounds-in-Rounds-clause-short : goal.returns-in_err-rounds-in-Rounds-clause-short
+returns-in_err-rounds-in-Rounds-clause-short g c = λ is.
+    c.rounds.ensures.short (handed_on c.from_residual-in_err-rounds-in-Rounds.result c.rounds.result _ _ c.from_residual-in_err-rounds-in-Rounds.ensures.1 c.in_err-rounds-in-Rounds.was is)
+
+pub returns-in_err-task-in-Task-clause-short : goal.returns-in_err-task-in-Task-clause-short
+returns-in_err-task-in-Task-clause-short g c = λ is.
+    let old = c.args.engine.now in
+    let custom = g.O.RowOp.meaning c.args.custom.now in
+    let laws = c.laws_of_steps.ensures (topology_in old) custom (cut_in old) in
+    wants-still g.I.Ids.tells g.C.CellStore.tells g.C.CellStore.fault_count (topology_in old) custom (cut_in old) laws old c.task.new.self.fates c.args.parts.now c.task.ensures.still.fates
+
+pub returns-in_err-acker-in-Acker-clause-short : goal.returns-in_err-acker-in-Acker-clause-short
+returns-in_err-acker-in-Acker-clause-short g c = λ is.
+    let old = c.args.engine.now in
+    let custom = g.O.RowOp.meaning c.args.custom.now in
+    let laws = c.laws_of_steps.ensures (topology_in old) custom (cut_in old) in
+    wants-still g.I.Ids.tells g.C.CellStore.tells g.C.CellStore.fault_count (topology_in old) custom (cut_in old) laws old c.acker.new.self.fates c.args.parts.now c.acker.ensures.still.fates
 
 pub returns-in_err-task-in-Task-clause-kept : goal.returns-in_err-task-in-Task-clause-kept
 returns-in_err-task-in-Task-clause-kept g c = kept-none g.C.CellStore.tells c.args.parts.now

@@ -4,9 +4,9 @@ use Rattle.event_worlds.specs.Worlds.{Step}
 use Rattle.schedule_core.specs.Schedules.{all_steps, steps_of}
 use Rattle.schedule_core.proofs.Resting.{handed_on, on_err}
 use Rattle.schedule_core.proofs.Keeping.{kept-then}
-use Rattle.schedule_core.proofs.Looping.{driven-breaks, driven-none, driven-over, driven-then, fits_there, once_there, parts_here, steps_begin, steps_more_as}
+use Rattle.schedule_core.proofs.Looping.{driven-breaks, driven-none, driven-over, driven-then, driven-wants, fits_there, once_there, parts_here, steps_begin, steps_more_as}
 use Rattle.schedule_reader.specs.declared.event.Event.TheVariants.{Task}
-use Rattle.state_parts.specs.declared.answer.CommitFault.TheVariants.{BadCell}
+use Rattle.state_parts.specs.declared.answer.CommitFault.TheVariants.{BadCell, Memory}
 use Rattle.topology_plan.specs.Topology.{Topology}
 use Rattle.schedule_core.proofs.drive.carry_out_all.Goals as goal
 
@@ -62,8 +62,20 @@ returns-in_err-carry_out-clause-bad g c =
     let was = handed_on c.from_residual.result c.carry_out.result c.in_err-carry_out.field-0.0 (BadCell key) c.from_residual.ensures.1 c.in_err-carry_out.was is in
     let begun = steps_begin (steps_of t) c.args.events.now (c.loop-event.event-index + 1) in
     let more = steps_more_as (steps_of t) c.as_slice-event-items.result.now c.args.events.now c.loop-event.event-index (Task 0) c.as_slice-event-items.ensures c.loop-event-test.true in
-    driven-breaks g.I.Ids.tells g.C.CellStore.tells g.C.CellStore.fault_count custom old parts laws (all_steps t (take c.loop-event.event-index c.args.events.now)) c.loop-event.engine c.loop-event.parts c.loop-event.invariant (all_steps t c.args.events.now) begun.0 (λ (u : Topology). steps_of u (get_or c.as_slice-event-items.result.now c.loop-event.event-index (Task 0))) c.carry_out.new.engine c.carry_out.new.parts
+    driven-breaks g.I.Ids.tells g.C.CellStore.tells g.C.CellStore.fault_count custom old parts laws (all_steps t (take c.loop-event.event-index c.args.events.now)) c.loop-event.engine c.loop-event.parts c.loop-event.invariant (all_steps t c.args.events.now) begun.0 (λ (u : Topology). steps_of u (get_or c.as_slice-event-items.result.now c.loop-event.event-index (Task 0))) key c.carry_out.new.engine c.carry_out.new.parts
     (begun.1 ∙ ap (λ (zs : List Step). zs ++ begun.0) more) (c.carry_out.ensures.bad key was)
+
+pub returns-in_err-carry_out-clause-short : goal.returns-in_err-carry_out-clause-short
+returns-in_err-carry_out-clause-short g c =
+    let old = c.args.engine.now in
+    let parts = c.args.parts.now in
+    let t = topology_in old in
+    let custom = g.O.RowOp.meaning c.args.custom.now in
+    let laws = c.laws_of_steps.ensures t custom (cut_in old) in
+    λ is.
+    let was = handed_on c.from_residual.result c.carry_out.result c.in_err-carry_out.field-0.0 Memory c.from_residual.ensures.1 c.in_err-carry_out.was is in
+    driven-wants g.I.Ids.tells g.C.CellStore.tells g.C.CellStore.fault_count custom old parts laws (all_steps t (take c.loop-event.event-index c.args.events.now)) c.loop-event.engine c.loop-event.parts c.loop-event.invariant c.carry_out.new.engine.fates c.carry_out.new.parts
+    (c.carry_out.ensures.short was)
 
 pub returns-in_err-carry_out-clause-once : goal.returns-in_err-carry_out-clause-once
 returns-in_err-carry_out-clause-once g c =

@@ -3,8 +3,8 @@ use Rattle.event_engine.specs.Engines.{cut_in, topology_in}
 use Rattle.event_worlds.specs.Worlds.{Step, round_steps, rounds_steps}
 use Rattle.schedule_core.proofs.Resting.{handed_on, on_err}
 use Rattle.schedule_core.proofs.Keeping.{kept-then}
-use Rattle.schedule_core.proofs.Looping.{driven-breaks, driven-none, driven-over, driven-then, once_there, parts_here, rounds_begin, rounds_more}
-use Rattle.state_parts.specs.declared.answer.CommitFault.TheVariants.{BadCell}
+use Rattle.schedule_core.proofs.Looping.{driven-breaks, driven-none, driven-over, driven-then, driven-wants, once_there, parts_here, rounds_begin, rounds_more}
+use Rattle.state_parts.specs.declared.answer.CommitFault.TheVariants.{BadCell, Memory}
 use Rattle.schedule_core.proofs.drive.rounds.Goals as goal
 
 pub loop-done-init : goal.loop-done-init
@@ -55,8 +55,19 @@ returns-in_err-round-clause-bad g c =
     let was = handed_on c.from_residual.result c.round.result c.in_err-round.field-0.0 (BadCell key) c.from_residual.ensures.1 c.in_err-round.was is in
     let below : c.loop-done.done + 1 ≤ c.args.count = omega arith in
     let begun = rounds_begin t (c.loop-done.done + 1) c.args.count below in
-    driven-breaks g.I.Ids.tells g.C.CellStore.tells g.C.CellStore.fault_count custom old parts laws (rounds_steps t c.loop-done.done) c.loop-done.engine c.loop-done.parts c.loop-done.invariant (rounds_steps t c.args.count) begun.0 round_steps c.round.new.engine c.round.new.parts
+    driven-breaks g.I.Ids.tells g.C.CellStore.tells g.C.CellStore.fault_count custom old parts laws (rounds_steps t c.loop-done.done) c.loop-done.engine c.loop-done.parts c.loop-done.invariant (rounds_steps t c.args.count) begun.0 round_steps key c.round.new.engine c.round.new.parts
     (begun.1 ∙ ap (λ (zs : List Step). zs ++ begun.0) (rounds_more t c.loop-done.done)) (c.round.ensures.bad key was)
+
+pub returns-in_err-round-clause-short : goal.returns-in_err-round-clause-short
+returns-in_err-round-clause-short g c =
+    let old = c.args.engine.now in
+    let parts = c.args.parts.now in
+    let t = topology_in old in
+    let custom = g.O.RowOp.meaning c.args.custom.now in
+    let laws = c.laws_of_steps.ensures t custom (cut_in old) in
+    λ is.
+    let was = handed_on c.from_residual.result c.round.result c.in_err-round.field-0.0 Memory c.from_residual.ensures.1 c.in_err-round.was is in
+    driven-wants g.I.Ids.tells g.C.CellStore.tells g.C.CellStore.fault_count custom old parts laws (rounds_steps t c.loop-done.done) c.loop-done.engine c.loop-done.parts c.loop-done.invariant c.round.new.engine.fates c.round.new.parts (c.round.ensures.short was)
 
 pub returns-in_err-round-clause-once : goal.returns-in_err-round-clause-once
 returns-in_err-round-clause-once g c =

@@ -12,7 +12,7 @@ carry_out_all-done-requires-clause-fit g c = fits_first c.args.plan.now c.args.b
 
 pub returns-in-Err : goal.returns-in-Err
 returns-in-Err g c = record {
-  comes = not_begun g.C.CellStore.tells g.C.CellStore.fault_count c.args.plan.now (g.O.RowOp.meaning c.args.custom.now) c.args.batches (all_steps c.args.plan.now c.args.events.now) (ticks_in (all_steps c.args.plan.now c.args.events.now)) c.args.fates.now c.args.parts.now c.requires.empty;
+  comes = not_begun g.C.CellStore.tells g.C.CellStore.fault_count c.args.plan.now (g.O.RowOp.meaning c.args.custom.now) c.args.batches (c.laws_of_runs.ensures c.args.plan.now (g.O.RowOp.meaning c.args.custom.now) c.args.batches) (all_steps c.args.plan.now c.args.events.now) (ticks_in (all_steps c.args.plan.now c.args.events.now)) c.args.fates.now c.args.parts.now (some_size c.args.plan.now c.args.batches c.requires.input) c.requires.empty;
   told = λ words are ok. absurd ok;
   drawn = λ words are ok. absurd ok;
 }
@@ -32,7 +32,7 @@ returns g c =
     let steps = all_steps t c.args.events.now in
     let done = c.carry_out_all-done.ensures in
     let ran = ran-from told tells holds count t custom cut laws c.requires.input keeps some (λ (u : Topology). all_steps u c.args.events.now) (ticks_in steps) c.carry_out_all-done.result c.in-Ok.engine c.carry_out_all-done.new.engine c.args.parts.now c.carry_out_all-done.new.parts
-    c.in-Ok.ensures.ready c.in-Ok.ensures.started c.requires.parts (λ n most last. most) done.same_run done.drives done.bad done.once done.kept in
+    c.in-Ok.ensures.ready c.in-Ok.ensures.started c.requires.parts (λ n most last. most) done.same_run done.drives done.bad done.short done.once done.kept in
     let ends_so = ends told tells holds count t custom cut laws c.requires.input keeps some steps (ticks_in steps) c.carry_out_all-done.result c.in-Ok.engine c.carry_out_all-done.new.engine c.args.parts.now c.carry_out_all-done.new.parts
     c.end_run.result c.end_run.new.fates ran c.end_run.ensures.answer c.end_run.ensures.fates in
     record { comes = ends_so.comes; told = ends_so.told; drawn = ends_so.drawn }

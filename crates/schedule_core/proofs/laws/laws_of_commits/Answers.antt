@@ -5,9 +5,11 @@ returns g c = λ t custom cut. record {
   done = c.commits_of_batches_move_parts.ensures.done t custom cut;
   broken_off = c.commits_of_batches_move_parts.ensures.broken_off t custom cut;
   strange = c.strange_cells_were_there.ensures.commit;
+  bad = c.strange_cells_were_there.ensures.bad_before;
   decided_counts = c.failures_of_commits_are_counted.ensures.decided t cut;
-  turn_counts = c.failures_of_commits_are_counted.ensures.turn t cut;
   quiet_counts = c.counts_run_on.ensures.quiet;
+  last_counts = c.counts_run_on.ensures.last;
+  all_told = c.counts_run_on.ensures.all_told;
   outcome = c.failures_of_commits_are_counted.ensures.outcome t;
   settled = c.settled_lists_are_whole.ensures t custom cut;
 }

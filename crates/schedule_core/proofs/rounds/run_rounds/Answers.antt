@@ -8,7 +8,7 @@ rounds_until_over-done-requires-clause-at_rest g c = at_rest c.args.plan.now c.a
 
 pub returns-in-Err : goal.returns-in-Err
 returns-in-Err g c =
-    record { comes = rounds-not-begun g.T.Ticks.handed_out g.T.Ticks.tells (g.N.IdMaker.tells c.args.ids.now) g.C.CellStore.tells g.C.CellStore.fault_count c.args.plan.now (g.O.RowOp.meaning c.args.custom.now) c.args.batches c.args.ticks.now c.args.fates.now c.args.parts.now c.requires.empty }
+    record { comes = rounds-not-begun g.T.Ticks.handed_out g.T.Ticks.tells (g.N.IdMaker.tells c.args.ids.now) g.C.CellStore.tells g.C.CellStore.fault_count c.args.plan.now (g.O.RowOp.meaning c.args.custom.now) c.args.batches (c.laws_of_runs.ensures c.args.plan.now (g.O.RowOp.meaning c.args.custom.now) c.args.batches) c.args.ticks.now c.args.fates.now c.args.parts.now c.requires.input c.requires.empty }
 
 pub returns-in_err-end_run : goal.returns-in_err-end_run
 returns-in_err-end_run g c =
