@@ -166,7 +166,8 @@ module _ {S M : Type 0} {tells : S → CellMap → Type 0} {count : S → ℕ}
     broken_by key closes same =
         let ok = had_memory (end.BadCell key) closes in
         counted_broken tells count holds made faults t old mid new parts ran closed lent fates
-        run.comes.but_last (fails ok) same
+        run.comes.but_last
+        (laws.last_sum fates parts ran (fails ok) run.comes.but_last) same
 
     -- no reading failed that answers otherwise
     abbrev Quiet : RunEnd → Type 0

@@ -2,9 +2,10 @@
 use Rattle.std.proofs.Common.{◌≡◌, ◌≤◌, ◌+◌, ◌⊎◌, inl, inr, ℕ, zero, suc, List, [], ◌∷◌, All, map, Option, None, Some, IsSome, slice_get, rules, refl, sym, ap, subst, ◌∙◌, arith}
 use Rattle.std.specs.List.{AllByRecursion, AllZip}
 use Rattle.std.proofs.lemmas.Bool.{cases_eq}
-use Rattle.std.proofs.lemmas.List.Elements.{All-from_recursion, recursion_from_All}
+use Rattle.std.proofs.lemmas.List.Elements.{All-from_recursion, All-weaker, recursion_from_All}
 use Rattle.batch_commits.specs.Standing.{HasStrangeAt, IsStrange, PartsStand, batches_in, writes_at, writes_to}
 use Rattle.bolt_ops.specs.RowOp.{Custom}
+use Rattle.cell_format.proofs.CommitLemmas.{Stands-none}
 use Rattle.counted_items.proofs.Each.{each-map, each-to_map}
 use Rattle.schedule_core.specs.Driving.{AreKept, StillTells}
 use Rattle.state_parts.specs.declared.parts.StatePart.{StatePart}
@@ -12,11 +13,11 @@ use Rattle.state_parts.specs.Makers.{AreMade, Began, CameBack as PartCameBack, H
 use Rattle.state_parts.specs.PartPlans.{AreParts, IsOneOf, PartPlan, plan_of, planned_parts, plans_of}
 use Rattle.state_parts.specs.PartTables.{AreRead, IsRead}
 use Rattle.state_parts.specs.Standing.{IsEmpty, PartIsAt, PartStands}
-use Rattle.stored_runs.specs.Makers.{BeganEmpty, CameBack, HadStrangeAt, MapsStand, StandsAt, StillTold, maker_use}
+use Rattle.stored_runs.specs.Makers.{BeganEmpty, CameBack, HadStrangeAt, MapsStand, StandsAt, StillTold, maker_use, writes_of_part}
 use Rattle.storm_stores.specs.CellMaps.{CellMap, cell_at}
 use Rattle.storm_values.specs.Counts.{raised_by}
 use Rattle.topology_plan.specs.declared.parts.Kind.{Kind}
-use Rattle.topology_plan.specs.Topology.{Topology}
+use Rattle.topology_plan.specs.Topology.{Topology, tasks_of}
 use Rattle.trident_batches.specs.Batches.{Cut}
 
 -- What the calls of a body told of a maker and of the parts: it made the parts, a run went over
@@ -283,3 +284,27 @@ module _ {S M : Type 0} (tells : S → CellMap → Type 0) (count : S → ℕ)
             (recursion_from_All
             (PartStands tells t n (writes_to t custom cut n) (writes_at t custom cut (n + 1))) ran
             stands.stand) lent.read back_each fewer
+
+-- ---- where no run was begun
+
+module _ {S M : Type 0} (tells : S → CellMap → Type 0) (count : S → ℕ)
+    (holds : M → ℕ → ℕ → CellMap → Type 0) (made : M → ℕ → ℕ → Type 0) (faults : M → ℕ)
+    (t : Topology) (old new : M) (custom : Custom) (cut : Cut) where
+  one_idle : (part : PartPlan) → holds new part.component part.part []
+      → StandsAt t custom cut 0 (holds new) part
+  one_idle part held = record {
+    cells = [];
+    told = held;
+    stands = Stands-none part.kind part.by (tasks_of t part.component) part.part
+        (writes_of_part part (writes_at t custom cut 1));
+    within = λ all key cell is. absurd (let none = is.bytes in cc);
+  }
+
+  -- maps that held no cell, and that hold what they held, stand where no batch was committed
+  pub idle_stand : ((c p : ℕ) (cells : CellMap) → holds old c p cells → holds new c p cells)
+      → BeganEmpty t (maker_use tells count holds made faults old new)
+      → MapsStand t custom cut 0 (maker_use tells count holds made faults old new)
+  idle_stand same empty =
+      All-weaker (λ (part : PartPlan). holds old part.component part.part [])
+      (StandsAt t custom cut 0 (holds new))
+      (λ part held. one_idle part (same part.component part.part [] held)) (planned_parts t) empty

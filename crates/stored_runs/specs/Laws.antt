@@ -2,7 +2,7 @@
 use Rattle.std.specs.Prelude.{◌≡◌, ◌<◌, ℕ, true, List, All, length}
 use Rattle.std.specs.List.{AllZip}
 use Rattle.attempt_fates.specs.declared.fates.Attempt.{Attempt}
-use Rattle.batch_commits.specs.Standing.{FailsAtOneOf, FailuresAreCounted, HasStrangeAt, PartsStand, RoseByFailures, batches_in, failed_commits}
+use Rattle.batch_commits.specs.Standing.{AllButLastAreCounted, FailsAtOneOf, FailuresAreCounted, HasStrangeAt, PartsStand, RoseByFailures, batches_in, failed_commits}
 use Rattle.bolt_ops.specs.RowOp.{Custom, IsCustom}
 use Rattle.commit_turns.specs.Outcomes.{IsOutcome}
 use Rattle.commit_turns.specs.Turns.{is_finished}
@@ -13,7 +13,7 @@ use Rattle.state_parts.specs.declared.answer.CommitOutcome.{CommitOutcome}
 use Rattle.state_parts.specs.declared.answer.CommitOutcome.TheVariants.{Done}
 use Rattle.state_parts.specs.declared.parts.StatePart.{StatePart}
 use Rattle.state_parts.specs.Commits.{IsBadAt}
-use Rattle.state_parts.specs.Makers.{faults_of}
+use Rattle.state_parts.specs.Makers.{RoseBySum, faults_of}
 use Rattle.state_parts.specs.PartPlans.{AreParts, IsOneOf, plans_of}
 use Rattle.state_parts.specs.PartTables.{IsBadRowAt, IsTableOver}
 use Rattle.storm_stores.specs.CellMaps.{CellMap}
@@ -47,6 +47,9 @@ pub record PartLaws {S : Type 0} (tells : S → CellMap → Type 0) (count : S �
   pub sum : (fates : List Attempt) (a b : List (StatePart S))
       → All (FailsAtOneOf (plans_of a)) fates → FailuresAreCounted count fates a b
       → RoseByFailures (length a) (failed_commits fates) (faults_of count a) (faults_of count b)
+  pub last_sum : (fates : List Attempt) (a b : List (StatePart S))
+      → All (FailsAtOneOf (plans_of a)) fates → AllButLastAreCounted count fates a b
+      → RoseBySum (failed_commits fates) (faults_of count a) (faults_of count b)
   pub part : (parts : List (StatePart S)) (component part : ℕ) → AreParts t parts
       → IsPart t component part → IsOneOf (plans_of parts) component part
   pub tables : (parts : List (StatePart S)) (tables : List Table) → IsWired t → 0 < cut.size
