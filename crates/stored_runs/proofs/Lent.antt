@@ -8,6 +8,7 @@ use Rattle.bolt_ops.specs.RowOp.{Custom}
 use Rattle.cell_format.proofs.CommitLemmas.{Stands-none}
 use Rattle.counted_items.proofs.Each.{each-map, each-to_map}
 use Rattle.schedule_core.specs.Driving.{AreKept, StillTells}
+use Rattle.state_parts.specs.Commits.{SameCounts}
 use Rattle.state_parts.specs.declared.parts.StatePart.{StatePart}
 use Rattle.state_parts.specs.Makers.{AreMade, Began, CameBack as PartCameBack, HasNotFailed, faults_of}
 use Rattle.state_parts.specs.PartPlans.{AreParts, IsOneOf, PartPlan, plan_of, planned_parts, plans_of}
@@ -90,6 +91,12 @@ are_read tells count (x ∷ xs) = (
   record { plan = refl; same = λ cells told. told; never_falls = omega arith },
   are_read tells count xs,
 )
+
+-- and none of their stores failed
+pub have_same_counts : {S : Type 0} (count : S → ℕ) (parts : List (StatePart S))
+    → SameCounts count parts parts
+have_same_counts count [] = tt
+have_same_counts count (x ∷ xs) = (refl, have_same_counts count xs)
 
 -- stores were made for parts that are the same as those that were made
 pub still_made : {S M : Type 0} (made : M → ℕ → ℕ → Type 0) (maker : M)
