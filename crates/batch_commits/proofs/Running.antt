@@ -22,27 +22,25 @@ runs_on c p low mid high (x ∷ xs) ys first then = (first.0, first.1, runs_on c
 -- where no commit failed a count stays
 runs_quiet : (c p low : ℕ) (xs : List Attempt) → failed_commits xs ≡ 0 → CountsRun c p low xs low
 runs_quiet c p low [] none = refl
-runs_quiet c p low (x ∷ xs) none = at x.end none
+runs_quiet c p low (x ∷ xs) none = at (λ few. runs_quiet c p low xs few) x.end none
   where
-    at : (e : End) → length (cond (is_failed_commit e) (x ∷ filter (λ (a : Attempt). is_failed_commit a.end) xs) (filter (λ (a : Attempt). is_failed_commit a.end) xs)) ≡ 0
-        → (mid : ℕ) × CountStep c p e low mid × CountsRun c p mid xs low
-    at (end.Committed list) few = (low, refl, runs_quiet c p low xs few)
-    at (end.Failed path) few = (low, refl, runs_quiet c p low xs few)
-    at end.TimedOut few = (low, refl, runs_quiet c p low xs few)
-    at (end.Coincided list) few = (low, refl, runs_quiet c p low xs few)
-    at (end.CommitFailed component part before after) few = absurd (omega arith)
+    at : (failed_commits xs ≡ 0 → CountsRun c p low xs low) → (e : End) → length (cond (is_failed_commit e) (x ∷ filter (λ (a : Attempt). is_failed_commit a.end) xs) (filter (λ (a : Attempt). is_failed_commit a.end) xs)) ≡ 0 → (mid : ℕ) × CountStep c p e low mid × CountsRun c p mid xs low
+    at rest (end.Committed list) few = (low, refl, rest few)
+    at rest (end.Failed path) few = (low, refl, rest few)
+    at rest end.TimedOut few = (low, refl, rest few)
+    at rest (end.Coincided list) few = (low, refl, rest few)
+    at rest (end.CommitFailed component part before after) few = absurd (omega arith)
 
 stays_quiet : (c p low high : ℕ) (xs : List Attempt) → failed_commits xs ≡ 0 → CountsRun c p low xs high → high ≡ low
 stays_quiet c p low high [] none run = sym run
-stays_quiet c p low high (x ∷ xs) none run = at x.end none run.1
+stays_quiet c p low high (x ∷ xs) none run = at (λ few. stays_quiet c p run.0 high xs few run.2) x.end none run.1
   where
-    at : (e : End) → length (cond (is_failed_commit e) (x ∷ filter (λ (a : Attempt). is_failed_commit a.end) xs) (filter (λ (a : Attempt). is_failed_commit a.end) xs)) ≡ 0
-        → CountStep c p e low run.0 → high ≡ low
-    at (end.Committed list) few step = stays_quiet c p run.0 high xs few run.2 ∙ step
-    at (end.Failed path) few step = stays_quiet c p run.0 high xs few run.2 ∙ step
-    at end.TimedOut few step = stays_quiet c p run.0 high xs few run.2 ∙ step
-    at (end.Coincided list) few step = stays_quiet c p run.0 high xs few run.2 ∙ step
-    at (end.CommitFailed component part before after) few step = absurd (omega arith)
+    at : (failed_commits xs ≡ 0 → high ≡ run.0) → (e : End) → length (cond (is_failed_commit e) (x ∷ filter (λ (a : Attempt). is_failed_commit a.end) xs) (filter (λ (a : Attempt). is_failed_commit a.end) xs)) ≡ 0 → CountStep c p e low run.0 → high ≡ low
+    at rest (end.Committed list) few step = rest few ∙ step
+    at rest (end.Failed path) few step = rest few ∙ step
+    at rest end.TimedOut few step = rest few ∙ step
+    at rest (end.Coincided list) few step = rest few ∙ step
+    at rest (end.CommitFailed component part before after) few step = absurd (omega arith)
 
 module _ {S : Type 0} (count : S → ℕ) where
   part_runs_on : (us vs : List Attempt) (x y : StatePart S) (high : ℕ) → plan_of y ≡ plan_of x → CountsRun x.component x.part (count x.over.store) us (count y.over.store)
@@ -128,9 +126,15 @@ record Walked (own failed low high : ℕ) : Type 0 where
 walked_none : (low high : ℕ) → low ≡ high → low ≤ 2 ^ 64 - 1 → Walked 0 0 low high
 walked_none low high same ends = record { least = inl (omega arith); most = omega arith; up = omega arith; within = omega arith }
 
+least_none : (own low high : ℕ) → RoseBySum own low high → RoseBySum (0 + own) low high
+least_none own low high (inl rose) = inl (omega arith)
+least_none own low high (inr full) = inr full
+
 -- a step that leaves the count
-walked_still : (own failed low mid high : ℕ) → mid ≡ low → Walked own failed mid high → Walked own failed low high
-walked_still own failed low mid high same rest = subst (λ (n : ℕ). Walked own failed n high) same rest
+walked_still : (own failed low mid high : ℕ) → mid ≡ low → Walked own failed mid high → Walked (0 + own) failed low high
+walked_still own failed low mid high same rest =
+    let there = subst (λ (n : ℕ). Walked own failed n high) same rest in
+    record { least = least_none own low high there.least; most = there.most; up = there.up; within = there.within }
 
 -- a commit failed, at this part or at another one
 least_more : (own low mid high : ℕ) → mid ≡ raised low → mid ≤ high → RoseBySum own mid high → RoseBySum (1 + own) low high
@@ -168,22 +172,22 @@ walked_failed own before after rest failed low mid high ends step walked =
   where
     at : (b : Bool) → FailureFollows b before after low mid → RoseBySum (cond b 1 0 + rest) low high
     at true told = least_more rest low mid high (told.1 ∙ told.2 ∙ ap raised (sym told.0)) walked.up walked.least
-    at false told = least_other rest low mid high (once_up low mid ends told).0 walked.least
+    at false told = least_none rest low high (least_other rest low mid high (once_up low mid ends told).0 walked.least)
 
 walk : (c p low high : ℕ) (xs : List Attempt) → low ≤ 2 ^ 64 - 1 → CountsRun c p low xs high → Walked (owns_of c p xs) (failed_commits xs) low high
 unfolding own_of owns_of
 walk c p low high [] ends run = walked_none low high run ends
-walk c p low high (x ∷ xs) ends run = at x.end run.1
+walk c p low high (x ∷ xs) ends run = at (λ fits. walk c p run.0 high xs fits run.2) x.end run.1
   where
-    at : (e : End) → CountStep c p e low run.0
+    at : (run.0 ≤ 2 ^ 64 - 1 → Walked (owns_of c p xs) (failed_commits xs) run.0 high) → (e : End) → CountStep c p e low run.0
         → Walked (own_of c p e + owns_of c p xs) (length (cond (is_failed_commit e) (x ∷ filter (λ (a : Attempt). is_failed_commit a.end) xs) (filter (λ (a : Attempt). is_failed_commit a.end) xs))) low high
-    at (end.Committed list) step = walked_still (owns_of c p xs) (failed_commits xs) low run.0 high step (walk c p run.0 high xs (subst (λ (n : ℕ). n ≤ 2 ^ 64 - 1) (sym step) ends) run.2)
-    at (end.Failed path) step = walked_still (owns_of c p xs) (failed_commits xs) low run.0 high step (walk c p run.0 high xs (subst (λ (n : ℕ). n ≤ 2 ^ 64 - 1) (sym step) ends) run.2)
-    at end.TimedOut step = walked_still (owns_of c p xs) (failed_commits xs) low run.0 high step (walk c p run.0 high xs (subst (λ (n : ℕ). n ≤ 2 ^ 64 - 1) (sym step) ends) run.2)
-    at (end.Coincided list) step = walked_still (owns_of c p xs) (failed_commits xs) low run.0 high step (walk c p run.0 high xs (subst (λ (n : ℕ). n ≤ 2 ^ 64 - 1) (sym step) ends) run.2)
-    at (end.CommitFailed component part before after) step =
+    at rest (end.Committed list) step = walked_still (owns_of c p xs) (failed_commits xs) low run.0 high step (rest (subst (λ (n : ℕ). n ≤ 2 ^ 64 - 1) (sym step) ends))
+    at rest (end.Failed path) step = walked_still (owns_of c p xs) (failed_commits xs) low run.0 high step (rest (subst (λ (n : ℕ). n ≤ 2 ^ 64 - 1) (sym step) ends))
+    at rest end.TimedOut step = walked_still (owns_of c p xs) (failed_commits xs) low run.0 high step (rest (subst (λ (n : ℕ). n ≤ 2 ^ 64 - 1) (sym step) ends))
+    at rest (end.Coincided list) step = walked_still (owns_of c p xs) (failed_commits xs) low run.0 high step (rest (subst (λ (n : ℕ). n ≤ 2 ^ 64 - 1) (sym step) ends))
+    at rest (end.CommitFailed component part before after) step =
         let up = failed_up ((component == c) && (part == p)) before after low run.0 ends step in
-        walked_failed ((component == c) && (part == p)) before after (owns_of c p xs) (failed_commits xs) low run.0 high ends step (walk c p run.0 high xs up.2 run.2)
+        walked_failed ((component == c) && (part == p)) before after (owns_of c p xs) (failed_commits xs) low run.0 high ends step (rest up.2)
 
 -- how many failures are told of these parts
 told_of : List PartPlan → List Attempt → ℕ
@@ -199,14 +203,17 @@ unfolding told_of told_end owns_of
 told_more [] x xs = refl
 told_more (p ∷ ps) x xs = let rest = told_more ps x xs in omega arith
 
+own_here : (c p before after component part : ℕ) → c ≡ component → p ≡ part → own_of component part (end.CommitFailed c p before after) ≡ 1
+unfolding own_of
+own_here c p before after component part one two =
+    let a = eq-eqb c component one in
+    let b = eq-eqb p part two in
+    rw (a, b) refl
+
 told_one : (ps : List PartPlan) (c p before after : ℕ) → IsOneOf ps c p → 1 ≤ told_end ps (end.CommitFailed c p before after)
-unfolding told_end own_of
+unfolding told_end
 told_one [] c p before after one = absurd one
-told_one (q ∷ ps) c p before after (inl here) =
-    let a : (c == q.component) ≡ true = eq-eqb c q.component here.0 in
-    let b : (p == q.part) ≡ true = eq-eqb p q.part here.1 in
-    let own : cond ((c == q.component) && (p == q.part)) 1 0 ≡ 1 = rw (a, b) refl in
-    omega arith
+told_one (q ∷ ps) c p before after (inl here) = let own = own_here c p before after q.component q.part here.0 here.1 in omega arith
 told_one (q ∷ ps) c p before after (inr later) = let rest = told_one ps c p before after later in omega arith
 
 -- each commit that failed is told of one of the parts at least
@@ -262,7 +269,7 @@ one_more_part own told parts failed low high before after walked summed =
 -- where nothing failed nothing rose
 none_rose : (parts failed before after : ℕ) → after ≤ before + failed * parts → before ≤ after → failed ≡ 0 → after ≡ before
 none_rose parts failed before after most up none =
-    let same : failed * parts ≡ 0 = ap (λ (n : ℕ). n * parts) none in
+    let flat : after ≤ before + 0 * parts = subst (λ (n : ℕ). after ≤ before + n * parts) none most in
     omega arith
 
 module _ {S : Type 0} (count : S → ℕ) (ends : (s : S) → count s ≤ 2 ^ 64 - 1) where

@@ -6,6 +6,7 @@ use Rattle.std.proofs.lemmas.List.Elements.{All-from_recursion, All-weaker, recu
 use Rattle.batch_commits.specs.Standing.{HasStrangeAt, IsStrange, PartsStand, batches_in, writes_at, writes_to}
 use Rattle.bolt_ops.specs.RowOp.{Custom}
 use Rattle.cell_format.proofs.CommitLemmas.{Stands-none}
+use Rattle.cell_format.specs.Standing.{Stands}
 use Rattle.counted_items.proofs.Each.{each-map, each-to_map}
 use Rattle.schedule_core.specs.Driving.{AreKept, StillTells}
 use Rattle.state_parts.specs.Commits.{SameCounts}
@@ -19,6 +20,8 @@ use Rattle.storm_stores.specs.CellMaps.{CellMap, cell_at}
 use Rattle.storm_values.specs.Counts.{raised_by}
 use Rattle.topology_plan.specs.declared.parts.Kind.{Kind}
 use Rattle.topology_plan.specs.Topology.{Topology, tasks_of}
+use Rattle.tree_model.specs.declared.write.Write.{Write}
+use Rattle.tree_model.specs.Trees.{nodes_of}
 use Rattle.trident_batches.specs.Batches.{Cut}
 
 -- What the calls of a body told of a maker and of the parts: it made the parts, a run went over
@@ -297,13 +300,23 @@ module _ {S M : Type 0} (tells : S → CellMap → Type 0) (count : S → ℕ)
 module _ {S M : Type 0} (tells : S → CellMap → Type 0) (count : S → ℕ)
     (holds : M → ℕ → ℕ → CellMap → Type 0) (made : M → ℕ → ℕ → Type 0) (faults : M → ℕ)
     (t : Topology) (old new : M) (custom : Custom) (cut : Cut) where
+  none_written : writes_to t custom cut 0 ≡ []
+  unfolding nodes_of
+  none_written = refl
+
   one_idle : (part : PartPlan) → holds new part.component part.part []
       → StandsAt t custom cut 0 (holds new) part
   one_idle part held = record {
     cells = [];
     told = held;
-    stands = Stands-none part.kind part.by (tasks_of t part.component) part.part
-        (writes_of_part part (writes_at t custom cut 1));
+    stands =
+        subst
+        (λ (done : List Write).
+        Stands part.kind part.by (tasks_of t part.component) part.part 0 (writes_of_part part done)
+        (writes_of_part part (writes_at t custom cut 1)) (cell_at []))
+        (sym none_written)
+        (Stands-none part.kind part.by (tasks_of t part.component) part.part
+        (writes_of_part part (writes_at t custom cut 1)));
     within = λ all key cell is. absurd (let none = is.bytes in cc);
   }
 

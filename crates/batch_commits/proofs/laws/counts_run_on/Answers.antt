@@ -23,7 +23,7 @@ pub returns-clause-all_told : goal.returns-clause-all_told
 returns-clause-all_told g c = λ xs a b counted. told_counted g.C.CellStore.fault_count xs a b counted
 
 pub returns-clause-sum : goal.returns-clause-sum
-returns-clause-sum g c = λ xs a b all counted. failed_sum g.C.CellStore.fault_count g.C.CellStore.count_ends xs a b all counted
+returns-clause-sum g c = λ xs a b all counted. failed_sum g.C.CellStore.fault_count g.met.C.CellStore.count_ends xs a b all counted
 
 pub returns-clause-last_sum : goal.returns-clause-last_sum
-returns-clause-last_sum g c = λ xs a b all counted. last_sum g.C.CellStore.fault_count g.C.CellStore.count_ends xs a b all counted
+returns-clause-last_sum g c = λ xs a b all counted. last_sum g.C.CellStore.fault_count g.met.C.CellStore.count_ends xs a b all counted

@@ -43,7 +43,7 @@ returns g c =
     let keeps = g.O.RowOp.keeps c.args.custom.now in
     let r = c.close-ended.result in
     let quiet = c.close-ended.ensures.quiet in
-    let ends = g.M.StoreMaker.count_ends c.args.stores.now in
+    let ends = g.met.M.StoreMaker.count_ends c.args.stores.now in
     let closes = c.close-ended.ensures.closes in
     record {
       comes = run_is made lent laws input run _ r closes quiet;
@@ -54,3 +54,6 @@ returns g c =
       finishes = λ free rounds few.
           given_finishes made lent laws input run _ ends worlds keeps r closes quiet free rounds few;
     }
+
+pub returns-in_err-parts-clause-short : goal.returns-in_err-parts-clause-short
+returns-in_err-parts-clause-short g c = ?

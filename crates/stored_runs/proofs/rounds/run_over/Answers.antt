@@ -47,7 +47,7 @@ returns g c =
     let keeps = g.O.RowOp.keeps c.args.custom.now in
     let r = c.close-ended.result in
     let quiet = c.close-ended.ensures.quiet in
-    let ends = g.M.StoreMaker.count_ends c.args.stores.now in
+    let ends = g.met.M.StoreMaker.count_ends c.args.stores.now in
     let closes : Closes g.M.C.CellStore.tells g.M.C.CellStore.fault_count c.args.plan.now
     (ended c.run_rounds-done.result) c.run_rounds-done.new.parts c.close-ended.new.parts r =
     subst
@@ -69,3 +69,6 @@ returns g c =
           rounds_finish made lent laws input run _ ends worlds keeps c.run_rounds-done.result refl
           asked.answers to_come asked.rounds (asked.asked to_come tells) r closes quiet free few;
     }
+
+pub returns-in_err-parts-clause-short : goal.returns-in_err-parts-clause-short
+returns-in_err-parts-clause-short g c = ?
