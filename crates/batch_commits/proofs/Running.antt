@@ -241,6 +241,16 @@ fewer_sum : (few many a b : ℕ) → few ≤ many → RoseBySum many a b → Ros
 fewer_sum few many a b less (inl rose) = inl (omega arith)
 fewer_sum few many a b less (inr end) = inr end
 
+-- one failure more at most takes nothing away
+once_more : (own low mid high : ℕ) → RoseBySum own low mid → FailedOnceAtMost mid high → RoseBySum own low high
+once_more own low mid high rose (inl same) = subst (RoseBySum own low) (sym same) rose
+once_more own low mid high rose (inr up) = by rose (cases_lt mid (2 ^ 64 - 1))
+  where
+    by : RoseBySum own low mid → (mid < 2 ^ 64 - 1) ⊎ (2 ^ 64 - 1 ≤ mid) → RoseBySum own low high
+    by (inl more) (inl less) = inl (omega (arith, up))
+    by (inr end) (inl less) = absurd (omega arith)
+    by either (inr most) = inr (omega (arith, up))
+
 -- what all counts come to
 record Summed (told parts failed before after : ℕ) : Type 0 where
   least : RoseBySum told before after
@@ -280,3 +290,18 @@ module _ {S : Type 0} (count : S → ℕ) (ends : (s : S) → count s ≤ 2 ^ 64
         never_falls = sum.up;
         none = none_rose (length a) (failed_commits xs) (faults_of count a) (faults_of count b) sum.most sum.up;
       }
+
+  last_parts : (xs : List Attempt) (a b : List (StatePart S)) → AllButLastAreCounted count xs a b → RoseBySum (told_of (plans_of a) xs) (faults_of count a) (faults_of count b)
+  unfolding told_of
+  last_parts xs [] [] counted = inl (omega arith)
+  last_parts xs [] (y ∷ ys) counted = absurd counted
+  last_parts xs (x ∷ olds) [] counted = absurd counted
+  last_parts xs (x ∷ olds) (y ∷ ys) counted =
+      let walked = walk x.component x.part (count x.over.store) counted.0.0 xs (ends x.over.store) counted.0.1 in
+      both_sum (owns_of x.component x.part xs) (told_of (plans_of olds) xs) (count x.over.store) (count y.over.store) (faults_of count olds) (faults_of count ys)
+      (once_more (owns_of x.component x.part xs) (count x.over.store) counted.0.0 (count y.over.store) walked.least counted.0.2) (last_parts xs olds ys counted.1)
+
+  -- with a last commit that no fate tells the counts rose by one at least for each that is told
+  pub last_sum : (xs : List Attempt) (a b : List (StatePart S)) → All (FailsAtOneOf (plans_of a)) xs → AllButLastAreCounted count xs a b → RoseBySum (failed_commits xs) (faults_of count a) (faults_of count b)
+  last_sum xs a b all counted =
+      fewer_sum (failed_commits xs) (told_of (plans_of a) xs) (faults_of count a) (faults_of count b) (few_failed (plans_of a) xs all) (last_parts xs a b counted)

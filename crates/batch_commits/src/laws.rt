@@ -9,7 +9,7 @@ ghost use Rattle.commit_turns.specs.Outcomes.{IsOutcome};
 ghost use Rattle.commit_turns.specs.declared.wait.Wait.{Wait};
 ghost use Rattle.commit_turns.specs.Turns.{decided, end_by, next_to_commit, turned};
 ghost use Rattle.state_parts.specs.Commits.{AreCommitted, ArePerhapsCommitted, CountsFollow, FailOnceAtMost, IsBadAt, SameCounts};
-ghost use Rattle.state_parts.specs.Makers.{faults_of};
+ghost use Rattle.state_parts.specs.Makers.{RoseBySum, faults_of};
 ghost use Rattle.state_parts.specs.PartPlans.{AreParts, IsOneOf, plans_of};
 ghost use Rattle.state_parts.specs.PartTables.{IsBadRowAt, IsTableOver};
 ghost use Rattle.state_parts.specs.Standing.{IsEmpty};
@@ -134,4 +134,7 @@ pub fn counts_run_on<C: CellStore>()
         → All (FailsAtOneOf (plans_of a)) xs → FailuresAreCounted C.fault_count xs a b
         → RoseByFailures (length a) (failed_commits xs) (faults_of C.fault_count a)
         (faults_of C.fault_count b) }
+    ensures last_sum { (xs : List Attempt) (a b : List (StatePart C))
+        → All (FailsAtOneOf (plans_of a)) xs → AllButLastAreCounted C.fault_count xs a b
+        → RoseBySum (failed_commits xs) (faults_of C.fault_count a) (faults_of C.fault_count b) }
 {}

@@ -1,10 +1,10 @@
 -- What a run over the stores of a maker comes to, from what it came to over parts.
-use Rattle.std.proofs.Common.{◌≡◌, ◌<◌, ◌+◌, inl, inr, ℕ, List, IfOk, length, sum, Result, Ok, Err, sym, ap, subst, ◌∙◌, arith}
+use Rattle.std.proofs.Common.{◌≡◌, ◌≤◌, ◌<◌, ◌+◌, ◌-◌, ◌^◌, inl, inr, ℕ, List, All, IfOk, OnErr, length, sum, Result, Ok, Err, sym, ap, subst, ◌∙◌, arith}
 use Rattle.std.specs.List.{AllZip}
 use Rattle.std.proofs.lemmas.List.FromFn.{length-range_with_len}
 use Rattle.attempt_fates.specs.declared.fates.Attempt.{Attempt}
 use Rattle.attempt_fates.specs.Fates.{IsWhole}
-use Rattle.batch_commits.specs.Standing.{PartsStand, batches_in, failed_commits}
+use Rattle.batch_commits.specs.Standing.{FailsAtOneOf, FailuresAreCounted, PartsStand, batches_in, failed_commits}
 use Rattle.bolt_ops.specs.RowOp.{Custom, IsCustom}
 use Rattle.commit_order.specs.declared.stop.Stop.{Stop}
 use Rattle.commit_order.specs.declared.stop.Stop.TheVariants as stop
@@ -15,18 +15,20 @@ use Rattle.schedule_core.specs.declared.ended.Ended.{Ended}
 use Rattle.schedule_core.specs.declared.ended.Ended.TheVariants as ended
 use Rattle.schedule_core.specs.Runs.{Answers, HasRoundsOf, RoundsCome, RunComes, committed_count, ended as ended_of, first_answers}
 use Rattle.schedule_core.specs.Schedules.{HadMemory, IsAnswer, IsOfWorld}
+use Rattle.state_parts.specs.Commits.{SameCounts}
 use Rattle.state_parts.specs.declared.parts.StatePart.{StatePart}
 use Rattle.state_parts.specs.Makers.{RoseBySum, faults_of}
+use Rattle.state_parts.specs.PartPlans.{plans_of}
 use Rattle.state_parts.specs.PartTables.{IsTableOver}
-use Rattle.stored_runs.proofs.Faults.{counted_fault, counted_quiet, fail_at_parts}
+use Rattle.stored_runs.proofs.Faults.{counted_broken, counted_fault, counted_quiet, fail_at_parts}
 use Rattle.stored_runs.proofs.Finished.{given_all, not_raised, rounds_all}
 use Rattle.stored_runs.proofs.Lent.{Lent, are_empty, came_back, had_strange, maps_stand, not_strange}
 use Rattle.stored_runs.specs.Closing.{Closes}
 use Rattle.stored_runs.specs.declared.ending.RunEnd.{RunEnd}
 use Rattle.stored_runs.specs.declared.ending.RunEnd.TheVariants as end
 use Rattle.stored_runs.specs.Laws.{PartLaws, WorldLaws}
-use Rattle.stored_runs.specs.Makers.{BeganEmpty, CameBack, FaultsAreCounted, maker_use}
-use Rattle.stored_runs.specs.StoredRuns.{EndComes, IsAll, IsEndOfWorld, IsRun, IsRunByRounds, IsRunOfWorld, MetNoBadCell, NothingIsInTheWay, more_faults}
+use Rattle.stored_runs.specs.Makers.{BeganEmpty, CameBack, FaultsAreCounted, FaultsBeforeBadCell, MapsStand, maker_use}
+use Rattle.stored_runs.specs.StoredRuns.{EndComes, FaultsCome, IsAll, IsEndOfWorld, IsRun, IsRunByRounds, IsRunOfWorld, NothingIsInTheWay, StandsWithoutMemory}
 use Rattle.storm_stores.specs.CellMaps.{CellMap}
 use Rattle.topology_plan.specs.Topology.{Topology}
 use Rattle.tree_model.specs.declared.write.Table.{Table}
@@ -49,8 +51,16 @@ pub all_back : {S M : Type 0} {tells : S → CellMap → Type 0} {count : S → 
     {holds : M → ℕ → ℕ → CellMap → Type 0} (made : M → ℕ → ℕ → Type 0) {faults : M → ℕ}
     {t : Topology} {old mid new : M} {parts ran closed : List (StatePart S)}
     → Lent tells count holds faults t old mid new parts ran closed
-    → CameBack t (maker_use holds made faults old new)
+    → CameBack t (maker_use tells count holds made faults old new)
 all_back made lent = came_back _ _ _ made _ _ _ _ _ _ _ _ lent
+
+-- no bad cell was met
+abbrev MetNoBadCell : RunEnd → Type 0
+MetNoBadCell (end.All tables) = Unit {0}
+MetNoBadCell (end.Exhausted txid) = Unit {0}
+MetNoBadCell (end.Unfinished k) = Unit {0}
+MetNoBadCell end.StoreFault = Unit {0}
+MetNoBadCell (end.BadCell key) = ⊥
 
 -- A run over parts came to an answer, by the words that sources of ids told.
 pub record Ran {S : Type 0} (tells : S → CellMap → Type 0) (count : S → ℕ) (t : Topology)
@@ -81,15 +91,15 @@ module _ {S M : Type 0} {tells : S → CellMap → Type 0} {count : S → ℕ}
     had_memory (end.Exhausted txid) closes = subst HadMemory (sym closes) tt
     had_memory (end.Unfinished k) closes = subst HadMemory (sym closes) tt
     had_memory end.StoreFault closes = subst HadMemory (sym closes.0) tt
-    had_memory end.BadCell (inl bad) = subst HadMemory (sym bad.1) tt
-    had_memory end.BadCell (inr bad) = subst HadMemory (sym bad.0) tt
+    had_memory (end.BadCell key) (inl bad) = subst HadMemory (sym bad) tt
+    had_memory (end.BadCell key) (inr bad) = subst HadMemory (sym bad.0) tt
 
     had_answer : (ending : RunEnd) → ClosesAs ending → MetNoBadCell ending → IsAnswer answer
     had_answer (end.All tables) closes none = subst IsAnswer (sym closes.0) tt
     had_answer (end.Exhausted txid) closes none = subst IsAnswer (sym closes) tt
     had_answer (end.Unfinished k) closes none = subst IsAnswer (sym closes) tt
     had_answer end.StoreFault closes none = subst IsAnswer (sym closes.0) tt
-    had_answer end.BadCell closes none = absurd none
+    had_answer (end.BadCell key) closes none = absurd none
 
     -- ---- what the end says
 
@@ -97,26 +107,26 @@ module _ {S M : Type 0} {tells : S → CellMap → Type 0} {count : S → ℕ}
     whole_by is =
         subst (λ (r : Result Ended Stop). Answers t cut ticks fates r) is run.comes.answers
 
-    stands_by : IsAnswer answer → BeganEmpty t (maker_use holds made faults old new)
+    stands_by : BeganEmpty t (maker_use tells count holds made faults old new)
         → PartsStand tells t custom cut (committed_count fates) ran
-    stands_by ok empty =
-        run.comes.stands ok
-        (are_empty tells holds made faults t old new parts lent.planned lent.began empty)
+    stands_by empty =
+        run.comes.stands
+        (are_empty tells count holds made faults t old new parts lent.planned lent.began empty)
 
     tables_by : (tables : List Table) → answer ≡ Ok ended.All
         → AllZip (IsTableOver tells ran) (states_of t) tables
-        → BeganEmpty t (maker_use holds made faults old new)
+        → BeganEmpty t (maker_use tells count holds made faults old new)
         → AreTables t (writes t custom cut.records) tables
     tables_by tables is read empty =
         laws.tables ran tables input.wired (some_size t cut input)
         (lent.kept.plans ∙ lent.planned)
         (subst (λ (n : ℕ). PartsStand tells t custom cut n ran)
         (all_committed cut ticks fates (whole_by is))
-        (stands_by (subst IsAnswer (sym is) tt) empty))
+        (stands_by empty))
         read
 
     end_comes : (ending : RunEnd) → ClosesAs ending
-        → EndComes t custom cut ticks (maker_use holds made faults old new) fates ending
+        → EndComes t custom cut ticks (maker_use tells count holds made faults old new) fates ending
     end_comes (end.All tables) closes =
         (whole_by closes.0, λ empty. tables_by tables closes.0 closes.1 empty)
     end_comes (end.Exhausted txid) closes =
@@ -124,46 +134,77 @@ module _ {S M : Type 0} {tells : S → CellMap → Type 0} {count : S → ℕ}
     end_comes (end.Unfinished k) closes =
         subst (λ (r : Result Ended Stop). Answers t cut ticks fates r) closes run.comes.answers
     end_comes end.StoreFault closes = whole_by closes.0
-    end_comes end.BadCell (inl bad) =
-        had_strange tells holds made faults t old new parts lent.planned lent.began
-        (run.comes.bad_cell bad.0 bad.1)
-    end_comes end.BadCell (inr bad) =
-        had_strange tells holds made faults t old new parts lent.planned lent.began
-        (run.comes.strange (subst HadMemory (sym bad.0) tt) (laws.bad_row ran bad.1.0 bad.1.1))
+    end_comes (end.BadCell key) (inl bad) =
+        had_strange tells count holds made faults t old new parts key lent.planned lent.began
+        (laws.bad_cell parts key (run.comes.bad_cell key bad))
+    end_comes (end.BadCell key) (inr bad) =
+        had_strange tells count holds made faults t old new parts key lent.planned lent.began
+        (run.comes.strange key (laws.bad_row ran key bad.1))
 
     -- ---- counts
 
-    failed_by : HadMemory answer
-        → RoseBySum (failed_commits fates) (faults_of count parts) (faults_of count ran)
-    failed_by ok =
+    fails : HadMemory answer → All (FailsAtOneOf (plans_of parts)) fates
+    fails ok =
         let caused = run.comes.caused ok in
-        laws.sum fates parts ran
-        (fail_at_parts t custom cut ticks caused.0 parts
-        (λ component part is. laws.part parts component part lent.planned is) fates caused.1)
-        (run.comes.counted ok)
+        fail_at_parts t custom cut ticks caused.0 parts
+        (λ component part is. laws.part parts component part lent.planned is) fates caused.1
 
-    quiet_by : HadMemory answer
-        → FaultsAreCounted t (maker_use holds made faults old new) fates 0
-    quiet_by ok =
-        counted_quiet tells count holds made faults t old mid new parts ran closed fates lent
-        (run.comes.counted ok) (failed_by ok)
+    failed_by : HadMemory answer → FailuresAreCounted count fates parts ran
+        → RoseBySum (failed_commits fates) (faults_of count parts) (faults_of count ran)
+    failed_by ok counted = (laws.sum fates parts ran (fails ok) counted).at_least
 
-    counted_by : (ending : RunEnd) → ClosesAs ending
-        → FaultsAreCounted t (maker_use holds made faults old new) fates (more_faults ending)
-    counted_by (end.All tables) closes = quiet_by (had_memory (end.All tables) closes)
-    counted_by (end.Exhausted txid) closes = quiet_by (had_memory (end.Exhausted txid) closes)
-    counted_by (end.Unfinished k) closes = quiet_by (had_memory (end.Unfinished k) closes)
-    counted_by end.StoreFault closes =
+    -- the counts where the reading did not fail
+    quiet_by : HadMemory answer → IsAnswer answer → SameCounts count ran closed
+        → FaultsAreCounted t (maker_use tells count holds made faults old new) fates
+    quiet_by ok answers same =
+        let counted = run.comes.counted answers in
+        counted_quiet tells count holds made faults t old mid new parts ran closed lent fates counted
+        (failed_by ok counted) same
+
+    broken_by : (key : List ℕ) → ClosesAs (end.BadCell key) → SameCounts count ran closed
+        → FaultsBeforeBadCell t (maker_use tells count holds made faults old new) fates
+    broken_by key closes same =
+        let ok = had_memory (end.BadCell key) closes in
+        counted_broken tells count holds made faults t old mid new parts ran closed lent fates
+        run.comes.but_last
+        (laws.last_sum fates parts ran (fails ok) run.comes.but_last) same
+
+    -- no reading failed that answers otherwise
+    abbrev Quiet : RunEnd → Type 0
+    Quiet ending = (ending ≡ end.StoreFault → ⊥) → SameCounts count ran closed
+
+    counted_by : (ending : RunEnd) → ClosesAs ending → Quiet ending
+        → FaultsCome t (maker_use tells count holds made faults old new) fates ending
+    counted_by (end.All tables) closes quiet =
+        quiet_by (had_memory (end.All tables) closes) (had_answer (end.All tables) closes tt)
+        (quiet (λ same. cc))
+    counted_by (end.Exhausted txid) closes quiet =
+        quiet_by (had_memory (end.Exhausted txid) closes) (had_answer (end.Exhausted txid) closes tt)
+        (quiet (λ same. cc))
+    counted_by (end.Unfinished k) closes quiet =
+        quiet_by (had_memory (end.Unfinished k) closes) (had_answer (end.Unfinished k) closes tt)
+        (quiet (λ same. cc))
+    counted_by end.StoreFault closes quiet =
         let ok = had_memory end.StoreFault closes in
-        counted_fault tells count holds made faults t old mid new parts ran closed fates lent
-        (run.comes.counted ok) (failed_by ok) closes.1
-    counted_by end.BadCell closes = quiet_by (had_memory end.BadCell closes)
+        let counted = run.comes.counted (had_answer end.StoreFault closes tt) in
+        counted_fault tells count holds made faults t old mid new parts ran closed lent fates counted
+        (failed_by ok counted) closes.1
+    counted_by (end.BadCell key) closes quiet = broken_by key closes (quiet (λ same. cc))
 
     -- ---- the run
 
-    run_at : (ending : RunEnd) → ClosesAs ending
-        → IsRun told t custom cut ticks (maker_use holds made faults old new) fates ending
-    run_at ending closes =
+    -- whatever was answered, maps stand where parts do
+    stands_at : BeganEmpty t (maker_use tells count holds made faults old new)
+        → MapsStand t custom cut (committed_count fates)
+        (maker_use tells count holds made faults old new)
+    stands_at empty =
+        maps_stand tells count holds made faults t old mid new custom cut (committed_count fates)
+        parts ran closed lent (stands_by empty)
+
+    run_at : (ending : RunEnd) → ClosesAs ending → Quiet ending
+        → IsRun told t custom cut ticks (maker_use tells count holds made faults old new) fates
+        ending
+    run_at ending closes quiet =
         let ok = had_memory ending closes in
         record {
           once = run.comes.in_time ok;
@@ -173,18 +214,28 @@ module _ {S M : Type 0} {tells : S → CellMap → Type 0} {count : S → ℕ}
             by_told = λ words are. run.drawn words are ok;
           };
           failed_in_turn = run.comes.failed_in_turn ok;
-          counted = counted_by ending closes;
-          stands = λ none empty.
-              maps_stand tells count holds made faults t old mid new custom cut
-              (committed_count fates) parts ran closed lent
-              (stands_by (had_answer ending closes none) empty);
+          counted = counted_by ending closes quiet;
+          stands = stands_at;
         }
 
     -- what a run over the stores of a maker comes to
     pub run_is : (r : Result RunEnd E) → Closes tells count t answer ran closed r
-        → IfOk r (IsRun told t custom cut ticks (maker_use holds made faults old new) fates)
-    run_is (Ok ending) closes = run_at ending closes
-    run_is (Err e) closes = tt
+        → ((r ≡ Ok end.StoreFault → ⊥) → SameCounts count ran closed)
+        → IfOk r (IsRun told t custom cut ticks (maker_use tells count holds made faults old new)
+        fates)
+    run_is (Ok ending) closes quiet =
+        run_at ending closes (λ other. quiet (λ same. other (of_ok ending same)))
+      where
+        of_ok : (e : RunEnd) → Ok e ≡ Ok end.StoreFault → e ≡ end.StoreFault
+        of_ok e same = cc
+    run_is (Err e) closes quiet = tt
+
+    -- and without memory
+    pub short_is : (r : Result RunEnd E)
+        → OnErr r (StandsWithoutMemory t custom cut
+        (maker_use tells count holds made faults old new) fates)
+    short_is (Ok ending) = tt
+    short_is (Err e) = stands_at
 
     -- ---- the world
 
@@ -203,7 +254,7 @@ module _ {S M : Type 0} {tells : S → CellMap → Type 0} {count : S → ℕ}
     world_at words end.StoreFault closes is =
         subst (λ (r : Result Ended Stop). IsOfWorld t custom cut words steps r fates) closes.0
         (is (had_answer end.StoreFault closes tt))
-    world_at words end.BadCell closes is = tt
+    world_at words (end.BadCell key) closes is = tt
 
     world_by : (ending : RunEnd) → ClosesAs ending → MetNoBadCell ending
         → (words : ℕ → ℕ → ℕ) × IsEndOfWorld t custom cut words steps fates ending
@@ -217,7 +268,7 @@ module _ {S M : Type 0} {tells : S → CellMap → Type 0} {count : S → ℕ}
     world_some (end.Exhausted txid) closes = world_by (end.Exhausted txid) closes tt
     world_some (end.Unfinished k) closes = world_by (end.Unfinished k) closes tt
     world_some end.StoreFault closes = world_by end.StoreFault closes tt
-    world_some end.BadCell closes = (λ s k. 0, tt)
+    world_some (end.BadCell key) closes = (λ s k. 0, tt)
 
     -- it is the run of one world
     pub world_is : (r : Result RunEnd E) → Closes tells count t answer ran closed r
@@ -238,67 +289,95 @@ module _ {S M : Type 0} {tells : S → CellMap → Type 0} {count : S → ℕ}
         → ⊥
     not_some r k all some = cc
 
-    none_more : (ending : RunEnd) → ClosesAs ending
-        → NothingIsInTheWay t (maker_use holds made faults old new) fates
-        → failed_commits fates + more_faults ending ≡ 0
-    none_more ending closes free =
-        not_raised (failed_commits fates + more_faults ending) (faults old) (faults new)
-        (counted_by ending closes).by_failures free.ends free.no_fault
+    -- how many more faults than failed commits there were at least
+    more_faults : RunEnd → ℕ
+    more_faults (end.All tables) = 0
+    more_faults (end.Exhausted txid) = 0
+    more_faults (end.Unfinished k) = 0
+    more_faults end.StoreFault = 1
+    more_faults (end.BadCell key) = 0
 
-    all_at : (ending : RunEnd) → ClosesAs ending
-        → NothingIsInTheWay t (maker_use holds made faults old new) fates
-        → (IsAnswer answer → failed_commits fates ≡ 0 → answer ≡ Ok ended.All) → IsAll ending
-    all_at (end.All tables) closes free finishes = tt
-    all_at (end.Exhausted txid) closes free finishes =
-        let none = none_more (end.Exhausted txid) closes free in
-        not_both answer txid
-        (finishes (had_answer (end.Exhausted txid) closes tt) (omega arith)) closes
-    all_at (end.Unfinished k) closes free finishes =
-        let none = none_more (end.Unfinished k) closes free in
-        not_some answer k
-        (finishes (had_answer (end.Unfinished k) closes tt) (omega arith)) closes
-    all_at end.StoreFault closes free finishes =
-        let none = none_more end.StoreFault closes free in omega arith
-    all_at end.BadCell closes free finishes =
-        not_strange holds made faults t old new free.began_empty (end_comes end.BadCell closes)
+    failures_of : (ending : RunEnd)
+        → FaultsCome t (maker_use tells count holds made faults old new) fates ending
+        → RoseBySum (failed_commits fates + more_faults ending) (faults old) (faults new)
+    unfolding more_faults
+    failures_of (end.All tables) come = come.by_failures
+    failures_of (end.Exhausted txid) come = come.by_failures
+    failures_of (end.Unfinished k) come = come.by_failures
+    failures_of end.StoreFault come = come.by_failures
+    failures_of (end.BadCell key) come = come.by_failures
 
-    all_by : (r : Result RunEnd E) → Closes tells count t answer ran closed r
-        → NothingIsInTheWay t (maker_use holds made faults old new) fates
-        → (IsAnswer answer → failed_commits fates ≡ 0 → answer ≡ Ok ended.All) → IfOk r IsAll
-    all_by (Ok ending) closes free finishes = all_at ending closes free finishes
-    all_by (Err e) closes free finishes = tt
+    module _ (ends : faults old ≤ 2 ^ 64 - 1) where
+      none_more : (ending : RunEnd) → ClosesAs ending → Quiet ending
+          → NothingIsInTheWay t (maker_use tells count holds made faults old new) fates
+          → failed_commits fates + more_faults ending ≡ 0
+      none_more ending closes quiet free =
+          not_raised (failed_commits fates + more_faults ending) (faults old) (faults new)
+          (failures_of ending (counted_by ending closes quiet)) ends free.no_fault
 
-    -- a schedule with enough rounds commits all
-    pub given_finishes : WorldLaws t custom cut → IsCustom custom
-        → (r : Result RunEnd E) → Closes tells count t answer ran closed r
-        → NothingIsInTheWay t (maker_use holds made faults old new) fates
-        → HasRounds t (rounds_needed t custom cut) steps → ticks_in steps < t.buckets
-        → IfOk r IsAll
-    given_finishes worlds keeps r closes free rounds few =
-        all_by r closes free
-        (λ ok none.
-        let of_world = run.comes.of_world ok in
-        given_all t custom cut worlds input keeps free.can_finish of_world.0 fates none
-        free.no_coincidence steps answer of_world.1 rounds few)
+      all_at : (ending : RunEnd) → ClosesAs ending → Quiet ending
+          → NothingIsInTheWay t (maker_use tells count holds made faults old new) fates
+          → (IsAnswer answer → failed_commits fates ≡ 0 → answer ≡ Ok ended.All) → IsAll ending
+      unfolding more_faults
+      all_at (end.All tables) closes quiet free finishes = tt
+      all_at (end.Exhausted txid) closes quiet free finishes =
+          let none = none_more (end.Exhausted txid) closes quiet free in
+          not_both answer txid
+          (finishes (had_answer (end.Exhausted txid) closes tt) (omega arith)) closes
+      all_at (end.Unfinished k) closes quiet free finishes =
+          let none = none_more (end.Unfinished k) closes quiet free in
+          not_some answer k
+          (finishes (had_answer (end.Unfinished k) closes tt) (omega arith)) closes
+      all_at end.StoreFault closes quiet free finishes =
+          let none = none_more end.StoreFault closes quiet free in omega arith
+      all_at (end.BadCell key) closes quiet free finishes =
+          not_strange tells count holds made faults t old new key free.began_empty
+          (end_comes (end.BadCell key) closes)
 
-    -- so does a run of rounds, with few ticks in the first of them
-    pub rounds_finish : WorldLaws t custom cut → IsCustom custom
-        → (done : Result (Unit {0}) Stop) → answer ≡ ended_of done → (answers to_come : List ℕ)
-        → HasRoundsOf t answers steps → answers ≡ first_answers (length answers) to_come
-        → (r : Result RunEnd E) → Closes tells count t answer ran closed r
-        → NothingIsInTheWay t (maker_use holds made faults old new) fates
-        → sum (first_answers (rounds_needed t custom cut) to_come) < t.buckets
-        → IfOk r IsAll
-    rounds_finish worlds keeps done is answers to_come has are r closes free few =
-        all_by r closes free
-        (λ ok none.
-        let of_world = run.comes.of_world ok in
-        is
-        ∙ rounds_all t custom cut worlds input keeps free.can_finish of_world.0 fates none
-        free.no_coincidence steps answers to_come done
-        (subst (λ (s : Result Ended Stop). IsOfWorld t custom cut of_world.0 steps s fates) is
-        of_world.1)
-        has are few)
+      all_by : (r : Result RunEnd E) → Closes tells count t answer ran closed r
+          → ((r ≡ Ok end.StoreFault → ⊥) → SameCounts count ran closed)
+          → NothingIsInTheWay t (maker_use tells count holds made faults old new) fates
+          → (IsAnswer answer → failed_commits fates ≡ 0 → answer ≡ Ok ended.All) → IfOk r IsAll
+      all_by (Ok ending) closes quiet free finishes =
+          all_at ending closes (λ other. quiet (λ same. other (of_ok ending same))) free finishes
+        where
+          of_ok : (e : RunEnd) → Ok e ≡ Ok end.StoreFault → e ≡ end.StoreFault
+          of_ok e same = cc
+      all_by (Err e) closes quiet free finishes = tt
+
+      -- a schedule with enough rounds commits all
+      pub given_finishes : WorldLaws t custom cut → IsCustom custom
+          → (r : Result RunEnd E) → Closes tells count t answer ran closed r
+          → ((r ≡ Ok end.StoreFault → ⊥) → SameCounts count ran closed)
+          → NothingIsInTheWay t (maker_use tells count holds made faults old new) fates
+          → HasRounds t (rounds_needed t custom cut) steps → ticks_in steps < t.buckets
+          → IfOk r IsAll
+      given_finishes worlds keeps r closes quiet free rounds few =
+          all_by r closes quiet free
+          (λ ok none.
+          let of_world = run.comes.of_world ok in
+          given_all t custom cut worlds input keeps free.can_finish of_world.0 fates none
+          free.no_coincidence steps answer of_world.1 rounds few)
+
+      -- so does a run of rounds, with few ticks in the first of them
+      pub rounds_finish : WorldLaws t custom cut → IsCustom custom
+          → (done : Result (Unit {0}) Stop) → answer ≡ ended_of done → (answers to_come : List ℕ)
+          → HasRoundsOf t answers steps → answers ≡ first_answers (length answers) to_come
+          → (r : Result RunEnd E) → Closes tells count t answer ran closed r
+          → ((r ≡ Ok end.StoreFault → ⊥) → SameCounts count ran closed)
+          → NothingIsInTheWay t (maker_use tells count holds made faults old new) fates
+          → sum (first_answers (rounds_needed t custom cut) to_come) < t.buckets
+          → IfOk r IsAll
+      rounds_finish worlds keeps done is answers to_come has are r closes quiet free few =
+          all_by r closes quiet free
+          (λ ok none.
+          let of_world = run.comes.of_world ok in
+          is
+          ∙ rounds_all t custom cut worlds input keeps free.can_finish of_world.0 fates none
+          free.no_coincidence steps answers to_come done
+          (subst (λ (s : Result Ended Stop). IsOfWorld t custom cut of_world.0 steps s fates) is
+          of_world.1)
+          has are few)
 
 -- nothing is left open where rounds go on until all is over
 pub none_left : {S E : Type 0} (tells : S → CellMap → Type 0) (count : S → ℕ) (t : Topology)

@@ -1,34 +1,32 @@
--- How often a maker's stores failed, by the counts of the parts and by the commits that failed.
-use Rattle.std.proofs.Common.{◌≡◌, ◌≤◌, ◌+◌, ◌-◌, ◌^◌, ◌⊎◌, inl, inr, ℕ, zero, suc, List, [], ◌∷◌, All, map, None, Some, slice_get, sum, refl, sym, ap, subst, ◌∙◌, arith}
+-- How often a maker's stores failed, by the counts of the parts and by the fates.
+use Rattle.std.proofs.Common.{◌≡◌, ◌≤◌, ◌<◌, ◌+◌, ◌-◌, ◌^◌, ◌⊎◌, inl, inr, ℕ, zero, suc, List, [], ◌∷◌, All, map, None, Some, slice_get, sum, refl, sym, ap, subst, ◌∙◌, arith}
 use Rattle.std.specs.List.{AllByRecursion, AllZip}
+use Rattle.std.proofs.lemmas.Bool.{cases_lt}
 use Rattle.std.proofs.lemmas.List.Elements.{All-from_recursion, recursion_from_All}
 use Rattle.std.proofs.lemmas.List.Sums.{sum_by-cons}
 use Rattle.attempt_fates.specs.declared.fates.Attempt.{Attempt}
 use Rattle.attempt_fates.specs.declared.fates.End.{End}
 use Rattle.attempt_fates.specs.declared.fates.End.TheVariants as end
-use Rattle.batch_commits.specs.Standing.{FailsAtOneOf, FailuresAreCounted, RunsUp, failed_commits, failures_at}
+use Rattle.batch_commits.specs.Standing.{AllButLastAreCounted, CountsRun, FailsAtOneOf, FailuresAreCounted, failed_commits}
 use Rattle.bolt_ops.specs.RowOp.{Custom}
 use Rattle.commit_turns.specs.Account.{ended_of, ending_of, rows_in}
 use Rattle.counted_items.proofs.Each.{each-map}
 use Rattle.event_worlds.specs.Accounted.{AreCaused}
+use Rattle.schedule_core.specs.Driving.{StillTells}
+use Rattle.state_parts.specs.Commits.{FailedOnceAtMost, SameCounts}
 use Rattle.state_parts.specs.declared.parts.StatePart.{StatePart}
-use Rattle.state_parts.specs.Makers.{HasNotFailed, RoseBySum, faults_of}
-use Rattle.state_parts.specs.PartPlans.{IsOneOf, PartPlan, plans_of}
-use Rattle.state_parts.specs.PartTables.{IsRead, SomeRose}
-use Rattle.storm_values.specs.Counts.{Rose}
-use Rattle.stored_runs.proofs.Lent.{Lent}
-use Rattle.stored_runs.specs.Makers.{FaultsAreCounted, maker_use}
+use Rattle.state_parts.specs.Makers.{Began, CameBack as PartCameBack, HasNotFailed, RoseBySum, faults_of}
+use Rattle.state_parts.specs.PartPlans.{IsOneOf, PartPlan, plan_of, plans_of}
+use Rattle.state_parts.specs.PartTables.{IsRead, OneRaised}
+use Rattle.stored_runs.proofs.Lent.{Lent, at_map, each-get}
+use Rattle.stored_runs.specs.Makers.{CountsOf, FaultsAreCounted, FaultsBeforeBadCell, ReadingFailed, StoreStood, maker_use}
 use Rattle.storm_stores.specs.CellMaps.{CellMap}
+use Rattle.storm_values.specs.Counts.{raised, raised_by}
 use Rattle.topology_plan.specs.Topology.{Topology}
 use Rattle.trident_batches.specs.Batches.{Cut}
 use Rattle.tuple_account.specs.Ends.{CauseBy, HasCause, IsPart}
 
 -- ---- each part
-
-runs_more : (low mid high : ℕ) (told : List (ℕ × ℕ)) → RunsUp low told mid → mid ≤ high
-    → RunsUp low told high
-runs_more low mid high [] up more = omega arith
-runs_more low mid high (x ∷ told) up more = (up.0, up.1, runs_more x.1 mid high told up.2 more)
 
 module _ {S : Type 0} (count : S → ℕ) where
   -- the counts of these parts
@@ -42,32 +40,60 @@ module _ {S : Type 0} (count : S → ℕ) where
       sum_by-cons (λ (n : ℕ). n) (count x.over.store) (counts_of xs)
       ∙ ap (λ (n : ℕ). count x.over.store + n) (sum_is xs)
 
-module _ {S : Type 0} (tells : S → CellMap → Type 0) (count : S → ℕ) where
-  each_counted : (fates : List Attempt) (xs ys zs : List (StatePart S))
+  -- the counts after a run, by the fates
+  each_counted : (fates : List Attempt) (xs ys : List (StatePart S))
       → AllByRecursion (HasNotFailed count) xs → FailuresAreCounted count fates xs ys
-      → AllZip (IsRead tells count) ys zs
       → AllZip
-      (λ (part : PartPlan) (high : ℕ).
-      RunsUp 0 (failures_at part.component part.part fates) high)
-      (plans_of xs) (counts_of count zs)
+      (λ (part : PartPlan) (high : ℕ). CountsRun part.component part.part 0 fates high)
+      (plans_of xs) (counts_of ys)
   unfolding counts_of
-  each_counted fates [] [] [] none counted read = tt
-  each_counted fates [] [] (z ∷ zs) none counted read = absurd read
-  each_counted fates [] (y ∷ ys) zs none counted read = absurd counted
-  each_counted fates (x ∷ xs) [] zs none counted read = absurd counted
-  each_counted fates (x ∷ xs) (y ∷ ys) [] none counted read = absurd read
-  each_counted fates (x ∷ xs) (y ∷ ys) (z ∷ zs) none counted read =
-      let from_none : RunsUp 0 (failures_at x.component x.part fates) (count y.over.store) =
-      subst
-      (λ (low : ℕ). RunsUp low (failures_at x.component x.part fates) (count y.over.store)) none.0
-      counted.0 in (
-        runs_more 0 (count y.over.store) (count z.over.store)
-            (failures_at x.component x.part fates) from_none read.0.never_falls,
-        each_counted fates xs ys zs none.1 counted.1 read.1,
-      )
+  each_counted fates [] [] none counted = tt
+  each_counted fates [] (y ∷ ys) none counted = absurd counted
+  each_counted fates (x ∷ xs) [] none counted = absurd counted
+  each_counted fates (x ∷ xs) (y ∷ ys) none counted = (
+    subst (λ (low : ℕ). CountsRun x.component x.part low fates (count y.over.store)) none.0
+        counted.0,
+    each_counted fates xs ys none.1 counted.1,
+  )
 
-  -- ---- all parts together
+  -- parts of which no store failed have the counts that they had
+  same_sum : (ys zs : List (StatePart S)) → SameCounts count ys zs
+      → faults_of count zs ≡ faults_of count ys
+  same_sum [] [] same = refl
+  same_sum [] (z ∷ zs) same = absurd same
+  same_sum (y ∷ ys) [] same = absurd same
+  same_sum (y ∷ ys) (z ∷ zs) same =
+      let here = same.0 in let rest = same_sum ys zs same.1 in omega arith
 
+  -- ---- a reading that failed
+
+  -- the part whose store failed
+  pub record Failed (ys : List (StatePart S)) : Type 0 where
+    pub place : ℕ
+    pub at : StatePart S
+    pub is_at : slice_get ys place ≡ Some at
+
+  failed_part : (ys zs : List (StatePart S)) → OneRaised count ys zs → Failed ys
+  failed_part [] zs one = absurd one
+  failed_part (y ∷ ys) [] one = absurd one
+  failed_part (y ∷ ys) (z ∷ zs) (inl here) = record { place = 0; at = y; is_at = refl }
+  failed_part (y ∷ ys) (z ∷ zs) (inr later) =
+      let rest = failed_part ys zs later.1 in
+      record { place = suc rest.place; at = rest.at; is_at = rest.is_at }
+
+-- one more fault, up to where a count ends
+abbrev OneMore : (before after : ℕ) → Type 0
+OneMore before after = (after ≡ before + 1) ⊎ ((2 ^ 64 - 1 ≤ before) × (2 ^ 64 - 1 ≤ after))
+
+-- a count that rose and did not fall
+raised_more : (low high : ℕ) → high ≡ raised low → low ≤ high → OneMore low high
+raised_more low high is up = by (cases_lt low (2 ^ 64 - 1))
+  where
+    by : (low < 2 ^ 64 - 1) ⊎ (2 ^ 64 - 1 ≤ low) → OneMore low high
+    by (inl less) = inl (omega arith)
+    by (inr most) = inr (most, omega arith)
+
+module _ {S : Type 0} (tells : S → CellMap → Type 0) (count : S → ℕ) where
   read_more : (ys zs : List (StatePart S)) → AllZip (IsRead tells count) ys zs
       → faults_of count ys ≤ faults_of count zs
   read_more [] [] read = omega arith
@@ -76,39 +102,58 @@ module _ {S : Type 0} (tells : S → CellMap → Type 0) (count : S → ℕ) whe
   read_more (y ∷ ys) (z ∷ zs) read =
       let here = read.0.never_falls in let rest = read_more ys zs read.1 in omega arith
 
-  some_more : (ys zs : List (StatePart S)) (i : ℕ) (y z : StatePart S)
-      → AllZip (IsRead tells count) ys zs → slice_get ys i ≡ Some y → slice_get zs i ≡ Some z
-      → Rose (count y.over.store) (count z.over.store)
-      → (faults_of count ys + 1 ≤ faults_of count zs) ⊎ (2 ^ 64 - 1 ≤ faults_of count zs)
-  some_more [] zs i y z read was is rose = absurd (none was)
+  one_more : (ys zs : List (StatePart S)) → AllZip (IsRead tells count) ys zs
+      → OneRaised count ys zs → OneMore (faults_of count ys) (faults_of count zs)
+  one_more [] zs read one = absurd one
+  one_more (y ∷ ys) [] read one = absurd one
+  one_more (y ∷ ys) (z ∷ zs) read (inl here) =
+      by (raised_more (count y.over.store) (count z.over.store) here.0 read.0.never_falls)
     where
-      none : None ≡ Some y → ⊥
-      none e = cc
-  some_more (v ∷ ys) [] i y z read was is rose = absurd read
-  some_more (v ∷ ys) (w ∷ zs) zero y z read was is rose = by rose
+      rest : faults_of count zs ≡ faults_of count ys
+      rest = same_sum count ys zs here.1
+
+      by : OneMore (count y.over.store) (count z.over.store)
+          → OneMore (faults_of count (y ∷ ys)) (faults_of count (z ∷ zs))
+      by (inl more) = inl (omega (arith, rest))
+      by (inr end) = let low = end.0 in let high = end.1 in inr (omega arith, omega arith)
+  one_more (y ∷ ys) (z ∷ zs) read (inr later) = by (one_more ys zs read.1 later.1)
     where
-      same : {X : Type 0} (a b : X) → Some a ≡ Some b → a ≡ b
-      same a b e = cc
+      same : count z.over.store ≡ count y.over.store
+      same = later.0
 
-      old : count v.over.store ≡ count y.over.store
-      old = ap (λ (at : StatePart S). count at.over.store) (same v y was)
+      by : OneMore (faults_of count ys) (faults_of count zs)
+          → OneMore (faults_of count (y ∷ ys)) (faults_of count (z ∷ zs))
+      by (inl more) = inl (omega (arith, same))
+      by (inr end) = let low = end.0 in let high = end.1 in inr (omega arith, omega arith)
 
-      new : count w.over.store ≡ count z.over.store
-      new = ap (λ (at : StatePart S). count at.over.store) (same w z is)
+  -- ---- a commit that was broken off
 
-      by : Rose (count y.over.store) (count z.over.store)
-          → (faults_of count (v ∷ ys) + 1 ≤ faults_of count (w ∷ zs))
-          ⊎ (2 ^ 64 - 1 ≤ faults_of count (w ∷ zs))
-      by (inl more) = inl (let rest = read_more ys zs read.1 in omega (arith, old, new))
-      by (inr end) = inr (omega (arith, new))
-  some_more (v ∷ ys) (w ∷ zs) (suc i) y z read was is rose =
-      by (some_more ys zs i y z read.1 was is rose)
-    where
-      by : (faults_of count ys + 1 ≤ faults_of count zs) ⊎ (2 ^ 64 - 1 ≤ faults_of count zs)
-          → (faults_of count (v ∷ ys) + 1 ≤ faults_of count (w ∷ zs))
-          ⊎ (2 ^ 64 - 1 ≤ faults_of count (w ∷ zs))
-      by (inl more) = inl (let here = read.0.never_falls in omega arith)
-      by (inr end) = inr (omega arith)
+  -- the counts that the fates give, and those after one more commit
+  pub record Broken (fates : List Attempt) (plans : List PartPlan) (ends : List ℕ) : Type 0 where
+    pub counts : List ℕ
+    pub each : AllZip
+        (λ (part : PartPlan) (high : ℕ). CountsRun part.component part.part 0 fates high)
+        plans counts
+    pub once_at_most : AllZip FailedOnceAtMost counts ends
+
+  broken_off : (fates : List Attempt) (xs ys : List (StatePart S))
+      → AllByRecursion (HasNotFailed count) xs → AllButLastAreCounted count fates xs ys
+      → Broken fates (plans_of xs) (counts_of count ys)
+  unfolding counts_of
+  broken_off fates [] [] none counted = record { counts = []; each = tt; once_at_most = tt }
+  broken_off fates [] (y ∷ ys) none counted = absurd counted
+  broken_off fates (x ∷ xs) [] none counted = absurd counted
+  broken_off fates (x ∷ xs) (y ∷ ys) none counted =
+      let rest = broken_off fates xs ys none.1 counted.1 in
+      record {
+        counts = counted.0.0 ∷ rest.counts;
+        each = (
+          subst (λ (low : ℕ). CountsRun x.component x.part low fates counted.0.0) none.0
+              counted.0.1.0,
+          rest.each,
+        );
+        once_at_most = (counted.0.1.1, rest.once_at_most);
+      }
 
 -- ---- commits that failed
 
@@ -143,70 +188,177 @@ fail_at_parts t custom cut ticks words parts one fates caused =
 
 -- ---- the maker
 
-fewer : (few all before after : ℕ) → (few ≤ all) ⊎ (2 ^ 64 - 1 ≤ all)
-    → RoseBySum all before after → RoseBySum few before after
-fewer few all before after (inl less) (inl rose) = inl (omega arith)
-fewer few all before after (inr end) (inl rose) = inr (omega arith)
-fewer few all before after less (inr end) = inr end
+-- a count that rose exactly by a sum rose by less
+rose_by : (failed none all before after : ℕ) → RoseBySum failed none all
+    → after ≡ raised_by before all → RoseBySum failed before after
+rose_by failed none all before after (inl more) is = by (cases_lt (before + all) (2 ^ 64 - 1))
+  where
+    by : (before + all < 2 ^ 64 - 1) ⊎ (2 ^ 64 - 1 ≤ before + all) → RoseBySum failed before after
+    by (inl less) = inl (omega arith)
+    by (inr most) = inr (omega arith)
+rose_by failed none all before after (inr end) is = inr (omega arith)
 
-sums : (failed more none ran closed : ℕ) → RoseBySum failed none ran
-    → (ran + more ≤ closed) ⊎ (2 ^ 64 - 1 ≤ closed) → ran ≤ closed
-    → (failed + more ≤ closed) ⊎ (2 ^ 64 - 1 ≤ closed)
-sums failed more none ran closed (inl rose) (inl further) up = inl (omega arith)
-sums failed more none ran closed (inl rose) (inr end) up = inr end
-sums failed more none ran closed (inr end) further up = inr (omega arith)
+-- one fault more
+with_one : (failed none ran closed : ℕ) → RoseBySum failed none ran → OneMore ran closed
+    → RoseBySum (failed + 1) none closed
+with_one failed none ran closed (inl rose) (inl more) = inl (omega arith)
+with_one failed none ran closed rose (inr end) = inr end.1
+with_one failed none ran closed (inr end) (inl more) = inr (omega arith)
+
+same_end : (before ran closed : ℕ) → OneMore ran closed
+    → raised_by before closed ≡ raised_by before (ran + 1)
+same_end before ran closed (inl more) = ap (raised_by before) more
+same_end before ran closed (inr end) = let low = end.0 in let high = end.1 in omega arith
 
 module _ {S M : Type 0} (tells : S → CellMap → Type 0) (count : S → ℕ)
     (holds : M → ℕ → ℕ → CellMap → Type 0) (made : M → ℕ → ℕ → Type 0) (faults : M → ℕ)
-    (t : Topology) (old mid new : M) where
-  -- the failures are counted, and so many more
-  counted_by : (parts ran closed : List (StatePart S)) (fates : List Attempt) (more : ℕ)
-      → Lent tells count holds faults t old mid new parts ran closed
-      → FailuresAreCounted count fates parts ran
+    (t : Topology) (old mid new : M) (parts ran closed : List (StatePart S))
+    (lent : Lent tells count holds faults t old mid new parts ran closed)
+    (fates : List Attempt) where
+  counts_are : FailuresAreCounted count fates parts ran → CountsOf t fates (counts_of count ran)
+  counts_are counted =
+      subst
+      (λ (plans : List PartPlan).
+      AllZip
+      (λ (part : PartPlan) (high : ℕ). CountsRun part.component part.part 0 fates high)
+      plans (counts_of count ran))
+      lent.planned
+      (each_counted count fates parts ran
+      (recursion_from_All (HasNotFailed count) parts lent.no_fault) counted)
+
+  raised_all : faults new ≡ raised_by (faults old) (faults_of count closed)
+  raised_all =
+      subst (λ (n : ℕ). faults new ≡ raised_by n (faults_of count closed)) lent.same_count
+      lent.counted
+
+  -- no store failed but as the fates tell
+  pub counted_quiet : FailuresAreCounted count fates parts ran
       → RoseBySum (failed_commits fates) (faults_of count parts) (faults_of count ran)
-      → (faults_of count ran + more ≤ faults_of count closed)
-      ⊎ (2 ^ 64 - 1 ≤ faults_of count closed)
-      → FaultsAreCounted t (maker_use holds made faults old new) fates more
-  counted_by parts ran closed fates more lent counted failed further = record {
-    counts = counts_of count closed;
-    each = subst
-        (λ (plans : List PartPlan).
-        AllZip
-        (λ (part : PartPlan) (high : ℕ).
-        RunsUp 0 (failures_at part.component part.part fates) high)
-        plans (counts_of count closed))
-        lent.planned
-        (each_counted tells count fates parts ran closed
-        (recursion_from_All (HasNotFailed count) parts lent.no_fault) counted lent.read);
-    by_counts = subst (λ (n : ℕ). RoseBySum n (faults old) (faults new))
-        (sym (sum_is count closed)) rose;
-    by_failures = fewer (failed_commits fates + more) (faults_of count closed) (faults old)
-        (faults new)
-        (sums (failed_commits fates) more (faults_of count parts) (faults_of count ran)
-        (faults_of count closed) failed further (read_more tells count ran closed lent.read))
-        rose;
-  }
+      → SameCounts count ran closed
+      → FaultsAreCounted t (maker_use tells count holds made faults old new) fates
+  counted_quiet counted failed same =
+      let all : faults_of count closed ≡ faults_of count ran = same_sum count ran closed same in
+      let is : faults new ≡ raised_by (faults old) (faults_of count ran) =
+      subst (λ (n : ℕ). faults new ≡ raised_by (faults old) n) all raised_all in
+      record {
+        counts = counts_of count ran;
+        each = counts_are counted;
+        by_counts =
+            subst (λ (n : ℕ). faults new ≡ raised_by (faults old) n) (sym (sum_is count ran)) is;
+        by_failures =
+            rose_by (failed_commits fates) (faults_of count parts) (faults_of count ran)
+            (faults old) (faults new) failed is;
+      }
+
+  -- one more at the last reading
+  pub counted_fault : FailuresAreCounted count fates parts ran
+      → RoseBySum (failed_commits fates) (faults_of count parts) (faults_of count ran)
+      → OneRaised count ran closed
+      → ReadingFailed t (maker_use tells count holds made faults old new) fates
+  counted_fault counted failed one =
+      let at : Failed count ran = failed_part count ran closed one in
+      let more : OneMore (faults_of count ran) (faults_of count closed) =
+      one_more tells count ran closed lent.read one in
+      record {
+        counts = counts_of count ran;
+        each = counts_are counted;
+        place = at.place;
+        part = plan_of at.at;
+        before = count at.at.over.store;
+        at = subst (λ (plans : List PartPlan). slice_get plans at.place ≡ Some (plan_of at.at))
+            (lent.kept.plans ∙ lent.planned) (at_map (λ x. plan_of x) ran at.place at.at at.is_at);
+        count_at = counted_at at.place at.at at.is_at;
+        stood = stood_each parts ran closed lent.kept.plans lent.plans
+            (recursion_from_All (Began tells holds old) parts lent.began) lent.kept.told lent.read
+            (recursion_from_All (PartCameBack tells holds new) closed lent.back) at.place at.at
+            at.is_at;
+        by_counts =
+            raised_all ∙ same_end (faults old) (faults_of count ran) (faults_of count closed) more
+            ∙ ap (λ (n : ℕ). raised_by (faults old) (n + 1)) (sym (sum_is count ran));
+        by_failures =
+            rose_by (failed_commits fates + 1) (faults_of count parts) (faults_of count closed)
+            (faults old) (faults new)
+            (with_one (failed_commits fates) (faults_of count parts) (faults_of count ran)
+            (faults_of count closed) failed more) raised_all;
+      }
     where
-      rose : RoseBySum (faults_of count closed) (faults old) (faults new)
-      rose = subst (λ (n : ℕ). RoseBySum (faults_of count closed) n (faults new)) lent.same_count
-          lent.rose
+      counted_at : (place : ℕ) (y : StatePart S) → slice_get ran place ≡ Some y
+          → slice_get (counts_of count ran) place ≡ Some (count y.over.store)
+      unfolding counts_of
+      counted_at place y is = at_map (λ (x : StatePart S). count x.over.store) ran place y is
 
-  pub counted_quiet : (parts ran closed : List (StatePart S)) (fates : List Attempt)
-      → Lent tells count holds faults t old mid new parts ran closed
-      → FailuresAreCounted count fates parts ran
-      → RoseBySum (failed_commits fates) (faults_of count parts) (faults_of count ran)
-      → FaultsAreCounted t (maker_use holds made faults old new) fates 0
-  counted_quiet parts ran closed fates lent counted failed =
-      counted_by parts ran closed fates 0 lent counted failed
-      (inl (let up = read_more tells count ran closed lent.read in omega arith))
+      one_stood : (x y z : StatePart S) → plan_of z ≡ plan_of y → plan_of y ≡ plan_of x
+          → Began tells holds old x → StillTells tells x y → IsRead tells count y z
+          → PartCameBack tells holds new z → (cells : CellMap) → holds old y.component y.part cells
+          → (after : CellMap)
+          × (holds new y.component y.part after
+          × StoreStood tells count after (count y.over.store))
+      one_stood x y z then first began told read back cells held =
+          let after = told cells
+          (began cells (subst (λ (p : PartPlan). holds old p.component p.part cells) first held)) in (
+            after.0,
+            (
+              subst (λ (p : PartPlan). holds new p.component p.part after.0) then
+                  (back after.0 (read.same after.0 after.1)),
+              record { store = y.over.store; told = after.1; counted = refl },
+            ),
+          )
 
-  pub counted_fault : (parts ran closed : List (StatePart S)) (fates : List Attempt)
-      → Lent tells count holds faults t old mid new parts ran closed
-      → FailuresAreCounted count fates parts ran
+      no_part : {X : Type 0} (x : X) → None ≡ Some x → ⊥
+      no_part x e = cc
+
+      stood_each : (xs ys zs : List (StatePart S)) → plans_of ys ≡ plans_of xs
+          → plans_of zs ≡ plans_of ys → AllByRecursion (Began tells holds old) xs
+          → AllZip (StillTells tells) xs ys → AllZip (IsRead tells count) ys zs
+          → AllByRecursion (PartCameBack tells holds new) zs → (place : ℕ) (at : StatePart S)
+          → slice_get ys place ≡ Some at → (cells : CellMap)
+          → holds old at.component at.part cells
+          → (after : CellMap)
+          × (holds new at.component at.part after
+          × StoreStood tells count after (count at.over.store))
+      stood_each xs [] zs first then began told read back place at is = absurd (no_part at is)
+      stood_each [] (y ∷ ys) zs first then began told read back place at is = absurd told
+      stood_each (x ∷ xs) (y ∷ ys) [] first then began told read back place at is = absurd read
+      stood_each (x ∷ xs) (y ∷ ys) (z ∷ zs) first then began told read back zero at is =
+          let here : plan_of y ≡ plan_of x = cc in
+          let now : plan_of z ≡ plan_of y = cc in
+          let same : y ≡ at = cc in
+          subst
+          (λ (a : StatePart S).
+          (cells : CellMap) → holds old a.component a.part cells
+          → (after : CellMap)
+          × (holds new a.component a.part after
+          × StoreStood tells count after (count a.over.store)))
+          same (one_stood x y z now here began.0 told.0 read.0 back.0)
+      stood_each (x ∷ xs) (y ∷ ys) (z ∷ zs) first then began told read back (suc place) at is =
+          let plans : plans_of ys ≡ plans_of xs = cc in
+          let after : plans_of zs ≡ plans_of ys = cc in
+          stood_each xs ys zs plans after began.1 told.1 read.1 back.1 place at is
+
+  -- a bad cell broke the last commit off
+  pub counted_broken : AllButLastAreCounted count fates parts ran
       → RoseBySum (failed_commits fates) (faults_of count parts) (faults_of count ran)
-      → SomeRose count ran closed
-      → FaultsAreCounted t (maker_use holds made faults old new) fates 1
-  counted_fault parts ran closed fates lent counted failed some =
-      counted_by parts ran closed fates 1 lent counted failed
-      (some_more tells count ran closed some.place some.was some.is lent.read some.was_at some.is_at
-      some.rose)
+      → SameCounts count ran closed
+      → FaultsBeforeBadCell t (maker_use tells count holds made faults old new) fates
+  counted_broken counted failed same =
+      let all : faults_of count closed ≡ faults_of count ran = same_sum count ran closed same in
+      let is : faults new ≡ raised_by (faults old) (faults_of count ran) =
+      subst (λ (n : ℕ). faults new ≡ raised_by (faults old) n) all raised_all in
+      let broken = broken_off tells count fates parts ran
+      (recursion_from_All (HasNotFailed count) parts lent.no_fault) counted in
+      record {
+        counts = broken.counts;
+        each = subst
+            (λ (plans : List PartPlan).
+            AllZip
+            (λ (part : PartPlan) (high : ℕ). CountsRun part.component part.part 0 fates high)
+            plans broken.counts)
+            lent.planned broken.each;
+        ends = counts_of count ran;
+        once_at_most = broken.once_at_most;
+        by_counts =
+            subst (λ (n : ℕ). faults new ≡ raised_by (faults old) n) (sym (sum_is count ran)) is;
+        by_failures =
+            rose_by (failed_commits fates) (faults_of count parts) (faults_of count ran)
+            (faults old) (faults new) failed is;
+      }

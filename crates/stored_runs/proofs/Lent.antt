@@ -2,20 +2,26 @@
 use Rattle.std.proofs.Common.{◌≡◌, ◌≤◌, ◌+◌, ◌⊎◌, inl, inr, ℕ, zero, suc, List, [], ◌∷◌, All, map, Option, None, Some, IsSome, slice_get, rules, refl, sym, ap, subst, ◌∙◌, arith}
 use Rattle.std.specs.List.{AllByRecursion, AllZip}
 use Rattle.std.proofs.lemmas.Bool.{cases_eq}
-use Rattle.std.proofs.lemmas.List.Elements.{All-from_recursion, recursion_from_All}
-use Rattle.batch_commits.specs.Standing.{HasStrange, IsStrange, PartsStand, batches_in, writes_at, writes_to}
+use Rattle.std.proofs.lemmas.List.Elements.{All-from_recursion, All-weaker, recursion_from_All}
+use Rattle.batch_commits.specs.Standing.{HasStrangeAt, IsStrange, PartsStand, batches_in, writes_at, writes_to}
 use Rattle.bolt_ops.specs.RowOp.{Custom}
+use Rattle.cell_format.proofs.CommitLemmas.{Stands-none}
+use Rattle.cell_format.specs.Standing.{Stands}
 use Rattle.counted_items.proofs.Each.{each-map, each-to_map}
 use Rattle.schedule_core.specs.Driving.{AreKept, StillTells}
+use Rattle.state_parts.specs.Commits.{SameCounts}
 use Rattle.state_parts.specs.declared.parts.StatePart.{StatePart}
-use Rattle.state_parts.specs.Makers.{AreMade, Began, CameBack as PartCameBack, HasNotFailed, RoseBySum, faults_of}
+use Rattle.state_parts.specs.Makers.{AreMade, Began, CameBack as PartCameBack, HasNotFailed, faults_of}
 use Rattle.state_parts.specs.PartPlans.{AreParts, IsOneOf, PartPlan, plan_of, planned_parts, plans_of}
 use Rattle.state_parts.specs.PartTables.{AreRead, IsRead}
 use Rattle.state_parts.specs.Standing.{IsEmpty, PartIsAt, PartStands}
-use Rattle.stored_runs.specs.Makers.{BeganEmpty, CameBack, HadStrange, MapsStand, StandsAt, StillTold, maker_use}
+use Rattle.stored_runs.specs.Makers.{BeganEmpty, CameBack, HadStrangeAt, MapsStand, StandsAt, StillTold, maker_use, writes_of_part}
 use Rattle.storm_stores.specs.CellMaps.{CellMap, cell_at}
+use Rattle.storm_values.specs.Counts.{raised_by}
 use Rattle.topology_plan.specs.declared.parts.Kind.{Kind}
-use Rattle.topology_plan.specs.Topology.{Topology}
+use Rattle.topology_plan.specs.Topology.{Topology, tasks_of}
+use Rattle.tree_model.specs.declared.write.Write.{Write}
+use Rattle.tree_model.specs.Trees.{nodes_of}
 use Rattle.trident_batches.specs.Batches.{Cut}
 
 -- What the calls of a body told of a maker and of the parts: it made the parts, a run went over
@@ -35,7 +41,7 @@ pub record Lent {S M : Type 0} (tells : S → CellMap → Type 0) (count : S →
   pub back : All (PartCameBack tells holds new) closed
   pub others_back : (c p : ℕ) (cells : CellMap) → (IsOneOf (plans_of closed) c p → ⊥)
       → holds mid c p cells → holds new c p cells
-  pub rose : RoseBySum (faults_of count closed) (faults mid) (faults new)
+  pub counted : faults new ≡ raised_by (faults mid) (faults_of count closed)
   pub never_falls : faults mid ≤ faults new
 
 -- ---- lists
@@ -56,7 +62,7 @@ from_planned P t parts planned all =
     each-map P (λ at. plan_of at) parts
     (recursion_from_All P (plans_of parts) (subst (All P) (sym planned) all))
 
-at_map : {X Y : Type 0} (f : X → Y) (xs : List X) (i : ℕ) (x : X) → slice_get xs i ≡ Some x
+pub at_map : {X Y : Type 0} (f : X → Y) (xs : List X) (i : ℕ) (x : X) → slice_get xs i ≡ Some x
     → slice_get (map f xs) i ≡ Some (f x)
 at_map f [] i x is = absurd (none is)
   where
@@ -68,7 +74,7 @@ at_map f (y ∷ ys) zero x is = ap Some (ap f (same is))
     same e = cc
 at_map f (y ∷ ys) (suc i) x is = at_map f ys i x is
 
-each-get : {X : Type 0} (P : X → Type 0) (xs : List X) (i : ℕ) (x : X) → AllByRecursion P xs
+pub each-get : {X : Type 0} (P : X → Type 0) (xs : List X) (i : ℕ) (x : X) → AllByRecursion P xs
     → slice_get xs i ≡ Some x → P x
 each-get P [] i x each is = absurd (none is)
   where
@@ -89,6 +95,12 @@ are_read tells count (x ∷ xs) = (
   are_read tells count xs,
 )
 
+-- and none of their stores failed
+pub have_same_counts : {S : Type 0} (count : S → ℕ) (parts : List (StatePart S))
+    → SameCounts count parts parts
+have_same_counts count [] = tt
+have_same_counts count (x ∷ xs) = (refl, have_same_counts count xs)
+
 -- stores were made for parts that are the same as those that were made
 pub still_made : {S M : Type 0} (made : M → ℕ → ℕ → Type 0) (maker : M)
     (parts ran closed : List (StatePart S)) → plans_of ran ≡ plans_of parts
@@ -108,8 +120,9 @@ no_strange kind key (inr some) = has_none (cell_at [] key) refl some.0
     has_none None same is = search rules
     has_none (Some x) same is = cc
 
-module _ {S M : Type 0} (tells : S → CellMap → Type 0) (holds : M → ℕ → ℕ → CellMap → Type 0)
-    (made : M → ℕ → ℕ → Type 0) (faults : M → ℕ) (t : Topology) (old new : M) where
+module _ {S M : Type 0} (tells : S → CellMap → Type 0) (count : S → ℕ)
+    (holds : M → ℕ → ℕ → CellMap → Type 0) (made : M → ℕ → ℕ → Type 0) (faults : M → ℕ)
+    (t : Topology) (old new : M) where
   empty_each : (parts : List (StatePart S)) → AllByRecursion (Began tells holds old) parts
       → AllByRecursion (λ (at : StatePart S). holds old at.component at.part []) parts
       → AllByRecursion (IsEmpty tells) parts
@@ -119,7 +132,7 @@ module _ {S M : Type 0} (tells : S → CellMap → Type 0) (holds : M → ℕ �
   -- stores of parts that had no cells are empty
   pub are_empty : (parts : List (StatePart S)) → AreParts t parts
       → All (Began tells holds old) parts
-      → BeganEmpty t (maker_use holds made faults old new) → All (IsEmpty tells) parts
+      → BeganEmpty t (maker_use tells count holds made faults old new) → All (IsEmpty tells) parts
   are_empty parts planned began empty =
       All-from_recursion (IsEmpty tells) parts
       (empty_each parts (recursion_from_All (Began tells holds old) parts began)
@@ -127,10 +140,10 @@ module _ {S M : Type 0} (tells : S → CellMap → Type 0) (holds : M → ℕ �
       empty))
 
   -- a part with a strange cell had it where it was made of what the maker held
-  pub had_strange : (parts : List (StatePart S)) → AreParts t parts
-      → All (Began tells holds old) parts → HasStrange tells parts
-      → HadStrange t (maker_use holds made faults old new)
-  had_strange parts planned began has =
+  pub had_strange : (parts : List (StatePart S)) (key : List ℕ) → AreParts t parts
+      → All (Began tells holds old) parts → HasStrangeAt tells parts key
+      → HadStrangeAt t (maker_use tells count holds made faults old new) key
+  had_strange parts key planned began has =
       let part_began = each-get (Began tells holds old) parts has.place has.at
       (recursion_from_All (Began tells holds old) parts began) has.is_at in
       record {
@@ -141,18 +154,15 @@ module _ {S M : Type 0} (tells : S → CellMap → Type 0) (holds : M → ℕ �
         strange = λ cells held. has.strange cells (part_began cells held);
       }
 
-module _ {M : Type 0} (holds : M → ℕ → ℕ → CellMap → Type 0) (made : M → ℕ → ℕ → Type 0)
-    (faults : M → ℕ) (t : Topology) (old new : M) where
   -- no maker that told of no cell had a strange one
-  pub not_strange : BeganEmpty t (maker_use holds made faults old new)
-      → HadStrange t (maker_use holds made faults old new) → ⊥
-  not_strange empty had =
+  pub not_strange : (key : List ℕ) → BeganEmpty t (maker_use tells count holds made faults old new)
+      → HadStrangeAt t (maker_use tells count holds made faults old new) key → ⊥
+  not_strange key empty had =
       let held = each-get (λ (part : PartPlan). holds old part.component part.part [])
       (planned_parts t) had.place had.part
       (recursion_from_All (λ (part : PartPlan). holds old part.component part.part [])
       (planned_parts t) empty) had.at in
-      let found = had.strange [] held in
-      no_strange had.part.kind found.0 found.1
+      no_strange had.part.kind key (had.strange [] held)
 
 -- ---- after it
 
@@ -161,7 +171,7 @@ module _ {S M : Type 0} (tells : S → CellMap → Type 0) (count : S → ℕ)
     (t : Topology) (old mid new : M) where
   one_told : (x y z : StatePart S) → plan_of z ≡ plan_of x → Began tells holds old x
       → StillTells tells x y → IsRead tells count y z → PartCameBack tells holds new z
-      → StillTold (maker_use holds made faults old new) (plan_of x)
+      → StillTold (maker_use tells count holds made faults old new) (plan_of x)
   one_told x y z plan began told read back =
       λ cells held.
       let after = told cells (began cells held) in (
@@ -175,7 +185,7 @@ module _ {S M : Type 0} (tells : S → CellMap → Type 0) (count : S → ℕ)
       → AllZip (StillTells tells) xs ys → AllZip (IsRead tells count) ys zs
       → AllByRecursion (PartCameBack tells holds new) zs
       → AllByRecursion
-      (λ (x : StatePart S). StillTold (maker_use holds made faults old new) (plan_of x)) xs
+      (λ (x : StatePart S). StillTold (maker_use tells count holds made faults old new) (plan_of x)) xs
   told_each [] ys zs first then began told read back = tt
   told_each (x ∷ xs) [] zs first then began told read back = absurd told
   told_each (x ∷ xs) (y ∷ ys) [] first then began told read back = absurd read
@@ -190,10 +200,10 @@ module _ {S M : Type 0} (tells : S → CellMap → Type 0) (count : S → ℕ)
   -- all stores came back
   pub came_back : (parts ran closed : List (StatePart S))
       → Lent tells count holds faults t old mid new parts ran closed
-      → CameBack t (maker_use holds made faults old new)
+      → CameBack t (maker_use tells count holds made faults old new)
   came_back parts ran closed lent = record {
     told =
-        to_planned (StillTold (maker_use holds made faults old new)) t parts lent.planned
+        to_planned (StillTold (maker_use tells count holds made faults old new)) t parts lent.planned
         (told_each parts ran closed lent.kept.plans lent.plans
         (recursion_from_All (Began tells holds old) parts lent.began) lent.kept.told lent.read
         (recursion_from_All (PartCameBack tells holds new) closed lent.back));
@@ -263,7 +273,7 @@ module _ {S M : Type 0} (tells : S → CellMap → Type 0) (count : S → ℕ)
     pub maps_stand : (parts ran closed : List (StatePart S))
         → Lent tells count holds faults t old mid new parts ran closed
         → PartsStand tells t custom cut n ran
-        → MapsStand t custom cut n (maker_use holds made faults old new)
+        → MapsStand t custom cut n (maker_use tells count holds made faults old new)
     maps_stand parts ran closed lent stands =
         to_planned (StandsAt t custom cut n (holds new)) t ran (lent.kept.plans ∙ lent.planned)
         (by (cases_eq n (batches_in cut)))
@@ -284,3 +294,37 @@ module _ {S M : Type 0} (tells : S → CellMap → Type 0) (count : S → ℕ)
             (recursion_from_All
             (PartStands tells t n (writes_to t custom cut n) (writes_at t custom cut (n + 1))) ran
             stands.stand) lent.read back_each fewer
+
+-- ---- where no run was begun
+
+module _ {S M : Type 0} (tells : S → CellMap → Type 0) (count : S → ℕ)
+    (holds : M → ℕ → ℕ → CellMap → Type 0) (made : M → ℕ → ℕ → Type 0) (faults : M → ℕ)
+    (t : Topology) (old new : M) (custom : Custom) (cut : Cut) where
+  none_written : writes_to t custom cut 0 ≡ []
+  unfolding nodes_of
+  none_written = refl
+
+  one_idle : (part : PartPlan) → holds new part.component part.part []
+      → StandsAt t custom cut 0 (holds new) part
+  one_idle part held = record {
+    cells = [];
+    told = held;
+    stands =
+        subst
+        (λ (done : List Write).
+        Stands part.kind part.by (tasks_of t part.component) part.part 0 (writes_of_part part done)
+        (writes_of_part part (writes_at t custom cut 1)) (cell_at []))
+        (sym none_written)
+        (Stands-none part.kind part.by (tasks_of t part.component) part.part
+        (writes_of_part part (writes_at t custom cut 1)));
+    within = λ all key cell is. absurd (let none = is.bytes in cc);
+  }
+
+  -- maps that held no cell, and that hold what they held, stand where no batch was committed
+  pub idle_stand : ((c p : ℕ) (cells : CellMap) → holds old c p cells → holds new c p cells)
+      → BeganEmpty t (maker_use tells count holds made faults old new)
+      → MapsStand t custom cut 0 (maker_use tells count holds made faults old new)
+  idle_stand same empty =
+      All-weaker (λ (part : PartPlan). holds old part.component part.part [])
+      (StandsAt t custom cut 0 (holds new))
+      (λ part held. one_idle part (same part.component part.part [] held)) (planned_parts t) empty

@@ -6,7 +6,7 @@ use Rattle.commit_order.specs.declared.stop.Stop.TheVariants as stop
 use Rattle.schedule_core.specs.declared.ended.Ended.{Ended}
 use Rattle.schedule_core.specs.declared.ended.Ended.TheVariants as ended
 use Rattle.state_parts.specs.declared.parts.StatePart.{StatePart}
-use Rattle.state_parts.specs.PartTables.{IsBadRowAt, IsTableOver, SomeRose}
+use Rattle.state_parts.specs.PartTables.{IsBadRowAt, IsTableOver, OneRaised}
 use Rattle.storm_stores.specs.CellMaps.{CellMap}
 use Rattle.stored_runs.specs.declared.ending.RunEnd.{RunEnd}
 use Rattle.stored_runs.specs.declared.ending.RunEnd.TheVariants as end
@@ -22,8 +22,7 @@ Closes tells count t answer old new (Ok (end.All tables)) =
 Closes tells count t answer old new (Ok (end.Exhausted txid)) = answer ≡ Err (stop.Exhausted txid)
 Closes tells count t answer old new (Ok (end.Unfinished k)) = answer ≡ Ok (ended.Unfinished k)
 Closes tells count t answer old new (Ok end.StoreFault) =
-    (answer ≡ Ok ended.All) × SomeRose count old new
-Closes tells count t answer old new (Ok end.BadCell) =
-    ((key : List ℕ) × (answer ≡ Err (stop.BadCell key)))
-    ⊎ ((answer ≡ Ok ended.All) × ((key : List ℕ) × IsBadRowAt tells old key))
+    (answer ≡ Ok ended.All) × OneRaised count old new
+Closes tells count t answer old new (Ok (end.BadCell key)) =
+    (answer ≡ Err (stop.BadCell key)) ⊎ ((answer ≡ Ok ended.All) × IsBadRowAt tells old key)
 Closes tells count t answer old new (Err e) = Unit {0}

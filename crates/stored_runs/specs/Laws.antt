@@ -1,8 +1,8 @@
 -- The laws that a run over the stores of a maker rests on. This project's own.
-use Rattle.std.specs.Prelude.{◌≡◌, ◌<◌, ℕ, true, List, All}
+use Rattle.std.specs.Prelude.{◌≡◌, ◌<◌, ℕ, true, List, All, length}
 use Rattle.std.specs.List.{AllZip}
 use Rattle.attempt_fates.specs.declared.fates.Attempt.{Attempt}
-use Rattle.batch_commits.specs.Standing.{FailsAtOneOf, FailuresAreCounted, HasStrange, PartsStand, batches_in, failed_commits}
+use Rattle.batch_commits.specs.Standing.{AllButLastAreCounted, FailsAtOneOf, FailuresAreCounted, HasStrangeAt, PartsStand, RoseByFailures, batches_in, failed_commits}
 use Rattle.bolt_ops.specs.RowOp.{Custom, IsCustom}
 use Rattle.commit_turns.specs.Outcomes.{IsOutcome}
 use Rattle.commit_turns.specs.Turns.{is_finished}
@@ -12,6 +12,7 @@ use Rattle.event_worlds.specs.Worlds.{Known, Step, first_known, run, world_after
 use Rattle.state_parts.specs.declared.answer.CommitOutcome.{CommitOutcome}
 use Rattle.state_parts.specs.declared.answer.CommitOutcome.TheVariants.{Done}
 use Rattle.state_parts.specs.declared.parts.StatePart.{StatePart}
+use Rattle.state_parts.specs.Commits.{IsBadAt}
 use Rattle.state_parts.specs.Makers.{RoseBySum, faults_of}
 use Rattle.state_parts.specs.PartPlans.{AreParts, IsOneOf, plans_of}
 use Rattle.state_parts.specs.PartTables.{IsBadRowAt, IsTableOver}
@@ -45,6 +46,9 @@ pub record PartLaws {S : Type 0} (tells : S → CellMap → Type 0) (count : S �
     (custom : Custom) (cut : Cut) : Type 0 where
   pub sum : (fates : List Attempt) (a b : List (StatePart S))
       → All (FailsAtOneOf (plans_of a)) fates → FailuresAreCounted count fates a b
+      → RoseByFailures (length a) (failed_commits fates) (faults_of count a) (faults_of count b)
+  pub last_sum : (fates : List Attempt) (a b : List (StatePart S))
+      → All (FailsAtOneOf (plans_of a)) fates → AllButLastAreCounted count fates a b
       → RoseBySum (failed_commits fates) (faults_of count a) (faults_of count b)
   pub part : (parts : List (StatePart S)) (component part : ℕ) → AreParts t parts
       → IsPart t component part → IsOneOf (plans_of parts) component part
@@ -52,5 +56,7 @@ pub record PartLaws {S : Type 0} (tells : S → CellMap → Type 0) (count : S �
       → AreParts t parts → PartsStand tells t custom cut (batches_in cut) parts
       → AllZip (IsTableOver tells parts) (states_of t) tables
       → AreTables t (writes t custom cut.records) tables
+  pub bad_cell : (parts : List (StatePart S)) (key : List ℕ) → IsBadAt tells parts key
+      → HasStrangeAt tells parts key
   pub bad_row : (parts : List (StatePart S)) (key : List ℕ) → IsBadRowAt tells parts key
-      → HasStrange tells parts
+      → HasStrangeAt tells parts key

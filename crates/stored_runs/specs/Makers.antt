@@ -2,20 +2,30 @@
 use Rattle.std.specs.Prelude.{◌≡◌, ◌≤◌, ◌+◌, ℕ, List, [], All, Some, slice_get, sum}
 use Rattle.std.specs.List.{AllZip}
 use Rattle.attempt_fates.specs.declared.fates.Attempt.{Attempt}
-use Rattle.batch_commits.specs.Standing.{IsStrange, RunsUp, batches_in, failed_commits, failures_at, writes_at, writes_to}
+use Rattle.batch_commits.specs.Standing.{CountsRun, IsStrange, batches_in, failed_commits, writes_at, writes_to}
 use Rattle.bolt_ops.specs.RowOp.{Custom}
 use Rattle.cell_format.specs.Standing.{IsWithin, Stands}
-use Rattle.state_parts.specs.Commits.{is_for_part}
+use Rattle.state_parts.specs.Commits.{FailedOnceAtMost, is_for_part}
 use Rattle.state_parts.specs.Makers.{RoseBySum}
 use Rattle.state_parts.specs.PartPlans.{IsOneOf, PartPlan, planned_parts}
 use Rattle.storm_stores.specs.CellMaps.{CellMap, cell_at}
+use Rattle.storm_values.specs.Counts.{raised_by}
 use Rattle.topology_plan.specs.Topology.{Topology, tasks_of}
 use Rattle.tree_model.specs.declared.write.Write.{Write}
 use Rattle.trident_batches.specs.Batches.{Cut}
 use Rattle.std.specs.Prelude.{filter}
 
+-- A store, as it stood at some moment, told these cells and had failed so often. Only the calls of a
+-- store make a store, so there is none that no run of such calls leads to.
+pub record StoreStood {S : Type 0} (tells : S → CellMap → Type 0) (count : S → ℕ) (cells : CellMap)
+    (failed : ℕ) : Type 0 where
+  pub store : S
+  pub told : tells store cells
+  pub counted : count store ≡ failed
+
 -- A maker before and after a call: the cells that it told of each part of each component, the parts
--- for which it had made a store, and how often its outside had failed, up to 2^64 - 1.
+-- for which it had made a store, how often its outside had failed, up to 2^64 - 1, and with which
+-- cells and how many faults one of its stores stood at a moment.
 pub record MakerUse : Type 1 where
   pub held : ℕ → ℕ → CellMap → Type 0
   pub holds : ℕ → ℕ → CellMap → Type 0
@@ -23,17 +33,19 @@ pub record MakerUse : Type 1 where
   pub has_made : ℕ → ℕ → Type 0
   pub faults_before : ℕ
   pub faults_after : ℕ
+  pub stood : CellMap → ℕ → Type 0
 
--- the record of a maker, from what its trait tells of it
-abbrev pub maker_use : {M : Type 0} → (M → ℕ → ℕ → CellMap → Type 0) → (M → ℕ → ℕ → Type 0)
-    → (M → ℕ) → M → M → MakerUse
-maker_use holds made faults old new = record {
+-- the record of a maker, from what its trait and that of its stores tell
+abbrev pub maker_use : {S M : Type 0} → (S → CellMap → Type 0) → (S → ℕ)
+    → (M → ℕ → ℕ → CellMap → Type 0) → (M → ℕ → ℕ → Type 0) → (M → ℕ) → M → M → MakerUse
+maker_use tells count holds made faults old new = record {
   held = holds old;
   holds = holds new;
   had_made = made old;
   has_made = made new;
   faults_before = faults old;
   faults_after = faults new;
+  stood = StoreStood tells count;
 }
 
 -- ---- what it told before
@@ -43,14 +55,14 @@ abbrev pub BeganEmpty : Topology → MakerUse → Type 0
 BeganEmpty t maker =
     All (λ (part : PartPlan). maker.held part.component part.part []) (planned_parts t)
 
--- One of the parts had a cell that no part of its kind takes, or one at a key that is no text,
--- where the maker told its cells.
-pub record HadStrange (t : Topology) (maker : MakerUse) : Type 0 where
+-- One of the parts had at this key a cell that no part of its kind takes, or a cell where the key is
+-- no text, as far as the maker told its cells.
+pub record HadStrangeAt (t : Topology) (maker : MakerUse) (key : List ℕ) : Type 0 where
   pub place : ℕ
   pub part : PartPlan
   pub at : slice_get (planned_parts t) place ≡ Some part
   pub strange : (cells : CellMap) → maker.held part.component part.part cells
-      → (key : List ℕ) × IsStrange part.kind key (cell_at cells key)
+      → IsStrange part.kind key (cell_at cells key)
 
 -- ---- what it tells after
 
@@ -95,15 +107,45 @@ pub record IsUntouched (maker : MakerUse) : Type 0 where
 
 -- ---- how often stores failed
 
--- Each failed commit that these fates tell was a failure of its part's store, whose count had the
--- numbers that they tell, one after another. The maker's count rose by the counts of all stores,
--- and so by one for each failed commit, and by so many more.
-pub record FaultsAreCounted (t : Topology) (maker : MakerUse) (fates : List Attempt) (more : ℕ)
-    : Type 0 where
+-- the counts of the stores of all parts, each of which ran from 0 through these fates
+abbrev pub CountsOf : Topology → List Attempt → List ℕ → Type 0
+CountsOf t fates counts =
+    AllZip
+    (λ (part : PartPlan) (count : ℕ). CountsRun part.component part.part 0 fates count)
+    (planned_parts t) counts
+
+-- What stores failed is what these fates tell: the store of each part had the counts that they tell,
+-- and stood still between them. The maker's count rose by the counts of all stores, and so by one at
+-- least for each failed commit.
+pub record FaultsAreCounted (t : Topology) (maker : MakerUse) (fates : List Attempt) : Type 0 where
   pub counts : List ℕ
-  pub each : AllZip
-      (λ (part : PartPlan) (count : ℕ).
-      RunsUp 0 (failures_at part.component part.part fates) count)
-      (planned_parts t) counts
-  pub by_counts : RoseBySum (sum counts) maker.faults_before maker.faults_after
-  pub by_failures : RoseBySum (failed_commits fates + more) maker.faults_before maker.faults_after
+  pub each : CountsOf t fates counts
+  pub by_counts : maker.faults_after ≡ raised_by maker.faults_before (sum counts)
+  pub by_failures : RoseBySum (failed_commits fates) maker.faults_before maker.faults_after
+
+-- The same up to a last reading, in which the store of one part failed once, and no other: before
+-- it this store stood with the cells that came back, where it told any, and with the count that it
+-- has by the fates.
+pub record ReadingFailed (t : Topology) (maker : MakerUse) (fates : List Attempt) : Type 0 where
+  pub counts : List ℕ
+  pub each : CountsOf t fates counts
+  pub place : ℕ
+  pub part : PartPlan
+  pub before : ℕ
+  pub at : slice_get (planned_parts t) place ≡ Some part
+  pub count_at : slice_get counts place ≡ Some before
+  pub stood : (cells : CellMap) → maker.held part.component part.part cells
+      → (after : CellMap)
+      × (maker.holds part.component part.part after × maker.stood after before)
+  pub by_counts : maker.faults_after ≡ raised_by maker.faults_before (sum counts + 1)
+  pub by_failures : RoseBySum (failed_commits fates + 1) maker.faults_before maker.faults_after
+
+-- The same up to a commit that a bad cell broke off, in which each store may have failed once, as no
+-- fate tells.
+pub record FaultsBeforeBadCell (t : Topology) (maker : MakerUse) (fates : List Attempt) : Type 0 where
+  pub counts : List ℕ
+  pub each : CountsOf t fates counts
+  pub ends : List ℕ
+  pub once_at_most : AllZip FailedOnceAtMost counts ends
+  pub by_counts : maker.faults_after ≡ raised_by maker.faults_before (sum ends)
+  pub by_failures : RoseBySum (failed_commits fates) maker.faults_before maker.faults_after

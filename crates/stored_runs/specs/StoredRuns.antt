@@ -16,7 +16,7 @@ use Rattle.storm_values.specs.Counts.{Rose}
 use Rattle.storm_ticks.specs.Ticking.{handed_on}
 use Rattle.stored_runs.specs.declared.ending.RunEnd.{RunEnd}
 use Rattle.stored_runs.specs.declared.ending.RunEnd.TheVariants as end
-use Rattle.stored_runs.specs.Makers.{BeganEmpty, FaultsAreCounted, HadStrange, MakerUse, MapsStand}
+use Rattle.stored_runs.specs.Makers.{BeganEmpty, FaultsAreCounted, FaultsBeforeBadCell, HadStrangeAt, MakerUse, MapsStand, ReadingFailed}
 use Rattle.topology_plan.specs.Topology.{Topology}
 use Rattle.tree_model.specs.Tables.{AreTables}
 use Rattle.tree_model.specs.Trees.{writes}
@@ -27,7 +27,7 @@ use Rattle.trident_batches.specs.Batches.{Cut}
 -- What the end of a run says: all batches were committed, and over stores that began empty the
 -- tables are those of one machine that takes all records in order; or all attempts of a transaction
 -- ended without a commit; or so many batches are committed; or all were committed, and a store
--- failed at the last reading; or a store had a cell before the run that no part takes.
+-- failed at the last reading; or a store had at this key a cell before the run that no part takes.
 abbrev pub EndComes : Topology → Custom → Cut → ℕ → MakerUse → List Attempt → RunEnd → Type 0
 EndComes t custom cut ticks maker fates (end.All tables) =
     IsWhole (length cut.records) cut.size ticks fates
@@ -37,23 +37,16 @@ EndComes t custom cut ticks maker fates (end.Unfinished k) =
     (committed_count fates ≡ k) × (k < batches_in cut)
 EndComes t custom cut ticks maker fates end.StoreFault =
     IsWhole (length cut.records) cut.size ticks fates
-EndComes t custom cut ticks maker fates end.BadCell = HadStrange t maker
+EndComes t custom cut ticks maker fates (end.BadCell key) = HadStrangeAt t maker key
 
--- how many more faults there were than failed commits: one at the last reading
-abbrev pub more_faults : RunEnd → ℕ
-more_faults (end.All tables) = 0
-more_faults (end.Exhausted txid) = 0
-more_faults (end.Unfinished k) = 0
-more_faults end.StoreFault = 1
-more_faults end.BadCell = 0
-
--- no bad cell was met
-abbrev pub MetNoBadCell : RunEnd → Type 0
-MetNoBadCell (end.All tables) = Unit {0}
-MetNoBadCell (end.Exhausted txid) = Unit {0}
-MetNoBadCell (end.Unfinished k) = Unit {0}
-MetNoBadCell end.StoreFault = Unit {0}
-MetNoBadCell end.BadCell = ⊥
+-- What the end says of faults: what stores failed is what the fates tell, and one fault more at the
+-- last reading where that failed.
+abbrev pub FaultsCome : Topology → MakerUse → List Attempt → RunEnd → Type 0
+FaultsCome t maker fates (end.All tables) = FaultsAreCounted t maker fates
+FaultsCome t maker fates (end.Exhausted txid) = FaultsAreCounted t maker fates
+FaultsCome t maker fates (end.Unfinished k) = FaultsAreCounted t maker fates
+FaultsCome t maker fates end.StoreFault = ReadingFailed t maker fates
+FaultsCome t maker fates (end.BadCell key) = FaultsBeforeBadCell t maker fates
 
 -- ---- a run
 
@@ -74,10 +67,16 @@ pub record IsRun (told : (ℕ → ℕ → ℕ) → Type 0) (t : Topology) (custo
   -- each end has its cause
   pub caused : HaveCauses told t custom cut ticks fates
   pub failed_in_turn : FailsInTurn fates
-  pub counted : FaultsAreCounted t maker fates (more_faults ending)
+  pub counted : FaultsCome t maker fates ending
   -- over stores that began empty all maps stand at the batches that were committed
-  pub stands : MetNoBadCell ending → BeganEmpty t maker
-      → MapsStand t custom cut (committed_count fates) maker
+  pub stands : BeganEmpty t maker → MapsStand t custom cut (committed_count fates) maker
+
+-- Of a run that ended without memory: over stores that began empty all maps stand at the batches
+-- that were committed. The commit of the next one may have been under way, so that each key has its
+-- old cell or that of this commit.
+abbrev pub StandsWithoutMemory : Topology → Custom → Cut → MakerUse → List Attempt → Type 0
+StandsWithoutMemory t custom cut maker fates =
+    BeganEmpty t maker → MapsStand t custom cut (committed_count fates) maker
 
 -- ---- worlds
 
@@ -92,7 +91,7 @@ IsEndOfWorld t custom cut words steps fates (end.Unfinished k) =
     IsOfWorld t custom cut words steps (Ok (ended.Unfinished k)) fates
 IsEndOfWorld t custom cut words steps fates end.StoreFault =
     IsOfWorld t custom cut words steps (Ok ended.All) fates
-IsEndOfWorld t custom cut words steps fates end.BadCell = Unit {0}
+IsEndOfWorld t custom cut words steps fates (end.BadCell key) = Unit {0}
 
 -- They are so by some words of the sources of ids, and by those that the sources told.
 pub record IsRunOfWorld (told : (ℕ → ℕ → ℕ) → Type 0) (t : Topology) (custom : Custom) (cut : Cut)
@@ -124,7 +123,6 @@ pub record IsRunByRounds (told : (ℕ → ℕ → ℕ) → Type 0) (ticking : Li
 pub record NothingIsInTheWay (t : Topology) (maker : MakerUse) (fates : List Attempt) : Type 0 where
   pub began_empty : BeganEmpty t maker
   pub no_fault : Rose maker.faults_before maker.faults_after → ⊥
-  pub ends : maker.faults_before ≤ 2 ^ 64 - 1
   pub can_finish : CanFinish t
   pub no_coincidence : All DoesNotCoincide fates
 
@@ -134,4 +132,4 @@ IsAll (end.All tables) = Unit {0}
 IsAll (end.Exhausted txid) = ⊥
 IsAll (end.Unfinished k) = ⊥
 IsAll end.StoreFault = ⊥
-IsAll end.BadCell = ⊥
+IsAll (end.BadCell key) = ⊥

@@ -2,6 +2,7 @@
 ghost use Rattle.std.specs.Prelude.{◌≡◌, Ok};
 ghost use Rattle.schedule_core.specs.Runs.{ended};
 ghost use Rattle.schedule_core.specs.declared.ended.Ended.TheVariants as of_run;
+ghost use Rattle.state_parts.specs.Commits.{SameCounts};
 ghost use Rattle.state_parts.specs.PartPlans.{plans_of};
 ghost use Rattle.state_parts.specs.PartTables.{AreRead};
 ghost use Rattle.stored_runs.specs.Closing.{Closes};
@@ -25,12 +26,14 @@ pub(crate) fn close<C: CellStore>(
     ensures closes { Closes C.tells C.fault_count plan.now answer parts.old parts.new result }
     ensures plans { plans_of parts.new ≡ plans_of parts.old }
     ensures read { AreRead C.tells C.fault_count parts.old parts.new }
+    ensures quiet { (result ≡ Ok RunEnd.StoreFault → ⊥) →
+        SameCounts C.fault_count parts.old parts.new }
 {
     match answer {
         Ok(Ended::All) => read(plan, parts),
         Ok(Ended::Unfinished(count)) => Ok(RunEnd::Unfinished(count)),
         Err(Stop::Exhausted(txid)) => Ok(RunEnd::Exhausted(txid)),
-        Err(Stop::BadCell(_)) => Ok(RunEnd::BadCell),
+        Err(Stop::BadCell(key)) => Ok(RunEnd::BadCell(key)),
         Err(Stop::Memory) => Err(AllocError),
     }
 }
@@ -41,11 +44,13 @@ fn read<C: CellStore>(plan: &Plan, parts: &mut Parts<C>) -> Result<RunEnd, Memor
         result }
     ensures plans { plans_of parts.new ≡ plans_of parts.old }
     ensures read { AreRead C.tells C.fault_count parts.old parts.new }
+    ensures quiet { (result ≡ Ok RunEnd.StoreFault → ⊥) →
+        SameCounts C.fault_count parts.old parts.new }
 {
     match parts.tables(plan) {
         Ok(tables) => Ok(RunEnd::All(tables)),
         Err(PartFault::Store) => Ok(RunEnd::StoreFault),
-        Err(PartFault::BadCell(_)) => Ok(RunEnd::BadCell),
+        Err(PartFault::BadCell(key)) => Ok(RunEnd::BadCell(key)),
         Err(PartFault::Memory) => Err(AllocError),
     }
 }

@@ -1,3 +1,4 @@
+use storm_values::Bytes;
 use tree_model::Tables;
 
 /// How a run over the stores of a maker ended.
@@ -11,6 +12,6 @@ pub enum RunEnd {
     Unfinished(u64),
     /// Every batch is committed, and a store failed when the tables were read.
     StoreFault,
-    /// A store has a cell that its part does not take, or one at a key that is no text.
-    BadCell,
+    /// A store has a cell at this key that its part does not take, or the key is no text.
+    BadCell(Bytes),
 }

@@ -1,5 +1,5 @@
 //! A given schedule over the stores of a maker.
-ghost use Rattle.std.specs.Prelude.{◌≡◌, ◌<◌, [], IfOk, length};
+ghost use Rattle.std.specs.Prelude.{◌≡◌, ◌<◌, [], IfOk, OnErr, length};
 ghost use Rattle.std.specs.List.{AllByRecursion};
 ghost use Rattle.attempt_fates.specs.Fates.{IsOnce};
 ghost use Rattle.commit_turns.specs.Turns.{last_tick};
@@ -8,7 +8,7 @@ ghost use Rattle.event_worlds.specs.Rounds.{HasRounds, rounds_needed, ticks_in};
 ghost use Rattle.schedule_core.specs.Schedules.{all_steps};
 ghost use Rattle.schedule_reader.specs.Events.{FitsEvent};
 ghost use Rattle.stored_runs.specs.Makers.{CameBack, maker_use};
-ghost use Rattle.stored_runs.specs.StoredRuns.{IsAll, IsRun, IsRunOfWorld, NothingIsInTheWay};
+ghost use Rattle.stored_runs.specs.StoredRuns.{IsAll, IsRun, IsRunOfWorld, NothingIsInTheWay, StandsWithoutMemory};
 
 use crate::closing::close;
 use crate::ending::RunEnd;
@@ -46,10 +46,15 @@ pub fn replay_over<N: IdMaker, M: StoreMaker, O: RowOp>(
     // What the end, the fates and the stores come to.
     ensures comes { IfOk result (IsRun (N.tells ids.old) plan.now (O.meaning custom.now) batches
         (ticks_in (all_steps plan.now events.now))
-        (maker_use M.holds M.has_made M.fault_count stores.old stores.new) fates.new) }
+        (maker_use M.C.tells M.C.fault_count M.holds M.has_made M.fault_count
+        stores.old stores.new) fates.new) }
     ensures once { IsOnce (length batches.records) batches.size last_tick fates.new }
     ensures back { CameBack plan.now
-        (maker_use M.holds M.has_made M.fault_count stores.old stores.new) }
+        (maker_use M.C.tells M.C.fault_count M.holds M.has_made M.fault_count
+        stores.old stores.new) }
+    ensures short { OnErr result (StandsWithoutMemory plan.now (O.meaning custom.now) batches
+        (maker_use M.C.tells M.C.fault_count M.holds M.has_made M.fault_count
+        stores.old stores.new) fates.new) }
 
     // It is the run of one world.
     ensures world { IfOk result (IsRunOfWorld (N.tells ids.old) plan.now (O.meaning custom.now)
@@ -57,7 +62,8 @@ pub fn replay_over<N: IdMaker, M: StoreMaker, O: RowOp>(
 
     // With rounds enough and few ticks every batch is committed, where nothing is in the way.
     ensures finishes { NothingIsInTheWay plan.now
-        (maker_use M.holds M.has_made M.fault_count stores.old stores.new) fates.new
+        (maker_use M.C.tells M.C.fault_count M.holds M.has_made M.fault_count
+        stores.old stores.new) fates.new
         → HasRounds plan.now (rounds_needed plan.now (O.meaning custom.now) batches)
         (all_steps plan.now events.now)
         → ticks_in (all_steps plan.now events.now) < plan.now.buckets → IfOk result IsAll }

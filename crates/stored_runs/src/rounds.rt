@@ -1,12 +1,12 @@
 //! Rounds with the ticks of a source, over the stores of a maker.
-ghost use Rattle.std.specs.Prelude.{◌≡◌, ◌<◌, ℕ, List, [], IfOk, length, sum};
+ghost use Rattle.std.specs.Prelude.{◌≡◌, ◌<◌, ℕ, List, [], IfOk, OnErr, length, sum};
 ghost use Rattle.attempt_fates.specs.Fates.{IsOnce};
 ghost use Rattle.commit_turns.specs.Turns.{last_tick};
 ghost use Rattle.event_worlds.specs.Accounted.{IsInput};
 ghost use Rattle.event_worlds.specs.Rounds.{rounds_needed};
 ghost use Rattle.schedule_core.specs.Runs.{first_answers, ticks_between};
 ghost use Rattle.stored_runs.specs.Makers.{CameBack, maker_use};
-ghost use Rattle.stored_runs.specs.StoredRuns.{IsAll, IsRun, IsRunByRounds, NothingIsInTheWay};
+ghost use Rattle.stored_runs.specs.StoredRuns.{IsAll, IsRun, IsRunByRounds, NothingIsInTheWay, StandsWithoutMemory};
 
 use crate::closing::{as_ended, close};
 use crate::ending::RunEnd;
@@ -48,11 +48,16 @@ pub fn run_over<R: Wait, T: Ticks, N: IdMaker, M: StoreMaker, O: RowOp>(
     // What the end, the fates and the stores come to.
     ensures comes { IfOk result (IsRun (N.tells ids.old) plan.now (O.meaning custom.now) batches
         (ticks_between (T.handed_out ticks.old) (T.handed_out ticks.new))
-        (maker_use M.holds M.has_made M.fault_count stores.old stores.new) fates.new) }
+        (maker_use M.C.tells M.C.fault_count M.holds M.has_made M.fault_count
+        stores.old stores.new) fates.new) }
     ensures goes_on { (k : ℕ) → result ≡ Ok (RunEnd.Unfinished k) → ⊥ }
     ensures once { IsOnce (length batches.records) batches.size last_tick fates.new }
     ensures back { CameBack plan.now
-        (maker_use M.holds M.has_made M.fault_count stores.old stores.new) }
+        (maker_use M.C.tells M.C.fault_count M.holds M.has_made M.fault_count
+        stores.old stores.new) }
+    ensures short { OnErr result (StandsWithoutMemory plan.now (O.meaning custom.now) batches
+        (maker_use M.C.tells M.C.fault_count M.holds M.has_made M.fault_count
+        stores.old stores.new) fates.new) }
 
     // It is the run of one world, by rounds each with as many ticks as the source answered.
     ensures world { IfOk result (IsRunByRounds (N.tells ids.old) (T.tells ticks.old) plan.now
@@ -63,7 +68,8 @@ pub fn run_over<R: Wait, T: Ticks, N: IdMaker, M: StoreMaker, O: RowOp>(
     // nothing is in the way.
     ensures finishes { (to_come : List ℕ) → T.tells ticks.old to_come
         → NothingIsInTheWay plan.now
-        (maker_use M.holds M.has_made M.fault_count stores.old stores.new) fates.new
+        (maker_use M.C.tells M.C.fault_count M.holds M.has_made M.fault_count
+        stores.old stores.new) fates.new
         → sum (first_answers (rounds_needed plan.now (O.meaning custom.now) batches) to_come)
         < plan.now.buckets → IfOk result IsAll }
 {

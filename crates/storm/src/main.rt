@@ -5,7 +5,7 @@
 //! ChaCha20 with a key of 32 zero bytes.
 #![tactic(auto)]
 
-ghost use Rattle.std.specs.Prelude.{map, string_bytes};
+ghost use Rattle.std.specs.Prelude.{◌≡◌, map, replicate, string_bytes};
 ghost use Rattle.bolt_ops.specs.RowOp.{reversed};
 ghost use Rattle.storm_program.specs.Outside.{run_use, shelf_use, sink_use, ticks_use};
 ghost use Rattle.storm_program.specs.Storm.{Exits};
@@ -43,7 +43,8 @@ fn exit_status<R: Threads + Wait + Sync, H: Shelf, K: Sink, T: Ticks, M: StoreMa
     ensures { Exits reversed (map string_bytes words.now)
         (shelf_use H.holds H.ready H.fetches H.faults shelf.old shelf.new)
         (sink_use K.taken K.faults out.old out.new)
-        (run_use (maker_use M.holds M.has_made M.fault_count stores.old stores.new)
+        (run_use (maker_use M.C.tells M.C.fault_count M.holds M.has_made M.fault_count
+        stores.old stores.new)
         (N.tells ids.old))
         (ticks_use T.handed_out T.tells ticks.old ticks.new) result }
 {
@@ -61,6 +62,13 @@ fn keep_what_is_freed(alloc: Global) {
     let _ = Vec::<u8>::with_capacity(alloc, LARGE);
 }
 
+/// The sources of ids of the program, by a key of 32 zero bytes.
+fn ids_of_key_zero() -> ChaChaMaker
+    ensures { result.key ≡ replicate 32 0 }
+{
+    ChaChaMaker { key: [0; 32] }
+}
+
 fn main(rt: HostRuntime) -> ExitCode {
     let alloc = rt.alloc();
     keep_what_is_freed(alloc);
@@ -71,7 +79,7 @@ fn main(rt: HostRuntime) -> ExitCode {
     let mut out = OutSink::new(&rt);
     let mut ticks = ClockTicks::new(&rt);
     let mut stores = MemMaker::new(alloc);
-    let mut ids = ChaChaMaker { key: [0; 32] };
+    let mut ids = ids_of_key_zero();
     let code = exit_status(
         &rt,
         alloc,

@@ -163,7 +163,7 @@ run_came custom shelf base ticks topology input fates status.Input text has come
 run_came custom shelf base ticks topology input fates status.ReadFault text has comes = comes.0
 run_came custom shelf base ticks topology input fates status.Exhausted text has comes = (tt, (comes.1.1.plan, comes.1.1.records, comes.1.1.accepted))
 run_came custom shelf base ticks topology input fates status.StoreFault text has comes = (tt, (comes.1.plan, comes.1.records, comes.1.accepted))
-run_came custom shelf base ticks topology input fates status.BadCell text has comes = (tt, (comes.1.plan, comes.1.records, comes.1.accepted))
+run_came custom shelf base ticks topology input fates status.BadCell text has comes = (tt, (comes.1.1.plan, comes.1.1.records, comes.1.1.accepted))
 run_came custom shelf base ticks topology input fates _ text has comes = absurd comes
 
 pub run_answered : (custom : Custom) (shelf : ShelfUse) (sink : SinkUse) (base : RunUse) (ticks : TicksUse) (topology input : List ℕ) (fates : List Attempt) (s : Status) → Ends (RunComes custom shelf base ticks topology input fates) sink s → IsAnswered (RunCalls shelf.holds topology input) shelf sink s
@@ -243,7 +243,7 @@ module _ (custom : Custom) (shelf : ShelfUse) (sink : SinkUse) (base : RunUse) (
   replay_came status.Exhausted text has comes = (tt, (comes.1.1.plan, comes.1.1.records, comes.1.1.events, comes.1.1.accepted))
   replay_came status.Unfinished text has comes = (tt, (comes.1.1.plan, comes.1.1.records, comes.1.1.events, comes.1.1.accepted))
   replay_came status.StoreFault text has comes = (tt, (comes.1.plan, comes.1.records, comes.1.events, comes.1.accepted))
-  replay_came status.BadCell text has comes = (tt, (comes.1.plan, comes.1.records, comes.1.events, comes.1.accepted))
+  replay_came status.BadCell text has comes = (tt, (comes.1.1.plan, comes.1.1.records, comes.1.1.events, comes.1.1.accepted))
   replay_came _ text has comes = absurd comes
 
   pub replay_answered : (s : Status) → Ends (ReplayComes custom shelf base topology input schedule fates) sink s → IsAnswered (ReplayCalls shelf.holds topology input schedule) shelf sink s

@@ -30,7 +30,7 @@ use Rattle.storm_values.specs.declared.value.Value.{Value}
 use Rattle.stored_runs.specs.declared.ending.RunEnd.{RunEnd}
 use Rattle.stored_runs.specs.declared.ending.RunEnd.TheVariants as end
 use Rattle.stored_runs.specs.Makers.{CameBack, MapsStand}
-use Rattle.stored_runs.specs.StoredRuns.{IsAll, IsRun, IsRunOfWorld}
+use Rattle.stored_runs.specs.StoredRuns.{IsAll, IsRun, IsRunOfWorld, StandsWithoutMemory}
 use Rattle.topology_plan.specs.Topology.{Topology}
 use Rattle.tree_model.specs.Tables.{AreTables}
 use Rattle.tree_model.specs.Trees.{writes}
@@ -65,12 +65,12 @@ module _ (custom : Custom) (plan : Topology) (records : List (List Value)) (base
         failed_in_turn = run.failed_in_turn;
         counted = run.counted;
         back = back;
-        stands = λ empty. subst (λ (n : ℕ). MapsStand plan custom (cut_by plan records) n base.stores) count (run.stands tt empty);
+        stands = λ empty. subst (λ (n : ℕ). MapsStand plan custom (cut_by plan records) n base.stores) count (run.stands empty);
       }
   report_of r b r_is b_is (end.Exhausted txid) text all printed run back = absurd all
   report_of r b r_is b_is (end.Unfinished k) text all printed run back = absurd all
   report_of r b r_is b_is end.StoreFault text all printed run back = absurd all
-  report_of r b r_is b_is end.BadCell text all printed run back = absurd all
+  report_of r b r_is b_is (end.BadCell key) text all printed run back = absurd all
 
   -- over batches that are those of the plan, of so many records
   module _ (cut : Cut) (cut_is : cut ≡ cut_by plan records) (r b : ℕ) (r_is : r ≡ length cut.records) (b_is : b ≡ batch_count (length cut.records) cut.size) where
@@ -95,8 +95,12 @@ module _ (custom : Custom) (plan : Topology) (records : List (List Value)) (base
           (subst (λ (n : ℕ). IsEndText plan r n fates ending text) b_of printed);
     }
 
-    pub short_of : IsOnce (length cut.records) cut.size last_tick fates → CameBack plan base.stores → IsShort plan records base fates
-    short_of once back = record { once = subst (λ (k : Cut). IsOnce (length k.records) k.size last_tick fates) cut_is once; back = back }
+    pub short_of : IsOnce (length cut.records) cut.size last_tick fates → CameBack plan base.stores → StandsWithoutMemory plan custom cut base.stores fates → IsShort custom plan records base fates
+    short_of once back stands = record {
+      once = subst (λ (k : Cut). IsOnce (length k.records) k.size last_tick fates) cut_is once;
+      back = back;
+      stands = subst (λ (k : Cut). StandsWithoutMemory plan custom k base.stores fates) cut_is stands;
+    }
 
 -- the report of a replay, whose fates are those of the world
 module _ (custom : Custom) (plan : Topology) (records : List (List Value)) (base : RunUse) (fates : List Attempt) (cut : Cut) (cut_is : cut ≡ cut_by plan records) (r b : ℕ) (r_is : r ≡ length cut.records) (b_is : b ≡ batch_count (length cut.records) cut.size) (events : List Event) where
@@ -114,7 +118,7 @@ module _ (custom : Custom) (plan : Topology) (records : List (List Value)) (base
   replay_report_if (end.Exhausted txid) (Ok text) all printed run back world = absurd all
   replay_report_if (end.Unfinished k) (Ok text) all printed run back world = absurd all
   replay_report_if end.StoreFault (Ok text) all printed run back world = absurd all
-  replay_report_if end.BadCell (Ok text) all printed run back world = absurd all
+  replay_report_if (end.BadCell key) (Ok text) all printed run back world = absurd all
 
 -- a run by rounds does not end unfinished
 pub rounds_end : {E : Type 0} (r : Result RunEnd E) (ending : RunEnd) → r ≡ Ok ending → ((k : ℕ) → r ≡ Ok (end.Unfinished k) → ⊥) → IsRoundsEnd ending
@@ -122,7 +126,7 @@ rounds_end r (end.All tables) is goes_on = tt
 rounds_end r (end.Exhausted txid) is goes_on = tt
 rounds_end r (end.Unfinished k) is goes_on = goes_on k is
 rounds_end r end.StoreFault is goes_on = tt
-rounds_end r end.BadCell is goes_on = tt
+rounds_end r (end.BadCell key) is goes_on = tt
 
 -- the stop of a run that ended so, where `Ends` holds of its text
 work_told : (Ends : RunEnd → List ℕ → Type 0) (Short : Type 0) (ending : RunEnd) (text : List ℕ) → (IsAll ending → ⊥) → Ends ending text → HasText (status_of ending) × WorkStops Ends Short (status_of ending) text
@@ -130,7 +134,7 @@ work_told Ends Short (end.All tables) text not_all ends = absurd (not_all tt)
 work_told Ends Short (end.Exhausted txid) text not_all ends = (tt, (txid, ends))
 work_told Ends Short (end.Unfinished k) text not_all ends = (tt, (k, ends))
 work_told Ends Short end.StoreFault text not_all ends = (tt, ends)
-work_told Ends Short end.BadCell text not_all ends = (tt, ends)
+work_told Ends Short (end.BadCell key) text not_all ends = (tt, (key, ends))
 
 pub work_stops : {T : Type 0} (Ends : RunEnd → List ℕ → Type 0) (Short : Type 0) (plan : Topology) (r b : ℕ) (fates : List Attempt) (ending : RunEnd) (result : Result T Stop) → ((text : List ℕ) → IsEndText plan r b fates ending text → Ends ending text) → Short → IfErr result (IsStopOfEnd plan r b fates ending) → IfErr result (Stops (WorkStops Ends Short))
 work_stops Ends Short plan r b fates ending (Ok x) makes short stops = tt

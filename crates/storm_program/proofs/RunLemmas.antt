@@ -46,8 +46,8 @@ plain_of_files custom shelf topology input status.Done text comes = absurd comes
 plain_of_files custom shelf topology input _ text comes = comes
 
 -- a maker that was not called is untouched
-pub untouched : {M : Type 0} (holds : M → ℕ → ℕ → CellMap → Type 0) (made : M → ℕ → ℕ → Type 0) (faults : M → ℕ) (maker : M) → IsUntouched (maker_use holds made faults maker maker)
-untouched holds made faults maker = record { none_made = λ c p was. was; same = λ c p cells held. held; no_fault = refl }
+pub untouched : {S M : Type 0} (tells : S → CellMap → Type 0) (count : S → ℕ) (holds : M → ℕ → ℕ → CellMap → Type 0) (made : M → ℕ → ℕ → Type 0) (faults : M → ℕ) (maker : M) → IsUntouched (maker_use tells count holds made faults maker maker)
+untouched tells count holds made faults maker = record { none_made = λ c p was. was; same = λ c p cells held. held; no_fault = refl }
 
 -- ---- files that were not accepted, where the told ones are good
 
@@ -107,12 +107,12 @@ module _ (custom : Custom) (shelf : ShelfUse) (base : RunUse) (ticks : TicksUse)
 
   -- what it comes to that made no report
   pub run_of_work : (plan : Topology) (records : List (List Value)) → Fetched 2 shelf → AreAccepted shelf.holds topology input plan records → (s : Status) (text : List ℕ)
-      → WorkStops (λ ending said. IsRoundsEnd ending × EndsSo custom plan records base (ticks_of_run ticks) fates ending said) (IsShort plan records base fates) s text → RunComes custom shelf base ticks topology input fates s text
+      → WorkStops (λ ending said. IsRoundsEnd ending × EndsSo custom plan records base (ticks_of_run ticks) fates ending said) (IsShort custom plan records base fates) s text → RunComes custom shelf base ticks topology input fates s text
   run_of_work plan records twice accepted status.Memory text comes = inr (twice, record { plan = plan; records = records; accepted = accepted; comes = comes })
   run_of_work plan records twice accepted status.Exhausted text comes = (comes.0, (twice, record { plan = plan; records = records; accepted = accepted; comes = comes.1.1 }))
   run_of_work plan records twice accepted status.Unfinished text comes = absurd comes.1.0
   run_of_work plan records twice accepted status.StoreFault text comes = (twice, record { plan = plan; records = records; accepted = accepted; comes = comes.1 })
-  run_of_work plan records twice accepted status.BadCell text comes = (twice, record { plan = plan; records = records; accepted = accepted; comes = comes.1 })
+  run_of_work plan records twice accepted status.BadCell text comes = (comes.0, (twice, record { plan = plan; records = records; accepted = accepted; comes = comes.1.1 }))
   run_of_work plan records twice accepted _ text comes = absurd comes
 
   -- where it must commit all, nothing is in the way of what was accepted
@@ -152,12 +152,12 @@ module _ (custom : Custom) (shelf : ShelfUse) (base : RunUse) (topology input sc
   done_of_replay plan records events thrice accepted (Err stop) report = tt
 
   pub replay_of_work : (plan : Topology) (records : List (List Value)) (events : List Event) → Fetched 3 shelf → AreAllAccepted shelf.holds topology input schedule plan records events → (s : Status) (text : List ℕ)
-      → WorkStops (ReplayEndsSo custom plan records events base fates) (IsShort plan records base fates) s text → ReplayComes custom shelf base topology input schedule fates s text
+      → WorkStops (ReplayEndsSo custom plan records events base fates) (IsShort custom plan records base fates) s text → ReplayComes custom shelf base topology input schedule fates s text
   replay_of_work plan records events thrice accepted status.Memory text comes = inr (thrice, record { plan = plan; records = records; events = events; accepted = accepted; comes = comes })
   replay_of_work plan records events thrice accepted status.Exhausted text comes = (comes.0, (thrice, record { plan = plan; records = records; events = events; accepted = accepted; comes = comes.1 }))
   replay_of_work plan records events thrice accepted status.Unfinished text comes = (comes.0, (thrice, record { plan = plan; records = records; events = events; accepted = accepted; comes = comes.1 }))
   replay_of_work plan records events thrice accepted status.StoreFault text comes = (thrice, record { plan = plan; records = records; events = events; accepted = accepted; comes = comes })
-  replay_of_work plan records events thrice accepted status.BadCell text comes = (thrice, record { plan = plan; records = records; events = events; accepted = accepted; comes = comes })
+  replay_of_work plan records events thrice accepted status.BadCell text comes = (comes.0, (thrice, record { plan = plan; records = records; events = events; accepted = accepted; comes = comes.1 }))
   replay_of_work plan records events thrice accepted _ text comes = absurd comes
 
   pub record ReplayGoesThrough (plan : Topology) (records : List (List Value)) (events : List Event) : Type 0 where

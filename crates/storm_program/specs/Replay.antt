@@ -67,7 +67,7 @@ ReplayComes custom shelf base topology input schedule fates status.Memory text =
     (AllFilesCome shelf topology input schedule status.Memory [] × IsNotBegun base fates)
     ⊎ (Fetched 3 shelf
     × IsOfAllFiles shelf.holds topology input schedule
-    (λ plan records events. IsShort plan records base fates))
+    (λ plan records events. IsShort custom plan records base fates))
 ReplayComes custom shelf base topology input schedule fates status.Topology text =
     AllFilesCome shelf topology input schedule status.Topology text × IsNotBegun base fates
 ReplayComes custom shelf base topology input schedule fates status.Input text =
@@ -84,7 +84,8 @@ ReplayComes custom shelf base topology input schedule fates status.Unfinished te
 ReplayComes custom shelf base topology input schedule fates status.StoreFault text =
     ReplayEnds custom shelf base topology input schedule fates run_end.StoreFault text
 ReplayComes custom shelf base topology input schedule fates status.BadCell text =
-    ReplayEnds custom shelf base topology input schedule fates run_end.BadCell text
+    (key : List ℕ)
+    × ReplayEnds custom shelf base topology input schedule fates (run_end.BadCell key) text
 ReplayComes custom shelf base topology input schedule fates _ text = ⊥
 
 -- Which status the told files call for.

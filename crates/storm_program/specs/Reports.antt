@@ -66,7 +66,7 @@ pub record IsReport (custom : Custom) (plan : Topology) (records : List (List Va
   -- every end has its cause
   pub caused : HaveCauses base.words plan custom (cut_by plan records) ticks fates
   pub failed_in_turn : FailsInTurn fates
-  pub counted : FaultsAreCounted plan base.stores fates 0
+  pub counted : FaultsAreCounted plan base.stores fates
   -- the stores came back, and over stores that began empty they stand at all batches
   pub back : CameBack plan base.stores
   pub stands : BeganEmpty plan base.stores
@@ -82,7 +82,7 @@ IsEndText plan records batches fates (run_end.Exhausted txid) text =
 IsEndText plan records batches fates (run_end.Unfinished k) text =
     IsTextOf plan fates [] (unfinished k) text
 IsEndText plan records batches fates run_end.StoreFault text = text ≡ store_fault_line
-IsEndText plan records batches fates run_end.BadCell text = text ≡ bad_cell_line
+IsEndText plan records batches fates (run_end.BadCell key) text = text ≡ bad_cell_line
 
 -- A run over the records of an input ended so, left these fates, and this is its text.
 pub record EndsSo (custom : Custom) (plan : Topology) (records : List (List Value)) (base : RunUse)

@@ -17,7 +17,7 @@ use Rattle.storm_values.specs.Lines.{records_of}
 use Rattle.stored_runs.specs.declared.ending.RunEnd.{RunEnd}
 use Rattle.stored_runs.specs.declared.ending.RunEnd.TheVariants as run_end
 use Rattle.stored_runs.specs.Makers.{CameBack, IsUntouched}
-use Rattle.stored_runs.specs.StoredRuns.{NothingIsInTheWay}
+use Rattle.stored_runs.specs.StoredRuns.{NothingIsInTheWay, StandsWithoutMemory}
 use Rattle.topology_plan.specs.Topology.{Topology}
 
 -- how many ticks were handed out in a run
@@ -40,12 +40,14 @@ RunEnds custom shelf base ticks topology input fates ending text =
     × IsOfFiles shelf.holds topology input
     (λ plan records. EndsSo custom plan records base (ticks_of_run ticks) fates ending text)
 
--- A run of a plan and the records of its input that ended for want of memory: no batch was
--- committed twice, and the stores came back.
-pub record IsShort (plan : Topology) (records : List (List Value)) (base : RunUse)
+-- A run of a plan and the records of its input that ended without memory: no batch was committed
+-- twice, the stores came back, and over stores that began empty they stand at the batches that were
+-- committed.
+pub record IsShort (custom : Custom) (plan : Topology) (records : List (List Value)) (base : RunUse)
     (fates : List Attempt) : Type 0 where
   pub once : IsOnce (length records) plan.batch last_tick fates
   pub back : CameBack plan base.stores
+  pub stands : StandsWithoutMemory plan custom (cut_by plan records) base.stores fates
 
 -- no attempt was begun, and the stores were left alone
 abbrev pub IsNotBegun : RunUse → List Attempt → Type 0
@@ -61,7 +63,7 @@ RunComes custom shelf base ticks topology input fates status.Done text =
 RunComes custom shelf base ticks topology input fates status.Memory text =
     (FilesCome shelf topology input status.Memory [] × IsNotBegun base fates)
     ⊎ (Fetched 2 shelf
-    × IsOfFiles shelf.holds topology input (λ plan records. IsShort plan records base fates))
+    × IsOfFiles shelf.holds topology input (λ plan records. IsShort custom plan records base fates))
 RunComes custom shelf base ticks topology input fates status.Topology text =
     FilesCome shelf topology input status.Topology text × IsNotBegun base fates
 RunComes custom shelf base ticks topology input fates status.Input text =
@@ -73,7 +75,8 @@ RunComes custom shelf base ticks topology input fates status.Exhausted text =
 RunComes custom shelf base ticks topology input fates status.StoreFault text =
     RunEnds custom shelf base ticks topology input fates run_end.StoreFault text
 RunComes custom shelf base ticks topology input fates status.BadCell text =
-    RunEnds custom shelf base ticks topology input fates run_end.BadCell text
+    (key : List ℕ)
+    × RunEnds custom shelf base ticks topology input fates (run_end.BadCell key) text
 RunComes custom shelf base ticks topology input fates _ text = ⊥
 
 -- Which status the told files call for.

@@ -60,7 +60,8 @@ pub fn storm<
         (shelf_use H.holds H.ready H.fetches H.faults shelf.old shelf.new)
         (sink_use K.taken K.faults out.old out.new)
         (run_use
-        (maker_use M.holds M.has_made M.fault_count stores.old stores.new) (N.tells ids.old))
+        (maker_use M.C.tells M.C.fault_count M.holds M.has_made M.fault_count
+        stores.old stores.new) (N.tells ids.old))
         (ticks_use T.handed_out T.tells ticks.old ticks.new) fates.new
         (built (map string_bytes words.now))).comes
         (sink_use K.taken K.faults out.old out.new) result }
@@ -71,7 +72,8 @@ pub fn storm<
         (shelf_use H.holds H.ready H.fetches H.faults shelf.old shelf.new)
         (sink_use K.taken K.faults out.old out.new)
         (run_use
-        (maker_use M.holds M.has_made M.fault_count stores.old stores.new) (N.tells ids.old))
+        (maker_use M.C.tells M.C.fault_count M.holds M.has_made M.fault_count
+        stores.old stores.new) (N.tells ids.old))
         (ticks_use T.handed_out T.tells ticks.old ticks.new) fates.new
         (built (map string_bytes words.now))).calls
         (shelf_use H.holds H.ready H.fetches H.faults shelf.old shelf.new)
@@ -82,7 +84,8 @@ pub fn storm<
         (shelf_use H.holds H.ready H.fetches H.faults shelf.old shelf.new)
         (sink_use K.taken K.faults out.old out.new)
         (run_use
-        (maker_use M.holds M.has_made M.fault_count stores.old stores.new) (N.tells ids.old))
+        (maker_use M.C.tells M.C.fault_count M.holds M.has_made M.fault_count
+        stores.old stores.new) (N.tells ids.old))
         (ticks_use T.handed_out T.tells ticks.old ticks.new) fates.new
         (built (map string_bytes words.now))).must_finish
         → IsDoneOrShort result }
@@ -90,7 +93,8 @@ pub fn storm<
     ensures counts { Counts
         (shelf_use H.holds H.ready H.fetches H.faults shelf.old shelf.new)
         (sink_use K.taken K.faults out.old out.new)
-        (maker_use M.holds M.has_made M.fault_count stores.old stores.new) }
+        (maker_use M.C.tells M.C.fault_count M.holds M.has_made M.fault_count
+        stores.old stores.new) }
 {
     match read_words(words) {
         Some(Command::Check { topology }) => storm_check(alloc, topology, shelf, out),
@@ -201,7 +205,8 @@ pub fn storm_replay<H: Shelf, K: Sink, M: StoreMaker, N: IdMaker, O: RowOp>(
         (ReplayComes (O.meaning custom.now)
         (shelf_use H.holds H.ready H.fetches H.faults shelf.old shelf.new)
         (run_use
-        (maker_use M.holds M.has_made M.fault_count stores.old stores.new) (N.tells ids.old))
+        (maker_use M.C.tells M.C.fault_count M.holds M.has_made M.fault_count
+        stores.old stores.new) (N.tells ids.old))
         topology.now input.now schedule.now fates.new)
         (sink_use K.taken K.faults out.old out.new) result }
     ensures answered { IsAnswered
@@ -215,12 +220,14 @@ pub fn storm_replay<H: Shelf, K: Sink, M: StoreMaker, N: IdMaker, O: RowOp>(
         (shelf_use H.holds H.ready H.fetches H.faults shelf.old shelf.new)
         (sink_use K.taken K.faults out.old out.new)
         (run_use
-        (maker_use M.holds M.has_made M.fault_count stores.old stores.new) (N.tells ids.old))
+        (maker_use M.C.tells M.C.fault_count M.holds M.has_made M.fault_count
+        stores.old stores.new) (N.tells ids.old))
         topology.now input.now schedule.now fates.new → IsDoneOrShort result }
     ensures counts { Counts
         (shelf_use H.holds H.ready H.fetches H.faults shelf.old shelf.new)
         (sink_use K.taken K.faults out.old out.new)
-        (maker_use M.holds M.has_made M.fault_count stores.old stores.new) }
+        (maker_use M.C.tells M.C.fault_count M.holds M.has_made M.fault_count
+        stores.old stores.new) }
 {
     let came = replay_files(
         alloc, topology, input, schedule, shelf, stores, ids, custom, fates,
@@ -270,7 +277,8 @@ pub fn storm_run<
         (RunComes (O.meaning custom.now)
         (shelf_use H.holds H.ready H.fetches H.faults shelf.old shelf.new)
         (run_use
-        (maker_use M.holds M.has_made M.fault_count stores.old stores.new) (N.tells ids.old))
+        (maker_use M.C.tells M.C.fault_count M.holds M.has_made M.fault_count
+        stores.old stores.new) (N.tells ids.old))
         (ticks_use T.handed_out T.tells ticks.old ticks.new)
         topology.now input.now fates.new)
         (sink_use K.taken K.faults out.old out.new) result }
@@ -283,13 +291,15 @@ pub fn storm_run<
         (shelf_use H.holds H.ready H.fetches H.faults shelf.old shelf.new)
         (sink_use K.taken K.faults out.old out.new)
         (run_use
-        (maker_use M.holds M.has_made M.fault_count stores.old stores.new) (N.tells ids.old))
+        (maker_use M.C.tells M.C.fault_count M.holds M.has_made M.fault_count
+        stores.old stores.new) (N.tells ids.old))
         (ticks_use T.handed_out T.tells ticks.old ticks.new)
         topology.now input.now fates.new → IsDoneOrShort result }
     ensures counts { Counts
         (shelf_use H.holds H.ready H.fetches H.faults shelf.old shelf.new)
         (sink_use K.taken K.faults out.old out.new)
-        (maker_use M.holds M.has_made M.fault_count stores.old stores.new) }
+        (maker_use M.C.tells M.C.fault_count M.holds M.has_made M.fault_count
+        stores.old stores.new) }
 {
     let _ = workers;
     let came = run_files(

@@ -42,17 +42,20 @@ pub fn replay_files<H: Shelf, M: StoreMaker, N: IdMaker, O: RowOp>(
     requires { fates.old ≡ [] }
     ensures done { IfOk result (λ text. ReplayComes (O.meaning custom.now)
         (shelf_use H.holds H.ready H.fetches H.faults shelf.old shelf.new)
-        (run_use (maker_use M.holds M.has_made M.fault_count stores.old stores.new)
+        (run_use (maker_use M.C.tells M.C.fault_count M.holds M.has_made M.fault_count
+        stores.old stores.new)
         (N.tells ids.old))
         topology.now input.now schedule.now fates.new Status.Done (string_bytes text)) }
     ensures stop { IfErr result (Stops (ReplayComes (O.meaning custom.now)
         (shelf_use H.holds H.ready H.fetches H.faults shelf.old shelf.new)
-        (run_use (maker_use M.holds M.has_made M.fault_count stores.old stores.new)
+        (run_use (maker_use M.C.tells M.C.fault_count M.holds M.has_made M.fault_count
+        stores.old stores.new)
         (N.tells ids.old))
         topology.now input.now schedule.now fates.new)) }
     ensures finishes { ReplayMustCommitAll (O.meaning custom.now)
         (shelf_use H.holds H.ready H.fetches H.faults shelf.old shelf.new)
-        (run_use (maker_use M.holds M.has_made M.fault_count stores.old stores.new)
+        (run_use (maker_use M.C.tells M.C.fault_count M.holds M.has_made M.fault_count
+        stores.old stores.new)
         (N.tells ids.old))
         topology.now input.now schedule.now fates.new → IfErr result IsMemory }
     ensures never_falls { H.faults shelf.old ≤ H.faults shelf.new }
@@ -78,17 +81,21 @@ fn replay_accepted<M: StoreMaker, N: IdMaker, O: RowOp>(
     requires fit { AllByRecursion (FitsEvent files.plan) events.now }
     ensures report { IfOk result (λ text. IsReplayReport (O.meaning custom.now)
         files.plan files.rows events.now
-        (run_use (maker_use M.holds M.has_made M.fault_count stores.old stores.new)
+        (run_use (maker_use M.C.tells M.C.fault_count M.holds M.has_made M.fault_count
+        stores.old stores.new)
         (N.tells ids.old)) fates.new (string_bytes text)) }
     ensures stop { IfErr result (Stops (WorkStops
         (ReplayEndsSo (O.meaning custom.now) files.plan files.rows events.now
-        (run_use (maker_use M.holds M.has_made M.fault_count stores.old stores.new)
+        (run_use (maker_use M.C.tells M.C.fault_count M.holds M.has_made M.fault_count
+        stores.old stores.new)
         (N.tells ids.old)) fates.new)
-        (IsShort files.plan files.rows
-        (run_use (maker_use M.holds M.has_made M.fault_count stores.old stores.new)
+        (IsShort (O.meaning custom.now) files.plan files.rows
+        (run_use (maker_use M.C.tells M.C.fault_count M.holds M.has_made M.fault_count
+        stores.old stores.new)
         (N.tells ids.old)) fates.new))) }
     ensures finishes { NothingIsInTheWay files.plan
-        (maker_use M.holds M.has_made M.fault_count stores.old stores.new) fates.new
+        (maker_use M.C.tells M.C.fault_count M.holds M.has_made M.fault_count
+        stores.old stores.new) fates.new
         → HasRounds files.plan
         (rounds_needed files.plan (O.meaning custom.now) (cut_by files.plan files.rows))
         (all_steps files.plan events.now)

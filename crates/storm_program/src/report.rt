@@ -77,6 +77,6 @@ pub fn text_of_end(
             Err(Stop::Told(Status::Unfinished, text))
         }
         RunEnd::StoreFault => Err(told(alloc, Status::StoreFault, "store fault\n")),
-        RunEnd::BadCell => Err(told(alloc, Status::BadCell, "bad cell\n")),
+        RunEnd::BadCell(_) => Err(told(alloc, Status::BadCell, "bad cell\n")),
     }
 }

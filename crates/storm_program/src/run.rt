@@ -41,17 +41,20 @@ pub fn run_files<R: Wait, H: Shelf, T: Ticks, M: StoreMaker, N: IdMaker, O: RowO
     requires { fates.old ≡ [] }
     ensures done { IfOk result (λ text. RunComes (O.meaning custom.now)
         (shelf_use H.holds H.ready H.fetches H.faults shelf.old shelf.new)
-        (run_use (maker_use M.holds M.has_made M.fault_count stores.old stores.new)
+        (run_use (maker_use M.C.tells M.C.fault_count M.holds M.has_made M.fault_count
+        stores.old stores.new)
         (N.tells ids.old)) (ticks_use T.handed_out T.tells ticks.old ticks.new)
         topology.now input.now fates.new Status.Done (string_bytes text)) }
     ensures stop { IfErr result (Stops (RunComes (O.meaning custom.now)
         (shelf_use H.holds H.ready H.fetches H.faults shelf.old shelf.new)
-        (run_use (maker_use M.holds M.has_made M.fault_count stores.old stores.new)
+        (run_use (maker_use M.C.tells M.C.fault_count M.holds M.has_made M.fault_count
+        stores.old stores.new)
         (N.tells ids.old)) (ticks_use T.handed_out T.tells ticks.old ticks.new)
         topology.now input.now fates.new)) }
     ensures finishes { MustCommitAll (O.meaning custom.now)
         (shelf_use H.holds H.ready H.fetches H.faults shelf.old shelf.new)
-        (run_use (maker_use M.holds M.has_made M.fault_count stores.old stores.new)
+        (run_use (maker_use M.C.tells M.C.fault_count M.holds M.has_made M.fault_count
+        stores.old stores.new)
         (N.tells ids.old)) (ticks_use T.handed_out T.tells ticks.old ticks.new)
         topology.now input.now fates.new → IfErr result IsMemory }
     ensures never_falls { H.faults shelf.old ≤ H.faults shelf.new }
@@ -75,23 +78,27 @@ fn run_accepted<R: Wait, T: Ticks, M: StoreMaker, N: IdMaker, O: RowOp>(
     requires fates { fates.old ≡ [] }
     requires rows { All (IsRow (length files.plan.spout_fields)) files.rows }
     ensures report { IfOk result (λ text. IsReport (O.meaning custom.now) files.plan files.rows
-        (run_use (maker_use M.holds M.has_made M.fault_count stores.old stores.new)
+        (run_use (maker_use M.C.tells M.C.fault_count M.holds M.has_made M.fault_count
+        stores.old stores.new)
         (N.tells ids.old))
         (ticks_of_run (ticks_use T.handed_out T.tells ticks.old ticks.new))
         fates.new (string_bytes text)) }
     ensures stop { IfErr result (Stops (WorkStops
         (λ ending text. IsRoundsEnd ending
         × EndsSo (O.meaning custom.now) files.plan files.rows
-        (run_use (maker_use M.holds M.has_made M.fault_count stores.old stores.new)
+        (run_use (maker_use M.C.tells M.C.fault_count M.holds M.has_made M.fault_count
+        stores.old stores.new)
         (N.tells ids.old))
         (ticks_of_run (ticks_use T.handed_out T.tells ticks.old ticks.new))
         fates.new ending text)
-        (IsShort files.plan files.rows
-        (run_use (maker_use M.holds M.has_made M.fault_count stores.old stores.new)
+        (IsShort (O.meaning custom.now) files.plan files.rows
+        (run_use (maker_use M.C.tells M.C.fault_count M.holds M.has_made M.fault_count
+        stores.old stores.new)
         (N.tells ids.old)) fates.new))) }
     ensures finishes { (to_come : List ℕ) → T.tells ticks.old to_come
         → NothingIsInTheWay files.plan
-        (maker_use M.holds M.has_made M.fault_count stores.old stores.new) fates.new
+        (maker_use M.C.tells M.C.fault_count M.holds M.has_made M.fault_count
+        stores.old stores.new) fates.new
         → sum (first_answers
         (rounds_needed files.plan (O.meaning custom.now) (cut_by files.plan files.rows)) to_come)
         < files.plan.buckets → IfErr result IsMemory }

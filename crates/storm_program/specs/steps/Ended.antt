@@ -17,7 +17,7 @@ status_of (end.All tables) = status.Done
 status_of (end.Exhausted txid) = status.Exhausted
 status_of (end.Unfinished k) = status.Unfinished
 status_of end.StoreFault = status.StoreFault
-status_of end.BadCell = status.BadCell
+status_of (end.BadCell key) = status.BadCell
 
 -- the stop tells a run that did not commit all, by its status and its text
 abbrev pub IsStopOfEnd : Topology → ℕ → ℕ → List Attempt → RunEnd → Stop → Type 0
@@ -34,7 +34,7 @@ WorkStops Ends Short status.Memory text = Short
 WorkStops Ends Short status.Exhausted text = (txid : ℕ) × Ends (end.Exhausted txid) text
 WorkStops Ends Short status.Unfinished text = (k : ℕ) × Ends (end.Unfinished k) text
 WorkStops Ends Short status.StoreFault text = Ends end.StoreFault text
-WorkStops Ends Short status.BadCell text = Ends end.BadCell text
+WorkStops Ends Short status.BadCell text = (key : List ℕ) × Ends (end.BadCell key) text
 WorkStops Ends Short _ text = ⊥
 
 -- an end of a run by rounds

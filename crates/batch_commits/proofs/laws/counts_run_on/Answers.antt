@@ -1,4 +1,4 @@
-use Rattle.batch_commits.proofs.Running.{counted_on, failed_sum, last_counted, last_on, none_counted, quiet_counted, same_counted, told_counted}
+use Rattle.batch_commits.proofs.Running.{counted_on, failed_sum, last_counted, last_on, last_sum, none_counted, quiet_counted, same_counted, told_counted}
 use Rattle.batch_commits.proofs.laws.counts_run_on.Goals as goal
 
 pub returns-clause-then : goal.returns-clause-then
@@ -24,3 +24,6 @@ returns-clause-all_told g c = λ xs a b counted. told_counted g.C.CellStore.faul
 
 pub returns-clause-sum : goal.returns-clause-sum
 returns-clause-sum g c = λ xs a b all counted. failed_sum g.C.CellStore.fault_count g.met.C.CellStore.count_ends xs a b all counted
+
+pub returns-clause-last_sum : goal.returns-clause-last_sum
+returns-clause-last_sum g c = λ xs a b all counted. last_sum g.C.CellStore.fault_count g.met.C.CellStore.count_ends xs a b all counted

@@ -1,6 +1,6 @@
 use Rattle.event_worlds.specs.Rounds.{ticks_in}
 use Rattle.schedule_core.specs.Schedules.{all_steps}
-use Rattle.stored_runs.proofs.Comings.{Ran, all_back, given_finishes, run_is, world_is}
+use Rattle.stored_runs.proofs.Comings.{Ran, all_back, given_finishes, run_is, short_is, world_is}
 use Rattle.stored_runs.proofs.Lent.{Lent, still_made}
 use Rattle.stored_runs.proofs.given.replay_over.Goals as goal
 
@@ -25,7 +25,7 @@ returns g c =
       plans = c.close-ended.ensures.plans;
       back = c.give_back.ensures.back;
       others_back = c.give_back.ensures.others;
-      rose = c.give_back.ensures.rose;
+      counted = c.give_back.ensures.count;
       never_falls = c.give_back.ensures.never_falls;
     } in
     let run : Ran g.M.C.CellStore.tells g.M.C.CellStore.fault_count c.args.plan.now
@@ -42,12 +42,18 @@ returns g c =
     let input = c.requires.input in
     let keeps = g.O.RowOp.keeps c.args.custom.now in
     let r = c.close-ended.result in
+    let quiet = c.close-ended.ensures.quiet in
+    let ends = g.met.M.StoreMaker.count_ends c.args.stores.now in
     let closes = c.close-ended.ensures.closes in
     record {
-      comes = run_is made lent laws input run _ r closes;
+      comes = run_is made lent laws input run _ r closes quiet;
+      short = short_is made lent laws input run _ r;
       once = c.replay-answer.ensures.comes.once;
       back = all_back made lent;
       world = world_is made lent laws input run _ r closes;
       finishes = λ free rounds few.
-          given_finishes made lent laws input run _ worlds keeps r closes free rounds few;
+          given_finishes made lent laws input run _ ends worlds keeps r closes quiet free rounds few;
     }
+
+pub returns-in_err-parts-clause-short : goal.returns-in_err-parts-clause-short
+returns-in_err-parts-clause-short g c = ?

@@ -9,8 +9,10 @@ returns g c = record {
   };
   parts = λ t custom cut. record {
     sum = c.counts_run_on.ensures.sum;
+    last_sum = c.counts_run_on.ensures.last_sum;
     part = c.failures_of_commits_are_counted.ensures.part t;
     tables = c.parts_that_stand_have_the_tables.ensures t custom cut;
+    bad_cell = c.strange_cells_were_there.ensures.bad_cell;
     bad_row = c.strange_cells_were_there.ensures.bad_row;
   };
 }

@@ -2,7 +2,7 @@ use Rattle.std.proofs.Common.{Result, refl, subst}
 use Rattle.commit_order.specs.declared.stop.Stop.{Stop}
 use Rattle.schedule_core.specs.declared.ended.Ended.{Ended}
 use Rattle.schedule_core.specs.Runs.{ended, ticks_between}
-use Rattle.stored_runs.proofs.Comings.{Ran, all_back, by_rounds, none_left, rounds_finish, run_is, world_is}
+use Rattle.stored_runs.proofs.Comings.{Ran, all_back, by_rounds, none_left, rounds_finish, run_is, short_is, world_is}
 use Rattle.stored_runs.proofs.Lent.{Lent, still_made}
 use Rattle.stored_runs.specs.Closing.{Closes}
 use Rattle.stored_runs.proofs.rounds.run_over.Goals as goal
@@ -28,7 +28,7 @@ returns g c =
       plans = c.close-ended.ensures.plans;
       back = c.give_back.ensures.back;
       others_back = c.give_back.ensures.others;
-      rose = c.give_back.ensures.rose;
+      counted = c.give_back.ensures.count;
       never_falls = c.give_back.ensures.never_falls;
     } in
     let run : Ran g.M.C.CellStore.tells g.M.C.CellStore.fault_count c.args.plan.now
@@ -46,6 +46,8 @@ returns g c =
     let input = c.requires.input in
     let keeps = g.O.RowOp.keeps c.args.custom.now in
     let r = c.close-ended.result in
+    let quiet = c.close-ended.ensures.quiet in
+    let ends = g.met.M.StoreMaker.count_ends c.args.stores.now in
     let closes : Closes g.M.C.CellStore.tells g.M.C.CellStore.fault_count c.args.plan.now
     (ended c.run_rounds-done.result) c.run_rounds-done.new.parts c.close-ended.new.parts r =
     subst
@@ -55,7 +57,8 @@ returns g c =
     c.as_ended.ensures c.close-ended.ensures.closes in
     let asked = c.run_rounds-done.ensures.comes in
     record {
-      comes = run_is made lent laws input run _ r closes;
+      comes = run_is made lent laws input run _ r closes quiet;
+      short = short_is made lent laws input run _ r;
       goes_on =
           none_left g.M.C.CellStore.tells g.M.C.CellStore.fault_count c.args.plan.now
           c.run_rounds-done.new.parts c.close-ended.new.parts c.run_rounds-done.result r closes;
@@ -63,6 +66,9 @@ returns g c =
       back = all_back made lent;
       world = by_rounds asked r (world_is made lent laws input run _ r closes);
       finishes = λ to_come tells free few.
-          rounds_finish made lent laws input run _ worlds keeps c.run_rounds-done.result refl
-          asked.answers to_come asked.rounds (asked.asked to_come tells) r closes free few;
+          rounds_finish made lent laws input run _ ends worlds keeps c.run_rounds-done.result refl
+          asked.answers to_come asked.rounds (asked.asked to_come tells) r closes quiet free few;
     }
+
+pub returns-in_err-parts-clause-short : goal.returns-in_err-parts-clause-short
+returns-in_err-parts-clause-short g c = ?

@@ -14,7 +14,7 @@ returns-clause-answered g c =
     (g.O.RowOp.meaning c.args.custom.now)
     (shelf_use g.H.Shelf.holds g.H.Shelf.ready g.H.Shelf.fetches g.H.Shelf.faults c.args.shelf.now c.run_files-came.new.shelf)
     (sink_use g.K.Sink.taken g.K.Sink.faults c.args.out.now c.write_answer.new.out)
-    (run_use (maker_use g.M.StoreMaker.holds g.M.StoreMaker.has_made g.M.StoreMaker.fault_count c.args.stores.now c.run_files-came.new.stores) (g.N.IdMaker.tells c.args.ids.now))
+    (run_use (maker_use g.M.C.CellStore.tells g.M.C.CellStore.fault_count g.M.StoreMaker.holds g.M.StoreMaker.has_made g.M.StoreMaker.fault_count c.args.stores.now c.run_files-came.new.stores) (g.N.IdMaker.tells c.args.ids.now))
     (ticks_use g.T.Ticks.handed_out g.T.Ticks.tells c.args.ticks.now c.run_files-came.new.ticks)
     c.args.topology.now c.args.input.now c.run_files-came.new.fates c.write_answer.result (returns-clause-ends g c)
 

@@ -17,14 +17,14 @@ returns-clause-report g c =
 
 pub returns-clause-stop : goal.returns-clause-stop
 returns-clause-stop g c =
-    let base : RunUse = (run_use (maker_use g.M.StoreMaker.holds g.M.StoreMaker.has_made g.M.StoreMaker.fault_count c.args.stores.now c.replay_over.new.stores) (g.N.IdMaker.tells c.args.ids.now)) in
+    let base : RunUse = (run_use (maker_use g.M.C.CellStore.tells g.M.C.CellStore.fault_count g.M.StoreMaker.holds g.M.StoreMaker.has_made g.M.StoreMaker.fault_count c.args.stores.now c.replay_over.new.stores) (g.N.IdMaker.tells c.args.ids.now)) in
     let fates : List Attempt = c.replay_over.new.fates in
-    work_stops (ReplayEndsSo (g.O.RowOp.meaning c.args.custom.now) c.args.files.plan c.args.files.rows c.args.events.now base fates) (IsShort c.args.files.plan c.args.files.rows base fates) _ _ _ _ c.in_ok-ending.ending c.text_of_end.result
+    work_stops (ReplayEndsSo (g.O.RowOp.meaning c.args.custom.now) c.args.files.plan c.args.files.rows c.args.events.now base fates) (IsShort (g.O.RowOp.meaning c.args.custom.now) c.args.files.plan c.args.files.rows base fates) _ _ _ _ c.in_ok-ending.ending c.text_of_end.result
     (λ text printed. record {
       ends = ends_so _ _ _ _ _ _ _ c.batches_of-batches.ensures.cut _ _ c.counted_in-counted.ensures.records c.counted_in-counted.ensures.batches c.in_ok-ending.ending c.in_ok-ending.ensures.comes c.replay_over.ensures.back text printed;
       of_world = subst (λ (k : Cut). IsRunOfWorld (g.N.IdMaker.tells c.args.ids.now) c.args.files.plan (g.O.RowOp.meaning c.args.custom.now) k (all_steps c.args.files.plan c.args.events.now) c.replay_over.new.fates c.in_ok-ending.ending) c.batches_of-batches.ensures.cut c.in_ok-ending.ensures.world;
     })
-    (short_of (g.O.RowOp.meaning c.args.custom.now) c.args.files.plan c.args.files.rows base (ticks_of_schedule c.args.files.plan c.args.events.now) fates _ c.batches_of-batches.ensures.cut _ _ c.counted_in-counted.ensures.records c.counted_in-counted.ensures.batches c.replay_over.ensures.once c.replay_over.ensures.back)
+    (short_of (g.O.RowOp.meaning c.args.custom.now) c.args.files.plan c.args.files.rows base (ticks_of_schedule c.args.files.plan c.args.events.now) fates _ c.batches_of-batches.ensures.cut _ _ c.counted_in-counted.ensures.records c.counted_in-counted.ensures.batches c.replay_over.ensures.once c.replay_over.ensures.back c.in_ok-ending.ensures.comes.stands)
     c.text_of_end.ensures.stop
 
 pub returns-clause-finishes : goal.returns-clause-finishes

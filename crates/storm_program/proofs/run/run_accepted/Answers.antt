@@ -18,15 +18,15 @@ returns-clause-report g c =
 
 pub returns-clause-stop : goal.returns-clause-stop
 returns-clause-stop g c =
-    let base : RunUse = (run_use (maker_use g.M.StoreMaker.holds g.M.StoreMaker.has_made g.M.StoreMaker.fault_count c.args.stores.now c.run_over.new.stores) (g.N.IdMaker.tells c.args.ids.now)) in
+    let base : RunUse = (run_use (maker_use g.M.C.CellStore.tells g.M.C.CellStore.fault_count g.M.StoreMaker.holds g.M.StoreMaker.has_made g.M.StoreMaker.fault_count c.args.stores.now c.run_over.new.stores) (g.N.IdMaker.tells c.args.ids.now)) in
     let fates : List Attempt = c.run_over.new.fates in
     let Ends : RunEnd → List ℕ → Type 0 = λ ending text. IsRoundsEnd ending × EndsSo (g.O.RowOp.meaning c.args.custom.now) c.args.files.plan c.args.files.rows base (ticks_of_run (ticks_use g.T.Ticks.handed_out g.T.Ticks.tells c.args.ticks.now c.run_over.new.ticks)) fates ending text in
-    work_stops Ends (IsShort c.args.files.plan c.args.files.rows base fates) _ _ _ _ c.in_ok-ending.ending c.text_of_end.result
+    work_stops Ends (IsShort (g.O.RowOp.meaning c.args.custom.now) c.args.files.plan c.args.files.rows base fates) _ _ _ _ c.in_ok-ending.ending c.text_of_end.result
     (λ text printed. (
       rounds_end c.run_over.result c.in_ok-ending.ending c.in_ok-ending.was c.run_over.ensures.goes_on,
       ends_so _ _ _ _ _ _ _ c.batches_of-batches.ensures.cut _ _ c.counted_in-counted.ensures.records c.counted_in-counted.ensures.batches c.in_ok-ending.ending c.in_ok-ending.ensures.comes c.run_over.ensures.back text printed,
     ))
-    (short_of (g.O.RowOp.meaning c.args.custom.now) c.args.files.plan c.args.files.rows base (ticks_of_run (ticks_use g.T.Ticks.handed_out g.T.Ticks.tells c.args.ticks.now c.run_over.new.ticks)) fates _ c.batches_of-batches.ensures.cut _ _ c.counted_in-counted.ensures.records c.counted_in-counted.ensures.batches c.run_over.ensures.once c.run_over.ensures.back)
+    (short_of (g.O.RowOp.meaning c.args.custom.now) c.args.files.plan c.args.files.rows base (ticks_of_run (ticks_use g.T.Ticks.handed_out g.T.Ticks.tells c.args.ticks.now c.run_over.new.ticks)) fates _ c.batches_of-batches.ensures.cut _ _ c.counted_in-counted.ensures.records c.counted_in-counted.ensures.batches c.run_over.ensures.once c.run_over.ensures.back c.in_ok-ending.ensures.comes.stands)
     c.text_of_end.ensures.stop
 
 pub returns-clause-finishes : goal.returns-clause-finishes
