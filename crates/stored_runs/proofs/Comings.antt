@@ -226,7 +226,8 @@ module _ {S M : Type 0} {tells : S → CellMap → Type 0} {count : S → ℕ}
     run_is (Ok ending) closes quiet =
         run_at ending closes (λ other. quiet (λ same. other (of_ok ending same)))
       where
-        of_ok : (e : RunEnd) → Ok e ≡ Ok end.StoreFault → e ≡ end.StoreFault
+        of_ok : (e : RunEnd) → ◌≡◌ {A = Result RunEnd E} (Ok e) (Ok end.StoreFault)
+            → e ≡ end.StoreFault
         of_ok e same = cc
     run_is (Err e) closes quiet = tt
 
@@ -297,15 +298,21 @@ module _ {S M : Type 0} {tells : S → CellMap → Type 0} {count : S → ℕ}
     more_faults end.StoreFault = 1
     more_faults (end.BadCell key) = 0
 
+    and_none : (n : ℕ) → RoseBySum n (faults old) (faults new)
+        → RoseBySum (n + 0) (faults old) (faults new)
+    and_none n rose =
+        subst (λ (m : ℕ). RoseBySum m (faults old) (faults new))
+        (let same : n ≡ n + 0 = omega arith in same) rose
+
     failures_of : (ending : RunEnd)
         → FaultsCome t (maker_use tells count holds made faults old new) fates ending
         → RoseBySum (failed_commits fates + more_faults ending) (faults old) (faults new)
     unfolding more_faults
-    failures_of (end.All tables) come = come.by_failures
-    failures_of (end.Exhausted txid) come = come.by_failures
-    failures_of (end.Unfinished k) come = come.by_failures
+    failures_of (end.All tables) come = and_none (failed_commits fates) come.by_failures
+    failures_of (end.Exhausted txid) come = and_none (failed_commits fates) come.by_failures
+    failures_of (end.Unfinished k) come = and_none (failed_commits fates) come.by_failures
     failures_of end.StoreFault come = come.by_failures
-    failures_of (end.BadCell key) come = come.by_failures
+    failures_of (end.BadCell key) come = and_none (failed_commits fates) come.by_failures
 
     module _ (ends : faults old ≤ 2 ^ 64 - 1) where
       none_more : (ending : RunEnd) → ClosesAs ending → Quiet ending
@@ -341,7 +348,8 @@ module _ {S M : Type 0} {tells : S → CellMap → Type 0} {count : S → ℕ}
       all_by (Ok ending) closes quiet free finishes =
           all_at ending closes (λ other. quiet (λ same. other (of_ok ending same))) free finishes
         where
-          of_ok : (e : RunEnd) → Ok e ≡ Ok end.StoreFault → e ≡ end.StoreFault
+          of_ok : (e : RunEnd) → ◌≡◌ {A = Result RunEnd E} (Ok e) (Ok end.StoreFault)
+            → e ≡ end.StoreFault
           of_ok e same = cc
       all_by (Err e) closes quiet free finishes = tt
 

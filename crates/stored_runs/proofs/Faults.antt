@@ -149,10 +149,10 @@ module _ {S : Type 0} (tells : S → CellMap → Type 0) (count : S → ℕ) whe
         counts = counted.0.0 ∷ rest.counts;
         each = (
           subst (λ (low : ℕ). CountsRun x.component x.part low fates counted.0.0) none.0
-              counted.0.1.0,
+              counted.0.1,
           rest.each,
         );
-        once_at_most = (counted.0.1.1, rest.once_at_most);
+        once_at_most = (counted.0.2, rest.once_at_most);
       }
 
 -- ---- commits that failed
@@ -250,6 +250,61 @@ module _ {S M : Type 0} (tells : S → CellMap → Type 0) (count : S → ℕ)
             (faults old) (faults new) failed is;
       }
 
+  -- ---- the part whose store failed at the last reading
+
+  counted_at : (place : ℕ) (y : StatePart S) → slice_get ran place ≡ Some y
+      → slice_get (counts_of count ran) place ≡ Some (count y.over.store)
+  unfolding counts_of
+  counted_at place y is = at_map (λ (x : StatePart S). count x.over.store) ran place y is
+
+  one_stood : (x y z : StatePart S) → plan_of z ≡ plan_of y → plan_of y ≡ plan_of x
+      → Began tells holds old x → StillTells tells x y → IsRead tells count y z
+      → PartCameBack tells holds new z → (cells : CellMap) → holds old y.component y.part cells
+      → (after : CellMap)
+      × (holds new y.component y.part after
+      × StoreStood tells count after (count y.over.store))
+  one_stood x y z then first began told read back cells held =
+      let after = told cells
+      (began cells (subst (λ (p : PartPlan). holds old p.component p.part cells) first held)) in (
+        after.0,
+        (
+          subst (λ (p : PartPlan). holds new p.component p.part after.0) then
+              (back after.0 (read.same after.0 after.1)),
+          record { store = y.over.store; told = after.1; counted = refl },
+        ),
+      )
+
+  no_part : {X : Type 0} (x : X) → None ≡ Some x → ⊥
+  no_part x e = cc
+
+  stood_each : (xs ys zs : List (StatePart S)) → plans_of ys ≡ plans_of xs
+      → plans_of zs ≡ plans_of ys → AllByRecursion (Began tells holds old) xs
+      → AllZip (StillTells tells) xs ys → AllZip (IsRead tells count) ys zs
+      → AllByRecursion (PartCameBack tells holds new) zs → (place : ℕ) (at : StatePart S)
+      → slice_get ys place ≡ Some at → (cells : CellMap)
+      → holds old at.component at.part cells
+      → (after : CellMap)
+      × (holds new at.component at.part after
+      × StoreStood tells count after (count at.over.store))
+  stood_each xs [] zs first then began told read back place at is = absurd (no_part at is)
+  stood_each [] (y ∷ ys) zs first then began told read back place at is = absurd told
+  stood_each (x ∷ xs) (y ∷ ys) [] first then began told read back place at is = absurd read
+  stood_each (x ∷ xs) (y ∷ ys) (z ∷ zs) first then began told read back zero at is =
+      let here : plan_of y ≡ plan_of x = cc in
+      let now : plan_of z ≡ plan_of y = cc in
+      let same : y ≡ at = cc in
+      subst
+      (λ (a : StatePart S).
+      (cells : CellMap) → holds old a.component a.part cells
+      → (after : CellMap)
+      × (holds new a.component a.part after
+      × StoreStood tells count after (count a.over.store)))
+      same (one_stood x y z now here began.0 told.0 read.0 back.0)
+  stood_each (x ∷ xs) (y ∷ ys) (z ∷ zs) first then began told read back (suc place) at is =
+      let plans : plans_of ys ≡ plans_of xs = cc in
+      let after : plans_of zs ≡ plans_of ys = cc in
+      stood_each xs ys zs plans after began.1 told.1 read.1 back.1 place at is
+
   -- one more at the last reading
   pub counted_fault : FailuresAreCounted count fates parts ran
       → RoseBySum (failed_commits fates) (faults_of count parts) (faults_of count ran)
@@ -281,59 +336,6 @@ module _ {S M : Type 0} (tells : S → CellMap → Type 0) (count : S → ℕ)
             (with_one (failed_commits fates) (faults_of count parts) (faults_of count ran)
             (faults_of count closed) failed more) raised_all;
       }
-    where
-      counted_at : (place : ℕ) (y : StatePart S) → slice_get ran place ≡ Some y
-          → slice_get (counts_of count ran) place ≡ Some (count y.over.store)
-      unfolding counts_of
-      counted_at place y is = at_map (λ (x : StatePart S). count x.over.store) ran place y is
-
-      one_stood : (x y z : StatePart S) → plan_of z ≡ plan_of y → plan_of y ≡ plan_of x
-          → Began tells holds old x → StillTells tells x y → IsRead tells count y z
-          → PartCameBack tells holds new z → (cells : CellMap) → holds old y.component y.part cells
-          → (after : CellMap)
-          × (holds new y.component y.part after
-          × StoreStood tells count after (count y.over.store))
-      one_stood x y z then first began told read back cells held =
-          let after = told cells
-          (began cells (subst (λ (p : PartPlan). holds old p.component p.part cells) first held)) in (
-            after.0,
-            (
-              subst (λ (p : PartPlan). holds new p.component p.part after.0) then
-                  (back after.0 (read.same after.0 after.1)),
-              record { store = y.over.store; told = after.1; counted = refl },
-            ),
-          )
-
-      no_part : {X : Type 0} (x : X) → None ≡ Some x → ⊥
-      no_part x e = cc
-
-      stood_each : (xs ys zs : List (StatePart S)) → plans_of ys ≡ plans_of xs
-          → plans_of zs ≡ plans_of ys → AllByRecursion (Began tells holds old) xs
-          → AllZip (StillTells tells) xs ys → AllZip (IsRead tells count) ys zs
-          → AllByRecursion (PartCameBack tells holds new) zs → (place : ℕ) (at : StatePart S)
-          → slice_get ys place ≡ Some at → (cells : CellMap)
-          → holds old at.component at.part cells
-          → (after : CellMap)
-          × (holds new at.component at.part after
-          × StoreStood tells count after (count at.over.store))
-      stood_each xs [] zs first then began told read back place at is = absurd (no_part at is)
-      stood_each [] (y ∷ ys) zs first then began told read back place at is = absurd told
-      stood_each (x ∷ xs) (y ∷ ys) [] first then began told read back place at is = absurd read
-      stood_each (x ∷ xs) (y ∷ ys) (z ∷ zs) first then began told read back zero at is =
-          let here : plan_of y ≡ plan_of x = cc in
-          let now : plan_of z ≡ plan_of y = cc in
-          let same : y ≡ at = cc in
-          subst
-          (λ (a : StatePart S).
-          (cells : CellMap) → holds old a.component a.part cells
-          → (after : CellMap)
-          × (holds new a.component a.part after
-          × StoreStood tells count after (count a.over.store)))
-          same (one_stood x y z now here began.0 told.0 read.0 back.0)
-      stood_each (x ∷ xs) (y ∷ ys) (z ∷ zs) first then began told read back (suc place) at is =
-          let plans : plans_of ys ≡ plans_of xs = cc in
-          let after : plans_of zs ≡ plans_of ys = cc in
-          stood_each xs ys zs plans after began.1 told.1 read.1 back.1 place at is
 
   -- a bad cell broke the last commit off
   pub counted_broken : AllButLastAreCounted count fates parts ran
