@@ -1,5 +1,5 @@
 ghost use Rattle.std.specs.Prelude.{◌≡◌, ◌≤◌, ◌⊎◌, ℕ, List, Option, IfOk, IfSome, OnOk, OnErr, IsErrOf};
-ghost use Rattle.storm_values.specs.Counts.{Rose};
+ghost use Rattle.storm_values.specs.Counts.{raised};
 ghost use Rattle.storm_stores.specs.CellMaps.{CellMap, cell_at, with_cell};
 ghost use Rattle.cell_format.specs.Commits.{Commits, Holds, IsCellOf, IsPerhapsDone};
 ghost use Rattle.cell_format.specs.Layout.{IsWhole, bytes_of};
@@ -46,7 +46,9 @@ pub(crate) fn find_cell<C: CellStore>(
     ensures same { (cells : CellMap) → C.tells store.old cells → C.tells store.new cells }
     ensures told_before { (cells : CellMap) → C.tells store.new cells → C.tells store.old cells }
     ensures failed { IsErrOf result PartFault.Store →
-        Rose (C.fault_count store.old) (C.fault_count store.new) }
+        C.fault_count store.new ≡ raised (C.fault_count store.old) }
+    ensures quiet { (IsErrOf result PartFault.Store → ⊥) →
+        C.fault_count store.new ≡ C.fault_count store.old }
     ensures bad { (k : List ℕ) → IsErrOf result (PartFault.BadCell k) →
         (cells : CellMap) → C.tells store.old cells → IsBad kind (cell_at cells k) }
     ensures never_falls { C.fault_count store.old ≤ C.fault_count store.new }
@@ -69,7 +71,9 @@ fn put_cell<C: CellStore>(store: &mut C, key: &[u8], cell: &Cell) -> Result<(), 
     ensures told_before { (cells : CellMap) → C.tells store.new cells →
         (before : CellMap) × C.tells store.old before }
     ensures failed { IsErrOf result PartFault.Store →
-        Rose (C.fault_count store.old) (C.fault_count store.new) }
+        C.fault_count store.new ≡ raised (C.fault_count store.old) }
+    ensures quiet { (IsErrOf result PartFault.Store → ⊥) →
+        C.fault_count store.new ≡ C.fault_count store.old }
     ensures not_bad { (k : List ℕ) → IsErrOf result (PartFault.BadCell k) → ⊥ }
     ensures never_falls { C.fault_count store.old ≤ C.fault_count store.new }
 {
@@ -93,7 +97,9 @@ fn commit_key<C: CellStore>(
     ensures err { OnErr result (Turns C.tells (OnlyAt key.now
         (IsPerhapsDone batch.kind batch.by batch.txid amounts.now)) store.old store.new) }
     ensures failed { IsErrOf result PartFault.Store →
-        Rose (C.fault_count store.old) (C.fault_count store.new) }
+        C.fault_count store.new ≡ raised (C.fault_count store.old) }
+    ensures quiet { (IsErrOf result PartFault.Store → ⊥) →
+        C.fault_count store.new ≡ C.fault_count store.old }
     ensures bad { (k : List ℕ) → IsErrOf result (PartFault.BadCell k) →
         (cells : CellMap) → C.tells store.old cells → IsBad batch.kind (cell_at cells k) }
     ensures told_before { (cells : CellMap) → C.tells store.new cells →
@@ -124,7 +130,9 @@ fn commit_groups<C: CellStore>(
         (λ key. IsPerhapsWorked batch.kind batch.by batch.txid (job_at (jobs_in groups.now) key))
         store.old store.new) }
     ensures failed { IsErrOf result PartFault.Store →
-        Rose (C.fault_count store.old) (C.fault_count store.new) }
+        C.fault_count store.new ≡ raised (C.fault_count store.old) }
+    ensures quiet { (IsErrOf result PartFault.Store → ⊥) →
+        C.fault_count store.new ≡ C.fault_count store.old }
     ensures bad { (k : List ℕ) → IsErrOf result (PartFault.BadCell k) →
         AreApart (jobs_in groups.now) → (cells : CellMap) → C.tells store.old cells →
         IsBad batch.kind (cell_at cells k) }
@@ -152,7 +160,9 @@ fn commit_restores<C: CellStore>(
         (λ key. IsPerhapsWorked batch.kind batch.by batch.txid (job_at (restores_in keys.now) key))
         store.old store.new) }
     ensures failed { IsErrOf result PartFault.Store →
-        Rose (C.fault_count store.old) (C.fault_count store.new) }
+        C.fault_count store.new ≡ raised (C.fault_count store.old) }
+    ensures quiet { (IsErrOf result PartFault.Store → ⊥) →
+        C.fault_count store.new ≡ C.fault_count store.old }
     ensures bad { (k : List ℕ) → IsErrOf result (PartFault.BadCell k) →
         AreApart (restores_in keys.now) → (cells : CellMap) → C.tells store.old cells →
         IsBad batch.kind (cell_at cells k) }
@@ -181,7 +191,9 @@ pub(crate) fn commit_jobs<C: CellStore>(
         (λ key. IsPerhapsWorked batch.kind batch.by batch.txid
         (job_at (jobs_of groups.now keys.now) key)) store.old store.new) }
     ensures failed { IsErrOf result PartFault.Store →
-        Rose (C.fault_count store.old) (C.fault_count store.new) }
+        C.fault_count store.new ≡ raised (C.fault_count store.old) }
+    ensures quiet { (IsErrOf result PartFault.Store → ⊥) →
+        C.fault_count store.new ≡ C.fault_count store.old }
     ensures bad { (k : List ℕ) → IsErrOf result (PartFault.BadCell k) →
         AreApart (jobs_of groups.now keys.now) → (cells : CellMap) → C.tells store.old cells →
         IsBad batch.kind (cell_at cells k) }

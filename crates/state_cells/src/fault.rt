@@ -2,18 +2,19 @@ ghost use Rattle.std.specs.Prelude.{◌≡◌};
 ghost use Rattle.state_cells.specs.Faults.{fault_of};
 ghost use Rattle.state_cells.specs.declared.fault.PartFault.TheVariants as fault;
 
-use std::error::Error;
-use std::fmt;
 use storm_stores::StoreFault;
 use storm_values::{Bytes, Memory};
+use thiserror::Error;
 
 /// Why a part did not do a call.
-#[derive(Debug, Drop)]
+#[derive(Debug, Drop, Error)]
 pub enum PartFault {
-    /// The store failed.
+    #[error("the store failed")]
     Store,
     /// The store has a cell at this key that the part does not take.
+    #[error("the store has a bad cell")]
     BadCell(Bytes),
+    #[error("out of memory")]
     Memory,
 }
 

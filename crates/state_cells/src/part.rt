@@ -1,5 +1,5 @@
 ghost use Rattle.std.specs.Prelude.{◌≡◌, ◌≤◌, ℕ, List, IfOk, IfSome, OnOk, OnErr, IsErrOf};
-ghost use Rattle.storm_values.specs.Counts.{Rose};
+ghost use Rattle.storm_values.specs.Counts.{raised};
 ghost use Rattle.storm_stores.specs.CellMaps.{CellMap, cell_at};
 ghost use Rattle.cell_format.specs.Commits.{IsDone, IsPerhapsDone, amounts_at};
 ghost use Rattle.state_cells.specs.Known.{Knows};
@@ -82,7 +82,9 @@ impl<C: CellStore> Part<C> {
             (Turns C.tells (λ key. IsPerhapsDone self.old.kind self.old.by txid
             (amounts_at writes.now key)) self.old.store self.new.store) }
         ensures failed { IsErrOf result PartFault.Store →
-            Rose (C.fault_count self.old.store) (C.fault_count self.new.store) }
+            C.fault_count self.new.store ≡ raised (C.fault_count self.old.store) }
+        ensures quiet { (IsErrOf result PartFault.Store → ⊥) →
+            C.fault_count self.new.store ≡ C.fault_count self.old.store }
         ensures bad { (k : List ℕ) → IsErrOf result (PartFault.BadCell k) → (cells : CellMap) →
             C.tells self.old.store cells → IsBad self.old.kind (cell_at cells k) }
         ensures never_falls { C.fault_count self.old.store ≤ C.fault_count self.new.store }
@@ -106,7 +108,9 @@ impl<C: CellStore> Part<C> {
         ensures same { (cells : CellMap) → C.tells self.old.store cells →
             C.tells self.new.store cells }
         ensures failed { IsErrOf result PartFault.Store →
-            Rose (C.fault_count self.old.store) (C.fault_count self.new.store) }
+            C.fault_count self.new.store ≡ raised (C.fault_count self.old.store) }
+        ensures quiet { (IsErrOf result PartFault.Store → ⊥) →
+            C.fault_count self.new.store ≡ C.fault_count self.old.store }
         ensures bad { (k : List ℕ) → IsErrOf result (PartFault.BadCell k) → (cells : CellMap) →
             C.tells self.old.store cells → IsBadRow self.old.kind k (cell_at cells k) }
         ensures never_falls { C.fault_count self.old.store ≤ C.fault_count self.new.store }
@@ -131,7 +135,9 @@ fn commit_batch<C: CellStore>(
     ensures err { OnErr result (Turns C.tells (λ key. IsPerhapsDone batch.kind batch.by batch.txid
         (amounts_at writes.now key)) store.old store.new) }
     ensures failed { IsErrOf result PartFault.Store →
-        Rose (C.fault_count store.old) (C.fault_count store.new) }
+        C.fault_count store.new ≡ raised (C.fault_count store.old) }
+    ensures quiet { (IsErrOf result PartFault.Store → ⊥) →
+        C.fault_count store.new ≡ C.fault_count store.old }
     ensures bad { (k : List ℕ) → IsErrOf result (PartFault.BadCell k) → (cells : CellMap) →
         C.tells store.old cells → IsBad batch.kind (cell_at cells k) }
     ensures never_falls { C.fault_count store.old ≤ C.fault_count store.new }

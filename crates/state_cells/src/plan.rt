@@ -1,5 +1,5 @@
 ghost use Rattle.std.specs.Prelude.{◌≡◌, ◌≤◌, ℕ, List, IfOk, IfSome, IsErrOf};
-ghost use Rattle.storm_values.specs.Counts.{Rose};
+ghost use Rattle.storm_values.specs.Counts.{raised};
 ghost use Rattle.storm_stores.specs.CellMaps.{CellMap, cell_at};
 ghost use Rattle.state_cells.specs.Groups.{jobs_of};
 ghost use Rattle.state_cells.specs.Known.{AreKnown, Knows, keys_in};
@@ -46,7 +46,9 @@ pub(crate) fn plan<'w, C: CellStore>(
     ensures same { (cells : CellMap) → C.tells store.old cells → C.tells store.new cells }
     ensures told_before { (cells : CellMap) → C.tells store.new cells → C.tells store.old cells }
     ensures failed { IsErrOf result PartFault.Store →
-        Rose (C.fault_count store.old) (C.fault_count store.new) }
+        C.fault_count store.new ≡ raised (C.fault_count store.old) }
+    ensures quiet { (IsErrOf result PartFault.Store → ⊥) →
+        C.fault_count store.new ≡ C.fault_count store.old }
     ensures bad { (k : List ℕ) → IsErrOf result (PartFault.BadCell k) →
         (cells : CellMap) → C.tells store.old cells → IsBad batch.kind (cell_at cells k) }
     ensures never_falls { C.fault_count store.old ≤ C.fault_count store.new }
@@ -88,7 +90,9 @@ fn plan_opaque<'w, C: CellStore>(
     ensures same { (cells : CellMap) → C.tells store.old cells → C.tells store.new cells }
     ensures told_before { (cells : CellMap) → C.tells store.new cells → C.tells store.old cells }
     ensures failed { IsErrOf result PartFault.Store →
-        Rose (C.fault_count store.old) (C.fault_count store.new) }
+        C.fault_count store.new ≡ raised (C.fault_count store.old) }
+    ensures quiet { (IsErrOf result PartFault.Store → ⊥) →
+        C.fault_count store.new ≡ C.fault_count store.old }
     ensures bad { (k : List ℕ) → IsErrOf result (PartFault.BadCell k) →
         (cells : CellMap) → C.tells store.old cells → IsBad Kind.Opaque (cell_at cells k) }
     ensures never_falls { C.fault_count store.old ≤ C.fault_count store.new }
@@ -124,7 +128,9 @@ fn find_known<C: CellStore>(
     ensures same { (cells : CellMap) → C.tells store.old cells → C.tells store.new cells }
     ensures told_before { (cells : CellMap) → C.tells store.new cells → C.tells store.old cells }
     ensures failed { IsErrOf result PartFault.Store →
-        Rose (C.fault_count store.old) (C.fault_count store.new) }
+        C.fault_count store.new ≡ raised (C.fault_count store.old) }
+    ensures quiet { (IsErrOf result PartFault.Store → ⊥) →
+        C.fault_count store.new ≡ C.fault_count store.old }
     ensures bad { (k : List ℕ) → IsErrOf result (PartFault.BadCell k) →
         (cells : CellMap) → C.tells store.old cells → IsBad Kind.Opaque (cell_at cells k) }
     ensures never_falls { C.fault_count store.old ≤ C.fault_count store.new }

@@ -1,5 +1,5 @@
 ghost use Rattle.std.specs.Prelude.{◌≡◌, ◌≤◌, ◌<◌, ◌==◌, if◌then◌else◌, true, ℕ, List, [], ◌∷◌, ◌++◌, length, Option, IfOk, OnOk, IsErrOf};
-ghost use Rattle.storm_values.specs.Counts.{Rose};
+ghost use Rattle.storm_values.specs.Counts.{raised};
 ghost use Rattle.storm_stores.specs.CellMaps.{CellMap, cell_at};
 ghost use Rattle.cell_format.specs.declared.cell.Cell.{Cell};
 ghost use Rattle.state_cells.specs.Known.{Knows};
@@ -57,7 +57,9 @@ fn scan_key<C: CellStore>(
     ensures same { (cells : CellMap) → C.tells store.old cells → C.tells store.new cells }
     ensures told_before { (cells : CellMap) → C.tells store.new cells → C.tells store.old cells }
     ensures failed { IsErrOf result PartFault.Store →
-        Rose (C.fault_count store.old) (C.fault_count store.new) }
+        C.fault_count store.new ≡ raised (C.fault_count store.old) }
+    ensures quiet { (IsErrOf result PartFault.Store → ⊥) →
+        C.fault_count store.new ≡ C.fault_count store.old }
     ensures bad { (k : List ℕ) → IsErrOf result (PartFault.BadCell k) →
         (cells : CellMap) → C.tells store.old cells → IsBad Kind.Opaque (cell_at cells k) }
     ensures never_falls { C.fault_count store.old ≤ C.fault_count store.new }
@@ -83,7 +85,9 @@ pub(crate) fn scan<C: CellStore>(
     ensures same { (cells : CellMap) → C.tells store.old cells → C.tells store.new cells }
     ensures told_before { (cells : CellMap) → C.tells store.new cells → C.tells store.old cells }
     ensures failed { IsErrOf result PartFault.Store →
-        Rose (C.fault_count store.old) (C.fault_count store.new) }
+        C.fault_count store.new ≡ raised (C.fault_count store.old) }
+    ensures quiet { (IsErrOf result PartFault.Store → ⊥) →
+        C.fault_count store.new ≡ C.fault_count store.old }
     ensures bad { (k : List ℕ) → IsErrOf result (PartFault.BadCell k) →
         (cells : CellMap) → C.tells store.old cells → IsBad Kind.Opaque (cell_at cells k) }
     ensures never_falls { C.fault_count store.old ≤ C.fault_count store.new }

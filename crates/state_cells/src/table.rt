@@ -1,6 +1,6 @@
 ghost use Rattle.std.specs.Prelude.{◌≡◌, ◌≤◌, ◌<◌, ℕ, List, [], ◌∷◌, ◌++◌, length, IfOk, OnOk, IsErrOf};
 ghost use Rattle.std.specs.Str.{IsUtf8};
-ghost use Rattle.storm_values.specs.Counts.{Rose};
+ghost use Rattle.storm_values.specs.Counts.{raised};
 ghost use Rattle.storm_stores.specs.CellMaps.{CellMap, cell_at};
 ghost use Rattle.state_cells.specs.Scans.{AreGood};
 ghost use Rattle.state_cells.specs.Rows.{IsBadRow, Reads, rows_of};
@@ -27,7 +27,9 @@ fn read_key<C: CellStore>(
     ensures same { (cells : CellMap) → C.tells store.old cells → C.tells store.new cells }
     ensures told_before { (cells : CellMap) → C.tells store.new cells → C.tells store.old cells }
     ensures failed { IsErrOf result PartFault.Store →
-        Rose (C.fault_count store.old) (C.fault_count store.new) }
+        C.fault_count store.new ≡ raised (C.fault_count store.old) }
+    ensures quiet { (IsErrOf result PartFault.Store → ⊥) →
+        C.fault_count store.new ≡ C.fault_count store.old }
     ensures bad { (k : List ℕ) → IsErrOf result (PartFault.BadCell k) →
         (cells : CellMap) → C.tells store.old cells → IsBadRow kind k (cell_at cells k) }
     ensures never_falls { C.fault_count store.old ≤ C.fault_count store.new }
@@ -79,7 +81,9 @@ pub(crate) fn table<C: CellStore>(
     ensures same { (cells : CellMap) → C.tells store.old cells → C.tells store.new cells }
     ensures told_before { (cells : CellMap) → C.tells store.new cells → C.tells store.old cells }
     ensures failed { IsErrOf result PartFault.Store →
-        Rose (C.fault_count store.old) (C.fault_count store.new) }
+        C.fault_count store.new ≡ raised (C.fault_count store.old) }
+    ensures quiet { (IsErrOf result PartFault.Store → ⊥) →
+        C.fault_count store.new ≡ C.fault_count store.old }
     ensures bad { (k : List ℕ) → IsErrOf result (PartFault.BadCell k) →
         (cells : CellMap) → C.tells store.old cells → IsBadRow kind k (cell_at cells k) }
     ensures never_falls { C.fault_count store.old ≤ C.fault_count store.new }

@@ -1,18 +1,20 @@
 -- What a maker holds while stores are out, and when they came back.
-use Rattle.std.proofs.Common.{◌≡◌, ◌+◌, ◌≤◌, inl, inr, ⊎_elim, ℕ, List, [], ◌∷◌, ◌++◌, All, refl, sym, subst, ◌∙◌, arith}
+use Rattle.std.proofs.Common.{◌≡◌, ◌+◌, ◌-◌, ◌^◌, ◌<◌, ◌≤◌, inl, inr, ⊎_elim, ℕ, List, [], ◌∷◌, ◌++◌, All, refl, sym, subst, ◌∙◌, arith}
+use Rattle.std.proofs.lemmas.Bool.{cases_lt}
 use Rattle.std.proofs.lemmas.List.{map-append}
 use Rattle.std.proofs.lemmas.List.Elements.{All-cons, All-head, All-nil, All-push, All-tail, All-weaker}
 use Rattle.storm_stores.specs.CellMaps.{CellMap}
-use Rattle.storm_stores.specs.Counts.{RoseBy}
+use Rattle.storm_values.specs.Counts.{raised_by}
 use Rattle.state_parts.specs.declared.parts.StatePart.{StatePart}
 use Rattle.state_parts.specs.Makers.{AreBack, AreMade, AreOut, Began, CameBack, HasNotFailed, OnlyMade, RoseBySum, WasMade, faults_of}
 use Rattle.state_parts.specs.PartPlans.{AreApart, IsOneOf, PartPlan, plan_of, plans_of}
 use Rattle.state_parts.proofs.Places.{apart_push, numbers_cases, one_of_cases, one_of_left, one_of_right}
 
-rose_sum : (s r a b c : ℕ) → RoseBy s a b → b ≤ c → RoseBySum r b c → RoseBySum (s + r) a c
-rose_sum s r a b c (inl one) up (inl two) = inl (omega arith)
-rose_sum s r a b c (inl one) up (inr end) = inr end
-rose_sum s r a b c (inr end) up rest = inr (omega arith)
+raised_twice : (s r a b c : ℕ) → b ≡ raised_by a s → c ≡ raised_by b r → c ≡ raised_by a (s + r)
+raised_twice s r a b c first then = omega arith
+
+pub rose_of_count : (s a b : ℕ) → b ≡ raised_by a s → RoseBySum s a b
+rose_of_count s a b is = ⊎_elim (λ (below : a + s < 2 ^ 64). inl (omega arith)) (λ (end : 2 ^ 64 ≤ a + s). inr (omega arith)) (cases_lt (a + s) (2 ^ 64))
 
 zero_sum : (s r : ℕ) → s + r ≡ 0 → (s ≡ 0) × (r ≡ 0)
 zero_sum s r none = (omega arith, omega arith)
@@ -98,13 +100,13 @@ module _ {S M : Type 0} (tells : S → CellMap → Type 0) (count : S → ℕ) (
 
   -- ---- stores that come back
 
-  pub back_none : (m : M) → Back m m []
-  back_none m = record {
+  pub back_none : (m : M) → faults m ≤ 2 ^ 64 - 1 → Back m m []
+  back_none m ends = record {
     back = All-nil (CameBack tells holds m);
     others = λ c p cells other held. held;
     stays_made = λ c p is. is;
     made_before = λ c p is. is;
-    rose = inl (omega arith);
+    counted = omega (arith, ends);
     never_falls = omega arith;
     same_count = λ none. refl;
   }
@@ -114,14 +116,14 @@ module _ {S M : Type 0} (tells : S → CellMap → Type 0) (count : S → ℕ) (
       → ((cells : CellMap) → tells at.over.store cells → holds mid at.component at.part cells)
       → ((c p : ℕ) (cells : CellMap) → ((c ≡ at.component) × (p ≡ at.part) → ⊥) → holds old c p cells → holds mid c p cells)
       → ((c p : ℕ) → made old c p → made mid c p) → ((c p : ℕ) → made mid c p → made old c p)
-      → RoseBy (count at.over.store) (faults old) (faults mid) → faults old ≤ faults mid → (count at.over.store ≡ 0 → faults mid ≡ faults old)
+      → faults mid ≡ raised_by (faults old) (count at.over.store) → faults old ≤ faults mid → (count at.over.store ≡ 0 → faults mid ≡ faults old)
       → Back mid new parts → Back old new (at ∷ parts)
-  back_first old mid new at parts alone map_is others stays before rose up same rest = record {
+  back_first old mid new at parts alone map_is others stays before counted up same rest = record {
     back = All-cons (CameBack tells holds new) at parts (λ cells told. rest.others at.component at.part cells alone (map_is cells told)) rest.back;
     others = λ c p cells other held. rest.others c p cells (λ one. other (inr one)) (others c p cells (λ here. other (inl here)) held);
     stays_made = λ c p is. rest.stays_made c p (stays c p is);
     made_before = λ c p is. before c p (rest.made_before c p is);
-    rose = rose_sum (count at.over.store) (faults_of count parts) (faults old) (faults mid) (faults new) rose rest.never_falls rest.rose;
+    counted = raised_twice (count at.over.store) (faults_of count parts) (faults old) (faults mid) (faults new) counted rest.counted;
     never_falls = let later = rest.never_falls in omega arith;
     same_count = λ none. let each = zero_sum (count at.over.store) (faults_of count parts) none in rest.same_count each.1 ∙ same each.0;
   }
@@ -155,10 +157,10 @@ module _ {S M : Type 0} (tells : S → CellMap → Type 0) (count : S → ℕ) (
       → ((cells : CellMap) → tells at.over.store cells → holds mid at.component at.part cells)
       → ((c p : ℕ) (cells : CellMap) → ((c ≡ at.component) × (p ≡ at.part) → ⊥) → holds now c p cells → holds mid c p cells)
       → ((c p : ℕ) → made now c p → made mid c p) → ((c p : ℕ) → made mid c p → made now c p)
-      → RoseBy (count at.over.store) (faults now) (faults mid) → faults now ≤ faults mid → (count at.over.store ≡ 0 → faults mid ≡ faults now)
+      → faults mid ≡ raised_by (faults now) (count at.over.store) → faults now ≤ faults mid → (count at.over.store ≡ 0 → faults mid ≡ faults now)
       → ((end : M) → Back now end (at ∷ rest) → Back start end all) → (end : M) → Back mid end rest → Back start end all
-  back_more start now mid all at rest apart map_is others stays before rose up same from end later =
-      from end (back_first now mid end at rest apart.0 map_is others stays before rose up same later)
+  back_more start now mid all at rest apart map_is others stays before counted up same from end later =
+      from end (back_first now mid end at rest apart.0 map_is others stays before counted up same later)
 
   pub made_rest : (now mid : M) (at : StatePart S) (rest : List (StatePart S)) → ((c p : ℕ) → made now c p → made mid c p) → AreMade made now (plans_of (at ∷ rest)) → AreMade made mid (plans_of rest)
   made_rest now mid at rest stays are = All-weaker (WasMade made now) (WasMade made mid) (λ x is. stays x.component x.part is) (plans_of rest) (All-tail (WasMade made now) (plan_of at) (plans_of rest) are)

@@ -15,7 +15,7 @@ use Rattle.std.specs.Map.{keys_of, lookup, update}
 use Rattle.std.specs.Option.{option_and_then, option_map, option_or}
 use Rattle.std.specs.Ordering.{nat_cmp}
 use Rattle.std.specs.Str.{bytes_eq}
-use Rattle.storm_values.specs.Counts.{Rose}
+use Rattle.storm_values.specs.Counts.{raised}
 use Rattle.storm_stores.specs.CellMaps.{CellMap, cell_at}
 use Rattle.topology_plan.specs.declared.parts.Component.{Component}
 use Rattle.topology_plan.specs.declared.parts.Kind.{Kind}
@@ -26,8 +26,9 @@ use Rattle.state_parts.specs.Gathered.{pair_of, pairs_of, value_of}
 use Rattle.tree_model.specs.Tables.{StateOf, state_at, state_by, value_at}
 use Rattle.state_cells.specs.Rows.{IsBadRow, row_by, rows_of, value_in}
 use Rattle.state_parts.specs.declared.parts.StatePart.{StatePart}
+use Rattle.state_parts.specs.Commits.{SameCounts}
 use Rattle.state_parts.specs.PartPlans.{PartPlan, plan_of, plans_of}
-use Rattle.state_parts.specs.PartTables.{AddsTableOver, AreRead, IsBadRowAt, IsRead, IsTableOver, SomeRose, Tell, components_of, put_all, value_among, value_for}
+use Rattle.state_parts.specs.PartTables.{AddsTableOver, AreRead, IsBadRowAt, IsRead, IsTableOver, OneRaised, Tell, components_of, put_all, value_among, value_for}
 
 -- ---- rows that are put into a map
 
@@ -163,6 +164,9 @@ table_of_map tells parts state m table named same sorted values = record {
 pub same_fault : {T U E : Type 0} (r : Result T E) (e fault : E) → r ≡ Err e → ◌≡◌ {A = Result U E} (Err e) (Err fault) → r ≡ Err fault
 same_fault r e fault is same = let one : e ≡ fault = cc in is ∙ ap Err one
 
+pub told_fault : {T U E : Type 0} (r : Result T E) (e fault : E) → r ≡ Err e → r ≡ Err fault → ◌≡◌ {A = Result U E} (Err e) (Err fault)
+told_fault r e fault is same = let one : e ≡ fault = cc in ap Err one
+
 -- ---- lists side by side
 
 module _ {A B : Type 0} (R : A → B → Type 0) where
@@ -178,11 +182,6 @@ module _ {A B : Type 0} (R : A → B → Type 0) where
   zip_set (x ∷ xs) [] i d y all is = absurd all
   zip_set (x ∷ xs) (z ∷ ys) zero d y all is = (is, all.1)
   zip_set (x ∷ xs) (z ∷ ys) (suc i) d y all is = (all.0, zip_set xs ys i d y all.1 is)
-
-get-set : {X : Type 0} (xs : List X) (i : ℕ) (x : X) → i < length xs → slice_get (set xs i x) i ≡ Some x
-get-set [] i x within = absurd (omega arith)
-get-set (y ∷ xs) zero x within = refl
-get-set (y ∷ xs) (suc i) x within = get-set xs i x (omega arith)
 
 among_push : (number : ℕ) (components : List ℕ) (maps : List CellMap) (component : ℕ) (cells : CellMap) (key : List ℕ) → length maps ≡ length components
     → value_among number (components ++ component ∷ []) (maps ++ cells ∷ []) key ≡ option_or (value_for number component cells key) (value_among number components maps key)
@@ -204,7 +203,45 @@ among_push number (c ∷ components) (m ∷ maps) component cells key long =
 -- the first i parts were read
 pub record Reading {S : Type 0} (tells : S → CellMap → Type 0) (count : S → ℕ) (number : ℕ) (old now : List (StatePart S)) (i : ℕ) (values : List ℕ → Option ℤ) : Type 0 where
   pub read : AreRead tells count old now
+  pub counts : SameCounts count old now
   pub told : (maps : List CellMap) → Tell tells old maps → (key : List ℕ) → values key ≡ value_among number (take i (components_of old)) (take i maps) key
+
+-- ---- counts of parts that are read
+
+module _ {S : Type 0} (count : S → ℕ) where
+  pub counts_same : (parts : List (StatePart S)) → SameCounts count parts parts
+  counts_same [] = tt
+  counts_same (at ∷ parts) = (refl, counts_same parts)
+
+  pub counts_on : (xs ys zs : List (StatePart S)) → SameCounts count xs ys → SameCounts count ys zs → SameCounts count xs zs
+  counts_on [] [] zs first next = next
+  counts_on [] (y ∷ ys) zs first next = absurd first
+  counts_on (x ∷ xs) [] zs first next = absurd first
+  counts_on (x ∷ xs) (y ∷ ys) [] first next = absurd next
+  counts_on (x ∷ xs) (y ∷ ys) (z ∷ zs) first next = (next.0 ∙ first.0, counts_on xs ys zs first.1 next.1)
+
+  -- one more part was read, and its store did not fail
+  pub counts_set : (old now : List (StatePart S)) (i : ℕ) (was is : StatePart S) → i < length old → was ≡ get_or now i was → SameCounts count old now → count is.over.store ≡ count was.over.store → SameCounts count old (set now i is)
+  counts_set [] now i was is within read same quiet = absurd (omega arith)
+  counts_set (x ∷ old) [] i was is within read same quiet = absurd same
+  counts_set (x ∷ old) (y ∷ now) zero was is within read same quiet = (quiet ∙ ap (λ (at : StatePart S). count at.over.store) read ∙ same.0, same.1)
+  counts_set (x ∷ old) (y ∷ now) (suc i) was is within read same quiet = (same.0, counts_set old now i was is (omega arith) read same.1 quiet)
+
+  -- its store failed
+  pub raised_set : (old now : List (StatePart S)) (i : ℕ) (was is : StatePart S) → i < length old → was ≡ get_or now i was → SameCounts count old now → count is.over.store ≡ raised (count was.over.store) → OneRaised count old (set now i is)
+  raised_set [] now i was is within read same rose = absurd (omega arith)
+  raised_set (x ∷ old) [] i was is within read same rose = absurd same
+  raised_set (x ∷ old) (y ∷ now) zero was is within read same rose = inl (rose ∙ ap (λ (at : StatePart S). raised (count at.over.store)) read ∙ ap raised same.0, same.1)
+  raised_set (x ∷ old) (y ∷ now) (suc i) was is within read same rose = inr (same.0, raised_set old now i was is (omega arith) read same.1 rose)
+
+  -- a store that failed later failed since the beginning
+  pub raised_later : (xs ys zs : List (StatePart S)) → SameCounts count xs ys → OneRaised count ys zs → OneRaised count xs zs
+  raised_later [] [] zs same one = one
+  raised_later [] (y ∷ ys) zs same one = absurd same
+  raised_later (x ∷ xs) [] zs same one = absurd same
+  raised_later (x ∷ xs) (y ∷ ys) [] same one = absurd one
+  raised_later (x ∷ xs) (y ∷ ys) (z ∷ zs) same (inl here) = inl (here.0 ∙ ap raised same.0, counts_on xs ys zs same.1 here.1)
+  raised_later (x ∷ xs) (y ∷ ys) (z ∷ zs) same (inr later) = inr (later.0 ∙ same.0, raised_later xs ys zs same.1 later.1)
 
 -- ---- parts that are read
 
@@ -263,23 +300,6 @@ module _ {S : Type 0} (tells : S → CellMap → Type 0) (count : S → ℕ) whe
   read_tell (x ∷ old) (y ∷ now) [] all told = absurd told
   read_tell (x ∷ old) (y ∷ now) (m ∷ maps) all told = (all.0.same m told.0, read_tell old now maps all.1 told.1)
 
-  -- a part that was read before now failed
-  pub rose_at : (old now : List (StatePart S)) (i : ℕ) (was is : StatePart S) → i < length old → was ≡ get_or now i was → AreRead tells count old now → Rose (count was.over.store) (count is.over.store) → SomeRose count old (set now i is)
-  rose_at old now i was is within read all rose =
-      let first : IsRead tells count (get_or old i was) was = subst (λ (x : StatePart S). IsRead tells count (get_or old i was) x) (sym read) (zip_at (IsRead tells count) old now i was was all within) in
-      record {
-        place = i;
-        was = get_or old i was;
-        is = is;
-        was_at = slice_get-get_or old i was within;
-        is_at = get-set now i is (let long = read_long old now all in omega arith);
-        rose = further (count (get_or old i was).over.store) (count was.over.store) (count is.over.store) first.never_falls rose;
-      }
-    where
-      further : (a b c : ℕ) → a ≤ b → Rose b c → Rose a c
-      further a b c up (inl more) = inl (omega arith)
-      further a b c up (inr end) = inr end
-
   pub bad_at : (old now : List (StatePart S)) (i : ℕ) (was : StatePart S) (key : List ℕ) → i < length old → was ≡ get_or now i was → AreRead tells count old now
       → ((cells : CellMap) → tells was.over.store cells → IsBadRow was.over.kind key (cell_at cells key)) → IsBadRowAt tells old key
   bad_at old now i was key within read all bad =
@@ -290,27 +310,6 @@ module _ {S : Type 0} (tells : S → CellMap → Type 0) (count : S → ℕ) whe
         was_at = slice_get-get_or old i was within;
         bad = λ cells told. subst (λ (k : Kind). IsBadRow k key (cell_at cells key)) (ap (λ (p : PartPlan). p.kind) first.plan) (bad cells (first.same cells told));
       }
-
-  -- a part that failed later failed since the beginning
-  pub rose_before : (xs ys zs : List (StatePart S)) → AreRead tells count xs ys → SomeRose count ys zs → SomeRose count xs zs
-  rose_before xs ys zs all rose = record {
-    place = rose.place;
-    was = get_or xs rose.place rose.was;
-    is = rose.is;
-    was_at = slice_get-get_or xs rose.place rose.was within;
-    is_at = rose.is_at;
-    rose = further _ _ _ (subst (λ (x : StatePart S). IsRead tells count (get_or xs rose.place rose.was) x) at_is (zip_at (IsRead tells count) xs ys rose.place rose.was rose.was all within)).never_falls rose.rose;
-  }
-    where
-      at_is : get_or ys rose.place rose.was ≡ rose.was
-      at_is = get_or_from_slice_get ys rose.place rose.was rose.was rose.was_at
-
-      within : rose.place < length xs
-      within = let long = read_long xs ys all in let there = slice_get_within ys rose.place rose.was rose.was_at in omega arith
-
-      further : (a b c : ℕ) → a ≤ b → Rose b c → Rose a c
-      further a b c up (inl more) = inl (omega arith)
-      further a b c up (inr end) = inr end
 
   pub bad_before : (xs ys : List (StatePart S)) (key : List ℕ) → AreRead tells count xs ys → IsBadRowAt tells ys key → IsBadRowAt tells xs key
   bad_before xs ys key all bad =
@@ -324,9 +323,10 @@ module _ {S : Type 0} (tells : S → CellMap → Type 0) (count : S → ℕ) whe
 
   pub reading_more : (number : ℕ) (old now : List (StatePart S)) (i : ℕ) (before after : List ℕ → Option ℤ) (was is : StatePart S) → i < length old → was ≡ get_or now i was
       → ((cells : CellMap) → tells was.over.store cells → (key : List ℕ) → after key ≡ option_or (value_for number was.component cells key) (before key))
-      → IsRead tells count was is → Reading tells count number old now i before → Reading tells count number old (set now i is) (i + 1) after
-  reading_more number old now i before after was is within read added next reading = record {
+      → IsRead tells count was is → count is.over.store ≡ count was.over.store → Reading tells count number old now i before → Reading tells count number old (set now i is) (i + 1) after
+  reading_more number old now i before after was is within read added next quiet reading = record {
     read = read_set old now i was is within read reading.read next;
+    counts = counts_set count old now i was is within read reading.counts quiet;
     told = λ maps told key.
         let maps_long : length maps ≡ length old = AllZip-long (λ at cells. tells at.over.store cells) old maps told in
         let components_long : length (components_of old) ≡ length old = length-map old (λ (at : StatePart S). at.component) in

@@ -1,19 +1,18 @@
 -- What follows of the parts' answers to a commit.
-use Rattle.std.proofs.Common.{◌≡◌, ◌+◌, ◌≤◌, ◌<◌, ◌||◌, inl, ℕ, suc, Bool, true, false, List, [], ◌∷◌, ◌++◌, length, map, get_or, set, drop, All, Option, None, Some, Result, Ok, Err, OnOk, OnErr, IsErrOf, refl, sym, ap, subst, ◌∙◌, append_assoc, arith}
+use Rattle.std.proofs.Common.{◌≡◌, ◌+◌, ◌≤◌, ◌<◌, ◌||◌, ◌&&◌, ◌==◌, inl, inr, ⊎_elim, ℕ, zero, suc, Bool, true, false, List, [], ◌∷◌, ◌++◌, length, map, get_or, set, slice_get, drop, All, Option, None, Some, Result, Ok, Err, OnOk, refl, sym, ap, subst, ◌∙◌, append_assoc, arith}
+use Rattle.std.proofs.lemmas.Bool.{cases_eq, eq-eqb, ne_eqb}
 use Rattle.std.proofs.lemmas.List.{append-nil, drop_all, drop_more, get_or-map, get_or_at, length-map, length_push, map-append, set_at}
 use Rattle.std.proofs.lemmas.List.Elements.{All-head, All-nil, All-push, All-tail}
 use Rattle.std.proofs.lemmas.List.Folds.{list_any-append}
+use Rattle.std.proofs.lemmas.Option.{none-some, same_Some}
 use Rattle.std.specs.List.{list_any}
 use Rattle.std.specs.Option.{option_or}
 use Rattle.storm_values.specs.Lines.{first_some}
-use Rattle.storm_values.specs.Counts.{Rose}
-use Rattle.storm_stores.specs.CellMaps.{CellMap, cell_at}
+use Rattle.storm_values.specs.Counts.{raised}
+use Rattle.storm_stores.specs.CellMaps.{CellMap}
 use Rattle.tree_model.specs.declared.write.Write.{Write}
-use Rattle.cell_format.specs.Commits.{IsDone, IsPerhapsDone, amounts_at}
-use Rattle.cell_format.proofs.CommitLemmas.{perhaps_if_done}
 use Rattle.state_cells.specs.declared.fault.PartFault.{PartFault}
 use Rattle.state_cells.specs.declared.fault.PartFault.TheVariants as fault
-use Rattle.state_cells.specs.Turns.{IsBad, Turns}
 use Rattle.state_parts.specs.declared.answer.CommitFault.{CommitFault}
 use Rattle.state_parts.specs.declared.answer.CommitFault.TheVariants.{BadCell}
 use Rattle.state_parts.specs.declared.answer.CommitOutcome.{CommitOutcome}
@@ -21,8 +20,8 @@ use Rattle.state_parts.specs.declared.answer.CommitOutcome.TheVariants.{Done, Fa
 use Rattle.state_parts.specs.declared.answer.Tally.{Tally}
 use Rattle.state_parts.specs.declared.parts.StatePart.{StatePart}
 use Rattle.state_parts.specs.Answers.{Tries, noted}
-use Rattle.state_parts.specs.Commits.{AreCommitted, ArePerhapsCommitted, AreTried, Committed, IsBadAt, IsFailedPart, IsTrial, NoCountFell, Trial, answer_by, answer_of, bad_key, failure_by, failure_of, own_writes, tally_of, wants_memory, writes_by_part}
-use Rattle.state_parts.specs.PartPlans.{PartPlan, plan_of, plans_of}
+use Rattle.state_parts.specs.Commits.{AreCommitted, ArePerhapsCommitted, AreTried, Committed, CountFollows, CountsFollow, FailOnceAtMost, FailedOnceAtMost, FailureFollows, IsBadAt, IsFailedPart, IsTrial, NoCountFell, Trial, answer_by, answer_of, bad_key, failure_by, failure_of, own_writes, tally_of, wants_memory, writes_by_part}
+use Rattle.state_parts.specs.PartPlans.{AreApart, IsOneOf, PartPlan, plan_of, plans_of}
 
 -- ---- the first of each kind
 
@@ -77,6 +76,35 @@ module _ {S : Type 0} (count : S → ℕ) where
       trial.answer trial.old.component trial.old.part (count trial.old.over.store) (count trial.new.over.store)
       ∙ sym (same_tally _ _ _ _ _ _ (any_push trials trial) (first_push (λ (t : Trial S). bad_key t.answer) trials trial) (first_push (failure_of count) trials trial))
 
+-- ---- whether two parts are one
+
+and_false : (b : Bool) → (b && false) ≡ false
+and_false true = refl
+and_false false = refl
+
+same_numbers : (c p : ℕ) → ((c == c) && (p == p)) ≡ true
+same_numbers c p = ap (λ (b : Bool). b && (p == p)) (eq-eqb c c refl) ∙ eq-eqb p p refl
+
+other_numbers : (c p component part : ℕ) → ((c ≡ component) × (p ≡ part) → ⊥) → ((c == component) && (p == part)) ≡ false
+other_numbers c p component part other =
+    ⊎_elim (λ (one : c ≡ component). ap (λ (b : Bool). (c == component) && b) (ne_eqb p part (λ two. other (one, two))) ∙ and_false (c == component))
+    (λ (none : c ≡ component → ⊥). ap (λ (b : Bool). b && (p == part)) (ne_eqb c component none)) (cases_eq c component)
+
+-- of another part than the told one
+other_follows : (c p component part b a low high : ℕ) → ((c ≡ component) × (p ≡ part) → ⊥) → FailedOnceAtMost low high → CountFollows (Failed c p b a) component part low high
+other_follows c p component part b a low high other once = subst (λ (t : Bool). FailureFollows t b a low high) (sym (other_numbers c p component part other)) once
+
+there_is : {S : Type 0} (xs : List (StatePart S)) (place : ℕ) (was : StatePart S) → slice_get xs place ≡ Some was → IsOneOf (plans_of xs) was.component was.part
+there_is {S} [] place was at = absurd (none-some was at)
+there_is {S} (x ∷ xs) zero was at =
+    let same : x ≡ was = same_Some x was at in
+    inl (ap (λ (s : StatePart S). s.component) (sym same), ap (λ (s : StatePart S). s.part) (sym same))
+there_is {S} (x ∷ xs) (suc place) was at = inr (there_is xs place was at)
+
+part_there : {S : Type 0} {count : S → ℕ} (xs ys : List (StatePart S)) (c p b a : ℕ) → IsFailedPart count xs ys c p b a → IsOneOf (plans_of xs) c p
+part_there xs ys c p b a told =
+    subst (λ (k : ℕ). IsOneOf (plans_of xs) k p) told.component_is (subst (λ (k : ℕ). IsOneOf (plans_of xs) told.was.component k) told.part_is (there_is xs told.place told.was told.was_at))
+
 -- the first i parts were tried, and the others are as they were
 pub record Trying {S : Type 0} (tells : S → CellMap → Type 0) (count : S → ℕ) (txid : ℕ) (writes : List Write) (i : ℕ) (old now : List (StatePart S)) (tally : Tally) : Type 0 where
   pub trials : List (Trial S)
@@ -86,55 +114,7 @@ pub record Trying {S : Type 0} (tells : S → CellMap → Type 0) (count : S →
   pub news : map (λ (trial : Trial S). trial.new) trials ++ drop i old ≡ now
   pub tally_is : tally ≡ tally_of count trials
 
--- ---- one part
-
 module _ {S : Type 0} (tells : S → CellMap → Type 0) (count : S → ℕ) (txid : ℕ) where
-  same_plan : (old new : StatePart S) → new.component ≡ old.component → new.part ≡ old.part → new.over.kind ≡ old.over.kind → new.over.by ≡ old.over.by → plan_of new ≡ plan_of old
-  same_plan old new one two three four = rw (one, two, three, four) refl
-
-  perhaps_from_done : (own : List Write) (old new : StatePart S) → Turns tells (λ key. IsDone old.over.kind old.over.by txid (amounts_at own key)) old.over.store new.over.store
-      → Turns tells (λ key. IsPerhapsDone old.over.kind old.over.by txid (amounts_at own key)) old.over.store new.over.store
-  perhaps_from_done own old new turns = record {
-    to = λ cells told.
-        let x = turns.to cells told in
-        (x.0, x.1, λ key. perhaps_if_done old.over.kind old.over.by txid (amounts_at own key) (cell_at cells key) (cell_at x.0 key) (x.2 key));
-  }
-
-  turned : (own : List Write) (old new : StatePart S) (answer : Result (Unit {0}) PartFault)
-      → OnOk answer (Turns tells (λ key. IsDone old.over.kind old.over.by txid (amounts_at own key)) old.over.store new.over.store)
-      → OnErr answer (Turns tells (λ key. IsPerhapsDone old.over.kind old.over.by txid (amounts_at own key)) old.over.store new.over.store)
-      → Turns tells (λ key. IsPerhapsDone old.over.kind old.over.by txid (amounts_at own key)) old.over.store new.over.store
-  turned own old new (Ok done) ok err = perhaps_from_done own old new ok
-  turned own old new (Err why) ok err = err
-
-  committed_if : (own : List Write) (old new : StatePart S) (answer : Result (Unit {0}) PartFault) → plan_of new ≡ plan_of old
-      → OnOk answer (Turns tells (λ key. IsDone old.over.kind old.over.by txid (amounts_at own key)) old.over.store new.over.store) → OnOk answer (Committed tells txid own old new)
-  committed_if own old new (Ok done) plan ok = record { plan = plan; turns = ok }
-  committed_if own old new (Err why) plan ok = tt
-
-  pub tries_of : (own : List Write) (old new : StatePart S) (answer : Result (Unit {0}) PartFault) (before after : Tally) (b a : ℕ)
-      → new.component ≡ old.component → new.part ≡ old.part → new.over.kind ≡ old.over.kind → new.over.by ≡ old.over.by
-      → OnOk answer (Turns tells (λ key. IsDone old.over.kind old.over.by txid (amounts_at own key)) old.over.store new.over.store)
-      → OnErr answer (Turns tells (λ key. IsPerhapsDone old.over.kind old.over.by txid (amounts_at own key)) old.over.store new.over.store)
-      → (IsErrOf answer fault.Store → Rose (count old.over.store) (count new.over.store))
-      → ((key : List ℕ) → IsErrOf answer (fault.BadCell key) → (cells : CellMap) → tells old.over.store cells → IsBad old.over.kind (cell_at cells key))
-      → count old.over.store ≤ count new.over.store
-      → b ≡ count old.over.store → a ≡ count new.over.store → after ≡ noted before answer (Failed old.component old.part b a) → Tries tells count txid own old new before after
-  tries_of own old new answer before after b a one two three four ok err failed bad up was is notes =
-      let plan = same_plan old new one two three four in
-      record {
-        answer = answer;
-        trial = record {
-          plan = plan;
-          done = committed_if own old new answer plan ok;
-          kept = record { plan = plan; turns = turned own old new answer ok err };
-          failed = failed;
-          bad = bad;
-          never_falls = up;
-        };
-        notes = notes ∙ ap (λ (k : ℕ). noted before answer (Failed old.component old.part k a)) was ∙ ap (λ (k : ℕ). noted before answer (Failed old.component old.part (count old.over.store) k)) is;
-      }
-
   -- ---- the loop over the parts
 
   module _ (writes : List Write) where
@@ -244,7 +224,7 @@ module _ {S : Type 0} (tells : S → CellMap → Type 0) (count : S → ℕ) (tx
     }
 
     failed_here : (old new : StatePart S) (xs ys : List (StatePart S)) (c p b a : ℕ) → ◌≡◌ {A = Result CommitOutcome CommitFault} (Ok (Failed old.component old.part (count old.over.store) (count new.over.store))) (Ok (Failed c p b a))
-        → Rose (count old.over.store) (count new.over.store) → IsFailedPart count (old ∷ xs) (new ∷ ys) c p b a
+        → count new.over.store ≡ raised (count old.over.store) → IsFailedPart count (old ∷ xs) (new ∷ ys) c p b a
     failed_here old new xs ys c p b a is rose =
         let one : old.component ≡ c = cc in
         let two : old.part ≡ p = cc in
@@ -260,7 +240,7 @@ module _ {S : Type 0} (tells : S → CellMap → Type 0) (count : S → ℕ) (tx
           part_is = two;
           before_is = three;
           after_is = four;
-          rose = subst (λ (k : ℕ). Rose b k) four (subst (λ (k : ℕ). Rose k (count new.over.store)) three rose);
+          rose = sym four ∙ rose ∙ ap raised three;
         }
 
     one_failed : (trial : Trial S) (xs ys : List (StatePart S)) (lacks : Bool) (bads : List (Option (List ℕ))) (faileds : List (Option CommitOutcome)) (c p b a : ℕ) → IsTrial tells count txid (own_writes writes trial.old) trial
@@ -287,6 +267,76 @@ module _ {S : Type 0} (tells : S → CellMap → Type 0) (count : S → ℕ) (tx
     trials_failed (trial ∷ trials) each c p b a is =
         one_failed trial (map (λ (t : Trial S). t.old) trials) (map (λ (t : Trial S). t.new) trials) (list_any (λ (t : Trial S). wants_memory t.answer) trials) (map (λ (t : Trial S). bad_key t.answer) trials) (map (failure_of count) trials)
         c p b a (head trial trials each) (trials_failed trials (tail trial trials each) c p b a) trial.answer refl is
+
+    -- ---- how the counts went
+
+    once : (trial : Trial S) → IsTrial tells count txid (own_writes writes trial.old) trial → (answer : Result (Unit {0}) PartFault) → trial.answer ≡ answer → FailedOnceAtMost (count trial.old.over.store) (count trial.new.over.store)
+    once trial is (Ok done) same = inl (is.quiet (λ failed. cc))
+    once trial is (Err fault.Store) same = inr (is.failed same)
+    once trial is (Err (fault.BadCell key)) same = inl (is.quiet (λ failed. cc))
+    once trial is (Err fault.Memory) same = inl (is.quiet (λ failed. cc))
+
+    trials_once : (trials : List (Trial S)) → Each trials → FailOnceAtMost count (map (λ (t : Trial S). t.old) trials) (map (λ (t : Trial S). t.new) trials)
+    trials_once [] each = tt
+    trials_once (trial ∷ trials) each = (once trial (head trial trials each) trial.answer refl, trials_once trials (tail trial trials each))
+
+    -- the told part is none of these
+    others_follow : (trials : List (Trial S)) → Each trials → (c p b a : ℕ) → (IsOneOf (plans_of (map (λ (t : Trial S). t.old) trials)) c p → ⊥)
+        → CountsFollow count (Failed c p b a) (map (λ (t : Trial S). t.old) trials) (map (λ (t : Trial S). t.new) trials)
+    others_follow [] each c p b a none = tt
+    others_follow (trial ∷ trials) each c p b a none = (
+      other_follows c p trial.old.component trial.old.part b a (count trial.old.over.store) (count trial.new.over.store) (λ here. none (inl here)) (once trial (head trial trials each) trial.answer refl),
+      others_follow trials (tail trial trials each) c p b a (λ later. none (inr later)),
+    )
+
+    -- this part did not fail, and the told one is among the others
+    quiet_follows : (old new : StatePart S) (olds news : List (StatePart S)) (how : CommitOutcome) → (IsOneOf (plans_of olds) old.component old.part → ⊥) → count new.over.store ≡ count old.over.store
+        → ((c p b a : ℕ) → how ≡ Failed c p b a → IsFailedPart count olds news c p b a) → CountFollows how old.component old.part (count old.over.store) (count new.over.store)
+    quiet_follows old new olds news Done apart same told = same
+    quiet_follows old new olds news (Failed c p b a) apart same told =
+        let one : IsOneOf (plans_of olds) c p = part_there olds news c p b a (told c p b a refl) in
+        other_follows c p old.component old.part b a (count old.over.store) (count new.over.store)
+        (λ here. apart (subst (λ (k : ℕ). IsOneOf (plans_of olds) k old.part) here.0 (subst (λ (k : ℕ). IsOneOf (plans_of olds) c k) here.1 one))) (inl same)
+
+    one_counted : (trial : Trial S) (trials : List (Trial S)) (how : CommitOutcome) → Each (trial ∷ trials) → (IsOneOf (plans_of (map (λ (t : Trial S). t.old) trials)) trial.old.component trial.old.part → ⊥)
+        → (answer_of (tally_of count trials) ≡ Ok how → CountsFollow count how (map (λ (t : Trial S). t.old) trials) (map (λ (t : Trial S). t.new) trials)) → (answer : Result (Unit {0}) PartFault) → trial.answer ≡ answer
+        → answer_by (wants_memory answer || list_any (λ (t : Trial S). wants_memory t.answer) trials) (first_some (bad_key answer ∷ map (λ (t : Trial S). bad_key t.answer) trials))
+        (first_some (failure_by trial.old.component trial.old.part (count trial.old.over.store) (count trial.new.over.store) answer ∷ map (failure_of count) trials)) ≡ Ok how
+        → CountsFollow count how (trial.old ∷ map (λ (t : Trial S). t.old) trials) (trial.new ∷ map (λ (t : Trial S). t.new) trials)
+    one_counted trial trials how each apart later (Ok done) same is = (
+      quiet_follows trial.old trial.new (map (λ (t : Trial S). t.old) trials) (map (λ (t : Trial S). t.new) trials) how apart ((head trial trials each).quiet (λ failed. cc))
+          (λ c p b a told. trials_failed trials (tail trial trials each) c p b a (is ∙ ap Ok told)),
+      later is,
+    )
+    one_counted trial trials how each apart later (Err fault.Store) same is = told (list_any (λ (t : Trial S). wants_memory t.answer) trials) (first_some (map (λ (t : Trial S). bad_key t.answer) trials)) is
+      where
+        low : ℕ
+        low = count trial.old.over.store
+
+        high : ℕ
+        high = count trial.new.over.store
+
+        own : CountFollows (Failed trial.old.component trial.old.part low high) trial.old.component trial.old.part low high
+        own = subst (λ (b : Bool). FailureFollows b low high low high) (sym (same_numbers trial.old.component trial.old.part)) (refl, refl, (head trial trials each).failed same)
+
+        told : (n : Bool) (k : Option (List ℕ)) → answer_by n k (Some (Failed trial.old.component trial.old.part low high)) ≡ Ok how → CountsFollow count how (trial.old ∷ map (λ (t : Trial S). t.old) trials) (trial.new ∷ map (λ (t : Trial S). t.new) trials)
+        told true k is = absurd cc
+        told false (Some key) is = absurd cc
+        told false None is =
+            let it : Failed trial.old.component trial.old.part low high ≡ how = cc in
+            subst (λ (h : CommitOutcome). CountsFollow count h (trial.old ∷ map (λ (t : Trial S). t.old) trials) (trial.new ∷ map (λ (t : Trial S). t.new) trials)) it
+            (own, others_follow trials (tail trial trials each) trial.old.component trial.old.part low high apart)
+    one_counted trial trials how each apart later (Err (fault.BadCell key)) same is = told (list_any (λ (t : Trial S). wants_memory t.answer) trials) is
+      where
+        told : (n : Bool) → answer_by n (Some key) (first_some (map (failure_of count) trials)) ≡ Ok how → CountsFollow count how (trial.old ∷ map (λ (t : Trial S). t.old) trials) (trial.new ∷ map (λ (t : Trial S). t.new) trials)
+        told true is = absurd cc
+        told false is = absurd cc
+    one_counted trial trials how each apart later (Err fault.Memory) same is = absurd cc
+
+    trials_counted : (trials : List (Trial S)) → Each trials → AreApart (plans_of (map (λ (t : Trial S). t.old) trials)) → (how : CommitOutcome) → answer_of (tally_of count trials) ≡ Ok how
+        → CountsFollow count how (map (λ (t : Trial S). t.old) trials) (map (λ (t : Trial S). t.new) trials)
+    trials_counted [] each apart how is = tt
+    trials_counted (trial ∷ trials) each apart how is = one_counted trial trials how each apart.0 (trials_counted trials (tail trial trials each) apart.1 how) trial.answer refl is
 
     -- the first bad cell is told where no memory was wanted
     bad_later : (x : StatePart S) (xs : List (StatePart S)) (key : List ℕ) → IsBadAt tells xs key → IsBadAt tells (x ∷ xs) key
@@ -340,6 +390,12 @@ module _ {S : Type 0} (tells : S → CellMap → Type 0) (count : S → ℕ) (tx
       pub tried_failed : (c p b a : ℕ) → answer_of tally ≡ Ok (Failed c p b a) → IsFailedPart count old new c p b a
       tried_failed c p b a is = carried (λ xs ys. IsFailedPart count xs ys c p b a) (trials_failed tried.trials tried.each c p b a (ap answer_of (sym tried.tally_is) ∙ is))
 
+      pub tried_counted : AreApart (plans_of old) → (how : CommitOutcome) → answer_of tally ≡ Ok how → CountsFollow count how old new
+      tried_counted apart how is = carried (λ xs ys. AreApart (plans_of xs) → CountsFollow count how xs ys) (λ each_apart. trials_counted tried.trials tried.each each_apart how (ap answer_of (sym tried.tally_is) ∙ is)) apart
+
+      pub tried_once : FailOnceAtMost count old new
+      tried_once = carried (λ xs ys. FailOnceAtMost count xs ys) (trials_once tried.trials tried.each)
+
       pub tried_bad : (key : List ℕ) → answer_of tally ≡ Err (BadCell key) → IsBadAt tells old key
       tried_bad key is = carried (λ xs ys. IsBadAt tells xs key) (trials_bad tried.trials tried.each key (ap answer_of (sym tried.tally_is) ∙ is))
 
@@ -347,6 +403,10 @@ module _ {S : Type 0} (tells : S → CellMap → Type 0) (count : S → ℕ) (tx
     pub untried_kept : (parts : List (StatePart S)) → ArePerhapsCommitted tells txid writes parts parts
     untried_kept [] = tt
     untried_kept (at ∷ parts) = (record { plan = refl; turns = record { to = λ cells told. (cells, told, λ key. inl refl) } }, untried_kept parts)
+
+  pub untried_once : (parts : List (StatePart S)) → FailOnceAtMost count parts parts
+  untried_once [] = tt
+  untried_once (at ∷ parts) = (inl refl, untried_once parts)
 
   pub untried_up : (parts : List (StatePart S)) → NoCountFell count parts parts
   untried_up [] = tt

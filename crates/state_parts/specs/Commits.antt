@@ -1,8 +1,8 @@
 -- What the commit of a batch makes of all parts, and what is answered of it.
-use Rattle.std.specs.Prelude.{◌≡◌, ◌≤◌, ◌==◌, ◌&&◌, ℕ, Bool, true, false, List, map, filter, All, Option, None, Some, unwrap_or, Result, Ok, Err, OnOk, IsErrOf, slice_get}
+use Rattle.std.specs.Prelude.{◌≡◌, ◌≤◌, ◌==◌, ◌&&◌, ◌⊎◌, ℕ, Bool, true, false, List, map, filter, All, Option, None, Some, unwrap_or, Result, Ok, Err, OnOk, IsErrOf, slice_get}
 use Rattle.std.specs.List.{list_any, AllZip}
 use Rattle.storm_values.specs.Lines.{first_some}
-use Rattle.storm_values.specs.Counts.{Rose}
+use Rattle.storm_values.specs.Counts.{raised}
 use Rattle.storm_stores.specs.CellMaps.{CellMap, cell_at}
 use Rattle.tree_model.specs.declared.write.Write.{Write}
 use Rattle.cell_format.specs.Commits.{IsDone, IsPerhapsDone, amounts_at}
@@ -66,6 +66,42 @@ ArePerhapsCommitted tells txid writes old new =
 abbrev pub NoCountFell : {S : Type 0} → (S → ℕ) → List (StatePart S) → List (StatePart S) → Type 0
 NoCountFell count old new = AllZip (λ was is. count was.over.store ≤ count is.over.store) old new
 
+-- no part's store failed
+abbrev pub SameCounts : {S : Type 0} → (S → ℕ) → List (StatePart S) → List (StatePart S) → Type 0
+SameCounts count old new = AllZip (λ was is. count is.over.store ≡ count was.over.store) old new
+
+-- a part's store failed once at most
+abbrev pub FailedOnceAtMost : ℕ → ℕ → Type 0
+FailedOnceAtMost before after = (after ≡ before) ⊎ (after ≡ raised before)
+
+-- the same of each part
+abbrev pub FailOnceAtMost : {S : Type 0} → (S → ℕ) → List (StatePart S) → List (StatePart S)
+    → Type 0
+FailOnceAtMost count old new =
+    AllZip (λ was is. FailedOnceAtMost (count was.over.store) (count is.over.store)) old new
+
+-- The count of a part went from `low` to `high` where a store is told to have failed: the told
+-- part's failed once, by the told counts, and another part's once at most.
+abbrev pub FailureFollows : Bool → (before after low high : ℕ) → Type 0
+FailureFollows true before after low high =
+    (low ≡ before) × (high ≡ after) × (after ≡ raised before)
+FailureFollows false before after low high = FailedOnceAtMost low high
+
+-- what the outcome of a commit says of the count of a part
+abbrev pub CountFollows : CommitOutcome → (component part low high : ℕ) → Type 0
+CountFollows Done component part low high = high ≡ low
+CountFollows (Failed c p before after) component part low high =
+    FailureFollows ((c == component) && (p == part)) before after low high
+
+-- what it says of the counts of all parts
+abbrev pub CountsFollow : {S : Type 0} → (S → ℕ) → CommitOutcome → List (StatePart S)
+    → List (StatePart S) → Type 0
+CountsFollow count how old new =
+    AllZip
+    (λ was is.
+    CountFollows how was.component was.part (count was.over.store) (count is.over.store))
+    old new
+
 -- ---- what the parts answer
 
 -- a part before its commit and after it, and what it answered
@@ -81,7 +117,9 @@ pub record IsTrial {S : Type 0} (tells : S → CellMap → Type 0) (count : S �
   pub done : OnOk trial.answer (Committed tells txid own trial.old trial.new)
   pub kept : PerhapsCommitted tells txid own trial.old trial.new
   pub failed : IsErrOf trial.answer fault.Store
-      → Rose (count trial.old.over.store) (count trial.new.over.store)
+      → count trial.new.over.store ≡ raised (count trial.old.over.store)
+  pub quiet : (IsErrOf trial.answer fault.Store → ⊥)
+      → count trial.new.over.store ≡ count trial.old.over.store
   pub bad : (key : List ℕ) → IsErrOf trial.answer (fault.BadCell key) → (cells : CellMap)
       → tells trial.old.over.store cells → IsBad trial.old.over.kind (cell_at cells key)
   pub never_falls : count trial.old.over.store ≤ count trial.new.over.store
@@ -154,8 +192,7 @@ pub record Comes {S : Type 0} (tells : S → CellMap → Type 0) (count : S → 
 
 -- ---- each answer alone
 
--- the part of these numbers stood before the commit and stands after it, and its count of faults
--- rose from the one to the other
+-- the part of these numbers stood before the commit and stands after it, and its store failed once
 pub record IsFailedPart {S : Type 0} (count : S → ℕ) (old new : List (StatePart S))
     (component part before after : ℕ) : Type 0 where
   pub place : ℕ
@@ -167,7 +204,7 @@ pub record IsFailedPart {S : Type 0} (count : S → ℕ) (old new : List (StateP
   pub part_is : was.part ≡ part
   pub before_is : count was.over.store ≡ before
   pub after_is : count is.over.store ≡ after
-  pub rose : Rose before after
+  pub rose : after ≡ raised before
 
 -- one of the parts had at this key a cell that it does not take
 pub record IsBadAt {S : Type 0} (tells : S → CellMap → Type 0) (old : List (StatePart S))

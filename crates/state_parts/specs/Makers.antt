@@ -1,5 +1,6 @@
 -- What a maker of stores comes to while stores are out, and when they come back.
 use Rattle.std.specs.Prelude.{◌≡◌, ◌≤◌, ◌+◌, ◌-◌, ◌^◌, ◌⊎◌, ℕ, List, [], ◌∷◌, All}
+use Rattle.storm_values.specs.Counts.{raised_by}
 use Rattle.storm_stores.specs.CellMaps.{CellMap}
 use Rattle.state_parts.specs.declared.parts.StatePart.{StatePart}
 use Rattle.state_parts.specs.PartPlans.{AreApart, IsOneOf, PartPlan, plans_of}
@@ -66,6 +67,6 @@ pub record AreBack {S M : Type 0} (tells : S → CellMap → Type 0) (count : S 
       → holds old c p cells → holds new c p cells
   pub stays_made : (c p : ℕ) → made old c p → made new c p
   pub made_before : (c p : ℕ) → made new c p → made old c p
-  pub rose : RoseBySum (faults_of count parts) (faults old) (faults new)
+  pub counted : faults new ≡ raised_by (faults old) (faults_of count parts)
   pub never_falls : faults old ≤ faults new
   pub same_count : faults_of count parts ≡ 0 → faults new ≡ faults old

@@ -1,5 +1,5 @@
 -- The tables of the states, read from the cells of their parts.
-use Rattle.std.specs.Prelude.{◌≡◌, ◌≤◌, ◌==◌, ◌++◌, ℕ, ℤ, if◌then◌else◌, List, [], ◌∷◌, map, Option, None, Some, slice_get}
+use Rattle.std.specs.Prelude.{◌≡◌, ◌≤◌, ◌==◌, ◌++◌, ◌⊎◌, ℕ, ℤ, if◌then◌else◌, List, [], ◌∷◌, map, Option, None, Some, slice_get}
 use Rattle.std.specs.Cmp.Lexicographic.{slice_cmp}
 use Rattle.std.specs.List.{AllZip}
 use Rattle.std.specs.List.Sorted.{IsStrictlySortedBy}
@@ -7,13 +7,14 @@ use Rattle.std.specs.Map.{update}
 use Rattle.std.specs.Option.{option_or}
 use Rattle.std.specs.Ordering.{nat_cmp}
 use Rattle.std.specs.Str.{bytes_eq}
-use Rattle.storm_values.specs.Counts.{Rose}
+use Rattle.storm_values.specs.Counts.{raised}
 use Rattle.storm_stores.specs.CellMaps.{CellMap, cell_at}
 use Rattle.tree_model.specs.Tables.{StateOf, value_at}
 use Rattle.tree_model.specs.declared.write.Pair.{Pair}
 use Rattle.tree_model.specs.declared.write.Table.{Table}
 use Rattle.state_cells.specs.Rows.{IsBadRow, value_in}
 use Rattle.state_parts.specs.declared.parts.StatePart.{StatePart}
+use Rattle.state_parts.specs.Commits.{SameCounts}
 use Rattle.state_parts.specs.PartPlans.{plan_of}
 
 -- the component numbers of parts
@@ -57,14 +58,13 @@ abbrev pub AreRead : {S : Type 0} → (S → CellMap → Type 0) → (S → ℕ)
     → List (StatePart S) → Type 0
 AreRead tells count old new = AllZip (IsRead tells count) old new
 
--- the count of one of the parts rose
-pub record SomeRose {S : Type 0} (count : S → ℕ) (old new : List (StatePart S)) : Type 0 where
-  pub place : ℕ
-  pub was : StatePart S
-  pub is : StatePart S
-  pub was_at : slice_get old place ≡ Some was
-  pub is_at : slice_get new place ≡ Some is
-  pub rose : Rose (count was.over.store) (count is.over.store)
+-- the store of one of the parts failed once, and no other part's store failed
+abbrev pub OneRaised : {S : Type 0} → (S → ℕ) → List (StatePart S) → List (StatePart S) → Type 0
+OneRaised count [] new = ⊥
+OneRaised count (was ∷ old) [] = ⊥
+OneRaised count (was ∷ old) (is ∷ new) =
+    ((count is.over.store ≡ raised (count was.over.store)) × SameCounts count old new)
+    ⊎ ((count is.over.store ≡ count was.over.store) × OneRaised count old new)
 
 -- one of the parts has at this key a cell that a table does not take
 pub record IsBadRowAt {S : Type 0} (tells : S → CellMap → Type 0) (old : List (StatePart S))

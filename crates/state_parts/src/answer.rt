@@ -6,6 +6,7 @@ ghost use Rattle.state_parts.specs.Commits.{answer_of};
 
 use state_cells::PartFault;
 use storm_values::{Bytes, Memory, Root};
+use thiserror::Error;
 use tree_model::Writes;
 
 /// The commit of an attempt of a batch, with the writes of the batch for all parts, in their order.
@@ -30,10 +31,12 @@ pub enum CommitOutcome {
 }
 
 /// Why a commit has no outcome.
-#[derive(Debug, Drop)]
+#[derive(Debug, Drop, Error)]
 pub enum CommitFault {
     /// A store has a cell at this key that its part does not take.
+    #[error("a store has a bad cell")]
     BadCell(Bytes),
+    #[error("out of memory")]
     Memory,
 }
 

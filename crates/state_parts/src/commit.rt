@@ -1,7 +1,7 @@
 ghost use Rattle.std.specs.Prelude.{◌≡◌, ℕ, List, length, Ok, Err};
 ghost use Rattle.tree_model.specs.declared.write.Write.{Write};
 ghost use Rattle.state_parts.specs.Answers.{Tries};
-ghost use Rattle.state_parts.specs.Commits.{AreCommitted, ArePerhapsCommitted, AreTried, Comes, IsBadAt, IsFailedPart, NoCountFell, writes_by_part};
+ghost use Rattle.state_parts.specs.Commits.{AreCommitted, ArePerhapsCommitted, AreTried, Comes, CountsFollow, FailOnceAtMost, IsBadAt, IsFailedPart, NoCountFell, writes_by_part};
 ghost use Rattle.state_parts.specs.PartPlans.{AreIndexed, plans_of};
 
 use crate::answer::{Commit, CommitFault, CommitOutcome, Tally};
@@ -64,6 +64,9 @@ pub(crate) fn commit_parts<C: CellStore>(
     ensures bad { (key : List ℕ) → result ≡ Err (CommitFault.BadCell key) →
         IsBadAt C.tells parts.old.items key }
     ensures never_falls { NoCountFell C.fault_count parts.old.items parts.new.items }
+    ensures counted { (how : CommitOutcome) → result ≡ Ok how →
+        CountsFollow C.fault_count how parts.old.items parts.new.items }
+    ensures at_most_once { FailOnceAtMost C.fault_count parts.old.items parts.new.items }
 {
     let lists = match split(alloc, firsts, parts, commit.writes) {
         Ok(lists) => lists,

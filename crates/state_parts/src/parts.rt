@@ -1,12 +1,12 @@
 ghost use Rattle.std.specs.Prelude.{◌≡◌, ◌≤◌, ◌⊎◌, ℕ, List, All, Ok, Err, IfOk, OnOk, OnErr, IsErrOf};
 ghost use Rattle.std.specs.List.{AllZip};
-ghost use Rattle.storm_values.specs.Counts.{Rose};
+ghost use Rattle.storm_values.specs.Counts.{raised_by};
 ghost use Rattle.storm_stores.specs.CellMaps.{CellMap, cell_at};
 ghost use Rattle.tree_model.specs.Tables.{states_of};
-ghost use Rattle.state_parts.specs.Commits.{AreCommitted, ArePerhapsCommitted, Comes, IsBadAt, IsFailedPart, NoCountFell};
+ghost use Rattle.state_parts.specs.Commits.{AreCommitted, ArePerhapsCommitted, Comes, CountsFollow, FailOnceAtMost, IsBadAt, IsFailedPart, NoCountFell, SameCounts};
 ghost use Rattle.state_parts.specs.Makers.{AreMade, Began, CameBack, HasNotFailed, OnlyMade, RoseBySum, faults_of};
 ghost use Rattle.state_parts.specs.PartPlans.{AreParts, IsOneOf, plans_of};
-ghost use Rattle.state_parts.specs.PartTables.{AreRead, IsBadRowAt, IsTableOver, SomeRose};
+ghost use Rattle.state_parts.specs.PartTables.{AreRead, IsBadRowAt, IsTableOver, OneRaised};
 
 use crate::answer::{Commit, CommitFault, CommitOutcome};
 use crate::commit::commit_parts;
@@ -105,6 +105,9 @@ impl<C: CellStore> Parts<C> {
         ensures bad { (key : List ℕ) → result ≡ Err (CommitFault.BadCell key) →
             IsBadAt C.tells self.old key }
         ensures never_falls { NoCountFell C.fault_count self.old self.new }
+        ensures counted { (how : CommitOutcome) → result ≡ Ok how →
+            CountsFollow C.fault_count how self.old self.new }
+        ensures at_most_once { FailOnceAtMost C.fault_count self.old self.new }
     {
         commit_parts(self.alloc, &self.firsts, &mut self.parts, commit)
     }
@@ -117,7 +120,9 @@ impl<C: CellStore> Parts<C> {
         ensures plans { plans_of self.new ≡ plans_of self.old }
         ensures read { AreRead C.tells C.fault_count self.old self.new }
         ensures failed { IsErrOf result PartFault.Store →
-            SomeRose C.fault_count self.old self.new }
+            OneRaised C.fault_count self.old self.new }
+        ensures quiet { (IsErrOf result PartFault.Store → ⊥) →
+            SameCounts C.fault_count self.old self.new }
         ensures bad { (key : List ℕ) → IsErrOf result (PartFault.BadCell key) →
             IsBadRowAt C.tells self.old key }
     {
@@ -134,6 +139,8 @@ impl<C: CellStore> Parts<C> {
         ensures made_before { (c p : ℕ) → M.has_made stores.new c p → M.has_made stores.old c p }
         ensures rose { RoseBySum (faults_of C.fault_count self)
             (M.fault_count stores.old) (M.fault_count stores.new) }
+        ensures count { M.fault_count stores.new
+            ≡ raised_by (M.fault_count stores.old) (faults_of C.fault_count self) }
         ensures never_falls { M.fault_count stores.old ≤ M.fault_count stores.new }
         ensures same_count { faults_of C.fault_count self ≡ 0 →
             M.fault_count stores.new ≡ M.fault_count stores.old }

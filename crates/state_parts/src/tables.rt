@@ -4,13 +4,14 @@ ghost use Rattle.std.specs.Cmp.Lexicographic.{slice_cmp};
 ghost use Rattle.std.specs.List.{AllZip};
 ghost use Rattle.std.specs.Option.{option_or};
 ghost use Rattle.std.specs.Ordering.{nat_cmp};
-ghost use Rattle.storm_values.specs.Counts.{Rose};
+ghost use Rattle.storm_values.specs.Counts.{raised};
 ghost use Rattle.storm_stores.specs.CellMaps.{CellMap, cell_at};
 ghost use Rattle.state_parts.specs.Gathered.{pairs_of, value_of};
 ghost use Rattle.tree_model.specs.Tables.{StateOf, state_by, states_of};
 ghost use Rattle.state_cells.specs.Rows.{IsBadRow};
+ghost use Rattle.state_parts.specs.Commits.{SameCounts};
 ghost use Rattle.state_parts.specs.PartPlans.{plans_of};
-ghost use Rattle.state_parts.specs.PartTables.{AddsTableOver, AreRead, IsBadRowAt, IsRead, IsTableOver, SomeRose, Tell, components_of, put_all, value_among, value_for};
+ghost use Rattle.state_parts.specs.PartTables.{AddsTableOver, AreRead, IsBadRowAt, IsRead, IsTableOver, OneRaised, Tell, components_of, put_all, value_among, value_for};
 
 use crate::parts::StatePart;
 use state_cells::PartFault;
@@ -49,7 +50,9 @@ fn add_values<C: CellStore>(
         ≡ option_or (value_for number at.old.component cells key) (value_of values.old key)) }
     ensures read { IsRead C.tells C.fault_count at.old at.new }
     ensures failed { IsErrOf result PartFault.Store →
-        Rose (C.fault_count at.old.over.store) (C.fault_count at.new.over.store) }
+        C.fault_count at.new.over.store ≡ raised (C.fault_count at.old.over.store) }
+    ensures quiet { (IsErrOf result PartFault.Store → ⊥) →
+        C.fault_count at.new.over.store ≡ C.fault_count at.old.over.store }
     ensures bad { (key : List ℕ) → IsErrOf result (PartFault.BadCell key) → (cells : CellMap) →
         C.tells at.old.over.store cells → IsBadRow at.old.over.kind key (cell_at cells key) }
 {
@@ -79,7 +82,9 @@ fn values_of<C: CellStore>(
         ≡ value_among number (components_of parts.old.items) maps key) }
     ensures read { AreRead C.tells C.fault_count parts.old.items parts.new.items }
     ensures failed { IsErrOf result PartFault.Store →
-        SomeRose C.fault_count parts.old.items parts.new.items }
+        OneRaised C.fault_count parts.old.items parts.new.items }
+    ensures quiet { (IsErrOf result PartFault.Store → ⊥) →
+        SameCounts C.fault_count parts.old.items parts.new.items }
     ensures bad { (key : List ℕ) → IsErrOf result (PartFault.BadCell key) →
         IsBadRowAt C.tells parts.old.items key }
 {
@@ -130,7 +135,9 @@ fn add_state_table<C: CellStore>(
         AddsTableOver C.tells parts.old.items (Some state) tables.old tables.new) }
     ensures read { AreRead C.tells C.fault_count parts.old.items parts.new.items }
     ensures failed { IsErrOf result PartFault.Store →
-        SomeRose C.fault_count parts.old.items parts.new.items }
+        OneRaised C.fault_count parts.old.items parts.new.items }
+    ensures quiet { (IsErrOf result PartFault.Store → ⊥) →
+        SameCounts C.fault_count parts.old.items parts.new.items }
     ensures bad { (key : List ℕ) → IsErrOf result (PartFault.BadCell key) →
         IsBadRowAt C.tells parts.old.items key }
 {
@@ -157,7 +164,9 @@ fn add_table<C: CellStore>(
         (state_by number component.now component.now.body) tables.old tables.new) }
     ensures read { AreRead C.tells C.fault_count parts.old.items parts.new.items }
     ensures failed { IsErrOf result PartFault.Store →
-        SomeRose C.fault_count parts.old.items parts.new.items }
+        OneRaised C.fault_count parts.old.items parts.new.items }
+    ensures quiet { (IsErrOf result PartFault.Store → ⊥) →
+        SameCounts C.fault_count parts.old.items parts.new.items }
     ensures bad { (key : List ℕ) → IsErrOf result (PartFault.BadCell key) →
         IsBadRowAt C.tells parts.old.items key }
 {
@@ -178,7 +187,9 @@ pub(crate) fn tables_of<C: CellStore>(
     ensures plans { plans_of parts.new.items ≡ plans_of parts.old.items }
     ensures read { AreRead C.tells C.fault_count parts.old.items parts.new.items }
     ensures failed { IsErrOf result PartFault.Store →
-        SomeRose C.fault_count parts.old.items parts.new.items }
+        OneRaised C.fault_count parts.old.items parts.new.items }
+    ensures quiet { (IsErrOf result PartFault.Store → ⊥) →
+        SameCounts C.fault_count parts.old.items parts.new.items }
     ensures bad { (key : List ℕ) → IsErrOf result (PartFault.BadCell key) →
         IsBadRowAt C.tells parts.old.items key }
 {

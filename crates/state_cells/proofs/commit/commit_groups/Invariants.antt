@@ -1,4 +1,4 @@
-use Rattle.std.proofs.Common.{◌≤◌, ◌≡◌, ◌++◌, map}
+use Rattle.std.proofs.Common.{◌≡◌, ◌++◌, map}
 use Rattle.std.specs.Map.Iter.{deref_pair}
 use Rattle.storm_stores.specs.CellMaps.{CellMap}
 use Rattle.state_cells.specs.Groups.{job_of, jobs_in}
@@ -10,5 +10,5 @@ invariant-loop-key g l = record {
   parts : map deref_pair l.yielded ++ l.key-iterator ≡ l.groups.entries;
   worked : AreApart (jobs_in l.groups) → Turns g.C.CellStore.tells (λ key. IsWorked l.batch.kind l.batch.by l.batch.txid (job_at (map job_of (map deref_pair l.yielded)) key)) l.initial.store l.store;
   told_before : (cells : CellMap) → g.C.CellStore.tells l.store cells → (before : CellMap) × g.C.CellStore.tells l.initial.store before;
-  never_falls : g.C.CellStore.fault_count l.initial.store ≤ g.C.CellStore.fault_count l.store;
+  quiet : g.C.CellStore.fault_count l.store ≡ g.C.CellStore.fault_count l.initial.store;
 }

@@ -1,9 +1,10 @@
-use Rattle.std.proofs.Common.{◌≤◌, rules, subst, ◌∙◌, ap, sym, take, List, Some, arith}
+use Rattle.std.proofs.Common.{◌≤◌, rules, subst, ◌∙◌, ap, sym, take, List, Some}
 use Rattle.std.proofs.lemmas.List.{take_all}
 use Rattle.std.proofs.lemmas.Option.{slice_get-get_or}
 use Rattle.std.specs.Prelude.{IsErrOf, ℕ, length}
+use Rattle.storm_values.specs.Counts.{raised}
 use Rattle.storm_stores.specs.CellMaps.{cell_at}
-use Rattle.state_cells.specs.declared.fault.PartFault.TheVariants.{BadCell}
+use Rattle.state_cells.specs.declared.fault.PartFault.TheVariants.{BadCell, Store}
 use Rattle.state_cells.specs.Groups.{restores_in}
 use Rattle.state_cells.specs.Turns.{IsWorked, Job, Turns, job_at}
 use Rattle.state_cells.proofs.JobLemmas.{bad_before, work_broken_at, work_more_at}
@@ -19,7 +20,7 @@ loop-key-preserved g c = record {
   told_before = λ cells told.
       let x = c.commit_key.ensures.told_before cells told in
       c.loop-key.invariant.told_before x.0 x.1;
-  never_falls = omega arith;
+  quiet = c.in_ok-commit_key.ensures.quiet (λ is. cc) ∙ c.loop-key.invariant.quiet;
 }
 
 pub returns-in_err-commit_key-clause-err : goal.returns-in_err-commit_key-clause-err
@@ -34,6 +35,18 @@ returns-in_err-commit_key-clause-bad g c = λ k is apart cells told.
     let same : IsErrOf c.commit_key.result (BadCell k) = search rules in
     bad_before c.args.batch.kind c.args.batch.by c.args.batch.txid (job_at (take c.loop-key.key-index (restores_in c.args.keys.now)) k) (cell_at cells k) (cell_at x.0 k) (x.2 k)
     (c.commit_key.ensures.bad k same x.0 x.1)
+
+pub returns-in_err-commit_key-clause-failed : goal.returns-in_err-commit_key-clause-failed
+returns-in_err-commit_key-clause-failed g c = λ is.
+    let same : IsErrOf c.commit_key.result Store = search rules in
+    c.commit_key.ensures.failed same ∙ ap raised c.loop-key.invariant.quiet
+
+pub returns-in_err-commit_key-clause-quiet : goal.returns-in_err-commit_key-clause-quiet
+returns-in_err-commit_key-clause-quiet g c = λ other.
+    c.commit_key.ensures.quiet (λ (is : IsErrOf c.commit_key.result Store). other (search rules)) ∙ c.loop-key.invariant.quiet
+
+pub returns-clause-quiet : goal.returns-clause-quiet
+returns-clause-quiet g c = λ other. c.loop-key.invariant.quiet
 
 pub returns-clause-ok : goal.returns-clause-ok
 returns-clause-ok g c = λ apart.

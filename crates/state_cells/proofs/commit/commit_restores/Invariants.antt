@@ -1,4 +1,4 @@
-use Rattle.std.proofs.Common.{take, ◌≤◌}
+use Rattle.std.proofs.Common.{take, ◌≡◌}
 use Rattle.storm_stores.specs.CellMaps.{CellMap}
 use Rattle.state_cells.specs.Groups.{restores_in}
 use Rattle.state_cells.specs.Turns.{AreApart, IsWorked, Turns, job_at}
@@ -8,5 +8,5 @@ abbrev pub invariant-loop-key : goal.invariant-loop-key
 invariant-loop-key g l = record {
   worked : AreApart (restores_in l.keys) → Turns g.C.CellStore.tells (λ key. IsWorked l.batch.kind l.batch.by l.batch.txid (job_at (take l.key-index (restores_in l.keys)) key)) l.initial.store l.store;
   told_before : (cells : CellMap) → g.C.CellStore.tells l.store cells → (before : CellMap) × g.C.CellStore.tells l.initial.store before;
-  never_falls : g.C.CellStore.fault_count l.initial.store ≤ g.C.CellStore.fault_count l.store;
+  quiet : g.C.CellStore.fault_count l.store ≡ g.C.CellStore.fault_count l.initial.store;
 }

@@ -12,7 +12,7 @@ loop-i-preserved g c = record {
       let within : c.loop-i.i < length cells = omega (arith, x.1) in
       (c.scan_key.ensures.same cells x.0, x.1, rw c.scan_key.ensures.txid (Scanned-more Opaque c.loop-i.found.txid cells c.loop-i.i _ _ _ _ x.2 (c.in-Ok.ensures.seen cells x.0 within)));
   told_before = λ cells told. c.loop-i.invariant.told_before cells (c.scan_key.ensures.told_before cells told);
-  never_falls = omega arith;
+  quiet = c.in-Ok.ensures.quiet (λ is. cc) ∙ c.loop-i.invariant.quiet;
 }
 
 pub returns-clause-knows : goal.returns-clause-knows

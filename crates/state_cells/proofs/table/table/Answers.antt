@@ -1,4 +1,4 @@
-use Rattle.std.proofs.Common.{◌<◌, length, arith}
+use Rattle.std.proofs.Common.{◌<◌, length, ◌∙◌, arith}
 use Rattle.state_cells.proofs.RowLemmas.{Tabled-end, Tabled-more}
 use Rattle.state_cells.proofs.table.table.Goals as goal
 
@@ -9,7 +9,7 @@ loop-i-preserved g c = record {
       let within : c.loop-i.i < length cells = omega (arith, x.1) in
       (c.read_key.ensures.same cells x.0, x.1, Tabled-more c.args.kind cells c.loop-i.i _ _ x.2 (c.in-Ok.ensures.reads cells x.0 within));
   told_before = λ cells told. c.loop-i.invariant.told_before cells (c.read_key.ensures.told_before cells told);
-  never_falls = omega arith;
+  quiet = c.in-Ok.ensures.quiet (λ is. cc) ∙ c.loop-i.invariant.quiet;
 }
 
 pub returns-clause-rows : goal.returns-clause-rows

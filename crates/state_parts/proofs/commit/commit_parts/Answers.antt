@@ -1,6 +1,8 @@
 use Rattle.std.proofs.Common.{ap, sym, ◌∙◌}
 use Rattle.state_parts.specs.Commits.{writes_by_part}
-use Rattle.state_parts.proofs.TrialLemmas.{tried_bad, tried_done, tried_failed, tried_kept, tried_plans, tried_up, untried_kept, untried_up}
+use Rattle.state_parts.specs.PartPlans.{plans_of}
+use Rattle.state_parts.proofs.Places.{indexed_apart}
+use Rattle.state_parts.proofs.TrialLemmas.{tried_bad, tried_counted, tried_done, tried_failed, tried_kept, tried_once, tried_plans, tried_up, untried_kept, untried_once, untried_up}
 use Rattle.state_parts.proofs.commit.commit_parts.Goals as goal
 
 pub returns-in-Err-clause-kept : goal.returns-in-Err-clause-kept
@@ -8,6 +10,9 @@ returns-in-Err-clause-kept g c = untried_kept g.C.CellStore.tells g.C.CellStore.
 
 pub returns-in-Err-clause-never_falls : goal.returns-in-Err-clause-never_falls
 returns-in-Err-clause-never_falls g c = untried_up g.C.CellStore.tells g.C.CellStore.fault_count c.args.commit.root.txid c.args.parts.now.items
+
+pub returns-in-Err-clause-at_most_once : goal.returns-in-Err-clause-at_most_once
+returns-in-Err-clause-at_most_once g c = untried_once g.C.CellStore.tells g.C.CellStore.fault_count c.args.commit.root.txid c.args.parts.now.items
 
 pub returns-clause-plans : goal.returns-clause-plans
 returns-clause-plans g c = tried_plans g.C.CellStore.tells g.C.CellStore.fault_count c.args.commit.root.txid c.args.commit.writes c.args.parts.now.items c.commit_each.new.parts.items c.commit_each.result (c.commit_each.ensures c.args.commit.writes (c.deref-2.ensures.value ∙ c.in-Ok.ensures ∙ ap (λ ps. writes_by_part c.args.commit.writes ps) c.deref.ensures.value))
@@ -26,3 +31,9 @@ returns-clause-bad g c = λ key is. tried_bad g.C.CellStore.tells g.C.CellStore.
 
 pub returns-clause-never_falls : goal.returns-clause-never_falls
 returns-clause-never_falls g c = tried_up g.C.CellStore.tells g.C.CellStore.fault_count c.args.commit.root.txid c.args.commit.writes c.args.parts.now.items c.commit_each.new.parts.items c.commit_each.result (c.commit_each.ensures c.args.commit.writes (c.deref-2.ensures.value ∙ c.in-Ok.ensures ∙ ap (λ ps. writes_by_part c.args.commit.writes ps) c.deref.ensures.value))
+
+pub returns-clause-counted : goal.returns-clause-counted
+returns-clause-counted g c = λ how is. tried_counted g.C.CellStore.tells g.C.CellStore.fault_count c.args.commit.root.txid c.args.commit.writes c.args.parts.now.items c.commit_each.new.parts.items c.commit_each.result (c.commit_each.ensures c.args.commit.writes (c.deref-2.ensures.value ∙ c.in-Ok.ensures ∙ ap (λ ps. writes_by_part c.args.commit.writes ps) c.deref.ensures.value)) (indexed_apart c.args.firsts.now 0 (plans_of c.args.parts.now.items) c.requires) how (sym c.answer.ensures ∙ is)
+
+pub returns-clause-at_most_once : goal.returns-clause-at_most_once
+returns-clause-at_most_once g c = tried_once g.C.CellStore.tells g.C.CellStore.fault_count c.args.commit.root.txid c.args.commit.writes c.args.parts.now.items c.commit_each.new.parts.items c.commit_each.result (c.commit_each.ensures c.args.commit.writes (c.deref-2.ensures.value ∙ c.in-Ok.ensures ∙ ap (λ ps. writes_by_part c.args.commit.writes ps) c.deref.ensures.value))

@@ -27,4 +27,4 @@ loop-entry-preserved g c =
 pub returns : goal.returns
 returns g c =
     let none : into_iter_items c.loop-entry.entry-iterator ≡ [] = grind (arith, common_steps) in
-    (rw none at c.loop-entry.invariant.back) c.loop-entry.stores (back_none g.C.CellStore.tells g.C.CellStore.fault_count g.M.StoreMaker.holds g.M.StoreMaker.has_made g.M.StoreMaker.fault_count c.loop-entry.stores)
+    (rw none at c.loop-entry.invariant.back) c.loop-entry.stores (back_none g.C.CellStore.tells g.C.CellStore.fault_count g.M.StoreMaker.holds g.M.StoreMaker.has_made g.M.StoreMaker.fault_count c.loop-entry.stores (g.met.M.StoreMaker.count_ends c.loop-entry.stores))
