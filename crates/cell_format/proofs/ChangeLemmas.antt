@@ -1,5 +1,5 @@
 -- A cell that is made of writes has a value.
-use Rattle.std.proofs.Common.{◌≡◌, ◌≢◌, ℤ, List, [], ◌∷◌, Option, None, Some, IsSome, Bool, true, false, true≢false, length, ◌==◌, ap, sym, ◌∙◌, refl}
+use Rattle.std.proofs.Common.{◌≡◌, ◌≢◌, ℤ, List, [], ◌∷◌, Option, Some, IsSome, true, false, true≢false, length, ◌==◌, ap, sym, ◌∙◌, refl}
 use Rattle.topology_plan.specs.declared.parts.Fold.{Fold}
 use Rattle.topology_plan.specs.declared.parts.Kind.{Kind}
 use Rattle.topology_plan.specs.declared.parts.Kind.TheVariants.{Transactional, Opaque}

@@ -1,5 +1,5 @@
 -- A commit moves a part that stands at t to t + 1, and one that was broken off leaves it at t.
-use Rattle.std.proofs.Common.{◌≡◌, ◌≢◌, ◌≤◌, ◌⊎◌, inl, inr, ℕ, ◌+◌, ◌==◌, ℤ, Bool, true, false, cond, true≢false, List, [], ◌∷◌, ◌++◌, Option, None, Some, IsSome, IfSome, option_map, map, filter, fold, refl, sym, ap, subst, ◌∙◌, eqb-true, eq-eqb, arith}
+use Rattle.std.proofs.Common.{◌≡◌, ◌≢◌, ◌≤◌, ◌⊎◌, inl, inr, ℕ, ◌+◌, ◌==◌, ℤ, Bool, true, false, cond, true≢false, List, [], ◌∷◌, ◌++◌, Option, None, Some, IsSome, option_map, map, filter, refl, sym, ap, subst, ◌∙◌, eqb-true, eq-eqb, arith}
 use Rattle.std.specs.Str.{bytes_eq}
 use Rattle.std.proofs.lemmas.List.Sums.{fold-append}
 use Rattle.topology_plan.specs.declared.parts.Fold.{Fold}
@@ -8,8 +8,8 @@ use Rattle.topology_plan.specs.declared.parts.Kind.TheVariants.{Transactional, O
 use Rattle.tree_model.specs.Tables.{folded}
 use Rattle.tree_model.specs.declared.write.Write.{Write}
 use Rattle.cell_format.specs.declared.cell.Cell.{Cell}
-use Rattle.cell_format.specs.Layout.{IsCell, bytes_of}
-use Rattle.cell_format.specs.Commits.{Commits, Holds, IsCellOf, IsDone, IsPerhapsDone, after, again, amounts_at, anew, kept_by, value_after, value_of}
+use Rattle.cell_format.specs.Layout.{bytes_of}
+use Rattle.cell_format.specs.Commits.{Commits, Holds, IsDone, IsPerhapsDone, after, again, amounts_at, anew, value_after, value_of}
 use Rattle.cell_format.specs.Standing.{AreOwn, CellStands, IsKeyOf, IsNext, IsWithin, KeyStands, Stands}
 use Rattle.cell_format.proofs.LayoutLemmas.{bytes_of-apart}
 

@@ -1,4 +1,3 @@
-pub mod Faults
 pub mod Layout
 pub mod Commits
 pub mod Standing

@@ -1,8 +1,4 @@
-ghost use Rattle.std.specs.Prelude.{Some};
-ghost use Rattle.cell_format.specs.Faults.{cell_fault_text};
-
-use std::error::Error;
-use std::fmt;
+use thiserror::Error;
 use topology_plan::Kind;
 
 /// The value of a key in a part of a state, with the transaction that wrote it.
@@ -16,27 +12,16 @@ pub struct Cell {
 }
 
 /// Why bytes are no cell. The first that holds is told, in this order.
-#[derive(Clone, Copy, Debug, PartialEq, Eq)]
+#[derive(Clone, Copy, Debug, PartialEq, Eq, Error)]
 pub enum CellFault {
     /// There are not 42 bytes.
+    #[error("not 42 bytes")]
     Length,
     /// The first byte is not 1.
+    #[error("not version 1")]
     Version,
     /// A flag is set that there is none of, a transactional cell has no value or a value before, or
     /// the bytes of a number that is not there are not all 0.
+    #[error("flags that no cell has")]
     Flag,
 }
-
-impl fmt::Display for CellFault {
-    ghost output = { λ fault. Some (cell_fault_text fault) };
-
-    fn fmt<W: fmt::Write>(&self, f: &mut fmt::Formatter<W>) -> fmt::Result {
-        match self {
-            CellFault::Length => write!(f, "not 42 bytes"),
-            CellFault::Version => write!(f, "not version 1"),
-            CellFault::Flag => write!(f, "flags that no cell has"),
-        }
-    }
-}
-
-impl Error for CellFault {}

@@ -1,7 +1,7 @@
 -- The map of counts, by what the hashed map finds.
-use Rattle.std.proofs.Common.{◌≡◌, ℕ, ◌==◌, Bool, cond, Option, Some, List, [], ◌∷◌, refl, sym, ap, ◌∙◌}
-use Rattle.std.specs.Cmp.{IsEquivalence, nat_cmp_total, nat_eq_equiv, unsigned_tied}
-use Rattle.std.specs.FinMap.{FinMap, find, from_entries, get, get-from_entries, get-insert, insert, nat_cmp-IsAntisymmetric, same_map}
+use Rattle.std.proofs.Common.{◌≡◌, ℕ, cond, Some, List, [], ◌∷◌, refl, sym, ap, ◌∙◌}
+use Rattle.std.specs.Cmp.{nat_cmp_total, nat_eq_equiv, unsigned_tied}
+use Rattle.std.specs.FinMap.{find, from_entries, get, get-from_entries, get-insert, insert, nat_cmp-IsAntisymmetric, same_map}
 use Rattle.std.specs.Map.{lookup}
 use Rattle.std.specs.Ordering.{nat_cmp, eq_by_cmp}
 use Rattle.std.specs.Prelude.{nat_eq}

@@ -1,5 +1,5 @@
 -- What each call makes of the places and buckets of roots in flight.
-use Rattle.std.proofs.Common.{◌≡◌, ℕ, ◌==◌, ◌+◌, ◌≤◌, ◌<◌, Bool, true, false, not, Option, Some, None, List, [], ◌∷◌, ◌++◌, length, map, filter, length-append, refl, sym, ap, ap₂, subst, ◌∙◌, arith}
+use Rattle.std.proofs.Common.{◌≡◌, ℕ, ◌==◌, ◌≤◌, ◌<◌, false, not, Some, None, List, [], ◌∷◌, ◌++◌, length, filter, length-append, refl, sym, ap, ap₂, subst, ◌∙◌, arith}
 use Rattle.std.specs.List.{list_any}
 use Rattle.std.specs.Prelude.{is_some}
 use Rattle.std.proofs.lemmas.List.{length-map}
@@ -7,8 +7,8 @@ use Rattle.storm_values.specs.declared.value.Root.{Root}
 use Rattle.std.specs.FinMap as fin_map
 use Rattle.rotating_ledger.specs.Held.{Rotation, dropped, root_eq, rotated, value_of, without}
 use Rattle.rotating_ledger.proofs.HeldLemmas.{without-absent, without-entered}
-use Rattle.replay_pending.specs.InFlight.{Awaited, AreDistinct, Counts, InFlight, awaited, begun, due, ended, has_txid, is_due, is_pending, is_timed, none_in_flight, older, settled, ticked, untimed}
-use Rattle.replay_pending.specs.Places.{Stands, Timed, flight, joined, roots_of, timed_item, timed_of}
+use Rattle.replay_pending.specs.InFlight.{Awaited, Counts, InFlight, awaited, begun, due, ended, has_txid, is_due, is_pending, is_timed, none_in_flight, older, settled, ticked, untimed}
+use Rattle.replay_pending.specs.Places.{Stands, Timed, flight, joined, roots_of, timed_item}
 use Rattle.replay_pending.proofs.BeginLemmas.{fresh-pending, joined-back, placed-push, timed-push, value-absent}
 use Rattle.replay_pending.proofs.Lists.{distinct-filter, distinct-map, distinct-push, length-filter}
 use Rattle.replay_pending.proofs.SettleLemmas.{placed-ended, placed-pending, placed-settled, placed-txid, timed-ended, timed-settled, untimed-root, value-timed}

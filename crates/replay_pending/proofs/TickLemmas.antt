@@ -1,11 +1,10 @@
 -- One more tick.
-use Rattle.std.proofs.Common.{◌≡◌, ℕ, suc, ◌+◌, ◌≤◌, Bool, true, false, not, cond, ◌||◌, nat_lt, Option, Some, None, List, [], ◌∷◌, length, map, filter, refl, sym, ap, ap₂, ◌∙◌}
+use Rattle.std.proofs.Common.{◌≡◌, ℕ, ◌+◌, Bool, true, false, not, cond, ◌||◌, nat_lt, Option, Some, None, List, [], ◌∷◌, map, filter, refl, sym, ap, ◌∙◌}
 use Rattle.std.specs.List.{AllByRecursion, list_any}
-use Rattle.std.specs.Prelude.{is_some}
 use Rattle.storm_values.specs.declared.value.Root.{Root}
 use Rattle.rotating_ledger.specs.Held.{dropped, root_eq, rotated}
 use Rattle.rotating_ledger.proofs.RootLemmas.{root_eq-refl}
-use Rattle.replay_pending.specs.InFlight.{Awaited, AreDistinct, awaited, due, is_due, is_pending, older, one_more, ticked}
+use Rattle.replay_pending.specs.InFlight.{Awaited, AreDistinct, awaited, due, is_due, is_pending, older, ticked}
 use Rattle.replay_pending.specs.Places.{roots_in, roots_of, timed_item, timed_of}
 use Rattle.replay_pending.proofs.Lists.{either_false, root_eq-other}
 

@@ -1,5 +1,5 @@
-use Rattle.std.proofs.Common.{◌≡◌, ap, sym, length, get_or, ◌∙◌, true≢false, Ok, IsTrue, true}
-use Rattle.cell_format.specs.Layout.{read_of, bytes_of}
+use Rattle.std.proofs.Common.{ap, length, get_or, ◌∙◌, Ok}
+use Rattle.cell_format.specs.Layout.{read_of}
 use Rattle.cell_format.proofs.LayoutLemmas.{length-bytes_of, head-bytes_of, is_refuted, read_of-bytes_of}
 use Rattle.cell_format.proofs.codec.decode_cell.Goals as goal
 

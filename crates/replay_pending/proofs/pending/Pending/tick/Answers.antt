@@ -1,5 +1,4 @@
-use Rattle.std.proofs.Common.{◌≡◌, ◌≤◌, ◌++◌, length, refl, ap, ◌∙◌, arith}
-use Rattle.rotating_ledger.specs.Held.{dropped}
+use Rattle.std.proofs.Common.{◌≡◌, ◌++◌, length, refl, ap, ◌∙◌, arith}
 use Rattle.replay_pending.specs.InFlight.{due}
 use Rattle.replay_pending.specs.Places.{joined, roots_of}
 use Rattle.replay_pending.proofs.StandLemmas.{due-told, few-dropped, tick_call}
