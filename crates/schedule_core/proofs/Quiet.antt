@@ -55,12 +55,12 @@ none_done_of (x ∷ xs) none = at x.end none
 -- the commits of attempts that follow others
 pub commits_append : (xs ys : List Attempt) → length (committed_txids (xs ++ ys)) ≡ length (committed_txids xs) + length (committed_txids ys)
 commits_append xs ys =
-    ap (λ (as : List Attempt). length (map (λ (a : Attempt). a.root.txid) as)) (filter-append (λ (a : Attempt). is_committed a.end) xs ys)
+    ap (λ (zs : List Attempt). length (map (λ (a : Attempt). a.root.txid) zs)) (filter-append (λ (a : Attempt). is_committed a.end) xs ys)
     ∙ ap length (map-append (λ (a : Attempt). a.root.txid) (committed xs) (committed ys))
     ∙ length-append (committed_txids xs) (committed_txids ys)
 
 pub none_commits : (xs : List Attempt) → outcomes_of xs ≡ [] → length (committed_txids xs) ≡ 0
-none_commits xs none = ap (λ (as : List Attempt). length (map (λ (a : Attempt). a.root.txid) as)) (none_done_of xs none)
+none_commits xs none = ap (λ (zs : List Attempt). length (map (λ (a : Attempt). a.root.txid) zs)) (none_done_of xs none)
 
 -- the first of attempts that tell of no commit tell of none
 first_none : (xs ys : List CommitOutcome) → xs ++ ys ≡ [] → xs ≡ []
