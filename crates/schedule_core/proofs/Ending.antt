@@ -75,8 +75,8 @@ pub record Ends {S : Type 0} (words_are : (ℕ → ℕ → ℕ) → Type 0) (hol
 is_no_cell : (answer : Result Ended Stop) (key : List ℕ) → answer ≡ Err stop.Memory → answer ≡ Err (stop.BadCell key) → ⊥
 is_no_cell answer key short bad = cc
 
-same_cell : (key k : List ℕ) → Err (stop.BadCell key) ≡ Err (stop.BadCell k) → key ≡ k
-same_cell key k same = cc
+same_cell : (answer : Result Ended Stop) (key k : List ℕ) → answer ≡ Err (stop.BadCell key) → answer ≡ Err (stop.BadCell k) → key ≡ k
+same_cell answer key k one two = cc
 
 -- memory was wanted
 short_comes : {S : Type 0} (holds : S → CellMap → Type 0) (count : S → ℕ) (t : Topology) (custom : Custom) (cut : Cut) (steps : List Step) (ticks : ℕ) (fates : List Attempt) (was is : List (StatePart S))
@@ -205,7 +205,7 @@ module _ {I S : Type 0} {g : Ghosts I} (told : (ℕ → ℕ → ℕ) → Type 0)
     failed_in_turn = λ ok. (kept_then steps e was between came).fails_in_turn;
     of_world = λ ok. absurd ok;
     strange = λ k found. came.strange k (leaves.strange k found);
-    bad_cell = λ k is_bad. subst (IsBadAt holds was) (same_cell key k is_bad) bad;
+    bad_cell = λ k is_bad. subst (IsBadAt holds was) (same_cell (Err (stop.BadCell key)) key k refl is_bad) bad;
     stands = left_stands steps e e.fates was between is came leaves;
     counted = λ ok. absurd ok;
     but_last = left_counted steps e e.fates was between is came leaves;

@@ -1,6 +1,7 @@
 -- What the coordinator's steps do to the fates and to the number of commits.
-use Rattle.std.proofs.Common.{◌≡◌, ℕ, zero, suc, ◌+◌, Bool, true, false, cond, List, [], ◌∷◌, ◌++◌, map, filter, cons_option, Option, None, Some, refl, sym, ap, ◌∙◌, append-nil, length, subst, length-append}
+use Rattle.std.proofs.Common.{◌≡◌, ℕ, zero, suc, ◌+◌, Bool, true, false, cond, List, [], ◌∷◌, ◌++◌, map, filter, Option, None, Some, refl, sym, ap, ◌∙◌, append-nil, length, subst, length-append}
 use Rattle.std.specs.Prelude.{slice_get}
+use Rattle.std.specs.List.{cons_option}
 use Rattle.std.proofs.lemmas.List.{map-append}
 use Rattle.std.proofs.lemmas.List.Elements.{filter-append}
 use Rattle.acker_core.specs.declared.verdict.Verdict.{Verdict}
@@ -32,35 +33,35 @@ none_in_both xs ys one two = outcomes-append xs ys ∙ ap (λ (hs : List CommitO
 -- where no outcome of a commit is told, none is told to have failed and none to be done
 pub none_failed_of : (xs : List Attempt) → outcomes_of xs ≡ [] → failed_commits xs ≡ 0
 none_failed_of [] none = refl
-none_failed_of (x ∷ xs) none = at x.end none
+none_failed_of (x ∷ xs) none = at (λ told. none_failed_of xs told) x.end none
   where
-    at : (e : End) → cons_option (outcome_by e) (outcomes_of xs) ≡ [] → length (cond (is_failed_commit e) (x ∷ filter (λ (a : Attempt). is_failed_commit a.end) xs) (filter (λ (a : Attempt). is_failed_commit a.end) xs)) ≡ 0
-    at (end.Committed list) told = absurd (let e : Done ∷ outcomes_of xs ≡ [] = told in cc)
-    at (end.Failed path) told = none_failed_of xs told
-    at end.TimedOut told = none_failed_of xs told
-    at (end.Coincided list) told = none_failed_of xs told
-    at (end.CommitFailed component part before after) told = absurd (let e : Failed component part before after ∷ outcomes_of xs ≡ [] = told in cc)
+    at : (outcomes_of xs ≡ [] → failed_commits xs ≡ 0) → (e : End) → cons_option (outcome_by e) (outcomes_of xs) ≡ [] → length (cond (is_failed_commit e) (x ∷ filter (λ (a : Attempt). is_failed_commit a.end) xs) (filter (λ (a : Attempt). is_failed_commit a.end) xs)) ≡ 0
+    at rest (end.Committed list) told = absurd (let e : Done ∷ outcomes_of xs ≡ [] = told in cc)
+    at rest (end.Failed path) told = rest told
+    at rest end.TimedOut told = rest told
+    at rest (end.Coincided list) told = rest told
+    at rest (end.CommitFailed component part before after) told = absurd (let e : Failed component part before after ∷ outcomes_of xs ≡ [] = told in cc)
 
 none_done_of : (xs : List Attempt) → outcomes_of xs ≡ [] → committed xs ≡ []
 none_done_of [] none = refl
-none_done_of (x ∷ xs) none = at x.end none
+none_done_of (x ∷ xs) none = at (λ told. none_done_of xs told) x.end none
   where
-    at : (e : End) → cons_option (outcome_by e) (outcomes_of xs) ≡ [] → cond (is_committed e) (x ∷ committed xs) (committed xs) ≡ []
-    at (end.Committed list) told = absurd (let e : Done ∷ outcomes_of xs ≡ [] = told in cc)
-    at (end.Failed path) told = none_done_of xs told
-    at end.TimedOut told = none_done_of xs told
-    at (end.Coincided list) told = none_done_of xs told
-    at (end.CommitFailed component part before after) told = absurd (let e : Failed component part before after ∷ outcomes_of xs ≡ [] = told in cc)
+    at : (outcomes_of xs ≡ [] → committed xs ≡ []) → (e : End) → cons_option (outcome_by e) (outcomes_of xs) ≡ [] → cond (is_committed e) (x ∷ committed xs) (committed xs) ≡ []
+    at rest (end.Committed list) told = absurd (let e : Done ∷ outcomes_of xs ≡ [] = told in cc)
+    at rest (end.Failed path) told = rest told
+    at rest end.TimedOut told = rest told
+    at rest (end.Coincided list) told = rest told
+    at rest (end.CommitFailed component part before after) told = absurd (let e : Failed component part before after ∷ outcomes_of xs ≡ [] = told in cc)
 
 -- the commits of attempts that follow others
 pub commits_append : (xs ys : List Attempt) → length (committed_txids (xs ++ ys)) ≡ length (committed_txids xs) + length (committed_txids ys)
 commits_append xs ys =
-    ap (λ (as : List Attempt). length (map (λ (a : Attempt). a.root.txid) as)) (filter-append (λ (a : Attempt). is_committed a.end) xs ys)
+    ap (λ (zs : List Attempt). length (map (λ (a : Attempt). a.root.txid) zs)) (filter-append (λ (a : Attempt). is_committed a.end) xs ys)
     ∙ ap length (map-append (λ (a : Attempt). a.root.txid) (committed xs) (committed ys))
     ∙ length-append (committed_txids xs) (committed_txids ys)
 
 pub none_commits : (xs : List Attempt) → outcomes_of xs ≡ [] → length (committed_txids xs) ≡ 0
-none_commits xs none = ap (λ (as : List Attempt). length (map (λ (a : Attempt). a.root.txid) as)) (none_done_of xs none)
+none_commits xs none = ap (λ (zs : List Attempt). length (map (λ (a : Attempt). a.root.txid) zs)) (none_done_of xs none)
 
 -- the first of attempts that tell of no commit tell of none
 first_none : (xs ys : List CommitOutcome) → xs ++ ys ≡ [] → xs ≡ []
