@@ -4,7 +4,7 @@ use Rattle.std.proofs.lemmas.Bool.{cases_lt}
 use Rattle.attempt_fates.specs.declared.fates.Attempt.{Attempt}
 use Rattle.attempt_fates.specs.declared.fates.End.{End}
 use Rattle.attempt_fates.specs.declared.fates.End.TheVariants as end
-use Rattle.batch_commits.specs.Standing.{CountStep, CountsRun, FailuresAreCounted, TellsFailedPart}
+use Rattle.batch_commits.specs.Standing.{CountStep, FailuresAreCounted, TellsFailedPart}
 use Rattle.commit_turns.specs.declared.wait.Wait.{Wait}
 use Rattle.commit_turns.specs.Desks.{Desk, ended_at}
 use Rattle.commit_turns.specs.Outcomes.{IsOutcome}

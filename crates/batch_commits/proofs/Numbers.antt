@@ -1,11 +1,11 @@
--- No two planned parts have the same numbers, and each is a part of a state.
+-- The planned parts are those of the states.
 use Rattle.std.proofs.Common.{◌≡◌, ◌+◌, ◌≤◌, ◌<◌, ◌⊎◌, inl, inr, ⊎_elim, ℕ, zero, suc, List, [], ◌∷◌, ◌++◌, length, map, Option, None, Some, slice_get, refl, sym, ap, subst, ◌∙◌, arith}
 use Rattle.std.proofs.lemmas.Bool.{cases_eq}
 use Rattle.std.proofs.lemmas.Option.{none-some, same_Some, slice_get_within}
 use Rattle.std.specs.List.{flat_map, range_with_len}
 use Rattle.std.specs.Option.{option_map_or}
 use Rattle.state_parts.specs.declared.parts.StatePart.{StatePart}
-use Rattle.state_parts.specs.PartPlans.{AreApart, AreParts, IsOneOf, PartPlan, part_by, parts_at, parts_by, planned_parts, plans_of}
+use Rattle.state_parts.specs.PartPlans.{AreParts, IsOneOf, PartPlan, part_by, parts_at, parts_by, planned_parts, plans_of}
 use Rattle.topology_plan.specs.declared.parts.Body.{Body}
 use Rattle.topology_plan.specs.declared.parts.Body.TheVariants.{Bolt, State}
 use Rattle.topology_plan.specs.declared.parts.Component.{Component}
@@ -86,46 +86,6 @@ module _ (t : Topology) where
       let at : parts_by c is.0.tasks is.0.body ≡ parts_at t c = ap (λ (o : Option Component). option_map_or (λ (x : Component). parts_by c x.tasks x.body) o []) (sym is.1) in
       in_below c p 0 (length t.components) (omega arith) (omega arith)
       (subst (λ (ps : List PartPlan). IsOneOf ps c p) at (in_body c is.0.tasks is.0.body p is.2 is.3))
-
--- ---- parts apart
-
-apart_append : (xs ys : List PartPlan) → AreApart xs → AreApart ys → ((c p : ℕ) → IsOneOf xs c p → IsOneOf ys c p → ⊥) → AreApart (xs ++ ys)
-apart_append [] ys front back none = back
-apart_append (x ∷ xs) ys front back none = (
-  λ one.
-      ⊎_elim (λ (here : IsOneOf xs x.component x.part). front.0 here) (λ (there : IsOneOf ys x.component x.part). none x.component x.part (inl (refl, refl)) there)
-      (one_of_either xs ys x.component x.part one),
-  apart_append xs ys front.1 back (λ c p here there. none c p (inr here) there),
-)
-
-apart_state : (number : ℕ) (kind : Kind) (by : Fold) (a n : ℕ) → AreApart (map (part_by number kind by) (range_with_len a n))
-apart_state number kind by a zero = tt
-apart_state number kind by a (suc n) = (λ one. let found = one_of_state number kind by (a + 1) n number a one in omega arith, apart_state number kind by (a + 1) n)
-
-apart_body : (number tasks : ℕ) (body : Body) → AreApart (parts_by number tasks body)
-apart_body number tasks (Bolt op) = tt
-apart_body number tasks (State spec) = apart_state number spec.kind spec.fold 0 tasks
-
-module _ (t : Topology) where
-  apart_component : (number : ℕ) → AreApart (parts_at t number)
-  apart_component number = cases (slice_get t.components number)
-    where
-      cases : (o : Option Component) → AreApart (option_map_or (λ (component : Component). parts_by number component.tasks component.body) o [])
-      cases None = tt
-      cases (Some component) = apart_body number component.tasks component.body
-
-  apart_below : (a n : ℕ) → AreApart (flat_map (parts_at t) (range_with_len a n))
-  apart_below a zero = tt
-  apart_below a (suc n) =
-      apart_append (parts_at t a) (flat_map (parts_at t) (range_with_len (a + 1) n)) (apart_component a) (apart_below (a + 1) n)
-      (λ c p here there.
-      let first = (one_of_component t a c p here).0 in
-      let later = (one_of_below t (a + 1) n c p there).0 in
-      omega arith)
-
-  -- no two planned parts have the same numbers
-  pub planned_apart : AreApart (planned_parts t)
-  planned_apart = apart_below 0 (length t.components)
 
 -- ---- parts over stores
 

@@ -1,5 +1,5 @@
 -- The laws of worlds and of parts that runs rest on. This project's own.
-use Rattle.std.specs.Prelude.{◌≡◌, ◌<◌, ℕ, ◌+◌, List, [], ◌++◌, All, Option, Some, slice_get}
+use Rattle.std.specs.Prelude.{◌≡◌, ◌<◌, ℕ, ◌+◌, List, [], ◌++◌, All, Some, slice_get}
 use Rattle.attempt_fates.specs.declared.fates.Attempt.{Attempt}
 use Rattle.batch_commits.specs.Standing.{AllButLastAreCounted, FailuresAreCounted, HasStrangeAt, HasTextKey, PartsStand, TellsFailedPart, batches_in, failed_commits, writes_at}
 use Rattle.bolt_ops.specs.RowOp.{Custom, IsCustom}

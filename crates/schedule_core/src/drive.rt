@@ -5,7 +5,7 @@ ghost use Rattle.attempt_fates.specs.Fates.{IsOnce};
 ghost use Rattle.batch_commits.specs.Standing.{HasTextKey};
 ghost use Rattle.bolt_ops.specs.RowOp.{Custom};
 ghost use Rattle.commit_turns.specs.Turns.{last_tick};
-ghost use Rattle.event_engine.specs.Engines.{Goes, IsReady, IsStill, cut_in, topology_in};
+ghost use Rattle.event_engine.specs.Engines.{Goes, IsStill, cut_in, topology_in};
 ghost use Rattle.event_worlds.specs.Worlds.{coordinator_steps, of_tick, round_steps, rounds_steps};
 ghost use Rattle.schedule_core.specs.Driving.{AreKept, Breaks, Drives, IsAtRest, IsOfSameRun, WantsMemory};
 ghost use Rattle.schedule_core.specs.Rounding.{closing_steps, opening_steps};
