@@ -37,7 +37,7 @@ returns-in_err-close_round-clause-comes g c =
 pub returns-in_err-open_round-clause-comes : goal.returns-in_err-open_round-clause-comes
 returns-in_err-open_round-clause-comes g c =
     let custom = g.O.RowOp.meaning c.args.custom.now in
-    let exits = c.from_residual-in_err-open_round in
+    let exits = c.from_residual in
     turned-short g.I.Ids.tells g.C.CellStore.tells g.C.CellStore.fault_count g.T.Ticks.handed_out g.T.Ticks.tells custom c.args.engine.now c.args.parts.now c.args.ticks.now (λ (t : Topology) (cut : Cut). c.laws_of_steps.ensures t custom cut) c.loop.engine c.loop.parts c.loop.ticks c.loop.invariant
     exits.result _ c.open_round.new.engine exits.ensures.1 refl c.open_round.ensures.still
 

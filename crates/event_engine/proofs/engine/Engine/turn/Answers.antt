@@ -1,6 +1,9 @@
-use Rattle.std.proofs.Common.{[], ◌∷◌, refl, sym, ap, ◌∙◌}
+use Rattle.std.proofs.Common.{[], ◌∷◌, None, refl, sym, ap, ◌∙◌, append-nil}
+use Rattle.commit_order.specs.Orders.{desk_of}
+use Rattle.commit_turns.specs.Turns.{turned}
 use Rattle.event_engine.specs.Engines.{cut_in, shape, topology_in}
 use Rattle.event_engine.proofs.EngineLemmas.{seated_by}
+use Rattle.event_engine.proofs.FatesLemmas.{on_err}
 use Rattle.event_engine.proofs.GoesLemmas.{goes-over, goes-turn}
 use Rattle.event_engine.proofs.TurnEvents.{happens_alike, hands_order, idle_still, ready_alike, ready_handed, tasks_are}
 use Rattle.event_worlds.specs.Worlds.{of_turn, turn_needs, turn_step}
@@ -47,3 +50,23 @@ returns-in_ok-commit-in-None-clause-goes g c = λ custom.
     (happens_alike t cut old (record old { orders = c.pop_front.new.self }) g.I.Ids.tells (tasks_in_all t) (turn_needs t cut) (λ ids w. turn_step t cut ids w) c.take_turn.new.self
     (record { shape_is = ap (λ out. record (shape old) { orders = out }) (sym c.in-None.ensures.items); coordinator = refl; plan = refl; tasks = refl; ackers = refl })
     c.in_ok-commit-in-None.ensures.taken.happens)
+
+pub returns-in_err-deliver-in-Some-clause-short : goal.returns-in_err-deliver-in-Some-clause-short
+returns-in_err-deliver-in-Some-clause-short g c =
+    let old = c.args.self.now in
+    on_err c.from_residual.result
+    (record {
+      verdict = None;
+      ticks = 0;
+      some = record {
+        done = [];
+        rest = (turned (topology_in old) (cut_in old) None 0 (desk_of old.coordinator)).ended;
+        are_first = refl;
+        added = c.deliver.ensures.still.fates ∙ sym (append-nil old.fates);
+      };
+    })
+
+pub returns-in_err-commit-in-None-clause-short : goal.returns-in_err-commit-in-None-clause-short
+returns-in_err-commit-in-None-clause-short g c =
+    let short = c.in_err-commit-in-None.ensures.short in
+    on_err c.from_residual-in_err-commit-in-None.result (record { verdict = short.verdict; ticks = short.ticks; some = short.some })
