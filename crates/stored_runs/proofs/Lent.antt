@@ -1,5 +1,5 @@
 -- What is known of a maker by the parts over its stores: before a run, and when they came back.
-use Rattle.std.proofs.Common.{◌≡◌, ◌≤◌, ◌+◌, ◌⊎◌, inl, inr, ℕ, zero, suc, List, [], ◌∷◌, All, map, Option, None, Some, IsSome, slice_get, rules, refl, sym, ap, subst, ◌∙◌, arith}
+use Rattle.std.proofs.Common.{◌≡◌, ◌≤◌, ◌+◌, ◌⊎◌, inl, inr, Result, Ok, Err, OnErr, ℕ, zero, suc, List, [], ◌∷◌, All, map, Option, None, Some, IsSome, slice_get, rules, refl, sym, ap, subst, ◌∙◌, arith}
 use Rattle.std.specs.List.{AllByRecursion, AllZip}
 use Rattle.std.proofs.lemmas.Bool.{cases_eq}
 use Rattle.std.proofs.lemmas.List.Elements.{All-from_recursion, All-weaker, recursion_from_All}
@@ -296,6 +296,11 @@ module _ {S M : Type 0} (tells : S → CellMap → Type 0) (count : S → ℕ)
             stands.stand) lent.read back_each fewer
 
 -- ---- where no run was begun
+
+-- what holds whatever is answered holds on an error
+pub on_err : {T E P : Type 0} (r : Result T E) → P → OnErr r P
+on_err (Ok x) holds = tt
+on_err (Err e) holds = holds
 
 module _ {S M : Type 0} (tells : S → CellMap → Type 0) (count : S → ℕ)
     (holds : M → ℕ → ℕ → CellMap → Type 0) (made : M → ℕ → ℕ → Type 0) (faults : M → ℕ)

@@ -1,7 +1,11 @@
+use Rattle.std.proofs.Common.{List, subst, sym}
+use Rattle.attempt_fates.specs.declared.fates.Attempt.{Attempt}
 use Rattle.event_worlds.specs.Rounds.{ticks_in}
+use Rattle.schedule_core.specs.Runs.{committed_count}
 use Rattle.schedule_core.specs.Schedules.{all_steps}
 use Rattle.stored_runs.proofs.Comings.{Ran, all_back, given_finishes, run_is, short_is, world_is}
-use Rattle.stored_runs.proofs.Lent.{Lent, still_made}
+use Rattle.stored_runs.proofs.Lent.{Lent, idle_stand, on_err, still_made}
+use Rattle.stored_runs.specs.Makers.{MapsStand, maker_use}
 use Rattle.stored_runs.proofs.given.replay_over.Goals as goal
 
 pub give_back-requires : goal.give_back-requires
@@ -56,4 +60,17 @@ returns g c =
     }
 
 pub returns-in_err-parts-clause-short : goal.returns-in_err-parts-clause-short
-returns-in_err-parts-clause-short g c = ?
+returns-in_err-parts-clause-short g c =
+    on_err c.from_residual.result
+    (λ began.
+    subst
+    (λ (fates : List Attempt).
+    MapsStand c.args.plan.now (g.O.RowOp.meaning c.args.custom.now) c.args.batches
+    (committed_count fates)
+    (maker_use g.M.C.CellStore.tells g.M.C.CellStore.fault_count g.M.StoreMaker.holds
+    g.M.StoreMaker.has_made g.M.StoreMaker.fault_count c.args.stores.now c.make.new.stores))
+    (sym c.requires.empty)
+    (idle_stand g.M.C.CellStore.tells g.M.C.CellStore.fault_count g.M.StoreMaker.holds
+    g.M.StoreMaker.has_made g.M.StoreMaker.fault_count c.args.plan.now c.args.stores.now
+    c.make.new.stores (g.O.RowOp.meaning c.args.custom.now) c.args.batches
+    c.in_err-parts.ensures.not_made began))

@@ -1,9 +1,11 @@
-use Rattle.std.proofs.Common.{Result, refl, subst}
+use Rattle.std.proofs.Common.{List, Result, refl, subst, sym}
+use Rattle.attempt_fates.specs.declared.fates.Attempt.{Attempt}
 use Rattle.commit_order.specs.declared.stop.Stop.{Stop}
 use Rattle.schedule_core.specs.declared.ended.Ended.{Ended}
-use Rattle.schedule_core.specs.Runs.{ended, ticks_between}
+use Rattle.schedule_core.specs.Runs.{committed_count, ended, ticks_between}
 use Rattle.stored_runs.proofs.Comings.{Ran, all_back, by_rounds, none_left, rounds_finish, run_is, short_is, world_is}
-use Rattle.stored_runs.proofs.Lent.{Lent, still_made}
+use Rattle.stored_runs.proofs.Lent.{Lent, idle_stand, on_err, still_made}
+use Rattle.stored_runs.specs.Makers.{MapsStand, maker_use}
 use Rattle.stored_runs.specs.Closing.{Closes}
 use Rattle.stored_runs.proofs.rounds.run_over.Goals as goal
 
@@ -71,4 +73,17 @@ returns g c =
     }
 
 pub returns-in_err-parts-clause-short : goal.returns-in_err-parts-clause-short
-returns-in_err-parts-clause-short g c = ?
+returns-in_err-parts-clause-short g c =
+    on_err c.from_residual.result
+    (λ began.
+    subst
+    (λ (fates : List Attempt).
+    MapsStand c.args.plan.now (g.O.RowOp.meaning c.args.custom.now) c.args.batches
+    (committed_count fates)
+    (maker_use g.M.C.CellStore.tells g.M.C.CellStore.fault_count g.M.StoreMaker.holds
+    g.M.StoreMaker.has_made g.M.StoreMaker.fault_count c.args.stores.now c.make.new.stores))
+    (sym c.requires.empty)
+    (idle_stand g.M.C.CellStore.tells g.M.C.CellStore.fault_count g.M.StoreMaker.holds
+    g.M.StoreMaker.has_made g.M.StoreMaker.fault_count c.args.plan.now c.args.stores.now
+    c.make.new.stores (g.O.RowOp.meaning c.args.custom.now) c.args.batches
+    c.in_err-parts.ensures.not_made began))
