@@ -349,7 +349,7 @@ module _ {S M : Type 0} {tells : S → CellMap → Type 0} {count : S → ℕ}
           all_at ending closes (λ other. quiet (λ same. other (of_ok ending same))) free finishes
         where
           of_ok : (e : RunEnd) → ◌≡◌ {A = Result RunEnd E} (Ok e) (Ok end.StoreFault)
-            → e ≡ end.StoreFault
+              → e ≡ end.StoreFault
           of_ok e same = cc
       all_by (Err e) closes quiet free finishes = tt
 
