@@ -1,10 +1,12 @@
 use Rattle.std.proofs.Common.{ℕ, ◌<◌, List, sym, subst}
 use Rattle.event_worlds.specs.Rounds.{HasRounds, rounds_needed}
 use Rattle.schedule_core.specs.Schedules.{all_steps}
+use Rattle.storm_program.proofs.EndLemmas.{IfErr-exit}
 use Rattle.storm_program.proofs.ReportLemmas.{ends_so, replay_report_if, short_of, work_finishes, work_stops}
 use Rattle.attempt_fates.specs.declared.fates.Attempt.{Attempt}
 use Rattle.storm_program.specs.Outside.{RunUse, run_use}
 use Rattle.storm_program.specs.Replay.{ReplayEndsSo, ticks_of_schedule}
+use Rattle.storm_program.specs.declared.stop.Stop.TheVariants.{Memory}
 use Rattle.storm_program.specs.Run.{IsShort}
 use Rattle.stored_runs.specs.Makers.{maker_use}
 use Rattle.stored_runs.specs.StoredRuns.{IsRunOfWorld}
@@ -31,3 +33,9 @@ pub returns-clause-finishes : goal.returns-clause-finishes
 returns-clause-finishes g c = λ free rounds few.
     let here = subst (λ (k : Cut). HasRounds c.args.files.plan (rounds_needed c.args.files.plan (g.O.RowOp.meaning c.args.custom.now) k) (all_steps c.args.files.plan c.args.events.now)) (sym c.batches_of-batches.ensures.cut) rounds in
     work_finishes _ _ _ _ c.in_ok-ending.ending c.text_of_end.result (c.in_ok-ending.ensures.finishes free here few) c.text_of_end.ensures.stop
+
+pub returns-in_err-ending-clause-stop : goal.returns-in_err-ending-clause-stop
+returns-in_err-ending-clause-stop g c =
+    IfErr-exit c.from_residual.result Memory _ c.from_residual.ensures.1
+    (short_of (g.O.RowOp.meaning c.args.custom.now) c.args.files.plan c.args.files.rows (run_use (maker_use g.M.C.CellStore.tells g.M.C.CellStore.fault_count g.M.StoreMaker.holds g.M.StoreMaker.has_made g.M.StoreMaker.fault_count c.args.stores.now c.replay_over.new.stores) (g.N.IdMaker.tells c.args.ids.now))
+    (ticks_of_schedule c.args.files.plan c.args.events.now) c.replay_over.new.fates _ c.batches_of-batches.ensures.cut _ _ c.counted_in-counted.ensures.records c.counted_in-counted.ensures.batches c.replay_over.ensures.once c.replay_over.ensures.back c.in_err-ending.ensures.short)
