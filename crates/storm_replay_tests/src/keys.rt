@@ -60,6 +60,23 @@ fn end_over(alloc: Global, plan: &Plan, cell: Cell) -> Result<RunEnd, Mismatch> 
     Ok(ended?)
 }
 
+fn is_bad_at(ended: &RunEnd, key: &str) -> bool {
+    match ended {
+        RunEnd::BadCell(found) => found.as_slice() == key.as_bytes(),
+        _ => false,
+    }
+}
+
+fn check_key(alloc: Global, plan: &Plan, cell: Cell) -> Result<(), Mismatch> {
+    let (_, _, key, _) = cell;
+    let ended = end_over(alloc, plan, cell)?;
+    if is_bad_at(&ended, key) {
+        Ok(())
+    } else {
+        Err(case_of(alloc, key))
+    }
+}
+
 // The key of the record, which the commit meets, and that of none, which the last reading meets.
 const BAD_CELLS: [Cell; 2] = [(1, 0, "[\"a\"]", &[0]), (1, 0, "[\"b\"]", &[0])];
 
@@ -70,11 +87,7 @@ fn a_bad_cell_is_named_by_its_key(rt: HostRuntime) -> Result<(), Mismatch> {
         return Err(case_of(alloc, STEADY));
     };
     for cell in BAD_CELLS {
-        let (_, _, key, _) = cell;
-        match end_over(alloc, &plan, cell)? {
-            RunEnd::BadCell(found) if found.as_slice() == key.as_bytes() => {}
-            _ => return Err(case_of(alloc, key)),
-        }
+        check_key(alloc, &plan, cell)?;
     }
     Ok(())
 }
