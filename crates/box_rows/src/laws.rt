@@ -1,0 +1,35 @@
+ghost use Rattle.std.specs.Prelude.{◌≡◌, ◌≢◌, ◌≤◌, ℕ, ◌+◌, List, [], ◌∷◌, length, map};
+ghost use Rattle.counted_items.specs.Weights.{weigh};
+ghost use Rattle.pass_numbers.specs.Numbers.{Numbered};
+ghost use Rattle.box_rows.specs.Rows.{weigh_sent, weigh_taken};
+ghost use Rattle.box_rows.specs.Splitting.{MailView, joined_views, numbers_in_box};
+ghost use Rattle.task_queues.specs.Books.{cut_of, kept_of};
+ghost use Rattle.tuple_account.specs.Histories.{Packet};
+
+/// A law: a row that was split has the books that it had, and the new one has empty ones. The books
+/// of joined rows are those of both.
+pub fn rows_add_up()
+    ensures kept { (f : Packet → ℕ) (vs : List MailView)
+        → (weigh (weigh_sent f) (map kept_of vs) ≡ weigh (weigh_sent f) vs)
+        × (weigh (weigh_taken f) (map kept_of vs) ≡ weigh (weigh_taken f) vs) }
+    ensures cut { (f : Packet → ℕ) (vs : List MailView)
+        → (weigh (weigh_sent f) (map cut_of vs) ≡ 0)
+        × (weigh (weigh_taken f) (map cut_of vs) ≡ 0) }
+    ensures joined { (f : Packet → ℕ) (vs us : List MailView) → length us ≤ length vs
+        → (weigh (weigh_sent f) (joined_views vs us)
+        ≡ weigh (weigh_sent f) vs + weigh (weigh_sent f) us)
+        × (weigh (weigh_taken f) (joined_views vs us)
+        ≡ weigh (weigh_taken f) vs + weigh (weigh_taken f) us) }
+{}
+
+/// A law: rows that have all numbers of a box, each once, have them after a split and after a join.
+pub fn rows_keep_numbers()
+    ensures split { (n : ℕ) (vs : List MailView) (others : List (List MailView))
+        → numbers_in_box n vs ≢ []
+        → Numbered (numbers_in_box n) (vs ∷ others)
+        → Numbered (numbers_in_box n) (map kept_of vs ∷ map cut_of vs ∷ others) }
+    ensures join { (n : ℕ) (vs us : List MailView) (others : List (List MailView))
+        → length us ≤ length vs
+        → Numbered (numbers_in_box n) (vs ∷ us ∷ others)
+        → Numbered (numbers_in_box n) (joined_views vs us ∷ others) }
+{}
