@@ -8,7 +8,7 @@ use Rattle.pass_numbers.proofs.Numbering.{numbered_as}
 use Rattle.pass_numbers.specs.Numbers.{Numbered}
 use Rattle.box_rows.specs.declared.mail.Mail.{Mail}
 use Rattle.box_rows.specs.Rows.{ArePasses, sent_in, taken_in, weigh_sent, weigh_taken}
-use Rattle.box_rows.specs.AllRows.{ArePassesIn, HasJoined, HasSplit, Row, sent_by, taken_by, views_in}
+use Rattle.box_rows.specs.AllRows.{ArePassesIn, HasComeBack, HasJoined, HasSplit, Row, sent_by, taken_by, views_in}
 use Rattle.box_rows.specs.Splitting.{joined_views, numbers_in_box}
 use Rattle.box_rows.proofs.Numbers.{cut-sent, join-numbered, joined-sent, kept-sent, split-numbered}
 use Rattle.task_queues.specs.Books.{cut_of, kept_of, numbers_in}
@@ -118,3 +118,15 @@ module _ (t : Topology) (boxes : List (Mailbox Mail)) where
             subst (λ (vs : List (View Mail)). Numbered (numbers_in_box n) (vs ∷ map views_in fewer)) (sym joined)
             (join-numbered n (map view_of now) (views_in other) (map views_in fewer) size second);
       }
+
+-- ---- splits that are joined again
+
+pub back-none : (count : ℕ) (row : List (Pass Mail)) → HasComeBack count row row
+back-none count row = record { sent = λ f. refl; taken = λ f. refl; numbers = λ n below all. all }
+
+pub comes-back : (t : Topology) (boxes : List (Mailbox Mail)) (start now new : List (Pass Mail)) (rows : List Row) → HasSplit t boxes start now rows → HasJoined now rows new [] → HasComeBack (length boxes) start new
+comes-back t boxes start now new rows split joined = record {
+  sent = λ f. let j = joined.sent f in let s = split.sent f in let o = split.none_sent f in omega arith;
+  taken = λ f. let j = joined.taken f in let s = split.taken f in let o = split.none_taken f in omega arith;
+  numbers = λ n below all. joined.numbers n (split.numbers n below all);
+}

@@ -5,3 +5,4 @@ pub mod Numbers
 pub mod AllRows
 pub mod Fitting
 pub mod Making
+pub mod Wholes

@@ -49,3 +49,9 @@ pub record HasJoined (old : List (Pass Mail)) (rows : List Row) (new : List (Pas
   pub sent : (f : Packet → ℕ) → sent_in new f + sent_by rest f ≡ sent_in old f + sent_by rows f
   pub taken : (f : Packet → ℕ) → taken_in new f + taken_by rest f ≡ taken_in old f + taken_by rows f
   pub numbers : (n : ℕ) → AreAll n old rows → AreAll n new rest
+
+-- A row has what it had, and all numbers of each of so many boxes where it had them.
+pub record HasComeBack (count : ℕ) (old new : List (Pass Mail)) : Type 0 where
+  pub sent : (f : Packet → ℕ) → sent_in new f ≡ sent_in old f
+  pub taken : (f : Packet → ℕ) → taken_in new f ≡ taken_in old f
+  pub numbers : (n : ℕ) → n < count → AreAll n old [] → AreAll n new []

@@ -1,9 +1,13 @@
-ghost use Rattle.std.specs.Prelude.{◌≡◌, ◌≢◌, ◌≤◌, ℕ, ◌+◌, List, [], ◌∷◌, length, map};
+ghost use Rattle.std.specs.Prelude.{◌≡◌, ◌≢◌, ◌<◌, ◌≤◌, ℕ, ◌+◌, List, [], ◌∷◌, length, map};
 ghost use Rattle.counted_items.specs.Weights.{weigh};
 ghost use Rattle.pass_numbers.specs.Numbers.{Numbered};
+ghost use Rattle.box_rows.specs.AllRows.{AreAll};
+ghost use Rattle.box_rows.specs.declared.mail.Mail.{Mail};
+ghost use Rattle.box_rows.specs.FitRows.{AreWhole};
 ghost use Rattle.box_rows.specs.Rows.{weigh_sent, weigh_taken};
 ghost use Rattle.box_rows.specs.Splitting.{MailView, joined_views, numbers_in_box};
 ghost use Rattle.task_queues.specs.Books.{cut_of, kept_of};
+ghost use Rattle.task_queues.specs.declared.pass.Pass.{Pass};
 ghost use Rattle.tuple_account.specs.Histories.{Packet};
 
 /// A law: a row that was split has the books that it had, and the new one has empty ones. The books
@@ -32,4 +36,13 @@ pub fn rows_keep_numbers()
         → length us ≤ length vs
         → Numbered (numbers_in_box n) (vs ∷ us ∷ others)
         → Numbered (numbers_in_box n) (joined_views vs us ∷ others) }
+{}
+
+/// A law: a row of passes that each have all numbers of their box is all that there is, and where one
+/// row is left of all, its passes have all numbers.
+pub fn one_row_is_whole()
+    ensures first { (row : List (Pass Mail)) → AreWhole row
+        → (n : ℕ) → n < length row → AreAll n row [] }
+    ensures last { (row : List (Pass Mail))
+        → ((n : ℕ) → n < length row → AreAll n row []) → AreWhole row }
 {}
