@@ -5,7 +5,7 @@ use Rattle.std.specs.Option.{IfNone}
 use Rattle.std.proofs.lemmas.List.{length-set, map-set}
 use Rattle.box_rows.specs.declared.mail.Mail.{Mail}
 use Rattle.box_rows.specs.Mails.{IsTrueMail, weigh_mail}
-use Rattle.box_rows.specs.Rows.{ArePasses, CouldBeEmpty, CouldBeFull, HasSent, HasTaken, IsPassFor, IsSameRow, IsViewAt, weigh_sent, weigh_taken}
+use Rattle.box_rows.specs.Rows.{ArePasses, HasSent, HasTaken, IsPassFor, IsSameRow, IsViewAt, weigh_sent, weigh_taken}
 use Rattle.box_rows.proofs.Weighing.{at-some, weigh-at, view_sends, view_takes}
 use Rattle.task_queues.specs.Books.{sent_to, took}
 use Rattle.task_queues.specs.declared.pass.Mailbox.{Mailbox}

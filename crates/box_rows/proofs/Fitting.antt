@@ -1,5 +1,5 @@
 -- Rows of passes that have all numbers of their boxes.
-use Rattle.std.proofs.Common.{◌≡◌, ◌≢◌, ◌≤◌, ◌<◌, ◌↔◌, ℕ, zero, suc, ◌+◌, ◌-◌, nat_lt, ltb-true, ltb-false, Bool, true, false, List, [], ◌∷◌, length, map, Option, Some, None, get_or, set, sym, refl, ap, subst, ◌∙◌, arith}
+use Rattle.std.proofs.Common.{◌≡◌, ◌≤◌, ◌<◌, ℕ, zero, suc, ◌+◌, ◌-◌, nat_lt, ltb-true, ltb-false, Bool, true, false, List, [], ◌∷◌, length, map, Option, Some, None, set, sym, refl, subst, ◌∙◌, arith}
 use Rattle.std.specs.Prelude.{slice_get, IfSome, OnOk, OnErr, Result, Ok, Err}
 use Rattle.std.specs.Option.{IfNone}
 use Rattle.std.specs.List.{AllByRecursion}
@@ -12,7 +12,7 @@ use Rattle.box_rows.specs.declared.mail.Mail.{Mail}
 use Rattle.box_rows.specs.FitRows.{AreWhole, HoldsMore, IsFitRow, IsFitView, TellsAt}
 use Rattle.box_rows.specs.Mails.{IsTrueMail, last_box, weigh_mail}
 use Rattle.box_rows.specs.Rows.{ArePasses, HasSent, HasTaken, IsSameRow, IsViewAt, sent_in, taken_in, weigh_sent, weigh_taken}
-use Rattle.box_rows.proofs.Changing.{get-map, one_of}
+use Rattle.box_rows.proofs.Changing.{one_of}
 use Rattle.box_rows.proofs.AllRows.{sent-views, taken-views}
 use Rattle.task_queues.specs.Books.{numbers_of, numbers_in, sent_first, sent_to, taken_first, taken_of, took}
 use Rattle.task_queues.specs.declared.pass.Mailbox.{Mailbox}

@@ -5,8 +5,8 @@ ghost use Rattle.box_rows.specs.Splitting.{IsPassAt, JoinsAt, SplitsAt, joined_v
 ghost use Rattle.task_queues.specs.Books.{cut_of, kept_of};
 ghost use Rattle.task_queues.specs.Passes.{view_of};
 
-use crate::mail::Mail;
 use crate::boxes::{Posts, Row};
+use crate::mail::Mail;
 use std::alloc::Global;
 use storm_values::Memory;
 use task_queues::Pass;
@@ -25,11 +25,7 @@ fn split_at(posts: &Posts<'_>, row: &mut Row, at: usize) -> Result<Pass<Mail>, M
 }
 
 /// A second row: each of its passes has the next number of its box. Without memory nothing is split.
-pub fn split_row(
-    alloc: Global,
-    posts: &Posts<'_>,
-    row: &mut Row,
-) -> Result<Row, Memory>
+pub fn split_row(alloc: Global, posts: &Posts<'_>, row: &mut Row) -> Result<Row, Memory>
     requires { ArePasses posts.now.plan.now posts.now.boxes.items row.old.items }
     ensures passes { ArePasses posts.now.plan.now posts.now.boxes.items row.new.items }
     ensures made { IfOk result (λ made.

@@ -34,7 +34,13 @@ pub fn note(alloc: Global, plan: &Plan, txid: u64) -> Result<Mail, Memory>
     plan.facts();
     let mut parcels = Parcels::new(alloc);
     let path = Path::new(alloc);
-    parcels.push(Parcel::ToAcker(0, AckMsg::Failed(FailNote { root: root(txid), path })))?;
+    parcels.push(Parcel::ToAcker(
+        0,
+        AckMsg::Failed(FailNote {
+            root: root(txid),
+            path,
+        }),
+    ))?;
     Ok(Mail::Run(parcels))
 }
 

@@ -5,7 +5,10 @@ ghost use Rattle.box_rows.specs.Mails.{last_box};
 ghost use Rattle.box_rows.specs.Rows.{ArePasses};
 
 use crate::mails::{id_of, note, plan, verdict};
-use box_rows::{Boxes, Posts, Row, join_row, join_rows, look_row, send_at, send_fit, split_row, split_rows, take_at, take_fit};
+use box_rows::{
+    Boxes, Posts, Row, join_row, join_rows, look_row, send_at, send_fit, split_row, split_rows,
+    take_at, take_fit,
+};
 use std::alloc::Global;
 use std::sync::Wait;
 use std::test::Fail;
@@ -18,7 +21,12 @@ fn are_whole(row: &Row, whole: bool) -> bool {
 
 // Splits a row for so many others and joins them again. Whether it was whole at first and at last, and
 // no row was whole between.
-fn is_whole_again(alloc: Global, posts: &Posts<'_>, row: &mut Row, others: usize) -> Result<bool, Memory>
+fn is_whole_again(
+    alloc: Global,
+    posts: &Posts<'_>,
+    row: &mut Row,
+    others: usize,
+) -> Result<bool, Memory>
     requires { ArePasses posts.now.plan.now posts.now.boxes.items row.old.items }
 {
     let at_first = are_whole(row, true);
@@ -48,7 +56,12 @@ fn taken<R: Wait>(rt: &R, posts: &Posts<'_>, row: &mut Row, at: usize) -> Option
 }
 
 // Sends two notes and a verdict under two rows, takes under both, joins the rows and takes the rest.
-fn is_as_sent<R: Wait>(rt: &R, alloc: Global, posts: &Posts<'_>, row: &mut Row) -> Result<bool, Memory>
+fn is_as_sent<R: Wait>(
+    rt: &R,
+    alloc: Global,
+    posts: &Posts<'_>,
+    row: &mut Row,
+) -> Result<bool, Memory>
     requires passes { ArePasses posts.now.plan.now posts.now.boxes.items row.old.items }
     requires boxes { length posts.now.boxes.items ≡ last_box posts.now.plan.now + 1 }
 {

@@ -1,7 +1,6 @@
-use Rattle.std.proofs.Common.{ap, rules, subst, sym}
+use Rattle.std.proofs.Common.{ap, rules}
 use Rattle.pass_numbers.specs.Numbers.{IsWhole}
 use Rattle.box_rows.specs.Mails.{IsTrueMail}
-use Rattle.box_rows.specs.Rows.{IsViewAt}
 use Rattle.box_rows.proofs.Changing.{at_view_set, pass_for, passes_change, row_same}
 use Rattle.task_queues.specs.Books.{numbers_of}
 use Rattle.task_queues.specs.Whole.{HoldsRest}

@@ -1,4 +1,3 @@
-use Rattle.std.proofs.Common.{rules}
 use Rattle.box_rows.proofs.Changing.{err_then, ok_then}
 use Rattle.box_rows.proofs.Fitting.{holds-sent, same-then, send-fits, sent-then, whole-at}
 use Rattle.box_rows.proofs.fit.send_fit.Goals as goal

@@ -1,4 +1,3 @@
-use Rattle.std.proofs.Common.{rules}
 use Rattle.box_rows.proofs.Changing.{none_then, some_then}
 use Rattle.box_rows.proofs.Fitting.{holds-taken, same-then, take-fits, taken-then, whole-at}
 use Rattle.box_rows.proofs.fit.take_fit.Goals as goal

@@ -1,6 +1,5 @@
-use Rattle.std.proofs.Common.{rules, ◌+◌, subst, ◌∙◌, ap, arith}
-use Rattle.box_rows.specs.FirstRow.{first_of}
-use Rattle.box_rows.proofs.Making.{Made, made-all, made-more, made-none}
+use Rattle.std.proofs.Common.{rules}
+use Rattle.box_rows.proofs.Making.{made-all, made-more, made-none}
 use Rattle.box_rows.proofs.boxes.Boxes.new.Goals as goal
 
 pub loop-owner-init : goal.loop-owner-init
