@@ -3,9 +3,10 @@ use Rattle.std.specs.Prelude.{◌≡◌, ◌<◌, ℕ, ◌+◌, List, [], ◌∷
 use Rattle.std.specs.List.{AllByRecursion}
 use Rattle.std.specs.declared.alloc.Global.{Global}
 use Rattle.counted_items.specs.Weights.{weigh}
+use Rattle.pass_numbers.specs.declared.Number.{Number}
 use Rattle.pass_numbers.specs.Numbers.{Numbered}
 use Rattle.box_rows.specs.declared.mail.Mail.{Mail}
-use Rattle.box_rows.specs.Rows.{ArePasses, sent_in, taken_in}
+use Rattle.box_rows.specs.Rows.{ArePasses, numbers_at, sent_in, taken_in}
 use Rattle.box_rows.specs.Splitting.{numbers_in_box}
 use Rattle.task_queues.specs.declared.pass.Mailbox.{Mailbox}
 use Rattle.task_queues.specs.declared.pass.Pass.{Pass}
@@ -26,6 +27,10 @@ views_in row = map view_of row.items
 -- a row and others have all numbers of each box, each once
 abbrev pub AreAll : ℕ → List (Pass Mail) → List Row → Type 0
 AreAll n row rows = Numbered (numbers_in_box n) (map view_of row ∷ map views_in rows)
+
+-- the numbers of rows, row by row and pass by pass
+abbrev pub numbers_by : List Row → List (List (List Number))
+numbers_by rows = map (λ (r : Row). map numbers_at r.items) rows
 
 -- what the books of rows weigh
 abbrev pub sent_by : List Row → (Packet → ℕ) → ℕ

@@ -6,8 +6,8 @@ ghost use Rattle.box_rows.specs.Rows.{ArePasses};
 
 use crate::mails::{id_of, note, plan, verdict};
 use box_rows::{
-    Boxes, Posts, Row, join_row, join_rows, send_at, send_fit, split_row, split_rows, take_at,
-    take_fit,
+    Boxes, Posts, Row, join_row, join_rows, look_row, one_row_is_whole, send_at, send_fit,
+    split_row, split_rows, take_at, take_fit,
 };
 use std::alloc::Global;
 use std::sync::Wait;
@@ -112,6 +112,8 @@ fn comes_last<R: Wait>(rt: &R, posts: &Posts<'_>, row: &mut Row) -> bool
     requires { IsFitRow posts.now.plan.now posts.now.boxes.items row.old.items }
 {
     let last = posts.boxes.len() - 1;
+    one_row_is_whole();
+    look_row(posts, row);
     let found = take_fit(rt, posts, row, last);
     let none = take_fit(rt, posts, row, 0).is_none();
     none & found.is_some_and(|mail| id_of(&mail) == 5)
