@@ -41,7 +41,8 @@ taken_by rows f = weigh (λ (r : Row). taken_in r.items f) rows
 
 -- A row was split for others: it has the books that it had, theirs are empty, and together they
 -- have its numbers.
-pub record HasSplit (t : Topology) (boxes : List (Mailbox Mail)) (old new : List (Pass Mail)) (rows : List Row) : Type 0 where
+pub record HasSplit (t : Topology) (boxes : List (Mailbox Mail)) (old new : List (Pass Mail))
+    (rows : List Row) : Type 0 where
   pub passes : AllByRecursion (ArePassesIn t boxes) rows
   pub sent : (f : Packet → ℕ) → sent_in new f ≡ sent_in old f
   pub taken : (f : Packet → ℕ) → taken_in new f ≡ taken_in old f
@@ -50,7 +51,8 @@ pub record HasSplit (t : Topology) (boxes : List (Mailbox Mail)) (old new : List
   pub numbers : (n : ℕ) → n < length boxes → AreAll n old [] → AreAll n new rows
 
 -- Rows were joined into one, up to the rest of them.
-pub record HasJoined (old : List (Pass Mail)) (rows : List Row) (new : List (Pass Mail)) (rest : List Row) : Type 0 where
+pub record HasJoined (old : List (Pass Mail)) (rows : List Row) (new : List (Pass Mail))
+    (rest : List Row) : Type 0 where
   pub sent : (f : Packet → ℕ) → sent_in new f + sent_by rest f ≡ sent_in old f + sent_by rows f
   pub taken : (f : Packet → ℕ) → taken_in new f + taken_by rest f ≡ taken_in old f + taken_by rows f
   pub numbers : (n : ℕ) → AreAll n old rows → AreAll n new rest

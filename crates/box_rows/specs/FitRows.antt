@@ -24,7 +24,8 @@ abbrev pub AreWhole : List (Pass Mail) → Type 0
 AreWhole row = AllByRecursion (λ (v : View Mail). IsWhole (numbers_of v)) (map view_of row)
 
 -- a pass to each box of the plan, and each with all numbers says what its box holds
-pub record IsFitRow (t : Topology) (boxes : List (Mailbox Mail)) (row : List (Pass Mail)) : Type 0 where
+pub record IsFitRow (t : Topology) (boxes : List (Mailbox Mail)) (row : List (Pass Mail))
+    : Type 0 where
   pub passes : ArePasses t boxes row
   pub boxes_are : length boxes ≡ last_box t + 1
   pub fit : AllByRecursion IsFitView (map view_of row)

@@ -23,7 +23,8 @@ pub record IsPassFor (t : Topology) (n : ℕ) (box : Mailbox Mail) (p : Pass Mai
   pub owner : (view_of p).owner ≡ n
 
 -- a pass to each box
-pub record ArePasses (t : Topology) (boxes : List (Mailbox Mail)) (row : List (Pass Mail)) : Type 0 where
+pub record ArePasses (t : Topology) (boxes : List (Mailbox Mail)) (row : List (Pass Mail))
+    : Type 0 where
   pub many : length row ≡ length boxes
   pub each : (n : ℕ) (box : Mailbox Mail) (p : Pass Mail) → slice_get boxes n ≡ Some box
       → slice_get row n ≡ Some p → IsPassFor t n box p

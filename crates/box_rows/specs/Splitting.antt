@@ -22,7 +22,8 @@ abbrev pub IsPassAt : Topology → List (Mailbox Mail) → ℕ → Pass Mail →
 IsPassAt t boxes n p = (box : Mailbox Mail) → slice_get boxes n ≡ Some box → IsPassFor t n box p
 
 -- one pass of a row was split
-pub record SplitsAt (t : Topology) (boxes : List (Mailbox Mail)) (n : ℕ) (old new : List (Pass Mail)) (made : Pass Mail) : Type 0 where
+pub record SplitsAt (t : Topology) (boxes : List (Mailbox Mail)) (n : ℕ)
+    (old new : List (Pass Mail)) (made : Pass Mail) : Type 0 where
   pub is_for : IsPassAt t boxes n made
   pub before : View Mail
   pub at : slice_get (map view_of old) n ≡ Some before

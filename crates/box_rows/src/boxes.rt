@@ -34,7 +34,8 @@ impl<'p> Boxes<'p> {
     /// Empty boxes, each for 256 messages, and the one pass to each. No later call makes a box.
     pub fn new(alloc: Global, plan: &'p Plan) -> Result<Boxes<'p>, Memory>
         ensures plan { IfOk result (λ made. made.posts.plan.now ≡ plan.now) }
-        ensures row { IfOk result (λ made. IsFitRow plan.now made.posts.boxes.items made.row.items) }
+        ensures row { IfOk result (λ made.
+            IsFitRow plan.now made.posts.boxes.items made.row.items) }
         ensures first { IfOk result (λ made. map view_of made.row.items ≡ first_views plan.now) }
     {
         plan.facts();

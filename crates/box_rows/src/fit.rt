@@ -1,10 +1,12 @@
 //! Steps of whoever has all numbers of the boxes, and so knows what they hold.
-ghost use Rattle.std.specs.Prelude.{◌≡◌, ◌<◌, ◌↔◌, ◌+◌, length, IsErr, IsNone, IfErr, IfSome, OnOk, OnErr};
+ghost use Rattle.std.specs.Prelude.{◌≡◌, ◌<◌, ◌↔◌, ◌+◌, length};
+ghost use Rattle.std.specs.Prelude.{IsErr, IsNone, IfErr, IfSome, OnOk, OnErr};
 ghost use Rattle.std.specs.Option.{IfNone};
 ghost use Rattle.task_queues.specs.declared.rule.View.{View};
 ghost use Rattle.box_rows.specs.FitRows.{AreWhole, HoldsMore, IsFitRow, TellsAt};
 ghost use Rattle.box_rows.specs.Mails.{IsTrueMail, last_box};
-ghost use Rattle.box_rows.specs.Rows.{ArePasses, HasSent, HasTaken, IsEmpty, IsFull, IsSameRow, IsViewAt};
+ghost use Rattle.box_rows.specs.Rows.{ArePasses, HasSent, HasTaken, IsSameRow, IsViewAt};
+ghost use Rattle.box_rows.specs.Rows.{IsEmpty, IsFull};
 
 use crate::boxes::{Posts, Row};
 use crate::mail::Mail;
@@ -61,7 +63,8 @@ pub fn take_fit<R: Wait>(rt: &R, posts: &Posts<'_>, row: &mut Row, at: usize) ->
     found
 }
 
-/// A row of passes with all numbers says what all boxes hold. It is no step of a box, and never waits.
+/// A row of passes with all numbers says what all boxes hold. It is no step of a box, and never
+/// waits.
 pub fn look_row(posts: &Posts<'_>, row: &mut Row)
     requires passes { ArePasses posts.now.plan.now posts.now.boxes.items row.old.items }
     requires boxes { length posts.now.boxes.items ≡ last_box posts.now.plan.now + 1 }

@@ -40,15 +40,16 @@ pub fn rows_keep_numbers()
         → Numbered (numbers_in_box n) (joined_views vs us ∷ others) }
 {}
 
-/// A law: rows that have all numbers, each once, have them as long as no pass of them changes its own.
+/// A law: rows that have all numbers, each once, have them as long as no pass of them changes its
+/// own.
 pub fn steps_keep_numbers()
     ensures { (n : ℕ) (old new : List (Pass Mail)) (olds news : List Row)
         → map numbers_at new ≡ map numbers_at old → numbers_by news ≡ numbers_by olds
         → AreAll n old olds → AreAll n new news }
 {}
 
-/// A law: a row of passes that each have all numbers of their box is all that there is, and where one
-/// row is left of all, its passes have all numbers. The passes of a fit row have.
+/// A law: a row of passes that each have all numbers of their box is all that there is, and where
+/// one row is left of all, its passes have all numbers. The passes of a fit row have them.
 pub fn one_row_is_whole()
     ensures first { (row : List (Pass Mail)) → AreWhole row
         → (n : ℕ) → n < length row → AreAll n row [] }

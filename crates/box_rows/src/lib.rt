@@ -1,5 +1,5 @@
-//! Boxes of mail for tasks, ackers and the coordinator, and rows of passes to all of them, which are
-//! split for workers and joined again.
+//! Boxes of mail for tasks, ackers and the coordinator, and rows of passes to all of them, which
+//! are split for workers and joined again.
 #![tactic(auto)]
 
 mod all_rows;

@@ -5,7 +5,8 @@ use acker_core::Verdict;
 use task_queues::Truth;
 use tree_model::Parcels;
 
-/// What lies in a box: a run of 1 to 64 parcels, all for this box, or a verdict for the coordinator.
+/// What lies in a box: a run of 1 to 64 parcels, all for this box, or a verdict for the
+/// coordinator.
 #[derive(Drop)]
 pub enum Mail {
     Run(Parcels),

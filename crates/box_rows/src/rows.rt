@@ -24,7 +24,8 @@ fn split_at(posts: &Posts<'_>, row: &mut Row, at: usize) -> Result<Pass<Mail>, M
     Ok(made)
 }
 
-/// A second row: each of its passes has the next number of its box. Without memory nothing is split.
+/// A second row: each of its passes has the next number of its box. Without memory nothing is
+/// split.
 pub fn split_row(alloc: Global, posts: &Posts<'_>, row: &mut Row) -> Result<Row, Memory>
     requires { ArePasses posts.now.plan.now posts.now.boxes.items row.old.items }
     ensures passes { ArePasses posts.now.plan.now posts.now.boxes.items row.new.items }

@@ -1,13 +1,14 @@
 //! One step at one box, under the row's pass to it.
-ghost use Rattle.std.specs.Prelude.{◌≡◌, ◌<◌, ◌↔◌, length, map, IsErr, IsNone, IfErr, IfSome, OnOk, OnErr};
+ghost use Rattle.std.specs.Prelude.{◌≡◌, ◌<◌, ◌↔◌, length, map};
+ghost use Rattle.std.specs.Prelude.{IsErr, IsNone, IfErr, IfSome, OnOk, OnErr};
 ghost use Rattle.std.specs.Option.{IfNone};
 ghost use Rattle.pass_numbers.specs.Numbers.{IsWhole};
 ghost use Rattle.task_queues.specs.Books.{numbers_of};
 ghost use Rattle.task_queues.specs.declared.rule.View.{View};
 ghost use Rattle.box_rows.specs.declared.mail.Mail.{Mail};
 ghost use Rattle.box_rows.specs.Mails.{IsTrueMail};
-ghost use Rattle.box_rows.specs.Rows.{ArePasses, HasSent, HasTaken, IsSameRow, IsViewAt, numbers_at};
-ghost use Rattle.box_rows.specs.Rows.{CouldBeEmpty, CouldBeFull, IsEmpty, IsFull};
+ghost use Rattle.box_rows.specs.Rows.{ArePasses, HasSent, HasTaken, IsSameRow, IsViewAt};
+ghost use Rattle.box_rows.specs.Rows.{CouldBeEmpty, CouldBeFull, IsEmpty, IsFull, numbers_at};
 
 use crate::boxes::{Posts, Row};
 use crate::mail::Mail;

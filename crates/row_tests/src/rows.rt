@@ -19,8 +19,8 @@ fn are_whole(row: &Row, whole: bool) -> bool {
     row.iter().all(|pass| pass.is_whole() == whole)
 }
 
-// Splits a row for so many others and joins them again. Whether it was whole at first and at last, and
-// no row was whole between.
+// Splits a row for so many others and joins them again. Whether it was whole at first and at last,
+// and no row was whole between.
 fn is_whole_again(
     alloc: Global,
     posts: &Posts<'_>,
@@ -56,7 +56,8 @@ fn taken<R: Wait>(rt: &R, posts: &Posts<'_>, row: &mut Row, at: usize) -> Option
     Some(id_of(&take_at(rt, posts, row, at)?))
 }
 
-// Sends two notes and a verdict under two rows, takes under both, joins the rows and takes the rest.
+// Sends two notes and a verdict under two rows, takes under both, joins the rows and takes the
+// rest.
 fn is_as_sent<R: Wait>(
     rt: &R,
     alloc: Global,
