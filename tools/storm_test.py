@@ -46,6 +46,7 @@ class Storm(unittest.TestCase):
             os.makedirs(f"{self.top}/crates/{name}/src")
             self.write(f"crates/{name}/src/main.rt", name)
         self.write("crates.txt", "# NAME: below\nlow:\nstorm may_wait=1: low\nother: low\n")
+        self.write("HANDLES", "Handles allowed: none.\n")
         shutil.copy(f"{TOP}/storm", self.top)
         shutil.copytree(f"{TOP}/tools", f"{self.top}/tools")
         with open(f"{self.room}/bin/rt", "w", encoding="utf-8") as file:
@@ -114,13 +115,23 @@ class Storm(unittest.TestCase):
         self.assert_runs("unproved", ["try"])
         ran, calls = self.call("--prove")
         self.assertEqual((ran.returncode, ran.stdout, calls), (0, "", ["all", "run"]))
-        for it in ["crate 1 of 3, low", "crate 2 of 3, storm"]:
+        for it in ["crate 1 of 2, low", "crate 2 of 2, storm"]:
             self.assertIn(it, ran.stderr)
         self.assert_runs("proved", [])
         shutil.rmtree(f"{self.top}/crates/storm/out")
         self.assert_runs("proved", [])
         self.write("crates/low/src/main.rt", "changed")
         self.assert_runs("unproved", ["try"])
+
+    def test_proves_what_is_there_now(self):
+        self.call("--prove")
+        self.assertEqual(sorted(os.listdir(f"{self.top}/out/proving/crates")), ["low", "storm"])
+        self.write("crates/storm/src/other.rt", "new")
+        os.remove(f"{self.top}/crates/storm/src/main.rt")
+        self.write("crates.txt", "storm may_wait=1:\nother:\n")
+        self.call("--prove")
+        self.assertEqual(os.listdir(f"{self.top}/out/proving/crates"), ["storm"])
+        self.assertEqual(os.listdir(f"{self.top}/out/proving/crates/storm/src"), ["other.rt"])
 
     def test_takes_the_gates_program(self):
         self.assert_runs("unproved", ["try"])
@@ -145,7 +156,8 @@ class Storm(unittest.TestCase):
             ran, _ = self.call(*words)
             self.assertEqual((ran.returncode, ran.stdout), (70, ""))
             self.assertIn(said, ran.stderr)
-            self.assertFalse(os.path.exists(f"{self.top}/out"))
+            for kind in ["proved", "unproved"]:
+                self.assertFalse(os.path.exists(f"{self.top}/out/{kind}"))
         os.remove(f"{self.room}/bin/rt")
         ran, _ = self.call("check", "T")
         self.assertEqual((ran.returncode, "not in PATH" in ran.stderr), (70, True))
