@@ -1,7 +1,7 @@
 -- The bytes of a cell, and the same read back.
-use Rattle.std.proofs.Common.{◌≡◌, ℕ, zero, suc, ◌+◌, ◌*◌, ◌/◌, ◌%◌, ◌^◌, ◌<◌, ◌≤◌, ℤ, Bool, false, List, [], ◌∷◌, ◌++◌, length, take, drop, fold, get_or, Option, None, Some, IfSome, is_some, SFits, refl, sym, ap, subst, ◌∙◌, append_assoc, append-nil, rules, arith, IsTrue, true≢false, length-append, length-drop}
+use Rattle.std.proofs.Common.{◌≡◌, ℕ, zero, suc, ◌+◌, ◌*◌, ◌/◌, ◌%◌, ◌^◌, ◌<◌, ℤ, Bool, false, List, [], ◌∷◌, ◌++◌, length, take, drop, fold, get_or, Option, None, Some, IfSome, is_some, SFits, refl, sym, ap, subst, ◌∙◌, append_assoc, append-nil, rules, arith, IsTrue, true≢false, length-append, length-drop}
 use Rattle.std.specs.Int.{w128, bytes_high_first, byte_at, cast_unsigned, cast_signed}
-use Rattle.std.proofs.Math.Nat.{pow-le-pow_right, pow-suc, div-div-eq-div-mul, div-add-mod, add-mul, mul_assoc}
+use Rattle.std.proofs.Math.Nat.{pow-suc, div-div-eq-div-mul, div-add-mod, add-mul, mul_assoc}
 use Rattle.std.proofs.Math.Seq.{take-append_seam, drop-append_seam, drop-append-add}
 use Rattle.std.proofs.Math.Facts.{Fits-of_z, to_z-of_z}
 use Rattle.std.proofs.lemmas.List.{take_all}

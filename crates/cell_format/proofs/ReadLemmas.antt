@@ -1,5 +1,5 @@
 -- Bytes that are read as numbers, and when they are the bytes of the cell that was read.
-use Rattle.std.proofs.Common.{◌≡◌, ℕ, zero, suc, ◌+◌, ◌*◌, ◌/◌, ◌%◌, ◌^◌, ◌<◌, ℤ, Bool, true, false, ◌&&◌, List, [], ◌∷◌, ◌++◌, length, take, drop, fold, get_or, replicate, Option, None, Some, is_some, refl, sym, ap, subst, ◌∙◌, rules, arith, Fits, length-take, length-drop}
+use Rattle.std.proofs.Common.{◌≡◌, ℕ, zero, suc, ◌+◌, ◌*◌, ◌/◌, ◌%◌, ◌^◌, ◌<◌, ℤ, Bool, true, false, ◌&&◌, List, [], ◌∷◌, ◌++◌, length, take, drop, fold, get_or, Option, None, Some, is_some, refl, sym, ap, subst, ◌∙◌, rules, arith, Fits, length-take, length-drop}
 use Rattle.std.specs.Int.{w8, w128, bytes_high_first, byte_at, cast_unsigned, cast_signed}
 use Rattle.std.proofs.Math.Nat.{pow-suc, div-div-eq-div-mul}
 use Rattle.std.proofs.lemmas.Int.{of_z-to_z}

@@ -94,8 +94,8 @@ pub fn decode_cell(bytes: &[u8]) -> Result<Cell, CellFault>
     }
 }
 
-/// Whether the bytes are those of the cell that was read from them. Its numbers were read from their
-/// places, so the flags are left to test, and the places of numbers that are not there.
+/// Whether the bytes are those of the cell that was read from them. Its numbers were read from
+/// their places, so the flags are left to test, and the places of numbers that are not there.
 fn has_bytes(cell: &Cell, bytes: &[u8]) -> bool
     requires length { length bytes.now ≡ 42 }
     requires version { slice_index_or bytes.now 0 0 ≡ 1 }

@@ -1,5 +1,5 @@
 -- What a message makes of a root's entry.
-use Rattle.std.proofs.Common.{◌≡◌, Bool, Option, Some, None, List, ap, ◌∙◌}
+use Rattle.std.proofs.Common.{◌≡◌, Bool, Option, Some, List, ap, ◌∙◌}
 use Rattle.storm_values.specs.declared.value.Root.{Root}
 use Rattle.rotating_ledger.specs.Held.{Held, value_of, settled}
 use Rattle.rotating_ledger.specs.Told.{merged, told, tells, state_with, met}
