@@ -1,7 +1,7 @@
 -- The bytes of a cell, and the same read back.
-use Rattle.std.proofs.Common.{◌≡◌, ℕ, zero, suc, ◌+◌, ◌*◌, ◌/◌, ◌%◌, ◌^◌, ◌<◌, ◌≤◌, ℤ, Bool, false, List, [], ◌∷◌, ◌++◌, length, take, drop, fold, get_or, Option, None, Some, IfSome, is_some, SFits, refl, sym, ap, subst, ◌∙◌, append_assoc, append-nil, rules, arith, IsTrue, true≢false, length-append, length-drop}
+use Rattle.std.proofs.Common.{◌≡◌, ℕ, zero, suc, ◌+◌, ◌*◌, ◌/◌, ◌%◌, ◌^◌, ◌<◌, ℤ, Bool, false, List, [], ◌∷◌, ◌++◌, length, take, drop, fold, get_or, Option, None, Some, IfSome, is_some, SFits, refl, sym, ap, subst, ◌∙◌, append_assoc, append-nil, rules, arith, IsTrue, true≢false, length-append, length-drop}
 use Rattle.std.specs.Int.{w128, bytes_high_first, byte_at, cast_unsigned, cast_signed}
-use Rattle.std.proofs.Math.Nat.{pow-le-pow_right, pow-suc, div-div-eq-div-mul, div-add-mod, add-mul, mul_assoc}
+use Rattle.std.proofs.Math.Nat.{pow-suc, div-div-eq-div-mul, div-add-mod, add-mul, mul_assoc}
 use Rattle.std.proofs.Math.Seq.{take-append_seam, drop-append_seam, drop-append-add}
 use Rattle.std.proofs.Math.Facts.{Fits-of_z, to_z-of_z}
 use Rattle.std.proofs.lemmas.List.{take_all}
@@ -9,11 +9,6 @@ use Rattle.topology_plan.specs.declared.parts.Kind.{Kind}
 use Rattle.topology_plan.specs.declared.parts.Kind.TheVariants.{Transactional, Opaque}
 use Rattle.cell_format.specs.declared.cell.Cell.{Cell}
 use Rattle.cell_format.specs.Layout.{IsCell, IsWhole, bytes_of, flags_of, flag_if, has_flag, kind_flag, kind_if, number_bytes, number_if, number_of, read_of, txid_bytes}
-
-pub room : (n i len : ℕ) → n < 256 ^ i → i < len → len ≤ 16 → n * 256 + 255 < 2 ^ 128
-room n i len small within most =
-    let bound : 256 ^ i ≤ 256 ^ 15 = pow-le-pow_right {n = 256} (omega arith) {i = i} {j = 15} (omega arith) in
-    omega arith
 
 -- a piece behind what is laid already
 pub place_next : (front piece rest : List ℕ) → take (length front) (front ++ rest) ++ (piece ++ drop (length front + length piece) (front ++ rest)) ≡ (front ++ piece) ++ drop (length piece) rest
@@ -48,7 +43,7 @@ laid version flags a b d rest la lb ld lrest one two three is_one is_two is_thre
     nothing [] is = refl
     nothing (x ∷ xs) is = absurd (omega arith)
 
-byte_is : (k n : ℕ) → byte_at k n ≡ n / 256 ^ k % 256
+pub byte_is : (k n : ℕ) → byte_at k n ≡ n / 256 ^ k % 256
 byte_is zero n = omega arith
 byte_is (suc k) n = refl
 
@@ -111,17 +106,21 @@ take_front xs ys n is = ap (λ (m : ℕ). take m (xs ++ ys)) (sym is) ∙ take-a
 drop_front : (xs ys : List ℕ) (n : ℕ) → length xs ≡ n → drop n (xs ++ ys) ≡ ys
 drop_front xs ys n is = ap (λ (m : ℕ). drop m (xs ++ ys)) (sym is) ∙ drop-append_seam xs ys
 
+-- the pieces at their places
+pub pieces : (a b d : List ℕ) → length a ≡ 8 → length b ≡ 16 → length d ≡ 16
+    → (take 8 (a ++ (b ++ d)) ≡ a) × (take 16 (drop 8 (a ++ (b ++ d))) ≡ b) × (take 16 (drop 24 (a ++ (b ++ d))) ≡ d)
+pieces a b d la lb ld =
+    let both : length (a ++ b) ≡ 24 = omega (arith, length-append a b, la, lb) in (
+      take_front a (b ++ d) 8 la,
+      ap (take 16) (drop_front a (b ++ d) 8 la) ∙ take_front b d 16 lb,
+      ap (λ (xs : List ℕ). take 16 (drop 24 xs)) (sym (append_assoc a b d)) ∙ ap (take 16) (drop_front (a ++ b) d 24 both) ∙ take_all 16 d (omega (arith, ld)),
+    )
+
 -- what stands at each place
 places : (flags : ℕ) (a b d : List ℕ) → length a ≡ 8 → length b ≡ 16 → length d ≡ 16
     → read_of (1 ∷ flags ∷ (a ++ (b ++ d))) ≡ record { txid = number_of a; value = number_if (has_flag flags 1) b; prev = number_if (has_flag flags 2) d; kind = kind_if (has_flag flags 4) }
 unfolding read_of
-places flags a b d la lb ld =
-    let first : take 8 (a ++ (b ++ d)) ≡ a = take_front a (b ++ d) 8 la in
-    let second : take 16 (drop 8 (a ++ (b ++ d))) ≡ b = ap (take 16) (drop_front a (b ++ d) 8 la) ∙ take_front b d 16 lb in
-    let both : length (a ++ b) ≡ 24 = omega (arith, length-append a b, la, lb) in
-    let third : take 16 (drop 24 (a ++ (b ++ d))) ≡ d =
-    ap (λ (xs : List ℕ). take 16 (drop 24 xs)) (sym (append_assoc a b d)) ∙ ap (take 16) (drop_front (a ++ b) d 24 both) ∙ take_all 16 d (omega (arith, ld)) in
-    rw (first, second, third) refl
+places flags a b d la lb ld = let at = pieces a b d la lb ld in rw (at.0, at.1, at.2) refl
 
 flags_tell : (value prev : Option ℤ) (kind : Kind) → (has_flag (flag_if (is_some value) 1 + flag_if (is_some prev) 2 + kind_flag kind) 1 ≡ is_some value)
     × (has_flag (flag_if (is_some value) 1 + flag_if (is_some prev) 2 + kind_flag kind) 2 ≡ is_some prev)

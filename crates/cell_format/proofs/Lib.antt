@@ -1,3 +1,4 @@
 pub mod LayoutLemmas
+mod ReadLemmas
 pub mod CommitLemmas
 mod ChangeLemmas

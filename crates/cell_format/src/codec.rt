@@ -1,4 +1,4 @@
-ghost use Rattle.std.specs.Prelude.{◌≡◌, ◌≢◌, ◌≤◌, ◌<◌, ◌+◌, ◌^◌, ◌↔◌, ◌++◌, ℕ, List, length, take, drop, slice_index_or, Ok, IsTrue, IfOk, IsErrOf};
+ghost use Rattle.std.specs.Prelude.{◌≡◌, ◌≢◌, ◌≤◌, ◌<◌, ◌+◌, ◌^◌, ◌↔◌, ◌++◌, ℕ, List, length, take, drop, slice_index_or, is_some, Ok, IsTrue, IfOk, IsErrOf};
 ghost use Rattle.cell_format.specs.Layout.{IsCell, IsWhole, bytes_of, flags_of, has_flag, kind_if, number_bytes, number_if, number_of, read_of, txid_bytes};
 ghost use Rattle.cell_format.specs.declared.cell.Cell.{Cell};
 
@@ -94,12 +94,32 @@ pub fn decode_cell(bytes: &[u8]) -> Result<Cell, CellFault>
     }
 }
 
-/// Whether these are the bytes of the cell.
+/// Whether the bytes are those of the cell that was read from them. Its numbers were read from
+/// their places, so the flags are left to test, and the places of numbers that are not there.
 fn has_bytes(cell: &Cell, bytes: &[u8]) -> bool
+    requires length { length bytes.now ≡ 42 }
+    requires version { slice_index_or bytes.now 0 0 ≡ 1 }
+    requires read { cell.now ≡ read_of bytes.now }
     ensures { IsTrue result
         ↔ (IsWhole cell.now.kind cell.now.value cell.now.prev × (bytes.now ≡ bytes_of cell.now)) }
 {
-    is_whole(cell) && encode_cell(cell).as_slice() == bytes
+    let is_whole = is_whole(cell);
+    let has_flags = bytes[1] == flags(cell);
+    let has_value = has_number(cell.value, &bytes[10..26]);
+    let has_prev = has_number(cell.prev, &bytes[26..42]);
+    is_whole & has_flags & has_value & has_prev
+}
+
+/// Whether the bytes are those of the number that was read from them: all 0 where there is none.
+fn has_number(number: Option<i128>, bytes: &[u8]) -> bool
+    requires length { length bytes.now ≡ 16 }
+    requires read { number ≡ number_if (is_some number) bytes.now }
+    ensures { IsTrue result ↔ (bytes.now ≡ number_bytes number) }
+{
+    match number {
+        Some(_) => true,
+        None => read_number(bytes) == 0,
+    }
 }
 
 fn is_whole(cell: &Cell) -> bool
@@ -118,7 +138,7 @@ fn read_cell(bytes: &[u8]) -> Cell
 {
     let flags = bytes[1];
     Cell {
-        txid: read_number(&bytes[2..10]) as u64,
+        txid: read_txid(&bytes[2..10]),
         value: read_if(flags & VALUE != 0, &bytes[10..26]),
         prev: read_if(flags & PREV != 0, &bytes[26..42]),
         kind: read_kind(flags & OPAQUE != 0),
@@ -146,15 +166,22 @@ fn read_if(is_there: bool, bytes: &[u8]) -> Option<i128>
     }
 }
 
-/// The number whose bytes these are, the highest first.
-fn read_number(bytes: &[u8]) -> u128
-    requires { length bytes.now ≤ 16 }
-    ensures number { result ≡ number_of bytes.now }
-    ensures small { result < 256 ^ length bytes.now }
+/// The number whose 8 bytes these are, the highest first.
+fn read_txid(bytes: &[u8]) -> u64
+    requires { length bytes.now ≡ 8 }
+    ensures { result ≡ number_of bytes.now }
 {
-    let mut number = 0;
-    for byte in bytes {
-        number = number * 256 + u128::from(*byte);
-    }
-    number
+    let mut word = [0; 8];
+    word.copy_from_slice(bytes);
+    u64::from_be_bytes(word)
+}
+
+/// The number whose 16 bytes these are, the highest first.
+fn read_number(bytes: &[u8]) -> u128
+    requires { length bytes.now ≡ 16 }
+    ensures { result ≡ number_of bytes.now }
+{
+    let mut word = [0; 16];
+    word.copy_from_slice(bytes);
+    u128::from_be_bytes(word)
 }

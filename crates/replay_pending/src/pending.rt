@@ -77,8 +77,8 @@ impl Pending {
         }
     }
 
-    /// A root stays pending and is no longer timed. It answers whether the root was timed, and takes
-    /// no memory.
+    /// A root stays pending and is no longer timed. It answers whether the root was timed, and
+    /// takes no memory.
     pub fn settle(&mut self, root: Root) -> bool
         ensures timed { result ≡ is_timed root self.old.pending }
         ensures settled { self.new

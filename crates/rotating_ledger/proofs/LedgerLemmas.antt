@@ -1,5 +1,5 @@
 -- What a message makes of a root's entry.
-use Rattle.std.proofs.Common.{◌≡◌, Bool, Option, Some, None, List, ap, ◌∙◌}
+use Rattle.std.proofs.Common.{◌≡◌, Bool, Option, Some, List, ap, ◌∙◌}
 use Rattle.storm_values.specs.declared.value.Root.{Root}
 use Rattle.rotating_ledger.specs.Held.{Held, value_of, settled}
 use Rattle.rotating_ledger.specs.Told.{merged, told, tells, state_with, met}
@@ -13,7 +13,3 @@ pub met-present : (root : Root) (message state : AckState) (held : List (Held Ac
     → tells (told (merged state message)) ≡ b → met root message held ≡ settled root (Some state) (merged state message) held b
 met-present root message state held b is tells_is =
     met_by root message held (Some state) is ∙ ap (settled root (Some state) (merged state message) held) tells_is
-
-pub met-absent : (root : Root) (message : AckState) (held : List (Held AckState)) → value_of root held ≡ None
-    → met root message held ≡ settled root None message held (tells (told message))
-met-absent root message held is = met_by root message held None is

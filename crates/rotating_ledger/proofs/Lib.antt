@@ -5,6 +5,7 @@ pub mod HeldLemmas
 pub mod OtherLemmas
 pub mod OnceLemmas
 pub mod EntryLemmas
+pub mod PlaceLemmas
 pub mod YoungLemmas
 pub mod ResultLemmas
 pub mod LedgerLemmas

@@ -19,7 +19,7 @@ module _ {V : Type 0} where
       cases true is = absurd (some_none (sym (value-first root h hs is) ∙ none))
       cases false is = refl
 
-  absent-tail : (root : Root) (h : Held V) (hs : List (Held V)) → value_of root (h ∷ hs) ≡ None → value_of root hs ≡ None
+  pub absent-tail : (root : Root) (h : Held V) (hs : List (Held V)) → value_of root (h ∷ hs) ≡ None → value_of root hs ≡ None
   absent-tail root h hs none = sym (value-later root h hs (absent-head root h hs none)) ∙ none
 
   absent-cons : (root : Root) (h : Held V) (hs : List (Held V)) → root_eq root h.root ≡ false → value_of root hs ≡ None → value_of root (h ∷ hs) ≡ None

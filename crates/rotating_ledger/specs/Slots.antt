@@ -60,6 +60,11 @@ module _ {V : Type 0} where
     pub there : (root : Root) (i : ℕ) → slot_at places root ≡ Some i
         → (value : V) × (slice_get slots i ≡ Some (Full root value))
 
+  -- this slot of a bucket has the value of the root
+  abbrev pub HasAt : Bucket V → ℕ → Root → Type 0
+  HasAt bucket slot root =
+      (value : V) × (slice_get bucket.slots.items slot ≡ Some (Full root value))
+
   -- without some empty slots at the end
   pub record Trims (old new : List (Slot V)) : Type 0 where
     pub rest : List (Slot V)

@@ -1,5 +1,5 @@
-ghost use Rattle.std.specs.Prelude.{◌≡◌, ◌∷◌, ◌++◌, [], None, Some, slice_get, slice_set, OnOk, OnErr, IfErr};
-ghost use Rattle.rotating_ledger.specs.Slots.{slot_at, AreFound, Trims};
+ghost use Rattle.std.specs.Prelude.{◌≡◌, ◌∷◌, ◌++◌, [], None, Some, slice_get, slice_set, OnOk, OnErr, IfErr, IsTrue};
+ghost use Rattle.rotating_ledger.specs.Slots.{slot_at, AreFound, HasAt, Trims};
 
 use crate::key::Key;
 use crate::slot::Slot;
@@ -45,6 +45,16 @@ impl<V: Drop> Bucket<V> {
             attempt: root.attempt,
         };
         self.places.get(&key).copied()
+    }
+
+    /// Whether a slot has the value of a root.
+    pub fn has_at(&self, slot: usize, root: Root) -> bool
+        ensures { IsTrue result → HasAt self.now slot root }
+    {
+        match self.slots.get(slot) {
+            Some(Slot::Full(held, _)) => *held == root,
+            _ => false,
+        }
     }
 
     /// Puts a value at the end. The value comes back for want of memory alone.

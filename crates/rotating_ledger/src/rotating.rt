@@ -1,7 +1,8 @@
-ghost use Rattle.std.specs.Prelude.{◌≡◌, ◌∷◌, ◌++◌, ◌+◌, ◌≤◌, ◌<◌, ℕ, [], Option, None, Some, length, slice_get, slice_set, IfOk, OnOk, OnErr, IfErr};
+ghost use Rattle.std.specs.Prelude.{◌≡◌, ◌∷◌, ◌++◌, ◌+◌, ◌≤◌, ◌<◌, ℕ, [], Option, None, Some, length, slice_get, slice_set, IfOk, OnOk, OnErr, IfErr, IsTrue};
 ghost use Rattle.std.specs.Option.{option_copied_mut};
 ghost use Rattle.rotating_ledger.specs.Held.{AreHeldOnce, AreYoung, Held, held_at, value_of, without, rotated, dropped};
-ghost use Rattle.rotating_ledger.specs.Slots.{held_of, place_from, AllFound};
+ghost use Rattle.rotating_ledger.specs.Slots.{held_of, place_from, AllFound, HasAt};
+ghost use Rattle.rotating_ledger.specs.declared.bucket.Bucket.{Bucket};
 
 use crate::bucket::Bucket;
 use crate::dropped::Dropped;
@@ -13,11 +14,13 @@ use storm_values::{Memory, Root};
 /// Values of roots in buckets, after Storm's `RotatingMap`. A rotation drops the oldest bucket and
 /// adds an empty one, so a value goes at the rotation that has the number of buckets since it was
 /// put. A root is found by one look-up in each bucket that is not empty, whatever number of roots
-/// is held.
+/// is held, and with none where it is the root that was found last.
 #[derive(Debug, Drop)]
 pub struct Rotating<V> {
     // the oldest first
     buckets: Vec<Bucket<V>>,
+    // the bucket and the slot of the root that was found last: where to look first
+    last: (usize, usize),
 }
 
 impl<V> Model for Rotating<V> {
@@ -40,8 +43,35 @@ impl<V> Model for Rotating<V> {
         × AreHeldOnce (held_of r.buckets.items) };
 }
 
+// The bucket that has a root, and its slot there. It is looked for at one place first.
+fn place_of<V: Drop>(
+    buckets: &[Bucket<V>],
+    first: (usize, usize),
+    root: Root,
+) -> Option<(usize, usize)>
+    requires found { AllFound buckets.now }
+    requires once { AreHeldOnce (held_of buckets.now) }
+    ensures { result ≡ place_from 0 root buckets.now }
+{
+    if is_at(buckets, first, root) {
+        return Some(first);
+    }
+    find_place(buckets, root)
+}
+
+// Whether a root lies in this bucket and slot.
+fn is_at<V: Drop>(buckets: &[Bucket<V>], place: (usize, usize), root: Root) -> bool
+    ensures { IsTrue result → (bucket : Bucket V)
+        × (slice_get buckets.now place.0 ≡ Some bucket) × HasAt bucket place.1 root }
+{
+    match buckets.get(place.0) {
+        Some(bucket) => bucket.has_at(place.1, root),
+        None => false,
+    }
+}
+
 // The first bucket that has a root, and its slot there.
-fn place_of<V: Drop>(buckets: &[Bucket<V>], root: Root) -> Option<(usize, usize)>
+fn find_place<V: Drop>(buckets: &[Bucket<V>], root: Root) -> Option<(usize, usize)>
     ensures { result ≡ place_from 0 root buckets.now }
 {
     for (i, bucket) in buckets.iter().enumerate() {
@@ -66,7 +96,10 @@ impl<V: Drop> Rotating<V> {
         for _count in 0..buckets {
             made.push(Bucket::new(alloc))?;
         }
-        Ok(Rotating { buckets: made })
+        Ok(Rotating {
+            buckets: made,
+            last: (0, 0),
+        })
     }
 
     /// Puts a value into the newest bucket. It comes back for want of memory alone.
@@ -87,8 +120,9 @@ impl<V: Drop> Rotating<V> {
         ensures* lends { sem 𝓛 (lends_value V.row self.entry root result) }
         ensures value { option_copied_mut result ≡ value_of root self.old.held }
     {
-        match place_of(&self.buckets, root) {
+        match place_of(&self.buckets, self.last, root) {
             Some((place, slot)) => {
+                self.last = (place, slot);
                 let bucket = &mut self.buckets[place];
                 Some(bucket.value_mut(slot))
             }
@@ -102,7 +136,7 @@ impl<V: Drop> Rotating<V> {
         ensures others { self.new ≡ record self.old { held = without root self.old.held } }
         ensures gone { value_of root self.new.held ≡ None }
     {
-        match place_of(&self.buckets, root) {
+        match place_of(&self.buckets, self.last, root) {
             Some((place, slot)) => {
                 let bucket = &mut self.buckets[place];
                 Some(bucket.take_at(root, slot))

@@ -94,9 +94,6 @@ SameParts-push ss new empty unmade = record {
     made_same None true = unmade
     made_same None false = refl
 
-pub SameParts-same : (ss : List Slot) → SameParts ss ss
-SameParts-same ss = record { stores = λ c p. refl; made = λ c p. refl }
-
 pub ChangesPart-after : (a b d : List Slot) (c p : ℕ) (store : StoreState) (made : Bool) → SameParts a b → ChangesPart b d c p store made → ChangesPart a d c p store made
 ChangesPart-after a b d c p store made same changes = record {
   store_is = changes.store_is;

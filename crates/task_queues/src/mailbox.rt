@@ -45,8 +45,8 @@ impl<M: Truth + Drop> Mailbox<M> {
     }
 
     /// Puts a message at the end of the box, and notes it. The message comes back only if the box
-    /// was full at a moment of this call, which the contract shows of a pass with all numbers alone.
-    /// It may wait for a step of another thread.
+    /// was full at a moment of this call, which the contract shows of a pass with all numbers
+    /// alone. It may wait for a step of another thread.
     pub fn send<R: Wait>(&self, rt: &R, pass: &mut Pass<M>, m: M) -> Result<(), M>
         requires pass { IsPassOf self.now pass.old }
         requires is_true { M.is_true (view_of pass.old).plan (view_of pass.old).owner m }
@@ -89,8 +89,8 @@ impl<M: Truth + Drop> Mailbox<M> {
         self.queue.pop_as::<Takes<M>, R>(rt, &mut pass.inner)
     }
 
-    /// A second pass, with the next number and some of the share. It takes no memory today. Where the
-    /// share is below 2 it is lost: no pass is told to be whole by `is_whole` after that.
+    /// A second pass, with the next number and some of the share. It takes no memory today. Where
+    /// the share is below 2 it is lost: no pass is told to be whole by `is_whole` after that.
     pub fn split(&self, pass: &mut Pass<M>) -> Result<Pass<M>, Memory>
         requires { IsPassOf self.now pass.old }
         ensures ok { IsOk result }
@@ -133,8 +133,8 @@ impl<M: Truth + Drop> Mailbox<M> {
         into.share += share;
     }
 
-    /// What a pass with all numbers knows of its box: what was sent was taken or is held, and what is
-    /// held is true. It is no step of the box, and never waits.
+    /// What a pass with all numbers knows of its box: what was sent was taken or is held, and what
+    /// is held is true. It is no step of the box, and never waits.
     pub fn look(&self, pass: &mut Pass<M>)
         requires { IsPassOf self.now pass.old }
         ensures pass { IsPassOf self.now pass.new }
@@ -162,8 +162,8 @@ impl<M: Truth + Drop> Mailbox<M> {
 }
 
 impl<M> Pass<M> {
-    /// Whether this pass has all of the share that the first one had. It has all numbers then, so that
-    /// it may be used as a whole one where no contract says that it is.
+    /// Whether this pass has all of the share that the first one had. It has all numbers then, so
+    /// that it may be used as a whole one where no contract says that it is.
     pub fn is_whole(&self) -> bool
         ensures share { result ≡ ((view_of self.now).share == all_shares) }
         ensures whole { IsTrue result → IsWhole (numbers_of (view_of self.now)) }

@@ -21,8 +21,8 @@ pub struct Mailbox<M: Truth + Drop> {
     ghost no_message: { vec_len room ≡ 0 },
 }
 
-/// The right to use a box, with what it knows: the plan, the owner, the capacity, its share, and the
-/// books of what it sent and took. At run time it is its share, two bytes.
+/// The right to use a box, with what it knows: the plan, the owner, the capacity, its share, and
+/// the books of what it sent and took. At run time it is its share, two bytes.
 #[derive(Drop)]
 pub struct Pass<M> {
     pub(crate) inner: crossbeam_queue::Pass<M, View<M>>,
