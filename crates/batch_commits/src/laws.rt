@@ -70,8 +70,9 @@ pub fn parts_that_stand_have_the_tables<C: CellStore>()
     batches_in_order_are_all_records();
 }
 
-/// A law: a cell that no part takes, or one at a key that is no text, was there at that key before a
-/// commit of writes whose keys are texts; and a fault that tells of a bad cell tells of such a one.
+/// A law: a cell that no part takes, or one at a key that is no text, was there at that key before
+/// a commit of writes whose keys are texts; and a fault that tells of a bad cell tells of such a
+/// one.
 pub fn strange_cells_were_there<C: CellStore>()
     ensures commit { (txid : ℕ) (made : List Write) (old new : List (StatePart C)) (key : List ℕ)
         → All HasTextKey made → ArePerhapsCommitted C.tells txid made old new

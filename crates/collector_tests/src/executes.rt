@@ -13,8 +13,8 @@ use topology_plan::{Origin, Plan};
 use tree_model::{AckMsg, Done, Draw, Edge, FailNote, Parcel, Parcels, Tuple, Write};
 
 // Components 0 to 2 are bolts behind the spout with a task each: `split`, one that fails and one
-// that stays mute at the first attempt. Component 3 is a state with the tasks 3 and 4, and component
-// 4, which is behind the spout too, one with the task 5.
+// that stays mute at the first attempt. Component 3 is a state with the tasks 3 and 4, and
+// component 4, which is behind the spout too, one with the task 5.
 const TASKS: &str = r#"{"version":1,
  "spout":{"name":"lines","kind":"transactional","fields":["line"],"batch":2},
  "bolts":[

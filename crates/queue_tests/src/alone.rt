@@ -43,7 +43,8 @@ fn what_is_left_stands_in_order(rt: HostRuntime) -> Result<(), Fail> {
     Ok(())
 }
 
-// Splits a third pass from the second, sends under it, and takes under the second. Whether the message came.
+// Splits a third pass from the second, sends under it, and takes under the second. Whether the
+// message came.
 fn use_third<R: Wait>(
     rt: &R,
     mailbox: &Mailbox<Message>,
@@ -60,7 +61,8 @@ fn use_third<R: Wait>(
     Ok(sent & came)
 }
 
-// Splits a second pass from the first, uses a third of it, and sends under both. Whether all went well.
+// Splits a second pass from the first, uses a third of it, and sends under both. Whether all went
+// well.
 fn use_second<R: Wait>(
     rt: &R,
     mailbox: &Mailbox<Message>,

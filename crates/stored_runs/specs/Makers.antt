@@ -15,8 +15,8 @@ use Rattle.tree_model.specs.declared.write.Write.{Write}
 use Rattle.trident_batches.specs.Batches.{Cut}
 use Rattle.std.specs.Prelude.{filter}
 
--- A store, as it stood at some moment, told these cells and had failed so often. Only the calls of a
--- store make a store, so there is none that no run of such calls leads to.
+-- A store, as it stood at some moment, told these cells and had failed so often. Only the calls of
+-- a store make a store, so there is none that no run of such calls leads to.
 pub record StoreStood {S : Type 0} (tells : S → CellMap → Type 0) (count : S → ℕ) (cells : CellMap)
     (failed : ℕ) : Type 0 where
   pub store : S
@@ -55,8 +55,8 @@ abbrev pub BeganEmpty : Topology → MakerUse → Type 0
 BeganEmpty t maker =
     All (λ (part : PartPlan). maker.held part.component part.part []) (planned_parts t)
 
--- One of the parts had at this key a cell that no part of its kind takes, or a cell where the key is
--- no text, as far as the maker told its cells.
+-- One of the parts had at this key a cell that no part of its kind takes, or a cell where the key
+-- is no text, as far as the maker told its cells.
 pub record HadStrangeAt (t : Topology) (maker : MakerUse) (key : List ℕ) : Type 0 where
   pub place : ℕ
   pub part : PartPlan
@@ -114,9 +114,9 @@ CountsOf t fates counts =
     (λ (part : PartPlan) (count : ℕ). CountsRun part.component part.part 0 fates count)
     (planned_parts t) counts
 
--- What stores failed is what these fates tell: the store of each part had the counts that they tell,
--- and stood still between them. The maker's count rose by the counts of all stores, and so by one at
--- least for each failed commit.
+-- What stores failed is what these fates tell: the store of each part had the counts that they
+-- tell, and stood still between them. The maker's count rose by the counts of all stores, and so by
+-- one at least for each failed commit.
 pub record FaultsAreCounted (t : Topology) (maker : MakerUse) (fates : List Attempt) : Type 0 where
   pub counts : List ℕ
   pub each : CountsOf t fates counts
@@ -140,8 +140,8 @@ pub record ReadingFailed (t : Topology) (maker : MakerUse) (fates : List Attempt
   pub by_counts : maker.faults_after ≡ raised_by maker.faults_before (sum counts + 1)
   pub by_failures : RoseBySum (failed_commits fates + 1) maker.faults_before maker.faults_after
 
--- The same up to a commit that a bad cell broke off, in which each store may have failed once, as no
--- fate tells.
+-- The same up to a commit that a bad cell broke off, in which each store may have failed once, as
+-- no fate tells.
 pub record FaultsBeforeBadCell (t : Topology) (maker : MakerUse) (fates : List Attempt) : Type 0 where
   pub counts : List ℕ
   pub each : CountsOf t fates counts

@@ -18,8 +18,8 @@ module _ {M : Type 0} where
     pub queue : p.inner.table_id ≡ box.queue.table.shared.table_id
     pub capacity : (view_of p).capacity ≡ ruled_capacity box.queue
 
-  -- Under the rule a box could hold so many messages while the pass knew this. That it was this box,
-  -- at a moment of the call, is not said: where the pass has not all numbers, others may have sent
-  -- and taken what they like.
+  -- Under the rule a box could hold so many messages while the pass knew this. That it was this
+  -- box, at a moment of the call, is not said: where the pass has not all numbers, others may have
+  -- sent and taken what they like.
   abbrev pub HeldAt : (Topology → ℕ → M → Type 0) → Pass M → ℕ → Type 0
   HeldAt is_true p count = Held count (Stood is_true (view_of p))

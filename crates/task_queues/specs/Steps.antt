@@ -18,9 +18,9 @@ module _ {M : Type 0} where
       (w ≡ sent_to v x)
       × (IsWhole (numbers_of v) → length (sent_of v.books) < length (taken_of v.books) + v.capacity)
 
-  -- This stamp stood first in the box, under the rule: it was sent, and it had not been taken. It is
-  -- above what the pass took of its number. A pass with all numbers knows that with the rest it is
-  -- all that was not taken.
+  -- This stamp stood first in the box, under the rule: it was sent, and it had not been taken. It
+  -- is above what the pass took of its number. A pass with all numbers knows that with the rest it
+  -- is all that was not taken.
   pub record IsNext (is_true : Topology → ℕ → M → Type 0) (v : View M) (s : Stamped M) : Type 0 where
     pub items : List M
     pub stood : Stood is_true v items

@@ -37,7 +37,8 @@ module _ {M : Type 0} where
     pub arrives : Coded M → HasOneTaker books → Arrives books (taken_of books ++ held)
 
   -- These stamps are what the box holds: with what was taken they are all that was sent, each once.
-  -- They are true and no more than the capacity, and of each number they rise, above what was taken.
+  -- They are true and no more than the capacity, and of each number they rise, above what was
+  -- taken.
   pub record HoldsRest (is_true : Topology → ℕ → M → Type 0) (v : View M) : Type 0 where
     pub held : List (Stamped M)
     pub all : Same (sent_of v.books) (taken_of v.books ++ held)

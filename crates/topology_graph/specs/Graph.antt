@@ -1,5 +1,5 @@
--- A graph of components, each with its subscriptions, what a component has by what its sources have,
--- and depths and weights by that. This project's own.
+-- A graph of components, each with its subscriptions, what a component has by what its sources
+-- have, and depths and weights by that. This project's own.
 use Rattle.std.specs.Prelude.{◌≡◌, ℕ, zero, suc, ◌+◌, ◌*◌, ◌<◌, ◌==◌, List, [], map, filter, min, length, Option, Some, None, true, is_some, unwrap_or, slice_get, slice_index, slice_index_or}
 use Rattle.std.specs.List.{range_with_len, flat_map}
 use Rattle.topology_plan.specs.declared.parts.Origin.{Origin}

@@ -1,4 +1,5 @@
-//! Tests of what topology files mean: names, sources, cycles, fields, replays and sizes, and the order of all faults.
+//! Tests of what topology files mean: names, sources, cycles, fields, replays and sizes, and the
+//! order of all faults.
 #![tactic(auto)]
 
 #[cfg(test)]

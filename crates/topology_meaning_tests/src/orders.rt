@@ -1,5 +1,5 @@
-// Files with two faults: the one that stands first in the order of the checks is told. A line of a table of pairs has
-// two changes of the valid file, each with what is printed of its fault.
+// Files with two faults: the one that stands first in the order of the checks is told. A line of a
+// table of pairs has two changes of the valid file, each with what is printed of its fault.
 use test_kit::Mismatch;
 use topology_test_kit::{check_changes, check_operations, check_pairs};
 
@@ -55,7 +55,8 @@ const WALK_FROM_STATES: &str = r#"
 "version":1 | "version":1,"z":0 | unknown "z" | "name":"p" | "name":"s" | "s" twice
 "#;
 
-// Operations of the first bolt with two faults each, also where their members stand in another order.
+// Operations of the first bolt with two faults each, also where their members stand in another
+// order.
 const OPERATIONS: &str = r#"
 {"a":0} | missing "do"
 {"a":0,"do":7} | wrong kind "do"
