@@ -9,7 +9,7 @@ use Rattle.serde_json.specs.Written.{compact_text, items_text}
 use Rattle.storm_values.specs.declared.value.Value.{Value}
 use Rattle.storm_values.specs.declared.value.Value.TheVariants.{Int, Text}
 use Rattle.storm_values.specs.Json.{data_of, items_of_values}
-use Rattle.storm_values.specs.Keys.{value_bytes, key_bytes, fnv_step, fnv_offset, hash_of, text_of, token_of}
+use Rattle.storm_values.specs.Keys.{value_bytes, key_bytes, fnv_step, fnv_offset, hash_of, text_of, quoted, token_of}
 use Rattle.storm_values.specs.steps.Hashing.{bytes_at, hash_more}
 
 key_bytes-next : (first : Value) (values : List Value) (value : Value)
@@ -65,6 +65,6 @@ plain-byte x shown quote slash =
     rw (q, slash, e, f, n, r, t, control) refl
 
 -- the text of a key that is one text in which nothing is escaped
-pub text_of-plain : (bytes : List ℕ) → escape bytes ≡ bytes → text_of (Text bytes ∷ []) ≡ 91 ∷ 34 ∷ (bytes ++ 34 ∷ 93 ∷ [])
+pub text_of-plain : (bytes : List ℕ) → escape bytes ≡ bytes → text_of (Text bytes ∷ []) ≡ quoted bytes
 unfolding text_of
 text_of-plain bytes plain = rw plain (ap (λ rest. 91 ∷ 34 ∷ rest) (append_assoc bytes (34 ∷ []) (93 ∷ [])))

@@ -5,3 +5,4 @@ mod OrderLemmas
 mod SplitLemmas
 mod LineLemmas
 pub mod InputLemmas
+mod TextsRead

@@ -2,7 +2,7 @@
 use Rattle.std.proofs.Common.{◌≡◌, ◌≢◌, ℕ, suc, ◌<◌, ◌≤◌, ◌==◌, ltb, Bool, true, false, cond, Option, Some, None, option_map, option_and_then, List, [], ◌∷◌, length, refl, ap, sym, ◌∙◌, arith}
 use Rattle.std.proofs.lemmas.Bool.Decides.{nat_tests}
 use Rattle.std.proofs.lemmas.Str.{is_utf8-from_IsUtf8, IsUtf8-from_is_utf8}
-use Rattle.std.specs.Option.{option_or}
+use Rattle.std.proofs.lemmas.Option.{none-some}
 use Rattle.std.specs.Str.{IsUtf8, is_utf8}
 use Rattle.serde_json.specs.Data.{Data, Items, no_items, item}
 use Rattle.serde_json.specs.Find.{as_array}
@@ -12,6 +12,7 @@ use Rattle.storm_values.specs.declared.lines.LineFault.{LineFault}
 use Rattle.storm_values.specs.declared.lines.LineFault.TheVariants.{TooLong, BadItem, WrongCount}
 use Rattle.storm_values.specs.Json.{json_of, value_of}
 use Rattle.storm_values.specs.Lines.{first_some, array_of, values_of, item_count, first_bad_item, not_json, not_array, bad_item, wrong_count, line_fault, row_of}
+use Rattle.storm_values.specs.steps.Texts.{unread_fault}
 
 -- ---- what the bytes spell
 
@@ -73,15 +74,15 @@ line_fault-later line want short =
     let within : ltb 4096 (length line) ≡ false = grind (arith, nat_tests) in
     rw within
 
-later_faults-Some : (json : Option Data) (array : Option Items) (want : ℕ) (fault : LineFault) → option_or (not_json json) (not_array array) ≡ Some fault → later_faults json array want ≡ Some fault
-later_faults-Some None array want fault is = is
-later_faults-Some (Some entry) None want fault is = is
-later_faults-Some (Some entry) (Some items) want fault is = cc
-
--- a line that is no array
-pub line_fault-no_array : (line : List ℕ) (want : ℕ) (fault : LineFault) → length line ≤ 4096
-    → option_or (not_json (json_of line)) (not_array (array_of line)) ≡ Some fault → line_fault line want ≡ Some fault
-line_fault-no_array line want fault short is = line_fault-later line want short ∙ later_faults-Some (json_of line) (array_of line) want fault is
+-- a line that is no array of values
+pub line_fault-unread : (line : List ℕ) (want : ℕ) (fault : LineFault) → length line ≤ 4096 → unread_fault line ≡ Some fault → line_fault line want ≡ Some fault
+line_fault-unread line want fault short is = line_fault-later line want short ∙ more (not_json (json_of line)) (not_array (array_of line)) (bad_item (array_of line)) is
+  where
+    more : (a b c : Option LineFault) → first_some (a ∷ b ∷ c ∷ []) ≡ Some fault → first_some (a ∷ b ∷ c ∷ wrong_count want (array_of line) ∷ []) ≡ Some fault
+    more (Some first) b c is = is
+    more None (Some next) c is = is
+    more None None (Some last) is = is
+    more None None None is = absurd (none-some fault is)
 
 later_faults-items : (json : Option Data) (items : Items) (want : ℕ) → option_and_then as_array json ≡ Some items
     → later_faults json (option_and_then as_array json) want ≡ first_some (bad_item (Some items) ∷ wrong_count want (Some items) ∷ [])
@@ -92,10 +93,6 @@ later_faults-items (Some entry) items want is = rw is
 line_fault-array : (line : List ℕ) (want : ℕ) (items : Items) → length line ≤ 4096 → array_of line ≡ Some items
     → line_fault line want ≡ first_some (bad_item (Some items) ∷ wrong_count want (Some items) ∷ [])
 line_fault-array line want items short is = line_fault-later line want short ∙ later_faults-items (json_of line) items want is
-
-pub line_fault-BadItem : (line : List ℕ) (want : ℕ) (items : Items) (fault : LineFault) → length line ≤ 4096 → array_of line ≡ Some items
-    → bad_item (Some items) ≡ Some fault → line_fault line want ≡ Some fault
-line_fault-BadItem line want items fault short is bad = line_fault-array line want items short is ∙ rw bad
 
 all_good : (found : Option ℕ) → option_map BadItem found ≡ None → found ≡ None
 all_good None good = refl

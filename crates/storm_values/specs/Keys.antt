@@ -34,6 +34,11 @@ hash_of key = fold fnv_step fnv_offset (key_bytes key)
 unfoldable pub text_of : List Value → List ℕ
 text_of key = compact_text (array (items_of_values key))
 
+-- a text between quotation marks and brackets, as the key that is this text alone is written where
+-- nothing in it is escaped
+abbrev pub quoted : List ℕ → List ℕ
+quoted text = 91 ∷ 34 ∷ (text ++ 34 ∷ 93 ∷ [])
+
 -- the JSON token of a value
 abbrev pub token_of : Value → Token
 token_of (Int number) = Token.number (signed_decimal number)

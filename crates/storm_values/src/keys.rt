@@ -1,8 +1,8 @@
 ghost use Rattle.std.specs.Prelude.{◌≡◌, List, ◌∷◌, ◌++◌, [], fold, map, slice_get, false, option_copied, string_bytes, IfOk, IfSome, OnOk};
-ghost use Rattle.json.specs.Print.{escape, escape_byte};
+ghost use Rattle.json.specs.Print.{escape_byte};
 ghost use Rattle.json.specs.Token.{begin_array};
 ghost use Rattle.storm_values.specs.declared.value.Value.{Value as SpecValue};
-ghost use Rattle.storm_values.specs.Keys.{value_bytes, fnv_step, hash_of, text_of, token_of};
+ghost use Rattle.storm_values.specs.Keys.{value_bytes, fnv_step, hash_of, text_of, quoted, token_of};
 ghost use Rattle.storm_values.specs.Rows.{values_in};
 ghost use Rattle.storm_values.specs.steps.Hashing.{hash_more};
 
@@ -113,8 +113,8 @@ pub fn key_text_in(
 ) -> Result<Txt, Memory>
     ensures { IfOk result (λ text. text ≡ text_of (values_in row.now fields.now)) }
 {
-    match plain_text(row, fields) {
-        Some(text) => put_plain(room, text)?,
+    match plain_key(row, fields) {
+        Some(text) => put_quoted(room, text)?,
         None => {
             let used = mem::replace(room, String::new(alloc));
             *room = key_string(used.into_bytes(), row, fields)?;
@@ -124,24 +124,33 @@ pub fn key_text_in(
 }
 
 /// The text that is the whole key, where it is one and nothing in it is escaped, as in most keys.
-fn plain_text<'r>(row: &'r [Value], fields: &[u32]) -> Option<&'r str>
-    ensures whole { IfSome result
+/// The key's JSON text has it between brackets and quotation marks ([`quoted_key`]).
+pub fn plain_key<'r>(row: &'r [Value], fields: &[u32]) -> Option<&'r Txt>
+    ensures { IfSome result (λ text. text_of (values_in row.now fields.now) ≡ quoted text.now) }
+{
+    match only_text(row, fields) {
+        Some(text) => plain(text),
+        None => None,
+    }
+}
+
+/// The text that is the whole key, where it is one.
+fn only_text<'r>(row: &'r [Value], fields: &[u32]) -> Option<&'r Txt>
+    ensures { IfSome result
         (λ text. values_in row.now fields.now ≡ SpecValue.Text text.now ∷ []) }
-    ensures plain { IfSome result (λ text. escape text.now ≡ text.now) }
 {
     if fields.len() != 1 {
         return None;
     }
     match value_at(row, fields[0]) {
-        Some(Value::Text(text)) => plain(text.as_str()),
+        Some(Value::Text(text)) => Some(text),
         _ => None,
     }
 }
 
 /// A text in which nothing is escaped.
-fn plain(text: &str) -> Option<&str>
-    ensures value { IfSome result (λ same. same.now ≡ text.now) }
-    ensures plain { IfSome result (λ same. escape same.now ≡ same.now) }
+fn plain(text: &Txt) -> Option<&Txt>
+    ensures { IfSome result (λ same. text_of (SpecValue.Text text.now ∷ []) ≡ quoted same.now) }
 {
     for byte in text.as_bytes() {
         if is_escaped(*byte) {
@@ -157,14 +166,20 @@ fn is_escaped(byte: u8) -> bool
     byte < b' ' || byte == b'"' || byte == b'\\'
 }
 
-/// Writes the text of a key that is one text, over what `room` holds.
-fn put_plain(room: &mut String, text: &str) -> Result<(), Memory>
-    requires { escape text.now ≡ text.now }
-    ensures { OnOk result (string_bytes room.new ≡ text_of (SpecValue.Text text.now ∷ [])) }
+/// A text between brackets and quotation marks, written over what `room` holds first.
+pub fn quoted_key(alloc: Global, room: &mut String, text: &Txt) -> Result<Txt, Memory>
+    ensures { IfOk result (λ key. key ≡ quoted text.now) }
+{
+    put_quoted(room, text)?;
+    Txt::from_str(alloc, room.as_str())
+}
+
+fn put_quoted(room: &mut String, text: &Txt) -> Result<(), Memory>
+    ensures { OnOk result (string_bytes room.new ≡ quoted text.now) }
 {
     room.clear();
     room.push_str("[\"")?;
-    room.push_str(text)?;
+    room.push_str(text.as_str())?;
     room.push_str("\"]")?;
     Ok(())
 }

@@ -14,7 +14,7 @@ mod value;
 
 pub use bytes::Bytes;
 pub use few::Few;
-pub use keys::{key_hash, key_hash_in, key_text, key_text_in};
+pub use keys::{key_hash, key_hash_in, key_text, key_text_in, plain_key, quoted_key};
 pub use limits::{
     LEAST_BUCKETS, MOST_ACKERS, MOST_ATTEMPTS, MOST_BATCH, MOST_BELOW, MOST_BOLT_INPUTS,
     MOST_BOLTS, MOST_BUCKETS, MOST_CONSTANT_BYTES, MOST_CUSTOM_ROWS, MOST_FIELDS, MOST_INPUT_BYTES,

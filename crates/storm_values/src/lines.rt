@@ -1,4 +1,4 @@
-ghost use Rattle.std.specs.Prelude.{◌≡◌, ◌≢◌, ℕ, ◌+◌, ◌<◌, ◌==◌, List, ◌∷◌, length, take, Some, None, option_map, All, IfOk, IfErr};
+ghost use Rattle.std.specs.Prelude.{◌≡◌, ◌≢◌, ℕ, ◌+◌, ◌<◌, ◌==◌, List, [], ◌∷◌, length, take, Some, None, option_map, All, IfOk, IfErr, IfSome};
 ghost use Rattle.std.specs.List.{position};
 ghost use Rattle.std.specs.Option.{option_or};
 ghost use Rattle.serde_json.specs.View.{view, items_view};
@@ -7,12 +7,15 @@ ghost use Rattle.storm_values.specs.Json.{json_of, value_of};
 ghost use Rattle.storm_values.specs.Limits.{most_input_bytes};
 ghost use Rattle.storm_values.specs.Lines.{lines_of, array_of, not_json, not_array, bad_item, values_of, line_fault, row_of, input_fault, records_of};
 ghost use Rattle.storm_values.specs.Rows.{IsRow};
+ghost use Rattle.storm_values.specs.steps.Texts.{texts_from, IsRead, unread_fault};
 
-use crate::limits::{MOST_INPUT_BYTES, MOST_LINE_BYTES, MOST_LINES};
+use crate::limits::{MOST_FIELDS, MOST_INPUT_BYTES, MOST_LINE_BYTES, MOST_LINES};
 use crate::list::{Memory, Seq};
 use crate::text::Txt;
 use crate::value::{Row, Rows, Value};
+use json::{Reader, Scratch, Token};
 use serde_json::Value as Json;
+use simdutf8::basic::from_utf8;
 use std::alloc::Global;
 use std::error::Error;
 use std::fmt;
@@ -102,16 +105,91 @@ pub fn row_from_line(alloc: Global, line: &[u8], want: u32) -> Result<Row, LineF
     ensures fault { IfErr result
         (λ fault. fault ≢ LineFault.Memory → line_fault line.now want ≡ Some fault) }
 {
+    read_line(alloc, &mut Scratch::new(alloc), line, want)
+}
+
+/// The record of a line, read in memory that serves line after line.
+fn read_line(alloc: Global, scratch: &mut Scratch, line: &[u8], want: u32) -> Result<Row, LineFault>
+    ensures good { IfOk result
+        (λ row. (line_fault line.now want ≡ None) × (row ≡ row_of line.now)) }
+    ensures within { IfOk result (IsRow want) }
+    ensures fault { IfErr result
+        (λ fault. fault ≢ LineFault.Memory → line_fault line.now want ≡ Some fault) }
+{
     if line.len() > MOST_LINE_BYTES {
         return Err(LineFault::TooLong);
     }
-    let items = array_from_line(alloc, line)?;
-    let row = row_from_items(alloc, items)?;
+    let row = values_of_line(alloc, scratch, line, want)?;
     let found = row.len();
     if found != want as usize {
         return Err(LineFault::WrongCount(found));
     }
     Ok(row)
+}
+
+/// The values of the array that a line is.
+fn values_of_line(
+    alloc: Global,
+    scratch: &mut Scratch,
+    line: &[u8],
+    want: u32,
+) -> Result<Row, LineFault>
+    ensures good { IfOk result (IsRead line.now) }
+    ensures fault { IfErr result
+        (λ fault. fault ≢ LineFault.Memory → unread_fault line.now ≡ Some fault) }
+{
+    match texts_of_line(alloc, scratch, line, want)? {
+        Some(row) => Ok(row),
+        None => {
+            let items = array_from_line(alloc, line)?;
+            let row = row_from_items(alloc, items)?;
+            Ok(row)
+        }
+    }
+}
+
+/// The texts of the array that a line is, where it is one of texts alone. No tree of the JSON is
+/// made, and the scratch is not cleared.
+fn texts_of_line(
+    alloc: Global,
+    scratch: &mut Scratch,
+    line: &[u8],
+    want: u32,
+) -> Result<Option<Row>, Memory>
+    ensures { IfOk result (λ found. IfSome found (IsRead line.now)) }
+{
+    let Ok(text) = from_utf8(line) else {
+        return Ok(None);
+    };
+    let mut reader = Reader::new(text, scratch)?;
+    let Some(token) = reader.next() else {
+        return Ok(None);
+    };
+    let Token::BeginArray = token else {
+        return Ok(None);
+    };
+    texts_of_array(alloc, &mut reader, want)
+}
+
+/// The texts up to the end of an array and of the line.
+fn texts_of_array(alloc: Global, reader: &mut Reader<'_>, want: u32) -> Result<Option<Row>, Memory>
+    ensures { IfOk result
+        (λ found. IfSome found (λ row. texts_from reader.old ≡ Some (row, []))) }
+{
+    let mut row = Row::with_capacity(alloc, want.min(MOST_FIELDS) as usize)?;
+    'texts: while !reader.take_end_array() {
+        let Some(token) = reader.next() else {
+            return Ok(None);
+        };
+        let Token::String(text) = token else {
+            return Ok(None);
+        };
+        row.push(Value::Text(Txt::from_str(alloc, text)?))?;
+    }
+    match reader.next() {
+        Some(_) => Ok(None),
+        None => Ok(Some(row)),
+    }
 }
 
 /// The items of the JSON array that a line is.
@@ -169,6 +247,7 @@ pub fn read_input(alloc: Global, bytes: &[u8], want: u32) -> Result<Rows, InputF
     if bytes.len() > MOST_INPUT_BYTES {
         return Err(InputFault::TooBig);
     }
+    let mut scratch = Scratch::new(alloc);
     let mut rows = Seq::new(alloc);
     let mut rest = bytes;
     while !rest.is_empty() {
@@ -177,7 +256,7 @@ pub fn read_input(alloc: Global, bytes: &[u8], want: u32) -> Result<Rows, InputF
             return Err(InputFault::TooMany);
         }
         let (line, after) = split_line(rest);
-        let row = numbered_row(alloc, line, want, read + 1)?;
+        let row = numbered_row(alloc, &mut scratch, line, want, read + 1)?;
         rows.push(row)?;
         rest = after;
     }
@@ -185,14 +264,20 @@ pub fn read_input(alloc: Global, bytes: &[u8], want: u32) -> Result<Rows, InputF
 }
 
 /// The record of the line with this number.
-fn numbered_row(alloc: Global, line: &[u8], want: u32, number: usize) -> Result<Row, InputFault>
+fn numbered_row(
+    alloc: Global,
+    scratch: &mut Scratch,
+    line: &[u8],
+    want: u32,
+    number: usize,
+) -> Result<Row, InputFault>
     ensures good { IfOk result
         (λ row. (line_fault line.now want ≡ None) × (row ≡ row_of line.now)) }
     ensures within { IfOk result (IsRow want) }
     ensures fault { IfErr result (λ fault. fault ≢ InputFault.Memory
         → option_map (InputFault.Line number) (line_fault line.now want) ≡ Some fault) }
 {
-    match row_from_line(alloc, line, want) {
+    match read_line(alloc, scratch, line, want) {
         Ok(row) => Ok(row),
         Err(LineFault::Memory) => Err(InputFault::Memory),
         Err(fault) => Err(InputFault::Line(number, fault)),

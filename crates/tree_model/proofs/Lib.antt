@@ -4,6 +4,7 @@ pub mod ListLaws
 mod Lists
 mod Loops
 mod Maps
+mod Quoted
 pub mod Reading
 mod Single
 mod TablesSoFar

@@ -16,7 +16,7 @@ use Rattle.indexmap.specs.IndexMap.{IndexMap, IsReordered, IsUnique, get, insert
 use Rattle.indexmap.proofs.CallerLemmas.{insert_entry-new}
 use Rattle.topology_plan.specs.declared.parts.Fold.{Fold}
 use Rattle.tree_model.specs.declared.write.Pair.{Pair}
-use Rattle.tree_model.specs.Inside.{pairs_of}
+use Rattle.tree_model.specs.Inside.{entries_of}
 use Rattle.tree_model.specs.Tables.{folded, tallied, value_at, AreInOrder, AreSorted}
 
 -- an entry, whose key is the bytes of a text
@@ -65,12 +65,12 @@ tallied-new by key amount (entry ∷ entries) none =
 module _ {S : Type 0} (old new : IndexMap (List ℕ) ℤ S) (by : Fold) (key : List ℕ) (amount : ℤ) where
   -- what a write through a key's value leaves
   pub pairs-set : (value : ℤ) → get bytes_eq old key ≡ Some value → new.entries ≡ set_value (bytes_eq key) old.entries (folded by (Some value) amount)
-      → pairs_of new ≡ tallied by (pairs_of old) key amount
+      → entries_of new ≡ tallied by (entries_of old) key amount
   pairs-set value there is = ap (map pair_of) is ∙ tallied-set by key amount value old.entries there
 
   -- what an insert of a new key leaves
   pub pairs-new : get bytes_eq old key ≡ None → new.entries ≡ insert_entry bytes_eq old.entries key (folded by None amount)
-      → pairs_of new ≡ tallied by (pairs_of old) key amount
+      → entries_of new ≡ tallied by (entries_of old) key amount
   pairs-new none is =
       ap (map pair_of) (is ∙ insert_entry-new bytes_eq old key (folded by None amount) none)
       ∙ tallied-new by key amount old.entries none
@@ -98,7 +98,7 @@ in_order (entry ∷ entries) sorted = (above entry.0 entries sorted.0, in_order 
 
 -- a sort of the keys leaves the same pairs in the order of their keys
 pub pairs-sorted : {S : Type 0} (old new : IndexMap (List ℕ) ℤ S) → IsSorted (slice_cmp nat_cmp) (keys new) → IsReordered bytes_eq old new → IsUnique bytes_eq new
-    → AreSorted (pairs_of old) (pairs_of new)
+    → AreSorted (entries_of old) (entries_of new)
 pairs-sorted old new sorted reordered unique = record {
   ordered = in_order new.entries (subst (IsStrictlySortedBy (slice_cmp nat_cmp)) (dedup-distinct (keys new) unique) (IsStrictlySortedBy-dedup nat_list_cmp_total (λ x y. sym (is_eq-slice_cmp x y)) (keys new) sorted));
   values = λ key. value_at-entries key new.entries ∙ reordered.2 key ∙ sym (value_at-entries key old.entries);

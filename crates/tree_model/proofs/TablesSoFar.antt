@@ -10,7 +10,6 @@ use Rattle.std.proofs.Math.Seq.{map-set_same}
 use Rattle.std.specs.List.{AllZip, cons_option, filter_map, flat_map, range_with_len}
 use Rattle.std.specs.Option.{option_map_or, option_and_then}
 use Rattle.bolt_ops.specs.RowOp.{Custom}
-use Rattle.indexmap.specs.IndexMap.{IndexMap}
 use Rattle.storm_values.specs.declared.value.Value.{Value}
 use Rattle.topology_plan.specs.declared.parts.Body.{Body}
 use Rattle.topology_plan.specs.declared.parts.Body.TheVariants.{Bolt, State}
@@ -18,6 +17,7 @@ use Rattle.topology_plan.specs.declared.parts.Component.{Component}
 use Rattle.topology_plan.specs.declared.parts.Fold.{Fold}
 use Rattle.topology_plan.specs.declared.parts.Origin.TheVariants as origin
 use Rattle.topology_plan.specs.Topology.{Topology}
+use Rattle.tree_model.specs.declared.running.Values.{Values}
 use Rattle.tree_model.specs.declared.write.Pair.{Pair}
 use Rattle.tree_model.specs.declared.write.Table.{Table}
 use Rattle.tree_model.specs.declared.write.Write.{Write}
@@ -90,16 +90,16 @@ AreRunningTables-fold t before (write ∷ writes) tables is =
 
 -- ---- the maps behind the tables
 
-module _ {S : Type 0} (olds : List (IndexMap (List ℕ) ℤ S)) (state : ℕ) (by : Fold) (key : List ℕ) (amount : ℤ) where
+module _ (olds : List Values) (state : ℕ) (by : Fold) (key : List ℕ) (amount : ℤ) where
   -- the map of a state has the amount folded in
-  pub pairs_by-put : (old new : IndexMap (List ℕ) ℤ S) → state < length olds → old ≡ get_or olds state old → pairs_of new ≡ tallied by (pairs_of old) key amount
+  pub pairs_by-put : (old new : Values) → state < length olds → old ≡ get_or olds state old → pairs_of new ≡ tallied by (pairs_of old) key amount
       → pairs_by (set olds state new) ≡ with_amount (pairs_by olds) state by key amount
   pairs_by-put old new within read puts =
       let was : get_or (pairs_by olds) state [] ≡ pairs_of old = get_or-map pairs_of olds state old [] within ∙ ap pairs_of (sym read) in
       map-set pairs_of olds state new ∙ ap (set (pairs_by olds) state) (puts ∙ ap (λ pairs. tallied by pairs key amount) (sym was))
 
 -- where a map's pairs stay, all do
-pub pairs_by-set_same : {S : Type 0} (olds : List (IndexMap (List ℕ) ℤ S)) (i : ℕ) (old new : IndexMap (List ℕ) ℤ S) → old ≡ get_or olds i old → pairs_of new ≡ pairs_of old → pairs_by (set olds i new) ≡ pairs_by olds
+pub pairs_by-set_same : (olds : List Values) (i : ℕ) (old new : Values) → old ≡ get_or olds i old → pairs_of new ≡ pairs_of old → pairs_by (set olds i new) ≡ pairs_by olds
 pairs_by-set_same olds i old new read same = map-set_same pairs_of olds i new old (same ∙ ap pairs_of read)
 
 -- ---- a walk that adds each node's write

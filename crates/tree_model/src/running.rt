@@ -1,5 +1,8 @@
-ghost use Rattle.std.specs.Prelude.{◌≡◌, ℕ, List, [], ◌∷◌, ◌++◌, take, fold, option_map, IfOk, OnOk, OnErr};
-ghost use Rattle.tree_model.specs.Inside.{pairs_of, pairs_by};
+ghost use Rattle.std.specs.Prelude.{◌≡◌, ℕ, List, [], ◌∷◌, ◌++◌, map, take, fold, true, false, slice_get, option_and_then, option_map, IfOk, IfSome, OnOk, OnErr};
+ghost use Rattle.storm_values.specs.Keys.{text_of, quoted};
+ghost use Rattle.storm_values.specs.Rows.{values_in};
+ghost use Rattle.tree_model.specs.Inside.{entries_of, pairs_of, pairs_by, quoted_entry};
+ghost use Rattle.tree_model.specs.Trees.{amount_by, key_of};
 ghost use Rattle.tree_model.specs.Tables.{AddsTable, AreSorted, AreTables, AreRunningTables, folded, tallied, with_amount, written, state_at, state_by};
 
 use crate::tree::Visitor;
@@ -7,11 +10,20 @@ use crate::write::{Pair, Pairs, Table, Tables, Write, Writes, amount};
 use indexmap::IndexMap;
 use std::alloc::Global;
 use std::marker::Model;
-use storm_values::{Memory, Row, Seq, Txt, key_text_in};
-use topology_plan::{Body, Component, Fold, Plan};
+use storm_values::{Memory, Row, Seq, Txt, Value, key_text_in, plain_key, quoted_key};
+use topology_plan::{Body, Component, Fold, Plan, StateSpec};
 
-/// The values of a state by key, found by hash. A key of up to 30 bytes lies where it is found.
-type Values = IndexMap<Txt, i128>;
+/// Values by text, found by hash. A text of up to 30 bytes lies where it is found.
+type Entries = IndexMap<Txt, i128>;
+
+/// The values of a state by key.
+#[derive(Debug, Drop)]
+struct Values {
+    entries: Entries,
+    // Each key is one text in which nothing is escaped, and stands there without brackets and
+    // quotation marks. That holds until another key comes.
+    plain: bool,
+}
 
 /// The tables of the states so far.
 #[derive(Debug, Drop)]
@@ -39,7 +51,7 @@ impl RunningTables {
     {
         let mut values = Vec::new(alloc);
         for _ in 0..plan.components() {
-            values.push(IndexMap::new(alloc))?;
+            values.push(no_values(alloc))?;
         }
         let room = String::new(alloc);
         Ok(RunningTables { values, room })
@@ -86,10 +98,14 @@ impl Visitor for RunningTables {
         row: &Row,
     ) -> Result<(), Memory> {
         if let Body::State(spec) = &plan.component(component).body {
-            let fields = spec.key.as_slice();
-            let key = key_text_in(alloc, &mut self.room, row.as_slice(), fields)?;
-            let amount = amount(spec, row);
-            add_amount(&mut self.values, component, spec.fold, &key, amount)?;
+            add_row(
+                alloc,
+                &mut self.values,
+                &mut self.room,
+                component,
+                spec,
+                row,
+            )?;
         }
         Ok(())
     }
@@ -119,14 +135,22 @@ fn add_table(
 fn sorted_pairs(alloc: Global, mut values: Values) -> Result<Pairs, Memory>
     ensures { IfOk result (AreSorted (pairs_of values)) }
 {
-    values.sort_keys()?;
-    pairs(alloc, values)
+    make_whole(&mut values)?;
+    let Values { entries, .. } = values;
+    sorted_entries(alloc, entries)
 }
 
-fn pairs(alloc: Global, values: Values) -> Result<Pairs, Memory>
-    ensures { IfOk result (λ pairs. pairs ≡ pairs_of values) }
+fn sorted_entries(alloc: Global, mut entries: Entries) -> Result<Pairs, Memory>
+    ensures { IfOk result (AreSorted (entries_of entries)) }
 {
-    let pairs = values
+    entries.sort_keys()?;
+    pairs(alloc, entries)
+}
+
+fn pairs(alloc: Global, entries: Entries) -> Result<Pairs, Memory>
+    ensures { IfOk result (λ pairs. pairs ≡ entries_of entries) }
+{
+    let pairs = entries
         .into_iter()
         .map(|(key, value)| Pair { key, value })
         .collect(alloc)?;
@@ -172,7 +196,29 @@ fn add_amount(
 {
     let state = state as usize;
     if state < values.len() {
-        put(&mut values[state], by, key, amount)
+        put_key(&mut values[state], by, key, amount)
+    } else {
+        Ok(())
+    }
+}
+
+/// Folds what a row is to add into the map of a state, if there is one.
+fn add_row(
+    alloc: Global,
+    values: &mut Vec<Values>,
+    room: &mut String,
+    state: u32,
+    spec: &StateSpec,
+    row: &Row,
+) -> Result<(), Memory>
+    ensures { OnOk result (pairs_by values.new.items
+        ≡ with_amount (pairs_by values.old.items) state spec.now.fold
+        (text_of (key_of spec.now row.now))
+        (amount_by spec.now.fold (option_and_then (slice_get row.now) spec.now.amount))) }
+{
+    let state = state as usize;
+    if state < values.len() {
+        put_row(alloc, &mut values[state], room, spec, row)
     } else {
         Ok(())
     }
@@ -191,20 +237,98 @@ fn fold_of(plan: &Plan, number: u32) -> Option<Fold>
     }
 }
 
-/// Folds an amount into the value of a key, with one search where the key has one. A new key is
-/// copied.
-fn put(values: &mut Values, by: Fold, key: &Txt, amount: i64) -> Result<(), Memory>
+fn no_values(alloc: Global) -> Values
+    ensures { pairs_of result ≡ [] }
+{
+    Values {
+        entries: IndexMap::new(alloc),
+        plain: true,
+    }
+}
+
+/// Folds what a row is to add into the value of its key. A key that is kept plain is neither made
+/// nor copied, but where it is new.
+fn put_row(
+    alloc: Global,
+    values: &mut Values,
+    room: &mut String,
+    spec: &StateSpec,
+    row: &Row,
+) -> Result<(), Memory>
+    ensures { OnOk result (pairs_of values.new
+        ≡ tallied spec.now.fold (pairs_of values.old) (text_of (key_of spec.now row.now))
+        (amount_by spec.now.fold (option_and_then (slice_get row.now) spec.now.amount))) }
+{
+    let (fields, added) = (spec.key.as_slice(), amount(spec, row));
+    match kept_plain(values.plain, row.as_slice(), fields) {
+        Some(text) => put(&mut values.entries, spec.fold, text, added),
+        None => {
+            let key = key_text_in(alloc, room, row.as_slice(), fields)?;
+            put_key(values, spec.fold, &key, added)
+        }
+    }
+}
+
+/// The text that is the whole key, where keys are kept plain and this one can be.
+fn kept_plain<'r>(plain: bool, row: &'r [Value], fields: &[u32]) -> Option<&'r Txt>
+    ensures plain { IfSome result (λ text. plain ≡ true) }
+    ensures text { IfSome result
+        (λ text. text_of (values_in row.now fields.now) ≡ quoted text.now) }
+{
+    if plain { plain_key(row, fields) } else { None }
+}
+
+/// Folds an amount into the value of a key's JSON text, which takes the place of plain keys.
+fn put_key(values: &mut Values, by: Fold, key: &Txt, amount: i64) -> Result<(), Memory>
     ensures ok { OnOk result
         (pairs_of values.new ≡ tallied by (pairs_of values.old) key.now amount) }
     ensures err { OnErr result (pairs_of values.new ≡ pairs_of values.old) }
 {
-    match values.get_mut(key) {
+    make_whole(values)?;
+    put(&mut values.entries, by, key, amount)
+}
+
+/// Puts the JSON texts of the keys in the place of plain keys.
+fn make_whole(values: &mut Values) -> Result<(), Memory>
+    ensures whole { OnOk result (values.new.plain ≡ false) }
+    ensures same { pairs_of values.new ≡ pairs_of values.old }
+{
+    if !values.plain {
+        return Ok(());
+    }
+    values.entries = quoted_entries(&values.entries)?;
+    values.plain = false;
+    Ok(())
+}
+
+/// The values by the JSON texts of their plain keys.
+fn quoted_entries(entries: &Entries) -> Result<Entries, Memory>
+    ensures { IfOk result
+        (λ made. made.entries ≡ map quoted_entry entries.now.entries) }
+{
+    let alloc = *entries.allocator();
+    let mut room = String::new(alloc);
+    let mut made = IndexMap::with_capacity(alloc, entries.len())?;
+    for (text, value) in entries {
+        made.insert(quoted_key(alloc, &mut room, text)?, *value)?;
+    }
+    Ok(made)
+}
+
+/// Folds an amount into the value of a text, with one search where the key has one. A new text
+/// is copied.
+fn put(entries: &mut Entries, by: Fold, key: &Txt, amount: i64) -> Result<(), Memory>
+    ensures ok { OnOk result
+        (entries_of entries.new ≡ tallied by (entries_of entries.old) key.now amount) }
+    ensures err { OnErr result (entries_of entries.new ≡ entries_of entries.old) }
+{
+    match entries.get_mut(key) {
         Some(value) => {
             *value = folded(by, Some(*value), amount);
             Ok(())
         }
         None => {
-            values.insert(key.copy()?, folded(by, None, amount))?;
+            entries.insert(key.copy()?, folded(by, None, amount))?;
             Ok(())
         }
     }

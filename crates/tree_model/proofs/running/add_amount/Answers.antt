@@ -9,10 +9,10 @@ pub returns-then-state-len-clause-ok : goal.returns-then-state-len-clause-ok
 returns-then-state-len-clause-ok c =
     let fits : SFits w64 c.args.amount = search rules in
     let within : c.args.state < length c.args.values.now.items = search rules in
-    on_ok_weaker c.put.result
-    (λ puts. pairs_by-put c.args.values.now.items c.args.state c.args.by c.args.key.now c.args.amount c.index_mut.result.now c.put.new.values within c.index_mut.ensures.value puts)
-    (rw to_z-of_z at c.put.ensures.ok)
+    on_ok_weaker c.put_key.result
+    (λ puts. pairs_by-put c.args.values.now.items c.args.state c.args.by c.args.key.now c.args.amount c.index_mut.result.now c.put_key.new.values within c.index_mut.ensures.value puts)
+    (rw to_z-of_z at c.put_key.ensures.ok)
 
 pub returns-then-state-len-clause-err : goal.returns-then-state-len-clause-err
 returns-then-state-len-clause-err c =
-    on_err_weaker c.put.result (λ same. pairs_by-set_same c.args.values.now.items c.args.state c.index_mut.result.now c.put.new.values c.index_mut.ensures.value same) c.put.ensures.err
+    on_err_weaker c.put_key.result (λ same. pairs_by-set_same c.args.values.now.items c.args.state c.index_mut.result.now c.put_key.new.values c.index_mut.ensures.value same) c.put_key.ensures.err

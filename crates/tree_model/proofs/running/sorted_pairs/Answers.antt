@@ -1,10 +1,10 @@
-use Rattle.std.proofs.lemmas.Result.{IfOk-weaker}
-use Rattle.tree_model.specs.Inside.{pairs_of}
-use Rattle.tree_model.specs.Tables.{AreSorted}
-use Rattle.tree_model.proofs.Maps.{pairs-sorted}
+use Rattle.std.proofs.Common.{◌≡◌, ap, sym, ◌∙◌}
+use Rattle.tree_model.specs.Inside.{entries_of, pairs_of, whole_pairs}
 use Rattle.tree_model.proofs.running.sorted_pairs.Goals as goal
 
 pub returns : goal.returns
 returns c =
-    let e = c.in_ok-sort_keys.ensures in
-    IfOk-weaker c.pairs.result _ (AreSorted (pairs_of c.args.values)) (λ pairs is. rw is (pairs-sorted c.args.values c.sort_keys.new.self e.sorted e.reordered e.unique)) c.pairs.ensures
+    let made = c.make_whole.new.values in
+    let whole = c.in_ok-make_whole.ensures in
+    let same : entries_of made.entries ≡ pairs_of c.args.values = sym (ap (λ plain. whole_pairs plain (entries_of made.entries)) whole.whole) ∙ whole.same in
+    rw same at c.sorted_entries.ensures
