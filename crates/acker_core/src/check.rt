@@ -4,17 +4,18 @@ ghost use Rattle.tree_model.specs.Lists.{occurrences, occurrences_in};
 ghost use Rattle.acker_core.specs.Edges.{AreLeft, AreInOrder, tops, put_on};
 ghost use Rattle.acker_core.specs.Check.{IsCheckOf};
 
-use crate::pairs::are_in_pairs;
+use crate::sorted::sorted_order;
 use std::alloc::Global;
-use storm_values::{Duplicate, Memory};
+use storm_values::{Duplicate, Memory, Seq};
 use tree_model::{AckMsg, Notes};
 use tuple_tickets::{Edge, Edges};
 
 /// What a check of a list comes to.
 #[derive(Debug, Drop)]
 pub enum Check {
-    /// Each edge occurs an even number of times.
-    Closed,
+    /// Each edge occurs an even number of times. These are the places of the dones, in the order of
+    /// the paths that they consume.
+    Closed(Seq<usize>),
     /// The edges that occur an odd number of times, by path and then by id.
     Left(Edges),
 }
@@ -25,13 +26,11 @@ pub enum Check {
 pub fn check_list(alloc: Global, list: &Notes) -> Result<Check, Memory>
     ensures { IfOk result (IsCheckOf list.now) }
 {
-    if are_in_pairs(alloc, list)? {
-        return Ok(Check::Closed);
-    }
     let edges = edges_of(alloc, list)?;
     let left = odd_edges(alloc, edges)?;
     if left.is_empty() {
-        return Ok(Check::Closed);
+        let order = sorted_order(alloc, list)?;
+        return Ok(Check::Closed(order));
     }
     Ok(Check::Left(Edges::from_vec(left)))
 }

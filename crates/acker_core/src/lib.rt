@@ -6,6 +6,7 @@ mod check;
 mod entry;
 mod laws;
 mod pairs;
+mod sorted;
 #[cfg(test)]
 mod tests;
 mod verdict;

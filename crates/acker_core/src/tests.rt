@@ -144,7 +144,7 @@ fn open_edges_are_left_in_order(rt: HostRuntime) -> Result<(), Fail> {
     );
     // each once more
     list.push(done(alloc, (2, 1), &[(4, 9), (0, 5), (0, 6)])?)?;
-    assert!(rt; matches!(check_list(alloc, &list)?, Check::Closed));
+    assert!(rt; matches!(check_list(alloc, &list)?, Check::Closed(_)));
     Ok(())
 }
 
@@ -156,7 +156,7 @@ fn edges_of_one_id_are_told_apart(rt: HostRuntime) -> Result<(), Fail> {
     let left = left_of(alloc, &check_list(alloc, &list)?)?;
     assert_eq!(rt; left.as_slice(), [(0, 5), (1, 5)].as_slice());
     list.push(done(alloc, (1, 5), &[(0, 5)])?)?;
-    assert!(rt; matches!(check_list(alloc, &list)?, Check::Closed));
+    assert!(rt; matches!(check_list(alloc, &list)?, Check::Closed(_)));
     Ok(())
 }
 
