@@ -1,6 +1,4 @@
 pub mod Stack
-pub mod Twos
-pub mod Meeting
 pub mod StateLemmas
 pub mod TellLemmas
 pub mod StepLemmas
