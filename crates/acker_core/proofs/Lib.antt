@@ -1,3 +1,5 @@
+pub mod PathOrders
+pub mod Places
 pub mod Stack
 pub mod StateLemmas
 pub mod TellLemmas
@@ -5,3 +7,4 @@ pub mod StepLemmas
 pub mod OwnEntries
 pub mod Traces
 pub mod Undisturbed
+pub mod Walks

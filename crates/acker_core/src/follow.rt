@@ -1,12 +1,11 @@
 // The path order of a list by a walk over its tuple tree.
-ghost use Rattle.std.specs.Prelude.{◌≡◌, ◌∷◌, ◌++◌, [], IfOk, IfSome, IsTrue, OnOk, Some, slice_get};
+ghost use Rattle.std.specs.Prelude.{◌≡◌, ◌∷◌, ◌++◌, IfOk, IfSome, IsTrue, OnOk};
 ghost use Rattle.std.specs.declared.cmp.Ordering.TheVariants.{Less};
 ghost use Rattle.counted_items.specs.Weights.{Same};
 ghost use Rattle.storm_values.specs.Order.{path_cmp};
-ghost use Rattle.tree_model.specs.declared.messages.AckMsg.TheVariants.{Done};
 ghost use Rattle.tree_model.specs.Lists.{IsClosed};
 ghost use Rattle.commit_writes.specs.Writes.{IsPathOrderOf};
-ghost use Rattle.acker_core.specs.Orders.{FollowsOn, HasInit, open_edges};
+ghost use Rattle.acker_core.specs.Orders.{FollowsOn, HasInit, StandsAt, open_edges};
 
 use crate::placing::{Slot, placed_slots};
 use std::alloc::Global;
@@ -117,32 +116,37 @@ impl<'l> Walk<'l> {
 }
 
 // Takes out the open edge whose done stands next in path order.
-fn take_edge<'l>(open: &mut Vec<Open<'l>>) -> Result<Option<(&'l Edge, usize)>, Memory>
+fn take_edge<'l>(waiting: &mut Vec<Open<'l>>) -> Result<Option<(&'l Edge, usize)>, Memory>
     ensures { IfOk result (λ taken. IfSome taken (λ t.
-        Same (open_edges open.old.items) (t.0.now ∷ open_edges open.new.items))) }
+        Same (open_edges waiting.old.items) (t.0.now ∷ open_edges waiting.new.items))) }
 {
-    let Some(top) = open.pop() else {
+    let Some(top) = waiting.pop() else {
         return Ok(None);
     };
     let Some((edge, others)) = top.edges.split_first() else {
         return Ok(None);
     };
-    add_open(open, others, top.slot.saturating_add(1))?;
+    add_open(waiting, others, top.slot.saturating_add(1))?;
     Ok(Some((edge, top.slot)))
 }
 
-fn add_open<'l>(open: &mut Vec<Open<'l>>, edges: &'l [Edge], slot: usize) -> Result<(), Memory>
-    ensures { OnOk result (open_edges open.new.items ≡ open_edges open.old.items ++ edges.now) }
+fn add_open<'l>(
+    waiting: &mut Vec<Open<'l>>,
+    edges: &'l [Edge],
+    slot: usize,
+) -> Result<(), Memory>
+    ensures { OnOk result
+        (open_edges waiting.new.items ≡ open_edges waiting.old.items ++ edges.now) }
 {
     if edges.is_empty() {
         return Ok(());
     }
-    open.push(Open { edges, slot })?;
+    waiting.push(Open { edges, slot })?;
     Ok(())
 }
 
 fn done_at(list: &[AckMsg], place: usize) -> Option<&Done>
-    ensures { IfSome result (λ done. slice_get list.now place ≡ Some (Done done.now)) }
+    ensures { IfSome result (λ done. StandsAt list.now place done.now) }
 {
     match list.get(place) {
         Some(AckMsg::Done(done)) => Some(done),
