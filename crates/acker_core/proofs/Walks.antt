@@ -188,11 +188,14 @@ module _ (list : List AckMsg) where
 
   pub walked-all : (firsts : List Edge) (order last : List ℕ) (left : List Edge) → HasInit list firsts → IsWalked list firsts order last left → left ≡ []
       → length order + 1 ≡ length list → IsClosed list × IsPathOrderOf list order
-  walked-all firsts order last left init walked none many = (closed, record {
-    there = have_dones [] order last walked.rises;
-    same = subst (λ (ds : List Done). IsPermutation (dones_in list) ds) no_done (whole_at done_of refl list (init.place ∷ order) no_twice all_there count);
-    ordered = in_order [] order last walked.rises;
-  })
+  walked-all firsts order last left init walked none many = (
+    closed,
+    record {
+      there = have_dones [] order last walked.rises;
+      same = subst (λ (ds : List Done). IsPermutation (dones_in list) ds) no_done (whole_at done_of refl list (init.place ∷ order) no_twice all_there count);
+      ordered = in_order [] order last walked.rises;
+    },
+  )
     where
       no_twice : AreApart (init.place ∷ order)
       no_twice = (init_apart firsts order init (have_dones [] order last walked.rises), apart [] order last walked.rises)

@@ -108,7 +108,11 @@ impl<'l> Walk<'l> {
         if !are_same(&done.consumed, edge) || !is_below(self.last, edge.path.as_slice()) {
             return Ok(false);
         }
-        add_open(&mut self.open, done.produced.as_slice(), slot.first as usize)?;
+        add_open(
+            &mut self.open,
+            done.produced.as_slice(),
+            slot.first as usize,
+        )?;
         self.last = done.consumed.path.as_slice();
         self.order.push(place)?;
         Ok(true)
@@ -130,11 +134,7 @@ fn take_edge<'l>(waiting: &mut Vec<Open<'l>>) -> Result<Option<(&'l Edge, usize)
     Ok(Some((edge, top.slot)))
 }
 
-fn add_open<'l>(
-    waiting: &mut Vec<Open<'l>>,
-    edges: &'l [Edge],
-    slot: usize,
-) -> Result<(), Memory>
+fn add_open<'l>(waiting: &mut Vec<Open<'l>>, edges: &'l [Edge], slot: usize) -> Result<(), Memory>
     ensures { OnOk result
         (open_edges waiting.new.items ≡ open_edges waiting.old.items ++ edges.now) }
 {

@@ -10,7 +10,7 @@ use Rattle.acker_core.proofs.follow.follow.Goals as goal
 pub loop-preserved : goal.loop-preserved
 loop-preserved c =
     let on : FollowsOn c.args.list.now c.loop.walk.order.items c.step.new.self.order.items c.loop.walk.last.now c.step.new.self.last.now
-        (open_edges c.loop.walk.open.items) (open_edges c.step.new.self.open.items) = c.in_ok-step.ensures (search rules) in
+    (open_edges c.loop.walk.open.items) (open_edges c.step.new.self.open.items) = c.in_ok-step.ensures (search rules) in
     let longer = ap length on.added ∙ length-append c.loop.walk.order.items (on.place ∷ []) in
     let before = c.loop.invariant.count in
     record {
