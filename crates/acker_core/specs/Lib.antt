@@ -1,4 +1,5 @@
 pub mod Edges
+pub mod Orders
 pub mod Entries
 pub mod Check
 pub mod States

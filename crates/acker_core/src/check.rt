@@ -4,34 +4,37 @@ ghost use Rattle.tree_model.specs.Lists.{occurrences, occurrences_in};
 ghost use Rattle.acker_core.specs.Edges.{AreLeft, AreInOrder, tops, put_on};
 ghost use Rattle.acker_core.specs.Check.{IsCheckOf};
 
-use crate::pairs::are_in_pairs;
+use crate::follow::followed_order;
+use crate::sorted::sorted_order;
 use std::alloc::Global;
-use storm_values::{Duplicate, Memory};
+use storm_values::{Duplicate, Memory, Seq};
 use tree_model::{AckMsg, Notes};
 use tuple_tickets::{Edge, Edges};
 
 /// What a check of a list comes to.
 #[derive(Debug, Drop)]
 pub enum Check {
-    /// Each edge occurs an even number of times.
-    Closed,
+    /// Each edge occurs an even number of times. These are the places of the dones, in the order of
+    /// the paths that they consume.
+    Closed(Seq<usize>),
     /// The edges that occur an odd number of times, by path and then by id.
     Left(Edges),
 }
 
 /// Whether each edge occurs an even number of times among the edges of the inits and the consumed
-/// and produced edges of the dones. It takes time in proportion to n log n for n edges at most. The
-/// edges are copied only where they are not found in pairs by their ids.
+/// and produced edges of the dones. Where the dones are found at the paths of a tuple tree it takes
+/// time in proportion to n for n edges; else they are copied and sorted, in n log n.
 pub fn check_list(alloc: Global, list: &Notes) -> Result<Check, Memory>
     ensures { IfOk result (IsCheckOf list.now) }
 {
-    if are_in_pairs(alloc, list)? {
-        return Ok(Check::Closed);
+    if let Some(order) = followed_order(alloc, list)? {
+        return Ok(Check::Closed(order));
     }
     let edges = edges_of(alloc, list)?;
     let left = odd_edges(alloc, edges)?;
     if left.is_empty() {
-        return Ok(Check::Closed);
+        let order = sorted_order(alloc, list)?;
+        return Ok(Check::Closed(order));
     }
     Ok(Check::Left(Edges::from_vec(left)))
 }

@@ -4,8 +4,10 @@
 mod acker;
 mod check;
 mod entry;
+mod follow;
 mod laws;
-mod pairs;
+mod placing;
+mod sorted;
 #[cfg(test)]
 mod tests;
 mod verdict;

@@ -43,7 +43,7 @@ impl<'p> Office<'p> {
             return Ok(());
         };
         match check_list(self.alloc, &list)? {
-            Check::Closed => {
+            Check::Closed(_) => {
                 self.settle(place, root, list);
                 Ok(())
             }

@@ -1,5 +1,5 @@
 -- The writes of a list of messages, in path order. This project's own.
-use Rattle.std.specs.Prelude.{◌≡◌, List, [], ◌∷◌, false, IsPermutation}
+use Rattle.std.specs.Prelude.{◌≡◌, ℕ, Option, None, Some, slice_get, List, [], ◌∷◌, false, IsPermutation}
 use Rattle.std.specs.List.{AllByRecursion, flat_map}
 use Rattle.std.specs.Ordering.{is_gt}
 use Rattle.storm_values.specs.Order.{path_cmp}
@@ -24,6 +24,25 @@ AreInPathOrder (d ∷ ds) =
     AllByRecursion
     (λ (e : Done). is_gt (path_cmp d.consumed.path e.consumed.path) ≡ false) ds
     × AreInPathOrder ds
+
+-- the done that stands where one may stand, if it is one
+abbrev pub done_of : Option AckMsg → List Done
+done_of None = []
+done_of (Some m) = done_in m
+
+-- the dones at places of a list
+abbrev pub dones_at : List AckMsg → List ℕ → List Done
+dones_at list places = flat_map (λ (k : ℕ). done_of (slice_get list k)) places
+
+-- a done stands at a place of a list
+abbrev pub HasDoneAt : List AckMsg → ℕ → Type 0
+HasDoneAt list k = (d : Done) × (slice_get list k ≡ Some (msg.Done d))
+
+-- the places of a list's dones, each once, in the order of the paths that these consume
+pub record IsPathOrderOf (list : List AckMsg) (order : List ℕ) : Type 0 where
+  pub there : AllByRecursion (HasDoneAt list) order
+  pub same : IsPermutation (dones_in list) (dones_at list order)
+  pub ordered : AreInPathOrder (dones_at list order)
 
 abbrev pub writes_in : List Done → List Write
 writes_in dones = flat_map (λ (d : Done). d.writes) dones

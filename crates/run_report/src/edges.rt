@@ -30,7 +30,7 @@ pub fn push_open(alloc: Global, text: &mut String, list: &Notes) -> Result<(), M
     ensures { OnOk result (AddsOpen list.now (string_bytes text.old) (string_bytes text.new)) }
 {
     match check_list(alloc, list)? {
-        Check::Closed => Ok(()),
+        Check::Closed(_) => Ok(()),
         Check::Left(edges) => push_edges(alloc, text, edges.as_slice()),
     }
 }

@@ -33,7 +33,7 @@ returns-clause-ok c =
     let timed = timed_record c.args.self.now.desk.pending c.args.root at.0 at.0.start at.2 same refl in
     elim c.match-branch-2.branch [
       | in-Closed w ↦
-          rw (w.result-is, w.self-is, w.fates-is, timed, closed_true c.args.list (rw w.in-Closed.is at c.in_ok-check_list.ensures), w.settle.ensures)
+          rw (w.result-is, w.self-is, w.fates-is, timed, closed_true c.args.list (rw w.in-Closed.is at c.in_ok-check_list.ensures).0, w.settle.ensures)
           (record { office = refl; fates = sym (append-nil c.args.fates.now) })
       | in-Left w ↦
           let left = rw w.in-Left.is at c.in_ok-check_list.ensures in
