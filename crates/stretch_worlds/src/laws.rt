@@ -43,14 +43,16 @@ pub fn turns_of_tasks_lead_on()
         (known (with_task n side w) (drew n count counts)) }
 {}
 
-/// A law: what executions send fits the tasks and ackers that it goes to, where what they take fits.
+/// A law: what executions send fits the tasks and ackers that it goes to, where what they take
+/// fits.
 pub fn executions_fit()
     ensures { (t : Topology) (custom : Custom)
         → IsValid t → IsWired t → IsCustom custom → ExecutionsFit t custom }
 {}
 
-/// A law: where each task and each acker has nothing to do, or has something back because a box that
-/// is nearer to the coordinator is full, and no verdict waits, all boxes and outboxes are empty.
+/// A law: where each task and each acker has nothing to do, or has something back because a box
+/// that is nearer to the coordinator is full, and no verdict waits, all boxes and outboxes are
+/// empty.
 pub fn nothing_is_held_up()
     ensures tasks { (t : Topology) (rank : ℕ → ℕ) (held : (Packet → ℕ) → ℕ) (w : World)
         → IsHeldUp t rank held w → (n : ℕ) → n < tasks_in_all t
