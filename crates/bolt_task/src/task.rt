@@ -1,5 +1,6 @@
-ghost use Rattle.std.specs.Prelude.{◌≡◌, ◌<◌, [], ◌∷◌, IfOk};
+ghost use Rattle.std.specs.Prelude.{◌≡◌, ◌<◌, [], ◌∷◌, All, IfOk};
 ghost use Rattle.std.specs.Option.{option_to_list};
+ghost use Rattle.groupings.specs.Allowed.{IsLane};
 ghost use Rattle.topology_plan.specs.Topology.{component_of, tasks_in_all};
 ghost use Rattle.topology_plan.specs.Valid.{IsValid};
 ghost use Rattle.topology_plan.specs.Wired.{IsWired};
@@ -7,7 +8,8 @@ ghost use Rattle.tree_model.specs.declared.messages.AckMsg.TheVariants.{Failed};
 ghost use Rattle.tree_model.specs.Trees.{exec_at, write_of};
 ghost use Rattle.tuple_account.specs.Issued.{node_of};
 ghost use Rattle.tuple_account.specs.Histories.{acker_of, to_acker};
-ghost use Rattle.output_collector.specs.Collectors.{IsStarted};
+ghost use Rattle.output_collector.specs.Collectors.{IsStarted, outlet_of};
+ghost use Rattle.output_collector.specs.Outlets.{HasItsLanes};
 ghost use Rattle.bolt_task.specs.Places.{IsPlaced};
 
 use bolt_ops::{Outcome, RowOp, exec};
@@ -89,8 +91,11 @@ impl<'p, I: Ids> BoltTask<'p, I> {
             (number_of self.now) (collector_in self.now) }
         ensures valid { IsValid (topology_at self.now) }
         ensures wired { IsWired (topology_at self.now) }
+        ensures lanes { HasItsLanes (outlet_of (collector_in self.now)) }
+        ensures sound { All IsLane (outlet_of (collector_in self.now)).lanes }
     {
         self.plan.facts();
+        self.collector.facts();
     }
 
     /// What an attempt at a tuple comes to.

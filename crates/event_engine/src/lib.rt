@@ -4,7 +4,10 @@
 
 mod acker;
 mod engine;
+mod lending;
 mod start;
 mod task;
 
+pub use acker::AckerSeat;
 pub use engine::Engine;
+pub use task::TaskSeat;

@@ -1,5 +1,5 @@
 -- What follows for the fates, and for lists that pending attempts were settled with.
-use Rattle.std.proofs.Common.{◌≡◌, ◌≤◌, ◌<◌, ℕ, zero, suc, ◌+◌, ◌-◌, ◌*◌, ◌^◌, List, [], ◌∷◌, ◌++◌, length, map, take, drop, slice_get, Option, Some, refl, sym, ap, subst, ◌∙◌, arith}
+use Rattle.std.proofs.Common.{◌≡◌, ◌≤◌, ◌<◌, ℕ, zero, suc, ◌+◌, ◌-◌, ◌*◌, ◌^◌, List, [], ◌∷◌, ◌++◌, length, map, take, drop, slice_get, Option, Some, sym, ap, subst, ◌∙◌, arith}
 use Rattle.std.specs.Prelude.{slice_range}
 use Rattle.std.specs.List.{AllByRecursion}
 use Rattle.std.proofs.lemmas.List.{length-map}
@@ -9,7 +9,7 @@ use Rattle.commit_turns.specs.declared.wait.Wait.{Wait}
 use Rattle.commit_turns.specs.Account.{desk_of, ended_of, ends_of, rows_in, waits_of}
 use Rattle.counted_items.proofs.Each.{each-back, each-map, each-parts, each-weaker}
 use Rattle.counted_items.proofs.Equality.{each-within}
-use Rattle.event_worlds.specs.Accounted.{AreCaused, IsInput, LedTo, station_of}
+use Rattle.event_worlds.specs.Accounted.{AreCaused, IsInput, LedAt}
 use Rattle.event_worlds.specs.Worlds.{Known}
 use Rattle.storm_values.specs.declared.value.Root.{Root}
 use Rattle.storm_values.specs.declared.value.Value.{Value}
@@ -23,6 +23,8 @@ use Rattle.tuple_account.specs.Drawn.{AreDrawn}
 use Rattle.tuple_account.specs.Ends.{Waits, lists_of, verdicts_of_ends, verdicts_of_waits, verdicts_settled}
 use Rattle.tuple_account.specs.Fits.{IsWaiting}
 use Rattle.tuple_account.specs.Histories.{History, Opening}
+use Rattle.tuple_account.specs.Moves.{Station}
+use Rattle.tuple_account.specs.Places.{before}
 use Rattle.tuple_account.specs.Sound.{IsCaused, IsSound}
 use Rattle.tuple_account.proofs.Ending.{causes, ends_drawn}
 use Rattle.tuple_account.proofs.Routing.{verdict_code}
@@ -39,7 +41,7 @@ at-place P (y ∷ ys) (suc i) x all is = at-place P ys i x all.1 is
 abbrev pub PartsAreFewer : Topology → Custom → Type 0
 PartsAreFewer t custom = (rows : List (List Value)) (first last : ℕ) → node_count t custom (slice_range rows first last) ≤ node_count t custom rows
 
-module _ (t : Topology) (custom : Custom) (cut : Cut) (words : ℕ → ℕ → ℕ) (input : IsInput t cut) (h : History) (k : Known) (led : LedTo t custom cut words h k) where
+module _ (t : Topology) (custom : Custom) (cut : Cut) (words : ℕ → ℕ → ℕ) (input : IsInput t cut) (h : History) (k : Known) (all : Station) (led : LedAt t custom cut words all h k) where
   abbrev fates : List Attempt
   fates = k.world.fates
 
@@ -63,13 +65,13 @@ module _ (t : Topology) (custom : Custom) (cut : Cut) (words : ℕ → ℕ → �
   limit n = 40 + (n + 64) * most
 
   -- each end has its cause, and the ids of all lists are drawn
-  pub ends-caused : PartsAreFewer t custom → AreCaused t custom cut k.world.desk.tick words fates
-  ends-caused fewer = record {
-    each = causes t custom h (station_of k) led.reached (rows_in cut) (desk_of k.world.desk) (ends_of fates) led.fits;
+  pub ends-caused : ((s j : ℕ) → all.given s j ≡ before (k.counts s) j) → PartsAreFewer t custom → AreCaused t custom cut k.world.desk.tick words fates
+  ends-caused given fewer = record {
+    each = causes t custom h all led.reached (rows_in cut) (desk_of k.world.desk) (ends_of fates) led.fits;
     drawn = λ small.
         subst (λ (n : ℕ). AreDrawn t custom (λ (root : Root). rows_in cut root.txid) words (limit n) (lists_of (ends_of fates))) ends_length
-        (ends_drawn t custom h (station_of k) led.reached (rows_in cut) (desk_of k.world.desk) (ends_of fates) led.fits input.valid most (few_nodes fewer) led.starts
-        (subst (λ (n : ℕ). limit n < 2 ^ 64) (sym ends_length) small) k.counts (λ s j. refl) words led.drawn);
+        (ends_drawn t custom h all led.reached (rows_in cut) (desk_of k.world.desk) (ends_of fates) led.fits input.valid most (few_nodes fewer) led.starts
+        (subst (λ (n : ℕ). limit n < 2 ^ 64) (sym ends_length) small) k.counts given words led.drawn);
   }
 
   -- ---- lists that were settled
@@ -84,18 +86,18 @@ module _ (t : Topology) (custom : Custom) (cut : Cut) (words : ℕ → ℕ → �
       (each-parts (IsCaused t custom rows_of) (λ (w : Waits). verdicts_settled w.root w.settled) (map waits_of k.world.desk.pending)
       (each-back (IsCaused t custom rows_of) (verdicts_of_ends (ends_of fates)) (verdicts_of_waits (map waits_of k.world.desk.pending))
       (each-within verdict_code (IsCaused t custom rows_of) (verdicts_of_ends (ends_of fates) ++ verdicts_of_waits (map waits_of k.world.desk.pending)) h.heard led.fits.heard
-      (heard_causes t custom h (station_of k) led.reached rows_of led.fits.rows))))
+      (heard_causes t custom h all led.reached rows_of led.fits.rows))))
 
   pub settled-whole : (i : ℕ) (w : Wait) (list : List AckMsg) → slice_get k.world.desk.pending i ≡ Some w → w.settled ≡ Some list
       → IsSound t custom (rows_in cut w.root.txid) w.root list × IsClosed list × Covers t custom (rows_in cut w.root.txid) list
   settled-whole i w list at is =
-      let all : AllByRecursion (IsCaused t custom rows_of) (verdicts_settled w.root (Some list)) =
+      let caused : AllByRecursion (IsCaused t custom rows_of) (verdicts_settled w.root (Some list)) =
       subst (λ (o : Option (List AckMsg)). AllByRecursion (IsCaused t custom rows_of) (verdicts_settled w.root o)) is
       (at-place (λ (v : Wait). AllByRecursion (IsCaused t custom rows_of) (verdicts_settled v.root v.settled)) k.world.desk.pending i w settled_causes at) in
       let waits : IsWaiting (desk_of k.world.desk) (waits_of w) =
       at-place (λ (v : Wait). IsWaiting (desk_of k.world.desk) (waits_of v)) k.world.desk.pending i w (each-map (IsWaiting (desk_of k.world.desk)) waits_of k.world.desk.pending led.fits.waits) at in
-      let sound : IsSound t custom (rows_in cut w.root.txid) w.root list = all.0.0 in
-      let complete : IsComplete list = all.0.1 in
+      let sound : IsSound t custom (rows_in cut w.root.txid) w.root list = caused.0.0 in
+      let complete : IsComplete list = caused.0.1 in
       let closed : IsClosed list = waits.closed list is in (
         sound,
         closed,

@@ -13,7 +13,8 @@ use Rattle.commit_turns.specs.Kept.{IsKept}
 use Rattle.commit_turns.specs.Outcomes.{Begin, IsOutcome, hears}
 use Rattle.commit_turns.specs.Turns.{decided, is_finished, turned}
 use Rattle.counted_items.specs.Weights.{weigh}
-use Rattle.event_worlds.specs.Accounted.{Accounted, IsInput, LedTo}
+use Rattle.event_worlds.specs.Accounted.{Accounted, IsInput, LedAt, LedTo, station_of}
+use Rattle.event_worlds.specs.Beside.{IsFreeStep, waits}
 use Rattle.event_worlds.specs.Added.{added, first_history, step_adds, task_adds}
 use Rattle.event_worlds.specs.Worlds.{Known, Step, World, drew, first_known, is_over, next, next_outcome, next_words, no_task, of_acker, of_outcome, of_task, of_tick, of_turn, outcome_step, outcomes_of, run, step, task_at, task_needs, task_step, tick_step, turned_in}
 use Rattle.event_worlds.proofs.Acking.{led-acker}
@@ -22,7 +23,7 @@ use Rattle.event_worlds.proofs.Orderly.{task-beyond}
 use Rattle.event_worlds.proofs.Starting.{led-first}
 use Rattle.event_worlds.proofs.Tasking.{led-task}
 use Rattle.event_worlds.proofs.Ticking.{decided-tick, turned-tick}
-use Rattle.event_worlds.proofs.Turning.{TurnsWell, led-outcome, led-tick, led-turn}
+use Rattle.event_worlds.proofs.Turning.{MovesOn, TurnsWell, led-outcome, led-tick, led-turn, led-turn-none}
 use Rattle.event_worlds.proofs.Waiting.{drew-none, each-at}
 use Rattle.state_parts.specs.declared.answer.CommitOutcome.{CommitOutcome}
 use Rattle.state_parts.specs.declared.answer.CommitOutcome.TheVariants.{Done}
@@ -31,7 +32,8 @@ use Rattle.topology_plan.specs.Topology.{Topology, tasks_in_all}
 use Rattle.topology_plan.specs.Valid.{IsValid}
 use Rattle.trident_batches.specs.Batches.{Cut}
 use Rattle.tuple_account.specs.Fits.{Fits}
-use Rattle.tuple_account.specs.Histories.{History, Opening, joined, nothing, opens}
+use Rattle.tuple_account.specs.Histories.{History, Opening, Packet, joined, nothing, opens}
+use Rattle.tuple_account.specs.Moves.{Station, beside}
 use Rattle.tuple_account.specs.Sound.{is_about}
 
 -- What the laws of the coordinator's turns say.
@@ -106,10 +108,10 @@ module _ (t : Topology) (custom : Custom) (cut : Cut) (words : ℕ → ℕ → �
           let how : CommitOutcome = next_outcome outcomes w.fates in
           let is : IsOutcome t how = each-at (IsOutcome t) outcomes (length (outcomes_of w.fates)) Done (recursion_from_All (IsOutcome t) outcomes fine) tt in
           subst (λ (k : History). LedTo t custom cut words k (record { world = outcome_step t cut how w; counts = c })) (sym (joined-nothing h))
-          (led-outcome t custom cut words input h w c led how (laws.kept_outcome w.desk w.fates input.valid some_rows none led.kept how)
+          (led-outcome t custom cut words input h w c (λ s. s) (λ a b more m. m) led how (laws.kept_outcome w.desk w.fates input.valid some_rows none led.kept how)
           (laws.fits_outcome w.desk w.fates h input.valid none led.kept led.fits how is) (decided-tick t cut how w.desk))
       step-led none of_tick =
-          subst (λ (k : History). LedTo t custom cut words k (record { world = tick_step w; counts = c })) (sym (joined-nothing h)) (led-tick t custom cut words input h w c led)
+          subst (λ (k : History). LedTo t custom cut words k (record { world = tick_step w; counts = c })) (sym (joined-nothing h)) (led-tick t custom cut words input h w c (λ s. s) (λ a b more m. m) led)
 
       -- a step leads on, with what it adds
       pub next-led : (s : Step)
@@ -120,6 +122,55 @@ module _ (t : Topology) (custom : Custom) (cut : Cut) (words : ℕ → ℕ → �
               → LedTo t custom cut words (joined h (cond b nothing (step_adds t custom cut words s (record { world = w; counts = c })))) (cond b (record { world = w; counts = c }) (step t custom cut words outcomes s (record { world = w; counts = c })))
           cases true is = subst (λ (k : History). LedTo t custom cut words k (record { world = w; counts = c })) (sym (joined-nothing h)) led
           cases false is = step-led (none_if w.desk.exhausted (is_finished t cut w.desk) is) s
+
+-- ---- the coordinator's steps, with what waits beside the world
+
+module _ (t : Topology) (custom : Custom) (cut : Cut) (words : ℕ → ℕ → ℕ) (input : IsInput t cut) (laws : TurnLaws t cut) (on : Station → Station) (onward : MovesOn t custom on) (h : History) (w : World) (c : ℕ → ℕ)
+    (led : LedAt t custom cut words (on (station_of (record { world = w; counts = c }))) h (record { world = w; counts = c })) where
+  rows_there : 0 < cut.size
+  rows_there = let s = input.size in let b = input.valid.batch.0 in omega arith
+
+  turns-well-on : w.desk.exhausted ≡ None → TurnsWell t cut h w.fates w.tick (slice_get w.verdicts 0) (turned_in t cut w)
+  turns-well-on none = record {
+    kept = laws.kept_turn w.desk w.fates input.valid rows_there none led.kept (slice_get w.verdicts 0) w.unheard;
+    fits = laws.fits_turn w.desk w.fates h input.valid none led.kept led.fits (slice_get w.verdicts 0) w.unheard;
+    roots = laws.roots_turn w.desk w.fates h input.valid none led.kept led.fits (slice_get w.verdicts 0) w.unheard;
+    ticks = turned-tick t cut w.tick led.last (slice_get w.verdicts 0) w.unheard w.desk led.ticks led.unheard;
+  }
+
+  module _ (outcomes : List CommitOutcome) (fine : All (IsOutcome t) outcomes) where
+    step-led-on : w.desk.exhausted ≡ None → (s : Step) → IsFreeStep s w.orders
+        → LedAt t custom cut words (on (station_of (step t custom cut words outcomes s (record { world = w; counts = c })))) (joined h (step_adds t custom cut words s (record { world = w; counts = c }))) (step t custom cut words outcomes s (record { world = w; counts = c }))
+    unfolding step
+    step-led-on none (of_task n) no_step = absurd no_step
+    step-led-on none (of_acker n) no_step = absurd no_step
+    step-led-on none of_turn is = led-turn-none t custom cut words input h w c on onward led is (turns-well-on none)
+    step-led-on none of_outcome free =
+        let how : CommitOutcome = next_outcome outcomes w.fates in
+        let is : IsOutcome t how = each-at (IsOutcome t) outcomes (length (outcomes_of w.fates)) Done (recursion_from_All (IsOutcome t) outcomes fine) tt in
+        subst (λ (k : History). LedAt t custom cut words (on (station_of (record { world = outcome_step t cut how w; counts = c }))) k (record { world = outcome_step t cut how w; counts = c })) (sym (joined-nothing h))
+        (led-outcome t custom cut words input h w c on onward led how (laws.kept_outcome w.desk w.fates input.valid rows_there none led.kept how)
+        (laws.fits_outcome w.desk w.fates h input.valid none led.kept led.fits how is) (decided-tick t cut how w.desk))
+    step-led-on none of_tick free =
+        subst (λ (k : History). LedAt t custom cut words (on (station_of (record { world = tick_step w; counts = c }))) k (record { world = tick_step w; counts = c })) (sym (joined-nothing h)) (led-tick t custom cut words input h w c on onward led)
+
+    pub next-led-on : (s : Step) → IsFreeStep s w.orders
+        → LedAt t custom cut words (on (station_of (next t custom cut words outcomes s (record { world = w; counts = c })))) (joined h (added t custom cut words s (record { world = w; counts = c }))) (next t custom cut words outcomes s (record { world = w; counts = c }))
+    next-led-on s of = cases (is_over t cut w) refl
+      where
+        cases : (b : Bool) → is_over t cut w ≡ b
+            → LedAt t custom cut words (on (station_of (cond b (record { world = w; counts = c }) (step t custom cut words outcomes s (record { world = w; counts = c }))))) (joined h (cond b nothing (step_adds t custom cut words s (record { world = w; counts = c })))) (cond b (record { world = w; counts = c }) (step t custom cut words outcomes s (record { world = w; counts = c })))
+        cases true is = subst (λ (k : History). LedAt t custom cut words (on (station_of (record { world = w; counts = c }))) k (record { world = w; counts = c })) (sym (joined-nothing h)) led
+        cases false is = step-led-on (none_if w.desk.exhausted (is_finished t cut w.desk) is) s of
+
+-- packets that wait beside
+pub moves-on : (t : Topology) (custom : Custom) (weight : (Packet → ℕ) → ℕ) → MovesOn t custom (λ s. beside (waits weight) s)
+moves-on t custom weight a b more m = record {
+  packets = λ f. let e = m.packets f in omega arith;
+  notes = λ g. let e = m.notes g in omega arith;
+  draws = λ s j. let e = m.draws s j in omega arith;
+  well = m.well;
+}
 
 -- so do all steps
 pub run-accounted : (t : Topology) (custom : Custom) (cut : Cut) (words : ℕ → ℕ → ℕ) (outcomes : List CommitOutcome)

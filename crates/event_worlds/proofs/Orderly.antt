@@ -96,6 +96,20 @@ stand_first t words valid wired n from =
 
 -- ---- an execution
 
+-- what a well made execution of a tuple that fits sends fits
+pub sent-fits : (t : Topology) (custom : Custom) → IsValid t → IsWired t → IsCustom custom → (e : Execution) → IsExecution t custom e → IsForTask t e.run.task e.run.tuple
+    → AllByRecursion (FitsParcel t) (execution_parcels t custom e)
+sent-fits t custom valid wired keeps e well for =
+    let tuple : Tuple = e.run.tuple in
+    let node : Node = node_of tuple in
+    let has : HasRow t node = subst (λ c. IsRow (width_to t c) tuple.row) (sym for.to) for.row in
+    let children : AllByRecursion (HasTupleRow t) (children_of t custom e.run) =
+    each-made (HasTupleRow t) (course_of_run t custom e.run) (tuples_from tuple.root tuple.edge.path 0 (kids_of t custom node) e.run.ids)
+    (rows_of_tuples t tuple.root tuple.edge.path 0 (kids_of t custom node) e.run.ids (children_have_rows t valid wired custom keeps node has)) in
+    each-append (FitsParcel t) (to_tasks (children_of t custom e.run) e.targets) (map (to_acker t) (notes_of t custom e.run))
+    (tuples_fit t (children_of t custom e.run) e.targets well.sent children)
+    (each-to_map (FitsParcel t) (to_acker t) (notes_of t custom e.run) (each-any (λ (m : AckMsg). FitsParcel t (to_acker t m)) (message_fits t valid) (notes_of t custom e.run)))
+
 module _ (t : Topology) (custom : Custom) (valid : IsValid t) (wired : IsWired t) (n : ℕ) (s : Stand) (tuple : Tuple) (ids : List ℕ)
     (for : IsForTask t n tuple) (stand : IsStandOf t (origin.Component (component_of t n)) s) (enough : length ids ≡ tuples_made t custom tuple) where
   -- a task's execution is well made
@@ -111,18 +125,10 @@ module _ (t : Topology) (custom : Custom) (valid : IsValid t) (wired : IsWired t
   -- what it sends fits, and it leaves the task with its own lanes
   pub executed-fits : IsCustom custom → AllByRecursion (FitsParcel t) (execution_parcels t custom (execution_by t custom n s tuple ids))
       × IsStandOf t (origin.Component (component_of t n)) (stand_moved (rows_of t custom tuple) (length ids) s)
-  executed-fits keeps =
-      let node = node_of tuple in
-      let has : HasRow t node = subst (λ c. IsRow (width_to t c) tuple.row) (sym for.to) for.row in
-      let e : Execution = execution_by t custom n s tuple ids in
-      let children : AllByRecursion (HasTupleRow t) (children_of t custom e.run) =
-      each-made (HasTupleRow t) (course_of_run t custom e.run) (tuples_from tuple.root tuple.edge.path 0 (kids_of t custom node) ids)
-      (rows_of_tuples t tuple.root tuple.edge.path 0 (kids_of t custom node) ids (children_have_rows t valid wired custom keeps node has)) in (
-        each-append (FitsParcel t) (to_tasks (children_of t custom e.run) e.targets) (map (to_acker t) (notes_of t custom e.run))
-            (tuples_fit t (children_of t custom e.run) e.targets executed-well.sent children)
-            (each-to_map (FitsParcel t) (to_acker t) (notes_of t custom e.run) (each-any (λ (m : AckMsg). FitsParcel t (to_acker t m)) (message_fits t valid) (notes_of t custom e.run))),
-        stand_on t (origin.Component (component_of t n)) s (rows_of t custom tuple) _ stand,
-      )
+  executed-fits keeps = (
+    sent-fits t custom valid wired keeps (execution_by t custom n s tuple ids) executed-well for,
+    stand_on t (origin.Component (component_of t n)) s (rows_of t custom tuple) _ stand,
+  )
 
 -- ---- roots that begin
 

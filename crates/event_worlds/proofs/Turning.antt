@@ -16,7 +16,7 @@ use Rattle.commit_turns.specs.Turns.{Turned, decided}
 use Rattle.counted_items.specs.Weights.{weigh}
 use Rattle.counted_items.proofs.Each.{each-weaker}
 use Rattle.counted_items.proofs.Weighing.{weigh-flat_map}
-use Rattle.event_worlds.specs.Accounted.{IsCounted, IsInput, LedTo, station_of}
+use Rattle.event_worlds.specs.Accounted.{IsCounted, IsInput, LedAt, LedTo, station_of}
 use Rattle.event_worlds.specs.Added.{placed, turn_adds, turn_adds_past}
 use Rattle.event_worlds.specs.Orderly.{FitsParcel, IsOrderly}
 use Rattle.event_worlds.specs.Worlds.{World, drew, ended, first_needs, next_words, opened, outcome_step, stand_past, tick_step, turn_needs, turn_needs_past, turn_past, turn_step, turned_in, with_progress, with_turn}
@@ -31,7 +31,7 @@ use Rattle.tree_model.specs.declared.messages.Parcel.{Parcel}
 use Rattle.trident_batches.specs.Batches.{Cut}
 use Rattle.tuple_account.specs.Fits.{Fits}
 use Rattle.tuple_account.specs.Histories.{History, IsOpening, Opening, joined, of_parcel, of_verdict, opening_parcels, opens, weigh_parcels}
-use Rattle.tuple_account.specs.Moves.{Moves, beside}
+use Rattle.tuple_account.specs.Moves.{Moves, Station, beside}
 use Rattle.tuple_account.specs.Parts.{holding}
 use Rattle.tuple_account.specs.Places.{HasWords, before, spans}
 use Rattle.tuple_account.specs.Sound.{is_about}
@@ -48,7 +48,12 @@ pub record TurnsWell (t : Topology) (cut : Cut) (h : History) (fates : List Atte
   pub roots : (openings : List Opening) → Begin t cut openings to.begun → (root : Root) → weigh (opens root) h.begun + weigh (opens root) openings ≤ 1
   pub ticks : to.desk.tick ≤ tick
 
-module _ (t : Topology) (custom : Custom) (cut : Cut) (words : ℕ → ℕ → ℕ) (input : IsInput t cut) (h : History) (w : World) (c : ℕ → ℕ) (led : LedTo t custom cut words h (record { world = w; counts = c })) where
+-- what moves a world moves it with what waits beside it
+abbrev pub MovesOn : Topology → Custom → (Station → Station) → Type 0
+MovesOn t custom on = (a b : Station) (more : History) → Moves t custom a more b → Moves t custom (on a) more (on b)
+
+module _ (t : Topology) (custom : Custom) (cut : Cut) (words : ℕ → ℕ → ℕ) (input : IsInput t cut) (h : History) (w : World) (c : ℕ → ℕ) (on : Station → Station) (onward : MovesOn t custom on)
+    (led : LedAt t custom cut words (on (station_of (record { world = w; counts = c }))) h (record { world = w; counts = c })) where
   -- ---- a turn
 
   abbrev n : ℕ
@@ -66,7 +71,7 @@ module _ (t : Topology) (custom : Custom) (cut : Cut) (words : ℕ → ℕ → �
         draws = λ s j. omega arith;
         well = record { begun = tt; runs = tt; told = tt };
       } in
-      let reached = reached-then t custom _ _ h (hears verdict []) led.reached moves (λ r. let o = led.reached.once r in omega arith) in
+      let reached = reached-then t custom _ _ h (hears verdict []) led.reached (onward _ _ (hears verdict []) moves) (λ r. let o = led.reached.once r in omega arith) in
       subst (λ (begun : List Opening). weigh (is_about root) (h.heard ++ option_to_list verdict) ≤ weigh (opens root) begun) (append-nil h.begun)
       (heard_begun t custom (joined h (hears verdict [])) _ reached root)
 
@@ -128,9 +133,9 @@ module _ (t : Topology) (custom : Custom) (cut : Cut) (words : ℕ → ℕ → �
       spout = given-past t cut n (c n) w.spout end shown led.counted.spout are.opened ∙ ap (λ (k : ℕ). ended (c n + k)) drawn ∙ ap ended (sym (drew-here c n need));
     }
 
-    turned_to : IsOrderly t (with_turn t cut ids to w) → LedTo t custom cut words (joined h (hears verdict begun)) (record { world = with_turn t cut ids to w; counts = now })
+    pub turned_to : IsOrderly t (with_turn t cut ids to w) → LedAt t custom cut words (on (station_of (record { world = with_turn t cut ids to w; counts = now }))) (joined h (hears verdict begun)) (record { world = with_turn t cut ids to w; counts = now })
     turned_to fit = record {
-      reached = reached-then t custom _ _ h (hears verdict begun) led.reached moves (turns.roots begun begins);
+      reached = reached-then t custom _ _ h (hears verdict begun) led.reached (onward _ _ (hears verdict begun) moves) (turns.roots begun begins);
       drawn = drawn-both words h (hears verdict begun) led.drawn (record { of_begun = placed-words words n (c n) shown of_source has_words; of_runs = tt });
       starts = starts-more h (hears verdict begun) refl led.starts;
       orderly = fit;
@@ -152,45 +157,18 @@ module _ (t : Topology) (custom : Custom) (cut : Cut) (words : ℕ → ℕ → �
   orderly : (orders : List Parcel) → w.orders ≡ orders → IsOrderly t (turn_past t cut ids_all w orders)
   orderly orders is = subst (λ (xs : List Parcel). IsOrderly t (turn_past t cut ids_all w xs)) is (orderly-turn t cut w input led.orderly ids_all (length-map-range_with_len (words n) (c n) need_all))
 
-  hands_over : (parcel : Parcel) (rest : List Parcel) → w.orders ≡ parcel ∷ rest → LedTo t custom cut words h (record { world = turn_past t cut ids_all w (parcel ∷ rest); counts = drew n need_all c })
-  hands_over parcel rest is =
-      let none : need_all ≡ 0 = ap (turn_needs_past t cut w) is in
-      let fit : FitsParcel t parcel = (subst (AllByRecursion (FitsParcel t)) is led.orderly.orders).0 in
-      let same : (s : ℕ) → drew n need_all c s ≡ c s = (λ s. drew-none c n need_all s none) in
-      led-delivered t custom cut words (record w { orders = rest }) (drew n need_all c) parcel h fit (orderly (parcel ∷ rest) is) (record {
-        reached = reached-alike t custom h (station_of (record { world = w; counts = c })) (beside (holding (of_parcel parcel ∷ [])) (station_of (record { world = record w { orders = rest }; counts = drew n need_all c }))) (record {
-          waiting = λ f. let o = ap (weigh_parcels f) is in omega arith;
-          kept = λ g. omega arith;
-          given = λ s j. let e = ap (λ (k : ℕ). before k j) (same s) in omega arith;
-        }) led.reached;
-        drawn = led.drawn;
-        starts = led.starts;
-        tasks = led.orderly.task_count;
-        ackers = led.orderly.acker_count;
-        counted = counted-same t (record w { orders = rest }) c (drew n need_all c) same (record { tasks = led.counted.tasks; spout = led.counted.spout });
-        kept = led.kept;
-        fits = led.fits;
-        silent = led.silent;
-        ticks = led.ticks;
-        unheard = led.unheard;
-        last = led.last;
-      })
-
-  by_orders : (orders : List Parcel) → w.orders ≡ orders → TurnsWell t cut h w.fates w.tick verdict (turned_in t cut w)
-      → LedTo t custom cut words (joined h (turn_adds_past t cut (c n) ids_all w orders)) (record { world = turn_past t cut ids_all w orders; counts = drew n need_all c })
-  by_orders (parcel ∷ rest) is turns =
-      subst (λ (k : History). LedTo t custom cut words k (record { world = turn_past t cut ids_all w (parcel ∷ rest); counts = drew n need_all c })) (sym (joined-nothing h)) (hands_over parcel rest is)
-  by_orders [] is turns = turned_to (turned_in t cut w) turns need_all (ap (turn_needs_past t cut w) is) is (orderly [] is)
-
-  -- the coordinator has its step
-  pub led-turn : TurnsWell t cut h w.fates w.tick verdict (turned_in t cut w) → LedTo t custom cut words (joined h (turn_adds t cut (c n) ids_all w)) (record { world = turn_step t cut ids_all w; counts = drew n need_all c })
-  led-turn turns = by_orders w.orders refl turns
+  -- the coordinator has its step, with nothing left to hand over
+  pub led-turn-none : w.orders ≡ [] → TurnsWell t cut h w.fates w.tick verdict (turned_in t cut w)
+      → LedAt t custom cut words (on (station_of (record { world = turn_step t cut ids_all w; counts = drew n need_all c }))) (joined h (turn_adds t cut (c n) ids_all w)) (record { world = turn_step t cut ids_all w; counts = drew n need_all c })
+  led-turn-none none turns =
+      subst (λ (out : List Parcel). LedAt t custom cut words (on (station_of (record { world = turn_past t cut ids_all w out; counts = drew n need_all c }))) (joined h (turn_adds_past t cut (c n) ids_all w out)) (record { world = turn_past t cut ids_all w out; counts = drew n need_all c }))
+      (sym none) (turned_to (turned_in t cut w) turns need_all (ap (turn_needs_past t cut w) none) none (orderly [] none))
 
   -- ---- an outcome
 
   -- an attempt's commit came to this
   progressed : (p : Progress) → IsKept t cut p.desk (w.fates ++ p.ended) → Fits t (rows_in cut) (desk_of p.desk) (ends_of (w.fates ++ p.ended)) h → p.desk.tick ≡ w.desk.tick → IsOrderly t (with_progress t cut p w)
-      → LedTo t custom cut words h (record { world = with_progress t cut p w; counts = c })
+      → LedAt t custom cut words (on (station_of (record { world = with_progress t cut p w; counts = c }))) h (record { world = with_progress t cut p w; counts = c })
   progressed p kept fits tick fit = record {
     reached = led.reached;
     drawn = led.drawn;
@@ -207,16 +185,16 @@ module _ (t : Topology) (custom : Custom) (cut : Cut) (words : ℕ → ℕ → �
 
   pub led-outcome : (how : CommitOutcome) → IsKept t cut (decided t cut how w.desk).desk (w.fates ++ (decided t cut how w.desk).ended)
       → Fits t (rows_in cut) (desk_of (decided t cut how w.desk).desk) (ends_of (w.fates ++ (decided t cut how w.desk).ended)) h → (decided t cut how w.desk).desk.tick ≡ w.desk.tick
-      → LedTo t custom cut words h (record { world = outcome_step t cut how w; counts = c })
+      → LedAt t custom cut words (on (station_of (record { world = outcome_step t cut how w; counts = c }))) h (record { world = outcome_step t cut how w; counts = c })
   led-outcome how kept fits tick = cases w.desk.out refl
     where
-      cases : (b : Bool) → w.desk.out ≡ b → LedTo t custom cut words h (record { world = cond b (with_progress t cut (decided t cut how w.desk) w) w; counts = c })
+      cases : (b : Bool) → w.desk.out ≡ b → LedAt t custom cut words (on (station_of (record { world = cond b (with_progress t cut (decided t cut how w.desk) w) w; counts = c }))) h (record { world = cond b (with_progress t cut (decided t cut how w.desk) w) w; counts = c })
       cases true is = progressed (decided t cut how w.desk) kept fits tick (subst (λ (b : Bool). IsOrderly t (cond b (with_progress t cut (decided t cut how w.desk) w) w)) is (orderly-outcome t cut w led.orderly how))
       cases false is = led
 
   -- ---- a tick
 
-  pub led-tick : LedTo t custom cut words h (record { world = tick_step w; counts = c })
+  pub led-tick : LedAt t custom cut words (on (station_of (record { world = tick_step w; counts = c }))) h (record { world = tick_step w; counts = c })
   led-tick = record {
     reached = led.reached;
     drawn = led.drawn;
@@ -230,3 +208,52 @@ module _ (t : Topology) (custom : Custom) (cut : Cut) (words : ℕ → ℕ → �
     unheard = let e = led.unheard in let l = led.last in omega arith;
     last = omega arith;
   }
+
+-- ---- a turn of a world with nothing beside it
+
+module _ (t : Topology) (custom : Custom) (cut : Cut) (words : ℕ → ℕ → ℕ) (input : IsInput t cut) (h : History) (w : World) (c : ℕ → ℕ) (led : LedTo t custom cut words h (record { world = w; counts = c })) where
+  abbrev m : ℕ
+  m = tasks_in_all t
+
+  abbrev needs : ℕ
+  needs = turn_needs t cut w
+
+  abbrev drawn_ids : List ℕ
+  drawn_ids = next_words words c m needs
+
+  orderly_by : (orders : List Parcel) → w.orders ≡ orders → IsOrderly t (turn_past t cut drawn_ids w orders)
+  orderly_by orders is = orderly t custom cut words input h w c (λ s. s) (λ a b more x. x) led orders is
+
+  hands_over : (parcel : Parcel) (rest : List Parcel) → w.orders ≡ parcel ∷ rest → LedTo t custom cut words h (record { world = turn_past t cut drawn_ids w (parcel ∷ rest); counts = drew m needs c })
+  hands_over parcel rest is =
+      let none : needs ≡ 0 = ap (turn_needs_past t cut w) is in
+      let fit : FitsParcel t parcel = (subst (AllByRecursion (FitsParcel t)) is led.orderly.orders).0 in
+      let same : (s : ℕ) → drew m needs c s ≡ c s = (λ s. drew-none c m needs s none) in
+      led-delivered t custom cut words (record w { orders = rest }) (drew m needs c) parcel h fit (orderly_by (parcel ∷ rest) is) (record {
+        reached = reached-alike t custom h (station_of (record { world = w; counts = c })) (beside (holding (of_parcel parcel ∷ [])) (station_of (record { world = record w { orders = rest }; counts = drew m needs c }))) (record {
+          waiting = λ f. let o = ap (weigh_parcels f) is in omega arith;
+          kept = λ g. omega arith;
+          given = λ s j. let e = ap (λ (k : ℕ). before k j) (same s) in omega arith;
+        }) led.reached;
+        drawn = led.drawn;
+        starts = led.starts;
+        tasks = led.orderly.task_count;
+        ackers = led.orderly.acker_count;
+        counted = counted-same t (record w { orders = rest }) c (drew m needs c) same (record { tasks = led.counted.tasks; spout = led.counted.spout });
+        kept = led.kept;
+        fits = led.fits;
+        silent = led.silent;
+        ticks = led.ticks;
+        unheard = led.unheard;
+        last = led.last;
+      })
+
+  by_orders : (orders : List Parcel) → w.orders ≡ orders → TurnsWell t cut h w.fates w.tick (slice_get w.verdicts 0) (turned_in t cut w)
+      → LedTo t custom cut words (joined h (turn_adds_past t cut (c m) drawn_ids w orders)) (record { world = turn_past t cut drawn_ids w orders; counts = drew m needs c })
+  by_orders (parcel ∷ rest) is turns =
+      subst (λ (k : History). LedTo t custom cut words k (record { world = turn_past t cut drawn_ids w (parcel ∷ rest); counts = drew m needs c })) (sym (joined-nothing h)) (hands_over parcel rest is)
+  by_orders [] is turns = turned_to t custom cut words input h w c (λ s. s) (λ a b more m. m) led (turned_in t cut w) turns needs (ap (turn_needs_past t cut w) is) is (orderly_by [] is)
+
+  -- the coordinator has its step
+  pub led-turn : TurnsWell t cut h w.fates w.tick (slice_get w.verdicts 0) (turned_in t cut w) → LedTo t custom cut words (joined h (turn_adds t cut (c m) drawn_ids w)) (record { world = turn_step t cut drawn_ids w; counts = drew m needs c })
+  led-turn turns = by_orders w.orders refl turns

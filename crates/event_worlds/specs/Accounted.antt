@@ -71,10 +71,11 @@ pub record IsCounted (t : Topology) (k : Known) : Type 0 where
       → (task_at t n k.world).stand.given ≡ ended (k.counts n)
   pub spout : k.world.spout.given ≡ ended (k.counts (tasks_in_all t))
 
--- A history led to a world, where sources have these words.
-pub record LedTo (t : Topology) (custom : Custom) (cut : Cut) (words : ℕ → ℕ → ℕ) (h : History)
-    (k : Known) : Type 0 where
-  pub reached : Reached t custom h (station_of k)
+-- A history led to a world, where sources have these words and all that waits is this: what waits
+-- in the world, or more beside it.
+pub record LedAt (t : Topology) (custom : Custom) (cut : Cut) (words : ℕ → ℕ → ℕ) (all : Station)
+    (h : History) (k : Known) : Type 0 where
+  pub reached : Reached t custom h all
   pub drawn : HasDrawn words h
   pub starts : (s : ℕ) → started s h ≤ 40
   pub orderly : IsOrderly t k.world
@@ -86,6 +87,10 @@ pub record LedTo (t : Topology) (custom : Custom) (cut : Cut) (words : ℕ → �
   pub ticks : k.world.desk.tick ≤ k.world.tick
   pub unheard : ended (k.world.desk.tick + k.world.unheard) ≤ k.world.tick
   pub last : k.world.tick ≤ 2 ^ 64 - 1
+
+-- a history led to a world, and nothing waits beside it
+abbrev pub LedTo : Topology → Custom → Cut → (ℕ → ℕ → ℕ) → History → Known → Type 0
+LedTo t custom cut words h k = LedAt t custom cut words (station_of k) h k
 
 -- some history led to it
 abbrev pub Accounted : Topology → Custom → Cut → (ℕ → ℕ → ℕ) → Known → Type 0

@@ -3,3 +3,4 @@ pub mod Orderly
 pub mod Accounted
 pub mod Added
 pub mod Rounds
+pub mod Beside

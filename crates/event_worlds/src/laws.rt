@@ -3,7 +3,8 @@ ghost use Rattle.bolt_ops.specs.RowOp.{Custom, IsCustom};
 ghost use Rattle.commit_turns.specs.declared.wait.Wait.{Wait};
 ghost use Rattle.commit_turns.specs.Account.{rows_in};
 ghost use Rattle.commit_turns.specs.Outcomes.{IsOutcome};
-ghost use Rattle.event_worlds.specs.Accounted.{Accounted, AreCaused, IsInput, LedTo};
+ghost use Rattle.event_worlds.specs.Accounted.{Accounted, AreCaused, IsInput, LedAt, LedTo};
+ghost use Rattle.event_worlds.specs.Beside.{IsFreeStep, LedBeside};
 ghost use Rattle.event_worlds.specs.Added.{added, first_history};
 ghost use Rattle.event_worlds.specs.Worlds.{Known, Step, first_known, next, run};
 ghost use Rattle.state_parts.specs.declared.answer.CommitOutcome.{CommitOutcome};
@@ -11,7 +12,8 @@ ghost use Rattle.topology_plan.specs.Topology.{Topology};
 ghost use Rattle.tree_model.specs.declared.messages.AckMsg.{AckMsg};
 ghost use Rattle.tree_model.specs.Lists.{Covers, IsClosed};
 ghost use Rattle.trident_batches.specs.Batches.{Cut};
-ghost use Rattle.tuple_account.specs.Histories.{History, joined};
+ghost use Rattle.tuple_account.specs.Histories.{History, Packet, joined};
+ghost use Rattle.tuple_account.specs.Moves.{Station};
 ghost use Rattle.tuple_account.specs.Sound.{IsSound};
 
 use commit_turns::{accounts_stay_fit, desks_are_kept};
@@ -53,6 +55,21 @@ pub fn worlds_are_accounted()
     steps_add_to_histories();
 }
 
+/// A law: the coordinator's steps lead on where packets wait beside the world, as in boxes that
+/// others use, and it has nothing left to hand over.
+pub fn coordinators_steps_lead_on_beside()
+    ensures { (t : Topology) (custom : Custom) (cut : Cut) (words : ℕ → ℕ → ℕ)
+        (outcomes : List CommitOutcome) (s : Step) (weight : (Packet → ℕ) → ℕ) (h : History)
+        (k : Known)
+        → IsInput t cut → All (IsOutcome t) outcomes → IsFreeStep s k.world.orders
+        → LedBeside t custom cut words weight h k
+        → LedBeside t custom cut words weight (joined h (added t custom cut words s k))
+        (next t custom cut words outcomes s k) }
+{
+    desks_are_kept();
+    accounts_stay_fit();
+}
+
 /// A law: in each such world every end has its cause, and the ids of all lists are drawn.
 pub fn ends_of_worlds_have_causes()
     ensures { (t : Topology) (custom : Custom) (cut : Cut) (words : ℕ → ℕ → ℕ) (k : Known)
@@ -72,3 +89,21 @@ pub fn settled_lists_are_whole()
         → IsSound t custom (rows_in cut w.root.txid) w.root list × IsClosed list
         × Covers t custom (rows_in cut w.root.txid) list }
 {}
+
+/// A law: what holds of ends and of settled lists in such worlds holds too where packets wait
+/// beside them.
+pub fn worlds_with_others_are_accounted()
+    ensures causes { (t : Topology) (custom : Custom) (cut : Cut) (words : ℕ → ℕ → ℕ)
+        (weight : (Packet → ℕ) → ℕ) (h : History) (k : Known)
+        → IsInput t cut → LedBeside t custom cut words weight h k
+        → AreCaused t custom cut k.world.desk.tick words k.world.fates }
+    ensures settled { (t : Topology) (custom : Custom) (cut : Cut) (words : ℕ → ℕ → ℕ)
+        (all : Station) (h : History) (k : Known)
+        → IsInput t cut → LedAt t custom cut words all h k
+        → (i : ℕ) (w : Wait) (list : List AckMsg)
+        → slice_get k.world.desk.pending i ≡ Some w → w.settled ≡ Some list
+        → IsSound t custom (rows_in cut w.root.txid) w.root list × IsClosed list
+        × Covers t custom (rows_in cut w.root.txid) list }
+{
+    nodes_of_joined_rows();
+}

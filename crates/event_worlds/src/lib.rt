@@ -5,6 +5,6 @@
 mod laws;
 
 pub use laws::{
-    ends_of_worlds_have_causes, settled_lists_are_whole, steps_add_to_histories,
-    worlds_are_accounted,
+    coordinators_steps_lead_on_beside, ends_of_worlds_have_causes, settled_lists_are_whole,
+    steps_add_to_histories, worlds_are_accounted, worlds_with_others_are_accounted,
 };

@@ -25,9 +25,9 @@ use Rattle.event_engine.proofs.LoopLemmas.{goes_there}
 use Rattle.event_engine.specs.declared.engine.Engine.{Engine}
 use Rattle.event_engine.specs.Engines.{DecidesShort, Goes, HasOutcomes, IsIdle, IsOrder, IsReady, cut_in, has_ended, shape, topology_in}
 use Rattle.event_worlds.proofs.Committed.{decided-done, decided-failed}
-use Rattle.event_worlds.specs.Accounted.{Accounted, IsInput}
+use Rattle.event_worlds.specs.Accounted.{IsInput, LedAt, station_of}
 use Rattle.event_worlds.specs.Worlds.{Known, Step, World, is_over, next_outcome, next_words, of_outcome, of_turn, coordinator_steps, outcome_step, outcomes_of, run, step, turn_needs, turn_step, with_progress}
-use Rattle.schedule_core.specs.Driving.{Breaks, Drives, Leaves, WantsMemory, committed_by}
+use Rattle.schedule_core.specs.Driving.{Breaks, Drives, HasDeskOf, Leaves, WantsMemory, committed_by}
 use Rattle.schedule_core.specs.Laws.{CommitLaws, Laws}
 use Rattle.schedule_core.proofs.Drives.{drives-none, drives-still, drives-then}
 use Rattle.schedule_core.proofs.Quiet.{IsQuiet, commits_append, none_commits, none_failed_of, none_turned, quiet_nothing, quiet_same, quiet_turn, some_none}
@@ -43,6 +43,8 @@ use Rattle.topology_plan.specs.Topology.{Topology, tasks_in_all}
 use Rattle.tree_model.specs.declared.messages.AckMsg.{AckMsg}
 use Rattle.tree_model.specs.declared.write.Write.{Write}
 use Rattle.trident_batches.specs.Batches.{Cut}
+use Rattle.tuple_account.specs.Histories.{History}
+use Rattle.tuple_account.specs.Moves.{Station}
 
 -- ---- lists
 
@@ -111,18 +113,18 @@ pub record CommitComes {S : Type 0} (holds : S → CellMap → Type 0) (count : 
 
 module _ {S : Type 0} (holds : S → CellMap → Type 0) (count : S → ℕ) (t : Topology) (custom : Custom) (cut : Cut) where
   -- the writes of a commit that was ordered are those of its batch
-  ordered_writes : (more : CommitLaws holds count t custom cut) (words : ℕ → ℕ → ℕ) (k : Known) (w : Wait) (commit : Commit) → IsInput t cut → Accounted t custom cut words k → next_to_commit t cut k.world.desk ≡ Some w → IsCommitOf (Some w) (Some commit)
+  ordered_writes : (more : CommitLaws holds count t custom cut) (words : ℕ → ℕ → ℕ) (all : Station) (h : History) (k : Known) (w : Wait) (commit : Commit) → IsInput t cut → LedAt t custom cut words all h k → next_to_commit t cut k.world.desk ≡ Some w → IsCommitOf (Some w) (Some commit)
       → (commit.writes ≡ writes_at t custom cut w.root.txid) × (w.root.txid ≤ batches_in cut)
-  ordered_writes more words k w commit input led next is =
+  ordered_writes more words all h k w commit input led next is =
       let found = found_at (λ (x : Wait). (x.root.txid == k.world.desk.committed + 1) && is_some x.settled) k.world.desk.pending w next in
       let settled : is_some w.settled ≡ true = both_true (w.root.txid == k.world.desk.committed + 1) (is_some w.settled) found.2 in
-      let waits : IsWaiting t cut k.world.desk w = subst (IsWaiting t cut k.world.desk) (get_or_from_slice_get k.world.desk.pending found.0 w w found.1) (led.1.kept.waits found.0 w (slice_get_within k.world.desk.pending found.0 w found.1)) in
+      let waits : IsWaiting t cut k.world.desk w = subst (IsWaiting t cut k.world.desk) (get_or_from_slice_get k.world.desk.pending found.0 w w found.1) (led.kept.waits found.0 w (slice_get_within k.world.desk.pending found.0 w found.1)) in
       (by w.settled refl settled found.0 found.1, waits.there)
     where
       by : (o : Option (List AckMsg)) → w.settled ≡ o → is_some o ≡ true → (i : ℕ) → slice_get k.world.desk.pending i ≡ Some w → commit.writes ≡ writes_at t custom cut w.root.txid
       by None same some i at = absurd (true≢false (sym some))
       by (Some list) same some i at =
-          let whole = more.settled words k input led i w list at same in
+          let whole = more.settled words all h k input led i w list at same in
           whole_writes t custom (rows_in cut w.root.txid) w.root list commit.writes input.valid whole.0.is_true whole.0.is_single whole.2 (is.1 list same)
 
 module _ {I S : Type 0} {g : Ghosts I} (tells : I → (ℕ → ℕ) → ℕ → Type 0) (holds : S → CellMap → Type 0) (count : S → ℕ) (t : Topology) (custom : Custom) (cut : Cut) where
@@ -166,13 +168,17 @@ module _ {I S : Type 0} {g : Ghosts I} (tells : I → (ℕ → ℕ) → ℕ → 
   }
 
   -- the writes of a commit that was ordered are those of the next batch, which is there
-  next_writes : (more : CommitLaws holds count t custom cut) (words : ℕ → ℕ → ℕ) (counts : ℕ → ℕ) (mid : Engine I g) (w : Wait) (commit : Commit) → IsInput t cut → Accounted t custom cut words (record { world = shape mid; counts = counts })
+  next_writes : (more : CommitLaws holds count t custom cut) (words : ℕ → ℕ → ℕ) (all : Station) (h : History) (k : Known) (mid : Engine I g) (w : Wait) (commit : Commit) → k.world.desk ≡ (shape mid).desk → IsInput t cut → LedAt t custom cut words all h k
       → next_to_commit t cut (shape mid).desk ≡ Some w → IsCommitOf (Some w) (Some commit) → commit.root.txid ≡ committed_by mid + 1 → (commit.writes ≡ writes_at t custom cut (committed_by mid + 1)) × (committed_by mid < batches_in cut)
-  next_writes more words counts mid w commit input led next ordered txid =
-      let made = ordered_writes holds count t custom cut more words (record { world = shape mid; counts = counts }) w commit input led next ordered in
+  next_writes more words all h k mid w commit same input led next ordered txid =
+      let made = ordered_writes holds count t custom cut more words all h k w commit input led (ap (next_to_commit t cut) same ∙ next) ordered in
       let number : w.root.txid ≡ committed_by mid + 1 = sym (ap (λ r. r.txid) ordered.0) ∙ txid in
       let below : committed_by mid < batches_in cut = (let e = number in let f = made.1 in omega arith) in
       (made.0 ∙ ap (writes_at t custom cut) number, below)
+
+  -- the fates tell as many commits as there were
+  commits_at : (mid : Engine I g) (words : ℕ → ℕ → ℕ) (all : Station) (h : History) (k : Known) → HasDeskOf mid k → LedAt t custom cut words all h k → length (committed_txids mid.fates) ≡ committed_by mid
+  commits_at mid words all h k has led = ap (λ (fs : List Attempt). length (committed_txids fs)) (sym has.fates) ∙ led.kept.commits ∙ ap (λ (d : Desk). d.committed) has.desk
 
   -- what a commit left that was ordered and came to its outcome or was broken off
   module _ (laws : Laws count t custom cut) (more : CommitLaws holds count t custom cut) (mid : Engine I g) (was is : List (StatePart S)) (w : Wait) (commit : Commit)
@@ -183,9 +189,9 @@ module _ {I S : Type 0} {g : Ghosts I} (tells : I → (ℕ → ℕ) → ℕ → 
     leaves-broken fates same once = record {
       more = [];
       added = same ∙ sym (append-nil mid.fates);
-      stands = λ words counts input led stand.
-          let made = next_writes more words counts mid w commit input led next ordered txid in
-          let commits : length (committed_txids fates) ≡ committed_by mid = ap (λ (fs : List Attempt). length (committed_txids fs)) same ∙ led.1.kept.commits in
+      stands = λ words all h k has input led stand.
+          let made = next_writes more words all h k mid w commit has.desk input led next ordered txid in
+          let commits : length (committed_txids fates) ≡ committed_by mid = ap (λ (fs : List Attempt). length (committed_txids fs)) same ∙ commits_at mid words all h k has led in
           subst (λ (n : ℕ). PartsStand holds t custom cut n is) (sym commits)
           (more.broken_off (committed_by mid) was is stand made.1
           (subst (λ (ws : List Write). ArePerhapsCommitted holds (committed_by mid + 1) ws was is) made.0 (subst (λ (n : ℕ). ArePerhapsCommitted holds n commit.writes was is) txid kept)));
@@ -203,16 +209,24 @@ module _ {I S : Type 0} {g : Ghosts I} (tells : I → (ℕ → ℕ) → ℕ → 
         subst (λ (n : ℕ). PartsStand holds t custom cut n is) (sym (decided-failed t cut (shape mid).desk component part before after))
         (more.broken_off (committed_by mid) was is stand below (subst (λ (ws : List Write). ArePerhapsCommitted holds (committed_by mid + 1) ws was is) writes_are (subst (λ (n : ℕ). ArePerhapsCommitted holds n commit.writes was is) txid came.kept)))
 
+    -- so do they after the outcome, by the account of any world that has the coordinator's desk
+    pub outcome-stands : (new : Engine I g) (how : CommitOutcome) → CommitComes holds count commit.root.txid commit.writes how was is → (shape new).desk ≡ (decided t cut how (shape mid).desk).desk
+        → (words : ℕ → ℕ → ℕ) (all : Station) (h : History) (k : Known) → k.world.desk ≡ (shape mid).desk → IsInput t cut → LedAt t custom cut words all h k
+        → PartsStand holds t custom cut (committed_by mid) was → PartsStand holds t custom cut (committed_by new) is
+    outcome-stands new how comes desk_is words all h k same input led stand =
+        let made = next_writes more words all h k mid w commit same input led next ordered txid in
+        subst (λ (n : ℕ). PartsStand holds t custom cut n is) (sym (ap (λ (d : Desk). d.committed) desk_is)) (stands-decided how comes made.0 made.1 stand)
+
     -- a fate tells of it
     leaves-told : (how : CommitOutcome) (fates : List Attempt) → fates ≡ mid.fates ++ (decided t cut how (shape mid).desk).ended → CommitComes holds count commit.root.txid commit.writes how was is → Leaves holds count t custom cut mid fates was is
     leaves-told how fates added comes = record {
       more = (decided t cut how (shape mid).desk).ended;
       added = added;
-      stands = λ words counts input led stand.
-          let made = next_writes more words counts mid w commit input led next ordered txid in
+      stands = λ words all h k has input led stand.
+          let made = next_writes more words all h k mid w commit has.desk input led next ordered txid in
           let commits : length (committed_txids fates) ≡ (decided t cut how (shape mid).desk).desk.committed =
           ap (λ (fs : List Attempt). length (committed_txids fs)) added ∙ commits_append mid.fates (decided t cut how (shape mid).desk).ended
-          ∙ ap (λ (n : ℕ). n + length (committed_txids (decided t cut how (shape mid).desk).ended)) led.1.kept.commits ∙ sym (decided_commits how (next_to_commit t cut (shape mid).desk)) in
+          ∙ ap (λ (n : ℕ). n + length (committed_txids (decided t cut how (shape mid).desk).ended)) (commits_at mid words all h k has led) ∙ sym (decided_commits how (next_to_commit t cut (shape mid).desk)) in
           subst (λ (n : ℕ). PartsStand holds t custom cut n is) (sym commits) (stands-decided how comes made.0 made.1 stand);
       strange = λ key found. more.strange commit.root.txid commit.writes was is key texts kept found;
       counted = more.all_told (decided t cut how (shape mid).desk).ended was is (more.decided_counts (shape mid).desk w how was is next comes.counted);
@@ -263,9 +277,8 @@ module _ {I S : Type 0} {g : Ghosts I} (tells : I → (ℕ → ℕ) → ℕ → 
         plans = comes.plans;
         outcomes = λ planned good. subst (λ (hs : List CommitOutcome). All (IsOutcome t) hs) (sym told) (All-append (IsOutcome t) (outcomes_of mid.fates) (how ∷ []) good (All-cons (IsOutcome t) how [] (more.outcome how was is planned comes.failed) (All-nil (IsOutcome t))));
         stands = λ words counts outcomes gives has input keeps good led stand.
-            let made = next_writes more words counts mid w commit input led next ordered txid in
-            subst (λ (n : ℕ). PartsStand holds t custom cut n is) (sym (ap (λ (d : Desk). d.committed) desk_is))
-            (stands-decided laws more mid was is w commit next ordered txid texts comes.kept how comes made.0 made.1 stand);
+            let k : Known = record { world = shape mid; counts = counts } in
+            outcome-stands laws more mid was is w commit next ordered txid texts comes.kept new how comes desk_is words (station_of k) led.0 k refl input led.1 stand;
         bad = λ key found. more.bad commit.root.txid commit.writes was is key comes.kept found;
         strange = λ key found. more.strange commit.root.txid commit.writes was is key texts comes.kept found;
         counted = subst (λ (xs : List Attempt). FailuresAreCounted count xs was is) (sym more_is) (more.decided_counts (shape mid).desk w how was is next comes.counted);
@@ -349,10 +362,10 @@ module _ {I S : Type 0} {g : Ghosts I} (tells : I → (ℕ → ℕ) → ℕ → 
         leaves = record {
           more = some.done;
           added = some.added;
-          stands = λ words counts input led stand.
+          stands = λ words all h k has input led stand.
               let commits : length (committed_txids fates) ≡ committed_by old =
               ap (λ (fs : List Attempt). length (committed_txids fs)) some.added ∙ commits_append old.fates some.done
-              ∙ (let a = none_commits some.done quiet in let b = led.1.kept.commits in omega arith) in
+              ∙ (let a = none_commits some.done quiet in let b = commits_at old words all h k has led in omega arith) in
               subst (λ (n : ℕ). PartsStand holds t custom cut n parts) (sym commits) stand;
           strange = λ key found. found;
           counted = more.all_told some.done parts parts (more.quiet_counts some.done parts (none_failed_of some.done quiet));

@@ -5,6 +5,7 @@ use Rattle.attempt_fates.specs.Fates.{committed_txids}
 use Rattle.batch_commits.specs.Standing.{FailuresAreCounted, PartsStand}
 use Rattle.bolt_ops.specs.RowOp.{Custom}
 use Rattle.commit_order.specs.Orders.{desk_of}
+use Rattle.commit_turns.specs.Desks.{Desk}
 use Rattle.commit_turns.specs.Outcomes.{IsOutcome}
 use Rattle.event_engine.proofs.GoesLemmas.{gives-both, goes-none, goes-over, goes-then, then-more}
 use Rattle.event_engine.specs.declared.engine.Engine.{Engine}
@@ -89,8 +90,8 @@ module _ {I S : Type 0} {g : Ghosts I} (tells : I → (ℕ → ℕ) → ℕ → 
   leaves-still e fates parts same = record {
     more = [];
     added = same ∙ sym (append-nil e.fates);
-    stands = λ words counts input led stand.
-        subst (λ (n : ℕ). PartsStand holds t custom cut n parts) (sym (ap (λ (fs : List Attempt). length (committed_txids fs)) same ∙ led.1.kept.commits)) stand;
+    stands = λ words all h k has input led stand.
+        subst (λ (n : ℕ). PartsStand holds t custom cut n parts) (sym (ap (λ (fs : List Attempt). length (committed_txids fs)) (same ∙ sym has.fates) ∙ led.kept.commits ∙ ap (λ (d : Desk). d.committed) has.desk)) stand;
     strange = λ key found. found;
     counted = laws.none_but_last parts;
   }

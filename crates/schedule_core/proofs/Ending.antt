@@ -17,7 +17,7 @@ use Rattle.event_engine.proofs.WorldLemmas.{some_words, told_world}
 use Rattle.event_engine.specs.declared.engine.Engine.{Engine}
 use Rattle.event_engine.specs.Engines.{Goes, HasOutcomes, IsIdle, IsReady, cut_in, shape, topology_in}
 use Rattle.event_engine.specs.Starts.{IsStarted}
-use Rattle.event_worlds.specs.Accounted.{Accounted, AreCaused, IsInput}
+use Rattle.event_worlds.specs.Accounted.{Accounted, AreCaused, IsInput, station_of}
 use Rattle.event_worlds.specs.Rounds.{ticks_in}
 use Rattle.event_worlds.specs.Worlds.{Known, Step, World, first_counts, first_known, first_world, outcomes_of, run, world_after}
 use Rattle.schedule_core.proofs.FatesOfRuns.{AnswersFor, answers-from, once-later, once-none}
@@ -188,7 +188,9 @@ module _ {I S : Type 0} {g : Ghosts I} (told : (ℕ → ℕ → ℕ) → Type 0)
   left_stands : (steps : List Step) (e : Engine I g) (fates : List Attempt) (was between is : List (StatePart S)) → CameTo steps e was between → Leaves holds count t custom cut e fates between is → All (IsEmpty holds) was → PartsStand holds t custom cut (committed_count fates) is
   left_stands steps e fates was between is came leaves empty =
       let last : Known = run t custom cut came.words (outcomes_of e.fates) steps (first_known t came.words) in
-      leaves.stands came.words last.counts input (subst (λ (w : World). Accounted t custom cut came.words (record { world = w; counts = last.counts })) (sym came.shape_is) came.led) (came.stands empty)
+      let k : Known = record { world = shape e; counts = last.counts } in
+      let led : Accounted t custom cut came.words k = subst (λ (w : World). Accounted t custom cut came.words (record { world = w; counts = last.counts })) (sym came.shape_is) came.led in
+      leaves.stands came.words (station_of k) led.0 k (record { desk = refl; fates = refl }) input led.1 (came.stands empty)
 
   left_counted : (steps : List Step) (e : Engine I g) (fates : List Attempt) (was between is : List (StatePart S)) → CameTo steps e was between → Leaves holds count t custom cut e fates between is → AllButLastAreCounted count fates was is
   left_counted steps e fates was between is came leaves =

@@ -1,7 +1,7 @@
 mod Keeping
 mod Drives
 mod Quiet
-mod Coordinating
+pub mod Coordinating
 mod Resting
 mod Looping
 mod FatesOfRuns

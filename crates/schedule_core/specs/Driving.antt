@@ -8,8 +8,8 @@ use Rattle.bolt_ops.specs.RowOp.{Custom, IsCustom}
 use Rattle.commit_turns.specs.Outcomes.{IsOutcome}
 use Rattle.event_engine.specs.declared.engine.Engine.{Engine}
 use Rattle.event_engine.specs.Engines.{Gives, Goes, HasOutcomes, IsIdle, IsReady, cut_in, shape, topology_in}
-use Rattle.event_worlds.specs.Accounted.{Accounted, IsInput}
-use Rattle.event_worlds.specs.Worlds.{Step, outcomes_of}
+use Rattle.event_worlds.specs.Accounted.{Accounted, IsInput, LedAt}
+use Rattle.event_worlds.specs.Worlds.{Known, Step, outcomes_of}
 use Rattle.state_parts.specs.Commits.{IsBadAt}
 use Rattle.state_parts.specs.declared.answer.CommitOutcome.{CommitOutcome}
 use Rattle.state_parts.specs.declared.parts.StatePart.{StatePart}
@@ -18,6 +18,8 @@ use Rattle.storm_ids.specs.declared.ids.Ids.{Ghosts}
 use Rattle.storm_stores.specs.CellMaps.{CellMap}
 use Rattle.topology_plan.specs.Topology.{Topology}
 use Rattle.trident_batches.specs.Batches.{Cut}
+use Rattle.tuple_account.specs.Histories.{History}
+use Rattle.tuple_account.specs.Moves.{Station}
 
 -- how many batches an engine has committed
 abbrev pub committed_by : {I : Type 0} {g : Ghosts I} → Engine I g → ℕ
@@ -46,6 +48,11 @@ module _ {I : Type 0} {g : Ghosts I} where
   pub record IsOfSameRun (old new : Engine I g) : Type 0 where
     pub topology : topology_in new ≡ topology_in old
     pub cut : cut_in new ≡ cut_in old
+
+  -- a world has an engine's desk and fates, whatever else waits in it
+  pub record HasDeskOf (e : Engine I g) (k : Known) : Type 0 where
+    pub desk : k.world.desk ≡ (shape e).desk
+    pub fates : k.world.fates ≡ e.fates
 
 module _ {I S : Type 0} {g : Ghosts I} where
   -- An engine goes through these steps, and its commits through the parts.
@@ -76,8 +83,8 @@ module _ {I S : Type 0} {g : Ghosts I} where
       (was is : List (StatePart S)) : Type 0 where
     pub more : List Attempt
     pub added : fates ≡ old.fates ++ more
-    pub stands : (words : ℕ → ℕ → ℕ) (counts : ℕ → ℕ) → IsInput t cut
-        → Accounted t custom cut words (record { world = shape old; counts = counts })
+    pub stands : (words : ℕ → ℕ → ℕ) (all : Station) (h : History) (k : Known)
+        → HasDeskOf old k → IsInput t cut → LedAt t custom cut words all h k
         → PartsStand holds t custom cut (committed_by old) was
         → PartsStand holds t custom cut (length (committed_txids fates)) is
     pub strange : (key : List ℕ) → HasStrangeAt holds is key → HasStrangeAt holds was key

@@ -8,7 +8,7 @@ use Rattle.commit_turns.specs.declared.wait.Wait.{Wait}
 use Rattle.commit_turns.specs.Desks.{Desk}
 use Rattle.commit_turns.specs.Outcomes.{IsOutcome}
 use Rattle.commit_turns.specs.Turns.{decided, next_to_commit}
-use Rattle.event_worlds.specs.Accounted.{Accounted, AreCaused, IsInput}
+use Rattle.event_worlds.specs.Accounted.{Accounted, AreCaused, IsInput, LedAt}
 use Rattle.event_worlds.specs.Worlds.{Known, Step, first_known, run}
 use Rattle.state_parts.specs.Commits.{AreCommitted, ArePerhapsCommitted, CountsFollow, FailOnceAtMost, IsBadAt}
 use Rattle.state_parts.specs.declared.answer.CommitOutcome.{CommitOutcome}
@@ -21,6 +21,8 @@ use Rattle.tree_model.specs.declared.messages.AckMsg.{AckMsg}
 use Rattle.tree_model.specs.declared.write.Write.{Write}
 use Rattle.tree_model.specs.Lists.{Covers, IsClosed}
 use Rattle.trident_batches.specs.Batches.{Cut}
+use Rattle.tuple_account.specs.Histories.{History}
+use Rattle.tuple_account.specs.Moves.{Station}
 use Rattle.tuple_account.specs.Sound.{IsSound}
 
 -- what steps rest on
@@ -64,8 +66,8 @@ pub record CommitLaws {S : Type 0} (holds : S → CellMap → Type 0) (count : S
       → AllButLastAreCounted count xs a b
   pub outcome : (how : CommitOutcome) (old new : List (StatePart S)) → AreParts t old
       → TellsFailedPart count old new how → IsOutcome t how
-  pub settled : (words : ℕ → ℕ → ℕ) (k : Known) → IsInput t cut
-      → Accounted t custom cut words k → (i : ℕ) (w : Wait) (list : List AckMsg)
+  pub settled : (words : ℕ → ℕ → ℕ) (all : Station) (h : History) (k : Known) → IsInput t cut
+      → LedAt t custom cut words all h k → (i : ℕ) (w : Wait) (list : List AckMsg)
       → slice_get k.world.desk.pending i ≡ Some w → w.settled ≡ Some list
       → IsSound t custom (rows_in cut w.root.txid) w.root list × IsClosed list
       × Covers t custom (rows_in cut w.root.txid) list

@@ -8,7 +8,9 @@ use batch_commits::{
     commits_of_batches_move_parts, counts_run_on, failures_of_commits_are_counted,
     strange_cells_were_there,
 };
-use event_worlds::{ends_of_worlds_have_causes, settled_lists_are_whole, worlds_are_accounted};
+use event_worlds::{
+    ends_of_worlds_have_causes, worlds_are_accounted, worlds_with_others_are_accounted,
+};
 use storm_stores::CellStore;
 
 /// A law: what a world comes to by steps, and how failures add up.
@@ -24,7 +26,7 @@ pub(crate) fn laws_of_commits<C: CellStore>()
     ensures { (t : Topology) (custom : Custom) (cut : Cut)
         → CommitLaws C.tells C.fault_count t custom cut }
 {
-    settled_lists_are_whole();
+    worlds_with_others_are_accounted();
     commits_of_batches_move_parts::<C>();
     strange_cells_were_there::<C>();
     failures_of_commits_are_counted::<C>();

@@ -11,5 +11,5 @@ returns g c = λ t custom cut. record {
   last_counts = c.counts_run_on.ensures.last;
   all_told = c.counts_run_on.ensures.all_told;
   outcome = c.failures_of_commits_are_counted.ensures.outcome t;
-  settled = c.settled_lists_are_whole.ensures t custom cut;
+  settled = c.worlds_with_others_are_accounted.ensures.settled t custom cut;
 }

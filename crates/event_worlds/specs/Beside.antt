@@ -1,0 +1,28 @@
+-- Worlds with more that waits beside them, as in boxes that others use. This project's own.
+use Rattle.std.specs.Prelude.{◌≡◌, ℕ, List, []}
+use Rattle.bolt_ops.specs.RowOp.{Custom}
+use Rattle.event_worlds.specs.Accounted.{LedAt, station_of}
+use Rattle.event_worlds.specs.Worlds.{Known, Step, of_acker, of_outcome, of_task, of_tick, of_turn}
+use Rattle.topology_plan.specs.Topology.{Topology}
+use Rattle.tree_model.specs.declared.messages.Parcel.{Parcel}
+use Rattle.trident_batches.specs.Batches.{Cut}
+use Rattle.tuple_account.specs.Histories.{History, Packet}
+use Rattle.tuple_account.specs.Moves.{Station, beside}
+
+-- packets that wait, of this weight
+abbrev pub waits : ((Packet → ℕ) → ℕ) → Station
+waits weight = record { waiting = weight; kept = λ g. 0; given = λ s j. 0 }
+
+-- a history led to a world and to packets that wait beside it
+abbrev pub LedBeside : Topology → Custom → Cut → (ℕ → ℕ → ℕ) → ((Packet → ℕ) → ℕ) → History
+    → Known → Type 0
+LedBeside t custom cut words weight h k =
+    LedAt t custom cut words (beside (waits weight) (station_of k)) h k
+
+-- a turn with nothing left to hand over, an outcome, or a tick
+abbrev pub IsFreeStep : Step → List Parcel → Type 0
+IsFreeStep (of_task n) orders = ⊥
+IsFreeStep (of_acker n) orders = ⊥
+IsFreeStep of_turn orders = orders ≡ []
+IsFreeStep of_outcome orders = Unit {0}
+IsFreeStep of_tick orders = Unit {0}
