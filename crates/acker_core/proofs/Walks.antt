@@ -1,5 +1,5 @@
 -- A walk over a tuple tree that comes to each message of a list shows that the list is closed, and its dones' path order.
-use Rattle.std.proofs.Common.{Bor, IfSome, ◌≡◌, ℕ, zero, suc, ◌+◌, ◌*◌, ◌%◌, ◌≤◌, false, List, [], ◌∷◌, ◌++◌, Option, None, Some, Ordering, Less, Equal, Greater, is_gt, length, flat_map, IsPermutation, refl, sym, ap, subst, ◌∙◌, arith}
+use Rattle.std.proofs.Common.{Bor, IfSome, ◌≡◌, ℕ, ◌+◌, false, List, [], ◌∷◌, ◌++◌, Option, None, Some, Ordering, Less, Equal, Greater, is_gt, length, flat_map, IsPermutation, refl, sym, ap, subst, ◌∙◌, arith}
 use Rattle.std.specs.Prelude.{slice_get}
 use Rattle.std.specs.List.{AllByRecursion}
 use Rattle.std.specs.Ordering.{ordering_reverse}
