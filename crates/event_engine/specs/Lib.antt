@@ -1,3 +1,4 @@
 pub mod Seats
 pub mod Engines
 pub mod Starts
+pub mod Boosts
