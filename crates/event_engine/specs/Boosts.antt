@@ -1,5 +1,5 @@
 -- Many events in one call. This project's own.
-use Rattle.std.specs.Prelude.{◌≡◌, ◌<◌, ◌≤◌, ℕ, zero, suc, false, List, [], replicate}
+use Rattle.std.specs.Prelude.{◌≡◌, ◌<◌, ◌≤◌, ℕ, zero, suc, false, [], replicate}
 use Rattle.bolt_ops.specs.RowOp.{Custom}
 use Rattle.event_engine.specs.Engines.{Goes, shape}
 use Rattle.event_engine.specs.declared.engine.Engine.{Engine}

@@ -1,4 +1,4 @@
-ghost use Rattle.std.specs.Prelude.{◌≡◌, ◌<◌, true, false, None, Some, [], length, IfOk, OnOk};
+ghost use Rattle.std.specs.Prelude.{◌≡◌, ◌<◌, true, false, None, Some, [], length, OnOk};
 ghost use Rattle.bolt_ops.specs.RowOp.{Custom};
 ghost use Rattle.bolt_task.specs.Executing.{number_of, topology_at};
 ghost use Rattle.event_engine.specs.Seats.{Acts, ActsAt, HandedOverAt, HasParcelAt, Puts, Takes, TakesAt, Works};

@@ -1,7 +1,5 @@
-use Rattle.std.proofs.Common.{◌≡◌, ◌<◌, List, [], length, rules}
+use Rattle.std.proofs.Common.{◌≡◌, ◌<◌, [], length, rules}
 use Rattle.event_engine.proofs.SeatLemmas.{at-some, only-there}
-use Rattle.event_engine.specs.declared.task.TaskSeat.{TaskSeat}
-use Rattle.tree_model.specs.declared.messages.Parcel.{Parcel}
 use Rattle.event_engine.proofs.task.has_parcel_at.Goals as goal
 
 pub returns-clause-some : goal.returns-clause-some

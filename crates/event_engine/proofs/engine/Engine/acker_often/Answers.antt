@@ -1,4 +1,4 @@
-use Rattle.std.proofs.Common.{◌≡◌, ◌<◌, refl, arith}
+use Rattle.std.proofs.Common.{refl, arith}
 use Rattle.event_engine.specs.Boosts.{AckerRests}
 use Rattle.event_engine.specs.Engines.{cut_in, topology_in}
 use Rattle.event_engine.proofs.BoostLemmas.{acker_again, acker_here, acker_of_its_own, acker_ready_again, up_to_all, up_to_rest}

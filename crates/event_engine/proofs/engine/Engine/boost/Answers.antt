@@ -1,4 +1,4 @@
-use Rattle.std.proofs.Common.{◌≡◌, sym, ◌∙◌}
+use Rattle.std.proofs.Common.{sym, ◌∙◌}
 use Rattle.event_engine.specs.Engines.{cut_in, topology_in}
 use Rattle.event_engine.proofs.BoostLemmas.{boosts_over, boosts_then, goes_on_still}
 use Rattle.event_engine.proofs.FatesLemmas.{on_err}

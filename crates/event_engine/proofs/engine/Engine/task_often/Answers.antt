@@ -1,4 +1,4 @@
-use Rattle.std.proofs.Common.{◌≡◌, ◌<◌, refl, sym, subst, arith}
+use Rattle.std.proofs.Common.{refl, subst, arith}
 use Rattle.event_engine.specs.Boosts.{TaskRests}
 use Rattle.event_engine.specs.Engines.{cut_in, shape, topology_in}
 use Rattle.event_engine.proofs.BoostLemmas.{task_again, task_here, task_of_its_own, task_ready_again, up_to_all, up_to_rest}
