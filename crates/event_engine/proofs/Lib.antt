@@ -9,3 +9,4 @@ pub mod LoopLemmas
 pub mod StartLemmas
 pub mod WorldLemmas
 mod FatesLemmas
+pub mod BoostLemmas

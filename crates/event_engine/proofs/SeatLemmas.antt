@@ -8,7 +8,7 @@ use Rattle.bolt_ops.specs.RowOp.{Custom}
 use Rattle.bolt_task.specs.Executing.{IsFor, IsSameTask, component_at, number_of, topology_at}
 use Rattle.counted_items.proofs.Each.{each-map, each-to_map, each-weaker}
 use Rattle.event_engine.specs.Engines.{IsThere}
-use Rattle.event_engine.specs.Seats.{Acts, ActsAt, AllFrom, AnswersAt, AreSeats, HasBuckets, IsSeatOf, PutsMessage, Takes, acker_side, buckets_in, source_in, task_side}
+use Rattle.event_engine.specs.Seats.{Acts, ActsAt, AllFrom, AnswersAt, AreSeats, HasBuckets, IsSeatOf, PutsMessage, Takes, Works, acker_side, buckets_in, source_in, task_side}
 use Rattle.event_engine.specs.declared.acker.AckerSeat.{AckerSeat}
 use Rattle.event_engine.specs.declared.task.TaskSeat.{TaskSeat}
 use Rattle.event_worlds.specs.Orderly.{FitsParcel, IsForTask, IsTaskOrderly}
@@ -44,7 +44,23 @@ module _ {I : Type 0} {g : Ghosts I} (tells : I → (ℕ → ℕ) → ℕ → Ty
     same_task = subst (λ b. IsSameTask b old.task) (sym task) (record { topology = refl; component = refl; number = refl });
   }
 
+  -- with nothing to hand over it executes its front tuple
+  pub acts_work : (old new : TaskSeat I g) → old.outbox.items ≡ [] → Works tells t custom n old new → Acts tells t custom n None old new
+  acts_work old new empty works = record {
+    ids = works.ids;
+    enough = works.enough ∙ sym (ap (needed_past t custom old.inbox.items) empty);
+    side = works.side ∙ ap (λ out. (acted_past t custom n works.ids (task_side old) out).side) (sym empty);
+    sent = ap (λ out. (acted_past t custom n works.ids (task_side old) out).parcel) (sym empty);
+    drawn = works.drawn;
+    same_task = works.same_task;
+  }
+
 -- ---- seats in their rows
+
+-- what is so of an item is so of each that stands there
+pub only-there : {X : Type 0} (P : X → Type 0) (xs : List X) (i : ℕ) (x y : X) → slice_get xs i ≡ Some x → P x → slice_get xs i ≡ Some y → P y
+only-there {X} P xs i x y at is found =
+    let same : x ≡ y = let some : Some x ≡ Some y = sym at ∙ found in cc in subst P same is
 
 pub at-some : {X : Type 0} (xs : List X) (i : ℕ) (x : X) → i < length xs → x ≡ get_or xs i x → slice_get xs i ≡ Some x
 at-some [] i x below is = absurd (omega arith)

@@ -2,3 +2,4 @@ pub mod Seats
 pub mod Engines
 pub mod Starts
 pub mod Lending
+pub mod Boosts

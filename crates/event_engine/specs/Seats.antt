@@ -1,5 +1,5 @@
 -- Seats of the engine, and the sides of the world that they are. This project's own.
-use Rattle.std.specs.Prelude.{◌≡◌, ℕ, suc, List, [], ◌∷◌, ◌++◌, length, map, Option, Some, slice_get, slice_index_or, slice_set}
+use Rattle.std.specs.Prelude.{◌≡◌, ◌<◌, ℕ, suc, List, [], ◌∷◌, ◌++◌, length, map, Option, Some, slice_get, slice_index_or, slice_set}
 use Rattle.std.specs.List.{AllByRecursion}
 use Rattle.std.specs.Option.{option_to_list}
 use Rattle.acker_core.specs.declared.verdict.Verdict.{Verdict}
@@ -86,6 +86,16 @@ module _ {I : Type 0} {g : Ghosts I} where
   -- so does the task of a number
   abbrev pub TakesAt : ℕ → List (TaskSeat I g) → Type 0
   TakesAt n seats = (s : TaskSeat I g) → slice_get seats n ≡ Some s → Takes s
+
+  -- the task of a number has a parcel to hand over
+  abbrev pub HasParcelAt : ℕ → List (TaskSeat I g) → Type 0
+  HasParcelAt n seats =
+      (s : TaskSeat I g) → slice_get seats n ≡ Some s → 0 < length s.outbox.items
+
+  -- or it has none
+  abbrev pub HandedOverAt : ℕ → List (TaskSeat I g) → Type 0
+  HandedOverAt n seats =
+      (s : TaskSeat I g) → slice_get seats n ≡ Some s → s.outbox.items ≡ []
 
   -- a task executed its front tuple, if there was one, with these ids of its source
   pub record Works (tells : I → (ℕ → ℕ) → ℕ → Type 0) (t : Topology) (custom : Custom) (n : ℕ)

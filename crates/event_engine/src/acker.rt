@@ -1,4 +1,4 @@
-ghost use Rattle.std.specs.Prelude.{◌≡◌, ◌≤◌, ◌<◌, None, length, IfOk, OnOk};
+ghost use Rattle.std.specs.Prelude.{◌≡◌, ◌≤◌, ◌<◌, true, [], None, length, IfOk, OnOk};
 ghost use Rattle.std.specs.List.{AllByRecursion};
 ghost use Rattle.event_engine.specs.Seats.{AnswersAt, HasBuckets, PutsMessage, acker_side, buckets_in};
 ghost use Rattle.event_worlds.specs.Worlds.{answered, counted_up, gets_message, meets, no_acker};
@@ -33,6 +33,15 @@ impl AckerSeat {
             outbox: None,
             counted: 0,
         })
+    }
+
+    /// Whether nothing is in its box, and nothing is to be handed over.
+    pub fn rests(&self) -> bool
+        ensures { result ≡ true → (self.now.inbox.items ≡ []) × (self.now.outbox ≡ None) }
+    {
+        let has_handed_over = self.outbox.is_none();
+        let has_no_message = self.inbox.is_empty();
+        has_handed_over & has_no_message
     }
 
     /// Puts a message at the back of the box.

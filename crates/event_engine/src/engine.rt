@@ -11,7 +11,7 @@ ghost use Rattle.topology_plan.specs.Topology.{Topology, tasks_in_all};
 ghost use Rattle.trident_batches.specs.Batches.{Cut};
 
 use crate::acker::{AckerSeat, answer_at, put_message};
-use crate::task::{TaskSeat, act_at, put_tuple};
+use crate::task::{TaskSeat, execute_at, hand_over_at, has_parcel_at, put_tuple};
 use acker_core::Verdict;
 use attempt_fates::Fates;
 use bolt_ops::RowOp;
@@ -242,7 +242,7 @@ impl<'p, I: Ids> Engine<'p, I> {
     }
 
     // What a task does at its event.
-    fn task_event<O: RowOp>(&mut self, n: u32, custom: &O) -> Result<(), Memory>
+    pub(crate) fn task_event<O: RowOp>(&mut self, n: u32, custom: &O) -> Result<(), Memory>
         requires there { n < tasks_in_all (topology_in self.old) }
         requires ready { IsReady (topology_in self.old) (cut_in self.old) self.old }
         ensures done { OnOk result (Happens I.tells n
@@ -254,15 +254,17 @@ impl<'p, I: Ids> Engine<'p, I> {
             (IsSeated (topology_in self.old) (cut_in self.old) self.new) }
         ensures still { IsStill self.old self.new }
     {
-        match act_at(&mut self.tasks, n, custom)? {
-            Some(parcel) => self.deliver(parcel)?,
-            None => (),
+        if has_parcel_at(&self.tasks, n) {
+            let parcel = hand_over_at(&mut self.tasks, n);
+            self.deliver(parcel)?;
+            return Ok(());
         }
+        execute_at(&mut self.tasks, n, custom)?;
         Ok(())
     }
 
     // What an acker does at its event.
-    fn acker_event(&mut self, n: u32) -> Result<(), Memory>
+    pub(crate) fn acker_event(&mut self, n: u32) -> Result<(), Memory>
         requires there { n < (topology_in self.old).ackers }
         requires ready { IsReady (topology_in self.old) (cut_in self.old) self.old }
         ensures done { OnOk result

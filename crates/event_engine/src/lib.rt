@@ -3,6 +3,7 @@
 #![tactic(auto)]
 
 mod acker;
+mod boost;
 mod engine;
 mod lending;
 mod start;

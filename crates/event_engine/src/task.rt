@@ -1,6 +1,7 @@
-ghost use Rattle.std.specs.Prelude.{◌≡◌, ◌<◌, [], length, IfOk, OnOk};
+ghost use Rattle.std.specs.Prelude.{◌≡◌, ◌<◌, true, false, None, Some, [], length, OnOk};
+ghost use Rattle.bolt_ops.specs.RowOp.{Custom};
 ghost use Rattle.bolt_task.specs.Executing.{number_of, topology_at};
-ghost use Rattle.event_engine.specs.Seats.{Acts, ActsAt, Puts, Takes, TakesAt, Works};
+ghost use Rattle.event_engine.specs.Seats.{Acts, ActsAt, HandedOverAt, HasParcelAt, Puts, Takes, TakesAt, Works};
 
 use bolt_ops::RowOp;
 use bolt_task::BoltTask;
@@ -19,25 +20,35 @@ pub struct TaskSeat<'p, I: Ids> {
 }
 
 impl<'p, I: Ids> TaskSeat<'p, I> {
-    /// Hands over the front parcel, or else executes the front tuple. It answers what it hands
-    /// over.
-    pub fn act<O: RowOp>(&mut self, custom: &O) -> Result<Option<Parcel>, Memory>
-        requires { Takes self.old }
-        ensures { IfOk result (λ parcel. Acts I.tells (topology_at self.old.task)
-            (O.meaning custom.now) (number_of self.old.task) parcel self.old self.new) }
+    /// Whether nothing is in its box, and nothing is to be handed over.
+    pub fn rests(&self) -> bool
+        ensures { result ≡ true → (self.now.inbox.items ≡ []) × (self.now.outbox.items ≡ []) }
     {
-        match self.outbox.pop_front() {
-            Some(parcel) => Ok(Some(parcel)),
-            None => {
-                self.execute(custom)?;
-                Ok(None)
-            }
-        }
+        let has_handed_over = self.outbox.is_empty();
+        let has_no_tuple = self.inbox.is_empty();
+        has_handed_over & has_no_tuple
     }
 
-    // Takes the front tuple, if there is one, and executes it. What comes of it is put into the
-    // memory of the empty outbox.
-    fn execute<O: RowOp>(&mut self, custom: &O) -> Result<(), Memory>
+    /// Whether it has a parcel to hand over.
+    pub fn has_parcel(&self) -> bool
+        ensures some { result ≡ true → 0 < length self.now.outbox.items }
+        ensures none { result ≡ false → self.now.outbox.items ≡ [] }
+    {
+        !self.outbox.is_empty()
+    }
+
+    /// Hands over the front parcel.
+    pub fn hand_over(&mut self) -> Parcel
+        requires { 0 < length self.old.outbox.items }
+        ensures { (custom : Custom) → Acts I.tells (topology_at self.old.task) custom
+            (number_of self.old.task) (Some result) self.old self.new }
+    {
+        self.outbox.pop_front().unwrap()
+    }
+
+    /// Takes the front tuple, if there is one, and executes it. What comes of it is put into the
+    /// memory of the empty outbox.
+    pub fn execute<O: RowOp>(&mut self, custom: &O) -> Result<(), Memory>
         requires takes { Takes self.old }
         requires empty { self.old.outbox.items ≡ [] }
         ensures { OnOk result (Works I.tells (topology_at self.old.task)
@@ -68,17 +79,37 @@ pub fn put_tuple<'p, I: Ids>(
     Ok(())
 }
 
-/// A task hands over its front parcel, or else executes its front tuple.
-pub fn act_at<'p, I: Ids, O: RowOp>(
+/// Whether a task has a parcel to hand over.
+pub fn has_parcel_at<'p, I: Ids>(tasks: &Vec<TaskSeat<'p, I>>, n: u32) -> bool
+    requires { n < length tasks.now.items }
+    ensures some { result ≡ true → HasParcelAt n tasks.now.items }
+    ensures none { result ≡ false → HandedOverAt n tasks.now.items }
+{
+    tasks[n as usize].has_parcel()
+}
+
+/// A task hands over its front parcel.
+pub fn hand_over_at<'p, I: Ids>(tasks: &mut Vec<TaskSeat<'p, I>>, n: u32) -> Parcel
+    requires within { n < length tasks.old.items }
+    requires some { HasParcelAt n tasks.old.items }
+    ensures { (custom : Custom) → ActsAt I.tells custom n (Some result)
+        tasks.old.items tasks.new.items }
+{
+    tasks[n as usize].hand_over()
+}
+
+/// A task that has handed over all executes its front tuple.
+pub fn execute_at<'p, I: Ids, O: RowOp>(
     tasks: &mut Vec<TaskSeat<'p, I>>,
     n: u32,
     custom: &O,
-) -> Result<Option<Parcel>, Memory>
+) -> Result<(), Memory>
     requires within { n < length tasks.old.items }
     requires takes { TakesAt n tasks.old.items }
-    ensures { IfOk result (λ parcel. ActsAt I.tells (O.meaning custom.now) n parcel
+    requires empty { HandedOverAt n tasks.old.items }
+    ensures { OnOk result (ActsAt I.tells (O.meaning custom.now) n None
         tasks.old.items tasks.new.items) }
 {
-    let parcel = tasks[n as usize].act(custom)?;
-    Ok(parcel)
+    tasks[n as usize].execute(custom)?;
+    Ok(())
 }

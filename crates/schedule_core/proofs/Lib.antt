@@ -3,6 +3,7 @@ mod Drives
 mod Quiet
 pub mod Coordinating
 mod Resting
+mod Boosting
 mod Looping
 mod FatesOfRuns
 mod TicksOfRuns

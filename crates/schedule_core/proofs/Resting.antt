@@ -142,5 +142,9 @@ module _ {I S : Type 0} {g : Ghosts I} (tells : I → (ℕ → ℕ) → ℕ → 
       (wants_there a b fates p q same last)
 
 -- the steps of both parts of a round are those of the round
-pub both_parts : (t : Topology) (n : ℕ) → opening_steps t ++ closing_steps n ≡ round_with t n
+both_parts : (t : Topology) (n : ℕ) → opening_steps t ++ closing_steps n ≡ round_with t n
 both_parts t n = sym (append_assoc (opening_steps t) (replicate n of_tick) coordinator_steps)
+
+-- behind steps without ticks
+pub quiet_parts : (t : Topology) (quiet : List Step) (n : ℕ) → (quiet ++ opening_steps t) ++ closing_steps n ≡ quiet ++ round_with t n
+quiet_parts t quiet n = append_assoc quiet (opening_steps t) (closing_steps n) ∙ ap (λ (zs : List Step). quiet ++ zs) (both_parts t n)

@@ -10,7 +10,7 @@ use Rattle.event_worlds.specs.Rounds.{round_with, ticks_in}
 use Rattle.event_worlds.specs.Worlds.{Step, coordinator_steps, of_acker, of_task, of_tick}
 use Rattle.schedule_core.proofs.Ending.{Allows}
 use Rattle.schedule_core.proofs.TicksOfRuns.{ticks-of-rounds}
-use Rattle.schedule_core.specs.Rounding.{Asked, rounds_with}
+use Rattle.schedule_core.specs.Rounding.{Asked}
 use Rattle.schedule_core.specs.Runs.{HasRoundsOf, first_answers, ticks_between}
 use Rattle.storm_ticks.specs.Ticking.{first_answer, handed_on}
 use Rattle.topology_plan.specs.Topology.{Topology, tasks_in_all}
@@ -94,26 +94,41 @@ total : List ℕ → ℕ
 total [] = 0
 total (n ∷ ns) = n + total ns
 
-ticks-of-answers : (t : Topology) (answers : List ℕ) → ticks_in (rounds_with t answers) ≡ total answers
+-- the steps have no other ticks
+ticks-of-answers : (t : Topology) (answers : List ℕ) (steps : List Step) → HasRoundsOf t answers steps
+    → ticks_in steps ≡ total answers
 unfolding total
-ticks-of-answers t [] = refl
-ticks-of-answers t (n ∷ ns) =
-    let a = ticks-of-rounds (round_with t n) (rounds_with t ns) in
-    let b = ticks-of-round t n in
-    let c = ticks-of-answers t ns in omega arith
+ticks-of-answers t [] steps has = has
+ticks-of-answers t (n ∷ ns) steps has =
+    let a = ticks-of-rounds has.0 (round_with t n ++ has.1) in
+    let b = ticks-of-rounds (round_with t n) has.1 in
+    let c = ticks-of-round t n in
+    let d = ticks-of-answers t ns has.1 has.4 in
+    let e = ap ticks_in has.2 in
+    let f = has.3 in omega arith
 
--- the rounds are those of the answers
-pub has-rounds : (t : Topology) (answers : List ℕ) → HasRoundsOf t answers (rounds_with t answers)
-has-rounds t [] = refl
-has-rounds t (n ∷ ns) = ([], rounds_with t ns, refl, refl, has-rounds t ns)
-
--- one more round
-pub one-round-more : (t : Topology) (answers : List ℕ) (n : ℕ)
-    → rounds_with t (answers ++ n ∷ []) ≡ rounds_with t answers ++ round_with t n
-one-round-more t [] n = append-nil (round_with t n)
-one-round-more t (m ∷ ms) n =
-    ap (λ (zs : List Step). round_with t m ++ zs) (one-round-more t ms n)
-    ∙ sym (append_assoc (round_with t m) (rounds_with t ms) (round_with t n))
+-- one more round, behind steps without ticks
+pub one-round-more : (t : Topology) (answers : List ℕ) (steps quiet : List Step) (n : ℕ)
+    → ticks_in quiet ≡ 0 → HasRoundsOf t answers steps
+    → HasRoundsOf t (answers ++ n ∷ []) (steps ++ (quiet ++ round_with t n))
+one-round-more t [] steps quiet n none has = (
+  steps ++ quiet,
+  [],
+  sym (append_assoc steps quiet (round_with t n))
+      ∙ ap (λ (zs : List Step). (steps ++ quiet) ++ zs) (sym (append-nil (round_with t n))),
+  ticks-of-rounds steps quiet ∙ (λ i. has i + none i),
+  refl,
+)
+one-round-more t (m ∷ ms) steps quiet n none has =
+    let more : List Step = quiet ++ round_with t n in (
+      has.0,
+      has.1 ++ more,
+      ap (λ (zs : List Step). zs ++ more) has.2
+          ∙ append_assoc has.0 (round_with t m ++ has.1) more
+          ∙ ap (λ (zs : List Step). has.0 ++ zs) (append_assoc (round_with t m) has.1 more),
+      has.3,
+      one-round-more t ms has.1 quiet n none has.4,
+    )
 
 -- ---- ticks that were handed out
 
@@ -126,10 +141,10 @@ sum-below (n ∷ ns) before below =
     let rest = sum-below ns (handed_on before n) below in omega arith
 
 -- the coordinator may count what was handed out between
-pub allows-between : (t : Topology) (answers : List ℕ) (before after : ℕ)
-    → after ≡ fold handed_on before answers
-    → Allows (rounds_with t answers) (ticks_between before after)
-allows-between t answers before after is n most last = by (nat_le (2 ^ 64 - 1) after) refl
+pub allows-between : (t : Topology) (answers : List ℕ) (steps : List Step) (before after : ℕ)
+    → HasRoundsOf t answers steps → after ≡ fold handed_on before answers
+    → Allows steps (ticks_between before after)
+allows-between t answers steps before after has is n most last = by (nat_le (2 ^ 64 - 1) after) refl
   where
     by : (b : Bool) → nat_le (2 ^ 64 - 1) after ≡ b
         → n ≤ cond b (2 ^ 64 - 1) (after - before)
@@ -137,4 +152,4 @@ allows-between t answers before after is n most last = by (nat_le (2 ^ 64 - 1) a
     by false open_still =
         let below : after < 2 ^ 64 - 1 = leb-false (2 ^ 64 - 1) after open_still in
         let all = sum-below answers before (subst (λ (k : ℕ). k < 2 ^ 64 - 1) is below) in
-        let ticks = ticks-of-answers t answers in omega arith
+        let ticks = ticks-of-answers t answers steps has in omega arith

@@ -12,19 +12,19 @@ use Rattle.event_engine.specs.declared.engine.Engine.{Engine}
 use Rattle.event_engine.specs.Engines.{Goes, IsReady, IsStill, cut_in, has_ended, shape, topology_in}
 use Rattle.event_engine.specs.Starts.{IsStarted}
 use Rattle.event_worlds.specs.Accounted.{IsInput}
-use Rattle.event_worlds.specs.Rounds.{round_with}
+use Rattle.event_worlds.specs.Rounds.{round_with, ticks_in}
 use Rattle.event_worlds.specs.Worlds.{Step}
 use Rattle.schedule_core.proofs.Drives.{wants-still}
 use Rattle.schedule_core.proofs.Ending.{Ends, ends, not_begun, ran-from, some_size}
 use Rattle.schedule_core.proofs.Looping.{Driven, driven-breaks, driven-none, driven-then, driven-wants}
-use Rattle.schedule_core.proofs.Resting.{both_parts, breaks_on, drives_on, same_run_then, wants_on}
-use Rattle.schedule_core.proofs.Rounding.{allows-between, asked-more, asked-none, has-rounds, one-round-more}
+use Rattle.schedule_core.proofs.Resting.{breaks_on, drives_on, quiet_parts, same_run_then, wants_on}
+use Rattle.schedule_core.proofs.Rounding.{allows-between, asked-more, asked-none, one-round-more}
 use Rattle.schedule_core.specs.declared.ended.Ended.{Ended}
 use Rattle.schedule_core.specs.declared.ended.Ended.TheVariants as ending
 use Rattle.schedule_core.specs.Driving.{AreKept, Breaks, Drives, IsAtRest, IsOfSameRun, WantsMemory}
 use Rattle.schedule_core.specs.Laws.{Laws, WorldLaws}
-use Rattle.schedule_core.specs.Rounding.{Asked, Rounded, closing_steps, end_by, opening_steps, rounds_with}
-use Rattle.schedule_core.specs.Runs.{RoundsCome, ended, ticks_between}
+use Rattle.schedule_core.specs.Rounding.{Asked, Rounded, closing_steps, end_by, opening_steps}
+use Rattle.schedule_core.specs.Runs.{HasRoundsOf, RoundsCome, ended, ticks_between}
 use Rattle.schedule_core.specs.Schedules.{answer_by, answer_of}
 use Rattle.state_parts.specs.declared.answer.CommitFault.{CommitFault}
 use Rattle.state_parts.specs.declared.answer.CommitFault.TheVariants as fault
@@ -39,16 +39,16 @@ use Rattle.trident_batches.specs.Batches.{Cut}
 -- ---- the answer
 
 -- the whole came to this, of what a source was asked and what the run ended with
-pub rounds-come : {S T : Type 0} (handed : T → ℕ) (ticking : T → List ℕ → Type 0) (told : (ℕ → ℕ → ℕ) → Type 0) (holds : S → CellMap → Type 0) (count : S → ℕ) (t : Topology) (custom : Custom) (cut : Cut) (answers : List ℕ) (before after : T)
-    (answer : Result (Unit {0}) Stop) (end : Result Ended Stop) (fates : List Attempt) (was is : List (StatePart S)) → Asked handed ticking answers before after → end ≡ ended answer
-    → Ends told holds count t custom cut (rounds_with t answers) (ticks_between (handed before) (handed after)) end fates was is → RoundsCome told (ticking before) holds count t custom cut (handed before) (handed after) answer fates was is
-rounds-come handed ticking told holds count t custom cut answers before after answer end fates was is asked same ends =
-    let ends_so = subst (λ (r : Result Ended Stop). Ends told holds count t custom cut (rounds_with t answers) (ticks_between (handed before) (handed after)) r fates was is) same ends in record {
+pub rounds-come : {S T : Type 0} (handed : T → ℕ) (ticking : T → List ℕ → Type 0) (told : (ℕ → ℕ → ℕ) → Type 0) (holds : S → CellMap → Type 0) (count : S → ℕ) (t : Topology) (custom : Custom) (cut : Cut) (answers : List ℕ) (steps : List Step) (before after : T)
+    (answer : Result (Unit {0}) Stop) (end : Result Ended Stop) (fates : List Attempt) (was is : List (StatePart S)) → Asked handed ticking answers before after → HasRoundsOf t answers steps → end ≡ ended answer
+    → Ends told holds count t custom cut steps (ticks_between (handed before) (handed after)) end fates was is → RoundsCome told (ticking before) holds count t custom cut (handed before) (handed after) answer fates was is
+rounds-come handed ticking told holds count t custom cut answers steps before after answer end fates was is asked rounds same ends =
+    let ends_so = subst (λ (r : Result Ended Stop). Ends told holds count t custom cut steps (ticks_between (handed before) (handed after)) r fates was is) same ends in record {
       answers = answers;
       handed_out = asked.handed_out;
       asked = asked.first;
-      steps = rounds_with t answers;
-      rounds = has-rounds t answers;
+      steps = steps;
+      rounds = rounds;
       comes = ends_so.comes;
       of_told = ends_so.told;
       drawn = ends_so.drawn;
@@ -58,8 +58,8 @@ rounds-come handed ticking told holds count t custom cut answers before after an
 pub rounds-not-begun : {S T : Type 0} (handed : T → ℕ) (ticking : T → List ℕ → Type 0) (told : (ℕ → ℕ → ℕ) → Type 0) (holds : S → CellMap → Type 0) (count : S → ℕ) (t : Topology) (custom : Custom) (cut : Cut) (laws : WorldLaws holds count t custom cut) (source : T) (fates : List Attempt) (parts : List (StatePart S))
     → IsInput t cut → fates ≡ [] → RoundsCome told (ticking source) holds count t custom cut (handed source) (handed source) (Err stop.Memory) fates parts parts
 rounds-not-begun handed ticking told holds count t custom cut laws source fates parts input none =
-    rounds-come handed ticking told holds count t custom cut [] source source (Err stop.Memory) (Err stop.Memory) fates parts parts (asked-none handed ticking source) refl (record {
-      comes = not_begun holds count t custom cut laws (rounds_with t []) (ticks_between (handed source) (handed source)) fates parts (some_size t cut input) none;
+    rounds-come handed ticking told holds count t custom cut [] [] source source (Err stop.Memory) (Err stop.Memory) fates parts parts (asked-none handed ticking source) refl refl (record {
+      comes = not_begun holds count t custom cut laws [] (ticks_between (handed source) (handed source)) fates parts (some_size t cut input) none;
       told = λ words are ok. absurd ok;
       drawn = λ words are ok. absurd ok;
     })
@@ -99,13 +99,17 @@ module _ {I S T : Type 0} {g : Ghosts I} (tells : I → (ℕ → ℕ) → ℕ �
   pub record Turning (old mid : Engine I g) (p q : List (StatePart S)) (before now : T) : Type 0 where
     pub answers : List ℕ
     pub asked : Asked handed ticking answers before now
-    pub driven : Driven tells holds count custom (rounds_with (topology_in old) answers) old mid p q
+    pub steps : List Step
+    pub rounds : HasRoundsOf (topology_in old) answers steps
+    pub driven : Driven tells holds count custom steps old mid p q
 
   module _ (old : Engine I g) (p : List (StatePart S)) (before : T) (laws : (t : Topology) (cut : Cut) → Laws count t custom cut) where
     pub turning-none : IsAtRest old → AreParts (topology_in old) p → Turning old old p p before before
     turning-none rest are = record {
       answers = [];
       asked = asked-none handed ticking before;
+      steps = [];
+      rounds = refl;
       driven = driven-none tells holds count custom old p (laws (topology_in old) (cut_in old)) rest are;
     }
 
@@ -115,15 +119,17 @@ module _ {I S T : Type 0} {g : Ghosts I} (tells : I → (ℕ → ℕ) → ℕ �
       turned-short done error b exits is still = record {
         answers = turning.answers;
         asked = turning.asked;
+        steps = turning.steps;
+        rounds = turning.rounds;
         drives = short_ok _ done error exits;
         bad = λ key bad. absurd (no_key done error key exits is bad);
         short = λ met.
-            driven-wants tells holds count custom old p (laws (topology_in old) (cut_in old)) (rounds_with (topology_in old) turning.answers) mid q turning.driven b.fates q
+            driven-wants tells holds count custom old p (laws (topology_in old) (cut_in old)) turning.steps mid q turning.driven b.fates q
             (wants-still tells holds count (topology_in mid) custom (cut_in mid) (laws (topology_in mid) (cut_in mid)) mid b.fates q still.fates);
       }
 
-      -- a round was opened, and the source was asked
-      module _ (b : Engine I g) (n : ℕ) (later : T) (same : IsOfSameRun mid b) (goes : Goes tells (topology_in mid) custom (cut_in mid) (opening_steps (topology_in mid)) mid b) (still : IsStill mid b)
+      -- behind steps without ticks a round was opened, and the source was asked
+      module _ (b : Engine I g) (n : ℕ) (later : T) (quiet : List Step) (none : ticks_in quiet ≡ 0) (same : IsOfSameRun mid b) (goes : Goes tells (topology_in mid) custom (cut_in mid) (quiet ++ opening_steps (topology_in mid)) mid b) (still : IsStill mid b)
           (counted : handed later ≡ handed_on (handed now) n) (first : (xs : List ℕ) → ticking now xs → n ≡ first_answer xs) (rest : (xs : List ℕ) → ticking now xs → ticking later (drop 1 xs)) where
         module _ (c : Engine I g) (r : List (StatePart S)) where
           -- it was closed
@@ -131,11 +137,13 @@ module _ {I S T : Type 0} {g : Ghosts I} (tells : I → (ℕ → ℕ) → ℕ �
           turning-then at_rest next drives kept = record {
             answers = turning.answers ++ n ∷ [];
             asked = asked-more handed ticking turning.answers n before now later turning.asked counted first rest;
+            steps = turning.steps ++ (quiet ++ round_with (topology_in old) n);
+            rounds = one-round-more (topology_in old) turning.answers turning.steps quiet n none turning.rounds;
             driven =
-                driven-then tells holds count custom old p (laws (topology_in old) (cut_in old)) (rounds_with (topology_in old) turning.answers) mid q turning.driven (rounds_with (topology_in old) (turning.answers ++ n ∷ [])) (λ (u : Topology). round_with u n) c r
-                (one-round-more (topology_in old) turning.answers n) at_rest (same_run_then mid b c same next)
-                (subst (λ (steps : List Step). Drives tells holds count (topology_in mid) custom (cut_in mid) steps mid c q r) (both_parts (topology_in mid) n)
-                (drives_on tells holds count custom opening_steps (λ (u : Topology). closing_steps n) mid b c q r (laws (topology_in mid) (cut_in mid)) same goes still drives)) kept;
+                driven-then tells holds count custom old p (laws (topology_in old) (cut_in old)) turning.steps mid q turning.driven (turning.steps ++ (quiet ++ round_with (topology_in old) n)) (λ (u : Topology). quiet ++ round_with u n) c r
+                refl at_rest (same_run_then mid b c same next)
+                (subst (λ (steps : List Step). Drives tells holds count (topology_in mid) custom (cut_in mid) steps mid c q r) (quiet_parts (topology_in mid) quiet n)
+                (drives_on tells holds count custom (λ (u : Topology). quiet ++ opening_steps u) (λ (u : Topology). closing_steps n) mid b c q r (laws (topology_in mid) (cut_in mid)) same goes still drives)) kept;
           }
 
           -- or it met a fault
@@ -146,15 +154,17 @@ module _ {I S T : Type 0} {g : Ghosts I} (tells : I → (ℕ → ℕ) → ℕ �
           turned-bad done error exits bad short = record {
             answers = turning.answers ++ n ∷ [];
             asked = asked-more handed ticking turning.answers n before now later turning.asked counted first rest;
+            steps = turning.steps ++ (quiet ++ round_with (topology_in old) n);
+            rounds = one-round-more (topology_in old) turning.answers turning.steps quiet n none turning.rounds;
             drives = short_ok _ done error exits;
             bad = λ key is.
-                driven-breaks tells holds count custom old p (laws (topology_in old) (cut_in old)) (rounds_with (topology_in old) turning.answers) mid q turning.driven (rounds_with (topology_in old) (turning.answers ++ n ∷ [])) [] (λ (u : Topology). round_with u n) key c r
-                (one-round-more (topology_in old) turning.answers n ∙ sym (append-nil (rounds_with (topology_in old) turning.answers ++ round_with (topology_in old) n)))
-                (subst (λ (steps : List Step). Breaks tells holds count (topology_in mid) custom (cut_in mid) steps key mid c q r) (both_parts (topology_in mid) n)
-                (breaks_on tells holds count custom opening_steps (λ (u : Topology). closing_steps n) mid b c q r (laws (topology_in mid) (cut_in mid)) same goes still key (bad key is)));
+                driven-breaks tells holds count custom old p (laws (topology_in old) (cut_in old)) turning.steps mid q turning.driven (turning.steps ++ (quiet ++ round_with (topology_in old) n)) [] (λ (u : Topology). quiet ++ round_with u n) key c r
+                (sym (append-nil (turning.steps ++ (quiet ++ round_with (topology_in old) n))))
+                (subst (λ (steps : List Step). Breaks tells holds count (topology_in mid) custom (cut_in mid) steps key mid c q r) (quiet_parts (topology_in mid) quiet n)
+                (breaks_on tells holds count custom (λ (u : Topology). quiet ++ opening_steps u) (λ (u : Topology). closing_steps n) mid b c q r (laws (topology_in mid) (cut_in mid)) same goes still key (bad key is)));
             short = λ is.
-                driven-wants tells holds count custom old p (laws (topology_in old) (cut_in old)) (rounds_with (topology_in old) turning.answers) mid q turning.driven c.fates r
-                (wants_on tells holds count custom opening_steps mid b c.fates q r (laws (topology_in mid) (cut_in mid)) same goes still (short is));
+                driven-wants tells holds count custom old p (laws (topology_in old) (cut_in old)) turning.steps mid q turning.driven c.fates r
+                (wants_on tells holds count custom (λ (u : Topology). quiet ++ opening_steps u) mid b c.fates q r (laws (topology_in mid) (cut_in mid)) same goes still (short is));
           }
 
 -- ---- the whole
@@ -171,6 +181,7 @@ module _ {I S T : Type 0} {g : Ghosts I} (told : (ℕ → ℕ → ℕ) → Type 
   rounds-end done e0 e was is before after answer end fates ready started planned same rounded once kept end_is fates_are answer_is =
       let some = some_size t cut input in
       let ticks : ℕ = ticks_between (handed before) (handed after) in
-      let ran = ran-from told tells holds count t custom cut laws input keeps some (λ (u : Topology). rounds_with u rounded.answers) ticks done e0 e was is ready started planned (allows-between t rounded.answers (handed before) (handed after) rounded.asked.handed_out) same rounded.drives rounded.bad rounded.short once kept in
-      let ends_so = ends told tells holds count t custom cut laws input keeps some (rounds_with t rounded.answers) ticks done e0 e was is end fates ran end_is fates_are in
-      rounds-come handed ticking told holds count t custom cut rounded.answers before after answer end fates was is rounded.asked answer_is ends_so
+      let rounds : HasRoundsOf t rounded.answers rounded.steps = subst (λ (u : Topology). HasRoundsOf u rounded.answers rounded.steps) ready.seated.of_topology rounded.rounds in
+      let ran = ran-from told tells holds count t custom cut laws input keeps some (λ (u : Topology). rounded.steps) ticks done e0 e was is ready started planned (allows-between t rounded.answers rounded.steps (handed before) (handed after) rounds rounded.asked.handed_out) same rounded.drives rounded.bad rounded.short once kept in
+      let ends_so = ends told tells holds count t custom cut laws input keeps some rounded.steps ticks done e0 e was is end fates ran end_is fates_are in
+      rounds-come handed ticking told holds count t custom cut rounded.answers rounded.steps before after answer end fates was is rounded.asked rounds answer_is ends_so

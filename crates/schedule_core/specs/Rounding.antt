@@ -1,15 +1,16 @@
 -- Rounds of an engine with the ticks of a source, and how a run ends. This project's own.
 use Rattle.std.specs.Prelude.{◌≡◌, ℕ, List, ◌++◌, Result, Ok, Err, OnOk, length, map, fold, drop, replicate}
-use Rattle.std.specs.List.{flat_map, range_with_len}
+use Rattle.std.specs.List.{range_with_len}
 use Rattle.bolt_ops.specs.RowOp.{Custom}
 use Rattle.commit_order.specs.declared.stop.Stop.{Stop}
 use Rattle.commit_order.specs.declared.stop.Stop.TheVariants as stop
+use Rattle.event_engine.specs.Boosts.{Boosts}
+use Rattle.event_engine.specs.Engines.{Goes}
 use Rattle.event_engine.specs.declared.engine.Engine.{Engine}
-use Rattle.event_worlds.specs.Rounds.{round_with}
 use Rattle.event_worlds.specs.Worlds.{Step, coordinator_steps, of_acker, of_task, of_tick}
 use Rattle.schedule_core.specs.declared.ended.Ended.{Ended}
 use Rattle.schedule_core.specs.Driving.{Breaks, Drives, WantsMemory}
-use Rattle.schedule_core.specs.Runs.{first_answers}
+use Rattle.schedule_core.specs.Runs.{HasRoundsOf, first_answers}
 use Rattle.state_parts.specs.declared.answer.CommitFault.{CommitFault}
 use Rattle.state_parts.specs.declared.answer.CommitFault.TheVariants as fault
 use Rattle.state_parts.specs.declared.parts.StatePart.{StatePart}
@@ -34,9 +35,16 @@ opening_steps t =
 abbrev pub closing_steps : ℕ → List Step
 closing_steps ticks = replicate ticks of_tick ++ coordinator_steps
 
--- a round for each of these numbers of ticks
-abbrev pub rounds_with : Topology → List ℕ → List Step
-rounds_with t answers = flat_map (round_with t) answers
+-- how many events a task or an acker has at most before a round
+abbrev pub most_before : ℕ
+most_before = 64
+
+-- an engine is boosted, and then goes through a round up to the coordinator's step
+pub record OpensBoosted {I : Type 0} {g : Ghosts I} (tells : I → (ℕ → ℕ) → ℕ → Type 0)
+    (t : Topology) (custom : Custom) (cut : Cut) (old new : Engine I g) : Type 0 where
+  pub between : Engine I g
+  pub boosts : Boosts tells t custom cut most_before old between
+  pub goes : Goes tells t custom cut (opening_steps t) between new
 
 -- A source of ticks was asked again and again, and answered this.
 pub record Asked {T : Type 0} (handed : T → ℕ) (ticking : T → List ℕ → Type 0)
@@ -47,7 +55,7 @@ pub record Asked {T : Type 0} (handed : T → ℕ) (ticking : T → List ℕ →
   pub rest : (to_come : List ℕ) → ticking before to_come
       → ticking after (drop (length answers) to_come)
 
--- Rounds with the ticks that a source answered came to this.
+-- Steps with a round for each answer of a source of ticks, and no other ticks, came to this.
 pub record Rounded {I S T : Type 0} {g : Ghosts I} (tells : I → (ℕ → ℕ) → ℕ → Type 0)
     (holds : S → CellMap → Type 0) (count : S → ℕ) (handed : T → ℕ)
     (ticking : T → List ℕ → Type 0) (t : Topology) (custom : Custom) (cut : Cut)
@@ -55,9 +63,10 @@ pub record Rounded {I S T : Type 0} {g : Ghosts I} (tells : I → (ℕ → ℕ) 
     (was is : List (StatePart S)) (before after : T) : Type 0 where
   pub answers : List ℕ
   pub asked : Asked handed ticking answers before after
-  pub drives : OnOk done
-      (Drives tells holds count t custom cut (rounds_with t answers) old new was is)
+  pub steps : List Step
+  pub rounds : HasRoundsOf t answers steps
+  pub drives : OnOk done (Drives tells holds count t custom cut steps old new was is)
   pub bad : (key : List ℕ) → done ≡ Err (fault.BadCell key)
-      → Breaks tells holds count t custom cut (rounds_with t answers) key old new was is
+      → Breaks tells holds count t custom cut steps key old new was is
   pub short : done ≡ Err fault.Memory
       → WantsMemory tells holds count t custom cut old new.fates was is

@@ -5,10 +5,11 @@ ghost use Rattle.attempt_fates.specs.Fates.{IsOnce};
 ghost use Rattle.batch_commits.specs.Standing.{HasTextKey};
 ghost use Rattle.bolt_ops.specs.RowOp.{Custom};
 ghost use Rattle.commit_turns.specs.Turns.{last_tick};
+ghost use Rattle.event_engine.specs.Boosts.{Boosts};
 ghost use Rattle.event_engine.specs.Engines.{Goes, IsStill, cut_in, topology_in};
 ghost use Rattle.event_worlds.specs.Worlds.{coordinator_steps, of_tick, round_steps, rounds_steps};
 ghost use Rattle.schedule_core.specs.Driving.{AreKept, Breaks, Drives, IsAtRest, IsOfSameRun, WantsMemory};
-ghost use Rattle.schedule_core.specs.Rounding.{closing_steps, opening_steps};
+ghost use Rattle.schedule_core.specs.Rounding.{OpensBoosted, closing_steps, most_before, opening_steps};
 ghost use Rattle.schedule_core.specs.Schedules.{all_steps, steps_of};
 ghost use Rattle.schedule_reader.specs.Events.{FitsEvent};
 ghost use Rattle.state_parts.specs.declared.answer.CommitFault.TheVariants as fault;
@@ -23,6 +24,9 @@ use storm_ids::Ids;
 use storm_stores::CellStore;
 use storm_values::Memory;
 use tree_model::Writes;
+
+/// How many events a task or an acker has at most before a round. Boxes stay short by it.
+const MOST_BEFORE: u32 = 64;
 
 /// The coordinator's step, and the commit that it orders, to all parts.
 fn coordinate<I: Ids, C: CellStore>(
@@ -82,6 +86,41 @@ pub(crate) fn open_round<I: Ids, O: RowOp>(
 {
     engine.all_tasks(custom)?;
     engine.all_ackers()?;
+    Ok(())
+}
+
+/// A boost, and then a round up to the coordinator's step: what a task or an acker has to do is
+/// mostly done at once, and the round finds little left.
+pub(crate) fn open_boosted<I: Ids, O: RowOp>(
+    engine: &mut Engine<'_, I>,
+    custom: &O,
+) -> Result<(), Memory>
+    requires { IsAtRest engine.old }
+    ensures at_rest { OnOk result (IsAtRest engine.new) }
+    ensures same_run { OnOk result (IsOfSameRun engine.old engine.new) }
+    ensures opens { OnOk result (OpensBoosted I.tells (topology_in engine.old)
+        (O.meaning custom.now) (cut_in engine.old) engine.old engine.new) }
+    ensures still { IsStill engine.old engine.new }
+    ensures once { OnErr result (IsOnce (length (cut_in engine.old).records)
+        (cut_in engine.old).size last_tick engine.new.fates) }
+{
+    boost(engine, custom)?;
+    open_round(engine, custom)?;
+    Ok(())
+}
+
+/// Events of each task, and then of each acker, until little is left to do.
+fn boost<I: Ids, O: RowOp>(engine: &mut Engine<'_, I>, custom: &O) -> Result<(), Memory>
+    requires { IsAtRest engine.old }
+    ensures at_rest { OnOk result (IsAtRest engine.new) }
+    ensures same_run { OnOk result (IsOfSameRun engine.old engine.new) }
+    ensures boosts { OnOk result (Boosts I.tells (topology_in engine.old) (O.meaning custom.now)
+        (cut_in engine.old) most_before engine.old engine.new) }
+    ensures still { IsStill engine.old engine.new }
+    ensures once { OnErr result (IsOnce (length (cut_in engine.old).records)
+        (cut_in engine.old).size last_tick engine.new.fates) }
+{
+    engine.boost(MOST_BEFORE, custom)?;
     Ok(())
 }
 

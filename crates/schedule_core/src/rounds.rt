@@ -10,7 +10,7 @@ ghost use Rattle.schedule_core.specs.Runs.{RoundsCome};
 ghost use Rattle.state_parts.specs.PartPlans.{AreParts};
 
 use crate::answer::end_run;
-use crate::drive::{close_round, open_round};
+use crate::drive::{close_round, open_boosted};
 use crate::laws::{laws_of_runs, laws_of_steps};
 use attempt_fates::Fates;
 use bolt_ops::RowOp;
@@ -60,7 +60,7 @@ pub fn run_rounds<R: Wait, T: Ticks, N: IdMaker, C: CellStore, O: RowOp>(
     Ok(())
 }
 
-/// Rounds until all is over, each with as many ticks as the source answers.
+/// Boosted rounds until all is over, each with as many ticks as the source answers.
 fn rounds_until_over<R: Wait, T: Ticks, I: Ids, C: CellStore, O: RowOp>(
     rt: &R,
     engine: &mut Engine<'_, I>,
@@ -84,7 +84,7 @@ fn rounds_until_over<R: Wait, T: Ticks, I: Ids, C: CellStore, O: RowOp>(
         if engine.is_over() {
             return Ok(());
         }
-        open_round(engine, custom)?;
+        open_boosted(engine, custom)?;
         let passed = ticks.passed();
         close_round(engine, parts, passed)?;
     }

@@ -1,4 +1,6 @@
 use Rattle.std.proofs.Common.{refl}
+use Rattle.event_engine.specs.Engines.{cut_in, topology_in}
+use Rattle.schedule_core.proofs.Boosting.{opens_behind}
 use Rattle.schedule_core.proofs.Keeping.{kept-then}
 use Rattle.schedule_core.proofs.Resting.{handed_on}
 use Rattle.schedule_core.proofs.RunByRounds.{turned-bad, turned-short, turning-none, turning-then}
@@ -15,31 +17,35 @@ loop-init g c =
 pub loop-preserved : goal.loop-preserved
 loop-preserved g c =
     let custom = g.O.RowOp.meaning c.args.custom.now in
-    let opened = c.in_ok-open_round.ensures in
+    let opened = c.in_ok-open_boosted.ensures in
+    let mid = c.loop.engine in
+    let behind = opens_behind g.I.Ids.tells (topology_in mid) custom (cut_in mid) mid c.open_boosted.new.engine opened.opens in
     let asked = c.passed-passed.ensures in
     let closed = c.in_ok-close_round.ensures in
     turning-then g.I.Ids.tells g.C.CellStore.tells g.C.CellStore.fault_count g.T.Ticks.handed_out g.T.Ticks.tells custom c.args.engine.now c.args.parts.now c.args.ticks.now (λ (t : Topology) (cut : Cut). c.laws_of_steps.ensures t custom cut) c.loop.engine c.loop.parts c.loop.ticks c.loop.invariant
-    c.open_round.new.engine c.passed-passed.result c.passed-passed.new.self opened.same_run opened.goes c.open_round.ensures.still asked.counted asked.told asked.tells_the_rest
+    c.open_boosted.new.engine c.passed-passed.result c.passed-passed.new.self behind.quiet behind.none opened.same_run behind.goes c.open_boosted.ensures.still asked.counted asked.told asked.tells_the_rest
     c.close_round.new.engine c.close_round.new.parts closed.at_rest closed.same_run (closed.drives custom) c.close_round.ensures.kept
 
 pub returns-in_err-close_round-clause-comes : goal.returns-in_err-close_round-clause-comes
 returns-in_err-close_round-clause-comes g c =
     let custom = g.O.RowOp.meaning c.args.custom.now in
-    let opened = c.in_ok-open_round.ensures in
+    let opened = c.in_ok-open_boosted.ensures in
+    let mid = c.loop.engine in
+    let behind = opens_behind g.I.Ids.tells (topology_in mid) custom (cut_in mid) mid c.open_boosted.new.engine opened.opens in
     let asked = c.passed-passed.ensures in
     let exits = c.from_residual-in_err-close_round in
     turned-bad g.I.Ids.tells g.C.CellStore.tells g.C.CellStore.fault_count g.T.Ticks.handed_out g.T.Ticks.tells custom c.args.engine.now c.args.parts.now c.args.ticks.now (λ (t : Topology) (cut : Cut). c.laws_of_steps.ensures t custom cut) c.loop.engine c.loop.parts c.loop.ticks c.loop.invariant
-    c.open_round.new.engine c.passed-passed.result c.passed-passed.new.self opened.same_run opened.goes c.open_round.ensures.still asked.counted asked.told asked.tells_the_rest
+    c.open_boosted.new.engine c.passed-passed.result c.passed-passed.new.self behind.quiet behind.none opened.same_run behind.goes c.open_boosted.ensures.still asked.counted asked.told asked.tells_the_rest
     c.close_round.new.engine c.close_round.new.parts exits.result _ exits.ensures.1
     (λ key is. c.close_round.ensures.bad custom key (handed_on exits.result c.close_round.result _ (fault.BadCell key) exits.ensures.1 c.in_err-close_round.was is))
     (λ is. c.close_round.ensures.short custom (handed_on exits.result c.close_round.result _ fault.Memory exits.ensures.1 c.in_err-close_round.was is))
 
-pub returns-in_err-open_round-clause-comes : goal.returns-in_err-open_round-clause-comes
-returns-in_err-open_round-clause-comes g c =
+pub returns-in_err-open_boosted-clause-comes : goal.returns-in_err-open_boosted-clause-comes
+returns-in_err-open_boosted-clause-comes g c =
     let custom = g.O.RowOp.meaning c.args.custom.now in
     let exits = c.from_residual in
     turned-short g.I.Ids.tells g.C.CellStore.tells g.C.CellStore.fault_count g.T.Ticks.handed_out g.T.Ticks.tells custom c.args.engine.now c.args.parts.now c.args.ticks.now (λ (t : Topology) (cut : Cut). c.laws_of_steps.ensures t custom cut) c.loop.engine c.loop.parts c.loop.ticks c.loop.invariant
-    exits.result _ c.open_round.new.engine exits.ensures.1 refl c.open_round.ensures.still
+    exits.result _ c.open_boosted.new.engine exits.ensures.1 refl c.open_boosted.ensures.still
 
 pub returns-in_err-close_round-clause-kept : goal.returns-in_err-close_round-clause-kept
 returns-in_err-close_round-clause-kept g c =

@@ -1,0 +1,11 @@
+use Rattle.std.specs.Prelude.{replicate}
+use Rattle.event_engine.specs.Engines.{Goes, IsReady, IsStill, cut_in, topology_in}
+use Rattle.event_worlds.specs.Worlds.{of_task}
+use Rattle.event_engine.proofs.engine.Engine.task_often.Given as goal
+
+abbrev pub invariant-loop-done : goal.invariant-loop-done
+invariant-loop-done g l = record {
+  ready : IsReady (topology_in l.fn.self) (cut_in l.fn.self) l.self;
+  goes : Goes g.I.Ids.tells (topology_in l.fn.self) (g.O.RowOp.meaning l.custom) (cut_in l.fn.self) (replicate l.done (of_task l.n)) l.fn.self l.self;
+  still : IsStill l.fn.self l.self;
+}

@@ -1,0 +1,49 @@
+-- Many events in one call. This project's own.
+use Rattle.std.specs.Prelude.{◌≡◌, ◌<◌, ◌≤◌, ℕ, zero, suc, false, [], replicate}
+use Rattle.bolt_ops.specs.RowOp.{Custom}
+use Rattle.event_engine.specs.Engines.{Goes, shape}
+use Rattle.event_engine.specs.declared.engine.Engine.{Engine}
+use Rattle.event_worlds.specs.Worlds.{Step, World, acker_at, is_over, of_acker, of_task, task_at}
+use Rattle.storm_ids.specs.declared.ids.Ids.{Ghosts}
+use Rattle.topology_plan.specs.Topology.{Topology, tasks_in_all}
+use Rattle.trident_batches.specs.Batches.{Cut}
+
+-- the numbers below one did this in turn, the first first
+abbrev pub InTurn : {X : Type 0} → (ℕ → X → X → Type 0) → ℕ → X → X → Type 0
+InTurn Does zero old new = new ≡ old
+InTurn {X} Does (suc count) old new = (mid : X) × InTurn Does count old mid × Does count mid new
+
+-- a task has nothing in its box and nothing to hand over
+abbrev pub TaskRests : Topology → ℕ → World → Type 0
+TaskRests t n w = ((task_at t n w).inbox ≡ []) × ((task_at t n w).outbox ≡ [])
+
+-- so it is with an acker
+abbrev pub AckerRests : ℕ → World → Type 0
+AckerRests n w = ((acker_at n w).inbox ≡ []) × ((acker_at n w).outbox ≡ [])
+
+module _ {I : Type 0} {g : Ghosts I} (tells : I → (ℕ → ℕ) → ℕ → Type 0) (t : Topology)
+    (custom : Custom) (cut : Cut) where
+  -- An engine goes through a step again and again, so many times at most, and fewer times only
+  -- where all is over or where nothing is left to do.
+  pub record GoesUpTo (most : ℕ) (step : Step) (Rests : World → Type 0) (old new : Engine I g)
+      : Type 0 where
+    pub count : ℕ
+    pub few : count ≤ most
+    pub goes : Goes tells t custom cut (replicate count step) old new
+    pub rests : count < most → is_over t cut (shape new) ≡ false → Rests (shape new)
+
+  -- the tasks have up to so many events each, in the order of their numbers
+  abbrev pub TasksBoost : ℕ → Engine I g → Engine I g → Type 0
+  TasksBoost most old new =
+      InTurn (λ n was is. GoesUpTo most (of_task n) (TaskRests t n) was is) (tasks_in_all t) old new
+
+  -- and so do the ackers
+  abbrev pub AckersBoost : ℕ → Engine I g → Engine I g → Type 0
+  AckersBoost most old new =
+      InTurn (λ n was is. GoesUpTo most (of_acker n) (AckerRests n) was is) t.ackers old new
+
+  -- first the tasks, and then the ackers
+  pub record Boosts (most : ℕ) (old new : Engine I g) : Type 0 where
+    pub between : Engine I g
+    pub tasks : TasksBoost most old between
+    pub ackers : AckersBoost most between new

@@ -1,0 +1,124 @@
+//! Many events of a task or of an acker in one call.
+ghost use Rattle.std.specs.Prelude.{◌≡◌, ◌<◌, ◌-◌, ◌^◌, true, false, length, OnOk, OnErr};
+ghost use Rattle.attempt_fates.specs.Fates.{IsOnce};
+ghost use Rattle.bolt_ops.specs.RowOp.{Custom};
+ghost use Rattle.event_engine.specs.Boosts.{AckerRests, AckersBoost, Boosts, GoesUpTo, TaskRests, TasksBoost};
+ghost use Rattle.event_engine.specs.Engines.{IsReady, IsStill, cut_in, has_ended, shape, topology_in};
+ghost use Rattle.event_worlds.specs.Worlds.{of_acker, of_task};
+ghost use Rattle.topology_plan.specs.Topology.{tasks_in_all};
+
+use crate::engine::Engine;
+use bolt_ops::RowOp;
+use storm_ids::Ids;
+use storm_values::Memory;
+
+impl<'p, I: Ids> Engine<'p, I> {
+    /// Each task has its events, and then each acker: so many at most, and fewer only where nothing
+    /// is left for it to do. It gives no ticks, and the coordinator has no turn.
+    pub fn boost<O: RowOp>(&mut self, most: u32, custom: &O) -> Result<(), Memory>
+        requires { IsReady (topology_in self.old) (cut_in self.old) self.old }
+        ensures ready { OnOk result
+            (IsReady (topology_in self.old) (cut_in self.old) self.new) }
+        ensures boosts { OnOk result (Boosts I.tells (topology_in self.old) (O.meaning custom.now)
+            (cut_in self.old) most self.old self.new) }
+        ensures still { IsStill self.old self.new }
+        ensures once { OnErr result (IsOnce (length (cut_in self.old).records)
+            (cut_in self.old).size (2 ^ 64 - 1) self.new.fates) }
+    {
+        if self.is_over() {
+            return Ok(());
+        }
+        self.tasks_often(most, custom)?;
+        self.ackers_often(most)?;
+        Ok(())
+    }
+
+    // Each task has its events, so many at most.
+    fn tasks_often<O: RowOp>(&mut self, most: u32, custom: &O) -> Result<(), Memory>
+        requires ready { IsReady (topology_in self.old) (cut_in self.old) self.old }
+        requires goes_on { has_ended self.old ≡ false }
+        ensures ready { OnOk result
+            (IsReady (topology_in self.old) (cut_in self.old) self.new) }
+        ensures boosts { OnOk result (TasksBoost I.tells (topology_in self.old)
+            (O.meaning custom.now) (cut_in self.old) most self.old self.new) }
+        ensures still { IsStill self.old self.new }
+    {
+        for n in 0..self.plan.tasks() {
+            self.task_often(n, most, custom)?;
+        }
+        Ok(())
+    }
+
+    // Each acker has its events, so many at most.
+    fn ackers_often(&mut self, most: u32) -> Result<(), Memory>
+        requires ready { IsReady (topology_in self.old) (cut_in self.old) self.old }
+        requires goes_on { has_ended self.old ≡ false }
+        ensures ready { OnOk result
+            (IsReady (topology_in self.old) (cut_in self.old) self.new) }
+        ensures boosts { (custom : Custom) → OnOk result (AckersBoost I.tells
+            (topology_in self.old) custom (cut_in self.old) most self.old self.new) }
+        ensures still { IsStill self.old self.new }
+    {
+        for n in 0..self.plan.ackers() {
+            self.acker_often(n, most)?;
+        }
+        Ok(())
+    }
+
+    // Task n has its events, until nothing is left for it to do.
+    fn task_often<O: RowOp>(&mut self, n: u32, most: u32, custom: &O) -> Result<(), Memory>
+        requires there { n < tasks_in_all (topology_in self.old) }
+        requires ready { IsReady (topology_in self.old) (cut_in self.old) self.old }
+        requires goes_on { has_ended self.old ≡ false }
+        ensures ready { OnOk result
+            (IsReady (topology_in self.old) (cut_in self.old) self.new) }
+        ensures goes { OnOk result (GoesUpTo I.tells (topology_in self.old) (O.meaning custom.now)
+            (cut_in self.old) most (of_task n) (TaskRests (topology_in self.old) n)
+            self.old self.new) }
+        ensures still { IsStill self.old self.new }
+    {
+        for done in 0..most {
+            if self.task_rests(n) {
+                return Ok(());
+            }
+            self.task_event(n, custom)?;
+        }
+        Ok(())
+    }
+
+    // Acker n has its events, until nothing is left for it to do.
+    fn acker_often(&mut self, n: u32, most: u32) -> Result<(), Memory>
+        requires there { n < (topology_in self.old).ackers }
+        requires ready { IsReady (topology_in self.old) (cut_in self.old) self.old }
+        requires goes_on { has_ended self.old ≡ false }
+        ensures ready { OnOk result
+            (IsReady (topology_in self.old) (cut_in self.old) self.new) }
+        ensures goes { (custom : Custom) → OnOk result (GoesUpTo I.tells (topology_in self.old)
+            custom (cut_in self.old) most (of_acker n) (AckerRests n) self.old self.new) }
+        ensures still { IsStill self.old self.new }
+    {
+        for done in 0..most {
+            if self.acker_rests(n) {
+                return Ok(());
+            }
+            self.acker_event(n)?;
+        }
+        Ok(())
+    }
+
+    // Whether task n has nothing in its box and nothing to hand over.
+    fn task_rests(&self, n: u32) -> bool
+        requires { n < length self.now.tasks.items }
+        ensures { result ≡ true → TaskRests (topology_in self.now) n (shape self.now) }
+    {
+        self.tasks[n as usize].rests()
+    }
+
+    // Whether acker n has nothing in its box and nothing to hand over.
+    fn acker_rests(&self, n: u32) -> bool
+        requires { n < length self.now.ackers.items }
+        ensures { result ≡ true → AckerRests n (shape self.now) }
+    {
+        self.ackers[n as usize].rests()
+    }
+}
