@@ -1,5 +1,5 @@
 ghost use Rattle.std.specs.Prelude.{◌≡◌, ◌++◌, IfOk, OnOk, slice_get};
-ghost use Rattle.commit_writes.specs.Writes.{AreWritesOf, IsPathOrderOf, done_of, writes_in};
+ghost use Rattle.commit_writes.specs.Writes.{AreWritesOf, IsPathOrderOf, done_in, done_of, writes_in};
 
 use std::alloc::Global;
 use storm_values::{Duplicate, Memory, Seq};
@@ -28,8 +28,18 @@ fn add_writes_at(into: &mut Writes, list: &[AckMsg], place: usize) -> Result<(),
         (into.new ≡ into.old ++ writes_in (done_of (slice_get list.now place))) }
 {
     match list.get(place) {
-        Some(AckMsg::Done(done)) => add_copies(into, done.writes.as_slice()),
-        _ => Ok(()),
+        Some(note) => add_writes_of(into, note),
+        None => Ok(()),
+    }
+}
+
+// Adds copies of the writes of a message.
+fn add_writes_of(into: &mut Writes, note: &AckMsg) -> Result<(), Memory>
+    ensures { OnOk result (into.new ≡ into.old ++ writes_in (done_in note.now)) }
+{
+    match note {
+        AckMsg::Done(done) => add_copies(into, done.writes.as_slice()),
+        AckMsg::Init(_) | AckMsg::Failed(_) => Ok(()),
     }
 }
 

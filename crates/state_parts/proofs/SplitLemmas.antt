@@ -1,8 +1,8 @@
 -- The writes of a batch, dealt to the parts.
-use Rattle.std.proofs.Common.{IfNone, None, Option, Some, option_map, slice_get, ◌≡◌, ◌<◌, ◌==◌, ◌&&◌, inl, inr, ℕ, ℤ, zero, suc, Bool, true, false, cond, List, [], ◌∷◌, ◌++◌, map, filter, length, get_or, set, refl, sym, ap, subst, ◌∙◌, eq-eqb, eqb-true, map-append, arith}
+use Rattle.std.proofs.Common.{IfNone, None, Option, Some, option_map, slice_get, ◌≡◌, ◌<◌, ◌==◌, ◌&&◌, inl, inr, ℕ, ℤ, zero, suc, Bool, true, false, cond, List, [], ◌∷◌, ◌++◌, map, filter, length, get_or, set, refl, sym, ap, subst, ◌∙◌, eq-eqb, eqb-true, arith}
 use Rattle.std.specs.List.{AllByRecursion}
 use Rattle.std.specs.Str.{bytes_eq}
-use Rattle.std.proofs.lemmas.List.{append-nil, length-map}
+use Rattle.std.proofs.lemmas.List.{append-nil, length-map, map-append}
 use Rattle.std.proofs.lemmas.List.Elements.{filter-append}
 use Rattle.std.proofs.lemmas.Option.{none-some, slice_get-map, slice_get_read}
 use Rattle.std.proofs.lemmas.Slice.Zip.{AllZip-long}
@@ -39,11 +39,11 @@ amounts_at-append xs ys key =
     ap (map (λ (w : Write). w.amount)) (filter-append (λ (w : Write). bytes_eq key w.key) xs ys)
     ∙ map-append (λ (w : Write). w.amount) (filter (λ (w : Write). bytes_eq key w.key) xs) (filter (λ (w : Write). bytes_eq key w.key) ys)
 
-module _ {S : Type 0} (before : List Write) (write : Write) where
-  -- the write was added
-  abbrev Adds : GroupedWrites → GroupedWrites → Type 0
-  Adds old new = (key : List ℕ) → amounts_of new key ≡ amounts_of old key ++ amounts_at (write ∷ []) key
+-- a write was added
+abbrev pub Adds : Write → GroupedWrites → GroupedWrites → Type 0
+Adds write old new = (key : List ℕ) → amounts_of new key ≡ amounts_of old key ++ amounts_at (write ∷ []) key
 
+module _ {S : Type 0} (before : List Write) (write : Write) where
   own_push : (at : StatePart S) (b : Bool) → is_for_part at.component at.part write ≡ b → own_writes (before ++ write ∷ []) at ≡ own_writes before at ++ cond b (write ∷ []) []
   own_push at b is =
       filter-append (is_for_part at.component at.part) before (write ∷ [])
@@ -59,7 +59,7 @@ module _ {S : Type 0} (before : List Write) (write : Write) where
   grouped_same at grouped is_not was = λ key. was key ∙ ap (λ (ws : List Write). amounts_at ws key) (own_same at is_not)
 
   -- the part's own writes have one more
-  grouped_more : (at : StatePart S) (old new : GroupedWrites) → is_for_part at.component at.part write ≡ true → Adds old new → IsGrouped (own_writes before at) old → IsGrouped (own_writes (before ++ write ∷ []) at) new
+  grouped_more : (at : StatePart S) (old new : GroupedWrites) → is_for_part at.component at.part write ≡ true → Adds write old new → IsGrouped (own_writes before at) old → IsGrouped (own_writes (before ++ write ∷ []) at) new
   grouped_more at old new yes_it_is adds was = λ key.
       adds key ∙ ap (λ (xs : List ℤ). xs ++ amounts_at (write ∷ []) key) (was key) ∙ sym (amounts_at-append (own_writes before at) (write ∷ []) key)
       ∙ ap (λ (ws : List Write). amounts_at ws key) (own_more at yes_it_is)
@@ -74,7 +74,7 @@ module _ {S : Type 0} (before : List Write) (write : Write) where
   )
 
   -- the writes of the part that was found have one more
-  pub deal_step : (parts : List (StatePart S)) (i : ℕ) (dealt : List GroupedWrites) (old new : GroupedWrites) → IsFound (plans_of parts) write.state write.part i → old ≡ get_or dealt i old → Adds old new
+  pub deal_step : (parts : List (StatePart S)) (i : ℕ) (dealt : List GroupedWrites) (old new : GroupedWrites) → IsFound (plans_of parts) write.state write.part i → old ≡ get_or dealt i old → Adds write old new
       → AreDealt before parts dealt → AreDealt (before ++ write ∷ []) parts (set dealt i new)
   deal_step [] i dealt old new found read adds was = absurd found
   deal_step (at ∷ parts) i [] old new found read adds was = absurd was
