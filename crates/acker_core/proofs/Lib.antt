@@ -1,9 +1,10 @@
+pub mod PathOrders
+pub mod Places
 pub mod Stack
-pub mod Twos
-pub mod Meeting
 pub mod StateLemmas
 pub mod TellLemmas
 pub mod StepLemmas
 pub mod OwnEntries
 pub mod Traces
 pub mod Undisturbed
+pub mod Walks

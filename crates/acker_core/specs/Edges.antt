@@ -1,6 +1,5 @@
 -- The edges that occur an odd number of times, in order.
-use Rattle.std.specs.Prelude.{◌≡◌, ◌++◌, ◌-◌, ◌%◌, Bool, false, if◌then◌else◌, length, take, Option, None, Some, slice_get, List, [], ◌∷◌, flat_map}
-use Rattle.std.specs.Borrow.{Bor}
+use Rattle.std.specs.Prelude.{◌≡◌, ◌++◌, ◌-◌, ◌%◌, Bool, false, if◌then◌else◌, length, take, Option, None, Some, slice_get, List, [], ◌∷◌}
 use Rattle.std.specs.List.{AllByRecursion}
 use Rattle.std.specs.List.Sorted.{IsStrictlySortedBy}
 use Rattle.std.specs.Ordering.{is_eq, is_gt}
@@ -16,23 +15,6 @@ pub record AreLeft (all left : List Edge) : Type 0 where
 abbrev pub AreInOrder : List Edge → Type 0
 AreInOrder [] = Unit {0}
 AreInOrder (x ∷ xs) = AllByRecursion (λ y. is_gt (edge_cmp x y) ≡ false) xs × AreInOrder xs
-
--- each edge occurs an even number of times
-abbrev pub AreEven : List Edge → Type 0
-AreEven edges = (e : Edge) → times e edges % 2 ≡ 0
-
--- the second list has the edges of the first, but for some that went or came two by two
-abbrev pub AreAlike : List Edge → List Edge → Type 0
-AreAlike all left = (e : Edge) → times e left % 2 ≡ times e all % 2
-
--- the edge at a place of a table, where one lies
-abbrev pub lying_at : Option (Bor Edge) → List Edge
-lying_at None = []
-lying_at (Some edge) = edge.now ∷ []
-
--- the edges that lie in a table
-abbrev pub lying : List (Option (Bor Edge)) → List Edge
-lying places = flat_map lying_at places
 
 -- ---- the steps of the pass over edges in order
 

@@ -1,10 +1,55 @@
 -- The steps by which a list's path order is made. No public clause cites this module.
-use Rattle.std.specs.Prelude.{◌≡◌, ℕ, Some, slice_get, List}
+use Rattle.std.specs.Prelude.{◌≡◌, ℕ, Some, slice_get, List, [], ◌∷◌, ◌++◌, flat_map}
 use Rattle.std.specs.Borrow.{Bor}
+use Rattle.std.specs.declared.cmp.Ordering.TheVariants.{Less}
+use Rattle.counted_items.specs.Weights.{Same}
+use Rattle.storm_values.specs.Order.{path_cmp}
+use Rattle.tuple_tickets.specs.declared.edge.Edge.{Edge}
 use Rattle.tree_model.specs.declared.messages.AckMsg.{AckMsg}
 use Rattle.tree_model.specs.declared.messages.AckMsg.TheVariants as msg
 use Rattle.tree_model.specs.declared.messages.Done.{Done}
+use Rattle.tree_model.specs.declared.messages.Init.{Init}
+use Rattle.acker_core.specs.declared.follow.Open.{Open}
 
--- the done stands at the place beside it
+-- a done stands at a place of a list
+abbrev pub StandsAt : List AckMsg → ℕ → Done → Type 0
+StandsAt list k d = slice_get list k ≡ Some (msg.Done d)
+
+-- ---- dones beside their places
+
+abbrev pub place_of : ℕ × Bor Done → ℕ
+place_of d = d.0
+
+abbrev pub done_beside : ℕ × Bor Done → Done
+done_beside d = d.1.now
+
 abbrev pub StandsIn : List AckMsg → ℕ × Bor Done → Type 0
-StandsIn list d = slice_get list d.0 ≡ Some (msg.Done d.1.now)
+StandsIn list d = StandsAt list (place_of d) (done_beside d)
+
+-- ---- a walk
+
+-- an init of a list has these edges
+pub record HasInit (list : List AckMsg) (edges : List Edge) : Type 0 where
+  pub place : ℕ
+  pub init : Init
+  pub there : slice_get list place ≡ Some (msg.Init init)
+  pub are : edges ≡ init.edges
+
+abbrev pub edges_in : Open → List Edge
+edges_in open_ones = open_ones.edges.now
+
+-- the edges that are open
+abbrev pub open_edges : List Open → List Edge
+open_edges all = flat_map edges_in all
+
+-- The order grows by the place of a done whose path is above the last one. The edge that it consumes
+-- is no longer open, and those that it produced are.
+pub record FollowsOn (list : List AckMsg) (order longer : List ℕ) (last path : List ℕ)
+    (before after : List Edge) : Type 0 where
+  pub place : ℕ
+  pub done : Done
+  pub there : StandsAt list place done
+  pub added : longer ≡ order ++ place ∷ []
+  pub above : path_cmp last done.consumed.path ≡ Less
+  pub is_last : path ≡ done.consumed.path
+  pub moved : Same (before ++ done.produced) (done.consumed ∷ after)

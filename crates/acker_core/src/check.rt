@@ -4,6 +4,7 @@ ghost use Rattle.tree_model.specs.Lists.{occurrences, occurrences_in};
 ghost use Rattle.acker_core.specs.Edges.{AreLeft, AreInOrder, tops, put_on};
 ghost use Rattle.acker_core.specs.Check.{IsCheckOf};
 
+use crate::follow::followed_order;
 use crate::sorted::sorted_order;
 use std::alloc::Global;
 use storm_values::{Duplicate, Memory, Seq};
@@ -21,11 +22,14 @@ pub enum Check {
 }
 
 /// Whether each edge occurs an even number of times among the edges of the inits and the consumed
-/// and produced edges of the dones. It takes time in proportion to n log n for n edges at most. The
-/// edges are copied only where they are not found in pairs by their ids.
+/// and produced edges of the dones. Where the dones are found at the paths of a tuple tree it takes
+/// time in proportion to n for n edges; else they are copied and sorted, in n log n.
 pub fn check_list(alloc: Global, list: &Notes) -> Result<Check, Memory>
     ensures { IfOk result (IsCheckOf list.now) }
 {
+    if let Some(order) = followed_order(alloc, list)? {
+        return Ok(Check::Closed(order));
+    }
     let edges = edges_of(alloc, list)?;
     let left = odd_edges(alloc, edges)?;
     if left.is_empty() {

@@ -4,8 +4,9 @@
 mod acker;
 mod check;
 mod entry;
+mod follow;
 mod laws;
-mod pairs;
+mod placing;
 mod sorted;
 #[cfg(test)]
 mod tests;

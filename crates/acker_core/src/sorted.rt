@@ -3,7 +3,7 @@ ghost use Rattle.std.specs.Prelude.{◌≡◌, ◌++◌, IfOk, OnOk, IsPermutati
 ghost use Rattle.std.specs.List.{AllByRecursion};
 ghost use Rattle.tree_model.specs.declared.messages.AckMsg.{AckMsg};
 ghost use Rattle.commit_writes.specs.Writes.{AreInPathOrder, IsPathOrderOf, done_in, dones_in};
-ghost use Rattle.acker_core.specs.Orders.{StandsIn};
+ghost use Rattle.acker_core.specs.Orders.{StandsIn, done_beside, place_of};
 
 use std::alloc::Global;
 use storm_values::{Memory, Seq};
@@ -14,19 +14,19 @@ use tree_model::{AckMsg, Done, Notes};
 pub fn sorted_order(alloc: Global, list: &Notes) -> Result<Seq<usize>, Memory>
     ensures { IfOk result (IsPathOrderOf list.now) }
 {
-    let mut dones = dones_of(alloc, list)?;
+    let mut dones = dones_of(alloc, list.as_slice())?;
     sort_dones(&mut dones);
     let places = places_of(alloc, &dones)?;
     Ok(places)
 }
 
 // The dones of a list beside their places, in the order of the messages.
-fn dones_of<'l>(alloc: Global, list: &'l Notes) -> Result<Vec<(usize, &'l Done)>, Memory>
-    ensures all { IfOk result (λ dones. map (λ d. d.1.now) dones.items ≡ dones_in list.now) }
+fn dones_of<'l>(alloc: Global, list: &'l [AckMsg]) -> Result<Vec<(usize, &'l Done)>, Memory>
+    ensures all { IfOk result (λ dones. map done_beside dones.items ≡ dones_in list.now) }
     ensures there { IfOk result (λ dones. AllByRecursion (StandsIn list.now) dones.items) }
 {
     let mut dones = Vec::with_capacity(alloc, list.len())?;
-    for (place, note) in list.as_slice().iter().enumerate() {
+    for (place, note) in list.iter().enumerate() {
         add_done(&mut dones, place, note)?;
     }
     Ok(dones)
@@ -37,8 +37,8 @@ fn add_done<'l>(
     place: usize,
     note: &'l AckMsg,
 ) -> Result<(), Memory>
-    ensures all { OnOk result (map (λ d. d.1.now) into.new.items
-        ≡ map (λ d. d.1.now) into.old.items ++ done_in note.now) }
+    ensures all { OnOk result (map done_beside into.new.items
+        ≡ map done_beside into.old.items ++ done_in note.now) }
     ensures there { OnOk result ((list : List AckMsg) → slice_get list place ≡ Some note.now
         → AllByRecursion (StandsIn list) into.old.items
         → AllByRecursion (StandsIn list) into.new.items) }
@@ -51,13 +51,13 @@ fn add_done<'l>(
 
 fn sort_dones(dones: &mut Vec<(usize, &Done)>)
     ensures same { IsPermutation dones.old.items dones.new.items }
-    ensures ordered { AreInPathOrder (map (λ d. d.1.now) dones.new.items) }
+    ensures ordered { AreInPathOrder (map done_beside dones.new.items) }
 {
     dones.sort_unstable_by(|a, b| a.1.consumed.path.compare(&b.1.consumed.path));
 }
 
 fn places_of(alloc: Global, dones: &[(usize, &Done)]) -> Result<Seq<usize>, Memory>
-    ensures { IfOk result (λ places. places ≡ map (λ d. d.0) dones.now) }
+    ensures { IfOk result (λ places. places ≡ map place_of dones.now) }
 {
     let mut places = Vec::with_capacity(alloc, dones.len())?;
     for done in dones {

@@ -1,4 +1,4 @@
-use crate::pairs::are_in_pairs;
+use crate::follow::followed_order;
 use crate::{Acker, Check, Verdict, check_list};
 use std::alloc::Global;
 use std::test::Fail;
@@ -160,25 +160,137 @@ fn edges_of_one_id_are_told_apart(rt: HostRuntime) -> Result<(), Fail> {
     Ok(())
 }
 
-// Edges that want one place of each table, by both halves of their ids.
-const CROWDED: [(u32, u64); 4] = [
-    (0, 0x0100_0000_0100),
-    (1, 0x0200_0000_0200),
-    (2, 0x0300_0000_0300),
-    (3, 0x0400_0000_0400),
+// A message of the tree below: the edge that it consumes and the ids of those that it produced. The
+// init consumes none.
+struct Told {
+    path: &'static [u32],
+    id: u64,
+    produced: &'static [u64],
+}
+
+// A tree of eight nodes, five deep, in path order.
+const TREE: [Told; 9] = [
+    Told {
+        path: &[],
+        id: 0,
+        produced: &[5, 6],
+    },
+    Told {
+        path: &[0],
+        id: 5,
+        produced: &[7],
+    },
+    Told {
+        path: &[0, 0],
+        id: 7,
+        produced: &[8, 12],
+    },
+    Told {
+        path: &[0, 0, 0],
+        id: 8,
+        produced: &[9],
+    },
+    Told {
+        path: &[0, 0, 0, 0],
+        id: 9,
+        produced: &[10, 11],
+    },
+    Told {
+        path: &[0, 0, 0, 0, 0],
+        id: 10,
+        produced: &[],
+    },
+    Told {
+        path: &[0, 0, 0, 0, 1],
+        id: 11,
+        produced: &[],
+    },
+    Told {
+        path: &[0, 0, 1],
+        id: 12,
+        produced: &[],
+    },
+    Told {
+        path: &[1],
+        id: 6,
+        produced: &[],
+    },
 ];
 
-#[test]
-fn edges_that_want_one_place_are_paired(rt: HostRuntime) -> Result<(), Fail> {
-    let alloc = rt.alloc();
-    let mut list = Notes::new(alloc);
-    list.push(init(alloc, &CROWDED)?)?;
-    for edge in &CROWDED {
-        list.push(done(alloc, *edge, &[])?)?;
+fn message(alloc: Global, told: &Told) -> Result<AckMsg, Memory> {
+    let path = Path::from_slice(alloc, told.path)?;
+    let mut edges = Edges::new(alloc);
+    let mut number = 0;
+    for id in told.produced {
+        edges.push(Edge {
+            path: path.child(number)?,
+            id: *id,
+        })?;
+        number = number.saturating_add(1);
     }
-    assert!(rt; are_in_pairs(alloc, &list)?);
-    // two edges of one id
-    list.push(done(alloc, (4, 0x0400_0000_0400), &[(3, 0x0400_0000_0400)])?)?;
-    assert!(rt; !are_in_pairs(alloc, &list)?);
+    if path.is_empty() {
+        return Ok(AckMsg::Init(Init {
+            root: ROOT,
+            edges,
+            draw: DRAW,
+        }));
+    }
+    Ok(AckMsg::Done(Done {
+        root: ROOT,
+        consumed: Edge { path, id: told.id },
+        produced: edges,
+        draw: DRAW,
+        writes: Few::new(alloc),
+    }))
+}
+
+// The list of the tree's messages with these numbers.
+fn list_of(alloc: Global, numbers: &[usize]) -> Result<Notes, Memory> {
+    let mut list = Notes::new(alloc);
+    for number in numbers {
+        if let Some(told) = TREE.get(*number) {
+            list.push(message(alloc, told)?)?;
+        }
+    }
+    Ok(list)
+}
+
+// The numbers of the dones of a list in path order, and whether they were found by their paths.
+// There are none where the list is not closed.
+fn order_of(alloc: Global, numbers: &[usize]) -> Result<(Vec<usize>, bool), Memory> {
+    let list = list_of(alloc, numbers)?;
+    let mut shown = Vec::new(alloc);
+    if let Check::Closed(order) = check_list(alloc, &list)? {
+        for place in order.as_slice() {
+            shown.push(numbers.get(*place).copied().unwrap_or(0))?;
+        }
+    }
+    let found = followed_order(alloc, &list)?;
+    Ok((shown, found.is_some()))
+}
+
+#[test]
+fn dones_are_found_in_path_order(rt: HostRuntime) -> Result<(), Fail> {
+    let alloc = rt.alloc();
+    let (order, found) = order_of(alloc, &[0, 1, 2, 3, 4, 5, 6, 7, 8])?;
+    assert!(rt; found && order.as_slice() == [1, 2, 3, 4, 5, 6, 7, 8].as_slice());
+    let (order, found) = order_of(alloc, &[8, 7, 6, 5, 4, 3, 2, 1, 0])?;
+    assert!(rt; found && order.as_slice() == [1, 2, 3, 4, 5, 6, 7, 8].as_slice());
+    let (order, found) = order_of(alloc, &[4, 1, 8, 6, 0, 3, 7, 5, 2])?;
+    assert!(rt; found && order.as_slice() == [1, 2, 3, 4, 5, 6, 7, 8].as_slice());
+    Ok(())
+}
+
+#[test]
+fn lists_of_no_tree_are_sorted(rt: HostRuntime) -> Result<(), Fail> {
+    let alloc = rt.alloc();
+    // a done that comes three times leaves no edge, and twice it does
+    let (order, found) = order_of(alloc, &[0, 1, 8, 6, 4, 3, 4, 7, 5, 2, 4])?;
+    assert!(rt; !found && order.as_slice() == [1, 2, 3, 4, 4, 4, 5, 6, 7, 8].as_slice());
+    let (order, found) = order_of(alloc, &[0, 1, 8, 6, 4, 3, 4, 7, 5, 2])?;
+    assert!(rt; !found && order.is_empty());
+    // a done is wanted
+    let (order, found) = order_of(alloc, &[0, 1, 2, 3, 4, 6, 7, 8])?;
+    assert!(rt; !found && order.is_empty());
     Ok(())
 }
