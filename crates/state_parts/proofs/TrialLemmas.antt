@@ -1,15 +1,21 @@
 -- What follows of the parts' answers to a commit.
-use Rattle.std.proofs.Common.{◌≡◌, ◌+◌, ◌≤◌, ◌<◌, ◌||◌, ◌&&◌, ◌==◌, inl, inr, ⊎_elim, ℕ, zero, suc, Bool, true, false, List, [], ◌∷◌, ◌++◌, length, map, get_or, set, slice_get, drop, All, Option, None, Some, Result, Ok, Err, OnOk, refl, sym, ap, subst, ◌∙◌, append_assoc, arith}
+use Rattle.std.proofs.Common.{◌≡◌, ◌+◌, ◌≤◌, ◌<◌, ◌||◌, ◌&&◌, ◌==◌, inl, inr, ⊎_elim, ℕ, zero, suc, Bool, true, false, List, [], ◌∷◌, ◌++◌, length, map, get_or, set, slice_get, drop, All, Option, None, Some, Result, Ok, Err, OnOk, OnErr, IsErrOf, ℤ, refl, sym, ap, subst, ◌∙◌, append_assoc, arith}
 use Rattle.std.proofs.lemmas.Bool.{cases_eq, eq-eqb, ne_eqb}
 use Rattle.std.proofs.lemmas.List.{append-nil, drop_all, drop_more, get_or_at, length-map, length_push, map-append, set_at}
 use Rattle.std.proofs.lemmas.List.Elements.{All-head, All-nil, All-push, All-tail}
 use Rattle.std.proofs.lemmas.List.Folds.{list_any-append}
 use Rattle.std.proofs.lemmas.Option.{none-some, same_Some}
+use Rattle.std.proofs.lemmas.Result.{on_ok_weaker}
 use Rattle.std.specs.List.{list_any}
 use Rattle.std.specs.Option.{option_or}
 use Rattle.storm_values.specs.Lines.{first_some}
 use Rattle.storm_values.specs.Counts.{raised}
-use Rattle.storm_stores.specs.CellMaps.{CellMap}
+use Rattle.storm_stores.specs.CellMaps.{CellMap, cell_at}
+use Rattle.topology_plan.specs.declared.parts.Fold.{Fold}
+use Rattle.topology_plan.specs.declared.parts.Kind.{Kind}
+use Rattle.cell_format.specs.Commits.{IsDone, IsPerhapsDone, amounts_at}
+use Rattle.cell_format.proofs.CommitLemmas.{perhaps_if_done}
+use Rattle.state_cells.specs.Turns.{IsBad, Turns}
 use Rattle.tree_model.specs.declared.write.Write.{Write}
 use Rattle.state_cells.specs.declared.fault.PartFault.{PartFault}
 use Rattle.state_cells.specs.declared.group.GroupedWrites.{GroupedWrites}
@@ -107,6 +113,54 @@ there_is {S} (x ∷ xs) (suc place) was at = inr (there_is xs place was at)
 part_there : {S : Type 0} {count : S → ℕ} (xs ys : List (StatePart S)) (c p b a : ℕ) → IsFailedPart count xs ys c p b a → IsOneOf (plans_of xs) c p
 part_there xs ys c p b a told =
     subst (λ (k : ℕ). IsOneOf (plans_of xs) k p) told.component_is (subst (λ (k : ℕ). IsOneOf (plans_of xs) told.was.component k) told.part_is (there_is xs told.place told.was told.was_at))
+
+-- ---- the trial of a part
+
+-- The amounts that are written for a key are those of the part's own writes.
+module _ {S : Type 0} (tells : S → CellMap → Type 0) (txid : ℕ) (kind : Kind) (by : Fold) (written : List ℕ → List ℤ) (own : List Write) (same : (key : List ℕ) → written key ≡ amounts_at own key) (a b : S) where
+  done_own : Turns tells (λ key. IsDone kind by txid (written key)) a b → Turns tells (λ key. IsDone kind by txid (amounts_at own key)) a b
+  done_own turns = record {
+    to = λ cells told.
+        let x = turns.to cells told in
+        (x.0, x.1, λ key. subst (λ (amounts : List ℤ). IsDone kind by txid amounts (cell_at cells key) (cell_at x.0 key)) (same key) (x.2 key));
+  }
+
+  broken_own : Turns tells (λ key. IsPerhapsDone kind by txid (written key)) a b → Turns tells (λ key. IsPerhapsDone kind by txid (amounts_at own key)) a b
+  broken_own turns = record {
+    to = λ cells told.
+        let x = turns.to cells told in
+        (x.0, x.1, λ key. subst (λ (amounts : List ℤ). IsPerhapsDone kind by txid amounts (cell_at cells key) (cell_at x.0 key)) (same key) (x.2 key));
+  }
+
+  done_perhaps : Turns tells (λ key. IsDone kind by txid (amounts_at own key)) a b → Turns tells (λ key. IsPerhapsDone kind by txid (amounts_at own key)) a b
+  done_perhaps turns = record {
+    to = λ cells told.
+        let x = turns.to cells told in
+        (x.0, x.1, λ key. perhaps_if_done kind by txid (amounts_at own key) (cell_at cells key) (cell_at x.0 key) (x.2 key));
+  }
+
+  kept_own : (answer : Result (Unit {0}) PartFault) → OnOk answer (Turns tells (λ key. IsDone kind by txid (written key)) a b) → OnErr answer (Turns tells (λ key. IsPerhapsDone kind by txid (written key)) a b)
+      → Turns tells (λ key. IsPerhapsDone kind by txid (amounts_at own key)) a b
+  kept_own (Ok done) ok err = done_perhaps (done_own ok)
+  kept_own (Err fault) ok err = broken_own err
+
+module _ {S : Type 0} (tells : S → CellMap → Type 0) (count : S → ℕ) (txid : ℕ) (written : List ℕ → List ℤ) (own : List Write) (same : (key : List ℕ) → written key ≡ amounts_at own key) (old new : StatePart S) (answer : Result (Unit {0}) PartFault) where
+  pub trial_own : plan_of new ≡ plan_of old
+      → OnOk answer (Turns tells (λ key. IsDone old.over.kind old.over.by txid (written key)) old.over.store new.over.store)
+      → OnErr answer (Turns tells (λ key. IsPerhapsDone old.over.kind old.over.by txid (written key)) old.over.store new.over.store)
+      → (IsErrOf answer fault.Store → count new.over.store ≡ raised (count old.over.store))
+      → ((IsErrOf answer fault.Store → ⊥) → count new.over.store ≡ count old.over.store)
+      → ((key : List ℕ) → IsErrOf answer (fault.BadCell key) → (cells : CellMap) → tells old.over.store cells → IsBad old.over.kind (cell_at cells key))
+      → count old.over.store ≤ count new.over.store → IsTrial tells count txid own (record { old = old; new = new; answer = answer })
+  trial_own plan ok err failed quiet bad up = record {
+    plan = plan;
+    done = on_ok_weaker answer (λ turns. record { plan = plan; turns = done_own tells txid old.over.kind old.over.by written own same old.over.store new.over.store turns }) ok;
+    kept = record { plan = plan; turns = kept_own tells txid old.over.kind old.over.by written own same old.over.store new.over.store answer ok err };
+    failed = failed;
+    quiet = quiet;
+    bad = bad;
+    never_falls = up;
+  }
 
 -- the first i parts were tried, and the others are as they were
 pub record Trying {S : Type 0} (tells : S → CellMap → Type 0) (count : S → ℕ) (txid : ℕ) (writes : List Write) (i : ℕ) (old now : List (StatePart S)) (tally : Tally) : Type 0 where
