@@ -1,4 +1,4 @@
-ghost use Rattle.std.specs.Prelude.{◌≡◌, ◌++◌, IfOk, OnOk, slice_get};
+ghost use Rattle.std.specs.Prelude.{◌≡◌, ◌++◌, IfOk, OnOk, option_copied, slice_get};
 ghost use Rattle.commit_writes.specs.Writes.{AreWritesOf, IsPathOrderOf, done_in, done_of, writes_in};
 
 use std::alloc::Global;
@@ -27,10 +27,17 @@ fn add_writes_at(into: &mut Writes, list: &[AckMsg], place: usize) -> Result<(),
     ensures { OnOk result
         (into.new ≡ into.old ++ writes_in (done_of (slice_get list.now place))) }
 {
-    match list.get(place) {
+    match note_at(list, place) {
         Some(note) => add_writes_of(into, note),
         None => Ok(()),
     }
+}
+
+// The message at a place, if there is one.
+fn note_at(list: &[AckMsg], place: usize) -> Option<&AckMsg>
+    ensures { option_copied result ≡ slice_get list.now place }
+{
+    list.get(place)
 }
 
 // Adds copies of the writes of a message.
