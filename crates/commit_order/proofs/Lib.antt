@@ -1,7 +1,6 @@
 pub mod Places
 pub mod Steps
 pub mod TickLemmas
-pub mod WriteLemmas
 pub mod Ending
 pub mod Passing
 pub mod Opening

@@ -1,3 +1,2 @@
 pub mod Offices
 pub mod Orders
-pub mod Starts

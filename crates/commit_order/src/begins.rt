@@ -3,8 +3,8 @@ ghost use Rattle.commit_turns.specs.Turns.{begun, free_txid, next_root};
 ghost use Rattle.commit_order.specs.Offices.{IsBatch};
 
 use crate::office::Office;
+use crate::waiting::Waiting;
 use crate::waits::is_pending;
-use commit_turns::Wait;
 use std::alloc::AllocError;
 use storm_values::{Memory, Root};
 
@@ -41,11 +41,7 @@ impl<'p> Office<'p> {
             Ok(()) => {}
             Err(_) => return Err(AllocError),
         }
-        self.waits.push_reserved(Wait {
-            root,
-            start: self.tick,
-            settled: None,
-        });
+        self.waits.push_reserved(Waiting::new(root, self.tick));
         Ok(())
     }
 

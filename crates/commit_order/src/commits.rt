@@ -4,8 +4,8 @@ ghost use Rattle.commit_turns.specs.Desks.{without};
 ghost use Rattle.commit_turns.specs.Turns.{decided, end_by, next_to_commit, ordered};
 
 use crate::office::Office;
+use crate::waiting::Waiting;
 use crate::waits::settled_place;
-use crate::writes::writes_in_path_order;
 use attempt_fates::{Attempt, End, Fates};
 use commit_turns::Wait;
 use state_parts::{Commit, CommitOutcome};
@@ -44,7 +44,7 @@ impl<'p> Office<'p> {
         let Some(place) = settled_place(&self.waits, self.committed) else {
             return Ok(());
         };
-        let (first, last) = self.records(self.waits[place].root.txid);
+        let (first, last) = self.records(self.waits[place].root().txid);
         let Wait {
             root,
             start,
@@ -71,7 +71,8 @@ impl<'p> Office<'p> {
         } }
     {
         self.flight.pending_are_few();
-        let wait = self.waits.remove(place);
+        let waiting = self.waits.remove(place);
+        let wait = waiting.into_wait();
         self.flight.end(wait.root);
         wait
     }
@@ -109,15 +110,16 @@ impl<'p> Office<'p> {
 }
 
 // The commit of a pending attempt that is settled.
-fn commit_of(alloc: Global, wait: &Wait) -> Result<Commit, Memory>
+fn commit_of(alloc: Global, wait: &Waiting) -> Result<Commit, Memory>
     requires { IsSome wait.now.settled }
     ensures { IfOk result (λ commit. IsCommitOf (Some wait.now) (Some commit)) }
 {
-    let Some(list) = &wait.settled else {
+    let Some(settled) = wait.settled() else {
         unreachable!()
     };
+    let writes = settled.writes(alloc)?;
     Ok(Commit {
-        root: wait.root,
-        writes: writes_in_path_order(alloc, list)?,
+        root: wait.root(),
+        writes,
     })
 }

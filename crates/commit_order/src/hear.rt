@@ -3,13 +3,14 @@ ghost use Rattle.attempt_fates.specs.declared.fates.Attempt.{Attempt};
 ghost use Rattle.trident_batches.specs.Batches.{batch_count, first_of, last_of};
 ghost use Rattle.commit_turns.specs.Desks.{settled, timed_of};
 ghost use Rattle.commit_turns.specs.Turns.{complete_timed, end_timed, heard, is_closed, last_try};
+ghost use Rattle.commit_writes.specs.Writes.{IsPathOrderOf};
 ghost use Rattle.commit_order.specs.Offices.{AddsSome, GoesOn, IsBatch, IsFoundAt, is_timed_of, try_of};
 
 use crate::office::Office;
 use crate::waits::{remove, timed_place};
 use acker_core::{Check, Verdict, check_list};
 use attempt_fates::{Attempt, End, Fates};
-use storm_values::{Memory, Root};
+use storm_values::{Memory, Root, Seq};
 use tree_model::Notes;
 
 impl<'p> Office<'p> {
@@ -43,8 +44,8 @@ impl<'p> Office<'p> {
             return Ok(());
         };
         match check_list(self.alloc, &list)? {
-            Check::Closed(_) => {
-                self.settle(place, root, list);
+            Check::Closed(order) => {
+                self.settle(place, root, list, order);
                 Ok(())
             }
             Check::Left(_) => self.end_timed(root, End::Coincided(list), fates),
@@ -52,8 +53,9 @@ impl<'p> Office<'p> {
     }
 
     // The timed attempt at a place is settled.
-    fn settle(&mut self, place: usize, root: Root, list: Notes)
-        requires { IsFoundAt (is_timed_of root) self.old.desk.pending place }
+    fn settle(&mut self, place: usize, root: Root, list: Notes, order: Seq<usize>)
+        requires found { IsFoundAt (is_timed_of root) self.old.desk.pending place }
+        requires order { IsPathOrderOf list order }
         ensures { self.new ≡ record self.old {
           desk = record self.old.desk
               { pending = settled root list self.old.desk.pending };
@@ -61,7 +63,7 @@ impl<'p> Office<'p> {
     {
         self.flight.pending_are_few();
         self.flight.settle(root);
-        self.waits[place].settled = Some(list);
+        self.waits[place].settle(list, order);
     }
 
     // A timed attempt ends, where it is one.
@@ -78,7 +80,7 @@ impl<'p> Office<'p> {
         let Some(place) = timed_place(&self.waits, root) else {
             return Ok(());
         };
-        let start = self.waits[place].start;
+        let start = self.waits[place].start();
         let (first, last) = self.records(root.txid);
         self.flight.end(root);
         remove(&mut self.waits, root);

@@ -7,9 +7,9 @@ mod commits;
 mod coordinator;
 mod hear;
 mod office;
-mod placed;
 mod stop;
 mod ticks;
+mod waiting;
 mod waits;
 mod writes;
 

@@ -6,7 +6,7 @@ ghost use Rattle.commit_turns.specs.Turns.{is_finished};
 ghost use Rattle.trident_batches.specs.Batches.{first_of, last_of};
 ghost use Rattle.tuple_account.specs.Histories.{acker_of};
 
-use commit_turns::Wait;
+use crate::waiting::Waiting;
 use replay_pending::Pending;
 use std::alloc::Global;
 use std::marker::Model;
@@ -24,7 +24,7 @@ pub(crate) struct Office<'p> {
     pub committed: u64,
     pub flight: Pending,
     // the roots in flight again, with their begins and the lists that they were settled with
-    pub waits: Vec<Wait>,
+    pub waits: Vec<Waiting>,
     pub out: bool,
     pub exhausted: Option<u64>,
 }

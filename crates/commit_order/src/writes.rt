@@ -1,59 +1,53 @@
-ghost use Rattle.std.specs.Prelude.{◌≡◌, ◌++◌, IfOk, OnOk, IsPermutation};
-ghost use Rattle.commit_writes.specs.Writes.{AreInPathOrder, AreWritesOf, done_in, dones_in, writes_in};
+ghost use Rattle.std.specs.Prelude.{◌≡◌, ◌++◌, IfOk, OnOk, option_copied, slice_get};
+ghost use Rattle.commit_writes.specs.Writes.{AreWritesOf, IsPathOrderOf, done_in, done_of, writes_in};
 
-use crate::placed::Placed;
 use std::alloc::Global;
-use storm_values::{Duplicate, Memory};
+use storm_values::{Duplicate, Memory, Seq};
 use tree_model::{AckMsg, Notes, Write, Writes};
 
-/// The writes of a list's dones, in the order of the paths that they consume, in time in proportion
-/// to n log n for n messages.
-pub fn writes_in_path_order(alloc: Global, list: &Notes) -> Result<Writes, Memory>
+/// The writes of a list's dones, in the order of the paths that they consume, by the places of the
+/// dones in this order: one pass over these.
+pub(crate) fn writes_in_path_order(
+    alloc: Global,
+    list: &Notes,
+    order: &Seq<usize>,
+) -> Result<Writes, Memory>
+    requires { IsPathOrderOf list.now order.now }
     ensures { IfOk result (AreWritesOf list.now) }
 {
-    let mut dones = dones_of(alloc, list)?;
-    sort_dones(&mut dones);
-    let writes = copied_writes(alloc, &dones)?;
+    let mut writes = Writes::from_vec(Vec::with_capacity(alloc, order.len())?);
+    for place in order.as_slice() {
+        add_writes_at(&mut writes, list.as_slice(), *place)?;
+    }
     Ok(writes)
 }
 
-fn dones_of<'l>(alloc: Global, list: &'l Notes) -> Result<Vec<Placed<'l>>, Memory>
-    ensures { IfOk result (λ dones. dones.items ≡ dones_in list.now) }
+// Adds copies of the writes of the done at a place.
+fn add_writes_at(into: &mut Writes, list: &[AckMsg], place: usize) -> Result<(), Memory>
+    ensures { OnOk result
+        (into.new ≡ into.old ++ writes_in (done_of (slice_get list.now place))) }
 {
-    let mut dones = Vec::with_capacity(alloc, list.len())?;
-    for note in list.as_slice() {
-        add_done(&mut dones, note)?;
+    match note_at(list, place) {
+        Some(note) => add_writes_of(into, note),
+        None => Ok(()),
     }
-    Ok(dones)
 }
 
-fn add_done<'l>(into: &mut Vec<Placed<'l>>, note: &'l AckMsg) -> Result<(), Memory>
-    ensures { OnOk result (into.new.items ≡ into.old.items ++ done_in note.now) }
+// The message at a place, if there is one.
+fn note_at(list: &[AckMsg], place: usize) -> Option<&AckMsg>
+    ensures { option_copied result ≡ slice_get list.now place }
+{
+    list.get(place)
+}
+
+// Adds copies of the writes of a message.
+fn add_writes_of(into: &mut Writes, note: &AckMsg) -> Result<(), Memory>
+    ensures { OnOk result (into.new ≡ into.old ++ writes_in (done_in note.now)) }
 {
     match note {
-        AckMsg::Done(done) => {
-            into.push(Placed::of(done))?;
-            Ok(())
-        }
+        AckMsg::Done(done) => add_copies(into, done.writes.as_slice()),
         AckMsg::Init(_) | AckMsg::Failed(_) => Ok(()),
     }
-}
-
-fn sort_dones(dones: &mut Vec<Placed>)
-    ensures same { IsPermutation dones.old.items dones.new.items }
-    ensures ordered { AreInPathOrder dones.new.items }
-{
-    dones.sort_unstable_by(|a, b| a.compare(b));
-}
-
-fn copied_writes(alloc: Global, dones: &[Placed]) -> Result<Writes, Memory>
-    ensures { IfOk result (λ writes. writes ≡ writes_in dones.now) }
-{
-    let mut writes = Writes::from_vec(Vec::with_capacity(alloc, dones.len())?);
-    for done in dones {
-        add_copies(&mut writes, done.done().writes.as_slice())?;
-    }
-    Ok(writes)
 }
 
 fn add_copies(into: &mut Writes, writes: &[Write]) -> Result<(), Memory>

@@ -1,5 +1,5 @@
 -- The jobs of the keys that are written.
-use Rattle.std.proofs.Common.{◌≡◌, ℕ, ℤ, Bool, true, false, cond, List, [], ◌∷◌, ◌++◌, map, filter, Option, None, Some, find, option_map, append-nil, refl, sym, ap, ◌∙◌}
+use Rattle.std.proofs.Common.{◌≡◌, ℕ, ℤ, Bool, true, false, cond, List, [], ◌∷◌, ◌++◌, map, Option, None, Some, find, option_map, append-nil, refl, sym, ap, ◌∙◌}
 use Rattle.std.specs.List.{AllByRecursion, IsDistinct}
 use Rattle.std.specs.Map.{lookup, keys_of}
 use Rattle.std.specs.Option.{UnwrapsOrElse, option_map_or}
@@ -39,19 +39,10 @@ jobs_apart (e ∷ es) distinct = (none_later e.0 es distinct.0, jobs_apart es di
 
 -- ---- one write more
 
-amounts_at-push : (writes : List Write) (write : Write) (key : List ℕ) → amounts_at (writes ++ write ∷ []) key ≡ amounts_at writes key ++ cond (bytes_eq key write.key) (write.amount ∷ []) []
-amounts_at-push [] write key = cases (bytes_eq key write.key)
-  where
-    cases : (b : Bool) → map (λ (w : Write). w.amount) (cond b (write ∷ []) []) ≡ cond b (write.amount ∷ []) []
-    cases true = refl
-    cases false = refl
-amounts_at-push (w ∷ ws) write key = cases (bytes_eq key w.key) (amounts_at-push ws write key)
-  where
-    cases : (b : Bool) → amounts_at (ws ++ write ∷ []) key ≡ amounts_at ws key ++ cond (bytes_eq key write.key) (write.amount ∷ []) []
-        → map (λ (x : Write). x.amount) (cond b (w ∷ filter (λ (x : Write). bytes_eq key x.key) (ws ++ write ∷ [])) (filter (λ (x : Write). bytes_eq key x.key) (ws ++ write ∷ [])))
-        ≡ map (λ (x : Write). x.amount) (cond b (w ∷ filter (λ (x : Write). bytes_eq key x.key) ws) (filter (λ (x : Write). bytes_eq key x.key) ws)) ++ cond (bytes_eq key write.key) (write.amount ∷ []) []
-    cases true later = ap (λ xs. w.amount ∷ xs) later
-    cases false later = later
+-- what one write has for a key
+one_amount : (write : Write) (q : List ℕ) (b : Bool) → bytes_eq q write.key ≡ b → amounts_at (write ∷ []) q ≡ cond b (write.amount ∷ []) []
+one_amount write q true is = ap (λ (t : Bool). map (λ (w : Write). w.amount) (cond t (write ∷ []) [])) is
+one_amount write q false is = ap (λ (t : Bool). map (λ (w : Write). w.amount) (cond t (write ∷ []) [])) is
 
 -- the amounts of an entry, which are none in a new one
 pub entry_items : (n : ℕ) (o : Option (SmallVec ℤ)) (r : SmallVec ℤ) → UnwrapsOrElse o (λ v. (v.items ≡ []) × (v.capacity ≡ n)) r → r.items ≡ option_map_or (λ (xs : SmallVec ℤ). xs.items) o []
@@ -62,20 +53,20 @@ entry_items n (Some xs) r is = ap (λ (v : SmallVec ℤ). v.items) is
 abbrev of_bytes : KeyBytes → List ℕ → KeyBytes
 of_bytes key bytes = record key { bytes = record key.bytes { now = bytes } }
 
-module _ {S : Type 0} (old new : IndexMap KeyBytes (SmallVec ℤ) S) (key : KeyBytes) (amounts : SmallVec ℤ) (writes : List Write) (write : Write) where
+module _ {S : Type 0} (old new : IndexMap KeyBytes (SmallVec ℤ) S) (key : KeyBytes) (amounts : SmallVec ℤ) (write : Write) where
   pub group_more : UpdatesBy (λ (x y : KeyBytes). bytes_eq x.bytes.now y.bytes.now) (λ (k : KeyBytes). bytes_eq key.bytes.now k.bytes.now) old new (Some amounts) → key.bytes.now ≡ write.key → amounts.items ≡ amounts_in old key.bytes.now ++ write.amount ∷ []
-      → ((q : List ℕ) → amounts_in old q ≡ amounts_at writes q) → (q : List ℕ) → amounts_in new q ≡ amounts_at (writes ++ write ∷ []) q
-  group_more updates is_key items before q = cases (bytes_eq key.bytes.now q) refl (updates.0 (of_bytes key q))
+      → (q : List ℕ) → amounts_in new q ≡ amounts_in old q ++ amounts_at (write ∷ []) q
+  group_more updates is_key items q = cases (bytes_eq key.bytes.now q) refl (updates.0 (of_bytes key q))
     where
-      push : (b : Bool) → bytes_eq q write.key ≡ b → amounts_at writes q ++ cond b (write.amount ∷ []) [] ≡ amounts_at (writes ++ write ∷ []) q
-      push b is = ap (λ t. amounts_at writes q ++ cond t (write.amount ∷ []) []) (sym is) ∙ sym (amounts_at-push writes write q)
+      found_as : (o : Option (SmallVec ℤ)) → group_of new q ≡ o → amounts_in new q ≡ option_map_or (λ (xs : SmallVec ℤ). xs.items) o []
+      found_as o found = ap (λ o. option_map_or (λ (xs : SmallVec ℤ). xs.items) o []) found
 
-      cases : (b : Bool) → bytes_eq key.bytes.now q ≡ b → group_of new q ≡ cond b (Some amounts) (group_of old q) → amounts_in new q ≡ amounts_at (writes ++ write ∷ []) q
+      cases : (b : Bool) → bytes_eq key.bytes.now q ≡ b → group_of new q ≡ cond b (Some amounts) (group_of old q) → amounts_in new q ≡ amounts_in old q ++ amounts_at (write ∷ []) q
       cases true is found =
           let same : key.bytes.now ≡ q = (bytes_eq-Decides key.bytes.now q).0 is in
-          ap (λ o. option_map_or (λ (xs : SmallVec ℤ). xs.items) o []) found ∙ items
-          ∙ ap (λ (k : List ℕ). amounts_in old k ++ write.amount ∷ []) same ∙ ap (λ xs. xs ++ write.amount ∷ []) (before q)
-          ∙ push true (ap (bytes_eq q) (sym is_key ∙ same) ∙ bytes_eq-same q)
+          found_as (Some amounts) found ∙ items
+          ∙ ap (λ (k : List ℕ). amounts_in old k ++ write.amount ∷ []) same
+          ∙ ap (λ (xs : List ℤ). amounts_in old q ++ xs) (sym (one_amount write q true (ap (bytes_eq q) (sym is_key ∙ same) ∙ bytes_eq-same q)))
       cases false is found =
-          ap (λ o. option_map_or (λ (xs : SmallVec ℤ). xs.items) o []) found ∙ before q ∙ sym (append-nil (amounts_at writes q))
-          ∙ push false (nat_list_eq_equiv.symm q write.key ∙ ap (λ (k : List ℕ). bytes_eq k q) (sym is_key) ∙ is)
+          found_as (group_of old q) found ∙ sym (append-nil (amounts_in old q))
+          ∙ ap (λ (xs : List ℤ). amounts_in old q ++ xs) (sym (one_amount write q false (nat_list_eq_equiv.symm q write.key ∙ ap (λ (k : List ℕ). bytes_eq k q) (sym is_key) ∙ is)))

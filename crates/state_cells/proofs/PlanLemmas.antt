@@ -7,10 +7,9 @@ use Rattle.std.specs.Str.{bytes_eq}
 use Rattle.topology_plan.specs.declared.parts.Fold.{Fold}
 use Rattle.topology_plan.specs.declared.parts.Kind.{Kind}
 use Rattle.topology_plan.specs.declared.parts.Kind.TheVariants.{Transactional, Opaque}
-use Rattle.tree_model.specs.declared.write.Write.{Write}
 use Rattle.storm_stores.specs.CellMaps.{CellMap, cell_at}
 use Rattle.cell_format.specs.Layout.{bytes_of}
-use Rattle.cell_format.specs.Commits.{Commits, Holds, IsDone, IsPerhapsDone, after, again, amounts_at}
+use Rattle.cell_format.specs.Commits.{Commits, Holds, IsDone, IsPerhapsDone, after, again}
 use Rattle.cell_format.specs.declared.cell.Cell.{Cell}
 use Rattle.state_cells.specs.Known.{AreKnown, IsListedOf, keys_in}
 use Rattle.state_cells.specs.Plans.{IsLeft, IsPlan}
@@ -52,26 +51,26 @@ perhaps_done : (kind : Kind) (by : Fold) (txid : ℕ) (amounts : List ℤ) (job 
 perhaps_done kind by txid amounts None old new left same = inl same
 perhaps_done kind by txid amounts (Some xs) old new is perhaps = subst (λ (ys : List ℤ). IsPerhapsDone kind by txid ys old new) is perhaps
 
-module _ {S : Type 0} (tells : S → CellMap → Type 0) (kind : Kind) (by : Fold) (txid : ℕ) (writes : List Write) (jobs : List Job) (a b c : S) (planned : (m : CellMap) → tells a m → IsPlan kind txid writes m jobs) (same : (m : CellMap) → tells a m → tells b m) where
-  pub plan_done : (AreApart jobs → Turns tells (λ key. IsWorked kind by txid (job_at jobs key)) b c) → Turns tells (λ key. IsDone kind by txid (amounts_at writes key)) a c
+module _ {S : Type 0} (tells : S → CellMap → Type 0) (kind : Kind) (by : Fold) (txid : ℕ) (written : List ℕ → List ℤ) (jobs : List Job) (a b c : S) (planned : (m : CellMap) → tells a m → IsPlan kind txid written m jobs) (same : (m : CellMap) → tells a m → tells b m) where
+  pub plan_done : (AreApart jobs → Turns tells (λ key. IsWorked kind by txid (job_at jobs key)) b c) → Turns tells (λ key. IsDone kind by txid (written key)) a c
   plan_done works = record {
     to = λ m told.
         let plan = planned m told in
         let x = (works plan.apart).to m (same m told) in
-        (x.0, x.1, λ key. worked_done kind by txid (amounts_at writes key) (job_at jobs key) (cell_at m key) (cell_at x.0 key) (plan.at key) (x.2 key));
+        (x.0, x.1, λ key. worked_done kind by txid (written key) (job_at jobs key) (cell_at m key) (cell_at x.0 key) (plan.at key) (x.2 key));
   }
 
-  pub plan_broken : (AreApart jobs → Turns tells (λ key. IsPerhapsWorked kind by txid (job_at jobs key)) b c) → Turns tells (λ key. IsPerhapsDone kind by txid (amounts_at writes key)) a c
+  pub plan_broken : (AreApart jobs → Turns tells (λ key. IsPerhapsWorked kind by txid (job_at jobs key)) b c) → Turns tells (λ key. IsPerhapsDone kind by txid (written key)) a c
   plan_broken works = record {
     to = λ m told.
         let plan = planned m told in
         let x = (works plan.apart).to m (same m told) in
-        (x.0, x.1, λ key. perhaps_done kind by txid (amounts_at writes key) (job_at jobs key) (cell_at m key) (cell_at x.0 key) (plan.at key) (x.2 key));
+        (x.0, x.1, λ key. perhaps_done kind by txid (written key) (job_at jobs key) (cell_at m key) (cell_at x.0 key) (plan.at key) (x.2 key));
   }
 
 -- where nothing was done yet
-pub nothing_done : {S : Type 0} (tells : S → CellMap → Type 0) (kind : Kind) (by : Fold) (txid : ℕ) (writes : List Write) (a b : S) → ((m : CellMap) → tells a m → tells b m) → Turns tells (λ key. IsPerhapsDone kind by txid (amounts_at writes key)) a b
-nothing_done tells kind by txid writes a b same = record { to = λ m told. (m, same m told, λ key. inl refl) }
+pub nothing_done : {S : Type 0} (tells : S → CellMap → Type 0) (kind : Kind) (by : Fold) (txid : ℕ) (written : List ℕ → List ℤ) (a b : S) → ((m : CellMap) → tells a m → tells b m) → Turns tells (λ key. IsPerhapsDone kind by txid (written key)) a b
+nothing_done tells kind by txid written a b same = record { to = λ m told. (m, same m told, λ key. inl refl) }
 
 -- ---- the plans
 
@@ -90,21 +89,24 @@ all_row txid amounts held (Some xs) listed is left = is
 all_row txid amounts held None true is left = is
 all_row txid amounts held None false is left = let x = left refl in (sym is, x.0, x.1, x.2)
 
-pub plan_of_written : (txid : ℕ) (writes : List Write) (cells : CellMap) (jobs : List Job) (groups : List ℕ → Option Amounts) → AreApart jobs → ((key : List ℕ) → job_at jobs key ≡ option_map (λ (xs : Amounts). xs.items) (groups key))
-    → ((key : List ℕ) → option_map_or (λ (xs : Amounts). xs.items) (groups key) [] ≡ amounts_at writes key) → IsPlan Transactional txid writes cells jobs
-plan_of_written txid writes cells jobs groups apart at amounts = record {
+-- what is written for a key by its group, if it has one
+abbrev written_by : (List ℕ → Option Amounts) → List ℕ → List ℤ
+written_by groups key = option_map_or (λ (xs : Amounts). xs.items) (groups key) []
+
+pub plan_of_written : (txid : ℕ) (cells : CellMap) (jobs : List Job) (groups : List ℕ → Option Amounts) → AreApart jobs → ((key : List ℕ) → job_at jobs key ≡ option_map (λ (xs : Amounts). xs.items) (groups key))
+    → IsPlan Transactional txid (λ key. option_map_or (λ (xs : Amounts). xs.items) (groups key) []) cells jobs
+plan_of_written txid cells jobs groups apart at = record {
   apart = apart;
-  at = λ key. subst (λ (job : Option (List ℤ)). MatchOption job (IsLeft Transactional txid (amounts_at writes key) (cell_at cells key)) (λ xs. xs ≡ amounts_at writes key)) (sym (at key)) (written_row txid (amounts_at writes key) (cell_at cells key) (groups key) (amounts key));
+  at = λ key. subst (λ (job : Option (List ℤ)). MatchOption job (IsLeft Transactional txid (written_by groups key) (cell_at cells key)) (λ xs. xs ≡ written_by groups key)) (sym (at key)) (written_row txid (written_by groups key) (cell_at cells key) (groups key) refl);
 }
 
-pub plan_of_all : (txid : ℕ) (newest : Bool) (writes : List Write) (cells : CellMap) (jobs : List Job) (keys : List (List ℕ)) (groups : List ℕ → Option Amounts) → (AreOnce keys → AreApart jobs)
+pub plan_of_all : (txid : ℕ) (newest : Bool) (cells : CellMap) (jobs : List Job) (keys : List (List ℕ)) (groups : List ℕ → Option Amounts) → (AreOnce keys → AreApart jobs)
     → ((key : List ℕ) → job_at jobs key ≡ option_or (option_map (λ (xs : Amounts). xs.items) (groups key)) (cond (list_any (bytes_eq key) keys && not (is_some (groups key))) (Some []) None))
-    → ((key : List ℕ) → option_map_or (λ (xs : Amounts). xs.items) (groups key) [] ≡ amounts_at writes key)
-    → AreKnown txid newest keys cells → IsPlan Opaque txid writes cells jobs
-plan_of_all txid newest writes cells jobs keys groups apart at amounts known = record {
+    → AreKnown txid newest keys cells → IsPlan Opaque txid (λ key. option_map_or (λ (xs : Amounts). xs.items) (groups key) []) cells jobs
+plan_of_all txid newest cells jobs keys groups apart at known = record {
   apart = apart known.once;
-  at = λ key. subst (λ (job : Option (List ℤ)). MatchOption job (IsLeft Opaque txid (amounts_at writes key) (cell_at cells key)) (λ xs. xs ≡ amounts_at writes key)) (sym (at key))
-      (all_row txid (amounts_at writes key) (cell_at cells key) (groups key) (list_any (bytes_eq key) keys) (amounts key)
+  at = λ key. subst (λ (job : Option (List ℤ)). MatchOption job (IsLeft Opaque txid (written_by groups key) (cell_at cells key)) (λ xs. xs ≡ written_by groups key)) (sym (at key))
+      (all_row txid (written_by groups key) (cell_at cells key) (groups key) (list_any (bytes_eq key) keys) refl
       (λ none. ((known.at key).cell, (known.at key).holds, not_carrier txid keys key (known.at key).cell (known.at key).listed none)));
 }
 

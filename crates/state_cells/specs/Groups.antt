@@ -6,6 +6,7 @@ use Rattle.indexmap.specs.IndexMap.{IndexMap, get_by}
 use Rattle.smallvec.specs.SmallVec.{SmallVec}
 use Rattle.storm_stores.specs.declared.key.KeyBytes.{KeyBytes}
 use Rattle.state_cells.specs.Turns.{Job}
+use Rattle.state_cells.specs.declared.group.GroupedWrites.{GroupedWrites}
 
 -- a key of the writes beside its amounts
 abbrev pub Group : Type 0
@@ -35,3 +36,7 @@ module _ {S : Type 0} where
   -- the jobs of the keys that are written, and of these other keys
   abbrev pub jobs_of : IndexMap KeyBytes (SmallVec ℤ) S → List (List ℕ) → List Job
   jobs_of groups keys = jobs_in groups ++ restores_in keys
+
+-- the amounts of a key in writes that were brought together
+abbrev pub amounts_of : GroupedWrites → List ℕ → List ℤ
+amounts_of writes key = amounts_in writes.groups key

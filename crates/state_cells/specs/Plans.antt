@@ -2,9 +2,8 @@
 use Rattle.std.specs.Prelude.{◌≡◌, ℕ, ℤ, false, List, [], Option, MatchOption}
 use Rattle.topology_plan.specs.declared.parts.Kind.{Kind}
 use Rattle.topology_plan.specs.declared.parts.Kind.TheVariants.{Transactional, Opaque}
-use Rattle.tree_model.specs.declared.write.Write.{Write}
 use Rattle.storm_stores.specs.CellMaps.{CellMap, cell_at}
-use Rattle.cell_format.specs.Commits.{Holds, amounts_at}
+use Rattle.cell_format.specs.Commits.{Holds}
 use Rattle.cell_format.specs.declared.cell.Cell.{Cell}
 use Rattle.state_cells.specs.Scans.{carries_of}
 use Rattle.state_cells.specs.Turns.{AreApart, Job, job_at}
@@ -18,9 +17,9 @@ IsLeft Opaque txid amounts held =
 
 -- one job at most for a key, with what is written for it, and none only where the commit
 -- may leave the key alone
-pub record IsPlan (kind : Kind) (txid : ℕ) (writes : List Write) (cells : CellMap)
+pub record IsPlan (kind : Kind) (txid : ℕ) (written : List ℕ → List ℤ) (cells : CellMap)
     (jobs : List Job) : Type 0 where
   pub apart : AreApart jobs
   pub at : (key : List ℕ)
-      → MatchOption (job_at jobs key) (IsLeft kind txid (amounts_at writes key) (cell_at cells key))
-      (λ amounts. amounts ≡ amounts_at writes key)
+      → MatchOption (job_at jobs key) (IsLeft kind txid (written key) (cell_at cells key))
+      (λ amounts. amounts ≡ written key)

@@ -1,14 +1,14 @@
-ghost use Rattle.std.specs.Prelude.{◌≡◌, ℕ, List, filter, not, is_some, IfOk};
+ghost use Rattle.std.specs.Prelude.{◌≡◌, ◌++◌, ◌∷◌, [], ℕ, List, filter, not, is_some, IfOk, OnOk};
 ghost use Rattle.cell_format.specs.Commits.{amounts_at};
 ghost use Rattle.state_cells.specs.Turns.{AreApart};
-ghost use Rattle.state_cells.specs.Groups.{amounts_in, group_of, jobs_in};
+ghost use Rattle.state_cells.specs.Groups.{amounts_of, group_of, jobs_in};
 
 use indexmap::IndexMap;
 use smallvec::SmallVec;
 use std::alloc::Global;
 use storm_stores::KeyBytes;
 use storm_values::{Bytes, Memory};
-use tree_model::Writes;
+use tree_model::Write;
 
 /// What is written for a key, in order. Up to four amounts take no memory.
 pub(crate) type Amounts = SmallVec<i64, 4>;
@@ -17,26 +17,43 @@ pub(crate) type Amounts = SmallVec<i64, 4>;
 /// the writes.
 pub(crate) type Groups<'w> = IndexMap<KeyBytes<'w>, Amounts>;
 
-/// Room is taken at once for as many keys as there are writes, and for this many at most.
-const ROOM: usize = 256;
+/// Writes of a batch, brought together by their keys. The keys are lent by the writes.
+#[derive(Drop)]
+pub struct GroupedWrites<'w> {
+    groups: Groups<'w>,
+}
 
-/// Brings the writes of each key together, in their order, with one look-up a write.
-pub(crate) fn group<'w>(alloc: Global, writes: &'w Writes) -> Result<Groups<'w>, Memory>
-    ensures amounts { IfOk result
-        (λ groups. (key : List ℕ) → amounts_in groups key ≡ amounts_at writes.now key) }
-    ensures apart { IfOk result (λ groups. AreApart (jobs_in groups)) }
-{
-    let mut groups: Groups<'w> = IndexMap::with_capacity(alloc, writes.len().min(ROOM))?;
-    for write in writes.as_slice() {
+impl<'w> GroupedWrites<'w> {
+    /// No writes, with room for those of so many keys.
+    pub fn with_capacity(alloc: Global, keys: usize) -> Result<Self, Memory>
+        ensures { IfOk result (λ made. (key : List ℕ) → amounts_of made key ≡ []) }
+    {
+        let groups = IndexMap::with_capacity(alloc, keys)?;
+        Ok(GroupedWrites { groups })
+    }
+
+    /// Adds a write behind those of its key, with one look-up.
+    pub fn add(&mut self, write: &'w Write) -> Result<(), Memory>
+        ensures { OnOk result ((key : List ℕ) → amounts_of self.new key
+            ≡ amounts_of self.old key ++ amounts_at (write.now ∷ []) key) }
+    {
         let key = KeyBytes {
             bytes: write.key.as_bytes(),
         };
-        let amounts = groups.entry(key)?.or_default();
+        let amounts = self.groups.entry(key)?.or_default();
         amounts.push(write.amount)?;
+        Ok(())
     }
-    // the length tells that no key stands twice
-    let _count = groups.len();
-    Ok(groups)
+
+    /// The amounts by key. No key stands twice.
+    pub(crate) fn groups(&self) -> &Groups<'w>
+        ensures same { result.now ≡ self.now.groups }
+        ensures apart { AreApart (jobs_in self.now.groups) }
+    {
+        // the length tells that no key stands twice
+        let _count = self.groups.len();
+        &self.groups
+    }
 }
 
 /// Whether something is written for a key, with one look-up.

@@ -2,6 +2,7 @@ ghost use Rattle.std.specs.Prelude.{◌≡◌, IfSome, IfOk};
 ghost use Rattle.state_cells.specs.Groups.{jobs_of};
 ghost use Rattle.state_cells.specs.Known.{Follows, FollowsFrom, IsAfter, keys_in};
 
+use crate::commit::Batch;
 use crate::group::Groups;
 use crate::plan::Work;
 use std::alloc::Global;
@@ -49,21 +50,24 @@ fn move_on(alloc: Global, known: Known, txid: u64) -> Option<Known>
 
 /// What is known after a commit, whether it was broken off or not. Nothing is where there is no
 /// memory. The keys of an opaque part's writes are copied here, once.
-pub(crate) fn known_after(alloc: Global, kind: Kind, txid: u64, work: Work<'_>) -> Option<Known>
+pub(crate) fn known_after(
+    alloc: Global,
+    batch: Batch,
+    groups: &Groups<'_>,
+    work: Work,
+) -> Option<Known>
     ensures { IfSome result
-        (IsAfter kind txid work.entry.is_newest
-        (jobs_of work.entry.groups work.entry.restores.items)) }
+        (IsAfter batch.kind batch.txid work.is_newest (jobs_of groups.now work.restores.items)) }
 {
     let Work {
-        groups,
         restores,
         is_newest,
     } = work;
-    match kind {
+    match batch.kind {
         Kind::Transactional => None,
-        Kind::Opaque => match keys_of(alloc, &groups, restores) {
+        Kind::Opaque => match keys_of(alloc, groups, restores) {
             Ok(keys) => Some(Known {
-                txid,
+                txid: batch.txid,
                 keys,
                 is_newest,
             }),

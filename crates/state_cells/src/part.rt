@@ -1,15 +1,17 @@
 ghost use Rattle.std.specs.Prelude.{◌≡◌, ◌≤◌, ℕ, List, IfOk, IfSome, OnOk, OnErr, IsErrOf};
 ghost use Rattle.storm_values.specs.Counts.{raised};
 ghost use Rattle.storm_stores.specs.CellMaps.{CellMap, cell_at};
-ghost use Rattle.cell_format.specs.Commits.{IsDone, IsPerhapsDone, amounts_at};
+ghost use Rattle.cell_format.specs.Commits.{IsDone, IsPerhapsDone};
+ghost use Rattle.state_cells.specs.Groups.{amounts_in, amounts_of, jobs_in};
 ghost use Rattle.state_cells.specs.Known.{Knows};
 ghost use Rattle.state_cells.specs.PartStates.{part_of};
 ghost use Rattle.state_cells.specs.Rows.{IsBadRow, rows_of};
 ghost use Rattle.state_cells.specs.Scans.{AreGood};
-ghost use Rattle.state_cells.specs.Turns.{IsBad, Turns};
+ghost use Rattle.state_cells.specs.Turns.{AreApart, IsBad, Turns};
 
 use crate::commit::{Batch, commit_jobs};
 use crate::fault::PartFault;
+use crate::group::{GroupedWrites, Groups};
 use crate::known::{Known, known_after};
 use crate::plan::plan;
 use crate::table::table;
@@ -17,7 +19,7 @@ use std::alloc::Global;
 use std::marker::Model;
 use storm_stores::CellStore;
 use topology_plan::{Fold, Kind};
-use tree_model::{Pairs, Writes};
+use tree_model::Pairs;
 
 /// A part of a state: its cells lie in a store that may refuse.
 #[derive(Drop)]
@@ -75,12 +77,12 @@ impl<C: CellStore> Part<C> {
     /// back, with a get and a put too; it looks at each key of its store at its first commit, and
     /// once more at each commit of an older transaction than the one before and at the one after
     /// that. After a fault some keys may be done and the others are as before.
-    pub fn commit(&mut self, txid: u64, writes: &Writes) -> Result<(), PartFault>
+    pub fn commit(&mut self, txid: u64, writes: &GroupedWrites<'_>) -> Result<(), PartFault>
         ensures ok { OnOk result (Turns C.tells (λ key. IsDone self.old.kind self.old.by txid
-            (amounts_at writes.now key)) self.old.store self.new.store) }
+            (amounts_of writes.now key)) self.old.store self.new.store) }
         ensures err { OnErr result
             (Turns C.tells (λ key. IsPerhapsDone self.old.kind self.old.by txid
-            (amounts_at writes.now key)) self.old.store self.new.store) }
+            (amounts_of writes.now key)) self.old.store self.new.store) }
         ensures failed { IsErrOf result PartFault.Store →
             C.fault_count self.new.store ≡ raised (C.fault_count self.old.store) }
         ensures quiet { (IsErrOf result PartFault.Store → ⊥) →
@@ -96,7 +98,8 @@ impl<C: CellStore> Part<C> {
             by: self.by,
             txid,
         };
-        commit_batch(self.alloc, &mut self.store, &mut self.known, batch, writes)
+        let groups = writes.groups();
+        commit_batch(self.alloc, &mut self.store, &mut self.known, batch, groups)
     }
 
     /// The keys with a value, in order, with one look at each key.
@@ -126,14 +129,15 @@ fn commit_batch<C: CellStore>(
     store: &mut C,
     known: &mut Option<Known>,
     batch: Batch,
-    writes: &Writes,
+    groups: &Groups<'_>,
 ) -> Result<(), PartFault>
-    requires { IfSome known.old (Knows C.tells store.old) }
+    requires known { IfSome known.old (Knows C.tells store.old) }
+    requires apart { AreApart (jobs_in groups.now) }
     ensures known { IfSome known.new (Knows C.tells store.new) }
     ensures ok { OnOk result (Turns C.tells (λ key. IsDone batch.kind batch.by batch.txid
-        (amounts_at writes.now key)) store.old store.new) }
+        (amounts_in groups.now key)) store.old store.new) }
     ensures err { OnErr result (Turns C.tells (λ key. IsPerhapsDone batch.kind batch.by batch.txid
-        (amounts_at writes.now key)) store.old store.new) }
+        (amounts_in groups.now key)) store.old store.new) }
     ensures failed { IsErrOf result PartFault.Store →
         C.fault_count store.new ≡ raised (C.fault_count store.old) }
     ensures quiet { (IsErrOf result PartFault.Store → ⊥) →
@@ -142,11 +146,11 @@ fn commit_batch<C: CellStore>(
         C.tells store.old cells → IsBad batch.kind (cell_at cells k) }
     ensures never_falls { C.fault_count store.old ≤ C.fault_count store.new }
 {
-    let work = match plan(alloc, store, known.take(), batch, writes) {
+    let work = match plan(alloc, store, known.take(), batch, groups) {
         Ok(work) => work,
         Err(fault) => return Err(fault),
     };
-    let done = commit_jobs(alloc, store, batch, &work.groups, &work.restores);
-    *known = known_after(alloc, batch.kind, batch.txid, work);
+    let done = commit_jobs(alloc, store, batch, groups, &work.restores);
+    *known = known_after(alloc, batch, groups, work);
     done
 }

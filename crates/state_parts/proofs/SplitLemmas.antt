@@ -1,11 +1,18 @@
 -- The writes of a batch, dealt to the parts.
-use Rattle.std.proofs.Common.{IfNone, None, Option, Some, option_map, slice_get, ◌≡◌, ◌<◌, ◌==◌, ◌&&◌, inl, inr, ℕ, zero, suc, Bool, true, false, cond, List, [], ◌∷◌, ◌++◌, length, get_or, set, replicate, refl, sym, ap, ◌∙◌, eq-eqb, eqb-true, append_assoc, arith}
-use Rattle.std.proofs.lemmas.List.{append-nil, get_or_default, length-map}
+use Rattle.std.proofs.Common.{IfNone, None, Option, Some, option_map, slice_get, ◌≡◌, ◌<◌, ◌==◌, ◌&&◌, inl, inr, ℕ, ℤ, zero, suc, Bool, true, false, cond, List, [], ◌∷◌, ◌++◌, map, filter, length, get_or, set, refl, sym, ap, subst, ◌∙◌, eq-eqb, eqb-true, arith}
+use Rattle.std.specs.List.{AllByRecursion}
+use Rattle.std.specs.Str.{bytes_eq}
+use Rattle.std.proofs.lemmas.List.{append-nil, length-map, map-append}
 use Rattle.std.proofs.lemmas.List.Elements.{filter-append}
 use Rattle.std.proofs.lemmas.Option.{none-some, slice_get-map, slice_get_read}
+use Rattle.std.proofs.lemmas.Slice.Zip.{AllZip-long}
 use Rattle.tree_model.specs.declared.write.Write.{Write}
+use Rattle.cell_format.specs.Commits.{amounts_at}
+use Rattle.state_cells.specs.Groups.{amounts_of}
+use Rattle.state_cells.specs.declared.group.GroupedWrites.{GroupedWrites}
 use Rattle.state_parts.specs.declared.parts.StatePart.{StatePart}
-use Rattle.state_parts.specs.Commits.{is_for_part, own_writes, writes_by_part}
+use Rattle.state_parts.specs.Commits.{is_for_part, own_writes}
+use Rattle.state_parts.specs.Dealt.{AreDealt, IsGrouped}
 use Rattle.state_parts.specs.PartPlans.{IsFound, IsOneOf, PartPlan, plan_of, plans_of}
 
 pub for_yes : (component part : ℕ) (write : Write) → write.state ≡ component → write.part ≡ part → is_for_part component part write ≡ true
@@ -27,6 +34,15 @@ found_within [] c p i found = absurd found
 found_within (x ∷ xs) c p zero found = omega arith
 found_within (x ∷ xs) c p (suc i) found = let later = found_within xs c p i found.1 in omega arith
 
+amounts_at-append : (xs ys : List Write) (key : List ℕ) → amounts_at (xs ++ ys) key ≡ amounts_at xs key ++ amounts_at ys key
+amounts_at-append xs ys key =
+    ap (map (λ (w : Write). w.amount)) (filter-append (λ (w : Write). bytes_eq key w.key) xs ys)
+    ∙ map-append (λ (w : Write). w.amount) (filter (λ (w : Write). bytes_eq key w.key) xs) (filter (λ (w : Write). bytes_eq key w.key) ys)
+
+-- a write was added
+abbrev pub Adds : Write → GroupedWrites → GroupedWrites → Type 0
+Adds write old new = (key : List ℕ) → amounts_of new key ≡ amounts_of old key ++ amounts_at (write ∷ []) key
+
 module _ {S : Type 0} (before : List Write) (write : Write) where
   own_push : (at : StatePart S) (b : Bool) → is_for_part at.component at.part write ≡ b → own_writes (before ++ write ∷ []) at ≡ own_writes before at ++ cond b (write ∷ []) []
   own_push at b is =
@@ -39,64 +55,61 @@ module _ {S : Type 0} (before : List Write) (write : Write) where
   own_same : (at : StatePart S) → is_for_part at.component at.part write ≡ false → own_writes before at ≡ own_writes (before ++ write ∷ []) at
   own_same at is_not = sym (own_push at false is_not ∙ append-nil (own_writes before at))
 
-  pub none_more : (parts : List (StatePart S)) → (IsOneOf (plans_of parts) write.state write.part → ⊥) → writes_by_part before parts ≡ writes_by_part (before ++ write ∷ []) parts
-  none_more [] none = refl
-  none_more (at ∷ parts) none =
-      ap (λ (xs : List Write). xs ∷ writes_by_part before parts) (own_same at (for_no at.component at.part write (λ here. none (inl here))))
-      ∙ ap (λ (lists : List (List Write)). own_writes (before ++ write ∷ []) at ∷ lists) (none_more parts (λ later. none (inr later)))
+  grouped_same : (at : StatePart S) (grouped : GroupedWrites) → is_for_part at.component at.part write ≡ false → IsGrouped (own_writes before at) grouped → IsGrouped (own_writes (before ++ write ∷ []) at) grouped
+  grouped_same at grouped is_not was = λ key. was key ∙ ap (λ (ws : List Write). amounts_at ws key) (own_same at is_not)
 
-  dealt : (parts : List (StatePart S)) (i : ℕ) → IsFound (plans_of parts) write.state write.part i
-      → set (writes_by_part before parts) i (get_or (writes_by_part before parts) i [] ++ write ∷ []) ≡ writes_by_part (before ++ write ∷ []) parts
-  dealt [] i found = absurd found
-  dealt (at ∷ parts) zero found =
-      ap (λ (xs : List Write). xs ∷ writes_by_part before parts) (own_more at (for_yes at.component at.part write found.0.0 found.0.1))
-      ∙ ap (λ (lists : List (List Write)). own_writes (before ++ write ∷ []) at ∷ lists) (none_more parts found.1)
-  dealt (at ∷ parts) (suc i) found =
-      ap (λ (xs : List Write). xs ∷ set (writes_by_part before parts) i (get_or (writes_by_part before parts) i [] ++ write ∷ [])) (own_same at (for_no at.component at.part write found.0))
-      ∙ ap (λ (lists : List (List Write)). own_writes (before ++ write ∷ []) at ∷ lists) (dealt parts i found.1)
+  -- the part's own writes have one more
+  grouped_more : (at : StatePart S) (old new : GroupedWrites) → is_for_part at.component at.part write ≡ true → Adds write old new → IsGrouped (own_writes before at) old → IsGrouped (own_writes (before ++ write ∷ []) at) new
+  grouped_more at old new yes_it_is adds was = λ key.
+      adds key ∙ ap (λ (xs : List ℤ). xs ++ amounts_at (write ∷ []) key) (was key) ∙ sym (amounts_at-append (own_writes before at) (write ∷ []) key)
+      ∙ ap (λ (ws : List Write). amounts_at ws key) (own_more at yes_it_is)
+
+  pub none_more : (parts : List (StatePart S)) (dealt : List GroupedWrites) → (IsOneOf (plans_of parts) write.state write.part → ⊥) → AreDealt before parts dealt → AreDealt (before ++ write ∷ []) parts dealt
+  none_more [] [] none was = was
+  none_more [] (x ∷ xs) none was = was
+  none_more (at ∷ parts) [] none was = was
+  none_more (at ∷ parts) (x ∷ xs) none was = (
+    grouped_same at x (for_no at.component at.part write (λ here. none (inl here))) was.0,
+    none_more parts xs (λ later. none (inr later)) was.1,
+  )
+
+  -- the writes of the part that was found have one more
+  pub deal_step : (parts : List (StatePart S)) (i : ℕ) (dealt : List GroupedWrites) (old new : GroupedWrites) → IsFound (plans_of parts) write.state write.part i → old ≡ get_or dealt i old → Adds write old new
+      → AreDealt before parts dealt → AreDealt (before ++ write ∷ []) parts (set dealt i new)
+  deal_step [] i dealt old new found read adds was = absurd found
+  deal_step (at ∷ parts) i [] old new found read adds was = absurd was
+  deal_step (at ∷ parts) zero (x ∷ xs) old new found read adds was = (
+    grouped_more at old new (for_yes at.component at.part write found.0.0 found.0.1) adds (subst (λ (y : GroupedWrites). IsGrouped (own_writes before at) y) (sym read) was.0),
+    none_more parts xs found.1 was.1,
+  )
+  deal_step (at ∷ parts) (suc i) (x ∷ xs) old new found read adds was = (
+    grouped_same at x (for_no at.component at.part write found.0) was.0,
+    deal_step parts i xs old new found.1 read adds was.1,
+  )
 
   -- a place that was found is one of a list
-  pub deal_within : (parts : List (StatePart S)) (i : ℕ) (lists : List (List Write)) → IsFound (plans_of parts) write.state write.part i → lists ≡ writes_by_part before parts → i < length lists
-  deal_within parts i lists found is =
+  pub deal_within : (parts : List (StatePart S)) (i : ℕ) (dealt : List GroupedWrites) → IsFound (plans_of parts) write.state write.part i → AreDealt before parts dealt → i < length dealt
+  deal_within parts i dealt found was =
       let in_plans : i < length (plans_of parts) = found_within (plans_of parts) write.state write.part i found in
       let plans : length (plans_of parts) ≡ length parts = length-map parts (λ (at : StatePart S). plan_of at) in
-      let long : length lists ≡ length parts = ap length is ∙ length-map parts (own_writes before) in
+      let long : length dealt ≡ length parts = AllZip-long (λ (at : StatePart S) (x : GroupedWrites). IsGrouped (own_writes before at) x) parts dealt was in
       omega arith
 
-  -- the list of the part that was found has one more write
-  pub deal_step : (parts : List (StatePart S)) (i : ℕ) (lists : List (List Write)) (old new : List Write) → IsFound (plans_of parts) write.state write.part i → old ≡ get_or lists i old → new ≡ old ++ write ∷ []
-      → lists ≡ writes_by_part before parts → set lists i new ≡ writes_by_part (before ++ write ∷ []) parts
-  deal_step parts i lists old new found read now is =
-      let within : i < length lists = deal_within parts i lists found is in
-      let was : old ≡ get_or (writes_by_part before parts) i [] = read ∙ get_or_default lists i old [] within ∙ ap (λ (xs : List (List Write)). get_or xs i []) is in
-      ap (λ (xs : List (List Write)). set xs i new) is ∙ ap (λ (xs : List Write). set (writes_by_part before parts) i xs) (now ∙ ap (λ (xs : List Write). xs ++ write ∷ []) was) ∙ dealt parts i found
+-- no writes of any part
+pub dealt_none : {S : Type 0} (parts : List (StatePart S)) (dealt : List GroupedWrites) → length dealt ≡ length parts → AllByRecursion (IsGrouped []) dealt → AreDealt [] parts dealt
+dealt_none [] [] long none = tt
+dealt_none [] (x ∷ xs) long none = absurd (omega arith)
+dealt_none (at ∷ parts) [] long none = absurd (omega arith)
+dealt_none (at ∷ parts) (x ∷ xs) long none = (none.0, dealt_none parts xs (omega arith) none.1)
 
--- ---- the loop over the writes
+-- the same over equal lists
+pub dealt_as : {S : Type 0} (writes : List Write) {parts these : List (StatePart S)} {dealt lent : List GroupedWrites} → lent ≡ dealt → AreDealt writes parts dealt → parts ≡ these → AreDealt writes these lent
+dealt_as {S} writes {parts} {these} {dealt} {lent} is all same = subst (λ (ps : List (StatePart S)). AreDealt writes ps lent) same (subst (λ (xs : List GroupedWrites). AreDealt writes parts xs) (sym is) all)
 
--- the writes so far are dealt, and the rest is still to come
-pub record Dealing {S : Type 0} (parts : List (StatePart S)) (all rest : List Write) (lists : List (List Write)) : Type 0 where
-  pub done : List Write
-  pub joined : done ++ rest ≡ all
-  pub dealt_is : lists ≡ writes_by_part done parts
-
-module _ {S : Type 0} (parts : List (StatePart S)) (all : List Write) where
-  pub dealing_first : (lists : List (List Write)) → lists ≡ replicate (length parts) [] → Dealing parts all all lists
-  dealing_first lists is = record { done = []; joined = refl; dealt_is = is ∙ empty parts }
-    where
-      empty : (some : List (StatePart S)) → replicate (length some) [] ≡ writes_by_part [] some
-      empty [] = refl
-      empty (at ∷ some) = ap (λ (xs : List (List Write)). [] ∷ xs) (empty some)
-
-  pub dealing_more : (rest : List Write) (write : Write) (lists new : List (List Write)) → ((before : List Write) → lists ≡ writes_by_part before parts → new ≡ writes_by_part (before ++ write ∷ []) parts)
-      → Dealing parts all (write ∷ rest) lists → Dealing parts all rest new
-  dealing_more rest write lists new step dealing = record {
-    done = dealing.done ++ write ∷ [];
-    joined = append_assoc dealing.done (write ∷ []) rest ∙ dealing.joined;
-    dealt_is = step dealing.done dealing.dealt_is;
-  }
-
-  pub dealing_last : (lists : List (List Write)) → Dealing parts all [] lists → lists ≡ writes_by_part all parts
-  dealing_last lists dealing = dealing.dealt_is ∙ ap (λ (writes : List Write). writes_by_part writes parts) (sym (append-nil dealing.done) ∙ dealing.joined)
+-- one part more that has none
+pub none_push : (dealt : List GroupedWrites) (x : GroupedWrites) → AllByRecursion (IsGrouped []) dealt → IsGrouped [] x → AllByRecursion (IsGrouped []) (dealt ++ x ∷ [])
+none_push [] x all none = (none, tt)
+none_push (y ∷ ys) x all none = (all.0, none_push ys x all.1 none)
 
 -- what stands at a place among the parts, by its plan
 pub plans_at : {S : Type 0} (parts : List (StatePart S)) (place : ℕ) (at : StatePart S) → place < length parts → at ≡ get_or parts place at → slice_get (plans_of parts) place ≡ Some (plan_of at)

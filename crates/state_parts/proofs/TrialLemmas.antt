@@ -1,17 +1,24 @@
 -- What follows of the parts' answers to a commit.
-use Rattle.std.proofs.Common.{◌≡◌, ◌+◌, ◌≤◌, ◌<◌, ◌||◌, ◌&&◌, ◌==◌, inl, inr, ⊎_elim, ℕ, zero, suc, Bool, true, false, List, [], ◌∷◌, ◌++◌, length, map, get_or, set, slice_get, drop, All, Option, None, Some, Result, Ok, Err, OnOk, refl, sym, ap, subst, ◌∙◌, append_assoc, arith}
+use Rattle.std.proofs.Common.{◌≡◌, ◌+◌, ◌≤◌, ◌<◌, ◌||◌, ◌&&◌, ◌==◌, inl, inr, ⊎_elim, ℕ, zero, suc, Bool, true, false, List, [], ◌∷◌, ◌++◌, length, map, get_or, set, slice_get, drop, All, Option, None, Some, Result, Ok, Err, OnOk, OnErr, IsErrOf, ℤ, refl, sym, ap, subst, ◌∙◌, append_assoc, arith}
 use Rattle.std.proofs.lemmas.Bool.{cases_eq, eq-eqb, ne_eqb}
-use Rattle.std.proofs.lemmas.List.{append-nil, drop_all, drop_more, get_or-map, get_or_at, length-map, length_push, map-append, set_at}
+use Rattle.std.proofs.lemmas.List.{append-nil, drop_all, drop_more, get_or_at, length-map, length_push, map-append, set_at}
 use Rattle.std.proofs.lemmas.List.Elements.{All-head, All-nil, All-push, All-tail}
 use Rattle.std.proofs.lemmas.List.Folds.{list_any-append}
 use Rattle.std.proofs.lemmas.Option.{none-some, same_Some}
+use Rattle.std.proofs.lemmas.Result.{on_ok_weaker}
 use Rattle.std.specs.List.{list_any}
 use Rattle.std.specs.Option.{option_or}
 use Rattle.storm_values.specs.Lines.{first_some}
 use Rattle.storm_values.specs.Counts.{raised}
-use Rattle.storm_stores.specs.CellMaps.{CellMap}
+use Rattle.storm_stores.specs.CellMaps.{CellMap, cell_at}
+use Rattle.topology_plan.specs.declared.parts.Fold.{Fold}
+use Rattle.topology_plan.specs.declared.parts.Kind.{Kind}
+use Rattle.cell_format.specs.Commits.{IsDone, IsPerhapsDone, amounts_at}
+use Rattle.cell_format.proofs.CommitLemmas.{perhaps_if_done}
+use Rattle.state_cells.specs.Turns.{IsBad, Turns}
 use Rattle.tree_model.specs.declared.write.Write.{Write}
 use Rattle.state_cells.specs.declared.fault.PartFault.{PartFault}
+use Rattle.state_cells.specs.declared.group.GroupedWrites.{GroupedWrites}
 use Rattle.state_cells.specs.declared.fault.PartFault.TheVariants as fault
 use Rattle.state_parts.specs.declared.answer.CommitFault.{CommitFault}
 use Rattle.state_parts.specs.declared.answer.CommitFault.TheVariants.{BadCell}
@@ -20,8 +27,10 @@ use Rattle.state_parts.specs.declared.answer.CommitOutcome.TheVariants.{Done, Fa
 use Rattle.state_parts.specs.declared.answer.Tally.{Tally}
 use Rattle.state_parts.specs.declared.parts.StatePart.{StatePart}
 use Rattle.state_parts.specs.Answers.{Tries, noted}
-use Rattle.state_parts.specs.Commits.{AreCommitted, ArePerhapsCommitted, AreTried, Committed, CountFollows, CountsFollow, FailOnceAtMost, FailedOnceAtMost, FailureFollows, IsBadAt, IsFailedPart, IsTrial, NoCountFell, Trial, answer_by, answer_of, bad_key, failure_by, failure_of, own_writes, tally_of, wants_memory, writes_by_part}
+use Rattle.state_parts.specs.Commits.{AreCommitted, ArePerhapsCommitted, AreTried, Committed, CountFollows, CountsFollow, FailOnceAtMost, FailedOnceAtMost, FailureFollows, IsBadAt, IsFailedPart, IsTrial, NoCountFell, Trial, answer_by, answer_of, bad_key, failure_by, failure_of, own_writes, tally_of, wants_memory}
+use Rattle.state_parts.specs.Dealt.{AreDealt, IsGrouped}
 use Rattle.state_parts.specs.PartPlans.{AreApart, IsOneOf, PartPlan, plan_of, plans_of}
+use Rattle.state_parts.proofs.TableLemmas.{zip_at}
 
 -- ---- the first of each kind
 
@@ -105,6 +114,54 @@ part_there : {S : Type 0} {count : S → ℕ} (xs ys : List (StatePart S)) (c p 
 part_there xs ys c p b a told =
     subst (λ (k : ℕ). IsOneOf (plans_of xs) k p) told.component_is (subst (λ (k : ℕ). IsOneOf (plans_of xs) told.was.component k) told.part_is (there_is xs told.place told.was told.was_at))
 
+-- ---- the trial of a part
+
+-- The amounts that are written for a key are those of the part's own writes.
+module _ {S : Type 0} (tells : S → CellMap → Type 0) (txid : ℕ) (kind : Kind) (by : Fold) (written : List ℕ → List ℤ) (own : List Write) (same : (key : List ℕ) → written key ≡ amounts_at own key) (a b : S) where
+  done_own : Turns tells (λ key. IsDone kind by txid (written key)) a b → Turns tells (λ key. IsDone kind by txid (amounts_at own key)) a b
+  done_own turns = record {
+    to = λ cells told.
+        let x = turns.to cells told in
+        (x.0, x.1, λ key. subst (λ (amounts : List ℤ). IsDone kind by txid amounts (cell_at cells key) (cell_at x.0 key)) (same key) (x.2 key));
+  }
+
+  broken_own : Turns tells (λ key. IsPerhapsDone kind by txid (written key)) a b → Turns tells (λ key. IsPerhapsDone kind by txid (amounts_at own key)) a b
+  broken_own turns = record {
+    to = λ cells told.
+        let x = turns.to cells told in
+        (x.0, x.1, λ key. subst (λ (amounts : List ℤ). IsPerhapsDone kind by txid amounts (cell_at cells key) (cell_at x.0 key)) (same key) (x.2 key));
+  }
+
+  done_perhaps : Turns tells (λ key. IsDone kind by txid (amounts_at own key)) a b → Turns tells (λ key. IsPerhapsDone kind by txid (amounts_at own key)) a b
+  done_perhaps turns = record {
+    to = λ cells told.
+        let x = turns.to cells told in
+        (x.0, x.1, λ key. perhaps_if_done kind by txid (amounts_at own key) (cell_at cells key) (cell_at x.0 key) (x.2 key));
+  }
+
+  kept_own : (answer : Result (Unit {0}) PartFault) → OnOk answer (Turns tells (λ key. IsDone kind by txid (written key)) a b) → OnErr answer (Turns tells (λ key. IsPerhapsDone kind by txid (written key)) a b)
+      → Turns tells (λ key. IsPerhapsDone kind by txid (amounts_at own key)) a b
+  kept_own (Ok done) ok err = done_perhaps (done_own ok)
+  kept_own (Err fault) ok err = broken_own err
+
+module _ {S : Type 0} (tells : S → CellMap → Type 0) (count : S → ℕ) (txid : ℕ) (written : List ℕ → List ℤ) (own : List Write) (same : (key : List ℕ) → written key ≡ amounts_at own key) (old new : StatePart S) (answer : Result (Unit {0}) PartFault) where
+  pub trial_own : plan_of new ≡ plan_of old
+      → OnOk answer (Turns tells (λ key. IsDone old.over.kind old.over.by txid (written key)) old.over.store new.over.store)
+      → OnErr answer (Turns tells (λ key. IsPerhapsDone old.over.kind old.over.by txid (written key)) old.over.store new.over.store)
+      → (IsErrOf answer fault.Store → count new.over.store ≡ raised (count old.over.store))
+      → ((IsErrOf answer fault.Store → ⊥) → count new.over.store ≡ count old.over.store)
+      → ((key : List ℕ) → IsErrOf answer (fault.BadCell key) → (cells : CellMap) → tells old.over.store cells → IsBad old.over.kind (cell_at cells key))
+      → count old.over.store ≤ count new.over.store → IsTrial tells count txid own (record { old = old; new = new; answer = answer })
+  trial_own plan ok err failed quiet bad up = record {
+    plan = plan;
+    done = on_ok_weaker answer (λ turns. record { plan = plan; turns = done_own tells txid old.over.kind old.over.by written own same old.over.store new.over.store turns }) ok;
+    kept = record { plan = plan; turns = kept_own tells txid old.over.kind old.over.by written own same old.over.store new.over.store answer ok err };
+    failed = failed;
+    quiet = quiet;
+    bad = bad;
+    never_falls = up;
+  }
+
 -- the first i parts were tried, and the others are as they were
 pub record Trying {S : Type 0} (tells : S → CellMap → Type 0) (count : S → ℕ) (txid : ℕ) (writes : List Write) (i : ℕ) (old now : List (StatePart S)) (tally : Tally) : Type 0 where
   pub trials : List (Trial S)
@@ -121,16 +178,20 @@ module _ {S : Type 0} (tells : S → CellMap → Type 0) (count : S → ℕ) (tx
     pub trying_first : (parts : List (StatePart S)) (tally : Tally) → tally ≡ record { no_memory = false; bad = None; failed = None } → Trying tells count txid writes 0 parts parts tally
     trying_first parts tally is = record { trials = []; each = All-nil (λ trial. IsTrial tells count txid (own_writes writes trial.old) trial); many = refl; olds = refl; news = refl; tally_is = is }
 
-    pub trying_more : (i : ℕ) (old now : List (StatePart S)) (lists : List (List Write)) (own : List Write) (was is : StatePart S) (before after : Tally) → i < length old → was ≡ get_or now i was
-        → lists ≡ writes_by_part writes old → own ≡ get_or lists i own → Tries tells count txid own was is before after → Trying tells count txid writes i old now before → Trying tells count txid writes (i + 1) old (set now i is) after
-    trying_more i old now lists own was is before after within read dealt own_read tries trying =
+    pub trying_more : (i : ℕ) (old now : List (StatePart S)) (dealt : List GroupedWrites) (own : GroupedWrites) (was is : StatePart S) (before after : Tally) → i < length old → was ≡ get_or now i was
+        → AreDealt writes old dealt → own ≡ get_or dealt i own → ((ws : List Write) → IsGrouped ws own → Tries tells count txid ws was is before after) → Trying tells count txid writes i old now before
+        → Trying tells count txid writes (i + 1) old (set now i is) after
+    trying_more i old now dealt own was is before after within read all own_read tried trying =
         let rest : drop i old ≡ get_or old i was ∷ drop (i + 1) old = drop_more old i was within in
         let olds_long : length (map (λ (trial : Trial S). trial.old) trying.trials) ≡ i = length-map trying.trials (λ (trial : Trial S). trial.old) ∙ trying.many in
         let news_long : length (map (λ (trial : Trial S). trial.new) trying.trials) ≡ i = length-map trying.trials (λ (trial : Trial S). trial.new) ∙ trying.many in
         let now_is : now ≡ map (λ (trial : Trial S). trial.new) trying.trials ++ get_or old i was ∷ drop (i + 1) old = sym trying.news ∙ ap (λ xs. map (λ (trial : Trial S). trial.new) trying.trials ++ xs) rest in
         let same : was ≡ get_or old i was = read ∙ ap (λ xs. get_or xs i was) now_is ∙ get_or_at (map (λ (trial : Trial S). trial.new) trying.trials) (get_or old i was) (drop (i + 1) old) was i news_long in
-        let own_is : own ≡ own_writes writes was = own_read ∙ ap (λ xs. get_or xs i own) dealt ∙ get_or-map (own_writes writes) old i was own within ∙ ap (own_writes writes) (sym same) in
-        let here : IsTrial tells count txid (own_writes writes was) (record { old = was; new = is; answer = tries.answer }) = subst (λ (ws : List Write). IsTrial tells count txid ws (record { old = was; new = is; answer = tries.answer })) own_is tries.trial in
+        let there : IsGrouped (own_writes writes (get_or old i was)) (get_or dealt i own) = zip_at (λ (at : StatePart S) (grouped : GroupedWrites). IsGrouped (own_writes writes at) grouped) old dealt i was own all within in
+        let grouped : IsGrouped (own_writes writes was) own =
+        subst (λ (g : GroupedWrites). IsGrouped (own_writes writes was) g) (sym own_read) (subst (λ (at : StatePart S). IsGrouped (own_writes writes at) (get_or dealt i own)) (sym same) there) in
+        let tries : Tries tells count txid (own_writes writes was) was is before after = tried (own_writes writes was) grouped in
+        let here : IsTrial tells count txid (own_writes writes was) (record { old = was; new = is; answer = tries.answer }) = tries.trial in
         let old_rest : was ∷ drop (i + 1) old ≡ drop i old = ap (λ x. x ∷ drop (i + 1) old) same ∙ sym rest in
         let set_is : set now i is ≡ map (λ (trial : Trial S). trial.new) trying.trials ++ is ∷ drop (i + 1) old =
         ap (λ xs. set xs i is) now_is ∙ set_at (map (λ (trial : Trial S). trial.new) trying.trials) (get_or old i was) (drop (i + 1) old) is i news_long in

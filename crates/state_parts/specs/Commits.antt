@@ -27,10 +27,6 @@ is_for_part component part write = (write.state == component) && (write.part == 
 abbrev pub own_writes : {S : Type 0} → List Write → StatePart S → List Write
 own_writes writes at = filter (is_for_part at.component at.part) writes
 
--- the same for each part
-abbrev pub writes_by_part : {S : Type 0} → List Write → List (StatePart S) → List (List Write)
-writes_by_part writes parts = map (own_writes writes) parts
-
 -- ---- what becomes of a part
 
 -- A part as it was, and as it is after a commit of these writes of its own, or of none: the

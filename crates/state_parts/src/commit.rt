@@ -1,19 +1,26 @@
 ghost use Rattle.std.specs.Prelude.{◌≡◌, ℕ, List, length, Ok, Err};
 ghost use Rattle.tree_model.specs.declared.write.Write.{Write};
 ghost use Rattle.state_parts.specs.Answers.{Tries};
-ghost use Rattle.state_parts.specs.Commits.{AreCommitted, ArePerhapsCommitted, AreTried, Comes, CountsFollow, FailOnceAtMost, IsBadAt, IsFailedPart, NoCountFell, writes_by_part};
+ghost use Rattle.state_parts.specs.Commits.{AreCommitted, ArePerhapsCommitted, AreTried, Comes, CountsFollow, FailOnceAtMost, IsBadAt, IsFailedPart, NoCountFell};
+ghost use Rattle.state_parts.specs.Dealt.{AreDealt, IsGrouped};
 ghost use Rattle.state_parts.specs.PartPlans.{AreIndexed, plans_of};
 
 use crate::answer::{Commit, CommitFault, CommitOutcome, Tally};
 use crate::parts::StatePart;
 use crate::split::split;
+use state_cells::GroupedWrites;
 use std::alloc::Global;
 use storm_stores::CellStore;
-use tree_model::Writes;
 
 /// Commits a part with its writes of a batch, and notes what it answers.
-fn commit_part<C: CellStore>(at: &mut StatePart<C>, txid: u64, writes: &Writes, tally: &mut Tally)
-    ensures { Tries C.tells C.fault_count txid writes.now at.old at.new tally.old tally.new }
+fn commit_part<C: CellStore>(
+    at: &mut StatePart<C>,
+    txid: u64,
+    writes: &GroupedWrites<'_>,
+    tally: &mut Tally,
+)
+    ensures { (own : List Write) → IsGrouped own writes.now →
+        Tries C.tells C.fault_count txid own at.old at.new tally.old tally.new }
 {
     let before = at.over.faults();
     let answer = at.over.commit(txid, writes);
@@ -29,15 +36,19 @@ fn commit_part<C: CellStore>(at: &mut StatePart<C>, txid: u64, writes: &Writes, 
     );
 }
 
-/// Tries every part, one after another, each with its list of writes.
-fn commit_each<C: CellStore>(parts: &mut Vec<StatePart<C>>, txid: u64, lists: &[Writes]) -> Tally
-    requires { length lists.now ≡ length parts.old.items }
-    ensures { (writes : List Write) → lists.now ≡ writes_by_part writes parts.old.items →
+/// Tries every part, one after another, each with its writes.
+fn commit_each<C: CellStore>(
+    parts: &mut Vec<StatePart<C>>,
+    txid: u64,
+    dealt: &[GroupedWrites<'_>],
+) -> Tally
+    requires { length dealt.now ≡ length parts.old.items }
+    ensures { (writes : List Write) → AreDealt writes parts.old.items dealt.now →
         AreTried C.tells C.fault_count txid writes parts.old.items parts.new.items result }
 {
     let mut tally = Tally::new();
     for i in 0..parts.len() {
-        commit_part(&mut parts[i], txid, &lists[i], &mut tally);
+        commit_part(&mut parts[i], txid, &dealt[i], &mut tally);
     }
     tally
 }
@@ -68,9 +79,9 @@ pub(crate) fn commit_parts<C: CellStore>(
         CountsFollow C.fault_count how parts.old.items parts.new.items }
     ensures at_most_once { FailOnceAtMost C.fault_count parts.old.items parts.new.items }
 {
-    let lists = match split(alloc, firsts, parts, commit.writes) {
-        Ok(lists) => lists,
+    let dealt = match split(alloc, firsts, parts, &commit.writes) {
+        Ok(dealt) => dealt,
         Err(_) => return Err(CommitFault::Memory),
     };
-    commit_each(parts, commit.root.txid, &lists).answer()
+    commit_each(parts, commit.root.txid, &dealt).answer()
 }

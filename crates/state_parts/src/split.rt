@@ -1,9 +1,11 @@
-ghost use Rattle.std.specs.Prelude.{◌≡◌, ◌<◌, ◌+◌, ◌^◌, ◌++◌, ◌∷◌, [], ℕ, List, replicate, length, Option, None, Some, IfOk, OnOk, IfSome, IfNone, IsSome};
+ghost use Rattle.std.specs.Prelude.{◌≡◌, ◌<◌, ◌+◌, ◌^◌, ◌++◌, ◌∷◌, [], ℕ, List, length, Option, None, Some, IfOk, OnOk, IfSome, IfNone, IsSome};
+ghost use Rattle.std.specs.List.{AllByRecursion};
 ghost use Rattle.tree_model.specs.declared.write.Write.{Write};
-ghost use Rattle.state_parts.specs.Commits.{writes_by_part};
+ghost use Rattle.state_parts.specs.Dealt.{AreDealt, IsGrouped};
 ghost use Rattle.state_parts.specs.PartPlans.{AreIndexed, IsFound, IsOneOf, place_by, plans_of};
 
 use crate::parts::StatePart;
+use state_cells::GroupedWrites;
 use std::alloc::Global;
 use storm_stores::CellStore;
 use storm_values::Memory;
@@ -45,47 +47,51 @@ fn find_part<C: CellStore>(
     Some(place)
 }
 
-/// Adds a write to the list of its part. A write for no part is left out.
-fn deal<C: CellStore>(
+/// Adds a write to those of its part. A write for no part is left out.
+fn deal<'w, C: CellStore>(
     firsts: &[usize],
     parts: &[StatePart<C>],
-    lists: &mut Vec<Writes>,
-    write: Write,
+    dealt: &mut Vec<GroupedWrites<'w>>,
+    write: &'w Write,
 ) -> Result<(), Memory>
     requires { AreIndexed firsts.now 0 (plans_of parts.now) }
     ensures { OnOk result
-        ((before : List Write) → lists.old.items ≡ writes_by_part before parts.now
-        → lists.new.items ≡ writes_by_part (before ++ write ∷ []) parts.now) }
+        ((before : List Write) → AreDealt before parts.now dealt.old.items
+        → AreDealt (before ++ write.now ∷ []) parts.now dealt.new.items) }
 {
     match find_part(firsts, parts, write.state, write.part) {
-        Some(place) if place < lists.len() => lists[place].push(write),
+        Some(place) if place < dealt.len() => dealt[place].add(write),
         _ => Ok(()),
     }
 }
 
-fn empty_lists(alloc: Global, count: usize) -> Result<Vec<Writes>, Memory>
-    ensures { IfOk result (λ lists. lists.items ≡ replicate count []) }
+/// No writes, for so many parts, with room for so many keys of each.
+fn no_writes<'w>(alloc: Global, parts: usize, keys: usize) -> Result<Vec<GroupedWrites<'w>>, Memory>
+    ensures long { IfOk result (λ dealt. length dealt.items ≡ parts) }
+    ensures none { IfOk result (λ dealt. AllByRecursion (IsGrouped []) dealt.items) }
 {
-    let mut lists = Vec::with_capacity(alloc, count)?;
-    for _ in 0..count {
-        lists.push(Writes::new(alloc))?;
+    let mut dealt = Vec::with_capacity(alloc, parts)?;
+    for _ in 0..parts {
+        dealt.push(GroupedWrites::with_capacity(alloc, keys)?)?;
     }
-    Ok(lists)
+    Ok(dealt)
 }
 
-/// The writes of a batch part by part, in their order. One pass over the writes, which are moved.
-pub(crate) fn split<C: CellStore>(
+/// The writes of a batch by part, and of each part by key. One pass over the writes, which keep
+/// their keys.
+pub(crate) fn split<'w, C: CellStore>(
     alloc: Global,
     firsts: &[usize],
     parts: &[StatePart<C>],
-    writes: Writes,
-) -> Result<Vec<Writes>, Memory>
+    writes: &'w Writes,
+) -> Result<Vec<GroupedWrites<'w>>, Memory>
     requires { AreIndexed firsts.now 0 (plans_of parts.now) }
-    ensures { IfOk result (λ lists. lists.items ≡ writes_by_part writes parts.now) }
+    ensures { IfOk result (λ dealt. AreDealt writes.now parts.now dealt.items) }
 {
-    let mut lists = empty_lists(alloc, parts.len())?;
-    for write in writes.into_vec() {
-        deal(firsts, parts, &mut lists, write)?;
+    let keys = writes.len() / parts.len().max(1);
+    let mut dealt = no_writes(alloc, parts.len(), keys)?;
+    for write in writes.as_slice() {
+        deal(firsts, parts, &mut dealt, write)?;
     }
-    Ok(lists)
+    Ok(dealt)
 }

@@ -1,7 +1,7 @@
 // A part over a store with given cells, of which a call may fail: what it commits, and the cells
 // that this is to make.
 use cell_format::{Cell, encode_cell};
-use state_cells::{Part, PartFault};
+use state_cells::{GroupedWrites, Part, PartFault};
 use std::alloc::Global;
 use storm_stores::{CellStore, FailAt, MemStore, StoreFault};
 use storm_values::{Bytes, Memory, Txt};
@@ -105,9 +105,23 @@ pub fn writes_of(alloc: Global, list: &[(&str, i64)]) -> Result<Writes, Memory> 
     Ok(writes)
 }
 
+// Commits writes, which are brought together first.
+pub fn commit(
+    alloc: Global,
+    part: &mut Part<MemStore>,
+    txid: u64,
+    writes: &Writes,
+) -> Result<(), PartFault> {
+    let mut grouped = GroupedWrites::with_capacity(alloc, 1)?;
+    for write in writes.as_slice() {
+        grouped.add(write)?;
+    }
+    part.commit(txid, &grouped)
+}
+
 fn take_step(alloc: Global, part: &mut Part<MemStore>, step: &Step) -> Result<(), Trouble> {
     let (txid, writes, end) = *step;
-    match (part.commit(txid, &writes_of(alloc, writes)?), end) {
+    match (commit(alloc, part, txid, &writes_of(alloc, writes)?), end) {
         (Ok(()), End::Done) | (Err(PartFault::Store), End::Refused) => Ok(()),
         _ => Err(Trouble::Commit(txid)),
     }

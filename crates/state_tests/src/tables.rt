@@ -1,5 +1,5 @@
 // The table of a part.
-use crate::scene::{Line, Trouble, store_of, writes_of};
+use crate::scene::{Line, Trouble, commit, store_of, writes_of};
 use state_cells::{Part, PartFault};
 use std::alloc::Global;
 use storm_stores::{CallKind, FailAt, MemStore};
@@ -105,7 +105,7 @@ fn a_cell_of_the_other_kind_is_bad(rt: HostRuntime) -> Result<(), Trouble> {
     let store = store_of(alloc, Kind::Opaque, &CELLS)?;
     let mut part = Part::new(alloc, store, Kind::Transactional, Fold::Count);
     let writes = writes_of(alloc, &[("a", 1)])?;
-    match part.commit(3, &writes) {
+    match commit(alloc, &mut part, 3, &writes) {
         Err(PartFault::BadCell(key)) => assert!(rt; key.as_slice() == b"a".as_slice()),
         _ => assert!(rt; false),
     }

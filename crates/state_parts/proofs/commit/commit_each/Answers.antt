@@ -7,6 +7,6 @@ loop-i-preserved g c =
     let within : c.loop-i.i < length c.args.parts.now.items = omega (arith, c.len-i-end.ensures, c.args.parts.now.ok.0) in
     record {
       long = length-set c.loop-i.parts.items c.loop-i.i c.commit_part.new.at ∙ c.loop-i.invariant.long;
-      trying = λ writes dealt. trying_more g.C.CellStore.tells g.C.CellStore.fault_count c.args.txid writes c.loop-i.i c.args.parts.now.items c.loop-i.parts.items c.args.lists.now c.index-lists-i.result c.index_mut.result.now c.commit_part.new.at
-          c.loop-i.tally c.commit_part.new.tally within c.index_mut.ensures.value dealt c.index-lists-i.is c.commit_part.ensures (c.loop-i.invariant.trying writes dealt);
+      trying = λ writes all. trying_more g.C.CellStore.tells g.C.CellStore.fault_count c.args.txid writes c.loop-i.i c.args.parts.now.items c.loop-i.parts.items c.args.dealt.now c.index-dealt-i.result c.index_mut.result.now c.commit_part.new.at
+          c.loop-i.tally c.commit_part.new.tally within c.index_mut.ensures.value all c.index-dealt-i.is c.commit_part.ensures (c.loop-i.invariant.trying writes all);
     }

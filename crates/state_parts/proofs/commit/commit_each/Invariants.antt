@@ -1,11 +1,11 @@
 use Rattle.std.proofs.Common.{◌≡◌, List, length}
 use Rattle.tree_model.specs.declared.write.Write.{Write}
-use Rattle.state_parts.specs.Commits.{writes_by_part}
+use Rattle.state_parts.specs.Dealt.{AreDealt}
 use Rattle.state_parts.proofs.TrialLemmas.{Trying}
 use Rattle.state_parts.proofs.commit.commit_each.Given as goal
 
 abbrev pub invariant-loop-i : goal.invariant-loop-i
 invariant-loop-i g l = record {
   long : length l.parts.items ≡ length l.fn.parts.items;
-  trying : (writes : List Write) → l.lists ≡ writes_by_part writes l.fn.parts.items → Trying g.C.CellStore.tells g.C.CellStore.fault_count l.txid writes l.i l.fn.parts.items l.parts.items l.tally;
+  trying : (writes : List Write) → AreDealt writes l.fn.parts.items l.dealt → Trying g.C.CellStore.tells g.C.CellStore.fault_count l.txid writes l.i l.fn.parts.items l.parts.items l.tally;
 }

@@ -16,5 +16,5 @@ invariant_of-self-2 c =
     let f = c.self.inside in
     let asked = rw (← c.self.view_is) at c.requires in
     let next = next_is f.plan.now f.batches (office_by f.plan.now f.batches f.tick f.committed f.flight f.waits.items f.out f.exhausted).desk c.args.root asked in
-    rw (c.push_reserved.ensures.items, c.in_ok-reserve.ensures.items)
+    rw (c.push_reserved.ensures.items, c.new.ensures, c.in_ok-reserve.ensures.items)
     (begin_step f.plan.now f.batches f.tick f.flight c.begin.new.self f.waits.items c.args.root c.self.invariant next.there (let b = c.facts.ensures.valid.buckets.0 in omega arith) c.in-Ok.ensures.ok)

@@ -17,8 +17,11 @@ returns-in_default-clause-ok c =
     (rw (none_by (is_timed_of c.args.root) f.waits.items c.deref.result.now c.timed_place.result c.timed_place.ensures c.deref.ensures.value c.in_default.is)
     (still_goes (office_by f.plan.now f.batches f.tick f.committed f.flight f.waits.items f.out f.exhausted) c.args.fates.now))
 
-pub settle-requires : goal.settle-requires
-settle-requires c =
+pub settle-requires-clause-order : goal.settle-requires-clause-order
+settle-requires-clause-order c = (rw c.in-Closed.is at c.in_ok-check_list.ensures).1
+
+pub settle-requires-clause-found : goal.settle-requires-clause-found
+settle-requires-clause-found c =
     let f = c.self.inside in
     rw (← c.self.view_is)
     (found_by (is_timed_of c.args.root) f.waits.items c.deref.result.now c.timed_place.result c.in-Some.place c.timed_place.ensures c.deref.ensures.value c.in-Some.is)

@@ -8,6 +8,7 @@ use Rattle.commit_order.specs.Offices.{Office, counted_by, is_settled_after}
 use Rattle.commit_turns.specs.Desks.{without}
 use Rattle.commit_turns.specs.Turns.{end_by}
 use Rattle.commit_turns.specs.declared.wait.Wait.{Wait}
+use Rattle.storm_values.specs.declared.value.Root.{Root}
 use Rattle.trident_batches.specs.Batches.{first_of, last_of}
 use Rattle.commit_order.proofs.office.Office.decide.Goals as goal
 
@@ -42,7 +43,7 @@ returns-clause-ok c =
     let at = found_by (is_settled_after f.committed) f.waits.items c.deref.result.now c.settled_place.result c.in-Some.place c.settled_place.ensures c.deref.ensures.value c.in-Some.is in
     let here = some_same c.take-start.result at.0 (sym c.take-start.ensures.taken ∙ at.1) in
     let look = c.index.ensures ∙ get_or_from_slice_get f.waits.items c.in-Some.place at.0 c.index.result.now at.1 in
-    let txid : c.index.result.now.root.txid ≡ c.take-start.result.root.txid = ap (λ (w : Wait). w.root.txid) (look ∙ sym here) in
+    let txid : c.root.result.txid ≡ c.take-start.result.root.txid = ap (λ (r : Root). r.txid) c.root.ensures ∙ ap (λ (w : Wait). w.root.txid) (look ∙ sym here) in
     let o : Office = office_by f.plan.now f.batches f.tick f.committed f.flight f.waits.items f.out f.exhausted in
     let w = c.take-start.result in
     let is =

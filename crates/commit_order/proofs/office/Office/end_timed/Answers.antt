@@ -40,14 +40,14 @@ returns-clause-ok c =
     let f = c.self.inside in
     let at = found_by (is_timed_of c.args.root) f.waits.items c.deref.result.now c.timed_place.result c.in-Some.place c.timed_place.ensures c.deref.ensures.value c.in-Some.is in
     let same = root_eq-same c.args.root at.0.root (first_of_two (root_eq c.args.root at.0.root) (is_timed at.0) at.3) in
-    let began = ap (λ (w : Wait). w.start) (c.index.ensures ∙ get_or_from_slice_get f.waits.items c.in-Some.place at.0 c.index.result.now at.1) in
-    let timed = timed_record f.waits.items c.args.root at.0 c.index.result.now.start at.2 same began in
+    let began = c.start-start.ensures ∙ ap (λ (w : Wait). w.start) (c.index.ensures ∙ get_or_from_slice_get f.waits.items c.in-Some.place at.0 c.index.result.now at.1) in
+    let timed = timed_record f.waits.items c.args.root at.0 c.start-start.result at.2 same began in
     let one = rw (← c.self.view_is) at c.records-first.ensures.first in
     let two = rw (← c.self.view_is) at c.records-first.ensures.last in
     rw (← c.self.view_is, c.remove.ensures)
     (on_ok c.push.result
     (λ pushed. rw pushed
     (ended_timed f.plan.now f.batches f.tick f.committed f.flight c.end-2.new.self f.waits.items f.out f.exhausted c.args.end c.args.root
-    c.index.result.now.start c.records-first.result.0 c.records-first.result.1 at.0.settled c.args.fates.now c.last_try-self-inside.result
+    c.start-start.result c.records-first.result.0 c.records-first.result.1 at.0.settled c.args.fates.now c.last_try-self-inside.result
     timed one two c.end-2.ensures.ended c.last_try-self-inside.ensures))
     c.push.ensures.ok)
