@@ -102,6 +102,10 @@ dealt_none [] (x ∷ xs) long none = absurd (omega arith)
 dealt_none (at ∷ parts) [] long none = absurd (omega arith)
 dealt_none (at ∷ parts) (x ∷ xs) long none = (none.0, dealt_none parts xs (omega arith) none.1)
 
+-- there are as many as there are parts
+pub dealt_long : {S : Type 0} (writes : List Write) (parts : List (StatePart S)) (dealt : List GroupedWrites) → AreDealt writes parts dealt → length dealt ≡ length parts
+dealt_long {S} writes parts dealt all = AllZip-long (λ (at : StatePart S) (grouped : GroupedWrites). IsGrouped (own_writes writes at) grouped) parts dealt all
+
 -- the same over equal lists
 pub dealt_as : {S : Type 0} (writes : List Write) {parts these : List (StatePart S)} {dealt lent : List GroupedWrites} → lent ≡ dealt → AreDealt writes parts dealt → parts ≡ these → AreDealt writes these lent
 dealt_as {S} writes {parts} {these} {dealt} {lent} is all same = subst (λ (ps : List (StatePart S)). AreDealt writes ps lent) same (subst (λ (xs : List GroupedWrites). AreDealt writes parts xs) (sym is) all)

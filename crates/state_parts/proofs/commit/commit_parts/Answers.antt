@@ -1,7 +1,7 @@
 use Rattle.std.proofs.Common.{sym, ◌∙◌}
 use Rattle.state_parts.specs.PartPlans.{plans_of}
 use Rattle.state_parts.proofs.Places.{indexed_apart}
-use Rattle.state_parts.proofs.SplitLemmas.{dealt_as}
+use Rattle.state_parts.proofs.SplitLemmas.{dealt_as, dealt_long}
 use Rattle.state_parts.proofs.TrialLemmas.{tried_bad, tried_counted, tried_done, tried_failed, tried_kept, tried_once, tried_plans, tried_up, untried_kept, untried_once, untried_up}
 use Rattle.state_parts.proofs.commit.commit_parts.Goals as goal
 
@@ -13,6 +13,9 @@ returns-in-Err-clause-never_falls g c = untried_up g.C.CellStore.tells g.C.CellS
 
 pub returns-in-Err-clause-at_most_once : goal.returns-in-Err-clause-at_most_once
 returns-in-Err-clause-at_most_once g c = untried_once g.C.CellStore.tells g.C.CellStore.fault_count c.args.commit.root.txid c.args.parts.now.items
+
+pub commit_each-requires : goal.commit_each-requires
+commit_each-requires g c = dealt_long c.args.commit.writes c.args.parts.now.items c.deref-2.result.now (dealt_as c.args.commit.writes c.deref-2.ensures.value c.in-Ok.ensures c.deref.ensures.value)
 
 pub returns-clause-plans : goal.returns-clause-plans
 returns-clause-plans g c = tried_plans g.C.CellStore.tells g.C.CellStore.fault_count c.args.commit.root.txid c.args.commit.writes c.args.parts.now.items c.commit_each.new.parts.items c.commit_each.result (c.commit_each.ensures c.args.commit.writes (dealt_as c.args.commit.writes c.deref-2.ensures.value c.in-Ok.ensures c.deref.ensures.value))
