@@ -8,7 +8,6 @@ use Rattle.commit_turns.specs.Desks.{is_timed}
 use Rattle.rotating_ledger.specs.Held.{root_eq}
 use Rattle.rotating_ledger.proofs.RootLemmas.{root_eq-same}
 use Rattle.commit_order.proofs.office.Office.complete.Goals as goal
-use Rattle.commit_order.proofs.office.Office.complete.Goals.{in-Closed, in-Left}
 
 pub returns-in_default-clause-ok : goal.returns-in_default-clause-ok
 returns-in_default-clause-ok c =
@@ -18,13 +17,24 @@ returns-in_default-clause-ok c =
     (still_goes (office_by f.plan.now f.batches f.tick f.committed f.flight f.waits.items f.out f.exhausted) c.args.fates.now))
 
 pub settle-requires-clause-order : goal.settle-requires-clause-order
-settle-requires-clause-order c = (rw c.in-Closed.is at c.in_ok-check_list.ensures).1
+settle-requires-clause-order c = (rw c.in-Closed.is at c.in_ok-order.ensures).1
 
 pub settle-requires-clause-found : goal.settle-requires-clause-found
 settle-requires-clause-found c =
     let f = c.self.inside in
     rw (← c.self.view_is)
     (found_by (is_timed_of c.args.root) f.waits.items c.deref.result.now c.timed_place.result c.in-Some.place c.timed_place.ensures c.deref.ensures.value c.in-Some.is)
+
+pub returns-in-Closed-clause-ok : goal.returns-in-Closed-clause-ok
+returns-in-Closed-clause-ok c =
+    let f = c.self.inside in
+    let at : IsFoundAt (is_timed_of c.args.root) c.args.self.now.desk.pending c.in-Some.place =
+    rw (← c.self.view_is)
+    (found_by (is_timed_of c.args.root) f.waits.items c.deref.result.now c.timed_place.result c.in-Some.place c.timed_place.ensures c.deref.ensures.value c.in-Some.is) in
+    let same = root_eq-same c.args.root at.0.root (first_of_two (root_eq c.args.root at.0.root) (is_timed at.0) at.3) in
+    let timed = timed_record c.args.self.now.desk.pending c.args.root at.0 at.0.start at.2 same refl in
+    rw (timed, closed_true c.args.list (rw c.in-Closed.is at c.in_ok-order.ensures).0, c.settle.ensures)
+    (record { office = refl; fates = sym (append-nil c.args.fates.now) })
 
 pub returns-clause-ok : goal.returns-clause-ok
 returns-clause-ok c =
@@ -34,14 +44,8 @@ returns-clause-ok c =
     (found_by (is_timed_of c.args.root) f.waits.items c.deref.result.now c.timed_place.result c.in-Some.place c.timed_place.ensures c.deref.ensures.value c.in-Some.is) in
     let same = root_eq-same c.args.root at.0.root (first_of_two (root_eq c.args.root at.0.root) (is_timed at.0) at.3) in
     let timed = timed_record c.args.self.now.desk.pending c.args.root at.0 at.0.start at.2 same refl in
-    elim c.match-branch-2.branch [
-      | in-Closed w ↦
-          rw (w.result-is, w.self-is, w.fates-is, timed, closed_true c.args.list (rw w.in-Closed.is at c.in_ok-check_list.ensures).0, w.settle.ensures)
-          (record { office = refl; fates = sym (append-nil c.args.fates.now) })
-      | in-Left w ↦
-          let left = rw w.in-Left.is at c.in_ok-check_list.ensures in
-          rw (w.result-is, w.self-is, w.fates-is, timed, left_false c.args.list _ left.0 left.1) (rw timed at w.end_timed.ensures.ok)
-    ]
+    let left = rw c.in-Left.is at c.in_ok-order.ensures in
+    rw (timed, left_false c.args.list _ left.0 left.1) (rw timed at c.end_timed.ensures.ok)
 
 pub returns-clause-err : goal.returns-clause-err
 returns-clause-err c =
@@ -51,9 +55,5 @@ returns-clause-err c =
     (found_by (is_timed_of c.args.root) f.waits.items c.deref.result.now c.timed_place.result c.in-Some.place c.timed_place.ensures c.deref.ensures.value c.in-Some.is) in
     let same = root_eq-same c.args.root at.0.root (first_of_two (root_eq c.args.root at.0.root) (is_timed at.0) at.3) in
     let timed = timed_record c.args.self.now.desk.pending c.args.root at.0 at.0.start at.2 same refl in
-    elim c.match-branch-2.branch [
-      | in-Closed w ↦ rw w.result-is tt
-      | in-Left w ↦
-          let left = rw w.in-Left.is at c.in_ok-check_list.ensures in
-          rw (w.result-is, w.fates-is, timed, left_false c.args.list _ left.0 left.1) (rw timed at w.end_timed.ensures.err)
-    ]
+    let left = rw c.in-Left.is at c.in_ok-order.ensures in
+    rw (timed, left_false c.args.list _ left.0 left.1) (rw timed at c.end_timed.ensures.err)
