@@ -135,15 +135,28 @@ attempt 1.4 records 1-1 ticks 0-0 coincided 0:0000000000000000
 exhausted 1
 ";
 
+// Its tuple stays mute, so the edge is open when the init makes the XOR 0, whatever came before it.
 #[test]
 fn an_id_of_0_coincides(rt: HostRuntime) -> Result<(), Mismatch> {
     let outside = Outside {
         words: Some(&ALL_ZERO),
         ..CALM
     };
+    let scene = run_of(MUTE_ALWAYS, RECORD);
+    check_call(&rt, rt.alloc(), scene, outside, 7, ALL_COINCIDE)
+}
+
+// A run executes what there is to do before an init comes to its acker, which then meets a whole
+// list.
+#[test]
+fn ids_of_0_are_acked_before_their_init(rt: HostRuntime) -> Result<(), Mismatch> {
+    let outside = Outside {
+        words: Some(&ALL_ZERO),
+        ..CALM
+    };
     for topology in [STEADY, SMALL_WORD_COUNT] {
         let scene = run_of(topology, RECORD);
-        check_call(&rt, rt.alloc(), scene, outside, 7, ALL_COINCIDE)?;
+        check_call(&rt, rt.alloc(), scene, outside, 0, COMMITTED)?;
     }
     Ok(())
 }
