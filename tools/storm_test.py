@@ -25,6 +25,7 @@ try)
   rm -r "$TMPDIR/made"
   ;;
 all)
+  find . -name '*.rt' | sort >"$RT_CALLS.proving"
   printf '== low\nfn low: proved\n== storm\n== summary\nlow: ok\n'
   ;;
 run)
@@ -123,15 +124,12 @@ class Storm(unittest.TestCase):
         self.write("crates/low/src/main.rt", "changed")
         self.assert_runs("unproved", ["try"])
 
-    def test_proves_what_is_there_now(self):
+    def test_proves_a_copy_outside(self):
         self.call("--prove")
-        self.assertEqual(sorted(os.listdir(f"{self.top}/out/proving/crates")), ["low", "storm"])
-        self.write("crates/storm/src/other.rt", "new")
-        os.remove(f"{self.top}/crates/storm/src/main.rt")
-        self.write("crates.txt", "storm may_wait=1:\nother:\n")
-        self.call("--prove")
-        self.assertEqual(os.listdir(f"{self.top}/out/proving/crates"), ["storm"])
-        self.assertEqual(os.listdir(f"{self.top}/out/proving/crates/storm/src"), ["other.rt"])
+        with open(f"{self.room}/calls.proving", encoding="utf-8") as file:
+            self.assertEqual(file.read().split(), ["./crates/low/src/main.rt", "./crates/storm/src/main.rt"])
+        self.assertEqual(sorted(os.listdir(f"{self.top}/out")), ["proved", "proved.sum"])
+        self.assertEqual(sorted(os.listdir(self.room)), ["bin", "calls.proving", "repository"])
 
     def test_takes_the_gates_program(self):
         self.assert_runs("unproved", ["try"])
