@@ -1,0 +1,291 @@
+-- What a step of an acker comes to.
+use Rattle.std.proofs.Common.{◌≡◌, ◌<◌, ◌≤◌, ℕ, zero, suc, ◌+◌, ◌-◌, List, [], ◌∷◌, ◌++◌, Option, None, Some, sym, refl, ap, subst, ◌∙◌, arith}
+use Rattle.std.specs.Prelude.{min, fold, replicate}
+use Rattle.std.specs.List.{AllByRecursion}
+use Rattle.std.specs.Option.{option_to_list}
+use Rattle.acker_core.specs.Entries.{Met, after, list_with, message, met, tick, told_of}
+use Rattle.acker_core.specs.Traces.{ticks_in}
+use Rattle.acker_core.specs.declared.verdict.Verdict.{Verdict}
+use Rattle.bolt_ops.specs.RowOp.{Custom}
+use Rattle.box_rows.specs.declared.mail.Mail.{Mail}
+use Rattle.box_rows.specs.declared.mail.Mail.TheVariants as mails
+use Rattle.box_rows.specs.Mails.{IsTrueParcel}
+use Rattle.box_rows.specs.Rows.{HasTaken, IsSameRow, sent_in, taken_in}
+use Rattle.counted_items.specs.Weights.{weigh}
+use Rattle.counted_items.proofs.Weighing.{weigh-append, weigh-push}
+use Rattle.rotating_ledger.specs.Held.{Held, Rotation, dropped, rotated}
+use Rattle.storm_values.specs.declared.value.Root.{Root}
+use Rattle.task_queues.specs.declared.pass.Pass.{Pass}
+use Rattle.topology_plan.specs.Topology.{Topology, tasks_in_all}
+use Rattle.tree_model.specs.Lists.{root_of}
+use Rattle.tree_model.specs.declared.messages.AckMsg.{AckMsg}
+use Rattle.tree_model.specs.declared.messages.Parcel.{Parcel}
+use Rattle.tree_model.specs.declared.messages.Parcel.TheVariants.{ToAcker}
+use Rattle.tuple_account.specs.Histories.{History, Packet, Told, of_parcel, of_verdict, nothing, weigh_parcels}
+use Rattle.tuple_account.specs.Parts.{meeting, telling_by, weigh_entries}
+use Rattle.tuple_account.proofs.Entering.{met-weight, rotated-weight, telling_told}
+use Rattle.tuple_account.proofs.Moving.{well-nothing}
+use Rattle.worker_pool.specs.declared.acker.AckerDesk.{AckerDesk}
+use Rattle.worker_pool.specs.Ackers.{AckerDid, Ages, CountsUp, HandsVerdict, IsAcker, Meets, ReceivesNotes, acker_station, weigh_messages, weigh_verdict}
+
+-- ---- rotations
+
+abbrev lists_in : (Root → AckMsg → ℕ) → List (Root × List AckMsg) → ℕ
+lists_in g gone = weigh (λ (x : Root × List AckMsg). weigh (g x.0) x.1) gone
+
+-- so many rotations drop these
+gone_by : ℕ → ℕ → List (Held (List AckMsg)) → List (Root × List AckMsg)
+gone_by buckets zero entries = []
+gone_by buckets (suc n) entries = dropped buckets entries ++ gone_by buckets n (rotated buckets entries)
+
+gone-weight : (g : Root → AckMsg → ℕ) (buckets n : ℕ) (entries : List (Held (List AckMsg)))
+    → weigh_entries g (fold (after buckets) entries (replicate n tick)) + lists_in g (gone_by buckets n entries) ≡ weigh_entries g entries
+unfolding gone_by
+gone-weight g buckets zero entries =
+    let e : weigh_entries g (fold (after buckets) entries (replicate zero tick)) ≡ weigh_entries g entries = refl in
+    let z : lists_in g (gone_by buckets zero entries) ≡ 0 = refl in omega arith
+gone-weight g buckets (suc n) entries =
+    let rest = gone-weight g buckets n (rotated buckets entries) in
+    let r = rotated-weight g buckets entries in
+    let a = weigh-append (λ (x : Root × List AckMsg). weigh (g x.0) x.1) (dropped buckets entries) (gone_by buckets n (rotated buckets entries)) in
+    let e : weigh_entries g (fold (after buckets) entries (replicate (suc n) tick)) ≡ weigh_entries g (fold (after buckets) (rotated buckets entries) (replicate n tick)) = refl in
+    let z : lists_in g (gone_by buckets (suc n) entries) ≡ lists_in g (dropped buckets entries ++ gone_by buckets n (rotated buckets entries)) = refl in omega arith
+
+ticks-only : (n : ℕ) → ticks_in (replicate n tick) ≡ n
+ticks-only zero = refl
+ticks-only (suc n) = let rest = ticks-only n in omega arith
+
+-- one more at the end
+ticks-more : (buckets n : ℕ) (entries : List (Held (List AckMsg))) → rotated buckets (fold (after buckets) entries (replicate n tick)) ≡ fold (after buckets) entries (replicate (suc n) tick)
+ticks-more buckets zero entries = refl
+ticks-more buckets (suc n) entries = ticks-more buckets n (rotated buckets entries)
+
+-- so many rotations were made, and all else stayed
+pub record Rotates (old new : AckerDesk) (times : ℕ) : Type 0 where
+  pub entries : new.acker.held ≡ fold (after old.acker.buckets) old.acker.held (replicate times tick)
+  pub buckets : new.acker.buckets ≡ old.acker.buckets
+  pub number : new.number ≡ old.number
+  pub inbox : new.inbox ≡ old.inbox
+  pub outbox : new.outbox ≡ old.outbox
+  pub counted : new.counted ≡ old.counted
+
+pub rotates-none : (d : AckerDesk) → Rotates d d 0
+rotates-none d = record { entries = refl; buckets = refl; number = refl; inbox = refl; outbox = refl; counted = refl }
+
+pub rotates-more : (old mid new : AckerDesk) (n m : ℕ) → Rotates old mid n → m ≡ suc n → new.acker ≡ record mid.acker { held = rotated mid.acker.buckets mid.acker.held } → new.number ≡ mid.number → new.inbox ≡ mid.inbox → new.outbox ≡ mid.outbox → new.counted ≡ mid.counted
+    → Rotates old new m
+rotates-more old mid new n m so_far is acker number inbox outbox counted = record {
+  entries =
+      ap (λ (r : Rotation (List AckMsg)). r.held) acker
+      ∙ (λ i. rotated (so_far.buckets i) (so_far.entries i))
+      ∙ ticks-more old.acker.buckets n old.acker.held
+      ∙ ap (λ (k : ℕ). fold (after old.acker.buckets) old.acker.held (replicate k tick)) (sym is);
+  buckets = ap (λ (r : Rotation (List AckMsg)). r.buckets) acker ∙ so_far.buckets;
+  number = number ∙ so_far.number;
+  inbox = inbox ∙ so_far.inbox;
+  outbox = outbox ∙ so_far.outbox;
+  counted = counted ∙ so_far.counted;
+}
+
+pub counts_up : (old mid new : AckerDesk) (times count buckets : ℕ) → Rotates old mid times → old.acker.buckets ≡ buckets → times ≡ min (count - old.counted) buckets → new ≡ record mid { counted = count } → CountsUp old new
+counts_up old mid new times count buckets all own many is = record {
+  times = times;
+  enough = let c = ap (λ (d : AckerDesk). d.counted) is in omega arith;
+  entries = ap (λ (d : AckerDesk). d.acker.held) is ∙ all.entries;
+  buckets = ap (λ (d : AckerDesk). d.acker.buckets) is ∙ all.buckets;
+  number = ap (λ (d : AckerDesk). d.number) is ∙ all.number;
+  inbox = ap (λ (d : AckerDesk). d.inbox) is ∙ all.inbox;
+  outbox = ap (λ (d : AckerDesk). d.outbox) is ∙ all.outbox;
+}
+
+-- ---- steps
+
+told-weight : (f : Packet → ℕ) (root : Root) (list : List AckMsg) (o : Option Verdict)
+    → weigh (λ (x : Told). f (of_verdict x.verdict)) (telling_by root list o) ≡ weigh (λ (v : Verdict). f (of_verdict v)) (option_to_list o)
+told-weight f root list None = refl
+told-weight f root list (Some verdict) = refl
+
+still_ages : (old new : AckerDesk) → new.number ≡ old.number → new.acker ≡ old.acker → new.counted ≡ old.counted → Ages old new
+still_ages old new number acker counted = record {
+  number = number;
+  buckets = ap (λ (r : Rotation (List AckMsg)). r.buckets) acker;
+  trace = [];
+  entries = ap (λ (r : Rotation (List AckMsg)). r.held) acker;
+  rotates = let c : new.counted ≡ old.counted = counted in omega arith;
+}
+
+pub still_acker : (t : Topology) (old new : AckerDesk) → CountsUp old new → IsAcker t old → IsAcker t new
+still_acker t old new counts is = record { there = subst (λ (n : ℕ). n < t.ackers) (sym counts.number) is.there; buckets = counts.buckets ∙ is.buckets }
+
+module _ (t : Topology) where
+  -- the entries stayed, and mail moved
+  moved : (old new : AckerDesk) (was is : List (Pass Mail)) → new.acker ≡ old.acker
+      → ((f : Packet → ℕ) → (weigh_messages f new.number new.inbox.items + weigh_verdict f new.outbox) + (sent_in is f + taken_in was f) ≡ (weigh_messages f old.number old.inbox.items + weigh_verdict f old.outbox) + (sent_in was f + taken_in is f))
+      → Meets t (acker_station old) was (acker_station new) is
+  moved old new was is acker packets = record {
+    history = nothing;
+    works = λ custom. record {
+      packets = λ f. let p = packets f in omega arith;
+      notes = λ g. let e = ap (λ (x : Rotation (List AckMsg)). weigh_entries g x.held) acker in omega arith;
+      draws = λ s j. omega arith;
+      well = well-nothing t custom;
+    };
+    inside = record { starts = refl; begun = refl; heard = refl };
+    none_run = refl;
+  }
+
+  pub verdict_handed : (v : Verdict) (old mid new : AckerDesk) (was is : List (Pass Mail)) → old.outbox ≡ Some v → mid.number ≡ old.number → mid.acker ≡ old.acker → mid.inbox ≡ old.inbox → mid.counted ≡ old.counted → HandsVerdict v mid new was is → AckerDid t old new was is
+  verdict_handed v old mid new was is front number acker inbox counted hands = record {
+    ages = still_ages old new (hands.number ∙ number) (hands.acker ∙ acker) (hands.counted ∙ counted);
+    meets = moved old new was is (hands.acker ∙ acker) (λ f.
+        let p = hands.packets f in
+        let k = hands.taken f in
+        let o = ap (weigh_verdict f) front in
+        let i = ap (λ b. weigh_messages f new.number b.items) (hands.inbox ∙ inbox) in
+        let n = ap (λ (n : ℕ). weigh_messages f n old.inbox.items) (hands.number ∙ number) in omega arith);
+  }
+
+  pub notes_received : (run : List Parcel) (old new : AckerDesk) (was is : List (Pass Mail)) (n : ℕ) → ReceivesNotes run old new → HasTaken n (mails.Run run) was is → AckerDid t old new was is
+  notes_received run old new was is place receives taken = record {
+    ages = still_ages old new receives.number receives.acker receives.counted;
+    meets = moved old new was is receives.acker (λ f.
+        let i = receives.inbox f in
+        let o = ap (weigh_verdict f) receives.outbox in
+        let n = ap (λ (n : ℕ). weigh_messages f n new.inbox.items) receives.number in
+        let s = taken.sent f in
+        let k = taken.taken f in omega arith);
+  }
+
+  pub acker_rests : (d : AckerDesk) (was is : List (Pass Mail)) → IsSameRow was is → AckerDid t d d was is
+  acker_rests d was is same = record {
+    ages = still_ages d d refl refl refl;
+    meets = moved d d was is refl (λ f. let s = same.sent f in let k = same.taken f in omega arith);
+  }
+
+  -- an empty outbox was looked into
+  pub looked_into : (old new : AckerDesk) (was is : List (Pass Mail)) → old.outbox ≡ None → AckerDid t (record old { outbox = None }) new was is → AckerDid t old new was is
+  looked_into old new was is none did = subst (λ (d : AckerDesk). AckerDid t d new was is) (λ i. record old { outbox = sym none i }) did
+
+  -- an empty inbox was looked into
+  pub acker_after : (old mid new : AckerDesk) (was is : List (Pass Mail)) → mid.number ≡ old.number → mid.acker ≡ old.acker → mid.outbox ≡ old.outbox → mid.counted ≡ old.counted → mid.inbox.items ≡ old.inbox.items → AckerDid t mid new was is → AckerDid t old new was is
+  acker_after old mid new was is number acker outbox counted inbox did = record {
+    ages = record {
+      number = did.ages.number ∙ number;
+      buckets = did.ages.buckets ∙ ap (λ (r : Rotation (List AckMsg)). r.buckets) acker;
+      trace = did.ages.trace;
+      entries = did.ages.entries ∙ ap (λ (r : Rotation (List AckMsg)). fold (after r.buckets) r.held did.ages.trace) acker;
+      rotates =
+          subst (λ (n : ℕ). min old.acker.buckets (new.counted - n) ≤ ticks_in did.ages.trace) counted
+          (subst (λ (r : Rotation (List AckMsg)). min r.buckets (new.counted - mid.counted) ≤ ticks_in did.ages.trace) acker did.ages.rotates);
+    };
+    meets = record {
+      history = did.meets.history;
+      works = λ custom. let w = did.meets.works custom in record {
+        packets = λ f.
+            let p = w.packets f in
+            let o = ap (weigh_verdict f) outbox in
+            let i = ap (weigh_messages f old.number) inbox in
+            let m = ap (λ (n : ℕ). weigh_messages f n mid.inbox.items) number in omega arith;
+        notes = λ g. let p = w.notes g in let e = ap (λ (x : Rotation (List AckMsg)). weigh_entries g x.held) acker in omega arith;
+        draws = w.draws;
+        well = w.well;
+      };
+      inside = did.meets.inside;
+      none_run = did.meets.none_run;
+    };
+  }
+
+  pub acker_counted : (old new : AckerDesk) (was : List (Pass Mail)) → CountsUp old new → AckerDid t old new was was
+  acker_counted old new was counts = record {
+    ages = record {
+      number = counts.number;
+      buckets = counts.buckets;
+      trace = replicate counts.times tick;
+      entries = counts.entries;
+      rotates = let e = counts.enough in let n = ticks-only counts.times in omega arith;
+    };
+    meets = record {
+      history = record nothing { dropped = gone_by old.acker.buckets counts.times old.acker.held };
+      works = λ custom. record {
+        packets = λ f.
+            let i = ap (λ b. weigh_messages f new.number b.items) counts.inbox in
+            let n = ap (λ (n : ℕ). weigh_messages f n old.inbox.items) counts.number in
+            let o = ap (weigh_verdict f) counts.outbox in omega arith;
+        notes = λ g.
+            let e = ap (weigh_entries g) counts.entries in
+            let w = gone-weight g old.acker.buckets counts.times old.acker.held in omega arith;
+        draws = λ s j. omega arith;
+        well = record { begun = tt; runs = tt; told = tt };
+      };
+      inside = record { starts = refl; begun = refl; heard = refl };
+      none_run = refl;
+    };
+  }
+
+  pub message_met : (m : AckMsg) (old new : AckerDesk) (rest : List AckMsg) (was : List (Pass Mail)) → old.outbox ≡ None → old.inbox.items ≡ m ∷ rest → new.inbox.items ≡ rest → new.outbox ≡ told_of m old.acker.held
+      → new.acker ≡ record old.acker { held = met m old.acker.held } → new.number ≡ old.number → new.counted ≡ old.counted → AckerDid t old new was was
+  message_met m old new rest was none front left out acker number counted = record {
+    ages = record {
+      number = number;
+      buckets = ap (λ (x : Rotation (List AckMsg)). x.buckets) acker;
+      trace = message m ∷ [];
+      entries = ap (λ (x : Rotation (List AckMsg)). x.held) acker;
+      rotates = let c : new.counted ≡ old.counted = counted in omega arith;
+    };
+    meets = record {
+      history = meeting old.number m old.acker.held;
+      works = λ custom. record {
+        packets = λ f.
+            let o = ap (weigh_verdict f) none in
+            let n = ap (weigh_verdict f) out in
+            let w = told-weight f (root_of m) (list_with m old.acker.held) (told_of m old.acker.held) in
+            let a = ap (weigh_messages f old.number) front in
+            let b = ap (weigh_messages f new.number) left in
+            let k = ap (λ (n : ℕ). weigh_messages f n rest) number in omega arith;
+        notes = λ g.
+            let a = ap (λ (x : Rotation (List AckMsg)). weigh_entries g x.held) acker in
+            let w = met-weight g m old.acker.held in omega arith;
+        draws = λ s j. omega arith;
+        well = record { begun = tt; runs = tt; told = telling_told m old.acker.held };
+      };
+      inside = record { starts = refl; begun = refl; heard = refl };
+      none_run = refl;
+    };
+  }
+
+-- ---- runs of messages
+
+pub record Noting (t : Topology) (run : List Parcel) (old new : AckerDesk) (rest : List Parcel) : Type 0 where
+  pub left : AllByRecursion (IsTrueParcel t (tasks_in_all t + old.number)) rest
+  pub weights : (f : Packet → ℕ) → weigh_messages f old.number new.inbox.items + weigh_parcels f rest ≡ weigh_messages f old.number old.inbox.items + weigh_parcels f run
+  pub acker : new.acker ≡ old.acker
+  pub number : new.number ≡ old.number
+  pub outbox : new.outbox ≡ old.outbox
+  pub counted : new.counted ≡ old.counted
+
+module _ (t : Topology) (run : List Parcel) where
+  pub noting-none : (d : AckerDesk) → AllByRecursion (IsTrueParcel t (tasks_in_all t + d.number)) run → Noting t run d d run
+  noting-none d left = record { left = left; weights = λ f. refl; acker = refl; number = refl; outbox = refl; counted = refl }
+
+  pub noting-more : (old mid new : AckerDesk) (p : Parcel) (m : AckMsg) (rest : List Parcel) → Noting t run old mid (p ∷ rest) → p ≡ ToAcker mid.number m → new.inbox.items ≡ mid.inbox.items ++ m ∷ []
+      → new.acker ≡ mid.acker → new.number ≡ mid.number → new.outbox ≡ mid.outbox → new.counted ≡ mid.counted → Noting t run old new rest
+  noting-more old mid new p m rest so_far is inbox acker number outbox counted = record {
+    left = so_far.left.1;
+    weights = λ f.
+        let w = so_far.weights f in
+        let e = ap (weigh_messages f old.number) inbox ∙ weigh-push (λ (x : AckMsg). f (of_parcel (ToAcker old.number x))) mid.inbox.items m in
+        let q = ap (λ (x : Parcel). f (of_parcel x)) (is ∙ ap (λ (n : ℕ). ToAcker n m) so_far.number) in omega arith;
+    acker = acker ∙ so_far.acker;
+    number = number ∙ so_far.number;
+    outbox = outbox ∙ so_far.outbox;
+    counted = counted ∙ so_far.counted;
+  }
+
+  pub noted : (old new : AckerDesk) → Noting t run old new [] → ReceivesNotes run old new
+  noted old new all = record {
+    inbox = λ f. let w = all.weights f in omega arith;
+    acker = all.acker;
+    number = all.number;
+    outbox = all.outbox;
+    counted = all.counted;
+  }

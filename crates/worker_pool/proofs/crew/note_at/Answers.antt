@@ -1,0 +1,9 @@
+use Rattle.std.proofs.Common.{rules}
+use Rattle.box_rows.proofs.Weighing.{at-some}
+use Rattle.worker_pool.proofs.Adding.{ackers-at}
+use Rattle.worker_pool.proofs.crew.note_at.Goals as goal
+
+pub returns-clause-did : goal.returns-clause-did
+returns-clause-did g c =
+    ackers-at c.args.posts.now.plan.now c.args.ackers.now.items c.args.n c.index_mut.result.now c.step.new.self c.args.row.now.items c.step.new.row.items
+    (at-some c.args.ackers.now.items c.args.n c.index_mut.result.now c.requires.there (search rules)) c.in_ok-did.ensures.did

@@ -1,0 +1,99 @@
+-- What an acker does over boxes. This project's own.
+use Rattle.std.specs.Prelude.{◌≡◌, ◌<◌, ◌≤◌, ℕ, ◌+◌, ◌-◌, min, List, [], Option, fold, replicate}
+use Rattle.std.specs.Option.{option_to_list}
+use Rattle.acker_core.specs.declared.verdict.Verdict.{Verdict}
+use Rattle.acker_core.specs.Entries.{Met, after, tick}
+use Rattle.acker_core.specs.Traces.{ticks_in}
+use Rattle.bolt_ops.specs.RowOp.{Custom}
+use Rattle.box_rows.specs.declared.mail.Mail.{Mail}
+use Rattle.box_rows.specs.declared.mail.Mail.TheVariants as mail
+use Rattle.box_rows.specs.Rows.{sent_in, taken_in}
+use Rattle.counted_items.specs.Weights.{weigh}
+use Rattle.task_queues.specs.declared.pass.Pass.{Pass}
+use Rattle.topology_plan.specs.Topology.{Topology}
+use Rattle.tree_model.specs.declared.messages.AckMsg.{AckMsg}
+use Rattle.tree_model.specs.declared.messages.Parcel.{Parcel}
+use Rattle.tree_model.specs.declared.messages.Parcel.TheVariants.{ToAcker}
+use Rattle.tuple_account.specs.Histories.{History, Packet, of_parcel, of_verdict, weigh_parcels}
+use Rattle.tuple_account.specs.Moves.{Station}
+use Rattle.tuple_account.specs.Parts.{weigh_entries}
+use Rattle.worker_pool.specs.declared.acker.AckerDesk.{AckerDesk}
+use Rattle.worker_pool.specs.Works.{IsInside, Works}
+
+abbrev pub IsVerdict : Mail → Type 0
+IsVerdict (mail.Run parcels) = ⊥
+IsVerdict (mail.Verdict v) = Unit {0}
+
+-- what an outbox of a verdict weighs
+abbrev pub weigh_verdict : (Packet → ℕ) → Option Verdict → ℕ
+weigh_verdict f outbox = weigh (λ (v : Verdict). f (of_verdict v)) (option_to_list outbox)
+
+-- what the messages that are left of a message weigh
+abbrev pub weigh_messages : (Packet → ℕ) → ℕ → List AckMsg → ℕ
+weigh_messages f n inbox = weigh (λ (m : AckMsg). f (of_parcel (ToAcker n m))) inbox
+
+-- the desk is that of an acker of the topology, with its buckets
+pub record IsAcker (t : Topology) (d : AckerDesk) : Type 0 where
+  pub there : d.number < t.ackers
+  pub buckets : d.acker.buckets ≡ t.buckets
+
+-- what a desk holds
+abbrev pub acker_station : AckerDesk → Station
+acker_station d = record {
+  waiting = λ f. weigh_messages f d.number d.inbox.items + weigh_verdict f d.outbox;
+  kept = λ g. weigh_entries g d.acker.held;
+  given = λ s j. 0;
+}
+
+-- An acker went through a trace, in which it rotated for each tick that it counted, or as often as
+-- it has buckets.
+pub record Ages (old new : AckerDesk) : Type 0 where
+  pub number : new.number ≡ old.number
+  pub buckets : new.acker.buckets ≡ old.acker.buckets
+  pub trace : List Met
+  pub entries : new.acker.held ≡ fold (after old.acker.buckets) old.acker.held trace
+  pub rotates : min old.acker.buckets (new.counted - old.counted) ≤ ticks_in trace
+
+-- it rotated for each tick since the last time, or as often as it has buckets, and all else stayed
+pub record CountsUp (old new : AckerDesk) : Type 0 where
+  pub times : ℕ
+  pub enough : min old.acker.buckets (new.counted - old.counted) ≤ times
+  pub entries : new.acker.held ≡ fold (after old.acker.buckets) old.acker.held (replicate times tick)
+  pub buckets : new.acker.buckets ≡ old.acker.buckets
+  pub number : new.number ≡ old.number
+  pub inbox : new.inbox ≡ old.inbox
+  pub outbox : new.outbox ≡ old.outbox
+
+-- a verdict was handed over, or came back
+pub record HandsVerdict (verdict : Verdict) (old new : AckerDesk) (was is : List (Pass Mail))
+    : Type 0 where
+  pub packets : (f : Packet → ℕ)
+      → weigh_verdict f new.outbox + sent_in is f ≡ f (of_verdict verdict) + sent_in was f
+  pub taken : (f : Packet → ℕ) → taken_in is f ≡ taken_in was f
+  pub acker : new.acker ≡ old.acker
+  pub number : new.number ≡ old.number
+  pub inbox : new.inbox ≡ old.inbox
+  pub counted : new.counted ≡ old.counted
+
+-- the messages of a run came to the inbox, and all else stayed
+pub record ReceivesNotes (run : List Parcel) (old new : AckerDesk) : Type 0 where
+  pub inbox : (f : Packet → ℕ)
+      → weigh_messages f old.number new.inbox.items
+      ≡ weigh_messages f old.number old.inbox.items + weigh_parcels f run
+  pub acker : new.acker ≡ old.acker
+  pub number : new.number ≡ old.number
+  pub outbox : new.outbox ≡ old.outbox
+  pub counted : new.counted ≡ old.counted
+
+-- What happened at ackers, whatever the operations. No tuple was executed.
+pub record Meets (t : Topology) (a : Station) (was : List (Pass Mail)) (b : Station)
+    (is : List (Pass Mail)) : Type 0 where
+  pub history : History
+  pub works : (custom : Custom) → Works t custom a was history b is
+  pub inside : IsInside history
+  pub none_run : history.runs ≡ []
+
+-- An acker did what it did.
+pub record AckerDid (t : Topology) (old new : AckerDesk) (was is : List (Pass Mail)) : Type 0 where
+  pub ages : Ages old new
+  pub meets : Meets t (acker_station old) was (acker_station new) is

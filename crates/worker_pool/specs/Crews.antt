@@ -1,0 +1,114 @@
+-- What the tasks and ackers of a worker do together. This project's own.
+use Rattle.std.specs.Prelude.{◌≡◌, ℕ, suc, ◌+◌, List, [], ◌∷◌, length, map, Some, slice_get}
+use Rattle.std.specs.List.{AllByRecursion, AllZip, range_with_len}
+use Rattle.bolt_ops.specs.RowOp.{Custom}
+use Rattle.box_rows.specs.declared.mail.Mail.{Mail}
+use Rattle.box_rows.specs.Mails.{last_box}
+use Rattle.box_rows.specs.Rows.{ArePasses}
+use Rattle.counted_items.specs.Weights.{weigh}
+use Rattle.output_collector.specs.Draws.{Draws}
+use Rattle.storm_ids.specs.declared.ids.Ids.{Ghosts}
+use Rattle.task_queues.specs.declared.pass.Mailbox.{Mailbox}
+use Rattle.task_queues.specs.declared.pass.Pass.{Pass}
+use Rattle.topology_plan.specs.Topology.{Topology}
+use Rattle.tuple_account.specs.Histories.{History}
+use Rattle.tuple_account.specs.Moves.{HasDrawn, Station}
+use Rattle.tuple_account.specs.Parts.{weigh_entries}
+use Rattle.tuple_account.specs.Places.{spans}
+use Rattle.worker_pool.specs.declared.acker.AckerDesk.{AckerDesk}
+use Rattle.worker_pool.specs.declared.desk.TaskDesk.{TaskDesk}
+use Rattle.worker_pool.specs.Ackers.{Ages, IsAcker, Meets, acker_station}
+use Rattle.worker_pool.specs.Desks.{IsDesk, desk_station, given_at, source_at}
+use Rattle.worker_pool.specs.Works.{IsInside, Works, ended}
+
+-- how many words were given after these
+abbrev pub counted_on : (ℕ → ℕ) → (ℕ → List ℕ) → ℕ → ℕ
+counted_on counts given n = counts n + length (given n)
+
+-- the weights of items, each by its place, the first that of this place
+abbrev pub sum_from : {X : Type 0} → (ℕ → X → ℕ) → ℕ → List X → ℕ
+sum_from p n [] = 0
+sum_from p n (x ∷ xs) = p n x + sum_from p (suc n) xs
+
+-- what ackers hold
+abbrev pub ackers_station : List AckerDesk → Station
+ackers_station ackers = record {
+  waiting = λ f. weigh (λ (d : AckerDesk). (acker_station d).waiting f) ackers;
+  kept = λ g. weigh (λ (d : AckerDesk). weigh_entries g d.acker.held) ackers;
+  given = λ s j. 0;
+}
+
+-- Ackers did what they did.
+pub record AckersDid (t : Topology) (old new : List AckerDesk) (was is : List (Pass Mail))
+    : Type 0 where
+  pub ages : AllZip Ages old new
+  pub meets : Meets t (ackers_station old) was (ackers_station new) is
+
+-- passes and ackers are fit for work
+pub record AckersAtWork (t : Topology) (boxes : List (Mailbox Mail)) (ackers : List AckerDesk)
+    (row : List (Pass Mail)) : Type 0 where
+  pub passes : ArePasses t boxes row
+  pub boxes_are : length boxes ≡ last_box t + 1
+  pub ackers_are : AllByRecursion (IsAcker t) ackers
+
+module _ {I : Type 0} {g : Ghosts I} where
+  -- so are passes and desks
+  pub record DesksAtWork (t : Topology) (boxes : List (Mailbox Mail)) (desks : List (TaskDesk I g))
+      (row : List (Pass Mail)) : Type 0 where
+    pub passes : ArePasses t boxes row
+    pub boxes_are : length boxes ≡ last_box t + 1
+    pub desks_are : AllByRecursion (IsDesk t) desks
+
+  -- the words that the sources of desks from a place on gave
+  abbrev pub spans_from : (ℕ → ℕ) → ℕ → List (TaskDesk I g) → ℕ → ℕ → ℕ
+  spans_from counts n desks s j =
+      sum_from (λ m (d : TaskDesk I g). spans d.number 0 (counts m) s j) n desks
+
+  -- what a crew holds, the sources of whose desks gave so many words
+  abbrev pub crew_station : (ℕ → ℕ) → List (TaskDesk I g) → List AckerDesk → Station
+  crew_station counts desks ackers = record {
+    waiting = λ f.
+        weigh (λ (d : TaskDesk I g). (desk_station 0 d).waiting f) desks
+        + (ackers_station ackers).waiting f;
+    kept = (ackers_station ackers).kept;
+    given = λ s j. spans_from counts 0 desks s j;
+  }
+
+  abbrev pub AreGiven : (ℕ → ℕ) → List (TaskDesk I g) → Type 0
+  AreGiven counts desks =
+      (n : ℕ) (d : TaskDesk I g) → slice_get desks n ≡ Some d → given_at d ≡ ended (counts n)
+
+  -- these are the next words of the desks' sources
+  abbrev pub AreNext : (ℕ → ℕ → ℕ) → (ℕ → ℕ) → (ℕ → List ℕ) → List (TaskDesk I g) → Type 0
+  AreNext words counts given desks =
+      (n : ℕ) (d : TaskDesk I g) → slice_get desks n ≡ Some d
+      → given n ≡ map (words d.number) (range_with_len (counts n) (length (given n)))
+
+  -- What happened at desks and ackers whose sources had given so many words.
+  pub record CrewWorked (t : Topology) (custom : Custom) (counts : ℕ → ℕ) (given : ℕ → List ℕ)
+      (old new : List (TaskDesk I g)) (before after : List AckerDesk)
+      (was is : List (Pass Mail)) : Type 0 where
+    pub history : History
+    pub works : Works t custom (crew_station counts old before) was history
+        (crew_station (counted_on counts given) new after) is
+    pub are_given : AreGiven (counted_on counts given) new
+    pub drawn : (words : ℕ → ℕ → ℕ) → AreNext words counts given old → HasDrawn words history
+    pub inside : IsInside history
+
+  -- a source gave these words, at the same desk
+  pub record Gave (tells : I → (ℕ → ℕ) → ℕ → Type 0) (ids : List ℕ) (old new : TaskDesk I g)
+      : Type 0 where
+    pub number : new.number ≡ old.number
+    pub draws : Draws tells (source_at old) ids (source_at new)
+
+  -- Desks did what they did, with these ids of their sources, by their places; so did ackers.
+  pub record CrewDid (tells : I → (ℕ → ℕ) → ℕ → Type 0) (t : Topology) (custom : Custom)
+      (old new : List (TaskDesk I g)) (before after : List AckerDesk)
+      (was is : List (Pass Mail)) : Type 0 where
+    pub given : ℕ → List ℕ
+    pub many : length new ≡ length old
+    pub gave : (n : ℕ) (a : TaskDesk I g) → slice_get old n ≡ Some a
+        → (b : TaskDesk I g) × (slice_get new n ≡ Some b) × Gave tells (given n) a b
+    pub ages : AllZip Ages before after
+    pub worked : (counts : ℕ → ℕ) → AreGiven counts old
+        → CrewWorked t custom counts given old new before after was is

@@ -1,0 +1,6 @@
+pub mod Outboxes
+pub mod Works
+pub mod Desks
+pub mod Ackers
+pub mod Crews
+pub mod Workers

@@ -1,0 +1,43 @@
+-- What a task has still to hand over, as runs. This project's own.
+use Rattle.std.specs.Prelude.{◌≡◌, ◌<◌, ℕ, ◌+◌, List, [], ◌∷◌, length, Some, slice_get}
+use Rattle.std.specs.List.{AllByRecursion}
+use Rattle.box_rows.specs.declared.mail.Mail.{Mail}
+use Rattle.box_rows.specs.declared.mail.Mail.TheVariants as mail
+use Rattle.box_rows.specs.Mails.{IsRunFor, last_box, most_in_run}
+use Rattle.box_rows.specs.Rows.{sent_in, taken_in}
+use Rattle.counted_items.specs.Weights.{weigh}
+use Rattle.task_queues.specs.declared.pass.Pass.{Pass}
+use Rattle.topology_plan.specs.Topology.{Topology}
+use Rattle.tree_model.specs.declared.messages.Parcel.{Parcel}
+use Rattle.tuple_account.specs.Histories.{Packet, weigh_parcels}
+use Rattle.worker_pool.specs.declared.outbox.Run.{Run}
+
+-- the mail is a run
+abbrev pub IsRun : Mail → Type 0
+IsRun (mail.Run parcels) = Unit {0}
+IsRun (mail.Verdict v) = ⊥
+
+-- what the runs of an outbox weigh
+abbrev pub weigh_outbox : (Packet → ℕ) → List Run → ℕ
+weigh_outbox f runs = weigh (λ (r : Run). weigh_parcels f r.parcels) runs
+
+-- each run is mail for the box that it names
+abbrev pub IsOutbox : Topology → List Run → Type 0
+IsOutbox t runs = AllByRecursion (λ (r : Run). IsRunFor t r.at r.parcels) runs
+
+-- the run at a place is for a box, and has room for one more parcel
+pub record HasRoom (at n : ℕ) (runs : List Run) : Type 0 where
+  pub run : Run
+  pub there : slice_get runs n ≡ Some run
+  pub for_it : run.at ≡ at
+  pub room : length run.parcels < most_in_run
+
+-- these parcels were added
+pub record AddsAll (parcels : List Parcel) (old new : List Run) : Type 0 where
+  pub packets : (f : Packet → ℕ) → weigh_outbox f new ≡ weigh_outbox f old + weigh_parcels f parcels
+
+-- what an outbox lost was sent
+pub record HandsOver (old new : List Run) (was is : List (Pass Mail)) : Type 0 where
+  pub packets : (f : Packet → ℕ)
+      → weigh_outbox f new + sent_in is f ≡ weigh_outbox f old + sent_in was f
+  pub taken : (f : Packet → ℕ) → taken_in is f ≡ taken_in was f

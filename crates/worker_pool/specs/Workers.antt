@@ -1,0 +1,66 @@
+-- Workers, and what they say of their turns and stretches. This project's own.
+use Rattle.std.specs.Prelude.{◌≡◌, ℕ, ◌+◌, true, false, length, map, List}
+use Rattle.std.specs.List.{AllByRecursion}
+use Rattle.bolt_ops.specs.RowOp.{Custom}
+use Rattle.box_rows.specs.declared.mail.Mail.{Mail}
+use Rattle.box_rows.specs.Mails.{last_box}
+use Rattle.box_rows.specs.Rows.{ArePasses, numbers_at}
+use Rattle.pulse_board.specs.Books.{numbers_in}
+use Rattle.pulse_board.specs.declared.rule.Book.{Book}
+use Rattle.pulse_board.specs.declared.seat.Board.{Board}
+use Rattle.pulse_board.specs.declared.seat.BoardSeat.{BoardSeat}
+use Rattle.pulse_board.specs.Seats.{IsSeatOf, book_of}
+use Rattle.storm_ids.specs.declared.ids.Ids.{Ghosts}
+use Rattle.task_queues.specs.declared.pass.Mailbox.{Mailbox}
+use Rattle.topology_plan.specs.Topology.{Topology}
+use Rattle.worker_pool.specs.declared.worker.Worker.{Worker}
+use Rattle.worker_pool.specs.Ackers.{IsAcker}
+use Rattle.worker_pool.specs.Crews.{CrewDid}
+use Rattle.worker_pool.specs.Desks.{IsDesk}
+
+-- a seat drew no tick, and keeps its numbers
+pub record KeepsBook (old new : Book) : Type 0 where
+  pub numbers : numbers_in new ≡ numbers_in old
+  pub drawn : new.drawn ≡ old.drawn
+
+module _ {I : Type 0} {g : Ghosts I} where
+  -- a worker has a pass to each box, and tasks and ackers of the topology
+  pub record IsAtWork (t : Topology) (boxes : List (Mailbox Mail)) (board : Board) (w : Worker I g)
+      : Type 0 where
+    pub passes : ArePasses t boxes w.row.items
+    pub boxes_are : length boxes ≡ last_box t + 1
+    pub desks : AllByRecursion (IsDesk t) w.desks.items
+    pub ackers : AllByRecursion (IsAcker t) w.ackers.items
+    pub seat : IsSeatOf board w.seat
+
+  -- and has not wanted memory
+  pub record IsReady (t : Topology) (boxes : List (Mailbox Mail)) (board : Board) (w : Worker I g)
+      : Type 0 where
+    pub work : IsAtWork t boxes board w
+    pub fine : w.wants ≡ false
+
+  -- a worker kept its passes and its seat, each with the numbers that it had
+  pub record Keeps (t : Topology) (boxes : List (Mailbox Mail)) (board : Board)
+      (old new : Worker I g) : Type 0 where
+    pub passes : ArePasses t boxes new.row.items
+    pub numbers : map numbers_at new.row.items ≡ map numbers_at old.row.items
+    pub seat : IsSeatOf board new.seat
+    pub book : KeepsBook (book_of old.seat) (book_of new.seat)
+
+  -- its tasks and ackers did what they did
+  abbrev pub Did : (I → (ℕ → ℕ) → ℕ → Type 0) → Topology → Custom → Worker I g → Worker I g
+      → Type 0
+  Did tells t custom old new =
+      CrewDid tells t custom old.desks.items new.desks.items old.ackers.items new.ackers.items
+      old.row.items new.row.items
+
+  -- What a worker says of its stretch: it kept its passes and its seat; where it did not want
+  -- memory it is at work still, and its tasks and ackers did what they did; where it did it made a
+  -- halt.
+  pub record Stretched (tells : I → (ℕ → ℕ) → ℕ → Type 0) (t : Topology)
+      (boxes : List (Mailbox Mail)) (board : Board) (custom : Custom) (old new : Worker I g)
+      : Type 0 where
+    pub keeps : Keeps t boxes board old new
+    pub work : new.wants ≡ false → IsAtWork t boxes board new
+    pub did : new.wants ≡ false → Did tells t custom old new
+    pub halts : new.wants ≡ true → (book_of new.seat).made ≡ true

@@ -1,0 +1,158 @@
+//! A worker, its turns and its stretches.
+ghost use Rattle.std.specs.Prelude.{◌≡◌, ◌<◌, All, OnOk};
+ghost use Rattle.std.specs.List.{AllZip};
+ghost use Rattle.worker_pool.specs.Workers.{Did, IsAtWork, IsReady, Keeps, Stretched};
+
+use crate::acker::AckerDesk;
+use crate::crew::{turn_of_ackers, turn_of_tasks};
+use crate::desk::TaskDesk;
+use crate::gate::Gate;
+use crate::spares::Spares;
+use bolt_ops::RowOp;
+use box_rows::{Posts, Row};
+use pulse_board::{Board, BoardSeat};
+use std::sync::Wait;
+use std::thread::Threads;
+use std::{hint, thread};
+use storm_ids::Ids;
+use storm_values::Memory;
+
+// How many turns a stretch has at most.
+const TURNS: u32 = 4096;
+
+// How often a worker looks before it has nothing to do.
+const LOOKS: u32 = 256;
+
+/// What a worker owns: tasks and ackers, a pass to each box, a seat at the board, and the memory of
+/// emptied runs.
+#[derive(Drop)]
+pub struct Worker<'p, I: Ids> {
+    pub desks: Vec<TaskDesk<'p, I>>,
+    pub ackers: Vec<AckerDesk>,
+    pub row: Row,
+    pub seat: BoardSeat,
+    pub spares: Spares,
+    /// It wanted memory.
+    pub wants: bool,
+}
+
+impl<'p, I: Ids> Worker<'p, I> {
+    // Each task and each acker has a turn. It says whether one of them did anything.
+    fn turn<R: Wait, O: RowOp, G: Gate>(
+        &mut self,
+        rt: &R,
+        posts: &Posts<'_>,
+        board: &Board,
+        custom: &O,
+        gate: &G,
+    ) -> Result<bool, Memory>
+        requires { IsAtWork posts.now.plan.now posts.now.boxes.items board.now self.old }
+        ensures keeps { Keeps posts.now.plan.now posts.now.boxes.items board.now self.old self.new }
+        ensures work { OnOk result
+            (IsAtWork posts.now.plan.now posts.now.boxes.items board.now self.new) }
+        ensures did { OnOk result
+            (Did I.tells posts.now.plan.now (O.meaning custom.now) self.old self.new) }
+        ensures wants { self.new.wants ≡ self.old.wants }
+    {
+        let tick = board.ticks(&mut self.seat);
+        let worked = turn_of_tasks(
+            rt,
+            posts,
+            &mut self.desks,
+            &mut self.row,
+            &mut self.spares,
+            custom,
+            gate,
+        )?;
+        let met = turn_of_ackers(
+            rt,
+            posts,
+            &mut self.ackers,
+            &mut self.row,
+            &mut self.spares,
+            tick,
+        )?;
+        Ok(worked | met)
+    }
+
+    // A turn in which something is done, if one of the next ones is such.
+    fn busy_turn<R: Wait, O: RowOp, G: Gate>(
+        &mut self,
+        rt: &R,
+        posts: &Posts<'_>,
+        board: &Board,
+        custom: &O,
+        gate: &G,
+    ) -> Result<bool, Memory>
+        requires { IsAtWork posts.now.plan.now posts.now.boxes.items board.now self.old }
+        ensures keeps { Keeps posts.now.plan.now posts.now.boxes.items board.now self.old self.new }
+        ensures work { OnOk result
+            (IsAtWork posts.now.plan.now posts.now.boxes.items board.now self.new) }
+        ensures did { OnOk result
+            (Did I.tells posts.now.plan.now (O.meaning custom.now) self.old self.new) }
+        ensures wants { self.new.wants ≡ self.old.wants }
+    {
+        for _ in 0..LOOKS {
+            let did = self.turn(rt, posts, board, custom, gate)?;
+            if did {
+                return Ok(true);
+            }
+            hint::spin_loop();
+        }
+        Ok(false)
+    }
+
+    /// Turns, until one in which nothing was done, or the board is halted. Want of memory halts the
+    /// board.
+    pub fn stretch<R: Wait, O: RowOp, G: Gate>(
+        &mut self,
+        rt: &R,
+        posts: &Posts<'_>,
+        board: &Board,
+        custom: &O,
+        gate: &G,
+    )
+        requires { IsReady posts.now.plan.now posts.now.boxes.items board.now self.old }
+        ensures { Stretched I.tells posts.now.plan.now posts.now.boxes.items board.now
+            (O.meaning custom.now) self.old self.new }
+    {
+        for _ in 0..TURNS {
+            if board.halted(&mut self.seat) {
+                return;
+            }
+            match self.busy_turn(rt, posts, board, custom, gate) {
+                Ok(true) => (),
+                Ok(false) => return,
+                Err(_) => {
+                    self.wants = true;
+                    board.halt(&mut self.seat);
+                    return;
+                }
+            }
+        }
+    }
+}
+
+/// Each worker has a stretch, beside the others.
+pub fn stretch_all<'p, I: Ids + Send, R: Threads + Wait + Sync, O: RowOp + Sync, G: Gate>(
+    rt: &R,
+    posts: &Posts<'_>,
+    board: &Board,
+    workers: &mut [Worker<'p, I>],
+    threads: usize,
+    custom: &O,
+    gate: &G,
+)
+    requires threads { 0 < threads }
+    requires ready { All (IsReady posts.now.plan.now posts.now.boxes.items board.now)
+        workers.old }
+    ensures { AllZip (Stretched I.tells posts.now.plan.now posts.now.boxes.items board.now
+        (O.meaning custom.now)) workers.old workers.new }
+{
+    thread::for_each_mut(
+        rt,
+        workers,
+        threads,
+        &|_, w| { w.stretch(rt, posts, board, custom, gate) },
+    );
+}
