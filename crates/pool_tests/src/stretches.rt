@@ -1,0 +1,1 @@
+// Stretches with a halt, with a gate, and with ackers.
