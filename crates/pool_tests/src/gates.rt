@@ -14,7 +14,7 @@ pub struct Counting {
 }
 
 // How often an execution looks at most.
-const LOOKS: u64 = 10_000_000_000;
+const LOOKS: u64 = 2_000_000_000;
 
 impl Counting {
     pub fn new(open: bool) -> Self {

@@ -15,3 +15,5 @@ mod stretches;
 mod tally;
 #[cfg(test)]
 mod team;
+#[cfg(test)]
+mod verdicts;
