@@ -39,7 +39,8 @@ fn last_of<'p>(
     ensures worker { IfOk result (Rests posts.now.plan.now board.now) }
     ensures rest { AllByRecursion (Rests posts.now.plan.now board.now) team.new.items }
 {
-    let _ = (posts, board);
+    let _ = posts;
+    let _ = board;
     match team.pop() {
         Some(worker) => Ok(worker),
         None => Err(wrong(alloc, "too few workers")),

@@ -181,7 +181,8 @@ pub fn with_row<'p>(
     requires row { ArePassesIn posts.now.plan.now posts.now.boxes.items row }
     ensures { IsReady posts.now.plan.now posts.now.boxes.items board.now result }
 {
-    let _ = (posts, board);
+    let _ = posts;
+    let _ = board;
     Worker {
         desks: worker.desks,
         ackers: worker.ackers,
@@ -203,7 +204,8 @@ pub fn without_row<'p>(
     ensures rests { IfOk result (λ back. Rests posts.now.plan.now board.now back.0) }
     ensures row { IfOk result (λ back. ArePassesIn posts.now.plan.now posts.now.boxes.items back.1) }
 {
-    let _ = (posts, board);
+    let _ = posts;
+    let _ = board;
     if worker.wants {
         return Err(Mismatch::Memory);
     }
