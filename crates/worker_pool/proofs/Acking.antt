@@ -1,18 +1,18 @@
 -- What a step of an acker comes to.
-use Rattle.std.proofs.Common.{◌≡◌, ◌<◌, ◌≤◌, ℕ, zero, suc, ◌+◌, ◌-◌, List, [], ◌∷◌, ◌++◌, Option, None, Some, sym, refl, ap, subst, ◌∙◌, arith}
-use Rattle.std.specs.Prelude.{min, fold, replicate}
+use Rattle.std.proofs.Common.{◌≡◌, ◌<◌, ◌≤◌, ◌⊎◌, inl, inr, ℕ, zero, suc, Bool, true, false, length, ◌+◌, ◌-◌, List, [], ◌∷◌, ◌++◌, Option, None, Some, sym, refl, ap, set, subst, ◌∙◌, arith}
+use Rattle.std.specs.Prelude.{min, fold, replicate, slice_get}
 use Rattle.std.specs.List.{AllByRecursion}
 use Rattle.std.specs.Option.{option_to_list}
-use Rattle.acker_core.specs.Entries.{Met, after, list_with, message, met, tick, told_of}
+use Rattle.acker_core.specs.Entries.{after, list_with, message, met, tick, told_of}
 use Rattle.acker_core.specs.Traces.{ticks_in}
 use Rattle.acker_core.specs.declared.verdict.Verdict.{Verdict}
-use Rattle.bolt_ops.specs.RowOp.{Custom}
 use Rattle.box_rows.specs.declared.mail.Mail.{Mail}
 use Rattle.box_rows.specs.declared.mail.Mail.TheVariants as mails
-use Rattle.box_rows.specs.Mails.{IsTrueParcel}
-use Rattle.box_rows.specs.Rows.{HasTaken, IsSameRow, sent_in, taken_in}
+use Rattle.box_rows.specs.Mails.{IsTrueMail, IsTrueParcel, last_box}
+use Rattle.box_rows.specs.Rows.{CouldBeEmpty, CouldBeFull, HasTaken, IsSameRow, sent_in, taken_in}
 use Rattle.counted_items.specs.Weights.{weigh}
 use Rattle.counted_items.proofs.Weighing.{weigh-append, weigh-push}
+use Rattle.pulse_board.specs.Rule.{bit}
 use Rattle.rotating_ledger.specs.Held.{Held, Rotation, dropped, rotated}
 use Rattle.storm_values.specs.declared.value.Root.{Root}
 use Rattle.task_queues.specs.declared.pass.Pass.{Pass}
@@ -21,12 +21,16 @@ use Rattle.tree_model.specs.Lists.{root_of}
 use Rattle.tree_model.specs.declared.messages.AckMsg.{AckMsg}
 use Rattle.tree_model.specs.declared.messages.Parcel.{Parcel}
 use Rattle.tree_model.specs.declared.messages.Parcel.TheVariants.{ToAcker}
-use Rattle.tuple_account.specs.Histories.{History, Packet, Told, of_parcel, of_verdict, nothing, weigh_parcels}
+use Rattle.tuple_account.specs.Histories.{Packet, Told, of_parcel, of_verdict, nothing, weigh_parcels}
 use Rattle.tuple_account.specs.Parts.{meeting, telling_by, weigh_entries}
 use Rattle.tuple_account.proofs.Entering.{met-weight, rotated-weight, telling_told}
 use Rattle.tuple_account.proofs.Moving.{well-nothing}
 use Rattle.worker_pool.specs.declared.acker.AckerDesk.{AckerDesk}
-use Rattle.worker_pool.specs.Ackers.{AckerDid, Ages, CountsUp, HandsVerdict, IsAcker, Meets, ReceivesNotes, acker_station, weigh_messages, weigh_verdict}
+use Rattle.worker_pool.specs.Ackers.{acker_left, AckerDid, AckerSays, Ages, CountsUp, HandsVerdict, IsAcker, IsAckerHeld, Meets, ReceivesNotes, acker_station, weigh_messages, weigh_verdict}
+use Rattle.worker_pool.specs.Says.{HasDone, each_one}
+use Rattle.worker_pool.specs.Crews.{AreUpTo, HasCountedAt, KeepsCountedAt}
+use Rattle.worker_pool.proofs.Lists.{is_one}
+use Rattle.worker_pool.proofs.Saying.{below-more, each-from, same-none, set-here, done-left, done-same, done-sent, done-taken, empty-same, full-same, true-false, weigh-ones}
 
 -- ---- rotations
 
@@ -134,8 +138,8 @@ module _ (t : Topology) where
     none_run = refl;
   }
 
-  pub verdict_handed : (v : Verdict) (old mid new : AckerDesk) (was is : List (Pass Mail)) → old.outbox ≡ Some v → mid.number ≡ old.number → mid.acker ≡ old.acker → mid.inbox ≡ old.inbox → mid.counted ≡ old.counted → HandsVerdict v mid new was is → AckerDid t old new was is
-  verdict_handed v old mid new was is front number acker inbox counted hands = record {
+  pub verdict_handed : (v : Verdict) (old mid new : AckerDesk) (was is : List (Pass Mail)) → old.outbox ≡ Some v → mid.number ≡ old.number → mid.acker ≡ old.acker → mid.inbox ≡ old.inbox → mid.counted ≡ old.counted → (did : Bool) → HandsVerdict t v did mid new was is → AckerDid t old new was is
+  verdict_handed v old mid new was is front number acker inbox counted did hands = record {
     ages = still_ages old new (hands.number ∙ number) (hands.acker ∙ acker) (hands.counted ∙ counted);
     meets = moved old new was is (hands.acker ∙ acker) (λ f.
         let p = hands.packets f in
@@ -162,11 +166,7 @@ module _ (t : Topology) where
     meets = moved d d was is refl (λ f. let s = same.sent f in let k = same.taken f in omega arith);
   }
 
-  -- an empty outbox was looked into
-  pub looked_into : (old new : AckerDesk) (was is : List (Pass Mail)) → old.outbox ≡ None → AckerDid t (record old { outbox = None }) new was is → AckerDid t old new was is
-  looked_into old new was is none did = subst (λ (d : AckerDesk). AckerDid t d new was is) (λ i. record old { outbox = sym none i }) did
-
-  -- an empty inbox was looked into
+  -- an empty inbox, or an empty outbox, was looked into
   pub acker_after : (old mid new : AckerDesk) (was is : List (Pass Mail)) → mid.number ≡ old.number → mid.acker ≡ old.acker → mid.outbox ≡ old.outbox → mid.counted ≡ old.counted → mid.inbox.items ≡ old.inbox.items → AckerDid t mid new was is → AckerDid t old new was is
   acker_after old mid new was is number acker outbox counted inbox did = record {
     ages = record {
@@ -289,3 +289,87 @@ module _ (t : Topology) (run : List Parcel) where
     outbox = all.outbox;
     counted = all.counted;
   }
+
+-- ---- what an acker says
+
+module _ (t : Topology) where
+  -- who is held up stays so
+  pub acker_stays_held : (d : AckerDesk) (was is : List (Pass Mail)) → IsSameRow was is → IsAckerHeld t d was → IsAckerHeld t d is
+  acker_stays_held d was is same held = record { is = by held.is }
+    where
+      by : ((v : Verdict) × (d.outbox ≡ Some v) × CouldBeFull (last_box t) was) ⊎ ((d.outbox ≡ None) × (d.inbox.items ≡ []) × CouldBeEmpty (tasks_in_all t + d.number) was)
+          → ((v : Verdict) × (d.outbox ≡ Some v) × CouldBeFull (last_box t) is) ⊎ ((d.outbox ≡ None) × (d.inbox.items ≡ []) × CouldBeEmpty (tasks_in_all t + d.number) is)
+      by (inl (v, there, full)) = inl (v, there, full-same (last_box t) was is same full)
+      by (inr (a, b, empty)) = inr (a, b, empty-same (tasks_in_all t + d.number) was is same empty)
+
+  -- a verdict was handed over, or came back
+  pub says_verdict : (v : Verdict) (did : Bool) (old mid new : AckerDesk) (was is : List (Pass Mail)) → mid.outbox ≡ None → mid.inbox ≡ old.inbox → HandsVerdict t v did mid new was is → AckerSays t did old new was is
+  says_verdict v true old mid new was is none inbox hands = record {
+    done = subst (λ (n : ℕ). HasDone 1 (length old.inbox.items) was n is) (sym (ap (λ b. length b.items) (hands.inbox ∙ inbox)))
+        (done-sent (length old.inbox.items) 1 was is (omega arith)
+        (let p = hands.packets each_one in let o = ap (weigh_verdict each_one) (hands.went refl) in omega arith) (hands.taken each_one));
+    held = λ no. true-false no;
+  }
+  says_verdict v false old mid new was is none inbox hands =
+      let b = hands.back refl in record {
+        done = subst (λ (n : ℕ). HasDone 0 (length old.inbox.items) was n is) (sym (ap (λ b. length b.items) (hands.inbox ∙ inbox))) (done-same (length old.inbox.items) was is b.1);
+        held = λ no. (b.1, record { is = inl (v, b.0, full-same (last_box t) was is b.1 b.2) });
+      }
+
+  -- messages came
+  pub says_notes : (run : List Parcel) (old new : AckerDesk) (was is : List (Pass Mail)) (place : ℕ) → 1 ≤ length run → ReceivesNotes run old new → HasTaken place (mails.Run run) was is → AckerSays t true old new was is
+  says_notes run old new was is place some receives taken = record {
+    done = done-taken (length old.inbox.items) (length new.inbox.items) place run was is some
+        (let w = receives.inbox each_one in
+        let a : weigh_messages each_one old.number new.inbox.items ≡ length new.inbox.items = weigh-ones new.inbox.items in
+        let b : weigh_messages each_one old.number old.inbox.items ≡ length old.inbox.items = weigh-ones old.inbox.items in
+        let c : weigh_parcels each_one run ≡ length run = weigh-ones run in omega arith) taken;
+    held = λ no. true-false no;
+  }
+
+  pub notes_mail : {place : ℕ} (mail : Mail) (run : List Parcel) (old new : AckerDesk) (was is : List (Pass Mail)) → mail ≡ mails.Run run → HasTaken place mail was is → ReceivesNotes run old new → AckerDid t old new was is
+  notes_mail {place} mail run old new was is is_run took receives = notes_received t run old new was is place receives (subst (λ (m : Mail). HasTaken place m was is) is_run took)
+
+  pub says_notes_mail : {place : ℕ} (mail : Mail) (run : List Parcel) (old new : AckerDesk) (was is : List (Pass Mail)) → mail ≡ mails.Run run → IsTrueMail t place mail → HasTaken place mail was is → ReceivesNotes run old new → AckerSays t true old new was is
+  says_notes_mail {place} mail run old new was is is_run fits took receives =
+      let fit : IsTrueMail t place (mails.Run run) = subst (IsTrueMail t place) is_run fits in
+      says_notes run old new was is place fit.some receives (subst (λ (m : Mail). HasTaken place m was is) is_run took)
+
+  -- none was there
+  pub says_no_notes : (d : AckerDesk) (was is : List (Pass Mail)) → d.inbox.items ≡ [] → d.outbox ≡ None → IsSameRow was is → CouldBeEmpty (tasks_in_all t + d.number) was → AckerSays t false d d was is
+  says_no_notes d was is no_message no_verdict same empty = record {
+    done = done-same (length d.inbox.items) was is same;
+    held = λ no. (same, record { is = inr (no_verdict, no_message, empty-same (tasks_in_all t + d.number) was is same empty) });
+  }
+
+  pub says_none_there : {place : ℕ} (d : AckerDesk) (was is : List (Pass Mail)) → d.inbox.items ≡ [] → d.outbox ≡ None → place ≡ tasks_in_all t + d.number → IsSameRow was is → CouldBeEmpty place was → AckerSays t false d d was is
+  says_none_there {place} d was is no_message no_verdict there same empty = says_no_notes d was is no_message no_verdict same (subst (λ (n : ℕ). CouldBeEmpty n was) there empty)
+
+  -- a message was met
+  pub says_met : (old new : AckerDesk) (was : List (Pass Mail)) → length old.inbox.items ≡ suc (length new.inbox.items) → AckerSays t true old new was was
+  says_met old new was less = record { done = done-left (length old.inbox.items) (length new.inbox.items) was less; held = λ no. true-false no }
+
+  -- an empty inbox, or an empty outbox, was looked into
+  pub acker_says_after : (did : Bool) (old mid new : AckerDesk) (was is : List (Pass Mail)) → mid.inbox.items ≡ old.inbox.items → AckerSays t did mid new was is → AckerSays t did old new was is
+  acker_says_after did old mid new was is inbox says = record { done = subst (λ xs. HasDone (bit did) (length xs) was (length new.inbox.items) is) inbox says.done; held = says.held }
+
+-- ---- up to which tick entries have aged
+
+pub counts_done : (old new : AckerDesk) (was : List (Pass Mail)) → CountsUp old new → HasDone 0 (acker_left old) was (acker_left new) was
+counts_done old new was counts = subst (λ (n : ℕ). HasDone 0 (length old.inbox.items) was n was) (sym (ap (λ b. length b.items) counts.inbox)) (done-same (length old.inbox.items) was was (same-none was))
+
+pub counted-here : (ackers : List AckerDesk) (n aged : ℕ) (a b : AckerDesk) → slice_get ackers n ≡ Some a → b.counted ≡ aged → HasCountedAt n aged (set ackers n b)
+counted-here ackers n aged a b at is = λ d there. subst (λ (x : AckerDesk). x.counted ≡ aged) (is_one b d (sym (set-here ackers n a b at) ∙ there)) is
+
+pub counted-kept : (ackers : List AckerDesk) (n : ℕ) (a b : AckerDesk) → slice_get ackers n ≡ Some a → b.counted ≡ a.counted → KeepsCountedAt n ackers (set ackers n b)
+counted-kept ackers n a b at same = λ aged has. counted-here ackers n aged a b at (same ∙ has a at)
+
+pub counted-none : (aged : ℕ) (ackers : List AckerDesk) (m : ℕ) → m < 0 → HasCountedAt m aged ackers
+counted-none aged ackers m below = absurd (omega arith)
+
+pub counted-more : (aged n : ℕ) (old new : List AckerDesk) → ((m : ℕ) → m < n → HasCountedAt m aged old) → ((m : ℕ) → (m ≡ n → ⊥) → slice_get new m ≡ slice_get old m) → HasCountedAt n aged new
+    → (m : ℕ) → m < n + 1 → HasCountedAt m aged new
+counted-more aged n old new low others here = below-more (λ m. HasCountedAt m aged new) n (λ m below d at. low m below d (sym (others m (λ same. absurd (omega arith))) ∙ at)) here
+
+pub counted-all : (aged n : ℕ) (ackers : List AckerDesk) → length ackers ≤ n → ((m : ℕ) → m < n → HasCountedAt m aged ackers) → AreUpTo aged ackers
+counted-all aged n ackers all each = each-from (λ (d : AckerDesk). d.counted ≡ aged) ackers (λ m below d at. each m (omega arith) d at)

@@ -1,17 +1,16 @@
 -- What a step of a task comes to.
-use Rattle.std.proofs.Common.{◌≡◌, ◌<◌, ℕ, ◌+◌, ◌-◌, ◌^◌, List, [], ◌∷◌, ◌++◌, length, map, sym, refl, ap, subst, ◌∙◌, arith}
-use Rattle.std.specs.Prelude.{min, Result, Ok, Err, OnOk}
+use Rattle.std.proofs.Common.{◌≡◌, ◌≢◌, ◌<◌, ◌≤◌, ◌⊎◌, inl, inr, ℕ, suc, Bool, true, false, ◌+◌, ◌-◌, ◌^◌, List, [], ◌∷◌, ◌++◌, length, map, sym, refl, ap, subst, ◌∙◌, arith}
+use Rattle.std.specs.Prelude.{min, Result, Ok, Err, IfOk, OnOk}
 use Rattle.std.specs.List.{AllByRecursion, range_with_len}
 use Rattle.std.specs.Option.{option_to_list}
 use Rattle.bolt_ops.specs.RowOp.{Custom, IsCustom}
-use Rattle.bolt_task.specs.Executing.{Executes, IsFor, IsSameTask, collector_in, component_at, execution_at, number_of, rows_of, topology_at}
+use Rattle.bolt_task.specs.Executing.{Executes, IsFor, collector_in, component_at, execution_at, number_of, rows_of, topology_at}
 use Rattle.bolt_task.specs.declared.task.BoltTask.{BoltTask}
 use Rattle.box_rows.specs.declared.mail.Mail.{Mail}
 use Rattle.box_rows.specs.declared.mail.Mail.TheVariants as mails
-use Rattle.box_rows.specs.Mails.{IsRunFor, IsTrueParcel, box_of}
-use Rattle.box_rows.specs.Rows.{HasTaken, IsSameRow, sent_in, taken_in}
+use Rattle.box_rows.specs.Mails.{IsRunFor, IsTrueMail, IsTrueParcel}
+use Rattle.box_rows.specs.Rows.{CouldBeEmpty, HasTaken, IsSameRow}
 use Rattle.commit_order.specs.Orders.{stand_of}
-use Rattle.counted_items.specs.Weights.{weigh}
 use Rattle.counted_items.proofs.Each.{each-append}
 use Rattle.counted_items.proofs.Weighing.{weigh-push}
 use Rattle.event_worlds.specs.Orderly.{FitsParcel, IsForTask, IsStandOf}
@@ -36,20 +35,37 @@ use Rattle.tree_model.specs.declared.messages.Tuple.{Tuple}
 use Rattle.tree_model.specs.Trees.{write_of}
 use Rattle.tuple_account.specs.Histories.{Execution, IsExecution, Packet, execution_parcels, nothing, of_parcel, to_acker, to_tasks, weigh_parcels}
 use Rattle.tuple_account.specs.Issued.{Run, children_of, course_of_run, edges_of, node_of, notes_by}
-use Rattle.tuple_account.specs.Moves.{HasDrawn}
 use Rattle.tuple_account.specs.Parts.{executing}
 use Rattle.tuple_account.specs.Places.{spans}
 use Rattle.tuple_account.proofs.Moving.{well-nothing}
 use Rattle.tuple_account.proofs.Placing.{spans-more}
 use Rattle.tuple_tickets.specs.Trees.{Course, fails, goes, mute}
 use Rattle.worker_pool.specs.declared.desk.TaskDesk.{TaskDesk}
-use Rattle.worker_pool.specs.Desks.{DeskDid, IsDesk, MovesMail, Receives, RunsTuple, given_at, source_at, weigh_inbox}
-use Rattle.worker_pool.specs.Outboxes.{HandsOver, weigh_outbox}
+use Rattle.pulse_board.specs.Rule.{bit}
+use Rattle.worker_pool.specs.declared.outbox.Run.{Run as OutboxRun}
+use Rattle.worker_pool.specs.Desks.{DeskDid, IsDesk, IsTaskHeld, MovesMail, Receives, RunsTuple, TaskSays, given_at, source_at, weigh_inbox}
+use Rattle.worker_pool.specs.Outboxes.{HandsOver, IsFrontFull, weigh_outbox}
+use Rattle.worker_pool.specs.Says.{HasDone, each_one}
+use Rattle.worker_pool.proofs.Outboxing.{hands_done, hands_packets}
+use Rattle.worker_pool.proofs.Saying.{done-left, done-same, done-taken, empty-same, full-same, true-false, weigh-ones}
 use Rattle.worker_pool.specs.Works.{ended}
 
 pub ok_gives : {A E P Q : Type 0} (r : Result A E) → (P → Q) → OnOk r P → OnOk r Q
 ok_gives (Ok a) then ok = then ok
 ok_gives (Err e) then ok = tt
+
+-- from what came of it
+pub ok_from : {A E Q : Type 0} {P : A → Type 0} (r : Result A E) → ((a : A) → P a → Q) → IfOk r P → OnOk r Q
+ok_from (Ok a) then ok = then a ok
+ok_from (Err e) then ok = tt
+
+pub both_ok : {A E P : Type 0} {Q R : A → Type 0} (r : Result A E) → ((a : A) → P → Q a → R a) → OnOk r P → IfOk r Q → IfOk r R
+both_ok (Ok a) then one two = then a one two
+both_ok (Err e) then one two = tt
+
+pub if_gives : {A E : Type 0} {P Q : A → Type 0} (r : Result A E) → ((a : A) → P a → Q a) → IfOk r P → IfOk r Q
+if_gives (Ok a) then ok = then a ok
+if_gives (Err e) then ok = tt
 
 -- ---- places up to 2^64 - 1
 
@@ -127,11 +143,11 @@ module _ {I : Type 0} {g : Ghosts I} (t : Topology) where
 -- ---- mail
 
 module _ {I : Type 0} {g : Ghosts I} where
-  pub mail_handed : (old new : TaskDesk I g) (was is : List (Pass Mail)) → new.task ≡ old.task → new.number ≡ old.number → new.inbox ≡ old.inbox → HandsOver old.outbox new.outbox was is → MovesMail old new was is
-  mail_handed old new was is task number inbox hands = record {
+  pub mail_handed : (did : Bool) (old new : TaskDesk I g) (was is : List (Pass Mail)) → new.task ≡ old.task → new.number ≡ old.number → new.inbox ≡ old.inbox → HandsOver did old.outbox new.outbox was is → MovesMail old new was is
+  mail_handed did old new was is task number inbox hands = record {
     task = task;
     number = number;
-    packets = λ f. let p = hands.packets f in let k = hands.taken f in let i = ap (λ b. weigh_inbox f old.number b.items) inbox in omega arith;
+    packets = λ f. let h = hands_packets did old.outbox new.outbox was is hands f in let p = h.0 in let k = h.1 in let i = ap (λ b. weigh_inbox f old.number b.items) inbox in omega arith;
   }
 
   -- an empty inbox was looked into
@@ -267,3 +283,69 @@ module _ {I : Type 0} {g : Ghosts I} (tells : I → (ℕ → ℕ) → ℕ → Ty
               inside = record { starts = refl; begun = refl; heard = refl };
             };
       }
+
+-- ---- what a task says
+
+held_by : {I : Type 0} {g : Ghosts I} (d : TaskDesk I g) (row : List (Pass Mail)) → d.outbox ≢ [] → (d.outbox ≡ []) ⊎ IsFrontFull d.outbox row → IsTaskHeld d row
+held_by d row some (inl none) = absurd (some none)
+held_by d row some (inr full) = record { is = inl full }
+
+front-same : (runs : List OutboxRun) (was is : List (Pass Mail)) → IsSameRow was is → IsFrontFull runs was → IsFrontFull runs is
+front-same [] was is same full = absurd full
+front-same (run ∷ runs) was is same full = full-same run.at was is same full
+
+module _ {I : Type 0} {g : Ghosts I} where
+  -- who is held up stays so
+  pub task_stays_held : (d : TaskDesk I g) (was is : List (Pass Mail)) → IsSameRow was is → IsTaskHeld d was → IsTaskHeld d is
+  task_stays_held d was is same held = record { is = by held.is }
+    where
+      by : IsFrontFull d.outbox was ⊎ ((d.outbox ≡ []) × (d.inbox.items ≡ []) × CouldBeEmpty d.number was) → IsFrontFull d.outbox is ⊎ ((d.outbox ≡ []) × (d.inbox.items ≡ []) × CouldBeEmpty d.number is)
+      by (inl full) = inl (front-same d.outbox was is same full)
+      by (inr (a, b, empty)) = inr (a, b, empty-same d.number was is same empty)
+
+  -- a run was handed over, or came back
+  pub says_handed : (did : Bool) (old new : TaskDesk I g) (was is : List (Pass Mail)) → old.outbox ≢ [] → new.inbox ≡ old.inbox → HandsOver did old.outbox new.outbox was is → TaskSays did old new was is
+  says_handed did old new was is some inbox hands = record {
+    done = subst (λ (n : ℕ). HasDone (bit did) (length old.inbox.items) was n is) (sym (ap (λ b. length b.items) inbox)) (hands_done (length old.inbox.items) did old.outbox new.outbox was is hands);
+    held = λ no.
+        let s = hands.stays no in (
+          s.1,
+          task_stays_held new was is s.1
+              (subst (λ (rs : List OutboxRun). IsTaskHeld (record new { outbox = rs }) was) (sym s.0) (held_by (record new { outbox = old.outbox }) was some (hands.held no))),
+        );
+  }
+
+  -- mail came
+  pub says_received : (run : List Parcel) (old new : TaskDesk I g) (was is : List (Pass Mail)) → 1 ≤ length run → Receives run old new → HasTaken old.number (mails.Run run) was is → TaskSays true old new was is
+  says_received run old new was is some receives taken = record {
+    done = done-taken (length old.inbox.items) (length new.inbox.items) old.number run was is some
+        (let w = receives.inbox each_one in
+        let a : weigh_inbox each_one old.number new.inbox.items ≡ length new.inbox.items = weigh-ones new.inbox.items in
+        let b : weigh_inbox each_one old.number old.inbox.items ≡ length old.inbox.items = weigh-ones old.inbox.items in
+        let c : weigh_parcels each_one run ≡ length run = weigh-ones run in omega arith) taken;
+    held = λ no. true-false no;
+  }
+
+  pub says_mail : (t : Topology) (mail : Mail) (run : List Parcel) (old new : TaskDesk I g) (was is : List (Pass Mail)) → mail ≡ mails.Run run → IsTrueMail t old.number mail → HasTaken old.number mail was is → Receives run old new → TaskSays true old new was is
+  says_mail t mail run old new was is is_run fits took receives =
+      let fit : IsTrueMail t old.number (mails.Run run) = subst (IsTrueMail t old.number) is_run fits in
+      says_received run old new was is fit.some receives (subst (λ (m : Mail). HasTaken old.number m was is) is_run took)
+
+  -- none was there
+  pub says_empty : (d : TaskDesk I g) (was is : List (Pass Mail)) → d.inbox.items ≡ [] → d.outbox ≡ [] → IsSameRow was is → CouldBeEmpty d.number was → TaskSays false d d was is
+  says_empty d was is no_tuple no_run same empty = record {
+    done = done-same (length d.inbox.items) was is same;
+    held = λ no. (same, record { is = inr (no_run, no_tuple, empty-same d.number was is same empty) });
+  }
+
+  -- a tuple was executed
+  pub says_executed : (old new : TaskDesk I g) (was : List (Pass Mail)) → length old.inbox.items ≡ suc (length new.inbox.items) → TaskSays true old new was was
+  says_executed old new was less = record { done = done-left (length old.inbox.items) (length new.inbox.items) was less; held = λ no. true-false no }
+
+  pub says_ran : (tuple : Tuple) (rest : List Tuple) (did : Bool) (old new : TaskDesk I g) (was : List (Pass Mail)) → old.inbox.items ≡ tuple ∷ rest → new.inbox.items ≡ rest → did ≡ true → TaskSays did old new was was
+  says_ran tuple rest did old new was front back done =
+      subst (λ (b : Bool). TaskSays b old new was was) (sym done) (says_executed old new was (ap (λ (xs : List Tuple). length xs) front ∙ (let e : length (tuple ∷ rest) ≡ suc (length rest) = omega arith in e) ∙ ap (λ (xs : List Tuple). suc (length xs)) (sym back)))
+
+  -- an empty inbox was looked into
+  pub says_after : (did : Bool) (old mid new : TaskDesk I g) (was is : List (Pass Mail)) → mid.inbox.items ≡ old.inbox.items → TaskSays did mid new was is → TaskSays did old new was is
+  says_after did old mid new was is inbox says = record { done = subst (λ xs. HasDone (bit did) (length xs) was (length new.inbox.items) is) inbox says.done; held = says.held }

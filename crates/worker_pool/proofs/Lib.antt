@@ -1,3 +1,4 @@
+pub mod Saying
 pub mod Outboxing
 pub mod Desking
 pub mod Acking

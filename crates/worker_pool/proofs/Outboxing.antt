@@ -1,18 +1,24 @@
 -- What the steps of an outbox weigh.
-use Rattle.std.proofs.Common.{◌≡◌, ◌<◌, ◌≤◌, ℕ, zero, suc, ◌+◌, List, [], ◌∷◌, ◌++◌, length, None, Some, set, sym, refl, ap, subst, ◌∙◌, arith}
+use Rattle.std.proofs.Common.{◌≡◌, ◌<◌, inl, inr, ℕ, zero, suc, Bool, true, false, ◌+◌, List, [], ◌∷◌, ◌++◌, length, None, Some, set, sym, refl, ap, subst, ◌∙◌, arith}
 use Rattle.std.specs.Prelude.{slice_get}
 use Rattle.std.specs.List.{AllByRecursion}
 use Rattle.box_rows.specs.Mails.{IsRunFor, IsTrueParcel, last_box, most_in_run}
+use Rattle.box_rows.specs.declared.mail.Mail.{Mail}
+use Rattle.box_rows.specs.declared.mail.Mail.TheVariants as mails
+use Rattle.box_rows.specs.Rows.{CouldBeFull, HasSent, IsSameRow, sent_in, taken_in}
 use Rattle.box_rows.proofs.Weighing.{weigh-at}
-use Rattle.counted_items.specs.Weights.{weigh}
 use Rattle.counted_items.proofs.Each.{each-append}
 use Rattle.counted_items.proofs.Weighing.{weigh-append}
+use Rattle.pulse_board.specs.Rule.{bit}
+use Rattle.task_queues.specs.declared.pass.Pass.{Pass}
 use Rattle.topology_plan.specs.Topology.{Topology}
 use Rattle.tree_model.specs.declared.messages.Parcel.{Parcel}
 use Rattle.tree_model.specs.declared.messages.Parcel.TheVariants.{ToAcker, ToTask}
 use Rattle.tuple_account.specs.Histories.{Packet, of_parcel, weigh_parcels}
 use Rattle.worker_pool.specs.declared.outbox.Run.{Run}
-use Rattle.worker_pool.specs.Outboxes.{AddsAll, HasRoom, IsOutbox, weigh_outbox}
+use Rattle.worker_pool.specs.Outboxes.{AddsAll, HandsOver, HasRoom, IsOutbox, weigh_outbox}
+use Rattle.worker_pool.specs.Says.{HasDone, each_one}
+use Rattle.worker_pool.proofs.Saying.{done-same, done-sent, same-none, weigh-ones}
 
 pub each-get : {X : Type 0} (P : X → Type 0) (xs : List X) (n : ℕ) (x : X) → AllByRecursion P xs → slice_get xs n ≡ Some x → P x
 each-get P [] n x all at = absurd (let e : None ≡ Some x = at in cc)
@@ -95,3 +101,48 @@ added-more all old mid new p rest so_far one = record { packets = λ f. let s = 
 
 pub added-all : (all : List Parcel) (old new : List Run) → Added all old new [] → AddsAll all old new
 added-all all old new a = record { packets = λ f. let s = a.packets f in omega arith }
+
+-- ---- hand-overs
+
+run_is : (a b : List Parcel) → mails.Run a ≡ mails.Run b → a ≡ b
+run_is a b is = cc
+
+true-false : {A : Type 0} → true ≡ false → A
+true-false is = absurd cc
+
+false-true : {A : Type 0} → false ≡ true → A
+false-true is = absurd cc
+
+pub hands_sent : (t : Topology) (run : Run) (rest : List Run) (was is : List (Pass Mail)) → IsRunFor t run.at run.parcels → HasSent run.at (mails.Run run.parcels) was is → HandsOver true (run ∷ rest) rest was is
+hands_sent t run rest was is for_it sent = record {
+  sent = λ yes. record { run = run; front = refl; some = for_it.some; sent = sent.sent; taken = sent.taken };
+  stays = λ no. true-false no;
+  held = λ no. true-false no;
+}
+
+pub hands_back : (run : Run) (parcels : List Parcel) (rest new : List Run) (was is : List (Pass Mail)) → new ≡ record { at = run.at; parcels = parcels } ∷ rest → mails.Run parcels ≡ mails.Run run.parcels → IsSameRow was is → CouldBeFull run.at was
+    → HandsOver false (run ∷ rest) new was is
+hands_back run parcels rest new was is front same_run same could = record {
+  sent = λ yes. false-true yes;
+  stays = λ no. (front ∙ (λ i. record { at = run.at; parcels = run_is parcels run.parcels same_run i } ∷ rest), same);
+  held = λ no. inr could;
+}
+
+pub hands_none : (row : List (Pass Mail)) → HandsOver false [] [] row row
+hands_none row = record { sent = λ yes. false-true yes; stays = λ no. (refl, same-none row); held = λ no. inl refl }
+
+-- what an outbox lost was sent
+pub hands_packets : (did : Bool) (old new : List Run) (was is : List (Pass Mail)) → HandsOver did old new was is → (f : Packet → ℕ) → (weigh_outbox f new + sent_in is f ≡ weigh_outbox f old + sent_in was f) × (taken_in is f ≡ taken_in was f)
+hands_packets true old new was is hands f =
+    let s = hands.sent refl in
+    let o = ap (weigh_outbox f) s.front in
+    let k = s.sent f in ((omega arith), s.taken f)
+hands_packets false old new was is hands f =
+    let s = hands.stays refl in
+    let o = ap (weigh_outbox f) s.0 in
+    let k = s.1.sent f in ((omega arith), s.1.taken f)
+
+pub hands_done : (left : ℕ) (did : Bool) (old new : List Run) (was is : List (Pass Mail)) → HandsOver did old new was is → HasDone (bit did) left was left is
+hands_done left true old new was is hands =
+    let s = hands.sent refl in done-sent left (weigh_parcels each_one s.run.parcels) was is (let w : weigh_parcels each_one s.run.parcels ≡ length s.run.parcels = weigh-ones s.run.parcels in let some = s.some in omega arith) (s.sent each_one) (s.taken each_one)
+hands_done left false old new was is hands = done-same left was is (hands.stays refl).1

@@ -1,5 +1,5 @@
 -- What an acker does over boxes. This project's own.
-use Rattle.std.specs.Prelude.{◌≡◌, ◌<◌, ◌≤◌, ℕ, ◌+◌, ◌-◌, min, List, [], Option, fold, replicate}
+use Rattle.std.specs.Prelude.{◌≡◌, ◌<◌, ◌≤◌, ◌⊎◌, ℕ, ◌+◌, ◌-◌, Bool, true, false, min, List, [], Option, None, Some, fold, length, replicate}
 use Rattle.std.specs.Option.{option_to_list}
 use Rattle.acker_core.specs.declared.verdict.Verdict.{Verdict}
 use Rattle.acker_core.specs.Entries.{Met, after, tick}
@@ -7,10 +7,11 @@ use Rattle.acker_core.specs.Traces.{ticks_in}
 use Rattle.bolt_ops.specs.RowOp.{Custom}
 use Rattle.box_rows.specs.declared.mail.Mail.{Mail}
 use Rattle.box_rows.specs.declared.mail.Mail.TheVariants as mail
-use Rattle.box_rows.specs.Rows.{sent_in, taken_in}
+use Rattle.box_rows.specs.Mails.{last_box}
+use Rattle.box_rows.specs.Rows.{CouldBeEmpty, CouldBeFull, IsSameRow, sent_in, taken_in}
 use Rattle.counted_items.specs.Weights.{weigh}
 use Rattle.task_queues.specs.declared.pass.Pass.{Pass}
-use Rattle.topology_plan.specs.Topology.{Topology}
+use Rattle.topology_plan.specs.Topology.{Topology, tasks_in_all}
 use Rattle.tree_model.specs.declared.messages.AckMsg.{AckMsg}
 use Rattle.tree_model.specs.declared.messages.Parcel.{Parcel}
 use Rattle.tree_model.specs.declared.messages.Parcel.TheVariants.{ToAcker}
@@ -18,6 +19,7 @@ use Rattle.tuple_account.specs.Histories.{History, Packet, of_parcel, of_verdict
 use Rattle.tuple_account.specs.Moves.{Station}
 use Rattle.tuple_account.specs.Parts.{weigh_entries}
 use Rattle.worker_pool.specs.declared.acker.AckerDesk.{AckerDesk}
+use Rattle.worker_pool.specs.Says.{Says}
 use Rattle.worker_pool.specs.Works.{IsInside, Works}
 
 abbrev pub IsVerdict : Mail → Type 0
@@ -58,22 +60,41 @@ pub record Ages (old new : AckerDesk) : Type 0 where
 pub record CountsUp (old new : AckerDesk) : Type 0 where
   pub times : ℕ
   pub enough : min old.acker.buckets (new.counted - old.counted) ≤ times
-  pub entries : new.acker.held ≡ fold (after old.acker.buckets) old.acker.held (replicate times tick)
+  pub entries : new.acker.held
+      ≡ fold (after old.acker.buckets) old.acker.held (replicate times tick)
   pub buckets : new.acker.buckets ≡ old.acker.buckets
   pub number : new.number ≡ old.number
   pub inbox : new.inbox ≡ old.inbox
   pub outbox : new.outbox ≡ old.outbox
 
 -- a verdict was handed over, or came back
-pub record HandsVerdict (verdict : Verdict) (old new : AckerDesk) (was is : List (Pass Mail))
-    : Type 0 where
+pub record HandsVerdict (t : Topology) (verdict : Verdict) (did : Bool) (old new : AckerDesk)
+    (was is : List (Pass Mail)) : Type 0 where
   pub packets : (f : Packet → ℕ)
       → weigh_verdict f new.outbox + sent_in is f ≡ f (of_verdict verdict) + sent_in was f
   pub taken : (f : Packet → ℕ) → taken_in is f ≡ taken_in was f
+  pub went : did ≡ true → new.outbox ≡ None
+  pub back : did ≡ false
+      → (new.outbox ≡ Some verdict) × IsSameRow was is × CouldBeFull (last_box t) was
   pub acker : new.acker ≡ old.acker
   pub number : new.number ≡ old.number
   pub inbox : new.inbox ≡ old.inbox
   pub counted : new.counted ≡ old.counted
+
+-- how many messages of a run are left
+abbrev pub acker_left : AckerDesk → ℕ
+acker_left d = length d.inbox.items
+
+-- An acker can do nothing: the coordinator's box could be full, or it has nothing, and its own box
+-- could be empty.
+pub record IsAckerHeld (t : Topology) (d : AckerDesk) (row : List (Pass Mail)) : Type 0 where
+  pub is : ((v : Verdict) × (d.outbox ≡ Some v) × CouldBeFull (last_box t) row)
+      ⊎ ((d.outbox ≡ None) × (d.inbox.items ≡ [])
+      × CouldBeEmpty (tasks_in_all t + d.number) row)
+
+abbrev pub AckerSays : Topology → Bool → AckerDesk → AckerDesk → List (Pass Mail)
+    → List (Pass Mail) → Type 0
+AckerSays t did old new was is = Says acker_left (IsAckerHeld t) did old new was is
 
 -- the messages of a run came to the inbox, and all else stayed
 pub record ReceivesNotes (run : List Parcel) (old new : AckerDesk) : Type 0 where

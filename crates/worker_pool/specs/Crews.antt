@@ -1,5 +1,5 @@
 -- What the tasks and ackers of a worker do together. This project's own.
-use Rattle.std.specs.Prelude.{◌≡◌, ℕ, suc, ◌+◌, List, [], ◌∷◌, length, map, Some, slice_get}
+use Rattle.std.specs.Prelude.{◌≡◌, ℕ, suc, ◌+◌, Bool, List, [], ◌∷◌, length, map, Some, slice_get}
 use Rattle.std.specs.List.{AllByRecursion, AllZip, range_with_len}
 use Rattle.bolt_ops.specs.RowOp.{Custom}
 use Rattle.box_rows.specs.declared.mail.Mail.{Mail}
@@ -17,8 +17,9 @@ use Rattle.tuple_account.specs.Parts.{weigh_entries}
 use Rattle.tuple_account.specs.Places.{spans}
 use Rattle.worker_pool.specs.declared.acker.AckerDesk.{AckerDesk}
 use Rattle.worker_pool.specs.declared.desk.TaskDesk.{TaskDesk}
-use Rattle.worker_pool.specs.Ackers.{Ages, IsAcker, Meets, acker_station}
-use Rattle.worker_pool.specs.Desks.{IsDesk, desk_station, given_at, source_at}
+use Rattle.worker_pool.specs.Ackers.{Ages, IsAcker, IsAckerHeld, Meets, acker_left, acker_station}
+use Rattle.worker_pool.specs.Desks.{IsDesk, IsTaskHeld, desk_station, given_at, source_at, task_left}
+use Rattle.worker_pool.specs.Says.{AllSay, MoreAt, SaysAt}
 use Rattle.worker_pool.specs.Works.{IsInside, Works, ended}
 
 -- how many words were given after these
@@ -44,6 +45,33 @@ pub record AckersDid (t : Topology) (old new : List AckerDesk) (was is : List (P
   pub ages : AllZip Ages old new
   pub meets : Meets t (ackers_station old) was (ackers_station new) is
 
+-- the acker at a place went on
+abbrev pub AckerMoreAt : ℕ → List AckerDesk → List AckerDesk → List (Pass Mail) → List (Pass Mail)
+    → Type 0
+AckerMoreAt n old new was is = MoreAt acker_left n old new was is
+
+-- the acker at a place did something or is held up; so did one of all
+abbrev pub AckerSaysAt : Topology → ℕ → Bool → List AckerDesk → List AckerDesk → List (Pass Mail)
+    → List (Pass Mail) → Type 0
+AckerSaysAt t n did old new was is = SaysAt acker_left (IsAckerHeld t) n did old new was is
+
+abbrev pub AckersSay : Topology → Bool → List AckerDesk → List AckerDesk → List (Pass Mail)
+    → List (Pass Mail) → Type 0
+AckersSay t did old new was is = AllSay acker_left (IsAckerHeld t) did old new was is
+
+-- the entries of the acker at a place have aged up to this tick
+abbrev pub HasCountedAt : ℕ → ℕ → List AckerDesk → Type 0
+HasCountedAt n tick ackers =
+    (d : AckerDesk) → slice_get ackers n ≡ Some d → d.counted ≡ tick
+
+-- or up to the one that they had aged up to
+abbrev pub KeepsCountedAt : ℕ → List AckerDesk → List AckerDesk → Type 0
+KeepsCountedAt n old new = (tick : ℕ) → HasCountedAt n tick old → HasCountedAt n tick new
+
+-- each acker's entries have aged up to this tick
+abbrev pub AreUpTo : ℕ → List AckerDesk → Type 0
+AreUpTo tick ackers = AllByRecursion (λ (d : AckerDesk). d.counted ≡ tick) ackers
+
 -- passes and ackers are fit for work
 pub record AckersAtWork (t : Topology) (boxes : List (Mailbox Mail)) (ackers : List AckerDesk)
     (row : List (Pass Mail)) : Type 0 where
@@ -58,6 +86,20 @@ module _ {I : Type 0} {g : Ghosts I} where
     pub passes : ArePasses t boxes row
     pub boxes_are : length boxes ≡ last_box t + 1
     pub desks_are : AllByRecursion (IsDesk t) desks
+
+  -- the task at a place went on
+  abbrev pub TaskMoreAt : ℕ → List (TaskDesk I g) → List (TaskDesk I g) → List (Pass Mail)
+      → List (Pass Mail) → Type 0
+  TaskMoreAt n old new was is = MoreAt task_left n old new was is
+
+  -- the task at a place did something or is held up; so did one of all
+  abbrev pub TaskSaysAt : ℕ → Bool → List (TaskDesk I g) → List (TaskDesk I g)
+      → List (Pass Mail) → List (Pass Mail) → Type 0
+  TaskSaysAt n did old new was is = SaysAt task_left IsTaskHeld n did old new was is
+
+  abbrev pub TasksSay : Bool → List (TaskDesk I g) → List (TaskDesk I g) → List (Pass Mail)
+      → List (Pass Mail) → Type 0
+  TasksSay did old new was is = AllSay task_left IsTaskHeld did old new was is
 
   -- the words that the sources of desks from a place on gave
   abbrev pub spans_from : (ℕ → ℕ) → ℕ → List (TaskDesk I g) → ℕ → ℕ → ℕ

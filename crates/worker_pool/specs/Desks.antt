@@ -1,10 +1,10 @@
 -- What a task does over boxes. This project's own.
-use Rattle.std.specs.Prelude.{◌≡◌, ◌<◌, ℕ, ◌+◌, List, length, map}
+use Rattle.std.specs.Prelude.{◌≡◌, ◌<◌, ◌⊎◌, ℕ, ◌+◌, Bool, List, [], length, map}
 use Rattle.std.specs.List.{AllByRecursion, range_with_len}
 use Rattle.bolt_ops.specs.RowOp.{Custom}
 use Rattle.bolt_task.specs.Executing.{Executes, collector_in, component_at, number_of, topology_at}
 use Rattle.box_rows.specs.declared.mail.Mail.{Mail}
-use Rattle.box_rows.specs.Rows.{sent_in, taken_in}
+use Rattle.box_rows.specs.Rows.{CouldBeEmpty, sent_in, taken_in}
 use Rattle.commit_order.specs.Orders.{stand_of}
 use Rattle.counted_items.specs.Weights.{weigh}
 use Rattle.event_worlds.specs.Orderly.{IsForTask, IsStandOf}
@@ -21,7 +21,8 @@ use Rattle.tuple_account.specs.Histories.{History, Packet, of_parcel, weigh_parc
 use Rattle.tuple_account.specs.Moves.{HasDrawn, Station}
 use Rattle.tuple_account.specs.Places.{spans}
 use Rattle.worker_pool.specs.declared.desk.TaskDesk.{TaskDesk}
-use Rattle.worker_pool.specs.Outboxes.{AddsAll, IsOutbox, weigh_outbox}
+use Rattle.worker_pool.specs.Outboxes.{AddsAll, IsFrontFull, IsOutbox, weigh_outbox}
+use Rattle.worker_pool.specs.Says.{Says}
 use Rattle.worker_pool.specs.Works.{IsInside, Works, ended}
 
 -- what the tuples that are left of a message weigh
@@ -54,6 +55,20 @@ module _ {I : Type 0} {g : Ghosts I} where
     kept = λ g. 0;
     given = λ s j. spans d.number 0 count s j;
   }
+
+  -- how many tuples of a message are left
+  abbrev pub task_left : TaskDesk I g → ℕ
+  task_left d = length d.inbox.items
+
+  -- A task can do nothing: the box of its front run could be full, or it has nothing, and its own
+  -- box could be empty.
+  pub record IsTaskHeld (d : TaskDesk I g) (row : List (Pass Mail)) : Type 0 where
+    pub is : IsFrontFull d.outbox row
+        ⊎ ((d.outbox ≡ []) × (d.inbox.items ≡ []) × CouldBeEmpty d.number row)
+
+  abbrev pub TaskSays : Bool → TaskDesk I g → TaskDesk I g → List (Pass Mail) → List (Pass Mail)
+      → Type 0
+  TaskSays did old new was is = Says task_left IsTaskHeld did old new was is
 
   -- the tuples of a run came to the inbox, and all else stayed
   pub record Receives (run : List Parcel) (old new : TaskDesk I g) : Type 0 where

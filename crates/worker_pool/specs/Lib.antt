@@ -1,3 +1,4 @@
+pub mod Says
 pub mod Outboxes
 pub mod Works
 pub mod Desks

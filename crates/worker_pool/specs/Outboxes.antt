@@ -1,10 +1,10 @@
 -- What a task has still to hand over, as runs. This project's own.
-use Rattle.std.specs.Prelude.{◌≡◌, ◌<◌, ℕ, ◌+◌, List, [], ◌∷◌, length, Some, slice_get}
+use Rattle.std.specs.Prelude.{◌≡◌, ◌<◌, ◌≤◌, ◌⊎◌, ℕ, ◌+◌, Bool, true, false, List, [], ◌∷◌, length, Some, slice_get}
 use Rattle.std.specs.List.{AllByRecursion}
 use Rattle.box_rows.specs.declared.mail.Mail.{Mail}
 use Rattle.box_rows.specs.declared.mail.Mail.TheVariants as mail
-use Rattle.box_rows.specs.Mails.{IsRunFor, last_box, most_in_run}
-use Rattle.box_rows.specs.Rows.{sent_in, taken_in}
+use Rattle.box_rows.specs.Mails.{IsRunFor, most_in_run}
+use Rattle.box_rows.specs.Rows.{CouldBeFull, IsSameRow, sent_in, taken_in}
 use Rattle.counted_items.specs.Weights.{weigh}
 use Rattle.task_queues.specs.declared.pass.Pass.{Pass}
 use Rattle.topology_plan.specs.Topology.{Topology}
@@ -36,8 +36,21 @@ pub record HasRoom (at n : ℕ) (runs : List Run) : Type 0 where
 pub record AddsAll (parcels : List Parcel) (old new : List Run) : Type 0 where
   pub packets : (f : Packet → ℕ) → weigh_outbox f new ≡ weigh_outbox f old + weigh_parcels f parcels
 
--- what an outbox lost was sent
-pub record HandsOver (old new : List Run) (was is : List (Pass Mail)) : Type 0 where
-  pub packets : (f : Packet → ℕ)
-      → weigh_outbox f new + sent_in is f ≡ weigh_outbox f old + sent_in was f
+-- the front run was sent
+pub record SendsFront (old new : List Run) (was is : List (Pass Mail)) : Type 0 where
+  pub run : Run
+  pub front : old ≡ run ∷ new
+  pub some : 1 ≤ length run.parcels
+  pub sent : (f : Packet → ℕ) → sent_in is f ≡ sent_in was f + weigh_parcels f run.parcels
   pub taken : (f : Packet → ℕ) → taken_in is f ≡ taken_in was f
+
+-- the box of the front run could be full
+abbrev pub IsFrontFull : List Run → List (Pass Mail) → Type 0
+IsFrontFull [] row = ⊥
+IsFrontFull (run ∷ runs) row = CouldBeFull run.at row
+
+-- An outbox handed over its front run, or nothing: it has none, or the run's box could be full.
+pub record HandsOver (did : Bool) (old new : List Run) (was is : List (Pass Mail)) : Type 0 where
+  pub sent : did ≡ true → SendsFront old new was is
+  pub stays : did ≡ false → (new ≡ old) × IsSameRow was is
+  pub held : did ≡ false → (old ≡ []) ⊎ IsFrontFull old was

@@ -1,5 +1,5 @@
 -- Workers, and what they say of their turns and stretches. This project's own.
-use Rattle.std.specs.Prelude.{◌≡◌, ℕ, ◌+◌, true, false, length, map, List}
+use Rattle.std.specs.Prelude.{◌≡◌, ◌⊎◌, ℕ, ◌+◌, Bool, true, false, length, map, List}
 use Rattle.std.specs.List.{AllByRecursion}
 use Rattle.bolt_ops.specs.RowOp.{Custom}
 use Rattle.box_rows.specs.declared.mail.Mail.{Mail}
@@ -8,15 +8,23 @@ use Rattle.box_rows.specs.Rows.{ArePasses, numbers_at}
 use Rattle.pulse_board.specs.Books.{numbers_in}
 use Rattle.pulse_board.specs.declared.rule.Book.{Book}
 use Rattle.pulse_board.specs.declared.seat.Board.{Board}
-use Rattle.pulse_board.specs.declared.seat.BoardSeat.{BoardSeat}
+use Rattle.counted_items.specs.Weights.{weigh}
+use Rattle.pulse_board.specs.Rule.{bit}
 use Rattle.pulse_board.specs.Seats.{IsSeatOf, book_of}
 use Rattle.storm_ids.specs.declared.ids.Ids.{Ghosts}
 use Rattle.task_queues.specs.declared.pass.Mailbox.{Mailbox}
 use Rattle.topology_plan.specs.Topology.{Topology}
+use Rattle.worker_pool.specs.declared.acker.AckerDesk.{AckerDesk}
+use Rattle.worker_pool.specs.declared.desk.TaskDesk.{TaskDesk}
 use Rattle.worker_pool.specs.declared.worker.Worker.{Worker}
-use Rattle.worker_pool.specs.Ackers.{IsAcker}
-use Rattle.worker_pool.specs.Crews.{CrewDid}
-use Rattle.worker_pool.specs.Desks.{IsDesk}
+use Rattle.worker_pool.specs.Ackers.{IsAcker, IsAckerHeld, acker_left}
+use Rattle.worker_pool.specs.Crews.{AreUpTo, CrewDid}
+use Rattle.worker_pool.specs.Desks.{IsDesk, IsTaskHeld, task_left}
+use Rattle.worker_pool.specs.Says.{HasDone}
+
+-- how many turns a stretch has at most
+abbrev pub most_turns : ℕ
+most_turns = 4096
 
 -- a seat drew no tick, and keeps its numbers
 pub record KeepsBook (old new : Book) : Type 0 where
@@ -54,13 +62,39 @@ module _ {I : Type 0} {g : Ghosts I} where
       CrewDid tells t custom old.desks.items new.desks.items old.ackers.items new.ackers.items
       old.row.items new.row.items
 
+  -- what was taken and is left to execute or meet
+  abbrev pub left_at : Worker I g → ℕ
+  left_at w = weigh task_left w.desks.items + weigh acker_left w.ackers.items
+
+  -- so much was done, and so much is left
+  abbrev pub HasWorked : ℕ → Worker I g → Worker I g → Type 0
+  HasWorked n old new = HasDone n (left_at old) old.row.items (left_at new) new.row.items
+
+  -- none of a worker's tasks and ackers can do anything
+  pub record IsHeldUp (t : Topology) (w : Worker I g) : Type 0 where
+    pub tasks : AllByRecursion (λ (d : TaskDesk I g). IsTaskHeld d w.row.items) w.desks.items
+    pub ackers : AllByRecursion (λ (d : AckerDesk). IsAckerHeld t d w.row.items) w.ackers.items
+
+  -- what a turn says: something was done, or the worker is held up; its ackers rotated
+  pub record Turned (t : Topology) (did : Bool) (old new : Worker I g) : Type 0 where
+    pub done : HasWorked (bit did) old new
+    pub held : did ≡ false → IsHeldUp t new
+    pub ticked : (book_of new.seat).wrapped ≡ false
+        → AreUpTo (book_of new.seat).seen new.ackers.items
+
+  -- why a stretch ended, and so many turns in which something was done
+  pub record Ended (t : Topology) (w : Worker I g) : Type 0 where
+    pub is : ((book_of w.seat).halted ≡ true) ⊎ (IsHeldUp t w ⊎ (w.turns ≡ most_turns))
+
   -- What a worker says of its stretch: it kept its passes and its seat; where it did not want
-  -- memory it is at work still, and its tasks and ackers did what they did; where it did it made a
-  -- halt.
+  -- memory it is at work still, and its tasks and ackers did what they did, something in each of
+  -- its turns, until it was held up; where it did it made a halt.
   pub record Stretched (tells : I → (ℕ → ℕ) → ℕ → Type 0) (t : Topology)
       (boxes : List (Mailbox Mail)) (board : Board) (custom : Custom) (old new : Worker I g)
       : Type 0 where
     pub keeps : Keeps t boxes board old new
     pub work : new.wants ≡ false → IsAtWork t boxes board new
     pub did : new.wants ≡ false → Did tells t custom old new
+    pub done : new.wants ≡ false → HasWorked new.turns old new
+    pub ended : new.wants ≡ false → Ended t new
     pub halts : new.wants ≡ true → (book_of new.seat).made ≡ true

@@ -1,11 +1,12 @@
-ghost use Rattle.std.specs.Prelude.{◌≡◌, ◌<◌, ◌+◌, ◌∷◌, [], length, map, None, OnOk};
+ghost use Rattle.std.specs.Prelude.{◌≡◌, ◌<◌, ◌+◌, ◌∷◌, [], length, map, None, IfOk, OnOk};
 ghost use Rattle.std.specs.List.{AllByRecursion};
 ghost use Rattle.box_rows.specs.Mails.{IsTrueParcel, last_box};
 ghost use Rattle.box_rows.specs.Rows.{ArePasses, numbers_at};
 ghost use Rattle.box_rows.specs.declared.mail.Mail.TheVariants as mails;
 ghost use Rattle.topology_plan.specs.Topology.{tasks_in_all};
 ghost use Rattle.tree_model.specs.declared.messages.Parcel.TheVariants.{ToAcker};
-ghost use Rattle.worker_pool.specs.Ackers.{AckerDid, Ages, CountsUp, HandsVerdict, IsAcker, IsVerdict, ReceivesNotes};
+ghost use Rattle.worker_pool.specs.Ackers.{AckerDid, AckerSays, CountsUp, HandsVerdict};
+ghost use Rattle.worker_pool.specs.Ackers.{IsAcker, IsVerdict, ReceivesNotes};
 
 use crate::outbox::run_in;
 use crate::spares::Spares;
@@ -61,6 +62,8 @@ impl AckerDesk {
         ensures counted { OnOk result (self.new.counted ≡ self.old.counted) }
         ensures did { OnOk result (AckerDid posts.now.plan.now self.old self.new row.old.items
             row.new.items) }
+        ensures says { IfOk result (λ did.
+            AckerSays posts.now.plan.now did self.old self.new row.old.items row.new.items) }
     {
         match self.outbox.take() {
             Some(verdict) => Ok(self.hand_over(rt, posts, row, verdict)),
@@ -78,10 +81,11 @@ impl AckerDesk {
     ) -> bool
         requires passes { ArePasses posts.now.plan.now posts.now.boxes.items row.old.items }
         requires boxes { length posts.now.boxes.items ≡ last_box posts.now.plan.now + 1 }
-        requires empty { self.old.outbox ≡ None }
+        requires no_verdict { self.old.outbox ≡ None }
         ensures passes { ArePasses posts.now.plan.now posts.now.boxes.items row.new.items }
         ensures numbers { map numbers_at row.new.items ≡ map numbers_at row.old.items }
-        ensures handed { HandsVerdict verdict self.old self.new row.old.items row.new.items }
+        ensures handed { HandsVerdict posts.now.plan.now verdict result self.old self.new
+            row.old.items row.new.items }
     {
         let last = posts.plan.tasks() as usize + posts.plan.ackers() as usize;
         match send_at(rt, posts, row, last, Mail::Verdict(verdict)) {
@@ -104,13 +108,15 @@ impl AckerDesk {
         requires passes { ArePasses posts.now.plan.now posts.now.boxes.items row.old.items }
         requires boxes { length posts.now.boxes.items ≡ last_box posts.now.plan.now + 1 }
         requires desk { IsAcker posts.now.plan.now self.old }
-        requires empty { self.old.outbox ≡ None }
+        requires no_verdict { self.old.outbox ≡ None }
         ensures passes { ArePasses posts.now.plan.now posts.now.boxes.items row.new.items }
         ensures numbers { map numbers_at row.new.items ≡ map numbers_at row.old.items }
         ensures desk { OnOk result (IsAcker posts.now.plan.now self.new) }
         ensures counted { OnOk result (self.new.counted ≡ self.old.counted) }
         ensures did { OnOk result (AckerDid posts.now.plan.now self.old self.new row.old.items
             row.new.items) }
+        ensures says { IfOk result (λ did.
+            AckerSays posts.now.plan.now did self.old self.new row.old.items row.new.items) }
     {
         match self.inbox.pop_front() {
             Some(message) => {
@@ -132,12 +138,16 @@ impl AckerDesk {
         requires passes { ArePasses posts.now.plan.now posts.now.boxes.items row.old.items }
         requires boxes { length posts.now.boxes.items ≡ last_box posts.now.plan.now + 1 }
         requires desk { IsAcker posts.now.plan.now self.old }
+        requires no_message { self.old.inbox.items ≡ [] }
+        requires no_verdict { self.old.outbox ≡ None }
         ensures passes { ArePasses posts.now.plan.now posts.now.boxes.items row.new.items }
         ensures numbers { map numbers_at row.new.items ≡ map numbers_at row.old.items }
         ensures desk { OnOk result (IsAcker posts.now.plan.now self.new) }
         ensures counted { OnOk result (self.new.counted ≡ self.old.counted) }
         ensures did { OnOk result (AckerDid posts.now.plan.now self.old self.new row.old.items
             row.new.items) }
+        ensures says { IfOk result (λ did.
+            AckerSays posts.now.plan.now did self.old self.new row.old.items row.new.items) }
     {
         let at = posts.plan.tasks() as usize + self.number as usize;
         match take_at(rt, posts, row, at) {

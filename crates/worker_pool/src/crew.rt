@@ -1,9 +1,12 @@
 //! The tasks and ackers of a worker, one after another.
-ghost use Rattle.std.specs.Prelude.{◌≡◌, ◌<◌, List, length, map, OnOk};
+ghost use Rattle.std.specs.Prelude.{◌≡◌, ◌<◌, List, length, map, IfOk, OnOk};
 ghost use Rattle.std.specs.List.{AllByRecursion};
 ghost use Rattle.box_rows.specs.Rows.{ArePasses, numbers_at};
 ghost use Rattle.worker_pool.specs.Ackers.{IsAcker};
-ghost use Rattle.worker_pool.specs.Crews.{AckersAtWork, AckersDid, CrewDid, DesksAtWork};
+ghost use Rattle.worker_pool.specs.Crews.{AckerMoreAt, AckerSaysAt, AckersAtWork, AckersDid};
+ghost use Rattle.worker_pool.specs.Crews.{AckersSay, AreUpTo, CrewDid, DesksAtWork};
+ghost use Rattle.worker_pool.specs.Crews.{HasCountedAt, KeepsCountedAt};
+ghost use Rattle.worker_pool.specs.Crews.{TaskMoreAt, TaskSaysAt, TasksSay};
 ghost use Rattle.worker_pool.specs.declared.acker.AckerDesk.{AckerDesk};
 ghost use Rattle.worker_pool.specs.Desks.{IsDesk};
 
@@ -16,9 +19,6 @@ use box_rows::{Posts, Row};
 use std::sync::Wait;
 use storm_ids::Ids;
 use storm_values::Memory;
-
-// How many steps a task or an acker has at most in a turn.
-const STEPS: u32 = 256;
 
 // The task at a place has a step.
 fn step_at<'p, I: Ids, R: Wait, O: RowOp, G: Gate>(
@@ -40,12 +40,48 @@ fn step_at<'p, I: Ids, R: Wait, O: RowOp, G: Gate>(
     ensures did { OnOk result ((ackers : List AckerDesk) → CrewDid I.tells posts.now.plan.now
         (O.meaning custom.now) desks.old.items desks.new.items ackers ackers
         row.old.items row.new.items) }
+    ensures says { IfOk result (λ did.
+        TaskSaysAt n did desks.old.items desks.new.items row.old.items row.new.items) }
 {
     let did = desks[n].step(rt, posts, row, spares, custom, gate)?;
     Ok(did)
 }
 
-// The task at a place has steps, until it has nothing to do. It says whether it did anything.
+// The task at a place has the rest of so many steps, or fewer where it can do nothing.
+fn go_on_at<'p, I: Ids, R: Wait, O: RowOp, G: Gate>(
+    rt: &R,
+    posts: &Posts<'_>,
+    desks: &mut Vec<TaskDesk<'p, I>>,
+    n: usize,
+    row: &mut Row,
+    spares: &mut Spares,
+    custom: &O,
+    gate: &G,
+    steps: u32,
+) -> Result<(), Memory>
+    requires there { n < length desks.old.items }
+    requires work { DesksAtWork posts.now.plan.now posts.now.boxes.items desks.old.items
+        row.old.items }
+    ensures passes { ArePasses posts.now.plan.now posts.now.boxes.items row.new.items }
+    ensures numbers { map numbers_at row.new.items ≡ map numbers_at row.old.items }
+    ensures desks { OnOk result (AllByRecursion (IsDesk posts.now.plan.now) desks.new.items) }
+    ensures did { OnOk result ((ackers : List AckerDesk) → CrewDid I.tells posts.now.plan.now
+        (O.meaning custom.now) desks.old.items desks.new.items ackers ackers
+        row.old.items row.new.items) }
+    ensures more { OnOk result
+        (TaskMoreAt n desks.old.items desks.new.items row.old.items row.new.items) }
+{
+    for _done in 1..steps {
+        let did = step_at(rt, posts, desks, n, row, spares, custom, gate)?;
+        if !did {
+            return Ok(());
+        }
+    }
+    Ok(())
+}
+
+// The task at a place has so many steps, or fewer where it can do nothing, and one at least. It says
+// whether it did anything.
 fn work_at<'p, I: Ids, R: Wait, O: RowOp, G: Gate>(
     rt: &R,
     posts: &Posts<'_>,
@@ -55,6 +91,7 @@ fn work_at<'p, I: Ids, R: Wait, O: RowOp, G: Gate>(
     spares: &mut Spares,
     custom: &O,
     gate: &G,
+    steps: u32,
 ) -> Result<bool, Memory>
     requires there { n < length desks.old.items }
     requires work { DesksAtWork posts.now.plan.now posts.now.boxes.items desks.old.items
@@ -65,17 +102,18 @@ fn work_at<'p, I: Ids, R: Wait, O: RowOp, G: Gate>(
     ensures did { OnOk result ((ackers : List AckerDesk) → CrewDid I.tells posts.now.plan.now
         (O.meaning custom.now) desks.old.items desks.new.items ackers ackers
         row.old.items row.new.items) }
+    ensures says { IfOk result (λ did.
+        TaskSaysAt n did desks.old.items desks.new.items row.old.items row.new.items) }
 {
-    for done in 0..STEPS {
-        let did = step_at(rt, posts, desks, n, row, spares, custom, gate)?;
-        if !did {
-            return Ok(0 < done);
-        }
+    let did = step_at(rt, posts, desks, n, row, spares, custom, gate)?;
+    if !did {
+        return Ok(false);
     }
+    go_on_at(rt, posts, desks, n, row, spares, custom, gate, steps)?;
     Ok(true)
 }
 
-/// Each task has a turn. It says whether one of them did anything.
+/// Each task has a turn of so many steps at most. It says whether one of them did anything.
 pub(crate) fn turn_of_tasks<'p, I: Ids, R: Wait, O: RowOp, G: Gate>(
     rt: &R,
     posts: &Posts<'_>,
@@ -84,6 +122,7 @@ pub(crate) fn turn_of_tasks<'p, I: Ids, R: Wait, O: RowOp, G: Gate>(
     spares: &mut Spares,
     custom: &O,
     gate: &G,
+    steps: u32,
 ) -> Result<bool, Memory>
     requires work { DesksAtWork posts.now.plan.now posts.now.boxes.items desks.old.items
         row.old.items }
@@ -93,13 +132,12 @@ pub(crate) fn turn_of_tasks<'p, I: Ids, R: Wait, O: RowOp, G: Gate>(
     ensures did { OnOk result ((ackers : List AckerDesk) → CrewDid I.tells posts.now.plan.now
         (O.meaning custom.now) desks.old.items desks.new.items ackers ackers
         row.old.items row.new.items) }
+    ensures says { IfOk result (λ did.
+        TasksSay did desks.old.items desks.new.items row.old.items row.new.items) }
 {
     let mut moved = false;
     for n in 0..desks.len() {
-        let did = work_at(rt, posts, desks, n, row, spares, custom, gate)?;
-        if did {
-            moved = true;
-        }
+        moved |= work_at(rt, posts, desks, n, row, spares, custom, gate, steps)?;
     }
     Ok(moved)
 }
@@ -111,6 +149,8 @@ fn count_at(posts: &Posts<'_>, ackers: &mut Vec<AckerDesk>, n: usize, row: &Row,
     ensures ackers { AllByRecursion (IsAcker posts.now.plan.now) ackers.new.items }
     ensures did { AckersDid posts.now.plan.now ackers.old.items ackers.new.items
         row.now.items row.now.items }
+    ensures more { AckerMoreAt n ackers.old.items ackers.new.items row.now.items row.now.items }
+    ensures counted { HasCountedAt n tick ackers.new.items }
 {
     let _ = row;
     ackers[n].count_up(posts.plan.buckets(), tick);
@@ -133,12 +173,47 @@ fn note_at<R: Wait>(
     ensures ackers { OnOk result (AllByRecursion (IsAcker posts.now.plan.now) ackers.new.items) }
     ensures did { OnOk result (AckersDid posts.now.plan.now ackers.old.items ackers.new.items
         row.old.items row.new.items) }
+    ensures says { IfOk result (λ did. AckerSaysAt posts.now.plan.now n did
+        ackers.old.items ackers.new.items row.old.items row.new.items) }
+    ensures counted { OnOk result (KeepsCountedAt n ackers.old.items ackers.new.items) }
 {
     let did = ackers[n].step(rt, posts, row, spares)?;
     Ok(did)
 }
 
-// The acker at a place has steps, until it has nothing to do. It says whether it did anything.
+// The acker at a place has the rest of so many steps, or fewer where it can do nothing.
+fn keep_on_at<R: Wait>(
+    rt: &R,
+    posts: &Posts<'_>,
+    ackers: &mut Vec<AckerDesk>,
+    n: usize,
+    row: &mut Row,
+    spares: &mut Spares,
+    steps: u32,
+) -> Result<(), Memory>
+    requires there { n < length ackers.old.items }
+    requires work { AckersAtWork posts.now.plan.now posts.now.boxes.items ackers.old.items
+        row.old.items }
+    ensures passes { ArePasses posts.now.plan.now posts.now.boxes.items row.new.items }
+    ensures numbers { map numbers_at row.new.items ≡ map numbers_at row.old.items }
+    ensures ackers { OnOk result (AllByRecursion (IsAcker posts.now.plan.now) ackers.new.items) }
+    ensures did { OnOk result (AckersDid posts.now.plan.now ackers.old.items ackers.new.items
+        row.old.items row.new.items) }
+    ensures more { OnOk result
+        (AckerMoreAt n ackers.old.items ackers.new.items row.old.items row.new.items) }
+    ensures counted { OnOk result (KeepsCountedAt n ackers.old.items ackers.new.items) }
+{
+    for _done in 1..steps {
+        let did = note_at(rt, posts, ackers, n, row, spares)?;
+        if !did {
+            return Ok(());
+        }
+    }
+    Ok(())
+}
+
+// The acker at a place has so many steps, or fewer where it can do nothing, and one at least. It
+// says whether it did anything.
 fn meet_at<R: Wait>(
     rt: &R,
     posts: &Posts<'_>,
@@ -146,6 +221,7 @@ fn meet_at<R: Wait>(
     n: usize,
     row: &mut Row,
     spares: &mut Spares,
+    steps: u32,
 ) -> Result<bool, Memory>
     requires there { n < length ackers.old.items }
     requires work { AckersAtWork posts.now.plan.now posts.now.boxes.items ackers.old.items
@@ -155,17 +231,48 @@ fn meet_at<R: Wait>(
     ensures ackers { OnOk result (AllByRecursion (IsAcker posts.now.plan.now) ackers.new.items) }
     ensures did { OnOk result (AckersDid posts.now.plan.now ackers.old.items ackers.new.items
         row.old.items row.new.items) }
+    ensures says { IfOk result (λ did. AckerSaysAt posts.now.plan.now n did
+        ackers.old.items ackers.new.items row.old.items row.new.items) }
+    ensures counted { OnOk result (KeepsCountedAt n ackers.old.items ackers.new.items) }
 {
-    for done in 0..STEPS {
-        let did = note_at(rt, posts, ackers, n, row, spares)?;
-        if !did {
-            return Ok(0 < done);
-        }
+    let did = note_at(rt, posts, ackers, n, row, spares)?;
+    if !did {
+        return Ok(false);
     }
+    keep_on_at(rt, posts, ackers, n, row, spares, steps)?;
     Ok(true)
 }
 
-/// Each acker rotates up to the tick, and has a turn. It says whether one of them did anything.
+// The acker at a place rotates up to the tick, and has steps.
+fn turn_at<R: Wait>(
+    rt: &R,
+    posts: &Posts<'_>,
+    ackers: &mut Vec<AckerDesk>,
+    n: usize,
+    row: &mut Row,
+    spares: &mut Spares,
+    tick: u64,
+    steps: u32,
+) -> Result<bool, Memory>
+    requires there { n < length ackers.old.items }
+    requires work { AckersAtWork posts.now.plan.now posts.now.boxes.items ackers.old.items
+        row.old.items }
+    ensures passes { ArePasses posts.now.plan.now posts.now.boxes.items row.new.items }
+    ensures numbers { map numbers_at row.new.items ≡ map numbers_at row.old.items }
+    ensures ackers { OnOk result (AllByRecursion (IsAcker posts.now.plan.now) ackers.new.items) }
+    ensures did { OnOk result (AckersDid posts.now.plan.now ackers.old.items ackers.new.items
+        row.old.items row.new.items) }
+    ensures says { IfOk result (λ did. AckerSaysAt posts.now.plan.now n did
+        ackers.old.items ackers.new.items row.old.items row.new.items) }
+    ensures counted { OnOk result (HasCountedAt n tick ackers.new.items) }
+{
+    count_at(posts, ackers, n, row, tick);
+    let did = meet_at(rt, posts, ackers, n, row, spares, steps)?;
+    Ok(did)
+}
+
+/// Each acker rotates up to the tick, and has a turn of so many steps at most. It says whether one
+/// of them did anything.
 pub(crate) fn turn_of_ackers<R: Wait>(
     rt: &R,
     posts: &Posts<'_>,
@@ -173,6 +280,7 @@ pub(crate) fn turn_of_ackers<R: Wait>(
     row: &mut Row,
     spares: &mut Spares,
     tick: u64,
+    steps: u32,
 ) -> Result<bool, Memory>
     requires work { AckersAtWork posts.now.plan.now posts.now.boxes.items ackers.old.items
         row.old.items }
@@ -181,14 +289,13 @@ pub(crate) fn turn_of_ackers<R: Wait>(
     ensures ackers { OnOk result (AllByRecursion (IsAcker posts.now.plan.now) ackers.new.items) }
     ensures did { OnOk result (AckersDid posts.now.plan.now ackers.old.items ackers.new.items
         row.old.items row.new.items) }
+    ensures says { IfOk result (λ did. AckersSay posts.now.plan.now did
+        ackers.old.items ackers.new.items row.old.items row.new.items) }
+    ensures counted { OnOk result (AreUpTo tick ackers.new.items) }
 {
     let mut moved = false;
     for n in 0..ackers.len() {
-        count_at(posts, ackers, n, row, tick);
-        let did = meet_at(rt, posts, ackers, n, row, spares)?;
-        if did {
-            moved = true;
-        }
+        moved |= turn_at(rt, posts, ackers, n, row, spares, tick, steps)?;
     }
     Ok(moved)
 }

@@ -1,11 +1,12 @@
-ghost use Rattle.std.specs.Prelude.{◌≡◌, ◌<◌, ◌+◌, [], length, map, OnOk};
+ghost use Rattle.std.specs.Prelude.{◌≡◌, ◌<◌, ◌+◌, [], length, map, true, IfOk, OnOk};
 ghost use Rattle.std.specs.List.{AllByRecursion};
 ghost use Rattle.box_rows.specs.Mails.{IsTrueParcel, last_box};
 ghost use Rattle.box_rows.specs.Rows.{ArePasses, numbers_at};
 ghost use Rattle.event_worlds.specs.Orderly.{IsForTask};
 ghost use Rattle.topology_plan.specs.Topology.{tasks_in_all};
 ghost use Rattle.tree_model.specs.declared.messages.Parcel.TheVariants.{ToTask};
-ghost use Rattle.worker_pool.specs.Desks.{DeskDid, IsDesk, MovesMail, Receives, RunsTuple};
+ghost use Rattle.worker_pool.specs.Desks.{DeskDid, IsDesk, MovesMail, Receives};
+ghost use Rattle.worker_pool.specs.Desks.{RunsTuple, TaskSays};
 
 use crate::gate::Gate;
 use crate::outbox::{Outbox, run_in};
@@ -50,6 +51,8 @@ impl<'p, I: Ids> TaskDesk<'p, I> {
         ensures desk { OnOk result (IsDesk posts.now.plan.now self.new) }
         ensures did { OnOk result (DeskDid I.tells posts.now.plan.now (O.meaning custom.now)
             self.old self.new row.old.items row.new.items) }
+        ensures says { IfOk result (λ did.
+            TaskSays did self.old self.new row.old.items row.new.items) }
     {
         if self.outbox.is_filled() {
             return self.outbox.hand_over(rt, posts, row);
@@ -75,6 +78,7 @@ impl<'p, I: Ids> TaskDesk<'p, I> {
         ensures desk { OnOk result (IsDesk posts.now.plan.now self.new) }
         ensures runs { OnOk result (RunsTuple I.tells posts.now.plan.now (O.meaning custom.now)
             tuple self.old self.new) }
+        ensures did { IfOk result (λ did. did ≡ true) }
     {
         posts.plan.facts();
         gate.pass(rt, self.number, tuple.root, &tuple.edge.path);
@@ -94,10 +98,13 @@ impl<'p, I: Ids> TaskDesk<'p, I> {
         requires passes { ArePasses posts.now.plan.now posts.now.boxes.items row.old.items }
         requires boxes { length posts.now.boxes.items ≡ last_box posts.now.plan.now + 1 }
         requires desk { IsDesk posts.now.plan.now self.old }
+        requires no_tuple { self.old.inbox.items ≡ [] }
         ensures passes { ArePasses posts.now.plan.now posts.now.boxes.items row.new.items }
         ensures numbers { map numbers_at row.new.items ≡ map numbers_at row.old.items }
         ensures desk { OnOk result (IsDesk posts.now.plan.now self.new) }
         ensures moves { OnOk result (MovesMail self.old self.new row.old.items row.new.items) }
+        ensures says { IfOk result (λ did.
+            TaskSays did self.old self.new row.old.items row.new.items) }
     {
         if self.outbox.is_empty() {
             return self.take(rt, posts, row, spares);
@@ -116,11 +123,14 @@ impl<'p, I: Ids> TaskDesk<'p, I> {
         requires passes { ArePasses posts.now.plan.now posts.now.boxes.items row.old.items }
         requires boxes { length posts.now.boxes.items ≡ last_box posts.now.plan.now + 1 }
         requires desk { IsDesk posts.now.plan.now self.old }
-        requires empty { self.old.outbox ≡ [] }
+        requires no_tuple { self.old.inbox.items ≡ [] }
+        requires no_run { self.old.outbox ≡ [] }
         ensures passes { ArePasses posts.now.plan.now posts.now.boxes.items row.new.items }
         ensures numbers { map numbers_at row.new.items ≡ map numbers_at row.old.items }
         ensures desk { OnOk result (IsDesk posts.now.plan.now self.new) }
         ensures moves { OnOk result (MovesMail self.old self.new row.old.items row.new.items) }
+        ensures says { IfOk result (λ did.
+            TaskSays did self.old self.new row.old.items row.new.items) }
     {
         match take_at(rt, posts, row, self.number as usize) {
             Some(mail) => {

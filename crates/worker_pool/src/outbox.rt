@@ -1,5 +1,6 @@
 //! What a task has still to hand over, as runs for one box each.
-ghost use Rattle.std.specs.Prelude.{◌≡◌, ◌↔◌, [], ◌∷◌, ◌+◌, length, map, IfSome, IsTrue, OnOk};
+ghost use Rattle.std.specs.Prelude.{◌≡◌, ◌≢◌, ◌↔◌, [], ◌∷◌, ◌+◌, length, map};
+ghost use Rattle.std.specs.Prelude.{IfOk, IfSome, IsTrue, OnOk};
 ghost use Rattle.std.specs.List.{AllByRecursion};
 ghost use Rattle.box_rows.specs.Mails.{IsRunFor, IsTrueParcel, box_of, last_box};
 ghost use Rattle.box_rows.specs.Rows.{ArePasses, numbers_at};
@@ -69,8 +70,12 @@ impl Outbox {
     }
 
     /// Whether it is better handed over than filled.
-    pub(crate) fn is_filled(&self) -> bool {
-        ENOUGH <= self.count
+    pub(crate) fn is_filled(&self) -> bool
+        ensures { IsTrue result → self.now ≢ [] }
+    {
+        let has_enough = ENOUGH <= self.count;
+        let has_none = self.runs.is_empty();
+        has_enough & !has_none
     }
 
     /// Adds parcels, each to the newest of the last runs for its box, or else to a new one.
@@ -178,7 +183,8 @@ impl Outbox {
         ensures passes { ArePasses posts.now.plan.now posts.now.boxes.items row.new.items }
         ensures numbers { map numbers_at row.new.items ≡ map numbers_at row.old.items }
         ensures outbox { OnOk result (IsOutbox posts.now.plan.now self.new) }
-        ensures handed { OnOk result (HandsOver self.old self.new row.old.items row.new.items) }
+        ensures handed { IfOk result (λ did.
+            HandsOver did self.old self.new row.old.items row.new.items) }
     {
         match self.runs.pop_front() {
             Some(run) => self.send(rt, posts, row, run),
@@ -201,8 +207,8 @@ impl Outbox {
         ensures passes { ArePasses posts.now.plan.now posts.now.boxes.items row.new.items }
         ensures numbers { map numbers_at row.new.items ≡ map numbers_at row.old.items }
         ensures outbox { OnOk result (IsOutbox posts.now.plan.now self.new) }
-        ensures handed { OnOk result
-            (HandsOver (run ∷ self.old) self.new row.old.items row.new.items) }
+        ensures handed { IfOk result (λ did.
+            HandsOver did (run ∷ self.old) self.new row.old.items row.new.items) }
     {
         let at = run.at;
         let count = run.parcels.len();

@@ -1,7 +1,7 @@
 //! A worker, its turns and its stretches.
-ghost use Rattle.std.specs.Prelude.{◌≡◌, ◌<◌, All, OnOk};
+ghost use Rattle.std.specs.Prelude.{◌≡◌, ◌<◌, All, IfOk, OnOk};
 ghost use Rattle.std.specs.List.{AllZip};
-ghost use Rattle.worker_pool.specs.Workers.{Did, IsAtWork, IsReady, Keeps, Stretched};
+ghost use Rattle.worker_pool.specs.Workers.{Did, IsAtWork, IsReady, Keeps, Stretched, Turned};
 
 use crate::acker::AckerDesk;
 use crate::crew::{turn_of_ackers, turn_of_tasks};
@@ -20,6 +20,9 @@ use storm_values::Memory;
 // How many turns a stretch has at most.
 const TURNS: u32 = 4096;
 
+// How many steps a task or an acker has at most in a turn.
+const STEPS: u32 = 256;
+
 // How often a worker looks before it has nothing to do.
 const LOOKS: u32 = 256;
 
@@ -32,13 +35,16 @@ pub struct Worker<'p, I: Ids> {
     pub row: Row,
     pub seat: BoardSeat,
     pub spares: Spares,
+    /// In so many turns of its last stretch something was done.
+    pub turns: u32,
     /// It wanted memory.
     pub wants: bool,
 }
 
 impl<'p, I: Ids> Worker<'p, I> {
-    // Each task and each acker has a turn. It says whether one of them did anything.
-    fn turn<R: Wait, O: RowOp, G: Gate>(
+    /// Each task has one step, in their order, and then each acker. It says whether one of them did
+    /// anything.
+    pub fn round<R: Wait, O: RowOp, G: Gate>(
         &mut self,
         rt: &R,
         posts: &Posts<'_>,
@@ -52,7 +58,34 @@ impl<'p, I: Ids> Worker<'p, I> {
             (IsAtWork posts.now.plan.now posts.now.boxes.items board.now self.new) }
         ensures did { OnOk result
             (Did I.tells posts.now.plan.now (O.meaning custom.now) self.old self.new) }
+        ensures turned { IfOk result (λ did. Turned posts.now.plan.now did self.old self.new) }
         ensures wants { self.new.wants ≡ self.old.wants }
+        ensures turns { self.new.turns ≡ self.old.turns }
+    {
+        let did = self.turn(rt, posts, board, custom, gate, 1)?;
+        Ok(did)
+    }
+
+    // Each task and each acker has a turn of so many steps at most. It says whether one of them did
+    // anything.
+    fn turn<R: Wait, O: RowOp, G: Gate>(
+        &mut self,
+        rt: &R,
+        posts: &Posts<'_>,
+        board: &Board,
+        custom: &O,
+        gate: &G,
+        steps: u32,
+    ) -> Result<bool, Memory>
+        requires { IsAtWork posts.now.plan.now posts.now.boxes.items board.now self.old }
+        ensures keeps { Keeps posts.now.plan.now posts.now.boxes.items board.now self.old self.new }
+        ensures work { OnOk result
+            (IsAtWork posts.now.plan.now posts.now.boxes.items board.now self.new) }
+        ensures did { OnOk result
+            (Did I.tells posts.now.plan.now (O.meaning custom.now) self.old self.new) }
+        ensures turned { IfOk result (λ did. Turned posts.now.plan.now did self.old self.new) }
+        ensures wants { self.new.wants ≡ self.old.wants }
+        ensures turns { self.new.turns ≡ self.old.turns }
     {
         let tick = board.ticks(&mut self.seat);
         let worked = turn_of_tasks(
@@ -63,6 +96,7 @@ impl<'p, I: Ids> Worker<'p, I> {
             &mut self.spares,
             custom,
             gate,
+            steps,
         )?;
         let met = turn_of_ackers(
             rt,
@@ -71,6 +105,7 @@ impl<'p, I: Ids> Worker<'p, I> {
             &mut self.row,
             &mut self.spares,
             tick,
+            steps,
         )?;
         Ok(worked | met)
     }
@@ -90,14 +125,20 @@ impl<'p, I: Ids> Worker<'p, I> {
             (IsAtWork posts.now.plan.now posts.now.boxes.items board.now self.new) }
         ensures did { OnOk result
             (Did I.tells posts.now.plan.now (O.meaning custom.now) self.old self.new) }
+        ensures turned { IfOk result (λ did. Turned posts.now.plan.now did self.old self.new) }
         ensures wants { self.new.wants ≡ self.old.wants }
+        ensures turns { self.new.turns ≡ self.old.turns }
     {
-        for _ in 0..LOOKS {
-            let did = self.turn(rt, posts, board, custom, gate)?;
+        let at_once = self.turn(rt, posts, board, custom, gate, STEPS)?;
+        if at_once {
+            return Ok(true);
+        }
+        for _ in 1..LOOKS {
+            hint::spin_loop();
+            let did = self.turn(rt, posts, board, custom, gate, STEPS)?;
             if did {
                 return Ok(true);
             }
-            hint::spin_loop();
         }
         Ok(false)
     }
@@ -116,12 +157,13 @@ impl<'p, I: Ids> Worker<'p, I> {
         ensures { Stretched I.tells posts.now.plan.now posts.now.boxes.items board.now
             (O.meaning custom.now) self.old self.new }
     {
-        for _ in 0..TURNS {
+        self.turns = 0;
+        for done in 0..TURNS {
             if board.halted(&mut self.seat) {
                 return;
             }
             match self.busy_turn(rt, posts, board, custom, gate) {
-                Ok(true) => (),
+                Ok(true) => self.turns = done + 1,
                 Ok(false) => return,
                 Err(_) => {
                     self.wants = true;
@@ -153,6 +195,8 @@ pub fn stretch_all<'p, I: Ids + Send, R: Threads + Wait + Sync, O: RowOp + Sync,
         rt,
         workers,
         threads,
-        &|_, w| { w.stretch(rt, posts, board, custom, gate) },
+        &|_, w|
+            requires { IsReady posts.now.plan.now posts.now.boxes.items board.now w.old }
+        { w.stretch(rt, posts, board, custom, gate) },
     );
 }

@@ -1,30 +1,20 @@
-use Rattle.std.proofs.Common.{rules, refl, ◌∙◌, []}
-use Rattle.worker_pool.proofs.Adding.{did-none, did-then}
+use Rattle.std.proofs.Common.{rules, true, ◌≡◌, [], subst, arith}
+use Rattle.worker_pool.specs.Crews.{TaskSaysAt}
+use Rattle.worker_pool.specs.Desks.{IsTaskHeld, task_left}
+use Rattle.worker_pool.proofs.Adding.{did-then}
+use Rattle.worker_pool.proofs.Saying.{says-more}
 use Rattle.worker_pool.proofs.crew.work_at.Goals as goal
 
-pub loop-done-init : goal.loop-done-init
-loop-done-init g c = record {
-  work = c.requires.work;
-  numbers = refl;
-  did = λ ackers. did-none g.I.Ids.tells c.args.posts.now.plan.now (g.O.RowOp.meaning c.args.custom.now) c.args.desks.now.items ackers c.args.row.now.items;
-  many = refl;
-}
+pub returns-clause-did : goal.returns-clause-did
+returns-clause-did g c =
+    λ ackers. did-then g.I.Ids.tells c.args.posts.now.plan.now (g.O.RowOp.meaning c.args.custom.now) c.args.desks.now.items c.step_at.new.desks.items c.go_on_at.new.desks.items ackers ackers ackers
+    c.args.row.now.items c.step_at.new.row.items c.go_on_at.new.row.items (c.in_ok-did.ensures.did ackers) (c.in_ok-go_on_at.ensures.did ackers)
 
-pub loop-done-preserved : goal.loop-done-preserved
-loop-done-preserved g c =
-    let inv = c.loop-done.invariant in record {
-      work = record {
-        passes = c.step_at.ensures.passes;
-        boxes_are = inv.work.boxes_are;
-        desks_are = c.in_ok-did.ensures.desks;
-      };
-      numbers = c.step_at.ensures.numbers ∙ inv.numbers;
-      did = λ ackers. did-then g.I.Ids.tells c.args.posts.now.plan.now (g.O.RowOp.meaning c.args.custom.now) c.args.desks.now.items c.loop-done.desks.items c.step_at.new.desks.items ackers ackers ackers
-          c.args.row.now.items c.loop-done.row.items c.step_at.new.row.items (inv.did ackers) (c.in_ok-did.ensures.did ackers);
-      many = (c.in_ok-did.ensures.did []).many ∙ inv.many;
-    }
+pub returns-clause-says : goal.returns-clause-says
+returns-clause-says g c =
+    let done : c.in_ok-did.did ≡ true = search rules in
+    says-more task_left IsTaskHeld c.args.n c.args.desks.now.items c.step_at.new.desks.items c.go_on_at.new.desks.items c.args.row.now.items c.step_at.new.row.items c.go_on_at.new.row.items
+    (subst (λ b. TaskSaysAt c.args.n b c.args.desks.now.items c.step_at.new.desks.items c.args.row.now.items c.step_at.new.row.items) done c.in_ok-did.ensures.says) c.in_ok-go_on_at.ensures.more
 
-pub returns-then-not-did-clause-did : goal.returns-then-not-did-clause-did
-returns-then-not-did-clause-did g c =
-    λ ackers. did-then g.I.Ids.tells c.args.posts.now.plan.now (g.O.RowOp.meaning c.args.custom.now) c.args.desks.now.items c.loop-done.desks.items c.step_at.new.desks.items ackers ackers ackers
-    c.args.row.now.items c.loop-done.row.items c.step_at.new.row.items (c.loop-done.invariant.did ackers) (c.in_ok-did.ensures.did ackers)
+pub go_on_at-requires-clause-there : goal.go_on_at-requires-clause-there
+go_on_at-requires-clause-there g c = let many = (c.in_ok-did.ensures.did []).many in let there = c.requires.there in omega arith

@@ -1,4 +1,4 @@
-use Rattle.std.proofs.Common.{rules, ◌∙◌}
+use Rattle.std.proofs.Common.{◌∙◌}
 use Rattle.worker_pool.proofs.Desking.{desk_fits}
 use Rattle.worker_pool.proofs.desk.TaskDesk.execute.Goals as goal
 

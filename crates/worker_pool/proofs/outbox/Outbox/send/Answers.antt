@@ -1,4 +1,4 @@
-use Rattle.std.proofs.Common.{rules, arith}
+use Rattle.std.proofs.Common.{arith}
 use Rattle.worker_pool.proofs.Outboxing.{run_there}
 use Rattle.worker_pool.proofs.outbox.Outbox.send.Goals as goal
 

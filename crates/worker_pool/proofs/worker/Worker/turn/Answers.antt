@@ -1,6 +1,7 @@
-use Rattle.std.proofs.Common.{rules, ◌∙◌}
+use Rattle.std.proofs.Common.{◌∙◌}
 use Rattle.worker_pool.proofs.Adding.{did-ackers, did-then}
-use Rattle.worker_pool.proofs.Boarding.{book-looked}
+use Rattle.pulse_board.specs.Seats.{book_of}
+use Rattle.worker_pool.proofs.Boarding.{book-looked, looked-seen, turned-both}
 use Rattle.worker_pool.proofs.worker.Worker.turn.Goals as goal
 
 pub returns-clause-did : goal.returns-clause-did
@@ -15,6 +16,11 @@ pub returns-clause-keeps : goal.returns-clause-keeps
 returns-clause-keeps g c = record {
   passes = c.turn_of_ackers.ensures.passes;
   numbers = c.turn_of_ackers.ensures.numbers ∙ c.turn_of_tasks.ensures.numbers;
-  seat = c.ticks.ensures.seat;
-  book = book-looked _ _ c.ticks.result c.ticks.ensures.book;
+  seat = c.ticks-tick.ensures.seat;
+  book = book-looked _ _ c.ticks-tick.result c.ticks-tick.ensures.book;
 }
+
+pub returns-clause-turned : goal.returns-clause-turned
+returns-clause-turned g c =
+    turned-both c.args.posts.now.plan.now c.in_ok-worked.worked c.in_ok-met.met c.args.self.now _ c.turn_of_tasks.new.row.items c.in_ok-worked.ensures.says c.in_ok-met.ensures.says
+    (looked-seen (book_of c.ticks-tick.new.seat) c.ticks-tick.result c.turn_of_ackers.new.ackers.items c.ticks-tick.ensures.seen c.in_ok-met.ensures.counted)
