@@ -5,16 +5,26 @@ ghost use Rattle.box_rows.specs.Rows.{ArePasses};
 ghost use Rattle.topology_plan.specs.Topology.{tasks_in_all};
 ghost use Rattle.worker_pool.specs.Ackers.{IsAcker};
 ghost use Rattle.worker_pool.specs.Desks.{IsDesk};
+ghost use Rattle.worker_pool.specs.Workers.{IsReady};
 
 use crate::plans::{ACKERS_AT, chain, done_mail, first_mail, init_mail, wrong};
-use crate::team::{TestDesk, acker_desk, task_desk};
+use crate::rounds::send_firsts;
+use crate::team::{
+    Hiring, TestDesk, TestWorker, acker_desk, hire, last_worker, task_desk, with_row,
+};
 use crate::verdicts::Verdicts;
 use bolt_ops::Reversed;
-use box_rows::{Boxes, Mail, Posts, Row, send_at, take_at};
+use box_rows::{Boxes, Mail, Posts, Row, send_at, split_row, take_at};
+use pulse_board::Board;
 use std::alloc::Global;
 use std::sync::Wait;
 use test_kit::Mismatch;
 use worker_pool::{AckerDesk, OpenGate, Spares};
+
+const ONE: Hiring = Hiring {
+    workers: 1,
+    with_ackers: false,
+};
 
 // How many steps of a task do something, until one does nothing.
 fn task_steps<'p, R: Wait>(
@@ -71,6 +81,51 @@ fn one_tuple<R: Wait>(rt: &R, alloc: Global) -> Result<bool, Mismatch> {
 #[test]
 fn a_tuple_takes_four_steps(rt: HostRuntime) -> Result<(), Mismatch> {
     assert!(rt; one_tuple(&rt, rt.alloc())?);
+    Ok(())
+}
+
+// How many rounds of a worker do something, until one does nothing.
+fn rounds_of<'p, R: Wait>(
+    rt: &R,
+    posts: &Posts<'_>,
+    board: &Board,
+    worker: TestWorker<'p>,
+) -> Result<u32, Mismatch>
+    requires { IsReady posts.now.plan.now posts.now.boxes.items board.now worker }
+{
+    let mut at_work = worker;
+    for count in 0..1000 {
+        let did = at_work.round(rt, posts, board, &Reversed, &OpenGate {})?;
+        if !did {
+            return Ok(count);
+        }
+    }
+    Ok(1000)
+}
+
+// How many rounds one worker with all tasks has for one first tuple.
+fn one_worker<R: Wait>(rt: &R, alloc: Global) -> Result<u32, Mismatch> {
+    let plan = chain(alloc)?;
+    let mut made = Boxes::new(alloc, &plan)?;
+    let boxes = &mut made;
+    let (board, mut seat) = Board::new(alloc)?;
+    let mut team = hire(alloc, &plan, &board, &mut seat, ONE)?;
+    let sent = send_firsts(rt, alloc, &boxes.posts, &mut boxes.row, 0, 1)?;
+    if sent != 1 {
+        return Err(wrong(alloc, "full"));
+    }
+    let row = split_row(alloc, &boxes.posts, &mut boxes.row)?;
+    let worker = last_worker(alloc, &boxes.posts, &board, &mut team)?;
+    let worker = with_row(&boxes.posts, &board, worker, row);
+    rounds_of(rt, &boxes.posts, &board, worker)
+}
+
+// A task is before those that it sends to. So in each second round but the first a tuple is handed
+// over and taken at once, and in those between a note is handed over and the tuple executed: two
+// rounds for each of four tasks, and one for the last note.
+#[test]
+fn a_tuple_takes_nine_rounds(rt: HostRuntime) -> Result<(), Mismatch> {
+    assert!(rt; one_worker(&rt, rt.alloc())? == 9);
     Ok(())
 }
 

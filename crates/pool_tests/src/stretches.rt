@@ -11,7 +11,7 @@ ghost use Rattle.worker_pool.specs.Workers.{IsReady};
 use crate::gates::Counting;
 use crate::plans::{chain, first_mail, init_mail, wrong};
 use crate::rounds::send_firsts;
-use crate::team::{Hiring, TestWorker, hire, stretch, with_row};
+use crate::team::{Hiring, TestWorker, hire, last_worker, stretch, with_row};
 use crate::verdicts::Verdicts;
 use bolt_ops::Reversed;
 use box_rows::{Boxes, Posts, Row, send_fit, split_row, take_at, take_fit};
@@ -27,25 +27,6 @@ const TWO: Hiring = Hiring {
     workers: 2,
     with_ackers: false,
 };
-
-// The last worker of a team.
-fn last_of<'p>(
-    alloc: Global,
-    posts: &Posts<'_>,
-    board: &Board,
-    team: &mut Vec<TestWorker<'p>>,
-) -> Result<TestWorker<'p>, Mismatch>
-    requires { AllByRecursion (Rests posts.now.plan.now board.now) team.old.items }
-    ensures worker { IfOk result (Rests posts.now.plan.now board.now) }
-    ensures rest { AllByRecursion (Rests posts.now.plan.now board.now) team.new.items }
-{
-    let _ = posts;
-    let _ = board;
-    match team.pop() {
-        Some(worker) => Ok(worker),
-        None => Err(wrong(alloc, "too few workers")),
-    }
-}
 
 // A stretch of one worker.
 fn one_stretch<'p, R: Wait>(
@@ -115,8 +96,8 @@ fn halted<R: Threads + Wait + Sync>(rt: &R, alloc: Global) -> Result<(u64, u64),
     let mut team = hire(alloc, &plan, &board, &mut seat, TWO)?;
     let _ = send_firsts(rt, alloc, &boxes.posts, &mut boxes.row, 0, 512)?;
     let row = split_row(alloc, &boxes.posts, &mut boxes.row)?;
-    let other = last_of(alloc, &boxes.posts, &board, &mut team)?;
-    let worker = last_of(alloc, &boxes.posts, &board, &mut team)?;
+    let other = last_worker(alloc, &boxes.posts, &board, &mut team)?;
+    let worker = last_worker(alloc, &boxes.posts, &board, &mut team)?;
     let worker = with_row(&boxes.posts, &board, worker, row);
     let gate = Counting::new(false);
     stretch_and_halt(rt, &boxes.posts, &board, worker, other, &gate);

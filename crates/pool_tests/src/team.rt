@@ -143,6 +143,7 @@ fn hire_one<'p>(
         row: Vec::new(alloc),
         seat,
         spares: Spares::new(alloc),
+        turns: 0,
         wants: false,
     })
 }
@@ -169,6 +170,25 @@ pub fn hire<'p>(
     Ok(workers)
 }
 
+/// The last worker of a team.
+pub fn last_worker<'p>(
+    alloc: Global,
+    posts: &Posts<'_>,
+    board: &Board,
+    team: &mut Vec<TestWorker<'p>>,
+) -> Result<TestWorker<'p>, Mismatch>
+    requires { AllByRecursion (Rests posts.now.plan.now board.now) team.old.items }
+    ensures worker { IfOk result (Rests posts.now.plan.now board.now) }
+    ensures rest { AllByRecursion (Rests posts.now.plan.now board.now) team.new.items }
+{
+    let _ = posts;
+    let _ = board;
+    match team.pop() {
+        Some(worker) => Ok(worker),
+        None => Err(wrong(alloc, "too few workers")),
+    }
+}
+
 /// A worker gets a row.
 pub fn with_row<'p>(
     posts: &Posts<'_>,
@@ -189,6 +209,7 @@ pub fn with_row<'p>(
         row,
         seat: worker.seat,
         spares: worker.spares,
+        turns: worker.turns,
         wants: worker.wants,
     }
 }
@@ -215,9 +236,25 @@ pub fn without_row<'p>(
         row: Vec::new(alloc),
         seat: worker.seat,
         spares: worker.spares,
+        turns: worker.turns,
         wants: worker.wants,
     };
     Ok((rested, worker.row))
+}
+
+// The last of some rows.
+fn last_row(alloc: Global, posts: &Posts<'_>, rows: &mut Vec<Row>) -> Result<Row, Mismatch>
+    requires { AllByRecursion (ArePassesIn posts.now.plan.now posts.now.boxes.items)
+        rows.old.items }
+    ensures row { IfOk result (ArePassesIn posts.now.plan.now posts.now.boxes.items) }
+    ensures rest { AllByRecursion (ArePassesIn posts.now.plan.now posts.now.boxes.items)
+        rows.new.items }
+{
+    let _ = posts;
+    match rows.pop() {
+        Some(row) => Ok(row),
+        None => Err(wrong(alloc, "too few rows")),
+    }
 }
 
 // Each worker gets a row.
@@ -239,10 +276,8 @@ fn with_rows<'p>(
     let mut left = rows;
     let mut ready = Vec::new(alloc);
     while let Some(worker) = resting.pop() {
-        match left.pop() {
-            Some(row) => add(&mut ready, with_row(posts, board, worker, row))?,
-            None => return Err(wrong(alloc, "too few rows")),
-        }
+        let row = last_row(alloc, posts, &mut left)?;
+        add(&mut ready, with_row(posts, board, worker, row))?;
     }
     Ok(ready)
 }
