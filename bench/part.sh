@@ -1,14 +1,15 @@
 #!/usr/bin/env bash
-# bench/part.sh queues|opaque_commits|acker [FOLDER]: times a part by itself.
+# bench/part.sh queues|opaque_commits|acker|workers [FOLDER]: times a part by itself.
 # The program is a crate that the gate does not know: it is put beside copies of the crates that it
 # stands on, proved and built there, and run. That takes as long as these crates' proofs; a folder
 # as the second word keeps the copies, so that a later run there begins with what is proved.
+# A program whose first line says so is not proved: it is built with checks at run time, in two minutes.
 set -euo pipefail
 here="$(cd "$(dirname "${BASH_SOURCE[0]}")" && pwd)"
 top="$here/.."
 part="${1:-}"
 program="$here/parts/$part.rattle"
-[ -f "$program" ] || { echo "usage: bench/part.sh queues|opaque_commits|acker [FOLDER]" >&2; exit 2; }
+[ -f "$program" ] || { echo "usage: bench/part.sh queues|opaque_commits|acker|workers [FOLDER]" >&2; exit 2; }
 if [ $# -gt 1 ]; then
   work="$2"
   mkdir -p "$work"
@@ -46,4 +47,8 @@ echo "bench_$part: $below" >>"$work/crates.txt"
 mkdir -p "$work/crates/bench_$part/src"
 sed 1d "$program" >"$work/crates/bench_$part/src/main.rt"
 cd "$work/crates/bench_$part"
-rt run
+if sed 1q "$program" | grep -q '^// unproved'; then
+  rt try
+else
+  rt run
+fi

@@ -1,5 +1,5 @@
 -- Workers after a stretch.
-use Rattle.std.proofs.Common.{ℕ, List, [], ◌∷◌, ◌++◌, tt, absurd}
+use Rattle.std.proofs.Common.{ℕ, List, [], ◌∷◌, ◌++◌}
 use Rattle.std.specs.List.{AllByRecursion, AllZip}
 use Rattle.bolt_ops.specs.RowOp.{Custom}
 use Rattle.box_rows.specs.declared.mail.Mail.{Mail}
