@@ -1,10 +1,11 @@
 //! What a task has still to hand over, as runs for one box each.
 ghost use Rattle.std.specs.Prelude.{◌≡◌, ◌≢◌, ◌↔◌, [], ◌∷◌, ◌+◌, length, map};
 ghost use Rattle.std.specs.Prelude.{IfOk, IfSome, IsTrue, OnOk};
-ghost use Rattle.std.specs.List.{AllByRecursion};
+ghost use Rattle.std.specs.List.{AllByRecursion, flat_map};
 ghost use Rattle.box_rows.specs.Mails.{IsRunFor, IsTrueParcel, box_of, last_box};
 ghost use Rattle.box_rows.specs.Rows.{ArePasses, numbers_at};
 ghost use Rattle.event_worlds.specs.Orderly.{FitsParcel};
+ghost use Rattle.worker_pool.specs.declared.outbox.Run.{Run};
 ghost use Rattle.worker_pool.specs.Outboxes.{AddsAll, HandsOver, HasRoom, IsOutbox, IsRun};
 ghost use Rattle.box_rows.specs.declared.mail.Mail.TheVariants as mails;
 
@@ -79,7 +80,7 @@ impl Outbox {
     }
 
     /// Adds parcels, each to the newest of the last runs for its box, or else to a new one.
-    pub(crate) fn add_all(
+    pub fn add_all(
         &mut self,
         plan: &Plan,
         spares: &mut Spares,
@@ -96,6 +97,20 @@ impl Outbox {
         }
         spares.give_room(rest.into_vec());
         Ok(())
+    }
+
+    /// All parcels, run by run.
+    pub fn into_parcels(self, alloc: Global) -> Result<VecDeque<Parcel>, Memory>
+        ensures { IfOk result (λ parcels.
+            parcels.items ≡ flat_map (λ (r : Run). r.parcels) self) }
+    {
+        let mut rest = self.runs;
+        let mut all = VecDeque::new(alloc);
+        while let Some(run) = rest.pop_front() {
+            let mut parcels = VecDeque::from_vec(run.parcels.into_vec());
+            all.append(&mut parcels)?;
+        }
+        Ok(all)
     }
 
     // Adds a parcel.
