@@ -1,0 +1,10 @@
+pub mod Handing
+pub mod Zipping
+pub mod Seating
+pub mod Offices
+pub mod Teaming
+pub mod Crewing
+pub mod Working
+pub mod Gathering
+pub mod Givings
+pub mod Leading

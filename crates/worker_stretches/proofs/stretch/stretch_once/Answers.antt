@@ -1,0 +1,36 @@
+use Rattle.box_rows.specs.FitRows.{held_in}
+use Rattle.event_engine.specs.Engines.{cut_in}
+use Rattle.worker_stretches.proofs.Leading.{leads-after, orderly-after, orders-after, ready-after, ready-here, seats-lent}
+use Rattle.worker_stretches.proofs.stretch.stretch_once.Goals as goal
+
+pub lend_seats-requires : goal.lend_seats-requires
+lend_seats-requires g c = ready-here c.args.posts.now.plan.now c.args.engine.now c.requires.ready
+
+pub stretch_seats-requires-clause-seats : goal.stretch_seats-requires-clause-seats
+stretch_seats-requires-clause-seats g c = λ lives bounds. seats-lent c.args.posts.now.plan.now c.args.engine.now c.lend_seats.new.self c.in_ok-tasks.tasks.items c.in_ok-tasks.ackers.items c.requires.ready c.in_ok-tasks.ensures.lends
+
+pub returns-clause-ready : goal.returns-clause-ready
+returns-clause-ready g c =
+    ready-after c.args.posts.now.plan.now c.args.engine.now c.lend_seats.new.self c.return_seats.new.self c.in_ok-left.left.items c.in_ok-left.others.items c.requires.ready c.in_ok-tasks.ensures.lent c.return_seats.ensures.ready c.in_ok-left.ensures.seats
+    (orderly-after c.args.posts.now.plan.now c.args.engine.now c.lend_seats.new.self c.return_seats.new.self c.in_ok-tasks.tasks.items c.in_ok-left.left.items c.in_ok-tasks.ackers.items c.in_ok-left.others.items c.requires.ready c.in_ok-tasks.ensures.lends c.return_seats.ensures.returns c.in_ok-left.ensures.seats)
+
+pub returns-clause-orders : goal.returns-clause-orders
+returns-clause-orders g c =
+    orders-after c.args.posts.now.plan.now c.args.engine.now c.lend_seats.new.self c.return_seats.new.self c.in_ok-tasks.tasks.items c.in_ok-left.left.items c.in_ok-tasks.ackers.items c.in_ok-left.others.items c.in_ok-tasks.ensures.lends c.return_seats.ensures.returns
+
+pub returns-clause-leads : goal.returns-clause-leads
+returns-clause-leads g c =
+    leads-after g.I.Ids.tells c.args.posts.now.plan.now (g.O.RowOp.meaning c.args.custom.now) (cut_in c.args.engine.now) c.args.engine.now c.lend_seats.new.self c.return_seats.new.self
+    c.in_ok-tasks.tasks.items c.in_ok-left.left.items c.in_ok-tasks.ackers.items c.in_ok-left.others.items (held_in c.args.row.now.items) (held_in c.stretch_seats.new.row.items)
+    (record {
+      lends = c.in_ok-tasks.ensures.lends;
+      first = c.lend_seats.ensures.still;
+      returns = c.return_seats.ensures.returns;
+      second = c.return_seats.ensures.still;
+      befores = seats-lent c.args.posts.now.plan.now c.args.engine.now c.lend_seats.new.self c.in_ok-tasks.tasks.items c.in_ok-tasks.ackers.items c.requires.ready c.in_ok-tasks.ensures.lends;
+      afters = c.in_ok-left.ensures.seats;
+      silent = c.in_ok-left.ensures.silent;
+      orderly = orderly-after c.args.posts.now.plan.now c.args.engine.now c.lend_seats.new.self c.return_seats.new.self c.in_ok-tasks.tasks.items c.in_ok-left.left.items c.in_ok-tasks.ackers.items c.in_ok-left.others.items c.requires.ready c.in_ok-tasks.ensures.lends c.return_seats.ensures.returns c.in_ok-left.ensures.seats;
+      did = c.in_ok-left.ensures.did;
+    })
+    (λ words. c.stretches_lead_on.ensures c.args.posts.now.plan.now (g.O.RowOp.meaning c.args.custom.now) (cut_in c.args.engine.now) words)

@@ -1,0 +1,5 @@
+pub mod Hands
+pub mod Places
+pub mod Teams
+pub mod Parts
+pub mod Leads
