@@ -1,4 +1,4 @@
-// Rounds: first tuples are sent, the workers have a stretch, and what came to the ackers is counted.
+// Rounds: first tuples are sent, workers have a stretch, and what came to the ackers is counted.
 ghost use Rattle.std.specs.Prelude.{◌≡◌, ◌<◌, ◌≤◌, IfOk, OnOk, length};
 ghost use Rattle.std.specs.List.{AllByRecursion};
 ghost use Rattle.box_rows.specs.FitRows.{IsFitRow};
@@ -189,8 +189,8 @@ fn course_of<R: Threads + Wait + Sync>(
     Ok(course)
 }
 
-// Whether each of so many first tuples, and of all that comes of it, is executed once, and each note
-// of it comes once to its acker, those of each task in order.
+// Whether each of so many first tuples, and of all that comes of it, is executed once, and each
+// note of it comes once to its acker, those of each task in order.
 fn check<R: Threads + Wait + Sync>(
     rt: &R,
     alloc: Global,

@@ -223,7 +223,8 @@ pub fn without_row<'p>(
 ) -> Result<(TestWorker<'p>, Row), Mismatch>
     requires { Came posts.now.plan.now posts.now.boxes.items board.now worker }
     ensures rests { IfOk result (λ back. Rests posts.now.plan.now board.now back.0) }
-    ensures row { IfOk result (λ back. ArePassesIn posts.now.plan.now posts.now.boxes.items back.1) }
+    ensures row { IfOk result (λ back.
+        ArePassesIn posts.now.plan.now posts.now.boxes.items back.1) }
 {
     let _ = posts;
     let _ = board;
