@@ -4,7 +4,6 @@ pub mod ListLaws
 mod Lists
 mod Loops
 mod Maps
-pub mod Packing
 mod Quoted
 pub mod Reading
 mod Single
