@@ -1,0 +1,10 @@
+//! What a caller does between stretches of workers: verdicts are taken and heard, the coordinator
+//! has turns, and what it orders is handed over.
+#![tactic(auto)]
+
+mod orders;
+mod runs;
+mod turns;
+
+pub use orders::{hand_over, put_behind};
+pub use turns::{hear_one, turn_once};
