@@ -1,24 +1,57 @@
 -- Parcels that are handed over as runs, in their order.
 use Rattle.std.proofs.Common.{◌≡◌, ◌<◌, ◌≤◌, ℕ, ◌+◌, List, [], ◌∷◌, ◌++◌, length, map, append_assoc, length-append, sym, refl, ap, subst, ◌∙◌, arith}
 use Rattle.std.specs.Prelude.{slice_get}
+use Rattle.std.specs.List.{AllByRecursion}
 use Rattle.box_rows.specs.declared.mail.Mail.{Mail}
 use Rattle.box_rows.specs.declared.mail.Mail.TheVariants as mail
-use Rattle.box_rows.specs.FitRows.{HoldsMore}
-use Rattle.box_rows.specs.Mails.{box_of}
+use Rattle.box_rows.specs.FitRows.{HoldsMore, IsFitRow}
+use Rattle.box_rows.specs.Mails.{IsRunFor, box_of, last_box, most_in_run}
 use Rattle.box_rows.specs.Rows.{IsFull, IsSameRow, IsViewAt}
 use Rattle.counted_items.proofs.Weighing.{weigh-append}
+use Rattle.event_worlds.specs.Orderly.{FitsParcel}
+use Rattle.task_queues.specs.declared.pass.Mailbox.{Mailbox}
 use Rattle.task_queues.specs.declared.pass.Pass.{Pass}
 use Rattle.task_queues.specs.declared.rule.View.{View}
 use Rattle.task_queues.specs.Passes.{view_of}
 use Rattle.topology_plan.specs.Topology.{Topology}
 use Rattle.tree_model.specs.declared.messages.Parcel.{Parcel}
+use Rattle.tree_model.specs.declared.messages.Parcel.TheVariants.{ToTask, ToAcker}
 use Rattle.tuple_account.specs.Histories.{Packet, of_parcel, weigh_parcels}
+use Rattle.worker_pool.proofs.Outboxing.{run_more, run_new}
 use Rattle.worker_turns.specs.Orders.{HasHandedOver, HasStopped, WaitsAlike, beside_it}
 
 -- ---- runs
 
-pub front-more : (all run left : List Parcel) (p : Parcel) (rest : List Parcel) → all ≡ run ++ left → left ≡ p ∷ rest → all ≡ (run ++ p ∷ []) ++ rest
-front-more all run left p rest is front = is ∙ ap (λ xs. run ++ xs) front ∙ sym (append_assoc run (p ∷ []) rest)
+-- no run is for the last box
+pub run-below : (t : Topology) (at : ℕ) (parcels : List Parcel) → IsRunFor t at parcels → at < last_box t
+run-below t at [] is = absurd (omega (arith, is.some))
+run-below t at (ToTask n tuple ∷ parcels) is = let b = is.each.0.1 in let f = is.each.0.0.0 in omega arith
+run-below t at (ToAcker n m ∷ parcels) is = let b = is.each.0.1 in let f = is.each.0.0 in omega arith
+
+-- a run for a box was taken from the front, and the rest is left
+pub record RunsOn (t : Topology) (at : ℕ) (all run left : List Parcel) : Type 0 where
+  pub is_run : IsRunFor t at run
+  pub fits : AllByRecursion (FitsParcel t) left
+  pub front : all ≡ run ++ left
+
+pub runs-one : (t : Topology) (at : ℕ) (p : Parcel) (left run : List Parcel) → run ≡ p ∷ [] → at ≡ box_of t p → AllByRecursion (FitsParcel t) (p ∷ left) → RunsOn t at (p ∷ left) run left
+runs-one t at p left run is goes fits = record {
+  is_run = subst (IsRunFor t at) (sym is) (run_new t at p (fits.0, goes));
+  fits = fits.1;
+  front = ap (λ xs. xs ++ left) (sym is);
+}
+
+pub runs-more : (t : Topology) (at : ℕ) (all run left : List Parcel) (p : Parcel) (rest now : List Parcel) → RunsOn t at all run left → left ≡ p ∷ rest → at ≡ box_of t p → length run < most_in_run → now ≡ run ++ p ∷ []
+    → RunsOn t at all now rest
+runs-more t at all run left p rest now so_far front goes below is =
+    let fits = subst (AllByRecursion (FitsParcel t)) front so_far.fits in record {
+      is_run = subst (IsRunFor t at) (sym is) (run_more t at run p so_far.is_run below (fits.0, goes));
+      fits = fits.1;
+      front = so_far.front ∙ ap (λ xs. run ++ xs) front ∙ sym (append_assoc run (p ∷ []) rest) ∙ ap (λ xs. xs ++ rest) (sym is);
+    }
+
+pub runs-same : (t : Topology) (at : ℕ) (all run left rest : List Parcel) → RunsOn t at all run left → rest ≡ left → RunsOn t at all run rest
+runs-same t at all run left rest so_far is = subst (RunsOn t at all run) (sym is) so_far
 
 -- ---- what is left
 
@@ -50,3 +83,42 @@ pub stops-full : (t : Topology) (row new : List (Pass Mail)) (p : Parcel) (at : 
 stops-full t row new p at rest left is goes same full =
     subst (HasStopped t new) (sym is) (λ v there.
     full v (ap (λ n. slice_get (map view_of row) n) goes ∙ ap (λ (vs : List (View Mail)). slice_get vs (box_of t p)) (sym same.views) ∙ there))
+
+-- ---- a loop that hands over
+
+-- so many were handed over, from one row to another
+pub record Handed (t : Topology) (boxes : List (Mailbox Mail)) (was is : List (Pass Mail)) (old left : List Parcel) : Type 0 where
+  pub row : IsFitRow t boxes is
+  pub fits : AllByRecursion (FitsParcel t) left
+  pub same : WaitsAlike (beside_it was old) (beside_it is left)
+  pub handed : HasHandedOver old left
+
+pub handed-first : (t : Topology) (boxes : List (Mailbox Mail)) (row : List (Pass Mail)) (left : List Parcel) → IsFitRow t boxes row → AllByRecursion (FitsParcel t) left → Handed t boxes row row left left
+handed-first t boxes row left fit fits = record { row = fit; fits = fits; same = λ f. refl; handed = handed-none left }
+
+pub handed-run : (t : Topology) (boxes : List (Mailbox Mail)) (was is now : List (Pass Mail)) (old left : List Parcel) (p : Parcel) (mid run rest : List Parcel) → Handed t boxes was is old left → left ≡ p ∷ mid → p ∷ mid ≡ run ++ rest
+    → AllByRecursion (FitsParcel t) rest → IsFitRow t boxes now → HoldsMore (mail.Run run) is now → Handed t boxes was now old rest
+handed-run t boxes was is now old left p mid run rest so_far front parts fits fit more = record {
+  row = fit;
+  fits = fits;
+  same = waits-then (beside_it was old) (beside_it is left) (beside_it now rest) so_far.same (sent-alike is now left run rest (front ∙ parts) more);
+  handed = handed-more old left run rest so_far.handed (front ∙ parts);
+}
+
+pub handed-less : (left : List Parcel) (p : Parcel) (mid run rest : List Parcel) → left ≡ p ∷ mid → p ∷ mid ≡ run ++ rest → 1 ≤ length run → length rest < length left
+handed-less left p mid run rest front parts some = less-left left run rest (front ∙ parts) some
+
+-- the run came back, and all is as it was
+pub handed-back : (t : Topology) (boxes : List (Mailbox Mail)) (was is now : List (Pass Mail)) (old left : List Parcel) (p : Parcel) (mid run rest back : List Parcel) → Handed t boxes was is old left → left ≡ p ∷ mid → p ∷ mid ≡ run ++ rest
+    → back ≡ run ++ rest → IsFitRow t boxes now → IsSameRow is now → Handed t boxes was now old back
+handed-back t boxes was is now old left p mid run rest back so_far front parts came fit same =
+    let here : back ≡ left = came ∙ sym parts ∙ sym front in record {
+      row = fit;
+      fits = subst (AllByRecursion (FitsParcel t)) (sym here) so_far.fits;
+      same = waits-then (beside_it was old) (beside_it is left) (beside_it now back) so_far.same (λ f. ap (λ ps. beside_it now ps f) here ∙ same-alike is now left same f);
+      handed = subst (HasHandedOver old) (sym here) so_far.handed;
+    }
+
+pub stops-back : (t : Topology) (row new : List (Pass Mail)) (p : Parcel) (at : ℕ) (mid run rest back : List Parcel) → p ∷ mid ≡ run ++ rest → back ≡ run ++ rest → at ≡ box_of t p → IsSameRow row new
+    → ((v : View Mail) → IsViewAt at row v → IsFull v) → HasStopped t new back
+stops-back t row new p at mid run rest back parts came goes same full = stops-full t row new p at mid back (came ∙ sym parts) goes same full

@@ -1,5 +1,5 @@
 //! Runs of parcels for one box, from the front of what is left to hand over.
-ghost use Rattle.std.specs.Prelude.{◌≡◌, ◌∷◌, ◌++◌, IfOk, IfSome, IsTrue, OnOk};
+ghost use Rattle.std.specs.Prelude.{◌≡◌, ◌∷◌, ◌++◌, [], IfOk, IfSome, IsTrue, OnOk};
 ghost use Rattle.std.specs.List.{AllByRecursion};
 ghost use Rattle.std.specs.Option.{IfNone};
 ghost use Rattle.box_rows.specs.declared.mail.Mail.TheVariants as mails;
@@ -61,6 +61,15 @@ fn next_for(plan: &Plan, left: &mut VecDeque<Parcel>, at: usize) -> Option<Parce
     left.pop_front()
 }
 
+// A run that begins with a parcel.
+fn begun(alloc: Global, first: Parcel) -> Result<Parcels, Memory>
+    ensures { IfOk result (λ made. made ≡ first ∷ []) }
+{
+    let mut run = Parcels::new(alloc);
+    run.push(first)?;
+    Ok(run)
+}
+
 // A parcel, and those that stand in front and go to the same box, up to a whole run.
 pub(crate) fn run_from(
     alloc: Global,
@@ -75,15 +84,14 @@ pub(crate) fn run_from(
     ensures fits { OnOk result (AllByRecursion (FitsParcel plan.now) left.new.items) }
     ensures front { IfOk result (λ run. first ∷ left.old.items ≡ run ++ left.new.items) }
 {
-    let mut run = Parcels::new(alloc);
-    run.push(first)?;
-    while run.len() < MOST_IN_RUN {
-        match next_for(plan, left, at) {
-            Some(parcel) => run.push(parcel)?,
-            None => return Ok(run),
-        }
+    let mut made = begun(alloc, first)?;
+    while made.len() < MOST_IN_RUN {
+        let Some(parcel) = next_for(plan, left, at) else {
+            return Ok(made);
+        };
+        made.push(parcel)?;
     }
-    Ok(run)
+    Ok(made)
 }
 
 // Puts the parcels of a run in front of what is left.

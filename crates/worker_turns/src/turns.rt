@@ -106,11 +106,9 @@ pub fn turn_once<I: Ids>(engine: &mut Engine<'_, I>, how: CommitOutcome) -> Resu
 {
     // a law: the coordinator's steps beside what waits elsewhere
     coordinators_steps_lead_on_beside();
-    match engine.turn()? {
-        Some(_) => {
-            engine.decide(how)?;
-            Ok(true)
-        }
-        None => Ok(false),
-    }
+    let Some(_) = engine.turn()? else {
+        return Ok(false);
+    };
+    engine.decide(how)?;
+    Ok(true)
 }
