@@ -1,24 +1,21 @@
 -- Parcels that are handed over as runs, in their order.
-use Rattle.std.proofs.Common.{◌≡◌, ◌<◌, ◌≤◌, ℕ, ◌+◌, List, [], ◌∷◌, ◌++◌, length, map, append_assoc, length-append, sym, refl, ap, subst, ◌∙◌, arith}
-use Rattle.std.specs.Prelude.{slice_get}
+use Rattle.std.proofs.Common.{◌≡◌, ◌<◌, ℕ, ◌+◌, List, [], ◌∷◌, ◌++◌, length, append_assoc, sym, ap, subst, ◌∙◌, arith}
 use Rattle.std.specs.List.{AllByRecursion}
 use Rattle.box_rows.specs.declared.mail.Mail.{Mail}
 use Rattle.box_rows.specs.declared.mail.Mail.TheVariants as mail
 use Rattle.box_rows.specs.FitRows.{HoldsMore, IsFitRow}
 use Rattle.box_rows.specs.Mails.{IsRunFor, box_of, last_box, most_in_run}
-use Rattle.box_rows.specs.Rows.{IsFull, IsSameRow, IsViewAt}
+use Rattle.box_rows.specs.Rows.{IsSameRow}
 use Rattle.counted_items.proofs.Weighing.{weigh-append}
 use Rattle.event_worlds.specs.Orderly.{FitsParcel}
 use Rattle.task_queues.specs.declared.pass.Mailbox.{Mailbox}
 use Rattle.task_queues.specs.declared.pass.Pass.{Pass}
-use Rattle.task_queues.specs.declared.rule.View.{View}
-use Rattle.task_queues.specs.Passes.{view_of}
 use Rattle.topology_plan.specs.Topology.{Topology}
 use Rattle.tree_model.specs.declared.messages.Parcel.{Parcel}
 use Rattle.tree_model.specs.declared.messages.Parcel.TheVariants.{ToTask, ToAcker}
 use Rattle.tuple_account.specs.Histories.{Packet, of_parcel, weigh_parcels}
 use Rattle.worker_pool.proofs.Outboxing.{run_more, run_new}
-use Rattle.worker_turns.specs.Orders.{HasHandedOver, HasStopped, WaitsAlike, beside_it}
+use Rattle.worker_turns.specs.Orders.{HasHandedOver, WaitsAlike, beside_it}
 
 -- ---- runs
 
@@ -50,22 +47,13 @@ runs-more t at all run left p rest now so_far front goes below is =
       front = so_far.front ∙ ap (λ xs. run ++ xs) front ∙ sym (append_assoc run (p ∷ []) rest) ∙ ap (λ xs. xs ++ rest) (sym is);
     }
 
-pub runs-same : (t : Topology) (at : ℕ) (all run left rest : List Parcel) → RunsOn t at all run left → rest ≡ left → RunsOn t at all run rest
-runs-same t at all run left rest so_far is = subst (RunsOn t at all run) (sym is) so_far
-
 -- ---- what is left
-
-pub handed-none : (left : List Parcel) → HasHandedOver left left
-handed-none left = record { gone = []; are = refl }
 
 pub handed-more : (old mid run rest : List Parcel) → HasHandedOver old mid → mid ≡ run ++ rest → HasHandedOver old rest
 handed-more old mid run rest has is = record {
   gone = has.gone ++ run;
   are = has.are ∙ ap (λ xs. has.gone ++ xs) is ∙ sym (append_assoc has.gone run rest);
 }
-
-pub less-left : (mid run rest : List Parcel) → mid ≡ run ++ rest → 1 ≤ length run → length rest < length mid
-less-left mid run rest is some = let a = length-append run rest in let e = ap length is in omega arith
 
 pub sent-alike : (row new : List (Pass Mail)) (mid run rest : List Parcel) → mid ≡ run ++ rest → HoldsMore (mail.Run run) row new → WaitsAlike (beside_it row mid) (beside_it new rest)
 sent-alike row new mid run rest is more f =
@@ -77,13 +65,6 @@ same-alike row new left same f = let s = same.sent f in let t = same.taken f in 
 pub waits-then : (a b c : (Packet → ℕ) → ℕ) → WaitsAlike a b → WaitsAlike b c → WaitsAlike a c
 waits-then a b c first second f = second f ∙ first f
 
--- the box of the front parcel is full
-pub stops-full : (t : Topology) (row new : List (Pass Mail)) (p : Parcel) (at : ℕ) (rest left : List Parcel) → left ≡ p ∷ rest → at ≡ box_of t p → IsSameRow row new
-    → ((v : View Mail) → IsViewAt at row v → IsFull v) → HasStopped t new left
-stops-full t row new p at rest left is goes same full =
-    subst (HasStopped t new) (sym is) (λ v there.
-    full v (ap (λ n. slice_get (map view_of row) n) goes ∙ ap (λ (vs : List (View Mail)). slice_get vs (box_of t p)) (sym same.views) ∙ there))
-
 -- ---- a loop that hands over
 
 -- so many were handed over, from one row to another
@@ -92,9 +73,6 @@ pub record Handed (t : Topology) (boxes : List (Mailbox Mail)) (was is : List (P
   pub fits : AllByRecursion (FitsParcel t) left
   pub same : WaitsAlike (beside_it was old) (beside_it is left)
   pub handed : HasHandedOver old left
-
-pub handed-first : (t : Topology) (boxes : List (Mailbox Mail)) (row : List (Pass Mail)) (left : List Parcel) → IsFitRow t boxes row → AllByRecursion (FitsParcel t) left → Handed t boxes row row left left
-handed-first t boxes row left fit fits = record { row = fit; fits = fits; same = λ f. refl; handed = handed-none left }
 
 pub handed-run : (t : Topology) (boxes : List (Mailbox Mail)) (was is now : List (Pass Mail)) (old left : List Parcel) (p : Parcel) (mid run rest : List Parcel) → Handed t boxes was is old left → left ≡ p ∷ mid → p ∷ mid ≡ run ++ rest
     → AllByRecursion (FitsParcel t) rest → IsFitRow t boxes now → HoldsMore (mail.Run run) is now → Handed t boxes was now old rest
@@ -105,20 +83,7 @@ handed-run t boxes was is now old left p mid run rest so_far front parts fits fi
   handed = handed-more old left run rest so_far.handed (front ∙ parts);
 }
 
-pub handed-less : (left : List Parcel) (p : Parcel) (mid run rest : List Parcel) → left ≡ p ∷ mid → p ∷ mid ≡ run ++ rest → 1 ≤ length run → length rest < length left
-handed-less left p mid run rest front parts some = less-left left run rest (front ∙ parts) some
+-- ---- orders behind what is left
 
--- the run came back, and all is as it was
-pub handed-back : (t : Topology) (boxes : List (Mailbox Mail)) (was is now : List (Pass Mail)) (old left : List Parcel) (p : Parcel) (mid run rest back : List Parcel) → Handed t boxes was is old left → left ≡ p ∷ mid → p ∷ mid ≡ run ++ rest
-    → back ≡ run ++ rest → IsFitRow t boxes now → IsSameRow is now → Handed t boxes was now old back
-handed-back t boxes was is now old left p mid run rest back so_far front parts came fit same =
-    let here : back ≡ left = came ∙ sym parts ∙ sym front in record {
-      row = fit;
-      fits = subst (AllByRecursion (FitsParcel t)) (sym here) so_far.fits;
-      same = waits-then (beside_it was old) (beside_it is left) (beside_it now back) so_far.same (λ f. ap (λ ps. beside_it now ps f) here ∙ same-alike is now left same f);
-      handed = subst (HasHandedOver old) (sym here) so_far.handed;
-    }
-
-pub stops-back : (t : Topology) (row new : List (Pass Mail)) (p : Parcel) (at : ℕ) (mid run rest back : List Parcel) → p ∷ mid ≡ run ++ rest → back ≡ run ++ rest → at ≡ box_of t p → IsSameRow row new
-    → ((v : View Mail) → IsViewAt at row v → IsFull v) → HasStopped t new back
-stops-back t row new p at mid run rest back parts came goes same full = stops-full t row new p at mid back (came ∙ sym parts) goes same full
+pub waits-behind : (row : List (Pass Mail)) (left orders : List Parcel) (f : Packet → ℕ) → beside_it row (left ++ orders) f ≡ beside_it row left f + weigh_parcels f orders
+waits-behind row left orders f = let a = weigh-append (λ (p : Parcel). f (of_parcel p)) left orders in omega arith

@@ -6,11 +6,12 @@ use Rattle.std.proofs.lemmas.List.FromFn.{length-map-range_with_len}
 use Rattle.acker_core.specs.declared.verdict.Verdict.{Verdict}
 use Rattle.attempt_fates.specs.declared.fates.Attempt.{Attempt}
 use Rattle.bolt_ops.specs.RowOp.{Custom}
+use Rattle.commit_order.specs.declared.coordinator.Coordinator.{Coordinator}
 use Rattle.commit_turns.specs.Outcomes.{IsOutcome}
 use Rattle.counted_items.specs.Weights.{weigh}
 use Rattle.counted_items.proofs.Weighing.{weigh-append}
 use Rattle.event_engine.specs.declared.engine.Engine.{Engine}
-use Rattle.event_engine.specs.Engines.{Goes, HasOutcomes, IsReady, IsStill, cut_in, shape, sources, topology_in}
+use Rattle.event_engine.specs.Engines.{Goes, HasOutcomes, IsIdle, IsReady, IsStill, cut_in, shape, sources, topology_in}
 use Rattle.event_engine.specs.Lending.{GivesOrders, Hears}
 use Rattle.event_engine.proofs.GoesLemmas.{append-split, draws-then, outcomes-append, words-append}
 use Rattle.event_worlds.specs.Accounted.{IsInput, station_of}
@@ -156,7 +157,11 @@ module _ {I : Type 0} {g : Ghosts I} (tells : I → (ℕ → ℕ) → ℕ → Ty
 
 module _ {I : Type 0} {g : Ghosts I} (t : Topology) (cut : Cut) (mid : Engine I g) (ready : IsReady t cut mid) where
   -- what is so for an engine's own topology and cut is so for these
-  pub leads_there : (tells : I → (ℕ → ℕ) → ℕ → Type 0) (custom : Custom) (new : Engine I g) (p q : Waiting) → Leads tells (topology_in mid) custom (cut_in mid) mid new p q → Leads tells t custom cut mid new p q
-  leads_there tells custom new p q own =
+  pub leads-there : (tells : I → (ℕ → ℕ) → ℕ → Type 0) (custom : Custom) (new : Engine I g) (p q : Waiting) → Leads tells (topology_in mid) custom (cut_in mid) mid new p q → Leads tells t custom cut mid new p q
+  leads-there tells custom new p q own =
       subst (λ (u : Topology). Leads tells u custom cut mid new p q) ready.seated.of_topology
       (subst (λ (k : Cut). Leads tells (topology_in mid) custom k mid new p q) ready.seated.of_cut own)
+
+-- a coordinator that stays as it was stays idle
+pub idle-still : {I : Type 0} {g : Ghosts I} (old new : Engine I g) → IsStill old new → IsIdle old → IsIdle new
+idle-still {I = I} old new still idle = subst (λ (c : Coordinator I). IsIdle (record old { coordinator = c })) (sym still.coordinator) idle

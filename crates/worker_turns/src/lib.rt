@@ -3,8 +3,10 @@
 #![tactic(auto)]
 
 mod orders;
+mod rounds;
 mod runs;
 mod turns;
 
 pub use orders::{hand_over, put_behind};
+pub use rounds::coordinate_once;
 pub use turns::{hear_one, turn_once};
