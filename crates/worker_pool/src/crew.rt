@@ -80,8 +80,8 @@ fn go_on_at<'p, I: Ids, R: Wait, O: RowOp, G: Gate>(
     Ok(())
 }
 
-// The task at a place has so many steps, or fewer where it can do nothing, and one at least. It says
-// whether it did anything.
+// The task at a place has so many steps, or fewer where it can do nothing, and one at least. It
+// says whether it did anything.
 fn work_at<'p, I: Ids, R: Wait, O: RowOp, G: Gate>(
     rt: &R,
     posts: &Posts<'_>,
