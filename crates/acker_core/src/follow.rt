@@ -49,12 +49,12 @@ struct Open<'l> {
     slot: usize,
 }
 
-// A walk so far: the places of the dones that it came to, the edges that these and the init made and
-// that are still open, and the path of the last done.
+// A walk so far: the places of the dones that it came to, the edges that these and the init made
+// and that are still open, and the path of the last done.
 #[derive(Drop)]
 struct Walk<'l> {
     order: Vec<usize>,
-    open: Vec<Open<'l>>,
+    pending: Vec<Open<'l>>,
     last: &'l [u32],
 }
 
@@ -72,16 +72,16 @@ fn follow(
 {
     let mut walk = Walk {
         order: Vec::with_capacity(alloc, list.len())?,
-        open: Vec::new(alloc),
+        pending: Vec::new(alloc),
         last: &[],
     };
-    add_open(&mut walk.open, firsts, 0)?;
+    add_open(&mut walk.pending, firsts, 0)?;
     for _ in 1..list.len() {
         if !walk.step(list, slots)? {
             return Ok(None);
         }
     }
-    if !walk.open.is_empty() {
+    if !walk.pending.is_empty() {
         return Ok(None);
     }
     Ok(Some(Seq::from_vec(walk.order)))
@@ -93,9 +93,9 @@ impl<'l> Walk<'l> {
         ensures { IfOk result (λ went. IsTrue went
             → FollowsOn list.now self.old.order.items self.new.order.items
             self.old.last.now self.new.last.now
-            (open_edges self.old.open.items) (open_edges self.new.open.items)) }
+            (open_edges self.old.pending.items) (open_edges self.new.pending.items)) }
     {
-        let Some((edge, slot)) = take_edge(&mut self.open)? else {
+        let Some((edge, slot)) = take_edge(&mut self.pending)? else {
             return Ok(false);
         };
         let Some(slot) = slots.get(slot) else {
@@ -109,7 +109,7 @@ impl<'l> Walk<'l> {
             return Ok(false);
         }
         add_open(
-            &mut self.open,
+            &mut self.pending,
             done.produced.as_slice(),
             slot.first as usize,
         )?;

@@ -6,7 +6,7 @@ use commit_turns::Wait;
 use std::alloc::Global;
 use std::marker::Model;
 use storm_values::{Memory, Root, Seq};
-use tree_model::{Notes, Writes};
+use tree_model::{Notes, PackedWrites};
 
 /// The list that an attempt was settled with, beside the places of its dones in the order of the
 /// paths that they consume. Contracts see the list.
@@ -37,7 +37,7 @@ impl Settled {
     }
 
     /// The writes of the list's dones, in the order of the paths that they consume.
-    pub fn writes(&self, alloc: Global) -> Result<Writes, Memory>
+    pub fn writes(&self, alloc: Global) -> Result<PackedWrites, Memory>
         ensures { IfOk result (AreWritesOf self.now) }
     {
         writes_in_path_order(alloc, &self.list, &self.order)

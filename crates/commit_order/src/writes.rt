@@ -2,8 +2,8 @@ ghost use Rattle.std.specs.Prelude.{◌≡◌, ◌++◌, IfOk, OnOk, option_copi
 ghost use Rattle.commit_writes.specs.Writes.{AreWritesOf, IsPathOrderOf, done_in, done_of, writes_in};
 
 use std::alloc::Global;
-use storm_values::{Duplicate, Memory, Seq};
-use tree_model::{AckMsg, Notes, Write, Writes};
+use storm_values::{Memory, Seq};
+use tree_model::{AckMsg, Notes, PackedWrites, Write};
 
 /// The writes of a list's dones, in the order of the paths that they consume, by the places of the
 /// dones in this order: one pass over these.
@@ -11,11 +11,11 @@ pub(crate) fn writes_in_path_order(
     alloc: Global,
     list: &Notes,
     order: &Seq<usize>,
-) -> Result<Writes, Memory>
+) -> Result<PackedWrites, Memory>
     requires { IsPathOrderOf list.now order.now }
     ensures { IfOk result (AreWritesOf list.now) }
 {
-    let mut writes = Writes::from_vec(Vec::with_capacity(alloc, order.len())?);
+    let mut writes = PackedWrites::with_capacity(alloc, order.len())?;
     for place in order.as_slice() {
         add_writes_at(&mut writes, list.as_slice(), *place)?;
     }
@@ -23,7 +23,7 @@ pub(crate) fn writes_in_path_order(
 }
 
 // Adds copies of the writes of the done at a place.
-fn add_writes_at(into: &mut Writes, list: &[AckMsg], place: usize) -> Result<(), Memory>
+fn add_writes_at(into: &mut PackedWrites, list: &[AckMsg], place: usize) -> Result<(), Memory>
     ensures { OnOk result
         (into.new ≡ into.old ++ writes_in (done_of (slice_get list.now place))) }
 {
@@ -41,7 +41,7 @@ fn note_at(list: &[AckMsg], place: usize) -> Option<&AckMsg>
 }
 
 // Adds copies of the writes of a message.
-fn add_writes_of(into: &mut Writes, note: &AckMsg) -> Result<(), Memory>
+fn add_writes_of(into: &mut PackedWrites, note: &AckMsg) -> Result<(), Memory>
     ensures { OnOk result (into.new ≡ into.old ++ writes_in (done_in note.now)) }
 {
     match note {
@@ -50,11 +50,11 @@ fn add_writes_of(into: &mut Writes, note: &AckMsg) -> Result<(), Memory>
     }
 }
 
-fn add_copies(into: &mut Writes, writes: &[Write]) -> Result<(), Memory>
+fn add_copies(into: &mut PackedWrites, writes: &[Write]) -> Result<(), Memory>
     ensures { OnOk result (into.new ≡ into.old ++ writes.now) }
 {
     for write in writes {
-        into.push(write.copy()?)?;
+        into.push(write)?;
     }
     Ok(())
 }

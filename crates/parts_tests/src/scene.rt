@@ -11,7 +11,7 @@ use storm_stores::{CallKind, FailAt, MemMaker, MemStore};
 use storm_values::{Bytes, Memory, Root, Txt};
 use topology_plan::Plan;
 use topology_reader::{TopoFault, read_topology};
-use tree_model::{Table, Write, Writes};
+use tree_model::{PackedWrites, Table, Write};
 
 const TWO_STATES: &str = r#"{"version":1,
  "spout":{"name":"lines","kind":"transactional","fields":["word","n"],"batch":2},
@@ -84,9 +84,9 @@ const BATCH: [(u32, u32, &str, i64); 6] = [
 ];
 
 fn commit_of(alloc: Global, txid: u64) -> Result<Commit, Memory> {
-    let mut writes = Writes::new(alloc);
+    let mut writes = PackedWrites::with_capacity(alloc, BATCH.len())?;
     for (state, part, key, amount) in BATCH {
-        writes.push(Write {
+        writes.push(&Write {
             state,
             part,
             key: Txt::from_str(alloc, key)?,

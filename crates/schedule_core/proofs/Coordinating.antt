@@ -74,18 +74,6 @@ pub exit_is : {T E : Type 0} (r : Result T E) (met told : E) → IsErrAnd r (λ 
 exit_is (Ok x) met told exits is = absurd exits
 exit_is (Err e) met told exits is = sym exits ∙ (let same : Err e ≡ Err told = is in cc)
 
--- ---- keys of writes
-
--- one more write with a text as its key
-pub texts_more : (writes items : List Write) (i : ℕ) (x : Write) (bytes : List ℕ) → items ≡ writes → i < length items → x ≡ slice_index_or items i x → bytes ≡ x.key → IsUtf8 bytes
-    → All HasTextKey (take i writes) → All HasTextKey (take (i + 1) writes)
-texts_more writes items i x bytes same below at key text so_far =
-    All-more HasTextKey writes i x (subst (λ (ws : List Write). i < length ws) same below) so_far
-    (subst HasTextKey (at ∙ ap (λ (ws : List Write). slice_index_or ws i x) same) (subst (λ (k : List ℕ). IsUtf8 k) key text))
-
-pub texts_end : (writes items : List Write) (i : ℕ) → items ≡ writes → length items ≤ i → All HasTextKey (take i writes) → All HasTextKey writes
-texts_end writes items i same ends all = subst (λ (ws : List Write). All HasTextKey ws) (take_all i writes (subst (λ (ws : List Write). length ws ≤ i) same ends)) all
-
 -- ---- worlds
 
 module _ (t : Topology) (custom : Custom) (cut : Cut) (words : ℕ → ℕ → ℕ) (outcomes : List CommitOutcome) (k : Known) where

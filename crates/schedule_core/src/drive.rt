@@ -2,7 +2,6 @@
 ghost use Rattle.std.specs.Prelude.{◌≡◌, ℕ, List, All, length, Err, OnOk, OnErr, replicate};
 ghost use Rattle.std.specs.List.{AllByRecursion};
 ghost use Rattle.attempt_fates.specs.Fates.{IsOnce};
-ghost use Rattle.batch_commits.specs.Standing.{HasTextKey};
 ghost use Rattle.bolt_ops.specs.RowOp.{Custom};
 ghost use Rattle.commit_turns.specs.Turns.{last_tick};
 ghost use Rattle.event_engine.specs.Boosts.{Boosts};
@@ -23,7 +22,6 @@ use state_parts::{CommitFault, Parts};
 use storm_ids::Ids;
 use storm_stores::CellStore;
 use storm_values::Memory;
-use tree_model::Writes;
 
 /// How many events a task or an acker has at most before a round. Boxes stay short by it.
 const MOST_BEFORE: u32 = 64;
@@ -55,19 +53,10 @@ fn coordinate<I: Ids, C: CellStore>(
     let Some(commit) = engine.turn()? else {
         return Ok(());
     };
-    keys_are_texts(&commit.writes);
+    commit.writes.keys_are_texts();
     let how = parts.commit_all(commit)?;
     engine.decide(how)?;
     Ok(())
-}
-
-/// The keys of writes are texts. It does nothing.
-fn keys_are_texts(writes: &Writes)
-    ensures { All HasTextKey writes.now }
-{
-    for write in writes.as_slice() {
-        let _ = write.key.as_str();
-    }
 }
 
 /// A round up to the coordinator's step: an event of each task, and then of each acker.

@@ -1,6 +1,7 @@
 ghost use Rattle.std.specs.Prelude.{◌≡◌, ◌++◌, ◌∷◌, [], ℕ, List, filter, not, is_some, IfOk, OnOk};
 ghost use Rattle.cell_format.specs.Commits.{amounts_at};
 ghost use Rattle.state_cells.specs.Turns.{AreApart};
+ghost use Rattle.tree_model.specs.declared.write.Write.{Write};
 ghost use Rattle.state_cells.specs.Groups.{amounts_of, group_of, jobs_in};
 
 use indexmap::IndexMap;
@@ -8,7 +9,6 @@ use smallvec::SmallVec;
 use std::alloc::Global;
 use storm_stores::KeyBytes;
 use storm_values::{Bytes, Memory};
-use tree_model::Write;
 
 /// What is written for a key, in order. Up to four amounts take no memory.
 pub(crate) type Amounts = SmallVec<i64, 4>;
@@ -32,16 +32,14 @@ impl<'w> GroupedWrites<'w> {
         Ok(GroupedWrites { groups })
     }
 
-    /// Adds a write behind those of its key, with one look-up.
-    pub fn add(&mut self, write: &'w Write) -> Result<(), Memory>
-        ensures { OnOk result ((key : List ℕ) → amounts_of self.new key
-            ≡ amounts_of self.old key ++ amounts_at (write.now ∷ []) key) }
+    /// Adds the amount of a write behind those of its key, with one look-up.
+    pub fn add(&mut self, key: &'w [u8], amount: i64) -> Result<(), Memory>
+        ensures { OnOk result ((write : Write) → write.key ≡ key.now → write.amount ≡ amount
+            → (k : List ℕ) → amounts_of self.new k
+            ≡ amounts_of self.old k ++ amounts_at (write ∷ []) k) }
     {
-        let key = KeyBytes {
-            bytes: write.key.as_bytes(),
-        };
-        let amounts = self.groups.entry(key)?.or_default();
-        amounts.push(write.amount)?;
+        let amounts = self.groups.entry(KeyBytes { bytes: key })?.or_default();
+        amounts.push(amount)?;
         Ok(())
     }
 

@@ -1,5 +1,5 @@
 -- The writes of a batch, dealt to the parts.
-use Rattle.std.proofs.Common.{IfNone, None, Option, Some, option_map, slice_get, ◌≡◌, ◌<◌, ◌==◌, ◌&&◌, inl, inr, ℕ, ℤ, zero, suc, Bool, true, false, cond, List, [], ◌∷◌, ◌++◌, map, filter, length, get_or, set, refl, sym, ap, subst, ◌∙◌, eq-eqb, eqb-true, arith}
+use Rattle.std.proofs.Common.{IfNone, None, Option, Some, option_map, slice_get, ◌+◌, ◌≡◌, ◌<◌, ◌==◌, ◌&&◌, inl, inr, ℕ, ℤ, zero, suc, Bool, true, false, cond, List, [], ◌∷◌, ◌++◌, map, filter, length, get_or, set, refl, sym, ap, subst, take, ◌∙◌, eq-eqb, eqb-true, arith}
 use Rattle.std.specs.List.{AllByRecursion}
 use Rattle.std.specs.Str.{bytes_eq}
 use Rattle.std.proofs.lemmas.List.{append-nil, length-map, map-append}
@@ -123,3 +123,10 @@ plans_at {S} parts place at within read =
 pub if_none : {T P : Type 0} (o : Option T) → o ≡ None → IfNone o P → P
 if_none None none p = p
 if_none (Some x) none p = absurd (none-some x (sym none))
+
+-- the items up to one and this one
+pub taken_more : {X : Type 0} (xs : List X) (i : ℕ) (x : X) → slice_get xs i ≡ Some x → take (i + 1) xs ≡ take i xs ++ x ∷ []
+taken_more [] i x at = absurd (let e : None ≡ Some x = at in cc)
+taken_more (y ∷ ys) zero x at = let e : y ≡ x = (let some : Some y ≡ Some x = at in cc) in ap (λ z. z ∷ []) e
+taken_more (y ∷ ys) (suc i) x at =
+    let e : suc i + 1 ≡ suc (i + 1) = omega arith in ap (λ (n : ℕ). take n (y ∷ ys)) e ∙ ap (λ zs. y ∷ zs) (taken_more ys i x at)

@@ -7,13 +7,13 @@ ghost use Rattle.state_parts.specs.Commits.{answer_of};
 use state_cells::PartFault;
 use storm_values::{Bytes, Memory, Root};
 use thiserror::Error;
-use tree_model::Writes;
+use tree_model::PackedWrites;
 
 /// The commit of an attempt of a batch, with the writes of the batch for all parts, in their order.
 #[derive(Debug, Drop)]
 pub struct Commit {
     pub root: Root,
-    pub writes: Writes,
+    pub writes: PackedWrites,
 }
 
 /// What came of a commit.

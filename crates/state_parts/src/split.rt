@@ -1,6 +1,7 @@
 ghost use Rattle.std.specs.Prelude.{◌≡◌, ◌<◌, ◌+◌, ◌^◌, ◌++◌, ◌∷◌, [], ℕ, List, length, Option, None, Some, IfOk, OnOk, IfSome, IfNone, IsSome};
 ghost use Rattle.std.specs.List.{AllByRecursion};
 ghost use Rattle.tree_model.specs.declared.write.Write.{Write};
+ghost use Rattle.tree_model.specs.Packs.{write_in};
 ghost use Rattle.state_parts.specs.Dealt.{AreDealt, IsGrouped};
 ghost use Rattle.state_parts.specs.PartPlans.{AreIndexed, IsFound, IsOneOf, place_by, plans_of};
 
@@ -9,7 +10,7 @@ use state_cells::GroupedWrites;
 use std::alloc::Global;
 use storm_stores::CellStore;
 use storm_values::Memory;
-use tree_model::{Write, Writes};
+use tree_model::{LentWrite, PackedWrites};
 
 /// The place of a part by the places of the components' first parts.
 fn place_of(firsts: &[usize], component: u32, part: u32) -> Option<usize>
@@ -52,15 +53,15 @@ fn deal<'w, C: CellStore>(
     firsts: &[usize],
     parts: &[StatePart<C>],
     dealt: &mut Vec<GroupedWrites<'w>>,
-    write: &'w Write,
+    write: LentWrite<'w>,
 ) -> Result<(), Memory>
     requires { AreIndexed firsts.now 0 (plans_of parts.now) }
     ensures { OnOk result
         ((before : List Write) → AreDealt before parts.now dealt.old.items
-        → AreDealt (before ++ write.now ∷ []) parts.now dealt.new.items) }
+        → AreDealt (before ++ write_in write.entry ∷ []) parts.now dealt.new.items) }
 {
     match find_part(firsts, parts, write.state, write.part) {
-        Some(place) if place < dealt.len() => dealt[place].add(write),
+        Some(place) if place < dealt.len() => dealt[place].add(write.key, write.amount),
         _ => Ok(()),
     }
 }
@@ -83,15 +84,15 @@ pub(crate) fn split<'w, C: CellStore>(
     alloc: Global,
     firsts: &[usize],
     parts: &[StatePart<C>],
-    writes: &'w Writes,
+    writes: &'w PackedWrites,
 ) -> Result<Vec<GroupedWrites<'w>>, Memory>
     requires { AreIndexed firsts.now 0 (plans_of parts.now) }
     ensures { IfOk result (λ dealt. AreDealt writes.now parts.now dealt.items) }
 {
     let keys = writes.len() / parts.len().max(1);
     let mut dealt = no_writes(alloc, parts.len(), keys)?;
-    for write in writes.as_slice() {
-        deal(firsts, parts, &mut dealt, write)?;
+    for at in 0..writes.len() {
+        deal(firsts, parts, &mut dealt, writes.get(at))?;
     }
     Ok(dealt)
 }

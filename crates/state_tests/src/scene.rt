@@ -114,7 +114,7 @@ pub fn commit(
 ) -> Result<(), PartFault> {
     let mut grouped = GroupedWrites::with_capacity(alloc, 1)?;
     for write in writes.as_slice() {
-        grouped.add(write)?;
+        grouped.add(write.key.as_bytes(), write.amount)?;
     }
     part.commit(txid, &grouped)
 }

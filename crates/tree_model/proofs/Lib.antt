@@ -4,6 +4,7 @@ pub mod ListLaws
 mod Lists
 mod Loops
 mod Maps
+pub mod Packing
 mod Quoted
 pub mod Reading
 mod Single

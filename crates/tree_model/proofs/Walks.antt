@@ -1,9 +1,11 @@
 -- The nodes below some nodes, piece by piece.
-use Rattle.std.proofs.Common.{◌≡◌, ◌≢◌, ℕ, zero, suc, ◌+◌, ◌-◌, ◌^◌, ◌≤◌, min, arith, zero-add, List, [], ◌∷◌, ◌++◌, length, fold, Option, Some, None, sym, refl, ap, ◌∙◌}
+use Rattle.std.proofs.Common.{◌≡◌, ◌≢◌, All, Bool, true, false, ◌<◌, get_or, ℕ, zero, suc, ◌+◌, ◌-◌, ◌^◌, ◌≤◌, min, arith, zero-add, List, [], ◌∷◌, ◌++◌, length, fold, Option, Some, None, sym, refl, ap, subst, ◌∙◌}
 use Rattle.std.proofs.lemmas.List.{append-nil, append_assoc}
 use Rattle.std.proofs.lemmas.List.Concat.{flat_map-append}
 use Rattle.std.proofs.lemmas.List.Elements.{filter_map-append}
-use Rattle.std.specs.List.{flat_map, filter_map, cons_option}
+use Rattle.std.specs.Prelude.{nat_lt, Result, Ok, Err, OnOk}
+use Rattle.std.specs.List.{AllByRecursion, flat_map, filter_map, cons_option}
+use Rattle.std.proofs.lemmas.List.Elements.{All-from_recursion, recursion_from_All}
 use Rattle.std.specs.Option.{option_to_list}
 use Rattle.storm_values.specs.declared.value.Value.{Value}
 use Rattle.bolt_ops.specs.RowOp.{Custom}
@@ -12,16 +14,57 @@ use Rattle.topology_plan.specs.declared.parts.Origin.TheVariants as origin
 use Rattle.topology_plan.specs.Topology.{Topology}
 use Rattle.tree_model.specs.declared.plain.NodeCounter.{NodeCounter}
 use Rattle.tree_model.specs.declared.write.Write.{Write}
-use Rattle.tree_model.specs.Trees.{Node, kids, kids_of, kids_by, nodes_from, nodes_of, write_of, writes, node_count}
+use Rattle.storm_values.specs.declared.value.Value.TheVariants.{Text}
+use Rattle.tree_model.specs.Trees.{word_rows, Node, kids, kids_of, kids_by, nodes_from, nodes_of, write_of, writes, node_count}
 
 module _ (t : Topology) (custom : Custom) where
-  -- a node, and what is below the nodes that its rows make
-  pub nodes_from-more : (levels : ℕ) (node : Node) (rows : List (List Value)) → levels ≢ 0 → kids t (origin.Component node.component) rows ≡ kids_of t custom node
-      → nodes_from levels t custom node ≡ node ∷ flat_map (nodes_from (levels - 1) t custom) (kids t (origin.Component node.component) rows)
-  nodes_from-more zero node rows some made = absurd (some refl)
-  nodes_from-more (suc levels) node rows some made =
+  -- a node, and what is below it
+  pub nodes_from-kids : (levels : ℕ) (node : Node) → levels ≢ 0 → nodes_from levels t custom node ≡ node ∷ flat_map (nodes_from (levels - 1) t custom) (kids_of t custom node)
+  nodes_from-kids zero node some = absurd (some refl)
+  nodes_from-kids (suc levels) node some =
       let less : levels ≡ suc levels - 1 = omega arith in
-      rw (made, ← less) refl
+      ap (λ (n : ℕ). node ∷ flat_map (nodes_from n t custom) (kids_of t custom node)) less
+
+-- a node was visited, and then what is below it
+pub walked-node : {V E : Type 0} (r : Result (Unit {0}) E) (f : V → Node → V) (old mid new : V) (node : Node) (all below : List Node) → mid ≡ f old node → all ≡ node ∷ below → OnOk r (new ≡ fold f mid below) → OnOk r (new ≡ fold f old all)
+walked-node (Ok done) f old mid new node all below visited is then = then ∙ ap (λ v. fold f v below) visited ∙ ap (fold f old) (sym is)
+walked-node (Err e) f old mid new node all below visited is then = tt
+
+-- rows that were walked, and more of them
+pub walked-more : {V : Type 0} (f : V → Node → V) (g : Node → List Node) (k : List Value → List Node) (v : V) (xs ys : List (List Value))
+    → fold f (fold f v (flat_map g (flat_map k xs))) (flat_map g (flat_map k ys)) ≡ fold f v (flat_map g (flat_map k (xs ++ ys)))
+walked-more f g k v xs ys =
+    sym (fold-append f v (flat_map g (flat_map k xs)) (flat_map g (flat_map k ys)))
+    ∙ ap (fold f v) (sym (flat_map-append g (flat_map k xs) (flat_map k ys)) ∙ ap (flat_map g) (sym (flat_map-append k xs ys)))
+  where
+    fold-append : {V N : Type 0} (f : V → N → V) (v : V) (ms ns : List N) → fold f v (ms ++ ns) ≡ fold f (fold f v ms) ns
+    fold-append f v [] ns = refl
+    fold-append f v (m ∷ ms) ns = fold-append f (f v m) ms ns
+
+-- the rows of words, piece by piece
+pub word_rows-append : (xs ys : List (List ℕ)) → word_rows (xs ++ ys) ≡ word_rows xs ++ word_rows ys
+word_rows-append [] ys = refl
+word_rows-append (x ∷ xs) ys = by (nat_lt 0 (length x)) refl (word_rows-append xs ys)
+  where
+    by : (b : Bool) → nat_lt 0 (length x) ≡ b → word_rows (xs ++ ys) ≡ word_rows xs ++ word_rows ys → word_rows (x ∷ xs ++ ys) ≡ word_rows (x ∷ xs) ++ word_rows ys
+    by true is rest = rw is (ap (λ rs. (Text x ∷ []) ∷ rs) rest)
+    by false is rest = rw is rest
+
+piece_first : (P : List Value → Type 0) (y : List ℕ) (ys : List (List ℕ)) → AllByRecursion P (word_rows (y ∷ ys)) → AllByRecursion P (word_rows (y ∷ [])) × AllByRecursion P (word_rows ys)
+piece_first P y ys each = cut (nat_lt 0 (length y)) refl each
+  where
+    cut : (b : Bool) → nat_lt 0 (length y) ≡ b → AllByRecursion P (word_rows (y ∷ ys)) → AllByRecursion P (word_rows (y ∷ [])) × AllByRecursion P (word_rows ys)
+    cut true is each = let e = rw is at each in (rw is (e.0, tt), e.1)
+    cut false is each = let e = rw is at each in (rw is tt, e)
+
+piece_at : (P : List Value → Type 0) (ys : List (List ℕ)) (m : ℕ) (x : List ℕ) → AllByRecursion P (word_rows ys) → m < length ys → x ≡ get_or ys m x → AllByRecursion P (word_rows (x ∷ []))
+piece_at P [] m x each less is = absurd (omega arith)
+piece_at P (y ∷ ys) zero x each less is = subst (λ (z : List ℕ). AllByRecursion P (word_rows (z ∷ []))) (sym is) (piece_first P y ys each).0
+piece_at P (y ∷ ys) (suc m) x each less is = piece_at P ys m x (piece_first P y ys each).1 (omega arith) is
+
+-- a piece's row is one of them
+pub word_rows-at : (P : List Value → Type 0) (xs : List (List ℕ)) (n : ℕ) (x : List ℕ) → All P (word_rows xs) → n < length xs → x ≡ get_or xs n x → All P (word_rows (x ∷ []))
+word_rows-at P xs n x all below at = All-from_recursion P (word_rows (x ∷ [])) (piece_at P xs n x (recursion_from_All P (word_rows xs) all) below at)
 
 -- a node's write at the end of the writes so far
 abbrev pub with_write : Topology → List Write → Node → List Write

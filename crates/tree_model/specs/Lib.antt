@@ -1,6 +1,7 @@
 pub mod Courses
 pub mod Inside
 pub mod Lists
+pub mod Packs
 pub mod Paths
 pub mod Tables
 pub mod Trees

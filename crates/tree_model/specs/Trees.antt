@@ -1,5 +1,5 @@
 -- The tree of tuples that grows from some rows of the spout, and what its state nodes write.
-use Rattle.std.specs.Prelude.{ℕ, zero, suc, ◌%◌, ℤ, pos, List, [], ◌∷◌, length, replicate, slice_get, Option, Some, None, IsSome, option_and_then}
+use Rattle.std.specs.Prelude.{ℕ, zero, suc, ◌%◌, ℤ, pos, List, [], ◌∷◌, length, map, filter, nat_lt, replicate, slice_get, Option, Some, None, IsSome, option_and_then}
 use Rattle.std.specs.Option.{option_map_or}
 use Rattle.std.specs.List.{flat_map, filter_map}
 use Rattle.storm_values.specs.declared.value.Value.{Value}
@@ -43,6 +43,11 @@ kids t from rows = flat_map (kids_by t from) rows
 abbrev pub rows_by : Custom → Body → List Value → List (List Value)
 rows_by custom (Bolt op) row = out custom op row
 rows_by custom (State spec) row = []
+
+-- a row for each piece of a text that is a word
+abbrev pub word_rows : List (List ℕ) → List (List Value)
+word_rows pieces =
+    map (λ word. Text word ∷ []) (filter (λ (piece : List ℕ). nat_lt 0 (length piece)) pieces)
 
 -- the children of a node
 abbrev pub kids_of : Topology → Custom → Node → List Node

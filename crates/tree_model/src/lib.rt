@@ -4,6 +4,7 @@
 mod laws;
 mod list_laws;
 mod messages;
+mod packed;
 mod plain;
 mod running;
 mod tree;
@@ -19,6 +20,7 @@ pub use list_laws::{
     what_does_not_cancel_does_not_coincide, words_are_of_open_edges,
 };
 pub use messages::{AckMsg, Done, Draw, FailNote, Init, Notes, Parcel, Parcels, Tuple};
+pub use packed::{LentWrite, PackedWrites};
 pub use plain::{count_nodes, plain_tables};
 pub use running::RunningTables;
 pub use tuple_tickets::{Edge, Edges};

@@ -12,8 +12,8 @@ returns c =
     let same : c.in-Some-done_at.done.now.consumed ≡ c.in-Some.edge.now = search rules in
     let below : path_cmp c.args.self.now.last.now c.as_slice.result.now ≡ Less = search rules in
     let path : c.in-Some-done_at.done.now.consumed.path ≡ c.as_slice.result.now = ap (λ (e : Edge). e.path) same ∙ sym c.as_slice.ensures in
-    let moved : Same (open_edges c.args.self.now.open.items) (c.in-Some.edge.now ∷ open_edges c.take_edge.new.waiting.items) =
-    taken_is c.in_ok-edge.field-0 c.in-Some.edge c.in-Some.slot (open_edges c.args.self.now.open.items) (open_edges c.take_edge.new.waiting.items)
+    let moved : Same (open_edges c.args.self.now.pending.items) (c.in-Some.edge.now ∷ open_edges c.take_edge.new.waiting.items) =
+    taken_is c.in_ok-edge.field-0 c.in-Some.edge c.in-Some.slot (open_edges c.args.self.now.pending.items) (open_edges c.take_edge.new.waiting.items)
     c.in_ok-edge.ensures c.in-Some.is in
     let put : open_edges c.add_open.new.waiting.items ≡ open_edges c.take_edge.new.waiting.items ++ c.in-Some-done_at.done.now.produced = search rules in
     record {
@@ -23,6 +23,6 @@ returns c =
       added = search rules;
       above = ap (λ (p : List ℕ). path_cmp c.args.self.now.last.now p) path ∙ below;
       is_last = c.as_slice-self.ensures;
-      moved = went (open_edges c.args.self.now.open.items) (open_edges c.take_edge.new.waiting.items) (open_edges c.add_open.new.waiting.items)
+      moved = went (open_edges c.args.self.now.pending.items) (open_edges c.take_edge.new.waiting.items) (open_edges c.add_open.new.waiting.items)
           c.in-Some-done_at.done.now.produced c.in-Some.edge.now c.in-Some-done_at.done.now.consumed moved put same;
     }
