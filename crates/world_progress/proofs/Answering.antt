@@ -9,7 +9,8 @@ use Rattle.event_worlds.specs.Worlds.{AckerSide, Answered, World, acker_at, acke
 use Rattle.topology_plan.specs.Topology.{Topology}
 use Rattle.tree_model.specs.declared.messages.AckMsg.{AckMsg}
 use Rattle.tuple_account.specs.Histories.{History, joined, nothing}
-use Rattle.world_progress.proofs.Doing.{Stepped, rose, kept, done, messages_in}
+use Rattle.world_progress.specs.Doing.{done, messages_in}
+use Rattle.world_progress.proofs.Doing.{Stepped, rose, kept}
 use Rattle.event_worlds.proofs.Waiting.{weigh-set}
 use Rattle.world_progress.proofs.Lists.{at-set}
 

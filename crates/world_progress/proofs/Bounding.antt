@@ -35,7 +35,7 @@ use Rattle.tuple_tickets.specs.Roots.{root_eq}
 use Rattle.tuple_tickets.specs.Trees.{Course, fails, goes, mute}
 use Rattle.tuple_tickets.proofs.Roots.{root_itself}
 use Rattle.event_worlds.specs.Rounds.{rounds_needed}
-use Rattle.world_progress.proofs.Doing.{done, in_boxes, messages_in, taken_from, tuples_in}
+use Rattle.world_progress.specs.Doing.{done, in_boxes, messages_in, taken_from, tuples_in}
 use Rattle.world_progress.proofs.Resting.{no_nodes, runs_issued, was_begun}
 use Rattle.world_progress.proofs.Tallying.{by_txid, range-length, within}
 

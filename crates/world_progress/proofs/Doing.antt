@@ -1,9 +1,8 @@
--- How much was done: a number that never falls, and what each kind of step adds to it.
+-- What each kind of step adds to what was done.
 use Rattle.std.proofs.Common.{◌≡◌, ◌<◌, ◌≤◌, ℕ, ◌+◌, List, [], ◌∷◌, ◌++◌, length, set, refl, sym, ap, ◌∙◌, subst, arith}
 use Rattle.std.specs.List.{AllByRecursion}
 use Rattle.std.proofs.lemmas.List.{get_or_past, length-append, length-set, set-get_or, set_past}
 use Rattle.bolt_ops.specs.RowOp.{Custom}
-use Rattle.counted_items.specs.Weights.{weigh}
 use Rattle.event_worlds.specs.Added.{executes, task_adds, task_adds_past}
 use Rattle.event_worlds.specs.Orderly.{FitsParcel, IsOrderly}
 use Rattle.event_worlds.specs.Worlds.{AckerSide, TaskSide, World, acker_at, acted, acted_past, delivered, executed, no_acker, no_task, sent, task_at, task_step, with_task}
@@ -14,27 +13,7 @@ use Rattle.tree_model.specs.declared.messages.Tuple.{Tuple}
 use Rattle.tuple_account.specs.Histories.{History, joined, nothing}
 use Rattle.event_worlds.proofs.Orderly.{task-seat}
 use Rattle.event_worlds.proofs.Waiting.{weigh-set}
-
--- ---- the number
-
--- how many items stand in boxes, outboxes aside
-abbrev pub tuples_in : List TaskSide → ℕ
-tuples_in sides = weigh (λ (side : TaskSide). length side.inbox) sides
-
-abbrev pub messages_in : List AckerSide → ℕ
-messages_in sides = weigh (λ (side : AckerSide). length side.inbox) sides
-
-abbrev pub in_boxes : World → ℕ
-in_boxes w = tuples_in w.tasks + (messages_in w.ackers + length w.verdicts)
-
--- how many items were taken from boxes
-abbrev pub taken_from : History → ℕ
-taken_from h = length h.runs + (length h.met + length h.heard)
-
--- What was handed over (it was taken or stands in a box), executions, messages met and verdicts
--- heard (what was taken), begins and commits.
-abbrev pub done : History → World → ℕ
-done h w = (taken_from h + in_boxes w) + (taken_from h + (length h.begun + w.desk.committed))
+use Rattle.world_progress.specs.Doing.{done, in_boxes, taken_from, tuples_in}
 
 -- ---- hand-overs
 

@@ -35,9 +35,8 @@ use Rattle.tuple_account.specs.Histories.{History}
 use Rattle.tuple_account.proofs.Ending as ending
 use Rattle.tuple_tickets.specs.Trees.{fails, goes, mute}
 use Rattle.event_worlds.specs.Rounds.{CanFinish, DoesNotCoincide, EndsByBody}
-use Rattle.world_progress.proofs.Lasting.{Lasting}
+use Rattle.world_progress.specs.Lasting.{IsFine, Lasting}
 use Rattle.world_progress.proofs.Resting.{at_last}
-use Rattle.world_progress.proofs.Turning.{IsFine}
 
 -- ---- lists
 

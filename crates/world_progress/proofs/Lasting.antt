@@ -27,18 +27,12 @@ use Rattle.tuple_account.specs.Histories.{History, Packet, acker_of, joined, not
 use Rattle.tuple_account.specs.Moves.{Reached}
 use Rattle.tuple_account.proofs.Routing as routing
 use Rattle.world_progress.proofs.Lists.{at-set}
-use Rattle.world_progress.proofs.Seats.{AreYoung, young-aged, young-met}
-use Rattle.world_progress.proofs.Turning.{IsFine, turn_fine}
+use Rattle.world_progress.specs.Lasting.{AreSeats, IsFine, IsSeat, Lasting}
+use Rattle.world_progress.specs.Young.{AreYoung}
+use Rattle.world_progress.proofs.Seats.{young-aged, young-met}
+use Rattle.world_progress.proofs.Turning.{turn_fine}
 
 -- ---- what ackers keep
-
--- an acker has counted ticks that passed, and its entries are not older
-pub record IsSeat (t : Topology) (n tick : ℕ) (side : AckerSide) : Type 0 where
-  pub counted : side.counted ≤ tick
-  pub young : AreYoung t n side.counted side.entries
-
-abbrev pub AreSeats : Topology → World → Type 0
-AreSeats t w = (n : ℕ) → IsSeat t n w.tick (acker_at n w)
 
 seats-delivered : (t : Topology) (p : Parcel) (w : World) → AreSeats t w → AreSeats t (delivered t p w)
 seats-delivered t (ToTask n tuple) w seats = seats
@@ -92,14 +86,7 @@ module _ (t : Topology) (custom : Custom) (h : History) (k : Known) (reached : R
 -- ---- worlds
 
 module _ (t : Topology) (custom : Custom) (cut : Cut) (words : ℕ → ℕ → ℕ) where
-  -- A history led to a world; no entry was dropped, and no commit failed.
-  pub record Lasting (h : History) (k : Known) : Type 0 where
-    pub led : LedTo t custom cut words h k
-    pub seats : AreSeats t k.world
-    pub whole : h.dropped ≡ []
-    pub fine : AllByRecursion IsFine k.world.fates
-
-  -- the same without the history
+  -- what a step keeps, without the history
   record IsSafe (more : History) (v : World) : Type 0 where
     seats : AreSeats t v
     dropped : more.dropped ≡ []
@@ -158,7 +145,7 @@ module _ (t : Topology) (custom : Custom) (cut : Cut) (words : ℕ → ℕ → �
 
   -- ---- steps
 
-  module _ (outcomes : List CommitOutcome) (h : History) (k : Known) (last : Lasting h k) (short : k.world.tick < t.buckets) (sure : next_outcome outcomes k.world.fates ≡ outcome.Done) where
+  module _ (outcomes : List CommitOutcome) (h : History) (k : Known) (last : Lasting t custom cut words h k) (short : k.world.tick < t.buckets) (sure : next_outcome outcomes k.world.fates ≡ outcome.Done) where
     safe : (s : Step) → IsSafe (step_adds t custom cut words s k) (step t custom cut words outcomes s k).world
     unfolding step
     safe (of_task n) = safe_task k.world last.seats last.fine n (k.counts n) (next_words words k.counts n (task_needs t custom (task_at t n k.world)))
@@ -168,7 +155,7 @@ module _ (t : Topology) (custom : Custom) (cut : Cut) (words : ℕ → ℕ → �
     safe of_tick = safe_tick k.world last.seats last.fine last.led.last
 
     lasting : (s : Step) (b : Bool) → LedTo t custom cut words (joined h (cond b nothing (step_adds t custom cut words s k))) (cond b k (step t custom cut words outcomes s k))
-        → Lasting (joined h (cond b nothing (step_adds t custom cut words s k))) (cond b k (step t custom cut words outcomes s k))
+        → Lasting t custom cut words (joined h (cond b nothing (step_adds t custom cut words s k))) (cond b k (step t custom cut words outcomes s k))
     lasting s true led = record { led = led; seats = last.seats; whole = append-nil h.dropped ∙ last.whole; fine = last.fine }
     lasting s false led =
         let e = safe s in
@@ -176,5 +163,5 @@ module _ (t : Topology) (custom : Custom) (cut : Cut) (words : ℕ → ℕ → �
 
     -- nothing is lost at a step
     pub lasting-next : (s : Step) → LedTo t custom cut words (joined h (added t custom cut words s k)) (next t custom cut words outcomes s k)
-        → Lasting (joined h (added t custom cut words s k)) (next t custom cut words outcomes s k)
+        → Lasting t custom cut words (joined h (added t custom cut words s k)) (next t custom cut words outcomes s k)
     lasting-next s led = lasting s (is_over t cut k.world) led

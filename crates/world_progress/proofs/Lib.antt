@@ -1,13 +1,13 @@
 mod Lists
-mod Doing
-mod Answering
-mod Turning
-mod Seats
-mod Lasting
-mod Running
-mod Phases
-mod Resting
+pub mod Doing
+pub mod Answering
+pub mod Turning
+pub mod Seats
+pub mod Lasting
+pub mod Running
+pub mod Phases
+pub mod Resting
 mod Tallying
-mod Bounding
-mod Finishing
-mod Rounding
+pub mod Bounding
+pub mod Finishing
+pub mod Rounding

@@ -25,8 +25,9 @@ use Rattle.trident_batches.specs.Batches.{Cut, batch_count}
 use Rattle.tuple_account.specs.Histories.{History, joined, nothing, opening_parcels}
 use Rattle.event_worlds.specs.Rounds.{round_with}
 use Rattle.world_progress.proofs.Answering.{IsIdleAcker, IsIdleSide, IsQuietAcker, acker_does}
-use Rattle.world_progress.proofs.Doing.{IsIdleTask, done, task_beyond, task_there}
-use Rattle.world_progress.proofs.Lasting.{Lasting}
+use Rattle.world_progress.specs.Doing.{done}
+use Rattle.world_progress.proofs.Doing.{IsIdleTask, task_beyond, task_there}
+use Rattle.world_progress.specs.Lasting.{Lasting}
 use Rattle.world_progress.proofs.Running.{LeadsOn, Still, goes, not_over, quiet_in, still-next, sure-done}
 use Rattle.world_progress.proofs.Turning.{IsQuietTurn, outcome_does, turn_does, turn_out}
 

@@ -51,9 +51,9 @@ use Rattle.tuple_tickets.specs.Trees.{fails, goes, mute}
 use Rattle.tuple_tickets.proofs.Roots.{root_itself, same_root}
 use Rattle.event_worlds.specs.Rounds.{CanFinish, EndsByBody, EndsByOp}
 use Rattle.world_progress.proofs.Answering.{IsIdleSide}
-use Rattle.world_progress.proofs.Lasting.{Lasting}
+use Rattle.world_progress.specs.Lasting.{Lasting}
 use Rattle.world_progress.proofs.Phases.{IsEmpty}
-use Rattle.world_progress.proofs.Seats.{AreYoung}
+use Rattle.world_progress.specs.Young.{AreYoung}
 
 -- ---- nothing waits
 

@@ -1,6 +1,7 @@
 -- Each whole round does something until all is over, and what can be done is bounded.
-use Rattle.std.proofs.Common.{◌≡◌, ◌<◌, ◌≤◌, ◌⊎◌, inl, inr, ℕ, zero, suc, ◌+◌, Bool, true, false, List, [], ◌∷◌, ◌++◌, get_or, replicate, refl, sym, ap, ◌∙◌, subst, arith}
+use Rattle.std.proofs.Common.{◌≡◌, ◌<◌, ◌≤◌, ◌⊎◌, inl, inr, ℕ, zero, suc, ◌+◌, Bool, true, false, List, [], ◌∷◌, ◌++◌, get_or, map, replicate, refl, sym, ap, ◌∙◌, subst, arith}
 use Rattle.std.specs.Prelude.{All}
+use Rattle.std.specs.List.{range_with_len}
 use Rattle.std.proofs.lemmas.Bool.{cases_lt}
 use Rattle.std.proofs.lemmas.List.{get_or-replicate, get_or_past, length-replicate}
 use Rattle.bolt_ops.specs.RowOp.{Custom}
@@ -8,20 +9,22 @@ use Rattle.commit_turns.specs.Outcomes.{IsOutcome}
 use Rattle.commit_turns.specs.Turns.{is_finished}
 use Rattle.event_worlds.specs.Accounted.{IsInput, LedTo}
 use Rattle.event_worlds.specs.Added.{added}
-use Rattle.event_worlds.specs.Worlds.{Known, Step, acker_at, first_known, is_over, next, no_acker, world_after}
+use Rattle.event_worlds.specs.Worlds.{Known, Step, acker_at, coordinator_steps, first_known, is_over, next, no_acker, of_acker, of_task, of_tick, world_after}
 use Rattle.state_parts.specs.declared.answer.CommitOutcome.{CommitOutcome}
 use Rattle.state_parts.specs.declared.answer.CommitOutcome.TheVariants as outcome
-use Rattle.topology_plan.specs.Topology.{Topology}
+use Rattle.topology_plan.specs.Topology.{Topology, tasks_in_all}
 use Rattle.trident_batches.specs.Batches.{Cut}
 use Rattle.tuple_account.specs.Histories.{History, joined}
 use Rattle.event_worlds.specs.Rounds.{CanFinish, DoesNotCoincide, HasRounds, round_with, rounds_needed, ticks_in}
+use Rattle.world_progress.specs.Running.{so_far}
 use Rattle.world_progress.proofs.Bounding.{BatchesAreAll, NodesAdd, bounded}
-use Rattle.world_progress.proofs.Doing.{done}
+use Rattle.world_progress.specs.Doing.{done}
 use Rattle.world_progress.proofs.Finishing.{few_commits, finished}
-use Rattle.world_progress.proofs.Lasting.{IsSeat}
+use Rattle.world_progress.specs.Lasting.{IsSeat, Lasting}
+use Rattle.world_progress.specs.Rounding.{DoesMore, LastsOn}
 use Rattle.world_progress.proofs.Phases.{LowestStays, round_stirs}
 use Rattle.world_progress.proofs.Resting.{all_settled}
-use Rattle.world_progress.proofs.Running.{LeadsOn, Starts, Still, comes, goes_all, over_stays, so_far, starts-next, ticks-cons}
+use Rattle.world_progress.proofs.Running.{LeadsOn, Starts, Still, comes, goes_all, over_stays, starts-next, ticks-cons}
 
 -- a commit that is done is an outcome
 pub all_done_fits : (t : Topology) (outcomes : List CommitOutcome) → All (λ (how : CommitOutcome). how ≡ outcome.Done) outcomes → All (IsOutcome t) outcomes
@@ -30,6 +33,44 @@ all_done_fits t outcomes all = λ k d below. subst (IsOutcome t) (sym (all k d b
 pub ticks-append : (a b : List Step) → ticks_in (a ++ b) ≡ ticks_in a + ticks_in b
 ticks-append [] b = omega arith
 ticks-append (s ∷ a) b = let x = ticks-cons s (a ++ b) in let y = ticks-cons s a in let rest = ticks-append a b in omega arith
+
+no_tasks_tick : (xs : List ℕ) → ticks_in (map of_task xs) ≡ 0
+no_tasks_tick [] = refl
+no_tasks_tick (x ∷ xs) = no_tasks_tick xs
+
+no_ackers_tick : (xs : List ℕ) → ticks_in (map of_acker xs) ≡ 0
+no_ackers_tick [] = refl
+no_ackers_tick (x ∷ xs) = no_ackers_tick xs
+
+so_many_ticks : (n : ℕ) → ticks_in (replicate n of_tick) ≡ n
+so_many_ticks zero = refl
+so_many_ticks (suc n) = ap suc (so_many_ticks n)
+
+-- a round has the ticks that it is given
+pub ticks-round : (t : Topology) (ticks : ℕ) → ticks_in (round_with t ticks) ≡ ticks
+ticks-round t ticks =
+    let tasks = map of_task (range_with_len 0 (tasks_in_all t)) in
+    let ackers = map of_acker (range_with_len 0 t.ackers) in
+    let a = ticks-append ((tasks ++ ackers) ++ replicate ticks of_tick) coordinator_steps in
+    let b = ticks-append (tasks ++ ackers) (replicate ticks of_tick) in
+    let c = ticks-append tasks ackers in
+    let x = no_tasks_tick (range_with_len 0 (tasks_in_all t)) in
+    let y = no_ackers_tick (range_with_len 0 t.ackers) in
+    let z = so_many_ticks ticks in omega arith
+
+-- ---- the first world
+
+first_seats : (t : Topology) (words : ℕ → ℕ → ℕ) (n : ℕ) → IsSeat t n 0 (acker_at n (first_known t words).world)
+first_seats t words n = subst (IsSeat t n 0) (sym none) (record { counted = omega arith; young = record { each = tt; once = λ root. omega arith } })
+  where
+    none : get_or (replicate t.ackers no_acker) n no_acker ≡ no_acker
+    none = elim (cases_lt n t.ackers) [
+      | inl below ↦ get_or-replicate t.ackers n no_acker no_acker below
+      | inr past ↦ get_or_past (replicate t.ackers no_acker) n no_acker (let l = length-replicate t.ackers no_acker in omega arith)
+    ]
+
+pub first_lasts : (t : Topology) (custom : Custom) (cut : Cut) (words : ℕ → ℕ → ℕ) (h : History) → LedTo t custom cut words h (first_known t words) → h.dropped ≡ [] → Lasting t custom cut words h (first_known t words)
+first_lasts t custom cut words h led whole = record { led = led; seats = first_seats t words; whole = whole; fine = tt }
 
 module _ (t : Topology) (custom : Custom) (cut : Cut) (words : ℕ → ℕ → ℕ) (outcomes : List CommitOutcome) (leads : LeadsOn t custom cut words outcomes) (all_done : All (λ (how : CommitOutcome). how ≡ outcome.Done) outcomes) where
   abbrev after : List Step → Known → Known
@@ -115,28 +156,37 @@ module _ (t : Topology) (custom : Custom) (cut : Cut) (words : ℕ → ℕ → �
         later : StartsRun (round_with t ticks ++ rest) (happened first h k) (after first k)
         later = starts-back first (round_with t ticks ++ rest) h k now
 
-  -- ---- the first world
+  -- ---- from any world in which nothing is lost
 
-  first_seats : (n : ℕ) → IsSeat t n 0 (acker_at n (first_known t words).world)
-  first_seats n = subst (IsSeat t n 0) (sym none) (record { counted = omega arith; young = record { each = tt; once = λ root. omega arith } })
-    where
-      none : get_or (replicate t.ackers no_acker) n no_acker ≡ no_acker
-      none = elim (cases_lt n t.ackers) [
-        | inl below ↦ get_or-replicate t.ackers n no_acker no_acker below
-        | inr past ↦ get_or_past (replicate t.ackers no_acker) n no_acker (let l = length-replicate t.ackers no_acker in omega arith)
-      ]
+  -- steps in which fewer ticks pass than there are buckets
+  pub goes_on : (steps : List Step) (h : History) (k : Known) → Lasting t custom cut words h k → k.world.tick + ticks_in steps < t.buckets → LastsOn t custom cut words (ticks_in steps) h k (happened steps h k) (after steps k)
+  goes_on steps h k last short =
+      let c = comes t custom cut words outcomes leads all_done steps h k (record { last = last; short = short }) in record { last = c.last; more = c.more; tick = c.ticks }
+
+  module _ (lowest : LowestStays) (input : IsInput t cut) (can : CanFinish t) where
+    pub stirring : Stirs
+    stirring ticks h k still =
+        round_stirs t custom cut words outcomes leads all_done lowest input.valid (λ x j last empty. all_settled t custom cut words input.valid can x j last empty) (few_commits t cut) ticks h k still
+
+    -- one round
+    pub round_does : (ticks : ℕ) (h : History) (k : Known) → Lasting t custom cut words h k → k.world.tick + ticks < t.buckets
+        → LastsOn t custom cut words ticks h k (happened (round_with t ticks) h k) (after (round_with t ticks) k) × DoesMore t cut h k (happened (round_with t ticks) h k) (after (round_with t ticks) k)
+    round_does ticks h k last short =
+        let e = ticks-round t ticks in
+        let g = goes_on (round_with t ticks) h k last (omega arith) in
+        (record { last = g.last; more = g.more; tick = (let z = g.tick in omega arith) }, by (one_round stirring ticks h k (record { last = last; short = omega arith })))
+      where
+        by : OverOrMore 1 (round_with t ticks) h k → DoesMore t cut h k (happened (round_with t ticks) h k) (after (round_with t ticks) k)
+        by (inl over) = inl over
+        by (inr more) = inr (omega arith)
 
   module _ (adds : NodesAdd) (batches_are : BatchesAreAll) (lowest : LowestStays) (input : IsInput t cut) (can : CanFinish t) (h : History) (led : LedTo t custom cut words h (first_known t words)) (whole : h.dropped ≡ []) where
-    stirring : Stirs
-    stirring ticks g k still =
-        round_stirs t custom cut words outcomes leads all_done lowest input.valid (λ x j last empty. all_settled t custom cut words input.valid can x j last empty) (few_commits t cut) ticks g k still
-
     pub all_finish : (steps : List Step) → HasRounds t (rounds_needed t custom cut) steps → ticks_in steps < t.buckets → All DoesNotCoincide (world_after t custom cut words outcomes steps).fates
         → is_finished t cut (world_after t custom cut words outcomes steps).desk ≡ true
-    all_finish steps has short apart = by (rounds stirring (rounds_needed t custom cut) steps h (first_known t words) has starts)
+    all_finish steps has short apart = by (rounds (stirring lowest input can) (rounds_needed t custom cut) steps h (first_known t words) has starts)
       where
         starts : StartsRun steps h (first_known t words)
-        starts = record { last = record { led = led; seats = first_seats; whole = whole; fine = tt }; short = omega arith }
+        starts = record { last = first_lasts t custom cut words h led whole; short = omega arith }
 
         by : OverOrMore (rounds_needed t custom cut) steps h (first_known t words) → is_finished t cut (world_after t custom cut words outcomes steps).desk ≡ true
         by (inl over) =

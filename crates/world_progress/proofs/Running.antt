@@ -17,8 +17,11 @@ use Rattle.trident_batches.specs.Batches.{Cut}
 use Rattle.tuple_account.specs.Histories.{History, joined, nothing}
 use Rattle.event_worlds.specs.Rounds.{ticks_in}
 use Rattle.world_progress.proofs.Answering.{acker_does}
-use Rattle.world_progress.proofs.Doing.{Stepped, begun-joined, done, kept, rose, taken-joined, task_beyond, task_there}
-use Rattle.world_progress.proofs.Lasting.{Lasting, lasting-next}
+use Rattle.world_progress.specs.Doing.{done}
+use Rattle.world_progress.specs.Lasting.{Lasting}
+use Rattle.world_progress.specs.Running as specs
+use Rattle.world_progress.proofs.Doing.{Stepped, begun-joined, kept, rose, taken-joined, task_beyond, task_there}
+use Rattle.world_progress.proofs.Lasting.{lasting-next}
 use Rattle.world_progress.proofs.Turning.{outcome_does, turn_does}
 
 -- ---- ticks
@@ -64,10 +67,8 @@ quiet_in a b (rose more) not_more = absurd (omega arith)
 quiet_in a b (kept same quiet) not_more = quiet
 
 module _ (t : Topology) (custom : Custom) (cut : Cut) (words : ℕ → ℕ → ℕ) (outcomes : List CommitOutcome) where
-  -- what happened, where this happened before the steps
-  abbrev pub so_far : List Step → History → Known → History
-  so_far [] h k = h
-  so_far (s ∷ steps) h k = so_far steps (joined h (added t custom cut words s k)) (next t custom cut words outcomes s k)
+  abbrev so_far : List Step → History → Known → History
+  so_far steps h k = specs.so_far t custom cut words outcomes steps h k
 
   abbrev pub goes : Step → Known → Known
   goes s k = step t custom cut words outcomes s k

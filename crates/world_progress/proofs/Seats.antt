@@ -18,15 +18,7 @@ use Rattle.tuple_account.specs.Histories.{acker_of}
 use Rattle.tuple_account.specs.Stuck.{holds}
 use Rattle.tuple_tickets.specs.Roots.{root_eq}
 use Rattle.tuple_tickets.proofs.Roots.{root_itself, same_root}
-
--- an entry is at the acker of its root, and has aged so much at most
-abbrev IsYoung : Topology → ℕ → ℕ → Held (List AckMsg) → Type 0
-IsYoung t n most e = (e.age ≤ most) × (acker_of t e.root ≡ n)
-
--- so are the entries of an acker, one a root at most
-pub record AreYoung (t : Topology) (n most : ℕ) (es : List (Held (List AckMsg))) : Type 0 where
-  pub each : AllByRecursion (IsYoung t n most) es
-  pub once : (root : Root) → weigh (holds root) es ≤ 1
+use Rattle.world_progress.specs.Young.{AreYoung, IsYoung}
 
 module _ (t : Topology) (n : ℕ) where
   -- ---- rotations

@@ -11,7 +11,6 @@ use Rattle.attempt_fates.specs.declared.fates.End.TheVariants as end
 use Rattle.commit_order.specs.Orders.{Stand}
 use Rattle.commit_turns.specs.declared.wait.Wait.{Wait}
 use Rattle.commit_turns.specs.Desks.{Desk, Progress, ended_at, is_late, still, timed_of}
-use Rattle.commit_turns.specs.Kept.{is_failed_commit}
 use Rattle.commit_turns.specs.Outcomes.{hears}
 use Rattle.commit_turns.specs.Turns.{Turned, and_then, begun, complete_timed, decided, decided_by, end_timed, fill_more, filled, has_no_tick, heard, is_closed, late_at, next_root, next_to_commit, one_tick, ordered, passed, ticked, turned, turned_by}
 use Rattle.counted_items.proofs.Each.{each-any, each-append, each-to_map}
@@ -24,12 +23,10 @@ use Rattle.topology_plan.specs.Topology.{Topology}
 use Rattle.tree_model.specs.declared.messages.Parcel.{Parcel}
 use Rattle.trident_batches.specs.Batches.{Cut}
 use Rattle.tuple_account.specs.Histories.{History, joined, nothing}
-use Rattle.world_progress.proofs.Doing.{Stepped, rose, kept, done, in_boxes-delivered, committed-delivered, taken-joined, begun-joined}
+use Rattle.world_progress.specs.Doing.{done}
+use Rattle.world_progress.specs.Lasting.{IsFine}
+use Rattle.world_progress.proofs.Doing.{Stepped, rose, kept, in_boxes-delivered, committed-delivered, taken-joined, begun-joined}
 use Rattle.world_progress.proofs.Lists.{length-front}
-
--- the attempt did not end by a commit that failed
-abbrev pub IsFine : Attempt → Type 0
-IsFine a = is_failed_commit a.end ≡ false
 
 some_none : {X : Type 0} (x : X) → Some x ≡ None → ⊥
 some_none x e = cc

@@ -1,18 +1,85 @@
-ghost use Rattle.std.specs.Prelude.{◌≡◌, ◌<◌, ℕ, List, All, true};
+ghost use Rattle.std.specs.Prelude.{◌≡◌, ◌<◌, ◌+◌, ℕ, List, All, true};
 ghost use Rattle.bolt_ops.specs.RowOp.{Custom, IsCustom};
 ghost use Rattle.commit_turns.specs.Turns.{is_finished};
 ghost use Rattle.event_worlds.specs.Accounted.{IsInput};
-ghost use Rattle.event_worlds.specs.Worlds.{Step, world_after};
+ghost use Rattle.event_worlds.specs.Added.{first_history};
+ghost use Rattle.event_worlds.specs.Worlds.{Known, Step, first_known, is_over, run, world_after};
 ghost use Rattle.state_parts.specs.declared.answer.CommitOutcome.{CommitOutcome};
 ghost use Rattle.state_parts.specs.declared.answer.CommitOutcome.TheVariants.{Done};
 ghost use Rattle.topology_plan.specs.Topology.{Topology};
 ghost use Rattle.trident_batches.specs.Batches.{Cut};
-ghost use Rattle.event_worlds.specs.Rounds.{CanFinish, DoesNotCoincide, HasRounds, rounds_needed, ticks_in};
+ghost use Rattle.tuple_account.specs.Histories.{History};
+ghost use Rattle.event_worlds.specs.Rounds.{CanFinish, DoesNotCoincide, HasRounds, round_with, rounds_needed, ticks_in};
+ghost use Rattle.world_progress.specs.Doing.{done};
+ghost use Rattle.world_progress.specs.Lasting.{Lasting};
+ghost use Rattle.world_progress.specs.Rounding.{DoesMore, LastsOn};
+ghost use Rattle.world_progress.specs.Running.{so_far};
 
 use commit_turns::lowest_is_pending;
 use event_worlds::steps_add_to_histories;
 use tree_model::nodes_of_joined_rows;
 use trident_batches::batches_in_order_are_all_records;
+
+/// A law: nothing is lost in the first world, and nothing by steps where no commit fails and fewer
+/// ticks pass than there are buckets; what was done does not fall.
+pub fn lasting_worlds_go_on()
+    ensures first { (t : Topology) (custom : Custom) (cut : Cut) (words : ℕ → ℕ → ℕ)
+        → IsInput t cut
+        → Lasting t custom cut words (first_history t words) (first_known t words) }
+    ensures steps { (t : Topology) (custom : Custom) (cut : Cut) (words : ℕ → ℕ → ℕ)
+        (outcomes : List CommitOutcome) (steps : List Step) (h : History) (k : Known)
+        → IsInput t cut → IsCustom custom
+        → All (λ (how : CommitOutcome). how ≡ Done) outcomes
+        → Lasting t custom cut words h k → k.world.tick + ticks_in steps < t.buckets
+        → LastsOn t custom cut words (ticks_in steps) h k
+        (so_far t custom cut words outcomes steps h k)
+        (run t custom cut words outcomes steps k) }
+{
+    steps_add_to_histories();
+}
+
+/// A law: where every bolt lets batches through within the attempts of the plan and no commit
+/// fails, a whole round from a world in which nothing is lost does something, or all is over after
+/// it. Nothing is lost by it where fewer ticks passed than there are buckets.
+pub fn rounds_do_something()
+    ensures { (t : Topology) (custom : Custom) (cut : Cut) (words : ℕ → ℕ → ℕ)
+        (outcomes : List CommitOutcome) (ticks : ℕ) (h : History) (k : Known)
+        → IsInput t cut → IsCustom custom → CanFinish t
+        → All (λ (how : CommitOutcome). how ≡ Done) outcomes
+        → Lasting t custom cut words h k → k.world.tick + ticks < t.buckets
+        → LastsOn t custom cut words ticks h k
+        (so_far t custom cut words outcomes (round_with t ticks) h k)
+        (run t custom cut words outcomes (round_with t ticks) k)
+        × DoesMore t cut h k
+        (so_far t custom cut words outcomes (round_with t ticks) h k)
+        (run t custom cut words outcomes (round_with t ticks) k) }
+{
+    steps_add_to_histories();
+    lowest_is_pending();
+}
+
+/// A law: what was done, where nothing is lost, is less than the number of rounds that enough
+/// rounds are.
+pub fn what_can_be_done_is_bounded()
+    ensures { (t : Topology) (custom : Custom) (cut : Cut) (words : ℕ → ℕ → ℕ) (h : History)
+        (k : Known)
+        → IsInput t cut → Lasting t custom cut words h k
+        → done h k.world < rounds_needed t custom cut }
+{
+    nodes_of_joined_rows();
+    batches_in_order_are_all_records();
+}
+
+/// A law: where every bolt lets batches through within the attempts of the plan, nothing is lost,
+/// no ids coincided and fewer ticks passed than there are buckets, what is over is finished: every
+/// batch is committed.
+pub fn what_is_over_is_finished()
+    ensures { (t : Topology) (custom : Custom) (cut : Cut) (words : ℕ → ℕ → ℕ) (h : History)
+        (k : Known)
+        → IsInput t cut → CanFinish t → Lasting t custom cut words h k
+        → k.world.tick < t.buckets → All DoesNotCoincide k.world.fates
+        → is_over t cut k.world ≡ true → is_finished t cut k.world.desk ≡ true }
+{}
 
 /// A law: where every bolt lets batches through within the attempts of the plan, no commit fails,
 /// no ids coincide and fewer ticks pass than there are buckets, enough whole rounds commit every

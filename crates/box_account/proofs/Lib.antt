@@ -1,0 +1,5 @@
+mod Boxes
+mod Histories
+mod Verdicts
+mod Hearing
+mod Truth

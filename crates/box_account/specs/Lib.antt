@@ -1,0 +1,4 @@
+pub mod Taken
+pub mod Inboxes
+pub mod Hearing
+pub mod Telling

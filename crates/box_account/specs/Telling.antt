@@ -1,0 +1,77 @@
+-- What the taken lists of boxes tell of the ends of attempts: the verdict that an end comes from,
+-- the messages of its list, and the tuples that they came from. This project's own.
+use Rattle.std.specs.Prelude.{◌≡◌, ℕ, List, Some}
+use Rattle.std.specs.List.{AllByRecursion}
+use Rattle.acker_core.specs.declared.verdict.Verdict.TheVariants.{Complete, Fails}
+use Rattle.attempt_fates.specs.declared.fates.Attempt.{Attempt}
+use Rattle.attempt_fates.specs.declared.fates.End.{End}
+use Rattle.attempt_fates.specs.declared.fates.End.TheVariants as end
+use Rattle.bolt_ops.specs.RowOp.{Custom}
+use Rattle.box_account.specs.Taken.{WasHeard, WasTaken, all_packets}
+use Rattle.box_rows.specs.declared.mail.Mail.{Mail}
+use Rattle.commit_turns.specs.Account.{rows_in}
+use Rattle.counted_items.specs.Weights.{weigh}
+use Rattle.storm_values.specs.declared.value.Root.{Root}
+use Rattle.storm_values.specs.declared.value.Value.{Value}
+use Rattle.task_queues.specs.declared.pass.Pass.{Pass}
+use Rattle.topology_plan.specs.Topology.{Topology}
+use Rattle.tree_model.specs.declared.messages.AckMsg.{AckMsg}
+use Rattle.tree_model.specs.declared.messages.AckMsg.TheVariants as msg
+use Rattle.tree_model.specs.declared.messages.Parcel.TheVariants.{ToTask, ToAcker}
+use Rattle.tree_model.specs.declared.messages.Tuple.{Tuple}
+use Rattle.tree_model.specs.Trees.{node_at}
+use Rattle.trident_batches.specs.Batches.{Cut}
+use Rattle.tuple_account.specs.Accounts.{is_at}
+use Rattle.tuple_account.specs.Histories.{IsTaskOf, acker_of, on_tuple}
+use Rattle.tuple_account.specs.Issued.{node_of}
+
+-- Of all tuples in taken lists exactly one has this root and this path. It has the node of the path
+-- in the tree of these rows, and stands in the box of a task of its component.
+pub record TookOnce (t : Topology) (custom : Custom) (row : List (Pass Mail))
+    (rows : List (List Value)) (root : Root) (path : List ℕ) : Type 0 where
+  pub tuple : Tuple
+  pub task : ℕ
+  pub of_root : tuple.root ≡ root
+  pub of_path : tuple.edge.path ≡ path
+  pub node : node_at t custom rows path ≡ Some (node_of tuple)
+  pub belongs : IsTaskOf t tuple.component task
+  pub taken : WasTaken t row (ToTask task tuple)
+  pub once : weigh (on_tuple (is_at root path)) (all_packets row) ≡ 1
+
+module _ (t : Topology) (custom : Custom) (row : List (Pass Mail)) (rows : List (List Value))
+    (root : Root) where
+  -- the tuple that a done or a failure is about was taken once; a done has its edge
+  abbrev pub TookTuple : AckMsg → Type 0
+  TookTuple (msg.Init m) = Unit {0}
+  TookTuple (msg.Done m) =
+      (took : TookOnce t custom row rows root m.consumed.path) × (took.tuple.edge ≡ m.consumed)
+  TookTuple (msg.Failed m) = TookOnce t custom row rows root m.path
+
+  -- a message about the root was taken from the box of the root's acker, and so was its tuple
+  abbrev pub TellsMessage : AckMsg → Type 0
+  TellsMessage m = WasTaken t row (ToAcker (acker_of t root) m) × TookTuple m
+
+  -- a verdict that the root is complete was heard, and each message of its list was taken
+  pub record TellsComplete (list : List AckMsg) : Type 0 where
+    pub verdict : WasHeard t row (Complete root list)
+    pub messages : AllByRecursion TellsMessage list
+
+  -- a verdict that the root fails at a path was heard, and the failure was taken
+  pub record TellsFails (path : List ℕ) : Type 0 where
+    pub verdict : WasHeard t row (Fails root path)
+    pub message : TellsMessage (msg.Failed (record { root = root; path = path }))
+
+  -- what taken lists tell of an end
+  abbrev pub TellsEnd : End → Type 0
+  TellsEnd (end.Committed list) = TellsComplete list
+  TellsEnd (end.Failed path) = TellsFails path
+  TellsEnd end.TimedOut = Unit {0}
+  TellsEnd (end.Coincided list) = TellsComplete list
+  TellsEnd (end.CommitFailed component part before after) =
+      (list : List AckMsg) × TellsComplete list
+
+-- taken lists tell so of each attempt, with the rows of its batch
+abbrev pub BoxesTell : Topology → Custom → Cut → List (Pass Mail) → List Attempt → Type 0
+BoxesTell t custom cut row fates =
+    AllByRecursion
+    (λ (a : Attempt). TellsEnd t custom row (rows_in cut a.root.txid) a.root a.end) fates

@@ -1,0 +1,33 @@
+-- Worlds in which nothing was lost: no entry was dropped, and no commit failed.
+-- This project's own.
+use Rattle.std.specs.Prelude.{◌≡◌, ◌≤◌, ℕ, false, []}
+use Rattle.std.specs.List.{AllByRecursion}
+use Rattle.attempt_fates.specs.declared.fates.Attempt.{Attempt}
+use Rattle.bolt_ops.specs.RowOp.{Custom}
+use Rattle.commit_turns.specs.Kept.{is_failed_commit}
+use Rattle.event_worlds.specs.Accounted.{LedTo}
+use Rattle.event_worlds.specs.Worlds.{AckerSide, Known, World, acker_at}
+use Rattle.topology_plan.specs.Topology.{Topology}
+use Rattle.trident_batches.specs.Batches.{Cut}
+use Rattle.tuple_account.specs.Histories.{History}
+use Rattle.world_progress.specs.Young.{AreYoung}
+
+-- an acker has counted ticks that passed, and its entries are not older
+pub record IsSeat (t : Topology) (n tick : ℕ) (side : AckerSide) : Type 0 where
+  pub counted : side.counted ≤ tick
+  pub young : AreYoung t n side.counted side.entries
+
+abbrev pub AreSeats : Topology → World → Type 0
+AreSeats t w = (n : ℕ) → IsSeat t n w.tick (acker_at n w)
+
+-- the attempt did not end by a commit that failed
+abbrev pub IsFine : Attempt → Type 0
+IsFine a = is_failed_commit a.end ≡ false
+
+-- A history led to a world; no entry was dropped, and no commit failed.
+pub record Lasting (t : Topology) (custom : Custom) (cut : Cut) (words : ℕ → ℕ → ℕ) (h : History)
+    (k : Known) : Type 0 where
+  pub led : LedTo t custom cut words h k
+  pub seats : AreSeats t k.world
+  pub whole : h.dropped ≡ []
+  pub fine : AllByRecursion IsFine k.world.fates
