@@ -1,6 +1,6 @@
 -- What a step of an acker comes to.
 use Rattle.std.proofs.Common.{◌≡◌, ◌<◌, ◌≤◌, ◌⊎◌, inl, inr, ℕ, zero, suc, Bool, true, false, length, ◌+◌, ◌-◌, List, [], ◌∷◌, ◌++◌, Option, None, Some, sym, refl, ap, set, subst, ◌∙◌, arith}
-use Rattle.std.specs.Prelude.{min, fold, replicate, slice_get}
+use Rattle.std.specs.Prelude.{max, min, fold, replicate, slice_get}
 use Rattle.std.specs.List.{AllByRecursion}
 use Rattle.std.specs.Option.{option_to_list}
 use Rattle.acker_core.specs.Entries.{after, list_with, message, met, tick, told_of}
@@ -26,11 +26,13 @@ use Rattle.tuple_account.specs.Parts.{meeting, telling_by, weigh_entries}
 use Rattle.tuple_account.proofs.Entering.{met-weight, rotated-weight, telling_told}
 use Rattle.tuple_account.proofs.Moving.{well-nothing}
 use Rattle.worker_pool.specs.declared.acker.AckerDesk.{AckerDesk}
-use Rattle.worker_pool.specs.Ackers.{acker_left, AckerDid, AckerSays, Ages, CountsUp, HandsVerdict, IsAcker, IsAckerHeld, Meets, ReceivesNotes, acker_station, weigh_messages, weigh_verdict}
+use Rattle.worker_pool.specs.Ackers.{acker_left, AckerDid, AckerSays, Ages, CountsFew, CountsUp, HandsVerdict, HasYoung, IsAcker, IsAckerHeld, ReceivesNotes, weigh_messages, weigh_verdict}
 use Rattle.worker_pool.specs.Says.{HasDone, each_one}
-use Rattle.worker_pool.specs.Crews.{AreUpTo, HasCountedAt, KeepsCountedAt}
-use Rattle.worker_pool.proofs.Lists.{is_one}
-use Rattle.worker_pool.proofs.Saying.{below-more, each-from, same-none, set-here, done-left, done-same, done-sent, done-taken, empty-same, full-same, true-false, weigh-ones}
+use Rattle.worker_pool.specs.Crews.{AreUpTo, CountsUpAt, HasCountedAt, KeepsCountedAt}
+use Rattle.worker_pool.proofs.Lists.{is_one, zip-from}
+use Rattle.worker_pool.proofs.Saying.{below-more, same-none, set-here, done-left, done-same, done-sent, done-taken, empty-same, full-same, true-false, weigh-ones}
+use Rattle.world_progress.specs.Young.{AreYoung}
+use Rattle.world_progress.proofs.Seats.{young-met, young-more, young-rotated}
 
 -- ---- rotations
 
@@ -64,6 +66,16 @@ ticks-more : (buckets n : ℕ) (entries : List (Held (List AckMsg))) → rotated
 ticks-more buckets zero entries = refl
 ticks-more buckets (suc n) entries = ticks-more buckets n (rotated buckets entries)
 
+-- and drop nothing before an entry is too old
+young-ticks : (t : Topology) (n a k b : ℕ) → a + k ≤ b → b < t.buckets → (es : List (Held (List AckMsg))) → AreYoung t n a es
+    → AreYoung t n b (fold (after t.buckets) es (replicate k tick)) × (gone_by t.buckets k es ≡ [])
+unfolding gone_by
+young-ticks t n a zero b few short es young = (young-more t n a b (omega arith) es young, refl)
+young-ticks t n a (suc k) b few short es young =
+    let now = young-rotated t n a (a + 1) (omega arith) (omega arith) es young in
+    let rest = young-ticks t n (a + 1) k b (omega arith) short (rotated t.buckets es) now.0 in
+    (rest.0, (λ i. now.1 i ++ rest.1 i))
+
 -- so many rotations were made, and all else stayed
 pub record Rotates (old new : AckerDesk) (times : ℕ) : Type 0 where
   pub entries : new.acker.held ≡ fold (after old.acker.buckets) old.acker.held (replicate times tick)
@@ -91,10 +103,12 @@ rotates-more old mid new n m so_far is acker number inbox outbox counted = recor
   counted = counted ∙ so_far.counted;
 }
 
-pub counts_up : (old mid new : AckerDesk) (times count buckets : ℕ) → Rotates old mid times → old.acker.buckets ≡ buckets → times ≡ min (count - old.counted) buckets → new ≡ record mid { counted = count } → CountsUp old new
-counts_up old mid new times count buckets all own many is = record {
+pub counts_up : (old mid new : AckerDesk) (times aged count buckets : ℕ) → Rotates old mid times → old.acker.buckets ≡ buckets → times ≡ min (aged - old.counted) buckets → count ≡ max old.counted aged → new ≡ record mid { counted = count } → CountsUp old new
+counts_up old mid new times aged count buckets all own many on is = record {
   times = times;
   enough = let c = ap (λ (d : AckerDesk). d.counted) is in omega arith;
+  most = let c = ap (λ (d : AckerDesk). d.counted) is in omega arith;
+  on = let c = ap (λ (d : AckerDesk). d.counted) is in omega arith;
   entries = ap (λ (d : AckerDesk). d.acker.held) is ∙ all.entries;
   buckets = ap (λ (d : AckerDesk). d.acker.buckets) is ∙ all.buckets;
   number = ap (λ (d : AckerDesk). d.number) is ∙ all.number;
@@ -116,55 +130,73 @@ still_ages old new number acker counted = record {
   trace = [];
   entries = ap (λ (r : Rotation (List AckMsg)). r.held) acker;
   rotates = let c : new.counted ≡ old.counted = counted in omega arith;
+  on = let c : new.counted ≡ old.counted = counted in omega arith;
 }
+
+-- the entries are as young
+young-same : (t : Topology) (old new : AckerDesk) → new.number ≡ old.number → new.acker ≡ old.acker → new.counted ≡ old.counted → HasYoung t old → HasYoung t new
+young-same t old new number acker counted young =
+    subst (λ (n : ℕ). AreYoung t n new.counted new.acker.held) (sym number)
+    (subst (λ (k : ℕ). AreYoung t old.number k new.acker.held) (sym counted)
+    (subst (λ (x : Rotation (List AckMsg)). AreYoung t old.number old.counted x.held) (sym acker) young))
 
 pub still_acker : (t : Topology) (old new : AckerDesk) → CountsUp old new → IsAcker t old → IsAcker t new
 still_acker t old new counts is = record { there = subst (λ (n : ℕ). n < t.ackers) (sym counts.number) is.there; buckets = counts.buckets ∙ is.buckets }
 
 module _ (t : Topology) where
   -- the entries stayed, and mail moved
-  moved : (old new : AckerDesk) (was is : List (Pass Mail)) → new.acker ≡ old.acker
+  moved : (old new : AckerDesk) (was is : List (Pass Mail)) → new.number ≡ old.number → new.acker ≡ old.acker → new.counted ≡ old.counted
       → ((f : Packet → ℕ) → (weigh_messages f new.number new.inbox.items + weigh_verdict f new.outbox) + (sent_in is f + taken_in was f) ≡ (weigh_messages f old.number old.inbox.items + weigh_verdict f old.outbox) + (sent_in was f + taken_in is f))
-      → Meets t (acker_station old) was (acker_station new) is
-  moved old new was is acker packets = record {
-    history = nothing;
-    works = λ custom. record {
-      packets = λ f. let p = packets f in omega arith;
-      notes = λ g. let e = ap (λ (x : Rotation (List AckMsg)). weigh_entries g x.held) acker in omega arith;
-      draws = λ s j. omega arith;
-      well = well-nothing t custom;
+      → ((f : Packet → ℕ) → weigh_messages f new.number new.inbox.items + taken_in was f ≡ weigh_messages f old.number old.inbox.items + taken_in is f)
+      → AckerDid t old new was is
+  moved old new was is number acker counted packets inbox = record {
+    ages = still_ages old new number acker counted;
+    meets = record {
+      history = nothing;
+      works = λ custom. record {
+        packets = λ f. let p = packets f in omega arith;
+        notes = λ g. let e = ap (λ (x : Rotation (List AckMsg)). weigh_entries g x.held) acker in omega arith;
+        draws = λ s j. omega arith;
+        well = well-nothing t custom;
+      };
+      inside = record { starts = refl; begun = refl; heard = refl };
+      none_run = refl;
     };
-    inside = record { starts = refl; begun = refl; heard = refl };
-    none_run = refl;
+    uses = λ f. let p = inbox f in omega arith;
+    lasts = λ routed young few. (young-same t old new number acker counted young, refl);
   }
 
   pub verdict_handed : (v : Verdict) (old mid new : AckerDesk) (was is : List (Pass Mail)) → old.outbox ≡ Some v → mid.number ≡ old.number → mid.acker ≡ old.acker → mid.inbox ≡ old.inbox → mid.counted ≡ old.counted → (did : Bool) → HandsVerdict t v did mid new was is → AckerDid t old new was is
-  verdict_handed v old mid new was is front number acker inbox counted did hands = record {
-    ages = still_ages old new (hands.number ∙ number) (hands.acker ∙ acker) (hands.counted ∙ counted);
-    meets = moved old new was is (hands.acker ∙ acker) (λ f.
-        let p = hands.packets f in
-        let k = hands.taken f in
-        let o = ap (weigh_verdict f) front in
-        let i = ap (λ b. weigh_messages f new.number b.items) (hands.inbox ∙ inbox) in
-        let n = ap (λ (n : ℕ). weigh_messages f n old.inbox.items) (hands.number ∙ number) in omega arith);
-  }
+  verdict_handed v old mid new was is front number acker inbox counted did hands =
+      moved old new was is (hands.number ∙ number) (hands.acker ∙ acker) (hands.counted ∙ counted)
+      (λ f.
+      let p = hands.packets f in
+      let k = hands.taken f in
+      let o = ap (weigh_verdict f) front in
+      let i = ap (λ b. weigh_messages f new.number b.items) (hands.inbox ∙ inbox) in
+      let n = ap (λ (n : ℕ). weigh_messages f n old.inbox.items) (hands.number ∙ number) in omega arith)
+      (λ f.
+      let k = hands.taken f in
+      let i = ap (λ b. weigh_messages f new.number b.items) (hands.inbox ∙ inbox) in
+      let n = ap (λ (n : ℕ). weigh_messages f n old.inbox.items) (hands.number ∙ number) in omega arith)
 
   pub notes_received : (run : List Parcel) (old new : AckerDesk) (was is : List (Pass Mail)) (n : ℕ) → ReceivesNotes run old new → HasTaken n (mails.Run run) was is → AckerDid t old new was is
-  notes_received run old new was is place receives taken = record {
-    ages = still_ages old new receives.number receives.acker receives.counted;
-    meets = moved old new was is receives.acker (λ f.
-        let i = receives.inbox f in
-        let o = ap (weigh_verdict f) receives.outbox in
-        let n = ap (λ (n : ℕ). weigh_messages f n new.inbox.items) receives.number in
-        let s = taken.sent f in
-        let k = taken.taken f in omega arith);
-  }
+  notes_received run old new was is place receives taken =
+      moved old new was is receives.number receives.acker receives.counted
+      (λ f.
+      let i = receives.inbox f in
+      let o = ap (weigh_verdict f) receives.outbox in
+      let n = ap (λ (n : ℕ). weigh_messages f n new.inbox.items) receives.number in
+      let s = taken.sent f in
+      let k = taken.taken f in omega arith)
+      (λ f.
+      let i = receives.inbox f in
+      let n = ap (λ (n : ℕ). weigh_messages f n new.inbox.items) receives.number in
+      let k = taken.taken f in omega arith)
 
   pub acker_rests : (d : AckerDesk) (was is : List (Pass Mail)) → IsSameRow was is → AckerDid t d d was is
-  acker_rests d was is same = record {
-    ages = still_ages d d refl refl refl;
-    meets = moved d d was is refl (λ f. let s = same.sent f in let k = same.taken f in omega arith);
-  }
+  acker_rests d was is same =
+      moved d d was is refl refl refl (λ f. let s = same.sent f in let k = same.taken f in omega arith) (λ f. let k = same.taken f in omega arith)
 
   -- an empty inbox, or an empty outbox, was looked into
   pub acker_after : (old mid new : AckerDesk) (was is : List (Pass Mail)) → mid.number ≡ old.number → mid.acker ≡ old.acker → mid.outbox ≡ old.outbox → mid.counted ≡ old.counted → mid.inbox.items ≡ old.inbox.items → AckerDid t mid new was is → AckerDid t old new was is
@@ -177,6 +209,7 @@ module _ (t : Topology) where
       rotates =
           subst (λ (n : ℕ). min old.acker.buckets (new.counted - n) ≤ ticks_in did.ages.trace) counted
           (subst (λ (r : Rotation (List AckMsg)). min r.buckets (new.counted - mid.counted) ≤ ticks_in did.ages.trace) acker did.ages.rotates);
+      on = subst (λ (n : ℕ). n ≤ new.counted) counted did.ages.on;
     };
     meets = record {
       history = did.meets.history;
@@ -193,16 +226,29 @@ module _ (t : Topology) where
       inside = did.meets.inside;
       none_run = did.meets.none_run;
     };
+    uses = λ f.
+        let p = did.uses f in
+        let i = ap (weigh_messages f old.number) inbox in
+        let m = ap (λ (n : ℕ). weigh_messages f n mid.inbox.items) number in omega arith;
+    lasts = λ routed young few. did.lasts routed (young-same t old mid number acker counted young) few;
   }
 
-  pub acker_counted : (old new : AckerDesk) (was : List (Pass Mail)) → CountsUp old new → AckerDid t old new was was
-  acker_counted old new was counts = record {
+  -- entries that are not too old were rotated
+  young-counted : (old new : AckerDesk) (counts : CountsUp old new) → old.acker.buckets ≡ t.buckets → HasYoung t old → CountsFew t new → HasYoung t new × (gone_by old.acker.buckets counts.times old.acker.held ≡ [])
+  young-counted old new counts own young few =
+      let held = young-ticks t old.number old.counted counts.times new.counted (let m = counts.most in let o = counts.on in omega arith) few old.acker.held young in
+      let same = subst (λ (b : ℕ). AreYoung t old.number new.counted (fold (after b) old.acker.held (replicate counts.times tick)) × (gone_by b counts.times old.acker.held ≡ [])) (sym own) held in
+      (subst (λ (n : ℕ). AreYoung t n new.counted new.acker.held) (sym counts.number) (subst (AreYoung t old.number new.counted) (sym counts.entries) same.0), same.1)
+
+  pub acker_counted : (old new : AckerDesk) (was : List (Pass Mail)) → CountsUp old new → IsAcker t old → AckerDid t old new was was
+  acker_counted old new was counts is = record {
     ages = record {
       number = counts.number;
       buckets = counts.buckets;
       trace = replicate counts.times tick;
       entries = counts.entries;
       rotates = let e = counts.enough in let n = ticks-only counts.times in omega arith;
+      on = counts.on;
     };
     meets = record {
       history = record nothing { dropped = gone_by old.acker.buckets counts.times old.acker.held };
@@ -220,6 +266,10 @@ module _ (t : Topology) where
       inside = record { starts = refl; begun = refl; heard = refl };
       none_run = refl;
     };
+    uses = λ f.
+        let i = ap (λ b. weigh_messages f new.number b.items) counts.inbox in
+        let n = ap (λ (n : ℕ). weigh_messages f n old.inbox.items) counts.number in omega arith;
+    lasts = λ routed young few. young-counted old new counts is.buckets young few;
   }
 
   pub message_met : (m : AckMsg) (old new : AckerDesk) (rest : List AckMsg) (was : List (Pass Mail)) → old.outbox ≡ None → old.inbox.items ≡ m ∷ rest → new.inbox.items ≡ rest → new.outbox ≡ told_of m old.acker.held
@@ -231,6 +281,7 @@ module _ (t : Topology) where
       trace = message m ∷ [];
       entries = ap (λ (x : Rotation (List AckMsg)). x.held) acker;
       rotates = let c : new.counted ≡ old.counted = counted in omega arith;
+      on = let c : new.counted ≡ old.counted = counted in omega arith;
     };
     meets = record {
       history = meeting old.number m old.acker.held;
@@ -251,6 +302,14 @@ module _ (t : Topology) where
       inside = record { starts = refl; begun = refl; heard = refl };
       none_run = refl;
     };
+    uses = λ f.
+        let a = ap (weigh_messages f old.number) front in
+        let b = ap (weigh_messages f new.number) left in
+        let k = ap (λ (n : ℕ). weigh_messages f n rest) number in omega arith;
+    lasts = λ routed young few. (
+      young-same t (record old { acker = record old.acker { held = met m old.acker.held } }) new number acker counted (young-met t old.number old.counted m old.acker.held routed.0 young),
+      refl,
+    );
   }
 
 -- ---- runs of messages
@@ -364,12 +423,24 @@ counted-here ackers n aged a b at is = λ d there. subst (λ (x : AckerDesk). x.
 pub counted-kept : (ackers : List AckerDesk) (n : ℕ) (a b : AckerDesk) → slice_get ackers n ≡ Some a → b.counted ≡ a.counted → KeepsCountedAt n ackers (set ackers n b)
 counted-kept ackers n a b at same = λ aged has. counted-here ackers n aged a b at (same ∙ has a at)
 
-pub counted-none : (aged : ℕ) (ackers : List AckerDesk) (m : ℕ) → m < 0 → HasCountedAt m aged ackers
-counted-none aged ackers m below = absurd (omega arith)
+pub counts-here : (ackers : List AckerDesk) (n aged : ℕ) (a b : AckerDesk) → slice_get ackers n ≡ Some a → b.counted ≡ max a.counted aged → CountsUpAt n aged ackers (set ackers n b)
+counts-here ackers n aged a b at is = λ d there. counted-here ackers n (max d.counted aged) a b at (is ∙ ap (λ (x : AckerDesk). max x.counted aged) (is_one a d (sym at ∙ there)))
 
-pub counted-more : (aged n : ℕ) (old new : List AckerDesk) → ((m : ℕ) → m < n → HasCountedAt m aged old) → ((m : ℕ) → (m ≡ n → ⊥) → slice_get new m ≡ slice_get old m) → HasCountedAt n aged new
-    → (m : ℕ) → m < n + 1 → HasCountedAt m aged new
-counted-more aged n old new low others here = below-more (λ m. HasCountedAt m aged new) n (λ m below d at. low m below d (sym (others m (λ same. absurd (omega arith))) ∙ at)) here
+-- the ackers before a place aged up to a tick, and the others stayed
+pub record CountedTo (aged n : ℕ) (old new : List AckerDesk) : Type 0 where
+  pub low : (m : ℕ) → m < n → CountsUpAt m aged old new
+  pub rest : (m : ℕ) → n ≤ m → slice_get new m ≡ slice_get old m
 
-pub counted-all : (aged n : ℕ) (ackers : List AckerDesk) → length ackers ≤ n → ((m : ℕ) → m < n → HasCountedAt m aged ackers) → AreUpTo aged ackers
-counted-all aged n ackers all each = each-from (λ (d : AckerDesk). d.counted ≡ aged) ackers (λ m below d at. each m (omega arith) d at)
+pub counted-none : (aged : ℕ) (ackers : List AckerDesk) → CountedTo aged 0 ackers ackers
+counted-none aged ackers = record { low = λ m below. absurd (omega arith); rest = λ m above. refl }
+
+pub counted-more : (aged n : ℕ) (first old new : List AckerDesk) → CountedTo aged n first old → ((m : ℕ) → (m ≡ n → ⊥) → slice_get new m ≡ slice_get old m) → CountsUpAt n aged old new → CountedTo aged (n + 1) first new
+counted-more aged n first old new so_far others here = record {
+  low = below-more (λ m. CountsUpAt m aged first new) n
+      (λ m below d was e at. so_far.low m below d was e (sym (others m (λ same. absurd (omega arith))) ∙ at))
+      (λ d was. here d (so_far.rest n (omega arith) ∙ was));
+  rest = λ m above. others m (λ same. absurd (omega arith)) ∙ so_far.rest m (omega arith);
+}
+
+pub counted-all : (aged n : ℕ) (old new : List AckerDesk) → length old ≤ n → length new ≡ length old → CountedTo aged n old new → AreUpTo aged old new
+counted-all aged n old new all many to = zip-from (λ (a b : AckerDesk). b.counted ≡ max a.counted aged) old new many (λ m below a b at there. to.low m (omega arith) a at b there)

@@ -7,25 +7,28 @@ use Rattle.acker_core.specs.Traces.{ticks_in}
 use Rattle.std.proofs.lemmas.List.{length-set}
 use Rattle.bolt_ops.specs.RowOp.{Custom}
 use Rattle.output_collector.proofs.Sending.{Draws-none, Draws-then}
+use Rattle.counted_items.proofs.Each.{each-back, each-front}
 use Rattle.box_rows.proofs.Weighing.{weigh-at}
 use Rattle.box_rows.specs.declared.mail.Mail.{Mail}
 use Rattle.box_rows.specs.Rows.{sent_in, taken_in}
 use Rattle.worker_pool.specs.declared.desk.TaskDesk.{TaskDesk}
-use Rattle.worker_pool.specs.Desks.{DeskDid, desk_station, given_at, source_at}
-use Rattle.worker_pool.specs.Works.{IsInside, Works, ended}
+use Rattle.worker_pool.specs.Desks.{DeskDid, desk_inbox, desk_station, given_at, source_at}
+use Rattle.worker_pool.specs.Works.{IsInside, Uses, Works, ended}
 use Rattle.worker_pool.specs.declared.acker.AckerDesk.{AckerDesk}
-use Rattle.worker_pool.specs.Ackers.{AckerDid, Ages, Meets, acker_station}
-use Rattle.worker_pool.specs.Crews.{AckersDid, AreGiven, AreNext, CrewDid, CrewWorked, Gave, ackers_station, counted_on, crew_station, spans_from, sum_from}
-use Rattle.worker_pool.proofs.Outboxing.{get-below}
-use Rattle.worker_pool.proofs.Lists.{is_in, was_in, words-split, zip-same, zip-set, zip-then}
+use Rattle.worker_pool.specs.Ackers.{AckerDid, Ages, CountsFew, HasYoung, Lasts, acker_inbox, acker_station}
+use Rattle.worker_pool.specs.Crews.{AckersDid, AllLast, AreGiven, AreNext, CrewDid, CrewWorked, Gave, ackers_inbox, ackers_station, counted_on, crew_left, crew_station, spans_from, sum_from}
+use Rattle.worker_pool.proofs.Outboxing.{each-get, each-put, get-below}
+use Rattle.worker_pool.proofs.Saying.{set-here}
+use Rattle.worker_pool.proofs.Lists.{is_in, was_in, words-split, zip-before, zip-same, zip-set, zip-then}
 use Rattle.storm_ids.specs.declared.ids.Ids.{Ghosts}
 use Rattle.task_queues.specs.declared.pass.Pass.{Pass}
 use Rattle.topology_plan.specs.Topology.{Topology}
-use Rattle.tuple_account.specs.Histories.{Execution, History, Opening, joined, nothing}
+use Rattle.tree_model.specs.Lists.{root_of}
+use Rattle.tuple_account.specs.Histories.{Execution, History, Opening, Packet, Receipt, acker_of, joined, nothing}
 use Rattle.tuple_account.specs.Places.{HasWords, spans}
 use Rattle.tuple_account.specs.Moves.{Station}
 use Rattle.tuple_account.specs.Parts.{weigh_entries}
-use Rattle.tuple_account.proofs.Moving.{drawn-both, moves-then, well-nothing}
+use Rattle.tuple_account.proofs.Moving.{drawn-both, moves-then, taken-joined, well-nothing}
 
 both-none : {X : Type 0} (xs ys : List X) → xs ≡ [] → ys ≡ [] → xs ++ ys ≡ []
 both-none xs ys a b = (λ i. a i ++ b i)
@@ -117,10 +120,13 @@ module _ (t : Topology) (custom : Custom) where
         well = m.well;
       }
 
+uses-then : (l m n : (Packet → ℕ) → ℕ) (x y z : List (Pass Mail)) (h k : History) → Uses l x h m y → Uses m y k n z → Uses l x (joined h k) n z
+uses-then l m n x y z h k one two = λ f. let p = one f in let q = two f in let j = taken-joined f h k in omega arith
+
 -- ---- ackers
 
 ages-same : (d : AckerDesk) → Ages d d
-ages-same d = record { number = refl; buckets = refl; trace = []; entries = refl; rotates = omega arith }
+ages-same d = record { number = refl; buckets = refl; trace = []; entries = refl; rotates = omega arith; on = omega arith }
 
 fold-append : {X Y : Type 0} (f : Y → X → Y) (y : Y) (xs zs : List X) → fold f y (xs ++ zs) ≡ fold f (fold f y xs) zs
 fold-append f y [] zs = refl
@@ -147,38 +153,56 @@ ages-then a b c one two = record {
       subst (λ (n : ℕ). min a.acker.buckets (c.counted - a.counted) ≤ n) (sym (ticks-append one.trace two.trace))
       (enough-both a.acker.buckets a.counted b.counted c.counted (ticks_in one.trace) (ticks_in two.trace) one.rotates
       (subst (λ (n : ℕ). min n (c.counted - b.counted) ≤ ticks_in two.trace) one.buckets two.rotates));
+  on = let p = one.on in let q = two.on in omega arith;
 }
 
 module _ (t : Topology) where
-  meets-none : (a : Station) (was : List (Pass Mail)) → Meets t a was a was
-  meets-none a was = record {
-    history = nothing;
-    works = λ custom. record {
-      packets = λ f. omega arith;
-      notes = λ g. omega arith;
-      draws = λ s j. omega arith;
-      well = well-nothing t custom;
-    };
-    inside = record { starts = refl; begun = refl; heard = refl };
-    none_run = refl;
-  }
-
-  meets-then : (a b c : Station) (x y z : List (Pass Mail)) → Meets t a x b y → Meets t b y c z → Meets t a x c z
-  meets-then a b c x y z one two = record {
-    history = joined one.history two.history;
-    works = λ custom. works-then t custom a b c x y z one.history two.history (one.works custom) (two.works custom);
-    inside = inside-both one.history two.history one.inside two.inside;
-    none_run = both-none one.history.runs two.history.runs one.none_run two.none_run;
-  }
+  -- nothing is lost in one piece of work, and nothing in the next
+  lasts-then : (h k : History) (a b c : List AckerDesk) → AllZip Ages b c → AllLast t h a b → AllLast t k b c → AllLast t (joined h k) a c
+  lasts-then h k a b c ages one two = λ routed young few.
+      let met_at : Receipt → Type 0 = λ r. acker_of t (root_of r.message) ≡ r.acker in
+      let before = one (each-front met_at h.met k.met routed) young (zip-before Ages (CountsFew t) (CountsFew t) (λ x y ages less. let on = ages.on in omega arith) b c ages few) in
+      let now = two (each-back met_at h.met k.met routed) before.0 few in
+      (now.0, both-none h.dropped k.dropped before.1 now.1)
 
   pub ackers-none : (ackers : List AckerDesk) (was : List (Pass Mail)) → AckersDid t ackers ackers was was
-  ackers-none ackers was = record { ages = zip-same Ages ages-same ackers; meets = meets-none (ackers_station ackers) was }
+  ackers-none ackers was = record {
+    ages = zip-same Ages ages-same ackers;
+    meets = record {
+      history = nothing;
+      works = λ custom. record {
+        packets = λ f. omega arith;
+        notes = λ g. omega arith;
+        draws = λ s j. omega arith;
+        well = well-nothing t custom;
+      };
+      inside = record { starts = refl; begun = refl; heard = refl };
+      none_run = refl;
+    };
+    uses = λ f. omega arith;
+    lasts = λ routed young few. (young, refl);
+  }
 
   pub ackers-then : (a b c : List AckerDesk) (x y z : List (Pass Mail)) → AckersDid t a b x y → AckersDid t b c y z → AckersDid t a c x z
-  ackers-then a b c x y z one two = record {
-    ages = zip-then Ages ages-then a b c one.ages two.ages;
-    meets = meets-then (ackers_station a) (ackers_station b) (ackers_station c) x y z one.meets two.meets;
-  }
+  ackers-then a b c x y z one two =
+      let h = one.meets.history in
+      let k = two.meets.history in record {
+        ages = zip-then Ages ages-then a b c one.ages two.ages;
+        meets = record {
+          history = joined h k;
+          works = λ custom. works-then t custom (ackers_station a) (ackers_station b) (ackers_station c) x y z h k (one.meets.works custom) (two.meets.works custom);
+          inside = inside-both h k one.meets.inside two.meets.inside;
+          none_run = both-none h.runs k.runs one.meets.none_run two.meets.none_run;
+        };
+        uses = uses-then (ackers_inbox a) (ackers_inbox b) (ackers_inbox c) x y z h k one.uses two.uses;
+        lasts = lasts-then h k a b c two.ages one.lasts two.lasts;
+      }
+
+  -- one acker among others loses nothing
+  lasts-at : (h : History) (ackers : List AckerDesk) (n : ℕ) (a b : AckerDesk) → slice_get ackers n ≡ Some a → Lasts t h a b → AllLast t h ackers (set ackers n b)
+  lasts-at h ackers n a b at lasts = λ routed young few.
+      let now = lasts routed (each-get (HasYoung t) ackers n a young at) (each-get (CountsFew t) (set ackers n b) n b few (set-here ackers n a b at)) in
+      (each-put (HasYoung t) ackers n b young now.0, now.1)
 
   pub ackers-at : (ackers : List AckerDesk) (n : ℕ) (a b : AckerDesk) (was is : List (Pass Mail)) → slice_get ackers n ≡ Some a → AckerDid t a b was is → AckersDid t ackers (set ackers n b) was is
   ackers-at ackers n a b was is at did = record {
@@ -194,6 +218,8 @@ module _ (t : Topology) where
       inside = did.meets.inside;
       none_run = did.meets.none_run;
     };
+    uses = λ f. let p = did.uses f in let s = weigh-at (λ (d : AckerDesk). acker_inbox d f) ackers n a b at in omega arith;
+    lasts = lasts-at did.meets.history ackers n a b at did.lasts;
   }
 
 zip-many : {X : Type 0} (R : X → X → Type 0) (xs ys : List X) → AllZip R xs ys → length ys ≡ length xs
@@ -225,6 +251,8 @@ module _ {I : Type 0} {g : Ghosts I} (tells : I → (ℕ → ℕ) → ℕ → Ty
       are_given = subst (λ (c : ℕ → ℕ). AreGiven c desks) (same counts) are;
       drawn = λ words next. record { of_begun = tt; of_runs = tt };
       inside = record { starts = refl; begun = refl; heard = refl };
+      uses = λ f. omega arith;
+      lasts = λ routed young few. (young, refl);
     };
   }
     where
@@ -262,6 +290,8 @@ module _ {I : Type 0} {g : Ghosts I} (tells : I → (ℕ → ℕ) → ℕ → Ty
             drawn = λ words next. drawn-both words one.history two.history (one.drawn words (next_before words counts first.given second.given a next))
                 (two.drawn words (next_after words counts first.given second.given a b first.many (λ n d at. let e = first.gave n d at in (e.0, e.1, e.2.number)) next));
             inside = inside-both one.history two.history one.inside two.inside;
+            uses = uses-then (crew_left a k) (crew_left b l) (crew_left c m) x y z one.history two.history one.uses two.uses;
+            lasts = lasts-then t one.history two.history k l m second.ages one.lasts two.lasts;
           };
     }
 
@@ -329,6 +359,8 @@ module _ {I : Type 0} {g : Ghosts I} (tells : I → (ℕ → ℕ) → ℕ → Ty
             are_given = given_there w.given;
             drawn = λ words next. w.drawn words (subst (λ (xs : List ℕ). xs ≡ map (words a.number) (range_with_len (counts n) (length xs))) here (next n a at));
             inside = w.inside;
+            uses = λ f. let p = w.uses f in let s = weigh-at (λ (d : TaskDesk I g). desk_inbox d f) desks n a b at in omega arith;
+            lasts = λ routed young few. (young, w.none_dropped);
           }
 
     pub did-at : CrewDid tells t custom desks (set desks n b) ackers ackers was is
@@ -365,5 +397,7 @@ module _ {I : Type 0} {g : Ghosts I} (tells : I → (ℕ → ℕ) → ℕ → Ty
                 of_runs = subst (λ es. AllByRecursion (λ (e : Execution). HasWords words e.run.task e.run.at e.run.ids) es) (sym did.meets.none_run) tt;
               };
               inside = did.meets.inside;
+              uses = λ f. let p = did.uses f in omega arith;
+              lasts = did.lasts;
             };
       }

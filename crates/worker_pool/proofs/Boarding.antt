@@ -1,7 +1,7 @@
 -- What a seat keeps, and a worker with it.
 use Rattle.std.proofs.Common.{◌≡◌, ◌≤◌, ◌+◌, ℕ, Bool, true, false, ◌||◌, List, [], ◌∷◌, map, refl, ap, sym, subst, ◌∙◌, arith}
 use Rattle.std.specs.List.{AllByRecursion}
-use Rattle.std.specs.Prelude.{nat_lt}
+use Rattle.std.specs.Prelude.{max, nat_lt}
 use Rattle.bolt_ops.specs.RowOp.{Custom}
 use Rattle.box_rows.specs.declared.mail.Mail.{Mail}
 use Rattle.box_rows.specs.Rows.{ArePasses, IsSameRow, numbers_at}
@@ -18,18 +18,23 @@ use Rattle.topology_plan.specs.Topology.{Topology}
 use Rattle.worker_pool.specs.declared.acker.AckerDesk.{AckerDesk}
 use Rattle.worker_pool.specs.declared.desk.TaskDesk.{TaskDesk}
 use Rattle.worker_pool.specs.declared.worker.Worker.{Worker}
-use Rattle.worker_pool.specs.Crews.{AckersSay, AreUpTo, TasksSay}
+use Rattle.worker_pool.specs.Crews.{AckersSay, AreNotPast, AreUpTo, TasksSay}
 use Rattle.worker_pool.specs.Desks.{IsTaskHeld}
 use Rattle.worker_pool.specs.Workers.{Did, Ended, HasWorked, IsAtWork, Keeps, KeepsBook, Stretched, Turned}
 use Rattle.worker_pool.proofs.Adding.{did-none, did-then}
 use Rattle.worker_pool.proofs.Desking.{task_stays_held}
+use Rattle.worker_pool.proofs.Lists.{zip-by, zip-same}
 use Rattle.worker_pool.proofs.Saying.{true-false}
 
 book-same : (b : Book) → KeepsBook b b
-book-same b = record { numbers = refl; drawn = refl }
+book-same b = record { numbers = refl; drawn = refl; grows = λ fresh. (fresh, omega arith) }
 
 book-then : (a b c : Book) → KeepsBook a b → KeepsBook b c → KeepsBook a c
-book-then a b c one two = record { numbers = two.numbers ∙ one.numbers; drawn = two.drawn ∙ one.drawn }
+book-then a b c one two = record {
+  numbers = two.numbers ∙ one.numbers;
+  drawn = two.drawn ∙ one.drawn;
+  grows = λ fresh. let q = two.grows fresh in let p = one.grows q.0 in let x = p.1 in let y = q.1 in (p.0, omega arith);
+}
 
 looked-drawn : (b : Book) (count : ℕ) (v : Bool) → nat_lt count b.seen ≡ v → (looked b count).drawn ≡ b.drawn
 looked-drawn b count true is = rw is refl
@@ -39,17 +44,33 @@ looked-numbers : (b : Book) (count : ℕ) (v : Bool) → nat_lt count b.seen ≡
 looked-numbers b count true is = rw is refl
 looked-numbers b count false is = rw is refl
 
-pub book-looked : (a b : Book) (count : ℕ) → b ≡ looked a count → KeepsBook a b
-book-looked a b count is = record {
+looked-fresh : (b : Book) (count : ℕ) (v : Bool) → nat_lt count b.seen ≡ v → (looked b count).wrapped ≡ false → b.wrapped ≡ false
+looked-fresh b count true is fresh = let marks : (looked b count).wrapped ≡ true = rw is refl in true-false (sym marks ∙ fresh)
+looked-fresh b count false is fresh = let stays : (looked b count).wrapped ≡ b.wrapped = rw is refl in sym stays ∙ fresh
+
+pub book-looked : (a b : Book) (count : ℕ) → b ≡ looked a count → (b.wrapped ≡ false → count ≡ b.seen) → (b.wrapped ≡ false → a.seen ≤ count) → KeepsBook a b
+book-looked a b count is seen grows = record {
   numbers = ap (λ (x : Book). x.numbers) is ∙ looked-numbers a count (nat_lt count a.seen) refl;
   drawn = ap (λ (x : Book). x.drawn) is ∙ looked-drawn a count (nat_lt count a.seen) refl;
+  grows = λ fresh. (
+    looked-fresh a count (nat_lt count a.seen) refl (ap (λ (x : Book). x.wrapped) (sym is) ∙ fresh),
+    let s = seen fresh in let g = grows fresh in omega arith,
+  );
 }
 
 pub book-halted : (a b : Book) (halted : Bool) → b ≡ with_halt a halted → KeepsBook a b
-book-halted a b halted is = record { numbers = ap (λ (x : Book). x.numbers) is; drawn = ap (λ (x : Book). x.drawn) is }
+book-halted a b halted is = record {
+  numbers = ap (λ (x : Book). x.numbers) is;
+  drawn = ap (λ (x : Book). x.drawn) is;
+  grows = λ fresh. (ap (λ (x : Book). x.wrapped) (sym is) ∙ fresh, let e = ap (λ (x : Book). x.seen) is in omega arith);
+}
 
 pub book-halts : (a b : Book) → b ≡ made_halt a → KeepsBook a b
-book-halts a b is = record { numbers = ap (λ (x : Book). x.numbers) is; drawn = ap (λ (x : Book). x.drawn) is }
+book-halts a b is = record {
+  numbers = ap (λ (x : Book). x.numbers) is;
+  drawn = ap (λ (x : Book). x.drawn) is;
+  grows = λ fresh. (ap (λ (x : Book). x.wrapped) (sym is) ∙ fresh, let e = ap (λ (x : Book). x.seen) is in omega arith);
+}
 
 module _ {I : Type 0} {g : Ghosts I} (t : Topology) (boxes : List (Mailbox Mail)) (board : Board) where
   pub keeps-none : (w : Worker I g) → ArePasses t boxes w.row.items → IsSeatOf board w.seat → Keeps t boxes board w w
@@ -85,8 +106,23 @@ both true b one two then none = true-false none
 both false true one two then none = true-false none
 both false false one two then none = then (one refl) (two refl)
 
-pub looked-seen : (b : Book) (count : ℕ) (ackers : List AckerDesk) → (b.wrapped ≡ false → count ≡ b.seen) → AreUpTo count ackers → b.wrapped ≡ false → AreUpTo b.seen ackers
-looked-seen b count ackers seen all fresh = subst (λ (n : ℕ). AreUpTo n ackers) (seen fresh) all
+pub looked-seen : (b : Book) (count : ℕ) (old new : List AckerDesk) → (b.wrapped ≡ false → count ≡ b.seen) → AreUpTo count old new → b.wrapped ≡ false → AreUpTo b.seen old new
+looked-seen b count old new seen all fresh = subst (λ (n : ℕ). AreUpTo n old new) (seen fresh) all
+
+-- ackers aged up to a tick, and then up to a later one
+up-then : (one two : ℕ) → one ≤ two → (a b c : List AckerDesk) → AreUpTo one a b → AreUpTo two b c → AreUpTo two a c
+up-then one two later =
+    zip-by (λ (x y : AckerDesk). y.counted ≡ max x.counted one) (λ (x y : AckerDesk). y.counted ≡ max x.counted two) (λ (x y : AckerDesk). y.counted ≡ max x.counted two)
+    (λ x y z p q. omega arith)
+
+-- they aged no further than a tick, and then up to a later one
+past-then : (one two : ℕ) → one ≤ two → (a b c : List AckerDesk) → AreNotPast one a b → AreUpTo two b c → AreNotPast two a c
+past-then one two later =
+    zip-by (λ (x y : AckerDesk). y.counted ≤ max x.counted one) (λ (x y : AckerDesk). y.counted ≡ max x.counted two) (λ (x y : AckerDesk). y.counted ≤ max x.counted two)
+    (λ x y z p q. omega arith)
+
+past-none : (aged : ℕ) (ackers : List AckerDesk) → AreNotPast aged ackers ackers
+past-none aged = zip-same (λ (x y : AckerDesk). y.counted ≤ max x.counted aged) (λ x. omega arith)
 
 tasks-same : {I : Type 0} {g : Ghosts I} (desks : List (TaskDesk I g)) (was is : List (Pass Mail)) → IsSameRow was is → AllByRecursion (λ (d : TaskDesk I g). IsTaskHeld d was) desks → AllByRecursion (λ (d : TaskDesk I g). IsTaskHeld d is) desks
 tasks-same [] was is same held = tt
@@ -95,7 +131,7 @@ tasks-same (d ∷ desks) was is same held = (task_stays_held d was is same held.
 module _ {I : Type 0} {g : Ghosts I} (t : Topology) where
   -- tasks had their turns, and then ackers
   pub turned-both : (worked met : Bool) (old new : Worker I g) (mid : List (Pass Mail)) → TasksSay worked old.desks.items new.desks.items old.row.items mid → AckersSay t met old.ackers.items new.ackers.items mid new.row.items
-      → ((book_of new.seat).wrapped ≡ false → AreUpTo (book_of new.seat).seen new.ackers.items) → Turned t (worked || met) old new
+      → ((book_of new.seat).wrapped ≡ false → AreUpTo (book_of new.seat).seen old.ackers.items new.ackers.items) → Turned t (worked || met) old new
   turned-both worked met old new mid tasks ackers ticked = record {
     done = record { least = let d = tasks.done.least in let e = ackers.done.least in let n = either worked met in omega arith };
     held = both worked met tasks.held ackers.held (λ one two. record { tasks = tasks-same new.desks.items mid new.row.items two.0 one.1; ackers = two.1 });
@@ -103,11 +139,13 @@ module _ {I : Type 0} {g : Ghosts I} (t : Topology) where
   }
 
   -- one in which nothing was done, and another
-  pub turned-then : (did : Bool) (a b c : Worker I g) → Turned t false a b → Turned t did b c → Turned t did a c
-  turned-then did a b c one two = record {
+  pub turned-then : (did : Bool) (a b c : Worker I g) → KeepsBook (book_of b.seat) (book_of c.seat) → Turned t false a b → Turned t did b c → Turned t did a c
+  turned-then did a b c keeps one two = record {
     done = record { least = let d = one.done.least in let e = two.done.least in omega arith };
     held = two.held;
-    ticked = two.ticked;
+    ticked = λ fresh.
+        let g = keeps.grows fresh in
+        up-then (book_of b.seat).seen (book_of c.seat).seen g.1 a.ackers.items b.ackers.items c.ackers.items (one.ticked g.0) (two.ticked fresh);
   }
 
   pub worked-then : (m n : ℕ) (a b c : Worker I g) → HasWorked m a b → HasWorked n b c → HasWorked (m + n) a c
@@ -122,6 +160,7 @@ module _ {I : Type 0} {g : Ghosts I} (tells : I → (ℕ → ℕ) → ℕ → Ty
     pub keeps : Keeps t boxes board old new
     pub did : Did tells t custom old new
     pub worked : HasWorked n old new
+    pub ticked : (book_of new.seat).wrapped ≡ false → AreNotPast (book_of new.seat).seen old.ackers.items new.ackers.items
 
   pub going-start : (w : Worker I g) (m : ℕ) → IsAtWork t boxes board w → Going 0 w (record w { turns = m })
   going-start w m work = record {
@@ -129,6 +168,7 @@ module _ {I : Type 0} {g : Ghosts I} (tells : I → (ℕ → ℕ) → ℕ → Ty
     keeps = keeps-seat t boxes board w (record w { turns = m }) work.passes refl work.seat (book-same (book_of w.seat));
     did = did-none tells t custom w.desks.items w.ackers.items w.row.items;
     worked = record { least = omega arith };
+    ticked = λ fresh. past-none (book_of w.seat).seen w.ackers.items;
   }
 
   -- the board was looked at
@@ -139,6 +179,9 @@ module _ {I : Type 0} {g : Ghosts I} (tells : I → (ℕ → ℕ) → ℕ → Ty
         (keeps-seat t boxes board b (record b { seat = seat }) so_far.work.passes refl of_board (book-halted (book_of b.seat) (book_of seat) halted book));
     did = so_far.did;
     worked = record { least = so_far.worked.least };
+    ticked = λ fresh.
+        subst (λ (n : ℕ). AreNotPast n a.ackers.items b.ackers.items) (ap (λ (x : Book). x.seen) (sym book))
+        (so_far.ticked (ap (λ (x : Book). x.wrapped) (sym book) ∙ fresh));
   }
 
   -- there was a turn
@@ -148,6 +191,9 @@ module _ {I : Type 0} {g : Ghosts I} (tells : I → (ℕ → ℕ) → ℕ → Ty
     keeps = keeps-then t boxes board a b c so_far.keeps keeps;
     did = did-then tells t custom a.desks.items b.desks.items c.desks.items a.ackers.items b.ackers.items c.ackers.items a.row.items b.row.items c.row.items so_far.did more;
     worked = worked-then t n (bit did) a b c so_far.worked turned.done;
+    ticked = λ fresh.
+        let g = keeps.book.grows fresh in
+        past-then (book_of b.seat).seen (book_of c.seat).seen g.1 a.ackers.items b.ackers.items c.ackers.items (so_far.ticked g.0) (turned.ticked fresh);
   }
 
   -- it is counted
@@ -157,6 +203,7 @@ module _ {I : Type 0} {g : Ghosts I} (tells : I → (ℕ → ℕ) → ℕ → Ty
     keeps = record { passes = so_far.keeps.passes; numbers = so_far.keeps.numbers; seat = so_far.keeps.seat; book = so_far.keeps.book };
     did = so_far.did;
     worked = record { least = so_far.worked.least };
+    ticked = so_far.ticked;
   }
 
   pub stretched : (n : ℕ) (a b : Worker I g) → Going n a b → b.wants ≡ false → b.turns ≡ n → Ended t b → Stretched tells t boxes board custom a b
@@ -165,6 +212,7 @@ module _ {I : Type 0} {g : Ghosts I} (tells : I → (ℕ → ℕ) → ℕ → Ty
     work = λ w. so_far.work;
     did = λ w. so_far.did;
     done = λ w. subst (λ (k : ℕ). HasWorked k a b) (sym turns) so_far.worked;
+    ticked = λ w. so_far.ticked;
     ended = λ w. ended;
     halts = λ w. true-false (sym w ∙ fine);
   }
@@ -178,6 +226,7 @@ module _ {I : Type 0} {g : Ghosts I} (tells : I → (ℕ → ℕ) → ℕ → Ty
     work = λ w. true-false w;
     did = λ w. true-false w;
     done = λ w. true-false w;
+    ticked = λ w. true-false w;
     ended = λ w. true-false w;
     halts = λ w. ap (λ (x : Book). x.made) book;
   }

@@ -148,6 +148,7 @@ module _ {I : Type 0} {g : Ghosts I} where
     task = task;
     number = number;
     packets = λ f. let h = hands_packets did old.outbox new.outbox was is hands f in let p = h.0 in let k = h.1 in let i = ap (λ b. weigh_inbox f old.number b.items) inbox in omega arith;
+    inbox = λ f. let k = (hands_packets did old.outbox new.outbox was is hands f).1 in let i = ap (λ b. weigh_inbox f old.number b.items) inbox in omega arith;
   }
 
   -- an empty inbox was looked into
@@ -158,6 +159,11 @@ module _ {I : Type 0} {g : Ghosts I} where
     packets = λ f.
         let p = moves.packets f in
         let o = ap (weigh_outbox f) outbox in
+        let i = ap (weigh_inbox f old.number) inbox in
+        let m = ap (λ (n : ℕ). weigh_inbox f n mid.inbox.items) number in
+        let n = ap (λ (n : ℕ). weigh_inbox f n new.inbox.items) number in omega arith;
+    inbox = λ f.
+        let p = moves.inbox f in
         let i = ap (weigh_inbox f old.number) inbox in
         let m = ap (λ (n : ℕ). weigh_inbox f n mid.inbox.items) number in
         let n = ap (λ (n : ℕ). weigh_inbox f n new.inbox.items) number in omega arith;
@@ -172,6 +178,7 @@ module _ {I : Type 0} {g : Ghosts I} where
         let o = ap (weigh_outbox f) receives.outbox in
         let s = taken.sent f in
         let k = taken.taken f in omega arith;
+    inbox = λ f. let i = receives.inbox f in let k = taken.taken f in omega arith;
   }
 
   pub mail_rests : (d : TaskDesk I g) (was is : List (Pass Mail)) → IsSameRow was is → MovesMail d d was is
@@ -179,6 +186,7 @@ module _ {I : Type 0} {g : Ghosts I} where
     task = refl;
     number = refl;
     packets = λ f. let s = same.sent f in let k = same.taken f in omega arith;
+    inbox = λ f. let k = same.taken f in omega arith;
   }
 
 module _ {I : Type 0} {g : Ghosts I} (tells : I → (ℕ → ℕ) → ℕ → Type 0) (t : Topology) (custom : Custom) where
@@ -200,6 +208,9 @@ module _ {I : Type 0} {g : Ghosts I} (tells : I → (ℕ → ℕ) → ℕ → Ty
       given = ap (λ (b : BoltTask I g). given_by (collector_in b)) moves.task ∙ given ∙ (let z : ended count ≡ ended (count + 0) = omega arith in z);
       drawn = λ words are. record { of_begun = tt; of_runs = tt };
       inside = record { starts = refl; begun = refl; heard = refl };
+      uses = λ f. let p = moves.inbox f in let n = ap (λ (n : ℕ). weigh_inbox f n new.inbox.items) moves.number in omega arith;
+      none_met = refl;
+      none_dropped = refl;
     };
   }
 
@@ -281,6 +292,13 @@ module _ {I : Type 0} {g : Ghosts I} (tells : I → (ℕ → ℕ) → ℕ → Ty
                 of_runs = (subst (λ (n : ℕ). ran.ids ≡ map (words n) (range_with_len count (length ran.ids))) (sym number) are, tt);
               };
               inside = record { starts = refl; begun = refl; heard = refl };
+              uses = λ f.
+                  let b = ap (weigh_inbox f old.number) front in
+                  let i = ap (λ b. weigh_inbox f old.number b.items) runs.inbox in
+                  let n = ap (λ (n : ℕ). weigh_inbox f n new.inbox.items) (runs.number ∙ number) in
+                  let m = ap (λ (n : ℕ). f (of_parcel (ToTask n tuple))) number in omega arith;
+              none_met = refl;
+              none_dropped = refl;
             };
       }
 

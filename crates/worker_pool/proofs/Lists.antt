@@ -1,7 +1,7 @@
 -- Lists, and words of sources in order.
 use Rattle.std.proofs.Common.{◌≡◌, ◌<◌, ℕ, zero, suc, ◌+◌, List, [], ◌∷◌, ◌++◌, length, map, None, Some, set, get_or, sym, refl, ap, subst, ◌∙◌, length-append, arith}
 use Rattle.std.specs.Prelude.{slice_get}
-use Rattle.std.specs.List.{AllZip, range_with_len}
+use Rattle.std.specs.List.{AllByRecursion, AllZip, range_with_len}
 use Rattle.std.proofs.lemmas.List.{map-append}
 use Rattle.std.proofs.lemmas.List.FromFn.{length-map-range_with_len}
 
@@ -64,18 +64,35 @@ is_in (x ∷ xs) (suc n) (suc m) a b d at there P here else = is_in xs n m a b d
 
 -- ---- pairs
 
+-- pairs of pairs
+pub zip-by : {X : Type 0} (R S T : X → X → Type 0) → ((x y z : X) → R x y → S y z → T x z) → (xs ys zs : List X) → AllZip R xs ys → AllZip S ys zs → AllZip T xs zs
+zip-by R S T then [] [] [] one two = tt
+zip-by R S T then [] [] (z ∷ zs) one two = absurd two
+zip-by R S T then [] (y ∷ ys) zs one two = absurd one
+zip-by R S T then (x ∷ xs) [] zs one two = absurd one
+zip-by R S T then (x ∷ xs) (y ∷ ys) [] one two = absurd two
+zip-by R S T then (x ∷ xs) (y ∷ ys) (z ∷ zs) one two = (then x y z one.0 two.0, zip-by R S T then xs ys zs one.1 two.1)
+
+-- what holds of the second of each pair holds of the first
+pub zip-before : {X : Type 0} (R : X → X → Type 0) (P Q : X → Type 0) → ((x y : X) → R x y → Q y → P x) → (xs ys : List X) → AllZip R xs ys → AllByRecursion Q ys → AllByRecursion P xs
+zip-before R P Q before [] ys all each = tt
+zip-before R P Q before (x ∷ xs) [] all each = absurd all
+zip-before R P Q before (x ∷ xs) (y ∷ ys) all each = (before x y all.0 each.0, zip-before R P Q before xs ys all.1 each.1)
+
+-- from places
+pub zip-from : {X : Type 0} (R : X → X → Type 0) (xs ys : List X) → length ys ≡ length xs → ((m : ℕ) → m < length xs → (x y : X) → slice_get xs m ≡ Some x → slice_get ys m ≡ Some y → R x y) → AllZip R xs ys
+zip-from R [] [] many each = tt
+zip-from R [] (y ∷ ys) many each = absurd (omega arith)
+zip-from R (x ∷ xs) [] many each = absurd (omega arith)
+zip-from R (x ∷ xs) (y ∷ ys) many each = (each zero (omega arith) x y refl refl, zip-from R xs ys (omega arith) (λ m below a b at there. each (suc m) (omega arith) a b at there))
+
 module _ {X : Type 0} (R : X → X → Type 0) where
   pub zip-same : ((x : X) → R x x) → (xs : List X) → AllZip R xs xs
   zip-same same [] = tt
   zip-same same (x ∷ xs) = (same x, zip-same same xs)
 
   pub zip-then : ((x y z : X) → R x y → R y z → R x z) → (xs ys zs : List X) → AllZip R xs ys → AllZip R ys zs → AllZip R xs zs
-  zip-then then [] [] [] one two = tt
-  zip-then then [] [] (z ∷ zs) one two = absurd two
-  zip-then then [] (y ∷ ys) zs one two = absurd one
-  zip-then then (x ∷ xs) [] zs one two = absurd one
-  zip-then then (x ∷ xs) (y ∷ ys) [] one two = absurd two
-  zip-then then (x ∷ xs) (y ∷ ys) (z ∷ zs) one two = (then x y z one.0 two.0, zip-then then xs ys zs one.1 two.1)
+  zip-then then xs ys zs one two = zip-by R R R then xs ys zs one two
 
   pub zip-set : ((x : X) → R x x) → (xs : List X) (n : ℕ) (x y : X) → slice_get xs n ≡ Some x → R x y → AllZip R xs (set xs n y)
   zip-set same [] n x y at here = tt

@@ -1,5 +1,6 @@
 -- What an acker does over boxes. This project's own.
 use Rattle.std.specs.Prelude.{◌≡◌, ◌<◌, ◌≤◌, ◌⊎◌, ℕ, ◌+◌, ◌-◌, Bool, true, false, min, List, [], Option, None, Some, fold, length, replicate}
+use Rattle.std.specs.List.{AllByRecursion}
 use Rattle.std.specs.Option.{option_to_list}
 use Rattle.acker_core.specs.declared.verdict.Verdict.{Verdict}
 use Rattle.acker_core.specs.Entries.{Met, after, tick}
@@ -15,12 +16,14 @@ use Rattle.topology_plan.specs.Topology.{Topology, tasks_in_all}
 use Rattle.tree_model.specs.declared.messages.AckMsg.{AckMsg}
 use Rattle.tree_model.specs.declared.messages.Parcel.{Parcel}
 use Rattle.tree_model.specs.declared.messages.Parcel.TheVariants.{ToAcker}
-use Rattle.tuple_account.specs.Histories.{History, Packet, of_parcel, of_verdict, weigh_parcels}
+use Rattle.tree_model.specs.Lists.{root_of}
+use Rattle.tuple_account.specs.Histories.{History, Packet, Receipt, acker_of, of_parcel, of_verdict, weigh_parcels}
 use Rattle.tuple_account.specs.Moves.{Station}
 use Rattle.tuple_account.specs.Parts.{weigh_entries}
 use Rattle.worker_pool.specs.declared.acker.AckerDesk.{AckerDesk}
 use Rattle.worker_pool.specs.Says.{Says}
-use Rattle.worker_pool.specs.Works.{IsInside, Works}
+use Rattle.worker_pool.specs.Works.{IsInside, Uses, Works}
+use Rattle.world_progress.specs.Young.{AreYoung}
 
 abbrev pub IsVerdict : Mail → Type 0
 IsVerdict (mail.Run parcels) = ⊥
@@ -47,19 +50,27 @@ acker_station d = record {
   given = λ s j. 0;
 }
 
+-- what an acker took from its box, and has not met
+abbrev pub acker_inbox : AckerDesk → (Packet → ℕ) → ℕ
+acker_inbox d f = weigh_messages f d.number d.inbox.items
+
 -- An acker went through a trace, in which it rotated for each tick that it counted, or as often as
--- it has buckets.
+-- it has buckets, and it did not count back.
 pub record Ages (old new : AckerDesk) : Type 0 where
   pub number : new.number ≡ old.number
   pub buckets : new.acker.buckets ≡ old.acker.buckets
   pub trace : List Met
   pub entries : new.acker.held ≡ fold (after old.acker.buckets) old.acker.held trace
   pub rotates : min old.acker.buckets (new.counted - old.counted) ≤ ticks_in trace
+  pub on : old.counted ≤ new.counted
 
--- it rotated for each tick since the last time, or as often as it has buckets, and all else stayed
+-- It rotated for each tick since the last time, or as often as it has buckets, and never more often
+-- than there were ticks. All else stayed.
 pub record CountsUp (old new : AckerDesk) : Type 0 where
   pub times : ℕ
   pub enough : min old.acker.buckets (new.counted - old.counted) ≤ times
+  pub most : times ≤ new.counted - old.counted
+  pub on : old.counted ≤ new.counted
   pub entries : new.acker.held
       ≡ fold (after old.acker.buckets) old.acker.held (replicate times tick)
   pub buckets : new.acker.buckets ≡ old.acker.buckets
@@ -114,7 +125,27 @@ pub record Meets (t : Topology) (a : Station) (was : List (Pass Mail)) (b : Stat
   pub inside : IsInside history
   pub none_run : history.runs ≡ []
 
--- An acker did what it did.
+-- each message that was met is for the acker that met it
+abbrev pub AreRouted : Topology → History → Type 0
+AreRouted t h = AllByRecursion (λ (r : Receipt). acker_of t (root_of r.message) ≡ r.acker) h.met
+
+-- an acker's entries are at the acker of their roots, one a root, and no older than what it counted
+abbrev pub HasYoung : Topology → AckerDesk → Type 0
+HasYoung t d = AreYoung t d.number d.counted d.acker.held
+
+-- an acker has counted fewer ticks than there are buckets
+abbrev pub CountsFew : Topology → AckerDesk → Type 0
+CountsFew t d = d.counted < t.buckets
+
+-- While an acker has counted fewer ticks than there are buckets, young entries stay young, and none
+-- is dropped.
+abbrev pub Lasts : Topology → History → AckerDesk → AckerDesk → Type 0
+Lasts t h old new =
+    AreRouted t h → HasYoung t old → CountsFew t new → HasYoung t new × (h.dropped ≡ [])
+
+-- An acker did what it did. It met what came from its box.
 pub record AckerDid (t : Topology) (old new : AckerDesk) (was is : List (Pass Mail)) : Type 0 where
   pub ages : Ages old new
   pub meets : Meets t (acker_station old) was (acker_station new) is
+  pub uses : Uses (acker_inbox old) was meets.history (acker_inbox new) is
+  pub lasts : Lasts t meets.history old new

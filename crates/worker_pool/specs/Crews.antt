@@ -1,5 +1,5 @@
 -- What the tasks and ackers of a worker do together. This project's own.
-use Rattle.std.specs.Prelude.{◌≡◌, ℕ, suc, ◌+◌, Bool, List, [], ◌∷◌, length, map, Some, slice_get}
+use Rattle.std.specs.Prelude.{◌≡◌, ◌≤◌, ℕ, suc, ◌+◌, max, Bool, List, [], ◌∷◌, length, map, Some, slice_get}
 use Rattle.std.specs.List.{AllByRecursion, AllZip, range_with_len}
 use Rattle.bolt_ops.specs.RowOp.{Custom}
 use Rattle.box_rows.specs.declared.mail.Mail.{Mail}
@@ -11,16 +11,16 @@ use Rattle.storm_ids.specs.declared.ids.Ids.{Ghosts}
 use Rattle.task_queues.specs.declared.pass.Mailbox.{Mailbox}
 use Rattle.task_queues.specs.declared.pass.Pass.{Pass}
 use Rattle.topology_plan.specs.Topology.{Topology}
-use Rattle.tuple_account.specs.Histories.{History}
+use Rattle.tuple_account.specs.Histories.{History, Packet}
 use Rattle.tuple_account.specs.Moves.{HasDrawn, Station}
 use Rattle.tuple_account.specs.Parts.{weigh_entries}
 use Rattle.tuple_account.specs.Places.{spans}
 use Rattle.worker_pool.specs.declared.acker.AckerDesk.{AckerDesk}
 use Rattle.worker_pool.specs.declared.desk.TaskDesk.{TaskDesk}
-use Rattle.worker_pool.specs.Ackers.{Ages, IsAcker, IsAckerHeld, Meets, acker_left, acker_station}
-use Rattle.worker_pool.specs.Desks.{IsDesk, IsTaskHeld, desk_station, given_at, source_at, task_left}
+use Rattle.worker_pool.specs.Ackers.{Ages, AreRouted, CountsFew, HasYoung, IsAcker, IsAckerHeld, Meets, acker_inbox, acker_left, acker_station}
+use Rattle.worker_pool.specs.Desks.{IsDesk, IsTaskHeld, desk_inbox, desk_station, given_at, source_at, task_left}
 use Rattle.worker_pool.specs.Says.{AllSay, MoreAt, SaysAt}
-use Rattle.worker_pool.specs.Works.{IsInside, Works, ended}
+use Rattle.worker_pool.specs.Works.{IsInside, Uses, Works, ended}
 
 -- how many words were given after these
 abbrev pub counted_on : (ℕ → ℕ) → (ℕ → List ℕ) → ℕ → ℕ
@@ -39,11 +39,24 @@ ackers_station ackers = record {
   given = λ s j. 0;
 }
 
--- Ackers did what they did.
+-- what ackers took from their boxes, and have not met
+abbrev pub ackers_inbox : List AckerDesk → (Packet → ℕ) → ℕ
+ackers_inbox ackers f = weigh (λ (d : AckerDesk). acker_inbox d f) ackers
+
+-- While all have counted fewer ticks than there are buckets, young entries stay young, and none is
+-- dropped.
+abbrev pub AllLast : Topology → History → List AckerDesk → List AckerDesk → Type 0
+AllLast t h old new =
+    AreRouted t h → AllByRecursion (HasYoung t) old → AllByRecursion (CountsFew t) new
+    → AllByRecursion (HasYoung t) new × (h.dropped ≡ [])
+
+-- Ackers did what they did. They met what came from their boxes.
 pub record AckersDid (t : Topology) (old new : List AckerDesk) (was is : List (Pass Mail))
     : Type 0 where
   pub ages : AllZip Ages old new
   pub meets : Meets t (ackers_station old) was (ackers_station new) is
+  pub uses : Uses (ackers_inbox old) was meets.history (ackers_inbox new) is
+  pub lasts : AllLast t meets.history old new
 
 -- the acker at a place went on
 abbrev pub AckerMoreAt : ℕ → List AckerDesk → List AckerDesk → List (Pass Mail) → List (Pass Mail)
@@ -68,9 +81,20 @@ HasCountedAt n tick ackers =
 abbrev pub KeepsCountedAt : ℕ → List AckerDesk → List AckerDesk → Type 0
 KeepsCountedAt n old new = (tick : ℕ) → HasCountedAt n tick old → HasCountedAt n tick new
 
--- each acker's entries have aged up to this tick
-abbrev pub AreUpTo : ℕ → List AckerDesk → Type 0
-AreUpTo tick ackers = AllByRecursion (λ (d : AckerDesk). d.counted ≡ tick) ackers
+-- or up to this tick since, where that is a later one
+abbrev pub CountsUpAt : ℕ → ℕ → List AckerDesk → List AckerDesk → Type 0
+CountsUpAt n tick old new =
+    (d : AckerDesk) → slice_get old n ≡ Some d → HasCountedAt n (max d.counted tick) new
+
+-- each acker's entries have aged up to this tick since, or stayed where they had aged further
+abbrev pub AreUpTo : ℕ → List AckerDesk → List AckerDesk → Type 0
+AreUpTo tick old new =
+    AllZip (λ (a b : AckerDesk). b.counted ≡ max a.counted tick) old new
+
+-- or have aged no further
+abbrev pub AreNotPast : ℕ → List AckerDesk → List AckerDesk → Type 0
+AreNotPast tick old new =
+    AllZip (λ (a b : AckerDesk). b.counted ≤ max a.counted tick) old new
 
 -- passes and ackers are fit for work
 pub record AckersAtWork (t : Topology) (boxes : List (Mailbox Mail)) (ackers : List AckerDesk)
@@ -116,6 +140,11 @@ module _ {I : Type 0} {g : Ghosts I} where
     given = λ s j. spans_from counts 0 desks s j;
   }
 
+  -- what was taken from boxes, and is left to execute or meet
+  abbrev pub crew_left : List (TaskDesk I g) → List AckerDesk → (Packet → ℕ) → ℕ
+  crew_left desks ackers f =
+      weigh (λ (d : TaskDesk I g). desk_inbox d f) desks + ackers_inbox ackers f
+
   abbrev pub AreGiven : (ℕ → ℕ) → List (TaskDesk I g) → Type 0
   AreGiven counts desks =
       (n : ℕ) (d : TaskDesk I g) → slice_get desks n ≡ Some d → given_at d ≡ ended (counts n)
@@ -126,7 +155,8 @@ module _ {I : Type 0} {g : Ghosts I} where
       (n : ℕ) (d : TaskDesk I g) → slice_get desks n ≡ Some d
       → given n ≡ map (words d.number) (range_with_len (counts n) (length (given n)))
 
-  -- What happened at desks and ackers whose sources had given so many words.
+  -- What happened at desks and ackers whose sources had given so many words. They executed and met
+  -- what came from their boxes, and ackers dropped nothing young.
   pub record CrewWorked (t : Topology) (custom : Custom) (counts : ℕ → ℕ) (given : ℕ → List ℕ)
       (old new : List (TaskDesk I g)) (before after : List AckerDesk)
       (was is : List (Pass Mail)) : Type 0 where
@@ -136,6 +166,8 @@ module _ {I : Type 0} {g : Ghosts I} where
     pub are_given : AreGiven (counted_on counts given) new
     pub drawn : (words : ℕ → ℕ → ℕ) → AreNext words counts given old → HasDrawn words history
     pub inside : IsInside history
+    pub uses : Uses (crew_left old before) was history (crew_left new after) is
+    pub lasts : AllLast t history before after
 
   -- a source gave these words, at the same desk
   pub record Gave (tells : I → (ℕ → ℕ) → ℕ → Type 0) (ids : List ℕ) (old new : TaskDesk I g)

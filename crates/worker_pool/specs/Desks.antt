@@ -23,7 +23,7 @@ use Rattle.tuple_account.specs.Places.{spans}
 use Rattle.worker_pool.specs.declared.desk.TaskDesk.{TaskDesk}
 use Rattle.worker_pool.specs.Outboxes.{AddsAll, IsFrontFull, IsOutbox, weigh_outbox}
 use Rattle.worker_pool.specs.Says.{Says}
-use Rattle.worker_pool.specs.Works.{IsInside, Works, ended}
+use Rattle.worker_pool.specs.Works.{IsInside, Uses, Works, ended}
 
 -- what the tuples that are left of a message weigh
 abbrev pub weigh_inbox : (Packet → ℕ) → ℕ → List Tuple → ℕ
@@ -56,6 +56,10 @@ module _ {I : Type 0} {g : Ghosts I} where
     given = λ s j. spans d.number 0 count s j;
   }
 
+  -- what a desk took from its box, and has not executed
+  abbrev pub desk_inbox : TaskDesk I g → (Packet → ℕ) → ℕ
+  desk_inbox d f = weigh_inbox f d.number d.inbox.items
+
   -- how many tuples of a message are left
   abbrev pub task_left : TaskDesk I g → ℕ
   task_left d = length d.inbox.items
@@ -79,7 +83,7 @@ module _ {I : Type 0} {g : Ghosts I} where
     pub number : new.number ≡ old.number
     pub outbox : new.outbox ≡ old.outbox
 
-  -- mail came from a box or went to one, and the task stayed
+  -- Mail came from a box or went to one, and the task stayed. What came from a box is in the inbox.
   pub record MovesMail (old new : TaskDesk I g) (was is : List (Pass Mail)) : Type 0 where
     pub task : new.task ≡ old.task
     pub number : new.number ≡ old.number
@@ -88,6 +92,9 @@ module _ {I : Type 0} {g : Ghosts I} where
         + (sent_in is f + taken_in was f)
         ≡ (weigh_inbox f old.number old.inbox.items + weigh_outbox f old.outbox)
         + (sent_in was f + taken_in is f)
+    pub inbox : (f : Packet → ℕ)
+        → weigh_inbox f old.number new.inbox.items + taken_in was f
+        ≡ weigh_inbox f old.number old.inbox.items + taken_in is f
 
   -- a tuple that is in no box any more was executed
   pub record RunsTuple (tells : I → (ℕ → ℕ) → ℕ → Type 0) (t : Topology) (custom : Custom)
@@ -98,7 +105,8 @@ module _ {I : Type 0} {g : Ghosts I} where
     pub inbox : new.inbox ≡ old.inbox
     pub adds : AddsAll parcels old.outbox new.outbox
 
-  -- What happened at a desk that had given so many words, for which these ids were drawn.
+  -- What happened at a desk that had given so many words, for which these ids were drawn. It
+  -- executed what came from its box, and met and dropped nothing.
   pub record DeskWorked (t : Topology) (custom : Custom) (count : ℕ) (ids : List ℕ)
       (old new : TaskDesk I g) (was is : List (Pass Mail)) : Type 0 where
     pub history : History
@@ -109,6 +117,9 @@ module _ {I : Type 0} {g : Ghosts I} where
         → ids ≡ map (words old.number) (range_with_len count (length ids))
         → HasDrawn words history
     pub inside : IsInside history
+    pub uses : Uses (desk_inbox old) was history (desk_inbox new) is
+    pub none_met : history.met ≡ []
+    pub none_dropped : history.dropped ≡ []
 
   -- A desk did what it did, with these ids of its source.
   pub record DeskDid (tells : I → (ℕ → ℕ) → ℕ → Type 0) (t : Topology) (custom : Custom)

@@ -1,5 +1,5 @@
 -- Workers, and what they say of their turns and stretches. This project's own.
-use Rattle.std.specs.Prelude.{◌≡◌, ◌⊎◌, ℕ, ◌+◌, Bool, true, false, length, map, List}
+use Rattle.std.specs.Prelude.{◌≡◌, ◌≤◌, ◌⊎◌, ℕ, ◌+◌, Bool, true, false, length, map, List}
 use Rattle.std.specs.List.{AllByRecursion}
 use Rattle.bolt_ops.specs.RowOp.{Custom}
 use Rattle.box_rows.specs.declared.mail.Mail.{Mail}
@@ -18,7 +18,7 @@ use Rattle.worker_pool.specs.declared.acker.AckerDesk.{AckerDesk}
 use Rattle.worker_pool.specs.declared.desk.TaskDesk.{TaskDesk}
 use Rattle.worker_pool.specs.declared.worker.Worker.{Worker}
 use Rattle.worker_pool.specs.Ackers.{IsAcker, IsAckerHeld, acker_left}
-use Rattle.worker_pool.specs.Crews.{AreUpTo, CrewDid}
+use Rattle.worker_pool.specs.Crews.{AreNotPast, AreUpTo, CrewDid}
 use Rattle.worker_pool.specs.Desks.{IsDesk, IsTaskHeld, task_left}
 use Rattle.worker_pool.specs.Says.{HasDone}
 
@@ -26,10 +26,11 @@ use Rattle.worker_pool.specs.Says.{HasDone}
 abbrev pub most_turns : ℕ
 most_turns = 4096
 
--- a seat drew no tick, and keeps its numbers
+-- a seat drew no tick, keeps its numbers, and does not see fewer ticks later
 pub record KeepsBook (old new : Book) : Type 0 where
   pub numbers : numbers_in new ≡ numbers_in old
   pub drawn : new.drawn ≡ old.drawn
+  pub grows : new.wrapped ≡ false → (old.wrapped ≡ false) × (old.seen ≤ new.seen)
 
 module _ {I : Type 0} {g : Ghosts I} where
   -- a worker has a pass to each box, and tasks and ackers of the topology
@@ -80,7 +81,7 @@ module _ {I : Type 0} {g : Ghosts I} where
     pub done : HasWorked (bit did) old new
     pub held : did ≡ false → IsHeldUp t new
     pub ticked : (book_of new.seat).wrapped ≡ false
-        → AreUpTo (book_of new.seat).seen new.ackers.items
+        → AreUpTo (book_of new.seat).seen old.ackers.items new.ackers.items
 
   -- why a stretch ended, and so many turns in which something was done
   pub record Ended (t : Topology) (w : Worker I g) : Type 0 where
@@ -88,7 +89,8 @@ module _ {I : Type 0} {g : Ghosts I} where
 
   -- What a worker says of its stretch: it kept its passes and its seat; where it did not want
   -- memory it is at work still, and its tasks and ackers did what they did, something in each of
-  -- its turns, until it was held up; where it did it made a halt.
+  -- its turns, until it was held up, and no acker counted a tick that its seat has not seen; where
+  -- it did it made a halt.
   pub record Stretched (tells : I → (ℕ → ℕ) → ℕ → Type 0) (t : Topology)
       (boxes : List (Mailbox Mail)) (board : Board) (custom : Custom) (old new : Worker I g)
       : Type 0 where
@@ -96,5 +98,7 @@ module _ {I : Type 0} {g : Ghosts I} where
     pub work : new.wants ≡ false → IsAtWork t boxes board new
     pub did : new.wants ≡ false → Did tells t custom old new
     pub done : new.wants ≡ false → HasWorked new.turns old new
+    pub ticked : new.wants ≡ false → (book_of new.seat).wrapped ≡ false
+        → AreNotPast (book_of new.seat).seen old.ackers.items new.ackers.items
     pub ended : new.wants ≡ false → Ended t new
     pub halts : new.wants ≡ true → (book_of new.seat).made ≡ true

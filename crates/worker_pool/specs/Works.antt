@@ -6,7 +6,7 @@ use Rattle.box_rows.specs.declared.mail.Mail.{Mail}
 use Rattle.box_rows.specs.Rows.{sent_in, taken_in}
 use Rattle.task_queues.specs.declared.pass.Pass.{Pass}
 use Rattle.topology_plan.specs.Topology.{Topology}
-use Rattle.tuple_account.specs.Histories.{History}
+use Rattle.tuple_account.specs.Histories.{History, Packet, taken}
 use Rattle.tuple_account.specs.Moves.{Moves, Station}
 
 -- a station, with what one row sent and what another took
@@ -22,6 +22,13 @@ with_books a sent taken = record {
 abbrev pub Works : Topology → Custom → Station → List (Pass Mail) → History → Station
     → List (Pass Mail) → Type 0
 Works t custom a was h b is = Moves t custom (with_books a was is) h (with_books b is was)
+
+-- What was left of what had been taken from boxes, and what was taken since, was executed, met or
+-- heard, or is left: each as often.
+abbrev pub Uses : ((Packet → ℕ) → ℕ) → List (Pass Mail) → History → ((Packet → ℕ) → ℕ)
+    → List (Pass Mail) → Type 0
+Uses left was h left_now is =
+    (f : Packet → ℕ) → left f + taken_in is f ≡ left_now f + (taken_in was f + taken f h)
 
 -- only tuples were executed, messages met, verdicts told and entries dropped
 pub record IsInside (h : History) : Type 0 where

@@ -1,4 +1,4 @@
-ghost use Rattle.std.specs.Prelude.{◌≡◌, ◌<◌, ◌+◌, ◌∷◌, [], length, map, None, IfOk, OnOk};
+ghost use Rattle.std.specs.Prelude.{◌≡◌, ◌<◌, ◌+◌, max, ◌∷◌, [], length, map, None, IfOk, OnOk};
 ghost use Rattle.std.specs.List.{AllByRecursion};
 ghost use Rattle.box_rows.specs.Mails.{IsTrueParcel, last_box};
 ghost use Rattle.box_rows.specs.Rows.{ArePasses, numbers_at};
@@ -31,17 +31,18 @@ pub struct AckerDesk {
 }
 
 impl AckerDesk {
-    /// Rotates for each tick since the last time, as often as there are buckets at most.
+    /// Rotates for each tick since the last time, as often as there are buckets at most. An earlier
+    /// tick than the last time changes nothing.
     pub fn count_up(&mut self, buckets: u32, tick: u64)
         requires { self.old.acker.buckets ≡ buckets }
         ensures counts { CountsUp self.old self.new }
-        ensures counted { self.new.counted ≡ tick }
+        ensures counted { self.new.counted ≡ max self.old.counted tick }
     {
         let ticks = tick.saturating_sub(self.counted).min(u64::from(buckets));
         for _done in 0..ticks {
             self.acker.tick();
         }
-        self.counted = tick;
+        self.counted = self.counted.max(tick);
     }
 
     /// One step: it hands over the verdict that is left, or else meets the front message, or else

@@ -5,7 +5,7 @@ ghost use Rattle.box_rows.specs.Rows.{ArePasses, numbers_at};
 ghost use Rattle.worker_pool.specs.Ackers.{IsAcker};
 ghost use Rattle.worker_pool.specs.Crews.{AckerMoreAt, AckerSaysAt, AckersAtWork, AckersDid};
 ghost use Rattle.worker_pool.specs.Crews.{AckersSay, AreUpTo, CrewDid, DesksAtWork};
-ghost use Rattle.worker_pool.specs.Crews.{HasCountedAt, KeepsCountedAt};
+ghost use Rattle.worker_pool.specs.Crews.{CountsUpAt, KeepsCountedAt};
 ghost use Rattle.worker_pool.specs.Crews.{TaskMoreAt, TaskSaysAt, TasksSay};
 ghost use Rattle.worker_pool.specs.declared.acker.AckerDesk.{AckerDesk};
 ghost use Rattle.worker_pool.specs.Desks.{IsDesk};
@@ -150,7 +150,7 @@ fn count_at(posts: &Posts<'_>, ackers: &mut Vec<AckerDesk>, n: usize, row: &Row,
     ensures did { AckersDid posts.now.plan.now ackers.old.items ackers.new.items
         row.now.items row.now.items }
     ensures more { AckerMoreAt n ackers.old.items ackers.new.items row.now.items row.now.items }
-    ensures counted { HasCountedAt n tick ackers.new.items }
+    ensures counted { CountsUpAt n tick ackers.old.items ackers.new.items }
 {
     let _ = row;
     ackers[n].count_up(posts.plan.buckets(), tick);
@@ -264,7 +264,7 @@ fn turn_at<R: Wait>(
         row.old.items row.new.items) }
     ensures says { IfOk result (λ did. AckerSaysAt posts.now.plan.now n did
         ackers.old.items ackers.new.items row.old.items row.new.items) }
-    ensures counted { OnOk result (HasCountedAt n tick ackers.new.items) }
+    ensures counted { OnOk result (CountsUpAt n tick ackers.old.items ackers.new.items) }
 {
     count_at(posts, ackers, n, row, tick);
     let did = meet_at(rt, posts, ackers, n, row, spares, steps)?;
@@ -291,7 +291,7 @@ pub(crate) fn turn_of_ackers<R: Wait>(
         row.old.items row.new.items) }
     ensures says { IfOk result (λ did. AckersSay posts.now.plan.now did
         ackers.old.items ackers.new.items row.old.items row.new.items) }
-    ensures counted { OnOk result (AreUpTo tick ackers.new.items) }
+    ensures counted { OnOk result (AreUpTo tick ackers.old.items ackers.new.items) }
 {
     let mut moved = false;
     for n in 0..ackers.len() {

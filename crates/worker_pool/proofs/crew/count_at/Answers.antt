@@ -1,7 +1,7 @@
 use Rattle.std.proofs.Common.{rules}
 use Rattle.box_rows.proofs.Weighing.{at-some}
 use Rattle.worker_pool.specs.Ackers.{IsAcker, acker_left}
-use Rattle.worker_pool.proofs.Acking.{acker_counted, counted-here, counts_done, still_acker}
+use Rattle.worker_pool.proofs.Acking.{acker_counted, counts-here, counts_done, still_acker}
 use Rattle.worker_pool.proofs.Adding.{ackers-at}
 use Rattle.worker_pool.proofs.Saying.{more-at}
 use Rattle.worker_pool.proofs.Outboxing.{each-get, each-put}
@@ -17,7 +17,8 @@ pub returns-clause-did : goal.returns-clause-did
 returns-clause-did c =
     ackers-at c.args.posts.now.plan.now c.args.ackers.now.items c.args.n c.index_mut.result.now c.count_up.new.self c.args.row.now.items c.args.row.now.items
     (at-some c.args.ackers.now.items c.args.n c.index_mut.result.now c.requires.there (search rules))
-    (acker_counted c.args.posts.now.plan.now c.index_mut.result.now c.count_up.new.self c.args.row.now.items c.count_up.ensures.counts)
+    (acker_counted c.args.posts.now.plan.now c.index_mut.result.now c.count_up.new.self c.args.row.now.items c.count_up.ensures.counts
+    (each-get (IsAcker c.args.posts.now.plan.now) c.args.ackers.now.items c.args.n c.index_mut.result.now c.requires.ackers (at-some c.args.ackers.now.items c.args.n c.index_mut.result.now c.requires.there (search rules))))
 
 pub returns-clause-more : goal.returns-clause-more
 returns-clause-more c =
@@ -27,5 +28,5 @@ returns-clause-more c =
 
 pub returns-clause-counted : goal.returns-clause-counted
 returns-clause-counted c =
-    counted-here c.args.ackers.now.items c.args.n c.args.tick c.index_mut.result.now c.count_up.new.self
+    counts-here c.args.ackers.now.items c.args.n c.args.tick c.index_mut.result.now c.count_up.new.self
     (at-some c.args.ackers.now.items c.args.n c.index_mut.result.now c.requires.there (search rules)) c.count_up.ensures.counted

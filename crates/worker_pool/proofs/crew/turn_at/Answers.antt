@@ -1,3 +1,4 @@
+use Rattle.std.specs.Prelude.{max}
 use Rattle.worker_pool.specs.Ackers.{IsAckerHeld, acker_left}
 use Rattle.worker_pool.proofs.Adding.{ackers-then}
 use Rattle.worker_pool.proofs.Saying.{more-says}
@@ -14,4 +15,4 @@ returns-clause-says g c =
     c.count_at.ensures.more c.in_ok-did.ensures.says
 
 pub returns-clause-counted : goal.returns-clause-counted
-returns-clause-counted g c = c.in_ok-did.ensures.counted c.args.tick c.count_at.ensures.counted
+returns-clause-counted g c = λ d at. c.in_ok-did.ensures.counted (max d.counted c.args.tick) (c.count_at.ensures.counted d at)

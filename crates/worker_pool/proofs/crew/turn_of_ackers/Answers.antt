@@ -30,7 +30,7 @@ loop-n-preserved g c =
       many = ackers-many c.args.posts.now.plan.now c.loop-n.ackers.items c.turn_at.new.ackers.items c.loop-n.row.items c.turn_at.new.row.items ok.did ∙ inv.many;
       up = up-more acker_left (IsAckerHeld c.args.posts.now.plan.now) (acker_stays_held c.args.posts.now.plan.now) c.loop-n.n c.loop-n.moved c.in_ok-moved.field-0 c.args.ackers.now.items c.loop-n.ackers.items c.turn_at.new.ackers.items
           c.args.row.now.items c.loop-n.row.items c.turn_at.new.row.items inv.up ok.says;
-      counted = counted-more c.args.tick c.loop-n.n c.loop-n.ackers.items c.turn_at.new.ackers.items inv.counted ok.says.others ok.counted;
+      counted = counted-more c.args.tick c.loop-n.n c.args.ackers.now.items c.loop-n.ackers.items c.turn_at.new.ackers.items inv.counted ok.says.others ok.counted;
     }
 
 pub returns-clause-says : goal.returns-clause-says
@@ -42,4 +42,4 @@ returns-clause-says g c =
 pub returns-clause-counted : goal.returns-clause-counted
 returns-clause-counted g c =
     let len : c.len-n-end.result ≡ length c.args.ackers.now.items = search rules in
-    counted-all c.args.tick c.loop-n.n c.loop-n.ackers.items (let end = c.loop-n-test.false in let many = c.loop-n.invariant.many in omega arith) c.loop-n.invariant.counted
+    counted-all c.args.tick c.loop-n.n c.args.ackers.now.items c.loop-n.ackers.items (let end = c.loop-n-test.false in omega arith) c.loop-n.invariant.many c.loop-n.invariant.counted

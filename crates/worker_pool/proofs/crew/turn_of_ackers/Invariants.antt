@@ -1,7 +1,8 @@
-use Rattle.std.proofs.Common.{◌≡◌, ◌<◌, ℕ, length, map}
+use Rattle.std.proofs.Common.{◌≡◌, length, map}
 use Rattle.box_rows.specs.Rows.{numbers_at}
 use Rattle.worker_pool.specs.Ackers.{IsAckerHeld, acker_left}
-use Rattle.worker_pool.specs.Crews.{AckersAtWork, AckersDid, HasCountedAt}
+use Rattle.worker_pool.specs.Crews.{AckersAtWork, AckersDid}
+use Rattle.worker_pool.proofs.Acking.{CountedTo}
 use Rattle.worker_pool.proofs.Saying.{UpTo}
 use Rattle.worker_pool.proofs.crew.turn_of_ackers.Given as goal
 
@@ -12,5 +13,5 @@ invariant-loop-n g l = record {
   did : AckersDid l.posts.plan.now l.fn.ackers.items l.ackers.items l.fn.row.items l.row.items;
   many : length l.ackers.items ≡ length l.fn.ackers.items;
   up : UpTo acker_left (IsAckerHeld l.posts.plan.now) l.n l.moved l.fn.ackers.items l.ackers.items l.fn.row.items l.row.items;
-  counted : (m : ℕ) → m < l.n → HasCountedAt m l.tick l.ackers.items;
+  counted : CountedTo l.tick l.n l.fn.ackers.items l.ackers.items;
 }

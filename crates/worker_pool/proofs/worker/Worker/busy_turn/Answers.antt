@@ -23,7 +23,7 @@ loop-preserved g c =
       keeps = keeps-then c.args.posts.now.plan.now c.args.posts.now.boxes.items c.args.board.now c.args.self.now c.loop.self c.turn-in-loop.new.self inv.keeps turn.keeps;
       did = did-then g.I.Ids.tells c.args.posts.now.plan.now (g.O.RowOp.meaning c.args.custom.now) c.args.self.now.desks.items c.loop.self.desks.items c.turn-in-loop.new.self.desks.items c.args.self.now.ackers.items c.loop.self.ackers.items c.turn-in-loop.new.self.ackers.items
           c.args.self.now.row.items c.loop.self.row.items c.turn-in-loop.new.self.row.items inv.did ok.did;
-      turned = subst (λ b. Turned c.args.posts.now.plan.now b c.args.self.now c.turn-in-loop.new.self) c.if-did.false (turned-then c.args.posts.now.plan.now c.in_ok-did.did c.args.self.now c.loop.self c.turn-in-loop.new.self inv.turned ok.turned);
+      turned = subst (λ b. Turned c.args.posts.now.plan.now b c.args.self.now c.turn-in-loop.new.self) c.if-did.false (turned-then c.args.posts.now.plan.now c.in_ok-did.did c.args.self.now c.loop.self c.turn-in-loop.new.self turn.keeps.book inv.turned ok.turned);
       wants = turn.wants ∙ inv.wants;
       turns = turn.turns ∙ inv.turns;
     }
@@ -40,4 +40,4 @@ returns-then-did-clause-keeps g c =
 pub returns-then-did-clause-turned : goal.returns-then-did-clause-turned
 returns-then-did-clause-turned g c =
     subst (λ b. Turned c.args.posts.now.plan.now b c.args.self.now c.turn-in-loop.new.self) c.if-did.true
-    (turned-then c.args.posts.now.plan.now c.in_ok-did.did c.args.self.now c.loop.self c.turn-in-loop.new.self c.loop.invariant.turned c.in_ok-did.ensures.turned)
+    (turned-then c.args.posts.now.plan.now c.in_ok-did.did c.args.self.now c.loop.self c.turn-in-loop.new.self c.turn-in-loop.ensures.keeps.book c.loop.invariant.turned c.in_ok-did.ensures.turned)

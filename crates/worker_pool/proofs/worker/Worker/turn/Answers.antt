@@ -17,10 +17,10 @@ returns-clause-keeps g c = record {
   passes = c.turn_of_ackers.ensures.passes;
   numbers = c.turn_of_ackers.ensures.numbers ∙ c.turn_of_tasks.ensures.numbers;
   seat = c.ticks-tick.ensures.seat;
-  book = book-looked _ _ c.ticks-tick.result c.ticks-tick.ensures.book;
+  book = book-looked _ _ c.ticks-tick.result c.ticks-tick.ensures.book c.ticks-tick.ensures.seen c.ticks-tick.ensures.grows;
 }
 
 pub returns-clause-turned : goal.returns-clause-turned
 returns-clause-turned g c =
     turned-both c.args.posts.now.plan.now c.in_ok-worked.worked c.in_ok-met.met c.args.self.now _ c.turn_of_tasks.new.row.items c.in_ok-worked.ensures.says c.in_ok-met.ensures.says
-    (looked-seen (book_of c.ticks-tick.new.seat) c.ticks-tick.result c.turn_of_ackers.new.ackers.items c.ticks-tick.ensures.seen c.in_ok-met.ensures.counted)
+    (looked-seen (book_of c.ticks-tick.new.seat) c.ticks-tick.result c.args.self.now.ackers.items c.turn_of_ackers.new.ackers.items c.ticks-tick.ensures.seen c.in_ok-met.ensures.counted)
