@@ -73,6 +73,14 @@ draws-then tells a b c xs ys first second = record {
       subst (tells c words) (let len = length-append xs ys in let e : k + length xs + length ys ≡ k + length (xs ++ ys) = omega arith in e) (second.goes_on words (k + length xs) (first.goes_on words k told));
 }
 
+-- words that begin with two pieces begin with the first, and go on with the second
+pub gives-parts : (words : ℕ → ℕ → ℕ) (counts : ℕ → ℕ) (xs ys : ℕ → List ℕ) → Gives words counts (λ s. xs s ++ ys s) → Gives words counts xs × Gives words (λ s. counts s + length (xs s)) ys
+gives-parts words counts xs ys gives =
+    let parts : (s : ℕ) → (map (words s) (range_with_len (counts s) (length (xs s))) ≡ xs s) × (map (words s) (range_with_len (counts s + length (xs s)) (length (ys s))) ≡ ys s) =
+    λ s. append-split _ _ _ _ (length-map-range_with_len (words s) (counts s) (length (xs s)))
+    (sym (words-append (words s) (counts s) (length (xs s)) (length (ys s))) ∙ ap (λ (n : ℕ). map (words s) (range_with_len (counts s) n)) (sym (length-append (xs s) (ys s))) ∙ gives s) in
+    (λ s. (parts s).0, λ s. (parts s).1)
+
 -- ---- outcomes
 
 pub outcomes-append : (xs ys : List Attempt) → outcomes_of (xs ++ ys) ≡ outcomes_of xs ++ outcomes_of ys

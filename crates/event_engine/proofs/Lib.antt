@@ -10,3 +10,4 @@ pub mod StartLemmas
 pub mod WorldLemmas
 mod FatesLemmas
 pub mod BoostLemmas
+mod ExchangeLemmas

@@ -1,5 +1,5 @@
 -- An engine that was started and went through steps is the world after them.
-use Rattle.std.proofs.Common.{◌≡◌, ℕ, ◌+◌, List, ◌++◌, length, map, Option, None, Some, get_or, sym, refl, ap, subst, ◌∙◌, length-append, arith}
+use Rattle.std.proofs.Common.{◌≡◌, ℕ, ◌+◌, List, [], ◌++◌, length, map, Option, None, Some, get_or, sym, refl, ap, subst, ◌∙◌, length-append, arith}
 use Rattle.std.specs.Prelude.{slice_get}
 use Rattle.std.specs.List.{range_with_len}
 use Rattle.std.proofs.lemmas.List.{get_or_append_left}
@@ -10,6 +10,7 @@ use Rattle.event_engine.specs.Starts.{IsStarted}
 use Rattle.event_engine.specs.declared.engine.Engine.{Engine}
 use Rattle.event_engine.proofs.GoesLemmas.{append-split, words-append}
 use Rattle.event_worlds.specs.Worlds.{Step, World, first_counts, run, world_after}
+use Rattle.output_collector.specs.Draws.{Draws}
 use Rattle.state_parts.specs.declared.answer.CommitOutcome.{CommitOutcome}
 use Rattle.storm_ids.specs.declared.ids.Ids.{Ghosts}
 use Rattle.topology_plan.specs.Topology.{Topology}
@@ -35,9 +36,31 @@ joined_more first more s =
     ap (λ (n : ℕ). map word (range_with_len n (length (more s)))) same
     ∙ (append-split (map word (range_with_len 0 (length (first s)))) (first s) (map word (range_with_len (0 + length (first s)) (length (more s)))) (more s) (length-map-range_with_len word 0 (length (first s))) parts).1
 
+module _ {I : Type 0} {g : Ghosts I} (told : (ℕ → ℕ → ℕ) → Type 0) (tells : I → (ℕ → ℕ) → ℕ → Type 0) (t : Topology) (old : Engine I g) (started : IsStarted told tells t old) (given : ℕ → List ℕ) where
+  -- some words begin with those that were given, at the start and after it
+  pub words_begin : (words : ℕ → ℕ → ℕ) × Gives words (λ s. 0) started.given × Gives words (first_counts t words) given
+  words_begin =
+      let words : ℕ → ℕ → ℕ = joined_words started.given given in (
+        words,
+        joined_first started.given given,
+        λ s. subst (λ (n : ℕ). map (words s) (range_with_len n (length (given s))) ≡ given s) (started.counted words s) (joined_more started.given given s),
+      )
+
+  -- words that are told go on so, where sources drew what was given
+  pub told_gives : (new : Engine I g)
+      → ((s : ℕ) (before : I) → slice_get (sources old) s ≡ Some before → (after : I) × (slice_get (sources new) s ≡ Some after) × Draws tells before (given s) after)
+      → ((s : ℕ) → slice_get (sources old) s ≡ None → (given s ≡ []) × (slice_get (sources new) s ≡ None))
+      → (words : ℕ → ℕ → ℕ) → told words → Gives words (first_counts t words) given
+  told_gives new draws none words is = λ s. gives s (slice_get (sources old) s) refl
+    where
+      gives : (s : ℕ) (found : Option I) → slice_get (sources old) s ≡ found → map (words s) (range_with_len (first_counts t words s) (length (given s))) ≡ given s
+      gives s None off = rw (none s off).0 refl
+      gives s (Some source) at =
+          sym ((draws s source at).2.are_next (words s) (first_counts t words s) (subst (tells source (words s)) (started.counted words s) (started.goes_on words is s source at)))
+
 module _ {I : Type 0} {g : Ghosts I} (told : (ℕ → ℕ → ℕ) → Type 0) (tells : I → (ℕ → ℕ) → ℕ → Type 0) (t : Topology) (custom : Custom) (cut : Cut) (steps : List Step) (old new : Engine I g)
     (started : IsStarted told tells t old) (goes : Goes tells t custom cut steps old new) where
-  from_start : (words : ℕ → ℕ → ℕ) (outcomes : List CommitOutcome) → Gives words (λ s. 0) started.given → Gives words (first_counts t words) goes.given → HasOutcomes outcomes new.fates
+  pub from_start : (words : ℕ → ℕ → ℕ) (outcomes : List CommitOutcome) → Gives words (λ s. 0) started.given → Gives words (first_counts t words) goes.given → HasOutcomes outcomes new.fates
       → shape new ≡ world_after t custom cut words outcomes steps
   from_start words outcomes begins gives has =
       sym (goes.runs words (first_counts t words) outcomes gives has).0
@@ -45,18 +68,8 @@ module _ {I : Type 0} {g : Ghosts I} (told : (ℕ → ℕ → ℕ) → Type 0) (
 
   -- by words that are told
   pub told_world : (words : ℕ → ℕ → ℕ) → told words → (outcomes : List CommitOutcome) → HasOutcomes outcomes new.fates → shape new ≡ world_after t custom cut words outcomes steps
-  told_world words is outcomes has = from_start words outcomes (started.gives words is) (λ s. gives s (slice_get (sources old) s) refl) has
-    where
-      gives : (s : ℕ) (found : Option I) → slice_get (sources old) s ≡ found → map (words s) (range_with_len (first_counts t words s) (length (goes.given s))) ≡ goes.given s
-      gives s None off = rw (goes.none s off).0 refl
-      gives s (Some source) at =
-          sym ((goes.draws s source at).2.are_next (words s) (first_counts t words s) (subst (tells source (words s)) (started.counted words s) (started.goes_on words is s source at)))
+  told_world words is outcomes has = from_start words outcomes (started.gives words is) (told_gives told tells t old started goes.given new goes.draws goes.none words is) has
 
   -- some words begin with those that were given, at the start and after it
   pub some_words : (words : ℕ → ℕ → ℕ) × Gives words (λ s. 0) started.given × Gives words (first_counts t words) goes.given
-  some_words =
-      let words : ℕ → ℕ → ℕ = joined_words started.given goes.given in (
-        words,
-        joined_first started.given goes.given,
-        λ s. subst (λ (n : ℕ). map (words s) (range_with_len n (length (goes.given s))) ≡ goes.given s) (started.counted words s) (joined_more started.given goes.given s),
-      )
+  some_words = words_begin told tells t old started goes.given

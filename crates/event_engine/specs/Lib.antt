@@ -2,4 +2,5 @@ pub mod Seats
 pub mod Engines
 pub mod Starts
 pub mod Lending
+pub mod Exchanges
 pub mod Boosts

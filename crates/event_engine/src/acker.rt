@@ -1,5 +1,6 @@
-ghost use Rattle.std.specs.Prelude.{◌≡◌, ◌≤◌, ◌<◌, true, [], None, length, IfOk, OnOk};
+ghost use Rattle.std.specs.Prelude.{◌≡◌, ◌≤◌, ◌<◌, ◌++◌, true, [], None, length, IfOk, OnOk};
 ghost use Rattle.std.specs.List.{AllByRecursion};
+ghost use Rattle.event_engine.specs.Exchanges.{GivesAllVerdicts, GivesVerdictAt, without_verdicts};
 ghost use Rattle.event_engine.specs.Seats.{AnswersAt, HasBuckets, PutsMessage, acker_side, buckets_in};
 ghost use Rattle.event_worlds.specs.Worlds.{answered, counted_up, gets_message, meets, no_acker};
 
@@ -51,6 +52,20 @@ impl AckerSeat {
         ensures buckets { buckets_in self.new ≡ buckets_in self.old }
     {
         self.inbox.push_back(message)?;
+        Ok(())
+    }
+
+    /// Puts the verdict that is left, if there is one, behind others.
+    pub fn give(&mut self, given: &mut VecDeque<Verdict>) -> Result<(), Memory>
+        ensures given { OnOk result
+            (given.new.items ≡ given.old.items ++ (acker_side self.old).outbox) }
+        ensures side { acker_side self.new ≡ without_verdicts (acker_side self.old) }
+        ensures buckets { buckets_in self.new ≡ buckets_in self.old }
+    {
+        match self.outbox.take() {
+            Some(verdict) => given.push_back(verdict)?,
+            None => (),
+        }
         Ok(())
     }
 
@@ -131,4 +146,33 @@ pub fn answer_at(
 {
     let verdict = ackers[n as usize].answer(buckets, tick)?;
     Ok(verdict)
+}
+
+/// Puts the verdict that an acker has to hand over behind what others had.
+pub fn give_verdict_at(
+    ackers: &mut Vec<AckerSeat>,
+    n: usize,
+    given: &mut VecDeque<Verdict>,
+) -> Result<(), Memory>
+    requires { n < length ackers.old.items }
+    ensures { OnOk result (GivesVerdictAt n given.old.items given.new.items
+        ackers.old.items ackers.new.items) }
+{
+    ackers[n].give(given)?;
+    Ok(())
+}
+
+/// What all ackers have to hand over, in the order of the ackers.
+pub fn give_all_verdicts(
+    alloc: Global,
+    ackers: &mut Vec<AckerSeat>,
+) -> Result<VecDeque<Verdict>, Memory>
+    ensures { IfOk result (λ given.
+        GivesAllVerdicts given.items ackers.old.items ackers.new.items) }
+{
+    let mut given = VecDeque::new(alloc);
+    for n in 0..ackers.len() {
+        give_verdict_at(ackers, n, &mut given)?;
+    }
+    Ok(given)
 }

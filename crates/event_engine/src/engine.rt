@@ -225,7 +225,7 @@ impl<'p, I: Ids> Engine<'p, I> {
     }
 
     // Puts a parcel at the back of the box that it names.
-    fn deliver(&mut self, parcel: Parcel) -> Result<(), Memory>
+    pub(crate) fn deliver(&mut self, parcel: Parcel) -> Result<(), Memory>
         requires { IsThere (length self.old.tasks.items) (length self.old.ackers.items) parcel }
         ensures done { OnOk result
             (shape self.new ≡ delivered (topology_in self.old) parcel (shape self.old)) }

@@ -5,6 +5,7 @@
 mod acker;
 mod boost;
 mod engine;
+mod exchange;
 mod lending;
 mod start;
 mod task;

@@ -1,10 +1,13 @@
-ghost use Rattle.std.specs.Prelude.{◌≡◌, ◌<◌, true, false, None, Some, [], length, OnOk};
+ghost use Rattle.std.specs.Prelude.{◌≡◌, ◌<◌, ◌++◌, true, false, None, Some, [], length, IfOk, OnOk};
+ghost use Rattle.std.specs.Option.{option_copied};
 ghost use Rattle.bolt_ops.specs.RowOp.{Custom};
 ghost use Rattle.bolt_task.specs.Executing.{number_of, topology_at};
+ghost use Rattle.event_engine.specs.Exchanges.{GivesAllParcels, GivesParcelsAt, next_past};
 ghost use Rattle.event_engine.specs.Seats.{Acts, ActsAt, HandedOverAt, HasParcelAt, Puts, Takes, TakesAt, Works};
 
 use bolt_ops::RowOp;
 use bolt_task::BoltTask;
+use std::alloc::Global;
 use std::collections::VecDeque;
 use std::mem;
 use storm_ids::Ids;
@@ -35,6 +38,17 @@ impl<'p, I: Ids> TaskSeat<'p, I> {
         ensures none { result ≡ false → self.now.outbox.items ≡ [] }
     {
         !self.outbox.is_empty()
+    }
+
+    /// The tuple that it executes at its next event, if there is one.
+    pub fn next_tuple(&self) -> Option<&Tuple>
+        ensures { option_copied result
+            ≡ next_past self.now.inbox.items self.now.outbox.items }
+    {
+        if self.has_parcel() {
+            return None;
+        }
+        self.inbox.front()
     }
 
     /// Hands over the front parcel.
@@ -112,4 +126,33 @@ pub fn execute_at<'p, I: Ids, O: RowOp>(
 {
     tasks[n as usize].execute(custom)?;
     Ok(())
+}
+
+/// Puts what a task has to hand over behind what others had.
+pub fn give_parcels_at<'p, I: Ids>(
+    tasks: &mut Vec<TaskSeat<'p, I>>,
+    n: usize,
+    given: &mut VecDeque<Parcel>,
+) -> Result<(), Memory>
+    requires { n < length tasks.old.items }
+    ensures { OnOk result (GivesParcelsAt n given.old.items given.new.items
+        tasks.old.items tasks.new.items) }
+{
+    given.append(&mut tasks[n].outbox)?;
+    Ok(())
+}
+
+/// What all tasks have to hand over, in the order of the tasks.
+pub fn give_all_parcels<'p, I: Ids>(
+    alloc: Global,
+    tasks: &mut Vec<TaskSeat<'p, I>>,
+) -> Result<VecDeque<Parcel>, Memory>
+    ensures { IfOk result (λ given.
+        GivesAllParcels given.items tasks.old.items tasks.new.items) }
+{
+    let mut given = VecDeque::new(alloc);
+    for n in 0..tasks.len() {
+        give_parcels_at(tasks, n, &mut given)?;
+    }
+    Ok(given)
 }
