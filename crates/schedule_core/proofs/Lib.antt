@@ -6,7 +6,9 @@ mod Resting
 mod Boosting
 mod Looping
 mod FatesOfRuns
-mod TicksOfRuns
-mod Ending
-mod Rounding
+pub mod TicksOfRuns
+pub mod Going
+pub mod Telling
+pub mod Ending
+pub mod Rounding
 mod RunByRounds

@@ -4,16 +4,22 @@ use Rattle.std.specs.Prelude.{nat_le, replicate}
 use Rattle.std.specs.List.{range_with_len}
 use Rattle.std.proofs.lemmas.Bool.{leb-false}
 use Rattle.std.proofs.lemmas.List.{length-append}
-use Rattle.std.proofs.lemmas.List.FromFn.{map-range_with_len_more}
+use Rattle.std.proofs.lemmas.List.FromFn.{fill_by_all, map-range_with_len_more}
 use Rattle.std.proofs.lemmas.List.Sums.{fold-append}
+use Rattle.bolt_ops.specs.RowOp.{Custom}
+use Rattle.commit_turns.specs.Turns.{last_tick}
+use Rattle.event_engine.specs.declared.engine.Engine.{Engine}
+use Rattle.event_engine.specs.Engines.{Gives, Goes, HasOutcomes, shape}
 use Rattle.event_worlds.specs.Rounds.{round_with, ticks_in}
-use Rattle.event_worlds.specs.Worlds.{Step, coordinator_steps, of_acker, of_task, of_tick}
+use Rattle.event_worlds.specs.Worlds.{Known, Step, World, coordinator_steps, of_acker, of_task, of_tick, outcomes_of, run}
 use Rattle.schedule_core.proofs.Ending.{Allows}
-use Rattle.schedule_core.proofs.TicksOfRuns.{ticks-of-rounds}
-use Rattle.schedule_core.specs.Rounding.{Asked}
+use Rattle.schedule_core.proofs.TicksOfRuns.{run-tick, ticks-of-rounds}
+use Rattle.schedule_core.specs.Rounding.{Asked, closing_steps}
 use Rattle.schedule_core.specs.Runs.{HasRoundsOf, first_answers, ticks_between}
+use Rattle.storm_ids.specs.declared.ids.Ids.{Ghosts}
 use Rattle.storm_ticks.specs.Ticking.{first_answer, handed_on}
 use Rattle.topology_plan.specs.Topology.{Topology, tasks_in_all}
+use Rattle.trident_batches.specs.Batches.{Cut}
 
 -- ---- what a source was asked
 
@@ -90,9 +96,18 @@ ticks-of-round t n =
     let f = no-ackers (range_with_len 0 t.ackers) in
     let h = all-ticks n in omega arith
 
-total : List ℕ → ℕ
+pub total : List ℕ → ℕ
 total [] = 0
 total (n ∷ ns) = n + total ns
+
+pub total-none : total [] ≡ 0
+unfolding total
+total-none = refl
+
+pub total-more : (answers : List ℕ) (n : ℕ) → total (answers ++ n ∷ []) ≡ total answers + n
+unfolding total
+total-more [] n = omega arith
+total-more (m ∷ answers) n = let rest = total-more answers n in omega arith
 
 -- the steps have no other ticks
 ticks-of-answers : (t : Topology) (answers : List ℕ) (steps : List Step) → HasRoundsOf t answers steps
@@ -140,11 +155,10 @@ sum-below [] before below = omega arith
 sum-below (n ∷ ns) before below =
     let rest = sum-below ns (handed_on before n) below in omega arith
 
--- the coordinator may count what was handed out between
-pub allows-between : (t : Topology) (answers : List ℕ) (steps : List Step) (before after : ℕ)
-    → HasRoundsOf t answers steps → after ≡ fold handed_on before answers
-    → Allows steps (ticks_between before after)
-allows-between t answers steps before after has is n most last = by (nat_le (2 ^ 64 - 1) after) refl
+-- as many ticks as were answered are as many as were handed out between
+pub answered-between : (answers : List ℕ) (before after : ℕ) → after ≡ fold handed_on before answers
+    → (n : ℕ) → n ≤ total answers → n ≤ last_tick → n ≤ ticks_between before after
+answered-between answers before after is n most last = by (nat_le (2 ^ 64 - 1) after) refl
   where
     by : (b : Bool) → nat_le (2 ^ 64 - 1) after ≡ b
         → n ≤ cond b (2 ^ 64 - 1) (after - before)
@@ -152,4 +166,40 @@ allows-between t answers steps before after has is n most last = by (nat_le (2 ^
     by false open_still =
         let below : after < 2 ^ 64 - 1 = leb-false (2 ^ 64 - 1) after open_still in
         let all = sum-below answers before (subst (λ (k : ℕ). k < 2 ^ 64 - 1) is below) in
-        let ticks = ticks-of-answers t answers steps has in omega arith
+        omega arith
+
+-- the coordinator may count what was handed out between
+pub allows-between : (t : Topology) (answers : List ℕ) (steps : List Step) (before after : ℕ)
+    → HasRoundsOf t answers steps → after ≡ fold handed_on before answers
+    → Allows steps (ticks_between before after)
+allows-between t answers steps before after has is n most last =
+    let ticks = ticks-of-answers t answers steps has in
+    answered-between answers before after is n (omega arith) last
+
+-- ---- ticks of an engine
+
+module _ {I : Type 0} {g : Ghosts I} (tells : I → (ℕ → ℕ) → ℕ → Type 0) (t : Topology)
+    (custom : Custom) (cut : Cut) where
+  -- its ticks rise by those among its steps at most
+  pub ticks-gone : (steps : List Step) (old new : Engine I g)
+      → Goes tells t custom cut steps old new → (shape new).tick ≤ (shape old).tick + ticks_in steps
+  ticks-gone steps old new goes =
+      let words : ℕ → ℕ → ℕ = λ s k. get_or (goes.given s) k 0 in
+      let gives : Gives words (λ s. 0) goes.given =
+      λ s. sym (fill_by_all (words s) (goes.given s) (length (goes.given s)) 0 refl (λ k below. refl)) in
+      let outcomes = outcomes_of new.fates in
+      let has : HasOutcomes outcomes new.fates =
+      record { rest = []; first = sym (append-nil outcomes) } in
+      let start : Known = record { world = shape old; counts = λ s. 0 } in
+      let same : (run t custom cut words outcomes steps start).world.tick ≡ (shape new).tick =
+      ap (λ (w : World). w.tick) (goes.runs words (λ s. 0) outcomes gives has).0 in
+      let most = run-tick t custom cut words outcomes steps start in omega arith
+
+  -- so a round's rest adds no more than its ticks
+  pub ticks-closed : (n : ℕ) (old new : Engine I g)
+      → Goes tells t custom cut (closing_steps n) old new → (shape new).tick ≤ (shape old).tick + n
+  ticks-closed n old new goes =
+      let all = ticks-gone (closing_steps n) old new goes in
+      let both = ticks-of-rounds (replicate n of_tick) coordinator_steps in
+      let none : ticks_in coordinator_steps ≡ 0 = refl in
+      let own = all-ticks n in omega arith

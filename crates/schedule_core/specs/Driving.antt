@@ -1,5 +1,5 @@
 -- What the steps of an engine do to the parts that its commits go to. This project's own.
-use Rattle.std.specs.Prelude.{◌≡◌, ℕ, List, ◌++◌, All, length}
+use Rattle.std.specs.Prelude.{◌≡◌, ℕ, ◌+◌, List, [], ◌++◌, All, None, Some, length, slice_get}
 use Rattle.std.specs.List.{AllZip}
 use Rattle.attempt_fates.specs.declared.fates.Attempt.{Attempt}
 use Rattle.attempt_fates.specs.Fates.{committed_txids}
@@ -7,13 +7,15 @@ use Rattle.batch_commits.specs.Standing.{AllButLastAreCounted, FailuresAreCounte
 use Rattle.bolt_ops.specs.RowOp.{Custom, IsCustom}
 use Rattle.commit_turns.specs.Outcomes.{IsOutcome}
 use Rattle.event_engine.specs.declared.engine.Engine.{Engine}
-use Rattle.event_engine.specs.Engines.{Gives, Goes, HasOutcomes, IsIdle, IsReady, cut_in, shape, topology_in}
+use Rattle.event_engine.specs.Engines.{Gives, Goes, HasOutcomes, IsIdle, IsReady, cut_in, shape, sources, topology_in}
 use Rattle.event_worlds.specs.Accounted.{Accounted, IsInput, LedAt}
 use Rattle.event_worlds.specs.Worlds.{Known, Step, outcomes_of}
+use Rattle.output_collector.specs.Draws.{Draws}
 use Rattle.state_parts.specs.Commits.{IsBadAt}
 use Rattle.state_parts.specs.declared.answer.CommitOutcome.{CommitOutcome}
 use Rattle.state_parts.specs.declared.parts.StatePart.{StatePart}
 use Rattle.state_parts.specs.PartPlans.{AreParts, plans_of}
+use Rattle.state_parts.specs.Standing.{IsEmpty}
 use Rattle.storm_ids.specs.declared.ids.Ids.{Ghosts}
 use Rattle.storm_stores.specs.CellMaps.{CellMap}
 use Rattle.topology_plan.specs.Topology.{Topology}
@@ -76,6 +78,53 @@ module _ {I S : Type 0} {g : Ghosts I} where
     pub strange : (key : List ℕ) → HasStrangeAt holds is key → HasStrangeAt holds was key
     pub counted : FailuresAreCounted count goes.more was is
 
+  -- An engine went on, by steps or in any other way, and its commits through the parts: sources gave
+  -- words, attempts ended, and where a history led to the first world, some history leads to the
+  -- second.
+  pub record LeadsOn (tells : I → (ℕ → ℕ) → ℕ → Type 0) (holds : S → CellMap → Type 0)
+      (count : S → ℕ) (t : Topology) (custom : Custom) (cut : Cut) (old new : Engine I g)
+      (was is : List (StatePart S)) : Type 0 where
+    pub given : ℕ → List ℕ
+    pub draws : (s : ℕ) (before : I) → slice_get (sources old) s ≡ Some before
+        → (after : I) × (slice_get (sources new) s ≡ Some after)
+        × Draws tells before (given s) after
+    pub none : (s : ℕ) → slice_get (sources old) s ≡ None
+        → (given s ≡ []) × (slice_get (sources new) s ≡ None)
+    pub more : List Attempt
+    pub added : new.fates ≡ old.fates ++ more
+    pub led : (words : ℕ → ℕ → ℕ) (counts : ℕ → ℕ) (outcomes : List CommitOutcome)
+        → Gives words counts given → HasOutcomes outcomes new.fates
+        → IsInput t cut → IsCustom custom → All (IsOutcome t) outcomes
+        → Accounted t custom cut words (record { world = shape old; counts = counts })
+        → Accounted t custom cut words
+        (record { world = shape new; counts = λ s. counts s + length (given s) })
+    -- the parts, as `Drives` has it
+    pub plans : plans_of is ≡ plans_of was
+    pub outcomes : AreParts t was → All (IsOutcome t) (outcomes_of old.fates)
+        → All (IsOutcome t) (outcomes_of new.fates)
+    pub stands : (words : ℕ → ℕ → ℕ) (counts : ℕ → ℕ) (outcomes : List CommitOutcome)
+        → Gives words counts given → HasOutcomes outcomes new.fates
+        → IsInput t cut → IsCustom custom → All (IsOutcome t) outcomes
+        → Accounted t custom cut words (record { world = shape old; counts = counts })
+        → PartsStand holds t custom cut (committed_by old) was
+        → PartsStand holds t custom cut (committed_by new) is
+    pub bad : (key : List ℕ) → IsBadAt holds is key → IsBadAt holds was key
+    pub strange : (key : List ℕ) → HasStrangeAt holds is key → HasStrangeAt holds was key
+    pub counted : FailuresAreCounted count more was is
+
+  -- Where sources have these words a run has come to an engine and to parts: some history led to
+  -- its world, parts that were empty stand at what is committed, and stores failed as the fates
+  -- tell.
+  pub record HasCome (holds : S → CellMap → Type 0) (count : S → ℕ) (t : Topology)
+      (custom : Custom) (cut : Cut) (words : ℕ → ℕ → ℕ) (e : Engine I g)
+      (was is : List (StatePart S)) : Type 0 where
+    pub counts : ℕ → ℕ
+    pub led : Accounted t custom cut words (record { world = shape e; counts = counts })
+    pub plans : plans_of is ≡ plans_of was
+    pub stands : All (IsEmpty holds) was → PartsStand holds t custom cut (committed_by e) is
+    pub strange : (key : List ℕ) → HasStrangeAt holds is key → HasStrangeAt holds was key
+    pub counted : FailuresAreCounted count e.fates was is
+
   -- A fault stopped an engine, which left these fates and parts: some attempts may have ended, and
   -- a last commit may have been tried that no fate tells.
   pub record Leaves (holds : S → CellMap → Type 0) (count : S → ℕ) (t : Topology)
@@ -89,6 +138,25 @@ module _ {I S : Type 0} {g : Ghosts I} where
         → PartsStand holds t custom cut (length (committed_txids fates)) is
     pub strange : (key : List ℕ) → HasStrangeAt holds is key → HasStrangeAt holds was key
     pub counted : AllButLastAreCounted count more was is
+
+  -- A bad cell stopped an engine that had gone on to where it is, which was there before, at that
+  -- key.
+  pub record BreaksOff (tells : I → (ℕ → ℕ) → ℕ → Type 0) (holds : S → CellMap → Type 0)
+      (count : S → ℕ) (t : Topology) (custom : Custom) (cut : Cut) (key : List ℕ)
+      (old new : Engine I g) (was is : List (StatePart S)) : Type 0 where
+    pub between : List (StatePart S)
+    pub leads : LeadsOn tells holds count t custom cut old new was between
+    pub leaves : Leaves holds count t custom cut new new.fates between is
+    pub bad : IsBadAt holds was key
+
+  -- want of memory stopped an engine that had gone on, and it left these fates and parts
+  pub record RunsOut (tells : I → (ℕ → ℕ) → ℕ → Type 0) (holds : S → CellMap → Type 0)
+      (count : S → ℕ) (t : Topology) (custom : Custom) (cut : Cut) (old : Engine I g)
+      (fates : List Attempt) (was is : List (StatePart S)) : Type 0 where
+    pub mid : Engine I g
+    pub between : List (StatePart S)
+    pub leads : LeadsOn tells holds count t custom cut old mid was between
+    pub leaves : Leaves holds count t custom cut mid fates between is
 
   -- a bad cell was met after the first of these steps, which was there before them at that key
   pub record Breaks (tells : I → (ℕ → ℕ) → ℕ → Type 0) (holds : S → CellMap → Type 0)

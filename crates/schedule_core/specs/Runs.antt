@@ -42,11 +42,11 @@ Answers t cut ticks fates (Err (stop.Exhausted txid)) = HasRunOut t txid fates
 Answers t cut ticks fates (Err (stop.BadCell key)) = Unit {0}
 Answers t cut ticks fates (Err stop.Memory) = Unit {0}
 
--- A run of these steps, in which so many ticks were handed out, with these parts before and after
--- it, came to an answer and left fates.
-pub record RunComes {S : Type 0} (tells : S → CellMap → Type 0) (count : S → ℕ) (t : Topology)
-    (custom : Custom) (cut : Cut) (steps : List Step) (ticks : ℕ) (answer : Result Ended Stop)
-    (fates : List Attempt) (old new : List (StatePart S)) : Type 0 where
+-- What a run, in which so many ticks were handed out, with these parts before and after it, tells of
+-- its answer and its fates. It names no step and no world.
+pub record RunTells {S : Type 0} (holds : S → CellMap → Type 0) (count : S → ℕ) (t : Topology)
+    (custom : Custom) (cut : Cut) (ticks : ℕ) (answer : Result Ended Stop) (fates : List Attempt)
+    (old new : List (StatePart S)) : Type 0 where
   -- each batch was committed once at most, and in order
   pub once : IsOnce (length cut.records) cut.size last_tick fates
   pub in_time : HadMemory answer → IsOnce (length cut.records) cut.size ticks fates
@@ -54,20 +54,27 @@ pub record RunComes {S : Type 0} (tells : S → CellMap → Type 0) (count : S �
   -- each end has its cause
   pub caused : HadMemory answer → (words : ℕ → ℕ → ℕ) × AreCaused t custom cut ticks words fates
   pub failed_in_turn : HadMemory answer → FailsInTurn fates
-  -- it is the run of a world
-  pub of_world : IsAnswer answer
-      → (words : ℕ → ℕ → ℕ) × IsOfWorld t custom cut words steps answer fates
   -- a bad cell was there before the run, and so was each strange one, at the same key
-  pub bad_cell : (key : List ℕ) → answer ≡ Err (stop.BadCell key) → IsBadAt tells old key
-  pub strange : (key : List ℕ) → HasStrangeAt tells new key → HasStrangeAt tells old key
+  pub bad_cell : (key : List ℕ) → answer ≡ Err (stop.BadCell key) → IsBadAt holds old key
+  pub strange : (key : List ℕ) → HasStrangeAt holds new key → HasStrangeAt holds old key
   -- parts that were empty stand at the batches that were committed, whatever the answer
-  pub stands : All (IsEmpty tells) old → PartsStand tells t custom cut (committed_count fates) new
+  pub stands : All (IsEmpty holds) old → PartsStand holds t custom cut (committed_count fates) new
   -- no store failed but at the commits that failed, and, where a fault stopped the run, at the last
   -- one that was tried
   pub counted : IsAnswer answer → FailuresAreCounted count fates old new
   pub but_last : AllButLastAreCounted count fates old new
   -- the parts can be given back
-  pub kept : AreKept tells old new
+  pub kept : AreKept holds old new
+
+-- A run of these steps, in which so many ticks were handed out, with these parts before and after
+-- it, came to an answer and left fates.
+pub record RunComes {S : Type 0} (holds : S → CellMap → Type 0) (count : S → ℕ) (t : Topology)
+    (custom : Custom) (cut : Cut) (steps : List Step) (ticks : ℕ) (answer : Result Ended Stop)
+    (fates : List Attempt) (old new : List (StatePart S)) : Type 0 where
+  pub tells : RunTells holds count t custom cut ticks answer fates old new
+  -- it is the run of a world
+  pub of_world : IsAnswer answer
+      → (words : ℕ → ℕ → ℕ) × IsOfWorld t custom cut words steps answer fates
 
 -- ---- rounds
 

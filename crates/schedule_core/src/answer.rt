@@ -11,9 +11,9 @@ use event_engine::Engine;
 use state_parts::CommitFault;
 use storm_ids::Ids;
 
-/// What a run answers whose steps came to this. The attempts that ended are handed over, whatever
-/// the answer.
-pub(crate) fn end_run<I: Ids>(
+/// What a run answers whose last call came to this: what stopped it, or else what its coordinator
+/// knows. The attempts that ended take the place of those that are there, whatever the answer.
+pub fn end_run<I: Ids>(
     done: Result<(), CommitFault>,
     engine: Engine<'_, I>,
     fates: &mut Fates,

@@ -127,8 +127,13 @@ fn tick_on<I: Ids>(engine: &mut Engine<'_, I>, count: u32)
     }
 }
 
-/// The rest of a round: so many ticks, and then the coordinator's step with its commit.
-pub(crate) fn close_round<I: Ids, C: CellStore>(
+/// The rest of a round: so many ticks, and then the coordinator's step, with the commit that it
+/// orders to all parts.
+///
+/// It costs a tick each, what the turn hears and begins, and the writes of the commit. With a bad
+/// cell or want of memory the engine may have no more events; its fates are those of all attempts
+/// that ended.
+pub fn close_round<I: Ids, C: CellStore>(
     engine: &mut Engine<'_, I>,
     parts: &mut Parts<C>,
     passed: u32,

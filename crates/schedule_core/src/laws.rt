@@ -14,7 +14,7 @@ use event_worlds::{
 use storm_stores::CellStore;
 
 /// A law: what a world comes to by steps, and how failures add up.
-pub(crate) fn laws_of_steps<C: CellStore>()
+pub fn laws_of_steps<C: CellStore>()
     ensures { (t : Topology) (custom : Custom) (cut : Cut) → Laws C.fault_count t custom cut }
 {
     worlds_are_accounted();
@@ -22,7 +22,7 @@ pub(crate) fn laws_of_steps<C: CellStore>()
 }
 
 /// A law: what commits make of parts and of the fates.
-pub(crate) fn laws_of_commits<C: CellStore>()
+pub fn laws_of_commits<C: CellStore>()
     ensures { (t : Topology) (custom : Custom) (cut : Cut)
         → CommitLaws C.tells C.fault_count t custom cut }
 {
@@ -34,7 +34,7 @@ pub(crate) fn laws_of_commits<C: CellStore>()
 }
 
 /// A law: where worlds and parts begin, what they come to, and the causes of ends.
-pub(crate) fn laws_of_runs<C: CellStore>()
+pub fn laws_of_runs<C: CellStore>()
     ensures { (t : Topology) (custom : Custom) (cut : Cut)
         → WorldLaws C.tells C.fault_count t custom cut }
 {
