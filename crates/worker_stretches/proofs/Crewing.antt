@@ -51,7 +51,7 @@ items-last : {X : Type 0} (hands : List (Vec X Global)) (v : Vec X Global) → i
 items-last [] v = append-nil v.items
 items-last (h ∷ hands) v = ap (λ xs. h.items ++ xs) (items-last hands v) ∙ sym (append_assoc h.items (items_in hands) v.items)
 
-either-false : (a b : Bool) → (a || b) ≡ false → (a ≡ false) × (b ≡ false)
+pub either-false : (a b : Bool) → (a || b) ≡ false → (a ≡ false) × (b ≡ false)
 either-false true b is = absurd (let e : true ≡ false = is in cc)
 either-false false b is = (refl, is)
 

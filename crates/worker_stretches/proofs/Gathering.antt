@@ -1,5 +1,5 @@
 -- Seats of all tasks and ackers, dealt out and gathered.
-use Rattle.std.proofs.Common.{◌≡◌, ℕ, zero, suc, ◌+◌, List, [], ◌∷◌, length, map, Vec, sym, refl, ap, subst, ◌∙◌, arith}
+use Rattle.std.proofs.Common.{◌≡◌, ◌≤◌, ℕ, zero, suc, ◌+◌, List, [], ◌∷◌, length, map, Vec, sym, refl, ap, subst, ◌∙◌, arith}
 use Rattle.std.specs.List.{AllByRecursion, range_with_len}
 use Rattle.std.specs.List.Sorted.{IsPermutation}
 use Rattle.std.specs.declared.alloc.Global.{Global}
@@ -10,19 +10,20 @@ use Rattle.counted_items.proofs.Sums.{same-IsPermutation}
 use Rattle.counted_items.proofs.Weighing.{weigh-ones}
 use Rattle.event_engine.specs.declared.acker.AckerSeat.{AckerSeat}
 use Rattle.event_engine.specs.declared.task.TaskSeat.{TaskSeat}
+use Rattle.pulse_board.specs.declared.rule.Book.{Book}
 use Rattle.storm_ids.specs.declared.ids.Ids.{Ghosts}
 use Rattle.topology_plan.specs.Topology.{Topology, tasks_in_all}
 use Rattle.tuple_account.specs.Parts.{weigh_entries}
 use Rattle.tuple_account.proofs.Moving.{moves-alike}
-use Rattle.worker_pool.specs.Ackers.{IsAcker, acker_station}
+use Rattle.worker_pool.specs.Ackers.{HasYoung, IsAcker, acker_inbox, acker_station}
 use Rattle.worker_pool.specs.declared.acker.AckerDesk.{AckerDesk}
 use Rattle.worker_pool.specs.declared.desk.TaskDesk.{TaskDesk}
-use Rattle.worker_pool.specs.Desks.{IsDesk, desk_station}
+use Rattle.worker_pool.specs.Desks.{IsDesk, desk_inbox, desk_station}
 use Rattle.worker_stretches.specs.Hands.{items_in}
 use Rattle.worker_stretches.specs.Leads.{SeatsDid}
 use Rattle.worker_stretches.specs.Parts.{AreHands}
 use Rattle.worker_stretches.specs.Places.{AreAllSeats, AreInHands, HaveAll, IsAckerAt, IsTaskAt, ZipFrom, desk_number, office_number}
-use Rattle.worker_stretches.specs.Teams.{Aging, Giving, TeamDid, Waiting, is_given, new_acker, new_desk, old_acker, old_desk, spans_of, team_station, was_given}
+use Rattle.worker_stretches.specs.Teams.{Aging, BoxState, Giving, TeamDid, is_given, new_acker, new_desk, old_acker, old_desk, spans_of, team_station, was_given}
 use Rattle.worker_stretches.proofs.Working.{each-permutation, team-moved}
 
 pub same-length : {X : Type 0} (xs ys : List X) → IsPermutation xs ys → length ys ≡ length xs
@@ -94,13 +95,13 @@ module _ {I : Type 0} {g : Ghosts I} (t : Topology) where
 
 -- ---- what came of a stretch, from hands to seats
 
-module _ {I : Type 0} {g : Ghosts I} (tells : I → (ℕ → ℕ) → ℕ → Type 0) (t : Topology) (custom : Custom) where
+module _ {I : Type 0} {g : Ghosts I} (tells : I → (ℕ → ℕ) → ℕ → Type 0) (t : Topology) (custom : Custom) (book : Book) where
   same-numbers : (givings : List (Giving I g tells)) → map desk_number (map new_desk givings) ≡ map desk_number (map old_desk givings)
   same-numbers [] = refl
   same-numbers (x ∷ givings) = (λ i. x.gave.number i ∷ same-numbers givings i)
 
-  pub all-left : (tasks : List (TaskSeat I g)) (ackers : List AckerSeat) (hands left : List (Vec (TaskDesk I g) Global)) (offices more : List (Vec AckerDesk Global)) (was is : Waiting)
-      → AreAllSeats t tasks ackers → AreInHands tasks ackers hands offices → TeamDid tells t custom (items_in hands) (items_in left) (items_in offices) (items_in more) was is → HaveAll t left more
+  pub all-left : (tasks : List (TaskSeat I g)) (ackers : List AckerSeat) (hands left : List (Vec (TaskDesk I g) Global)) (offices more : List (Vec AckerDesk Global)) (was is : BoxState)
+      → AreAllSeats t tasks ackers → AreInHands tasks ackers hands offices → TeamDid tells t custom book (items_in hands) (items_in left) (items_in offices) (items_in more) was is → HaveAll t left more
   all-left tasks ackers hands left offices more was is are given did = record {
     tasks = moved-numbers desk_number (map old_desk did.givings) (map new_desk did.givings) (items_in hands) (items_in left) given.desks (tasks_in_all t)
         (task-numbers t tasks given.desks are.many_tasks given.tasks_at) given.in_hands did.olds (same-numbers did.givings) did.news;
@@ -108,8 +109,8 @@ module _ {I : Type 0} {g : Ghosts I} (tells : I → (ℕ → ℕ) → ℕ → Ty
         (acker-numbers t ackers given.places are.many_ackers given.ackers_at) given.in_offices did.befores (same-places did.agings) did.afters;
   }
 
-  team-from : (old old' new : List (TaskDesk I g)) (before before' after : List AckerDesk) (was is : Waiting) → IsPermutation old old' → IsPermutation before before'
-      → TeamDid tells t custom old new before after was is → TeamDid tells t custom old' new before' after was is
+  team-from : (old old' new : List (TaskDesk I g)) (before before' after : List AckerDesk) (was is : BoxState) → IsPermutation old old' → IsPermutation before before'
+      → TeamDid tells t custom book old new before after was is → TeamDid tells t custom book old' new before' after was is
   team-from old old' new before before' after was is desks ackers did = record {
     givings = did.givings;
     olds = IsPermutation-trans (map old_desk did.givings) old old' did.olds desks;
@@ -117,6 +118,8 @@ module _ {I : Type 0} {g : Ghosts I} (tells : I → (ℕ → ℕ) → ℕ → Ty
     agings = did.agings;
     befores = IsPermutation-trans (map old_acker did.agings) before before' did.befores ackers;
     afters = did.afters;
+    counted = λ unmarked tick seen all.
+        did.counted unmarked tick seen (each-permutation (λ (d : AckerDesk). d.counted ≤ tick) before' before (IsPermutation-sym before before' ackers) all);
     worked = λ counts all. let w = did.worked counts all in record {
       history = w.history;
       moves = moves-alike t custom (team_station old before was (spans_of (was_given counts) did.givings)) (team_station new after is (spans_of (is_given counts) did.givings))
@@ -132,12 +135,17 @@ module _ {I : Type 0} {g : Ghosts I} (tells : I → (ℕ → ℕ) → ℕ → Ty
       given = w.given;
       drawn = w.drawn;
       inside = w.inside;
+      uses = λ f.
+          let u = w.uses f in
+          let a = same-IsPermutation old old' desks (λ (d : TaskDesk I g). desk_inbox d f) in
+          let b = same-IsPermutation before before' ackers (λ (d : AckerDesk). acker_inbox d f) in omega arith;
+      lasts = λ routed young few. w.lasts routed (each-permutation (HasYoung t) before' before (IsPermutation-sym before before' ackers) young) few;
     };
   }
 
-  pub seats-did : (tasks left_tasks : List (TaskSeat I g)) (ackers left_ackers : List AckerSeat) (hands left : List (Vec (TaskDesk I g) Global)) (offices more : List (Vec AckerDesk Global)) (was is : Waiting)
-      → AreInHands tasks ackers hands offices → AreInHands left_tasks left_ackers left more → TeamDid tells t custom (items_in hands) (items_in left) (items_in offices) (items_in more) was is
-      → SeatsDid tells t custom tasks left_tasks ackers left_ackers was is
+  pub seats-did : (tasks left_tasks : List (TaskSeat I g)) (ackers left_ackers : List AckerSeat) (hands left : List (Vec (TaskDesk I g) Global)) (offices more : List (Vec AckerDesk Global)) (was is : BoxState)
+      → AreInHands tasks ackers hands offices → AreInHands left_tasks left_ackers left more → TeamDid tells t custom book (items_in hands) (items_in left) (items_in offices) (items_in more) was is
+      → SeatsDid tells t custom book tasks left_tasks ackers left_ackers was is
   seats-did tasks left_tasks ackers left_ackers hands left offices more was is given back did = record {
     old_desks = given.desks;
     new_desks = back.desks;
@@ -148,5 +156,5 @@ module _ {I : Type 0} {g : Ghosts I} (tells : I → (ℕ → ℕ) → ℕ → Ty
     before_at = given.ackers_at;
     after_at = back.ackers_at;
     did = team-from (items_in hands) given.desks back.desks (items_in offices) given.places back.places was is (IsPermutation-sym given.desks (items_in hands) given.in_hands) (IsPermutation-sym given.places (items_in offices) given.in_offices)
-        (team-moved tells t custom (items_in hands) (items_in left) back.desks (items_in offices) (items_in more) back.places was is (IsPermutation-sym back.desks (items_in left) back.in_hands) (IsPermutation-sym back.places (items_in more) back.in_offices) did);
+        (team-moved tells t custom book (items_in hands) (items_in left) back.desks (items_in offices) (items_in more) back.places was is (IsPermutation-sym back.desks (items_in left) back.in_hands) (IsPermutation-sym back.places (items_in more) back.in_offices) did);
   }

@@ -10,42 +10,55 @@ use Rattle.acker_core.specs.Entries.{AreSilent}
 use Rattle.bolt_ops.specs.RowOp.{Custom}
 use Rattle.bolt_task.specs.declared.task.BoltTask.{BoltTask}
 use Rattle.bolt_task.specs.Executing.{collector_in}
-use Rattle.commit_order.specs.Orders.{collector_of}
+use Rattle.box_rows.specs.declared.mail.Mail.{Mail}
+use Rattle.box_rows.specs.FitRows.{held_in}
+use Rattle.box_rows.specs.Rows.{taken_in}
+use Rattle.commit_order.specs.declared.coordinator.Coordinator.{Coordinator}
+use Rattle.commit_order.specs.Orders.{collector_of, cut_of, desk_of, plan_of}
 use Rattle.counted_items.specs.Weights.{weigh}
 use Rattle.counted_items.proofs.Each.{each-both, each-map, each-to_map, each-weaker}
 use Rattle.event_engine.specs.declared.acker.AckerSeat.{AckerSeat}
 use Rattle.event_engine.specs.declared.engine.Engine.{Engine}
 use Rattle.event_engine.specs.declared.task.TaskSeat.{TaskSeat}
-use Rattle.event_engine.specs.Engines.{Gives, IsReady, IsStill, cut_in, shape, sources, topology_in}
+use Rattle.event_engine.specs.Engines.{Gives, IsReady, IsStill, cut_in, has_ended, shape, sources, topology_in}
 use Rattle.event_engine.specs.Lending.{IsLent, Lends, Returns}
 use Rattle.event_engine.specs.Seats.{AreSeats, HasBuckets, acker_side, source_in, task_side}
 use Rattle.event_worlds.specs.Accounted.{LedAt, station_of, weigh_ackers, weigh_tasks}
 use Rattle.event_worlds.specs.Beside.{LedBeside, waits}
 use Rattle.event_worlds.specs.Orderly.{AreTasksOrderly, IsOrderly}
-use Rattle.event_worlds.specs.Worlds.{AckerSide, Known, TaskSide, World, ended, no_task, task_at}
+use Rattle.event_worlds.specs.Worlds.{AckerSide, Known, TaskSide, World, ended, is_over, no_acker, no_task, task_at}
 use Rattle.output_collector.specs.Collectors.{given_by, ids_in}
 use Rattle.output_collector.specs.Draws.{Draws}
 use Rattle.output_collector.proofs.Sending.{Draws-none}
+use Rattle.pulse_board.specs.Books.{Tells}
+use Rattle.pulse_board.specs.declared.rule.Book.{Book}
 use Rattle.storm_ids.specs.declared.ids.Ids.{Ghosts}
 use Rattle.stretch_worlds.specs.Stretching.{IsFit, IsInside, LeavesDesk}
+use Rattle.task_queues.specs.declared.pass.Pass.{Pass}
 use Rattle.topology_plan.specs.Topology.{Topology, tasks_in_all}
+use Rattle.topology_plan.specs.Valid.{IsValid}
 use Rattle.storm_values.specs.declared.value.Root.{Root}
 use Rattle.tree_model.specs.declared.messages.AckMsg.{AckMsg}
+use Rattle.tree_model.specs.declared.messages.Parcel.{Parcel}
 use Rattle.trident_batches.specs.Batches.{Cut}
 use Rattle.tuple_account.specs.Histories.{History, Packet, drawn_in, joined}
 use Rattle.tuple_account.specs.Moves.{HasDrawn, Moves, Station, beside}
 use Rattle.tuple_account.specs.Parts.{weigh_entries}
 use Rattle.tuple_account.specs.Places.{before}
-use Rattle.worker_pool.specs.Ackers.{acker_station, weigh_messages, weigh_verdict}
+use Rattle.tuple_account.proofs.Moving.{taken-joined}
+use Rattle.worker_pool.specs.Ackers.{CountsFew, acker_station, weigh_messages, weigh_verdict}
 use Rattle.worker_pool.specs.declared.acker.AckerDesk.{AckerDesk}
 use Rattle.worker_pool.specs.declared.desk.TaskDesk.{TaskDesk}
 use Rattle.worker_pool.specs.Desks.{given_at, source_at}
 use Rattle.worker_stretches.specs.Leads.{Leads, SeatsDid}
 use Rattle.worker_stretches.specs.Places.{AreAllSeats, IsAckerAt, IsSilent, IsTaskAt, ZipFrom, desk_number}
-use Rattle.worker_stretches.specs.Teams.{AreNextWords, Giving, TeamWorked, Waiting, WereGiven, desks_waiting, is_given, new_desk, old_desk, was_given}
+use Rattle.world_progress.specs.Lasting.{IsSeat}
+use Rattle.worker_stretches.specs.Standing.{GoesOn, IsInTime, IsLasting, Later, beside_it, weigh_acker_inboxes, weigh_task_inboxes}
+use Rattle.worker_stretches.specs.Teams.{AreNextWords, BoxState, Giving, TakesMore, TeamWorked, Waiting, WereGiven, desks_waiting, is_given, new_desk, old_desk, was_given}
 use Rattle.worker_stretches.proofs.Gathering.{task-numbers}
 use Rattle.worker_stretches.proofs.Givings.{One, count-few, count-none, count-one, no-spans, none-given, own-words, the-one, words_of}
 use Rattle.worker_stretches.proofs.Handing.{not-some, some-is}
+use Rattle.worker_stretches.proofs.Keeping.{SeatsFrom, WentThrough, ackers-left, in_time-after, met-routed, no-less-done, saw-few, seats-young, tasks-left, young-seats}
 use Rattle.worker_stretches.proofs.Working.{each-permutation}
 
 -- ---- lists
@@ -132,11 +145,19 @@ StretchLaw t custom cut =
     (words : ℕ → ℕ → ℕ) (all after : Station) (h more : History) (k new : Known)
     → LedAt t custom cut words all h k → Moves t custom all more after → HasDrawn words more → IsInside more → IsFit t new → LeavesDesk k new → LedAt t custom cut words after (joined h more) new
 
+-- what waits beside an engine before and after, and what was taken, is told by these rows
+pub record ReadBy (was is : BoxState) (row row_now : List (Pass Mail)) : Type 0 where
+  pub held : (f : Packet → ℕ) → was.waits f ≡ held_in row f
+  pub held_now : (f : Packet → ℕ) → is.waits f ≡ held_in row_now f
+  pub took : (f : Packet → ℕ) → was.took f ≡ taken_in row f
+  pub took_now : (f : Packet → ℕ) → is.took f ≡ taken_in row_now f
+  pub more : TakesMore row row_now
+
 -- ---- an engine before and after
 
 module _ {I : Type 0} {g : Ghosts I} (tells : I → (ℕ → ℕ) → ℕ → Type 0) (t : Topology) (custom : Custom) (cut : Cut) where
   -- What is known of an engine whose seats were away for a stretch.
-  pub record WereAway (old away new : Engine I g) (tasks left : List (TaskSeat I g)) (ackers others : List AckerSeat) (was is : Waiting) : Type 0 where
+  pub record WereAway (book : Book) (old away new : Engine I g) (tasks left : List (TaskSeat I g)) (ackers others : List AckerSeat) (was is : BoxState) : Type 0 where
     pub lends : Lends tasks ackers old away
     pub first : IsStill old away
     pub returns : Returns left others away new
@@ -145,9 +166,9 @@ module _ {I : Type 0} {g : Ghosts I} (tells : I → (ℕ → ℕ) → ℕ → Ty
     pub afters : AreAllSeats t left others
     pub silent : AllByRecursion IsSilent others
     pub orderly : IsOrderly t (shape new)
-    pub did : SeatsDid tells t custom tasks left ackers others was is
+    pub did : SeatsDid tells t custom book tasks left ackers others was is
 
-  module _ (old away new : Engine I g) (tasks left : List (TaskSeat I g)) (ackers others : List AckerSeat) (was is : Waiting) (all : WereAway old away new tasks left ackers others was is) where
+  module _ (book : Book) (old away new : Engine I g) (tasks left : List (TaskSeat I g)) (ackers others : List AckerSeat) (was is : BoxState) (all : WereAway book old away new tasks left ackers others was is) where
     abbrev number : Giving I g tells → ℕ
     number x = x.old.number
 
@@ -251,8 +272,9 @@ module _ {I : Type 0} {g : Ghosts I} (tells : I → (ℕ → ℕ) → ℕ → Ty
     idle s off false is =
         let above = ltb-false s (tasks_in_all t) is in (none-given number words_in all.did.did.givings (tasks_in_all t) numbers s above, past s above ∙ off)
 
-    module _ (law : StretchLaw t custom cut) (words : ℕ → ℕ → ℕ) (counts : ℕ → ℕ) (gives : Gives words counts given) (h : History)
-        (led : LedBeside t custom cut words was h (record { world = shape old; counts = counts })) where
+    -- by the weights of all that waits beside the engine, before and after
+    module _ (law : StretchLaw t custom cut) (words : ℕ → ℕ → ℕ) (counts : ℕ → ℕ) (gives : Gives words counts given) (u v : Waiting) (shift : (f : Packet → ℕ) → u f + is.waits f ≡ v f + was.waits f) (h : History)
+        (led : LedBeside t custom cut words u h (record { world = shape old; counts = counts })) where
       abbrev now : ℕ → ℕ
       now s = counts s + length (given s)
 
@@ -300,10 +322,11 @@ module _ {I : Type 0} {g : Ghosts I} (tells : I → (ℕ → ℕ) → ℕ → Ty
       abbrev k_new : Known
       k_new = record { world = after_world; counts = now }
 
-      moves : Moves t custom (beside (waits was) (station_of k_old)) worked.history (beside (waits is) (station_of k_new))
+      moves : Moves t custom (beside (waits u) (station_of k_old)) worked.history (beside (waits v) (station_of k_new))
       moves = record {
         packets = λ f.
             let p = worked.moves.packets f in
+            let s = shift f in
             let a = tasks-weigh f 0 tasks all.did.old_desks all.did.old_at in
             let b = tasks-weigh f 0 left all.did.new_desks all.did.new_at in
             let c = ackers-weigh f 0 ackers all.did.old_places all.did.before_at in
@@ -339,24 +362,93 @@ module _ {I : Type 0} {g : Ghosts I} (tells : I → (ℕ → ℕ) → ℕ → Ty
         silent = each-to_map (λ (side : AckerSide). AreSilent side.entries) acker_side others all.silent;
       }
 
-      led-after : LedBeside t custom cut words is (joined h worked.history) k_new
+      led-after : LedBeside t custom cut words v (joined h worked.history) k_new
       led-after =
-          law words (beside (waits was) (station_of k_old)) (beside (waits is) (station_of k_new)) h worked.history k_old k_new led moves (worked.drawn words next)
+          law words (beside (waits u) (station_of k_old)) (beside (waits v) (station_of k_new)) h worked.history k_old k_new led moves (worked.drawn words next)
           (record { starts = worked.inside.starts; begun = worked.inside.begun; heard = worked.inside.heard }) fit (record { desk = refl; fates = refl; tick = refl; unheard = refl })
 
-    pub leads-after : StretchLaw t custom cut → Leads tells t custom cut old new was is
+      -- what was taken from boxes was used, or stands in inboxes
+      through-after : (row row_now : List (Pass Mail)) → ReadBy was is row row_now → WentThrough row h (shape old) → WentThrough row_now (joined h worked.history) after_world
+      through-after row row_now told through f =
+          let u = worked.uses f in
+          let o = through f in
+          let j = taken-joined f h worked.history in
+          let a = tasks-left f 0 tasks all.did.old_desks all.did.old_at in
+          let b = tasks-left f 0 left all.did.new_desks all.did.new_at in
+          let c = ackers-left f 0 ackers all.did.old_places all.did.before_at in
+          let d = ackers-left f 0 others all.did.new_places all.did.after_at in
+          let e = ap (λ (ss : List (TaskSeat I g)). weigh_task_inboxes f 0 (map task_side ss)) all.lends.tasks in
+          let k = ap (λ (ss : List AckerSeat). weigh_acker_inboxes f 0 (map acker_side ss)) all.lends.ackers in
+          let p = told.took f in
+          let q = told.took_now f in omega arith
+
+      -- nothing was lost
+      lasting-after : (first : Book) → IsValid t → IsInTime old.tick first → book.drawn ≡ first.drawn → Tells book → old.tick < t.buckets → IsLasting t h (shape old) → IsLasting t (joined h worked.history) after_world
+      lasting-after first valid in_time drew tells_all short lasting =
+          let few = saw-few t old.tick first book valid in_time drew tells_all short in
+          let seats : SeatsFrom t old.tick 0 old.ackers.items = (λ n. subst (λ (m : ℕ). IsSeat t m old.tick (get_or (map acker_side old.ackers.items) n no_acker)) (let e : n ≡ 0 + n = omega arith in e) (lasting.seats n)) in
+          let was_young = seats-young t old.tick 0 ackers all.did.old_places all.did.before_at (subst (SeatsFrom t old.tick 0) (sym all.lends.ackers) seats) in
+          let counted = all.did.did.counted few.0 old.tick few.1 was_young.1 in
+          let lasts = worked.lasts (met-routed t custom h worked.history (beside (waits v) (station_of k_new)) led-after.reached) was_young.0
+          (each-weaker (λ (d : AckerDesk). d.counted ≤ old.tick) (CountsFew t) (λ d most. omega arith) all.did.new_places counted) in
+          let young = young-seats t old.tick 0 others all.did.new_places all.did.after_at lasts.0 counted in record {
+            seats = λ n. subst (λ (m : ℕ). IsSeat t m old.tick (get_or (map acker_side others) n no_acker)) (let e : 0 + n ≡ n = omega arith in e) (young n);
+            whole = (λ i. lasting.whole i ++ lasts.1 i);
+            fine = lasting.fine;
+          }
+
+    pub leads-after : StretchLaw t custom cut → Leads tells t custom cut old new was.waits is.waits
     leads-after law = record {
       given = given;
       draws = λ s source at. drawn s source at (nat_lt s (tasks_in_all t)) refl;
       none = λ s off. idle s off (nat_lt s (tasks_in_all t)) refl;
       more = [];
       added = all.second.fates ∙ all.first.fates ∙ sym (append-nil old.fates);
-      leads = λ words counts outcomes gives has input fine h led. (
-        joined h (worked law words counts gives h led).history,
-        now law words counts gives h led,
-        (λ s. refl),
-        subst (λ (w : World). LedBeside t custom cut words is (joined h (worked law words counts gives h led).history) (record { world = w; counts = now law words counts gives h led })) (sym shape-after) (led-after law words counts gives h led),
-      );
+      leads = λ words counts outcomes gives has input fine h led.
+          let turn : (f : Packet → ℕ) → was.waits f + is.waits f ≡ is.waits f + was.waits f = (λ f. omega arith) in (
+            joined h (worked law words counts gives was.waits is.waits turn h led).history,
+            now law words counts gives was.waits is.waits turn h led,
+            (λ s. refl),
+            subst (λ (w : World). LedBeside t custom cut words is.waits (joined h (worked law words counts gives was.waits is.waits turn h led).history) (record { world = w; counts = now law words counts gives was.waits is.waits turn h led })) (sym shape-after)
+                (led-after law words counts gives was.waits is.waits turn h led),
+          );
+    }
+
+    same_tick : new.tick ≡ old.tick
+    same_tick = ap (λ (w : World). w.tick) shape-after
+
+    pub in_time-then : (first : Book) → IsInTime old.tick first → book.drawn ≡ first.drawn → IsInTime new.tick book
+    in_time-then first in_time drew = in_time-after old.tick new.tick first book same_tick drew in_time
+
+    abbrev ended_by : Coordinator I → Bool
+    ended_by c = is_over (plan_of c) (cut_of c) (record (shape old) { desk = desk_of c })
+
+    pub goes-on-after : (law : StretchLaw t custom cut) (first : Book) (row row_now : List (Pass Mail)) (over : List Parcel) → ReadBy was is row row_now → IsInTime old.tick first → book.drawn ≡ first.drawn → Tells book
+        → GoesOn tells t custom cut 0 old new row row_now over over
+    goes-on-after law first row row_now over told in_time drew tells_all = record {
+      given = given;
+      draws = λ s source at. drawn s source at (nat_lt s (tasks_in_all t)) refl;
+      none = λ s off. idle s off (nat_lt s (tasks_in_all t)) refl;
+      more = [];
+      added = all.second.fates ∙ all.first.fates ∙ sym (append-nil old.fates);
+      ticks = let e = same_tick in omega arith;
+      over = λ ended. ap ended_by same_coordinator ∙ ended;
+      on = λ words counts outcomes gives has input customs fine h stands.
+          let shift : (f : Packet → ℕ) → beside_it row over f + is.waits f ≡ beside_it row_now over f + was.waits f = (λ f. let a = told.held f in let b = told.held_now f in omega arith) in
+          let did = worked law words counts gives (beside_it row over) (beside_it row_now over) shift h stands.led in
+          let through = through-after law words counts gives (beside_it row over) (beside_it row_now over) shift h stands.led row row_now told stands.through in
+          let later : Later t custom cut words outcomes row_now over 0 given counts h (shape old) after_world (has_ended new ≡ true) = record {
+            history = joined h did.history;
+            now = now law words counts gives (beside_it row over) (beside_it row_now over) shift h stands.led;
+            counted = λ s. refl;
+            stands = record {
+              led = led-after law words counts gives (beside_it row over) (beside_it row_now over) shift h stands.led;
+              through = through;
+              lasts = λ sure short. lasting-after law words counts gives (beside_it row over) (beside_it row_now over) shift h stands.led first input.valid in_time drew tells_all short (stands.lasts sure short);
+            };
+            rose = λ sure short goes. no-less-done row row_now h did.history (shape old) after_world stands.through through told.more refl;
+          } in
+          subst (λ (w : World). Later t custom cut words outcomes row_now over 0 given counts h (shape old) w (has_ended new ≡ true)) (sym shape-after) later;
     }
 
 -- ---- an engine whose seats are away, and back

@@ -4,7 +4,9 @@ pub mod Seating
 pub mod Offices
 pub mod Teaming
 pub mod Crewing
+pub mod Knowing
 pub mod Working
 pub mod Gathering
+pub mod Keeping
 pub mod Givings
 pub mod Leading

@@ -58,6 +58,7 @@ module _ {I : Type 0} {g : Ghosts I} (t : Topology) where
   at_desk n s d number task inbox adds = record {
     number = number;
     task = task;
+    inbox = inbox;
     waiting = λ f.
         let a = adds.packets f in
         let b : weigh_inbox f d.number d.inbox.items ≡ weigh_inbox f n s.inbox.items = (λ i. weigh_inbox f (number i) (inbox i).items) in omega arith;
@@ -81,6 +82,7 @@ module _ {I : Type 0} {g : Ghosts I} (t : Topology) where
   at_seat s d task inbox outbox = record {
     number = refl;
     task = sym task;
+    inbox = sym inbox;
     waiting = λ f.
         let a = weighs-flat f d.outbox in
         let b = ap (weigh_parcels f) outbox in

@@ -1,5 +1,5 @@
 -- What all workers did adds up.
-use Rattle.std.proofs.Common.{◌≡◌, ℕ, zero, suc, ◌+◌, List, [], ◌∷◌, ◌++◌, length, map, Some, sym, refl, ap, subst, arith}
+use Rattle.std.proofs.Common.{◌≡◌, ◌≤◌, ℕ, zero, suc, ◌+◌, List, [], ◌∷◌, ◌++◌, length, map, Some, sym, refl, ap, subst, arith}
 use Rattle.std.specs.Prelude.{slice_get}
 use Rattle.std.specs.List.{AllByRecursion, AllZip, range_with_len}
 use Rattle.std.specs.List.Sorted.{IsPermutation}
@@ -11,26 +11,28 @@ use Rattle.box_rows.specs.Rows.{sent_in, taken_in}
 use Rattle.counted_items.specs.Weights.{weigh}
 use Rattle.counted_items.proofs.Each.{each-append, each-back, each-front}
 use Rattle.counted_items.proofs.Weighing.{weigh-append}
+use Rattle.pulse_board.specs.declared.rule.Book.{Book}
 use Rattle.storm_ids.specs.declared.ids.Ids.{Ghosts}
 use Rattle.task_queues.specs.declared.pass.Pass.{Pass}
 use Rattle.topology_plan.specs.Topology.{Topology}
-use Rattle.tuple_account.specs.Histories.{Packet, joined, nothing}
+use Rattle.tree_model.specs.Lists.{root_of}
+use Rattle.tuple_account.specs.Histories.{Packet, Receipt, acker_of, joined, nothing}
 use Rattle.tuple_account.specs.Moves.{IsAlike, beside}
 use Rattle.tuple_account.specs.Parts.{weigh_entries}
 use Rattle.tuple_account.specs.Places.{spans}
-use Rattle.tuple_account.proofs.Moving.{drawn-both, moves-alike, moves-beside, well-nothing}
-use Rattle.worker_pool.specs.Ackers.{Ages, acker_station}
+use Rattle.tuple_account.proofs.Moving.{drawn-both, moves-alike, moves-beside, taken-joined, well-nothing}
+use Rattle.worker_pool.specs.Ackers.{Ages, CountsFew, HasYoung, acker_inbox, acker_station}
 use Rattle.worker_pool.specs.Crews.{AreGiven, AreNext, CrewDid, Gave, spans_from, sum_from}
 use Rattle.worker_pool.specs.declared.acker.AckerDesk.{AckerDesk}
 use Rattle.worker_pool.specs.declared.desk.TaskDesk.{TaskDesk}
 use Rattle.worker_pool.specs.declared.worker.Worker.{Worker}
-use Rattle.worker_pool.specs.Desks.{desk_station, given_at}
+use Rattle.worker_pool.specs.Desks.{desk_inbox, desk_station, given_at}
 use Rattle.worker_pool.specs.Workers.{Did}
 use Rattle.worker_pool.specs.Works.{ended}
 use Rattle.worker_pool.proofs.Adding.{inside-both}
 use Rattle.worker_stretches.specs.Hands.{items_in}
 use Rattle.worker_stretches.specs.Parts.{ackers_in, desks_in}
-use Rattle.worker_stretches.specs.Teams.{Aging, AreGivenNow, AreNextWords, Giving, TeamDid, Waiting, WereGiven, books_of, is_given, new_acker, new_desk, old_acker, old_desk, spans_of, team_station, was_given}
+use Rattle.worker_stretches.specs.Teams.{Aging, AreGivenNow, AreNextWords, BoxState, CountsSeen, Giving, TeamDid, WereGiven, books_of, is_given, new_acker, new_desk, old_acker, old_desk, spans_of, team_station, was_given}
 use Rattle.worker_stretches.proofs.Handing.{is_permutation, not-some, some-is}
 
 -- ---- weights by places
@@ -163,17 +165,17 @@ new-ackers (a ∷ olds) (b ∷ news) ages = ap (λ (ds : List AckerDesk). b ∷ 
 
 -- ---- a worker, and workers beside one another
 
-abbrev pub none_waits : Waiting
-none_waits f = 0
+abbrev pub no_boxes : BoxState
+no_boxes = record { waits = λ f. 0; took = λ f. 0 }
 
-abbrev pub both_wait : Waiting → Waiting → Waiting
-both_wait a b f = a f + b f
+abbrev pub all_boxes : BoxState → BoxState → BoxState
+all_boxes a b = record { waits = λ f. a.waits f + b.waits f; took = λ f. a.took f + b.took f }
 
-module _ {I : Type 0} {g : Ghosts I} (tells : I → (ℕ → ℕ) → ℕ → Type 0) (t : Topology) (custom : Custom) where
+module _ {I : Type 0} {g : Ghosts I} (tells : I → (ℕ → ℕ) → ℕ → Type 0) (t : Topology) (custom : Custom) (book : Book) where
   -- a worker
   pub team-one : (old new : List (TaskDesk I g)) (before after : List AckerDesk) (was is : List (Pass Mail)) → CrewDid tells t custom old new before after was is
-      → TeamDid tells t custom old new before after (books_of was is) (books_of is was)
-  team-one old new before after was is did =
+      → CountsSeen book before after → TeamDid tells t custom book old new before after (books_of was is) (books_of is was)
+  team-one old new before after was is did counted =
       let gave = gave-each tells did.given old new did.many did.gave in record {
         givings = givings_of tells did.given old new gave;
         olds = is_permutation (map old_desk (givings_of tells did.given old new gave)) old (olds-are tells did.given old new gave);
@@ -181,6 +183,7 @@ module _ {I : Type 0} {g : Ghosts I} (tells : I → (ℕ → ℕ) → ℕ → Ty
         agings = agings_of before after did.ages;
         befores = is_permutation (map old_acker (agings_of before after did.ages)) before (old-ackers before after did.ages);
         afters = is_permutation (map new_acker (agings_of before after did.ages)) after (new-ackers before after did.ages);
+        counted = counted;
         worked = λ counts all.
             let w = did.worked (λ n. counts (number_at tells old n)) (given-before tells counts did.given old new gave all) in record {
               history = w.history;
@@ -196,11 +199,13 @@ module _ {I : Type 0} {g : Ghosts I} (tells : I → (ℕ → ℕ) → ℕ → Ty
               given = given-after tells counts did.given old new gave w.are_given;
               drawn = λ words next. w.drawn words (next-words tells counts words did.given old new gave next);
               inside = w.inside;
+              uses = λ f. w.uses f;
+              lasts = w.lasts;
             };
       }
 
   -- nobody
-  pub team-none : TeamDid {I = I} {g = g} tells t custom [] [] [] [] none_waits none_waits
+  pub team-none : TeamDid {I = I} {g = g} tells t custom book [] [] [] [] no_boxes no_boxes
   team-none = record {
     givings = [];
     olds = IsPermutation-refl [];
@@ -208,12 +213,15 @@ module _ {I : Type 0} {g : Ghosts I} (tells : I → (ℕ → ℕ) → ℕ → Ty
     agings = [];
     befores = IsPermutation-refl [];
     afters = IsPermutation-refl [];
+    counted = λ unmarked tick seen all. all;
     worked = λ counts all. record {
       history = nothing;
       moves = record { packets = λ f. omega arith; notes = λ k. omega arith; draws = λ s j. omega arith; well = well-nothing t custom };
       given = tt;
       drawn = λ words next. record { of_begun = tt; of_runs = tt };
       inside = record { starts = refl; begun = refl; heard = refl };
+      uses = λ f. omega arith;
+      lasts = λ routed young few. (tt, refl);
     };
   }
 
@@ -221,8 +229,8 @@ module _ {I : Type 0} {g : Ghosts I} (tells : I → (ℕ → ℕ) → ℕ → Ty
   Next words counts x = x.ids ≡ map (words x.old.number) (range_with_len (was_given counts x) (length x.ids))
 
   -- side by side
-  pub team-beside : (a b c d : List (TaskDesk I g)) (p q r s : List AckerDesk) (u v x y : Waiting) → TeamDid tells t custom a b p q u v → TeamDid tells t custom c d r s x y
-      → TeamDid tells t custom (a ++ c) (b ++ d) (p ++ r) (q ++ s) (both_wait u x) (both_wait v y)
+  pub team-beside : (a b c d : List (TaskDesk I g)) (p q r s : List AckerDesk) (u v x y : BoxState) → TeamDid tells t custom book a b p q u v → TeamDid tells t custom book c d r s x y
+      → TeamDid tells t custom book (a ++ c) (b ++ d) (p ++ r) (q ++ s) (all_boxes u x) (all_boxes v y)
   team-beside a b c d p q r s u v x y one two = record {
     givings = one.givings ++ two.givings;
     olds = joins old_desk one.givings two.givings a c one.olds two.olds;
@@ -230,6 +238,8 @@ module _ {I : Type 0} {g : Ghosts I} (tells : I → (ℕ → ℕ) → ℕ → Ty
     agings = one.agings ++ two.agings;
     befores = joins old_acker one.agings two.agings p r one.befores two.befores;
     afters = joins new_acker one.agings two.agings q s one.afters two.afters;
+    counted = λ unmarked tick seen all.
+        each-append (λ (d : AckerDesk). d.counted ≤ tick) q s (one.counted unmarked tick seen (each-front (λ (d : AckerDesk). d.counted ≤ tick) p r all)) (two.counted unmarked tick seen (each-back (λ (d : AckerDesk). d.counted ≤ tick) p r all));
     worked = λ counts all.
         let m = one.worked counts (each-front (λ (x : Giving I g tells). given_at x.old ≡ ended (was_given counts x)) one.givings two.givings all) in
         let n = two.worked counts (each-back (λ (x : Giving I g tells). given_at x.old ≡ ended (was_given counts x)) one.givings two.givings all) in record {
@@ -243,14 +253,26 @@ module _ {I : Type 0} {g : Ghosts I} (tells : I → (ℕ → ℕ) → ℕ → Ty
           drawn = λ words next.
               drawn-both words m.history n.history (m.drawn words (each-front (Next words counts) one.givings two.givings next)) (n.drawn words (each-back (Next words counts) one.givings two.givings next));
           inside = inside-both m.history n.history m.inside n.inside;
+          uses = λ f.
+              let i = m.uses f in
+              let j = n.uses f in
+              let h = taken-joined f m.history n.history in
+              let e = weigh-append (λ (x : TaskDesk I g). desk_inbox x f) a c in
+              let o = weigh-append (λ (x : TaskDesk I g). desk_inbox x f) b d in
+              let k = weigh-append (λ (d : AckerDesk). acker_inbox d f) p r in
+              let l = weigh-append (λ (d : AckerDesk). acker_inbox d f) q s in omega arith;
+          lasts = λ routed young few.
+              let i = m.lasts (each-front (λ (x : Receipt). acker_of t (root_of x.message) ≡ x.acker) m.history.met n.history.met routed) (each-front (HasYoung t) p r young) (each-front (CountsFew t) q s few) in
+              let j = n.lasts (each-back (λ (x : Receipt). acker_of t (root_of x.message) ≡ x.acker) m.history.met n.history.met routed) (each-back (HasYoung t) p r young) (each-back (CountsFew t) q s few) in
+              (each-append (HasYoung t) q s i.0 j.0, (λ o. i.1 o ++ j.1 o));
         };
   }
     where
       joins : {X Y : Type 0} (f : X → Y) (xs ys : List X) (us vs : List Y) → IsPermutation (map f xs) us → IsPermutation (map f ys) vs → IsPermutation (map f (xs ++ ys)) (us ++ vs)
       joins f xs ys us vs one two = subst (λ zs. IsPermutation zs (us ++ vs)) (sym (map-append f xs ys)) (IsPermutation-append (map f xs) us (map f ys) vs one two)
 
-      alike : (ds es : List (TaskDesk I g)) (ks ls : List AckerDesk) (w z : Waiting) (count : Giving I g tells → ℕ) (xs ys : List (Giving I g tells))
-          → IsAlike (beside (team_station ds ks w (spans_of count xs)) (team_station es ls z (spans_of count ys))) (team_station (ds ++ es) (ks ++ ls) (both_wait w z) (spans_of count (xs ++ ys)))
+      alike : (ds es : List (TaskDesk I g)) (ks ls : List AckerDesk) (w z : BoxState) (count : Giving I g tells → ℕ) (xs ys : List (Giving I g tells))
+          → IsAlike (beside (team_station ds ks w (spans_of count xs)) (team_station es ls z (spans_of count ys))) (team_station (ds ++ es) (ks ++ ls) (all_boxes w z) (spans_of count (xs ++ ys)))
       alike ds es ks ls w z count xs ys = record {
         waiting = λ f.
             let a = weigh-append (λ (d : TaskDesk I g). (desk_station 0 d).waiting f) ds es in
@@ -260,34 +282,44 @@ module _ {I : Type 0} {g : Ghosts I} (tells : I → (ℕ → ℕ) → ℕ → Ty
       }
 
   -- all workers
-  abbrev pub all_books : List (Worker I g) → List (Worker I g) → Waiting
-  all_books senders takers f = weigh (λ (w : Worker I g). sent_in w.row.items f) senders + weigh (λ (w : Worker I g). taken_in w.row.items f) takers
+  abbrev pub all_books : List (Worker I g) → List (Worker I g) → BoxState
+  all_books rows others = record {
+    waits = λ f. weigh (λ (w : Worker I g). sent_in w.row.items f) rows + weigh (λ (w : Worker I g). taken_in w.row.items f) others;
+    took = λ f. weigh (λ (w : Worker I g). taken_in w.row.items f) rows;
+  }
 
-  pub team-weights : (old new : List (TaskDesk I g)) (before after : List AckerDesk) (u v x y : Waiting) → TeamDid tells t custom old new before after u v → ((f : Packet → ℕ) → u f + y f ≡ v f + x f) → TeamDid tells t custom old new before after x y
-  team-weights old new before after u v x y did same = record {
+  pub team-weights : (old new : List (TaskDesk I g)) (before after : List AckerDesk) (u v x y : BoxState) → TeamDid tells t custom book old new before after u v → ((f : Packet → ℕ) → u.waits f + y.waits f ≡ v.waits f + x.waits f) → ((f : Packet → ℕ) → u.took f + y.took f ≡ v.took f + x.took f) → TeamDid tells t custom book old new before after x y
+  team-weights old new before after u v x y did same took = record {
     givings = did.givings;
     olds = did.olds;
     news = did.news;
     agings = did.agings;
     befores = did.befores;
     afters = did.afters;
+    counted = did.counted;
     worked = λ counts all. let w = did.worked counts all in record {
       history = w.history;
       moves = record { packets = λ f. let p = w.moves.packets f in let e = same f in omega arith; notes = w.moves.notes; draws = w.moves.draws; well = w.moves.well };
       given = w.given;
       drawn = w.drawn;
       inside = w.inside;
+      uses = λ f. let u = w.uses f in let k = took f in omega arith;
+      lasts = w.lasts;
     };
   }
 
-  pub team-all : (olds news : List (Worker I g)) → AllZip (Did tells t custom) olds news
-      → TeamDid tells t custom (items_in (map desks_in olds)) (items_in (map desks_in news)) (items_in (map ackers_in olds)) (items_in (map ackers_in news)) (all_books olds news) (all_books news olds)
-  team-all [] [] did = team-weights [] [] [] [] none_waits none_waits (all_books [] []) (all_books [] []) team-none (λ f. omega arith)
+  -- a worker did what it did, and counted no ticks but those that a seat with this book has seen
+  abbrev pub DidSeen : Worker I g → Worker I g → Type 0
+  DidSeen a b = Did tells t custom a b × CountsSeen book a.ackers.items b.ackers.items
+
+  pub team-all : (olds news : List (Worker I g)) → AllZip DidSeen olds news
+      → TeamDid tells t custom book (items_in (map desks_in olds)) (items_in (map desks_in news)) (items_in (map ackers_in olds)) (items_in (map ackers_in news)) (all_books olds news) (all_books news olds)
+  team-all [] [] did = team-weights [] [] [] [] no_boxes no_boxes (all_books [] []) (all_books [] []) team-none (λ f. omega arith) (λ f. omega arith)
   team-all [] (b ∷ news) did = absurd did
   team-all (a ∷ olds) [] did = absurd did
   team-all (a ∷ olds) (b ∷ news) did =
-      let one = team-one a.desks.items b.desks.items a.ackers.items b.ackers.items a.row.items b.row.items did.0 in
+      let one = team-one a.desks.items b.desks.items a.ackers.items b.ackers.items a.row.items b.row.items did.0.0 did.0.1 in
       let rest = team-all olds news did.1 in
       let pair = team-beside a.desks.items b.desks.items (items_in (map desks_in olds)) (items_in (map desks_in news)) a.ackers.items b.ackers.items (items_in (map ackers_in olds)) (items_in (map ackers_in news))
       (books_of a.row.items b.row.items) (books_of b.row.items a.row.items) (all_books olds news) (all_books news olds) one rest in
-      team-weights _ _ _ _ _ _ (all_books (a ∷ olds) (b ∷ news)) (all_books (b ∷ news) (a ∷ olds)) pair (λ f. omega arith)
+      team-weights _ _ _ _ _ _ (all_books (a ∷ olds) (b ∷ news)) (all_books (b ∷ news) (a ∷ olds)) pair (λ f. omega arith) (λ f. omega arith)

@@ -11,6 +11,7 @@ use Rattle.event_worlds.specs.Accounted.{IsInput}
 use Rattle.event_worlds.specs.Beside.{LedBeside}
 use Rattle.output_collector.specs.Draws.{Draws}
 use Rattle.state_parts.specs.declared.answer.CommitOutcome.{CommitOutcome}
+use Rattle.pulse_board.specs.declared.rule.Book.{Book}
 use Rattle.storm_ids.specs.declared.ids.Ids.{Ghosts}
 use Rattle.topology_plan.specs.Topology.{Topology}
 use Rattle.trident_batches.specs.Batches.{Cut}
@@ -18,13 +19,13 @@ use Rattle.tuple_account.specs.Histories.{History}
 use Rattle.worker_pool.specs.declared.acker.AckerDesk.{AckerDesk}
 use Rattle.worker_pool.specs.declared.desk.TaskDesk.{TaskDesk}
 use Rattle.worker_stretches.specs.Places.{IsAckerAt, IsTaskAt, ZipFrom}
-use Rattle.worker_stretches.specs.Teams.{TeamDid, Waiting}
+use Rattle.worker_stretches.specs.Teams.{BoxState, TeamDid, Waiting}
 
 module _ {I : Type 0} {g : Ghosts I} where
   -- The tasks and ackers of seats did what they did, at desks, and are at their seats again.
   pub record SeatsDid (tells : I → (ℕ → ℕ) → ℕ → Type 0) (t : Topology) (custom : Custom)
-      (old new : List (TaskSeat I g)) (before after : List AckerSeat) (was is : Waiting)
-      : Type 0 where
+      (book : Book) (old new : List (TaskSeat I g)) (before after : List AckerSeat)
+      (was is : BoxState) : Type 0 where
     pub old_desks : List (TaskDesk I g)
     pub new_desks : List (TaskDesk I g)
     pub old_places : List AckerDesk
@@ -33,7 +34,7 @@ module _ {I : Type 0} {g : Ghosts I} where
     pub new_at : ZipFrom IsTaskAt 0 new new_desks
     pub before_at : ZipFrom IsAckerAt 0 before old_places
     pub after_at : ZipFrom IsAckerAt 0 after new_places
-    pub did : TeamDid tells t custom old_desks new_desks old_places new_places was is
+    pub did : TeamDid tells t custom book old_desks new_desks old_places new_places was is
 
   -- An engine went on, with what waits beside it: sources gave words, attempts ended, and whatever
   -- led to the first leads to the second.

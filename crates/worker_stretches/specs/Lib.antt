@@ -3,3 +3,4 @@ pub mod Places
 pub mod Teams
 pub mod Parts
 pub mod Leads
+pub mod Standing

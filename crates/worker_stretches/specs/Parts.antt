@@ -26,6 +26,11 @@ pub record IsWholeSeat (board : Board) (seat : BoardSeat) : Type 0 where
   pub of_board : IsSeatOf board seat
   pub whole : IsWhole (numbers_in (book_of seat))
 
+-- a book knows what another does: where its seat saw no wrapped count the other's saw none, and no
+-- greater count
+abbrev pub Knows : Book → Book → Type 0
+Knows book other = book.wrapped ≡ false → (other.wrapped ≡ false) × (other.seen ≤ book.seen)
+
 module _ {I : Type 0} {g : Ghosts I} where
   abbrev pub desks_in : Worker I g → Vec (TaskDesk I g) Global
   desks_in w = w.desks
@@ -61,11 +66,20 @@ module _ {I : Type 0} {g : Ghosts I} where
     pub for_hands : count ≤ vec_capacity hands
     pub for_offices : count ≤ vec_capacity offices
 
-  -- a worker's row and seat are of these boxes and this board
+  -- a worker's seat drew no tick
+  abbrev pub DrewNone : Worker I g → Type 0
+  DrewNone w = (book_of w.seat).drawn ≡ []
+
+  -- a book knows what that of a worker's seat does
+  abbrev pub KnowsOf : Book → Worker I g → Type 0
+  KnowsOf book w = Knows book (book_of w.seat)
+
+  -- a worker's row and seat are of these boxes and this board, and it drew no tick
   pub record IsOf (t : Topology) (boxes : List (Mailbox Mail)) (board : Board) (w : Worker I g)
       : Type 0 where
     pub passes : ArePasses t boxes w.row.items
     pub seat : IsSeatOf board w.seat
+    pub drawn : DrewNone w
 
   -- a worker did not want memory
   abbrev pub HasEnough : Worker I g → Type 0

@@ -46,6 +46,7 @@ module _ {I : Type 0} {g : Ghosts I} where
   pub record IsTaskAt (n : ℕ) (s : TaskSeat I g) (d : TaskDesk I g) : Type 0 where
     pub number : d.number ≡ n
     pub task : d.task ≡ s.task
+    pub inbox : d.inbox ≡ s.inbox
     pub waiting : (f : Packet → ℕ) → (desk_station 0 d).waiting f
         ≡ weigh_inbox f n s.inbox.items + weigh_parcels f s.outbox.items
 

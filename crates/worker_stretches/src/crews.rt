@@ -1,18 +1,20 @@
 //! Workers made of hands, rows and seats, their stretch, and what they leave.
 ghost use Rattle.std.specs.Prelude.{◌≡◌, ◌≤◌, ◌+◌, [], false, length, map, vec_capacity};
-ghost use Rattle.std.specs.Prelude.{IfOk};
+ghost use Rattle.std.specs.Prelude.{IfOk, OnOk};
 ghost use Rattle.std.specs.List.{AllByRecursion, AllZip};
 ghost use Rattle.std.specs.List.Sorted.{IsPermutation};
 ghost use Rattle.box_rows.specs.AllRows.{ArePassesIn, HasJoined};
-ghost use Rattle.box_rows.specs.FitRows.{AreWhole, IsFitRow, held_in};
+ghost use Rattle.box_rows.specs.FitRows.{AreWhole, IsFitRow};
 ghost use Rattle.box_rows.specs.Mails.{last_box};
 ghost use Rattle.box_rows.specs.Rows.{ArePasses};
-ghost use Rattle.pulse_board.specs.Seats.{IsSeatOf};
+ghost use Rattle.pulse_board.specs.Books.{Tells};
+ghost use Rattle.pulse_board.specs.Seats.{IsSeatOf, book_of};
 ghost use Rattle.worker_pool.specs.Workers.{IsReady, Stretched};
 ghost use Rattle.worker_stretches.specs.Hands.{items_in};
 ghost use Rattle.worker_stretches.specs.Parts.{AreHands, AreRooms, HaveNumbers, IsOf, IsWholeSeat};
-ghost use Rattle.worker_stretches.specs.Parts.{HasEnough, ackers_in, desks_in, row_in};
-ghost use Rattle.worker_stretches.specs.Teams.{TeamDid, books_of};
+ghost use Rattle.worker_stretches.specs.Parts.{DrewNone, HasEnough, KnowsOf};
+ghost use Rattle.worker_stretches.specs.Parts.{ackers_in, desks_in, row_in};
+ghost use Rattle.worker_stretches.specs.Teams.{TakesMore, TeamDid, books_of, boxes_of};
 
 use bolt_ops::RowOp;
 use box_rows::{Posts, Row, join_row, look_row, split_rows};
@@ -45,6 +47,8 @@ fn crews_of<'p, I: Ids>(
     requires empty { room.items ≡ [] }
     requires room { length hands.items ≤ vec_capacity room }
     ensures seat { IsSeatOf board.now seat.new }
+    ensures drawn { (book_of seat.new).drawn ≡ (book_of seat.old).drawn }
+    ensures none_drawn { AllByRecursion DrewNone result.items }
     ensures numbers { HaveNumbers seat.new result.items }
     ensures ready { AllByRecursion
         (IsReady posts.now.plan.now posts.now.boxes.items board.now) result.items }
@@ -126,6 +130,8 @@ fn taken_apart<'p, I: Ids>(
     ensures passes { ArePasses posts.now.plan.now posts.now.boxes.items row.new.items }
     ensures joined { HasJoined row.old.items (map row_in crews.entry.items) row.new.items [] }
     ensures seat { IsWholeSeat board.now seat.new }
+    ensures drawn { (book_of seat.new).drawn ≡ (book_of seat.old).drawn }
+    ensures knows { AllByRecursion (KnowsOf (book_of seat.new)) crews.entry.items }
     ensures desks { IsPermutation (items_in (map desks_in crews.entry.items))
         (items_in result.0.items) }
     ensures ackers { IsPermutation (items_in (map ackers_in crews.entry.items))
@@ -177,7 +183,8 @@ fn rooms<'p, I: Ids>(
 }
 
 // Workers with these hands have a stretch over a row, which has all numbers again after it, as the
-// seat has, whatever comes of it.
+// seat has, whatever comes of it. Then the seat looks how many ticks there were, no fewer than any
+// worker has seen.
 fn work_rows<'p, I: Ids + Send, R: Threads + Wait + Sync, O: RowOp + Sync, G: Gate>(
     rt: &R,
     alloc: Global,
@@ -196,12 +203,15 @@ fn work_rows<'p, I: Ids + Send, R: Threads + Wait + Sync, O: RowOp + Sync, G: Ga
     ensures passes { ArePasses posts.now.plan.now posts.now.boxes.items row.new.items }
     ensures whole { AreWhole row.new.items }
     ensures seat { IsWholeSeat board.now seat.new }
+    ensures drawn { (book_of seat.new).drawn ≡ (book_of seat.old).drawn }
+    ensures tells { OnOk result (Tells (book_of seat.new)) }
+    ensures more { OnOk result (TakesMore row.old.items row.new.items) }
     ensures hands { IfOk result (λ left.
         AreHands posts.now.plan.now left.0.items left.1.items) }
     ensures did { IfOk result (λ left. TeamDid I.tells posts.now.plan.now
-        (O.meaning custom.now) (items_in hands.entry.items) (items_in left.0.items)
-        (items_in offices.items) (items_in left.1.items) (books_of row.old.items row.new.items)
-        (books_of row.new.items row.old.items)) }
+        (O.meaning custom.now) (book_of seat.new) (items_in hands.entry.items)
+        (items_in left.0.items) (items_in offices.items) (items_in left.1.items)
+        (books_of row.old.items row.new.items) (books_of row.new.items row.old.items)) }
 {
     let count = hands.len();
     let (room, given, met) = rooms(alloc, count)?;
@@ -209,6 +219,7 @@ fn work_rows<'p, I: Ids + Send, R: Threads + Wait + Sync, O: RowOp + Sync, G: Ga
     let mut crews = crews_of(alloc, posts, board, seat, rows, hands, offices, room);
     work(rt, posts, board, &mut crews, custom, gate);
     let (left, more, wants) = taken_apart(posts, board, row, seat, crews, given, met);
+    board.ticks(seat);
     if wants {
         return Err(AllocError);
     }
@@ -233,12 +244,15 @@ pub(crate) fn work_hands<'p, I: Ids + Send, R: Threads + Wait + Sync, O: RowOp +
     requires hands { AreHands posts.now.plan.now hands.items offices.items }
     ensures row { IsFitRow posts.now.plan.now posts.now.boxes.items row.new.items }
     ensures seat { IsWholeSeat board.now seat.new }
+    ensures drawn { (book_of seat.new).drawn ≡ (book_of seat.old).drawn }
+    ensures tells { OnOk result (Tells (book_of seat.new)) }
+    ensures more { OnOk result (TakesMore row.old.items row.new.items) }
     ensures hands { IfOk result (λ left.
         AreHands posts.now.plan.now left.0.items left.1.items) }
     ensures did { IfOk result (λ left. TeamDid I.tells posts.now.plan.now
-        (O.meaning custom.now) (items_in hands.entry.items) (items_in left.0.items)
-        (items_in offices.items) (items_in left.1.items) (held_in row.old.items)
-        (held_in row.new.items)) }
+        (O.meaning custom.now) (book_of seat.new) (items_in hands.entry.items)
+        (items_in left.0.items) (items_in offices.items) (items_in left.1.items)
+        (boxes_of row.old.items) (boxes_of row.new.items)) }
 {
     let done = work_rows(
         rt, alloc, posts, board, row, seat, hands, offices, custom, gate,

@@ -1,11 +1,16 @@
 //! One stretch of all workers over the seats of an engine.
-ghost use Rattle.std.specs.Prelude.{◌≡◌, ◌<◌, ◌≤◌, IfOk, OnOk};
+ghost use Rattle.std.specs.Prelude.{◌≡◌, ◌<◌, ◌≤◌, List, IfOk, OnOk};
 ghost use Rattle.std.specs.List.{AllByRecursion};
 ghost use Rattle.box_rows.specs.FitRows.{IsFitRow, held_in};
 ghost use Rattle.event_engine.specs.Engines.{IsReady, IsStill, cut_in};
+ghost use Rattle.pulse_board.specs.Books.{Tells};
+ghost use Rattle.pulse_board.specs.Seats.{book_of};
+ghost use Rattle.tree_model.specs.declared.messages.Parcel.{Parcel};
 ghost use Rattle.worker_stretches.specs.Parts.{AreHands, IsWholeSeat};
 ghost use Rattle.worker_stretches.specs.Places.{AreAllSeats, AreInHands, HaveAll, IsSilent};
 ghost use Rattle.worker_stretches.specs.Leads.{Leads, SeatsDid};
+ghost use Rattle.worker_stretches.specs.Standing.{GoesOn, IsInTime};
+ghost use Rattle.worker_stretches.specs.Teams.{TakesMore, boxes_of};
 
 use crate::ackers::{backs_of, offices_of};
 use crate::crews::work_hands;
@@ -88,12 +93,15 @@ fn stretch_seats<'p, I: Ids + Send, R: Threads + Wait + Sync, O: RowOp + Sync, G
     requires seat { IsWholeSeat board.now seat.old }
     ensures row { IsFitRow posts.now.plan.now posts.now.boxes.items row.new.items }
     ensures seat { IsWholeSeat board.now seat.new }
+    ensures drawn { (book_of seat.new).drawn ≡ (book_of seat.old).drawn }
+    ensures tells { OnOk result (Tells (book_of seat.new)) }
+    ensures more { OnOk result (TakesMore row.old.items row.new.items) }
     ensures seats { IfOk result (λ left.
         AreAllSeats posts.now.plan.now left.0.items left.1.items) }
     ensures silent { IfOk result (λ left. AllByRecursion IsSilent left.1.items) }
     ensures did { IfOk result (λ left. SeatsDid I.tells posts.now.plan.now
-        (O.meaning custom.now) tasks.entry.items left.0.items ackers.items left.1.items
-        (held_in row.old.items) (held_in row.new.items)) }
+        (O.meaning custom.now) (book_of seat.new) tasks.entry.items left.0.items ackers.items
+        left.1.items (boxes_of row.old.items) (boxes_of row.new.items)) }
 {
     let (hands, offices) = dealt(alloc, posts.plan, tasks, ackers, workers)?;
     let (left, more) = work_hands(
@@ -105,7 +113,7 @@ fn stretch_seats<'p, I: Ids + Send, R: Threads + Wait + Sync, O: RowOp + Sync, G
 
 /// One stretch of so many workers, over an engine whose seats are lent to them. Whatever is
 /// answered, the row and the seat at the board have all numbers again. Without memory the engine
-/// may have lost seats.
+/// may have lost seats. The seat draws all ticks, and the engine counts them.
 pub fn stretch_once<'p, I: Ids + Send, R: Threads + Wait + Sync, O: RowOp + Sync, G: Gate>(
     rt: &R,
     alloc: Global,
@@ -121,10 +129,12 @@ pub fn stretch_once<'p, I: Ids + Send, R: Threads + Wait + Sync, O: RowOp + Sync
     requires ready { IsReady posts.now.plan.now (cut_in engine.old) engine.old }
     requires row { IsFitRow posts.now.plan.now posts.now.boxes.items row.old.items }
     requires seat { IsWholeSeat board.now seat.old }
+    requires in_time { IsInTime engine.old.tick (book_of seat.old) }
     requires some { 1 ≤ workers }
     requires few { workers ≤ 64 }
     ensures row { IsFitRow posts.now.plan.now posts.now.boxes.items row.new.items }
     ensures seat { IsWholeSeat board.now seat.new }
+    ensures in_time { OnOk result (IsInTime engine.new.tick (book_of seat.new)) }
     ensures still { IsStill engine.old engine.new }
     ensures ready { OnOk result
         (IsReady posts.now.plan.now (cut_in engine.old) engine.new) }
@@ -132,6 +142,11 @@ pub fn stretch_once<'p, I: Ids + Send, R: Threads + Wait + Sync, O: RowOp + Sync
     ensures leads { OnOk result (Leads I.tells posts.now.plan.now (O.meaning custom.now)
         (cut_in engine.old) engine.old engine.new (held_in row.old.items)
         (held_in row.new.items)) }
+
+    // What stood at the engine beside the boxes stands again, whatever is still to be handed over.
+    ensures goes_on { (left : List Parcel) → OnOk result (GoesOn I.tells posts.now.plan.now
+        (O.meaning custom.now) (cut_in engine.old) 0 engine.old engine.new row.old.items
+        row.new.items left left) }
 {
     // a law: what work moves in a world and beside it leads on
     stretches_lead_on();

@@ -1,7 +1,10 @@
-use Rattle.std.proofs.Common.{rules, false, ◌<◌, length, subst, sym, refl, arith}
+use Rattle.std.proofs.Common.{rules, false, ◌<◌, length, subst, sym, refl, ap, ◌∙◌, arith}
 use Rattle.std.specs.Prelude.{vec_capacity}
+use Rattle.std.specs.List.{AllByRecursion}
+use Rattle.pulse_board.specs.declared.rule.Book.{Book}
+use Rattle.worker_stretches.specs.Parts.{DrewNone}
 use Rattle.worker_stretches.proofs.Crewing.{Crewing, all-crewed, crewing-more, crewing-none, some-left}
-use Rattle.worker_stretches.proofs.Zipping.{at_front, comes, none_left}
+use Rattle.worker_stretches.proofs.Zipping.{at_front, comes, each-last, none_left}
 use Rattle.worker_stretches.proofs.crews.crews_of.Goals as goal
 
 pub loop-row-init : goal.loop-row-init
@@ -12,6 +15,8 @@ loop-row-init g c = record {
       (subst (λ xs. Crewing c.args.posts.now.plan.now c.args.posts.now.boxes.items c.args.board.now c.args.rows.items c.args.hands.items c.args.offices.items c.args.rows.items c.args.hands.items xs c.args.room.items c.args.seat.now) (sym c.from_vec-more.ensures.items)
       (subst (λ xs. Crewing c.args.posts.now.plan.now c.args.posts.now.boxes.items c.args.board.now c.args.rows.items c.args.hands.items c.args.offices.items c.args.rows.items c.args.hands.items c.args.offices.items xs c.args.seat.now) (sym c.requires.empty)
       (crewing-none c.args.posts.now.plan.now c.args.posts.now.boxes.items c.args.board.now c.args.rows.items c.args.hands.items c.args.offices.items c.args.seat.now c.requires.rows c.requires.hands c.requires.many c.requires.seat))));
+  drawn = refl;
+  none = subst (AllByRecursion DrewNone) (sym c.requires.empty) tt;
   room = c.requires.room;
 }
 
@@ -49,6 +54,10 @@ loop-row-preserved g c = record {
       (at_front c.loop-row.left.items c.pop_front-in-Some.new.self.items c.pop_front-in-Some.result c.unwrap-desks.result c.pop_front-in-Some.ensures.items c.unwrap-desks.ensures)
       (at_front c.loop-row.more.items c.pop_front-in-Some-2.new.self.items c.pop_front-in-Some-2.result c.unwrap-ackers.result c.pop_front-in-Some-2.ensures.items c.unwrap-ackers.ensures)
       c.requires.boxes refl c.split-own.ensures.seat c.split-own.ensures.new_seat c.split-own.ensures.numbered);
+  drawn = ap (λ (b : Book). b.drawn) c.split-own.ensures.book ∙ c.loop-row.invariant.drawn;
+  none = subst (AllByRecursion DrewNone) (sym c.push_reserved.ensures.items)
+      (each-last DrewNone c.loop-row.crews.items (record { desks = c.unwrap-desks.result; ackers = c.unwrap-ackers.result; row = c.in-Some.row; seat = c.split-own.result; spares = c.new.result; turns = 0; wants = false })
+      c.loop-row.invariant.none (ap (λ (b : Book). b.drawn) c.split-own.ensures.new_book));
   room = let e = c.loop-row.invariant.room in search rules;
 }
 
@@ -58,6 +67,8 @@ returns g c =
     let all = all-crewed c.args.posts.now.plan.now c.args.posts.now.boxes.items c.args.board.now c.args.rows.items c.args.hands.items c.args.offices.items c.loop-row.rest.items c.loop-row.left.items c.loop-row.more.items c.loop-row.crews.items c.loop-row.seat
     c.loop-row.invariant.crewing none in record {
       seat = c.loop-row.invariant.crewing.seat;
+      drawn = c.loop-row.invariant.drawn;
+      none_drawn = c.loop-row.invariant.none;
       numbers = c.loop-row.invariant.crewing.numbers;
       ready = c.loop-row.invariant.crewing.ready;
       rows = all.0;

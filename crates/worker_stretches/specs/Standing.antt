@@ -1,0 +1,119 @@
+-- An engine beside boxes, between stretches: what led to it, where all is that was taken from the
+-- boxes, and that nothing was lost. This project's own.
+use Rattle.std.specs.Prelude.{◌≡◌, ◌≤◌, ◌<◌, ◌^◌, ℕ, ◌+◌, ◌-◌, min, true, List, [], ◌∷◌, ◌++◌, All, length, Some, None, slice_get}
+use Rattle.std.specs.List.{AllByRecursion}
+use Rattle.attempt_fates.specs.declared.fates.Attempt.{Attempt}
+use Rattle.bolt_ops.specs.RowOp.{Custom, IsCustom}
+use Rattle.box_rows.specs.declared.mail.Mail.{Mail}
+use Rattle.box_rows.specs.FitRows.{held_in}
+use Rattle.box_rows.specs.Rows.{taken_in}
+use Rattle.commit_turns.specs.Outcomes.{IsOutcome}
+use Rattle.counted_items.specs.Weights.{weigh}
+use Rattle.event_engine.specs.declared.engine.Engine.{Engine}
+use Rattle.event_engine.specs.Engines.{Gives, HasOutcomes, has_ended, shape, sources}
+use Rattle.event_worlds.specs.Accounted.{IsInput}
+use Rattle.event_worlds.specs.Beside.{LedBeside}
+use Rattle.event_worlds.specs.Worlds.{AckerSide, Known, TaskSide, World}
+use Rattle.output_collector.specs.Draws.{Draws}
+use Rattle.pulse_board.specs.declared.rule.Book.{Book}
+use Rattle.state_parts.specs.declared.answer.CommitOutcome.{CommitOutcome}
+use Rattle.state_parts.specs.declared.answer.CommitOutcome.TheVariants.{Done}
+use Rattle.storm_ids.specs.declared.ids.Ids.{Ghosts}
+use Rattle.task_queues.specs.declared.pass.Pass.{Pass}
+use Rattle.topology_plan.specs.Topology.{Topology}
+use Rattle.tree_model.specs.declared.messages.AckMsg.{AckMsg}
+use Rattle.tree_model.specs.declared.messages.Parcel.{Parcel}
+use Rattle.tree_model.specs.declared.messages.Parcel.TheVariants.{ToTask, ToAcker}
+use Rattle.tree_model.specs.declared.messages.Tuple.{Tuple}
+use Rattle.trident_batches.specs.Batches.{Cut}
+use Rattle.tuple_account.specs.Histories.{History, Packet, of_parcel, of_verdict, taken, weigh_parcels}
+use Rattle.world_progress.specs.Doing.{done}
+use Rattle.world_progress.specs.Lasting.{AreSeats, IsFine}
+use Rattle.worker_stretches.specs.Teams.{Waiting}
+
+-- ---- what waits, and what stands in inboxes
+
+-- what waits beside an engine: what boxes hold, and parcels that are still to be handed over
+abbrev pub beside_it : List (Pass Mail) → List Parcel → Waiting
+beside_it row left f = held_in row f + weigh_parcels f left
+
+-- what stands in the inboxes of tasks from a number on
+abbrev pub weigh_task_inboxes : (Packet → ℕ) → ℕ → List TaskSide → ℕ
+weigh_task_inboxes f n [] = 0
+weigh_task_inboxes f n (side ∷ sides) =
+    weigh (λ (tuple : Tuple). f (of_parcel (ToTask n tuple))) side.inbox
+    + weigh_task_inboxes f (n + 1) sides
+
+-- the same of ackers
+abbrev pub weigh_acker_inboxes : (Packet → ℕ) → ℕ → List AckerSide → ℕ
+weigh_acker_inboxes f n [] = 0
+weigh_acker_inboxes f n (side ∷ sides) =
+    weigh (λ (m : AckMsg). f (of_parcel (ToAcker n m))) side.inbox
+    + weigh_acker_inboxes f (n + 1) sides
+
+-- what stands in all inboxes, the coordinator's with it
+abbrev pub weigh_inboxes : (Packet → ℕ) → World → ℕ
+weigh_inboxes f w =
+    weigh_task_inboxes f 0 w.tasks
+    + (weigh_acker_inboxes f 0 w.ackers + weigh (λ v. f (of_verdict v)) w.verdicts)
+
+-- ---- what stands
+
+-- nothing was lost: entries are young, none was dropped, and no commit failed
+pub record IsLasting (t : Topology) (h : History) (w : World) : Type 0 where
+  pub seats : AreSeats t w
+  pub whole : h.dropped ≡ []
+  pub fine : AllByRecursion IsFine w.fates
+
+-- A history led to a world and to what waits beside it. All that was taken from boxes was executed,
+-- met or heard, or stands in an inbox. Where no commit fails, and fewer ticks passed than there are
+-- buckets, nothing was lost.
+pub record Stands (t : Topology) (custom : Custom) (cut : Cut) (words : ℕ → ℕ → ℕ)
+    (outcomes : List CommitOutcome) (row : List (Pass Mail)) (left : List Parcel) (h : History)
+    (k : Known) : Type 0 where
+  pub led : LedBeside t custom cut words (beside_it row left) h k
+  pub through : (f : Packet → ℕ) → taken_in row f ≡ taken f h + weigh_inboxes f k.world
+  pub lasts : All (λ (how : CommitOutcome). how ≡ Done) outcomes → k.world.tick < t.buckets
+      → IsLasting t h k.world
+
+-- a seat at the board drew a number for each tick, up to 2^64 - 1
+abbrev pub IsInTime : ℕ → Book → Type 0
+IsInTime tick book = tick ≡ min (length book.drawn) (2 ^ 64 - 1)
+
+-- ---- how it goes on
+
+-- Later a history led to a world, and no less was done, or so much more where all is not over.
+pub record Later (t : Topology) (custom : Custom) (cut : Cut) (words : ℕ → ℕ → ℕ)
+    (outcomes : List CommitOutcome) (row : List (Pass Mail)) (left : List Parcel) (least : ℕ)
+    (given : ℕ → List ℕ) (counts : ℕ → ℕ) (h : History) (was is : World) (over : Type 0)
+    : Type 0 where
+  pub history : History
+  pub now : ℕ → ℕ
+  pub counted : (s : ℕ) → now s ≡ counts s + length (given s)
+  pub stands : Stands t custom cut words outcomes row left history
+      (record { world = is; counts = now })
+  pub rose : All (λ (how : CommitOutcome). how ≡ Done) outcomes → is.tick < t.buckets
+      → (over → ⊥) → done h was + least ≤ done history is
+
+module _ {I : Type 0} {g : Ghosts I} where
+  -- An engine went on beside boxes: sources gave words, attempts ended, and what stood stands
+  -- still, with so much more done where all is not over.
+  pub record GoesOn (tells : I → (ℕ → ℕ) → ℕ → Type 0) (t : Topology) (custom : Custom) (cut : Cut)
+      (least : ℕ) (old new : Engine I g) (was is : List (Pass Mail)) (left now_left : List Parcel)
+      : Type 0 where
+    pub given : ℕ → List ℕ
+    pub draws : (s : ℕ) (source : I) → slice_get (sources old) s ≡ Some source
+        → (then : I) × (slice_get (sources new) s ≡ Some then) × Draws tells source (given s) then
+    pub none : (s : ℕ) → slice_get (sources old) s ≡ None
+        → (given s ≡ []) × (slice_get (sources new) s ≡ None)
+    pub more : List Attempt
+    pub added : new.fates ≡ old.fates ++ more
+    pub ticks : old.tick ≤ new.tick
+    pub over : has_ended old ≡ true → has_ended new ≡ true
+    pub on : (words : ℕ → ℕ → ℕ) (counts : ℕ → ℕ) (outcomes : List CommitOutcome)
+        → Gives words counts given → HasOutcomes outcomes new.fates
+        → IsInput t cut → IsCustom custom → All (IsOutcome t) outcomes → (h : History)
+        → Stands t custom cut words outcomes was left h
+        (record { world = shape old; counts = counts })
+        → Later t custom cut words outcomes is now_left least given counts h (shape old)
+        (shape new) (has_ended new ≡ true)
