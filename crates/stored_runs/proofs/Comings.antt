@@ -13,7 +13,7 @@ use Rattle.event_worlds.specs.Rounds.{HasRounds, rounds_needed, ticks_in}
 use Rattle.event_worlds.specs.Worlds.{Step}
 use Rattle.schedule_core.specs.declared.ended.Ended.{Ended}
 use Rattle.schedule_core.specs.declared.ended.Ended.TheVariants as ended
-use Rattle.schedule_core.specs.Runs.{Answers, HasRoundsOf, RoundsCome, RunComes, committed_count, ended as ended_of, first_answers}
+use Rattle.schedule_core.specs.Runs.{Answers, HasRoundsOf, RoundsCome, RunTells, committed_count, ended as ended_of, first_answers}
 use Rattle.schedule_core.specs.Schedules.{HadMemory, IsAnswer, IsOfWorld}
 use Rattle.state_parts.specs.Commits.{SameCounts}
 use Rattle.state_parts.specs.declared.parts.StatePart.{StatePart}
@@ -62,15 +62,21 @@ MetNoBadCell (end.Unfinished k) = Unit {0}
 MetNoBadCell end.StoreFault = Unit {0}
 MetNoBadCell (end.BadCell key) = ⊥
 
--- A run over parts came to an answer, by the words that sources of ids told.
+-- What a run over parts told of its answer, also by the words that sources of ids told.
 pub record Ran {S : Type 0} (tells : S → CellMap → Type 0) (count : S → ℕ) (t : Topology)
-    (custom : Custom) (cut : Cut) (told : (ℕ → ℕ → ℕ) → Type 0) (steps : List Step) (ticks : ℕ)
+    (custom : Custom) (cut : Cut) (told : (ℕ → ℕ → ℕ) → Type 0) (ticks : ℕ)
     (answer : Result Ended Stop) (fates : List Attempt) (old new : List (StatePart S))
     : Type 0 where
-  pub comes : RunComes tells count t custom cut steps ticks answer fates old new
+  pub told_so : RunTells tells count t custom cut ticks answer fates old new
   pub drawn : (words : ℕ → ℕ → ℕ) → told words → HadMemory answer
       → AreCaused t custom cut ticks words fates
-  pub of_told : (words : ℕ → ℕ → ℕ) → told words → IsAnswer answer
+
+-- It is the run of a world by these steps.
+pub record OfWorld (t : Topology) (custom : Custom) (cut : Cut) (told : (ℕ → ℕ → ℕ) → Type 0)
+    (steps : List Step) (answer : Result Ended Stop) (fates : List Attempt) : Type 0 where
+  pub by_some : IsAnswer answer
+      → (words : ℕ → ℕ → ℕ) × IsOfWorld t custom cut words steps answer fates
+  pub by_told : (words : ℕ → ℕ → ℕ) → told words → IsAnswer answer
       → IsOfWorld t custom cut words steps answer fates
 
 module _ {S M : Type 0} {tells : S → CellMap → Type 0} {count : S → ℕ}
@@ -79,9 +85,9 @@ module _ {S M : Type 0} {tells : S → CellMap → Type 0} {count : S → ℕ}
     {parts ran closed : List (StatePart S)}
     (lent : Lent tells count holds faults t old mid new parts ran closed)
     (laws : PartLaws tells count t custom cut) (input : IsInput t cut)
-    {told : (ℕ → ℕ → ℕ) → Type 0} {steps : List Step} {ticks : ℕ} {answer : Result Ended Stop}
+    {told : (ℕ → ℕ → ℕ) → Type 0} {ticks : ℕ} {answer : Result Ended Stop}
     {fates : List Attempt}
-    (run : Ran tells count t custom cut told steps ticks answer fates parts ran) where
+    (run : Ran tells count t custom cut told ticks answer fates parts ran) where
   module _ (E : Type 0) where
     abbrev ClosesAs : RunEnd → Type 0
     ClosesAs ending = Closes {S = S} {E = E} tells count t answer ran closed (Ok ending)
@@ -105,12 +111,12 @@ module _ {S M : Type 0} {tells : S → CellMap → Type 0} {count : S → ℕ}
 
     whole_by : answer ≡ Ok ended.All → IsWhole (length cut.records) cut.size ticks fates
     whole_by is =
-        subst (λ (r : Result Ended Stop). Answers t cut ticks fates r) is run.comes.answers
+        subst (λ (r : Result Ended Stop). Answers t cut ticks fates r) is run.told_so.answers
 
     stands_by : BeganEmpty t (maker_use tells count holds made faults old new)
         → PartsStand tells t custom cut (committed_count fates) ran
     stands_by empty =
-        run.comes.stands
+        run.told_so.stands
         (are_empty tells count holds made faults t old new parts lent.planned lent.began empty)
 
     tables_by : (tables : List Table) → answer ≡ Ok ended.All
@@ -130,22 +136,22 @@ module _ {S M : Type 0} {tells : S → CellMap → Type 0} {count : S → ℕ}
     end_comes (end.All tables) closes =
         (whole_by closes.0, λ empty. tables_by tables closes.0 closes.1 empty)
     end_comes (end.Exhausted txid) closes =
-        subst (λ (r : Result Ended Stop). Answers t cut ticks fates r) closes run.comes.answers
+        subst (λ (r : Result Ended Stop). Answers t cut ticks fates r) closes run.told_so.answers
     end_comes (end.Unfinished k) closes =
-        subst (λ (r : Result Ended Stop). Answers t cut ticks fates r) closes run.comes.answers
+        subst (λ (r : Result Ended Stop). Answers t cut ticks fates r) closes run.told_so.answers
     end_comes end.StoreFault closes = whole_by closes.0
     end_comes (end.BadCell key) (inl bad) =
         had_strange tells count holds made faults t old new parts key lent.planned lent.began
-        (laws.bad_cell parts key (run.comes.bad_cell key bad))
+        (laws.bad_cell parts key (run.told_so.bad_cell key bad))
     end_comes (end.BadCell key) (inr bad) =
         had_strange tells count holds made faults t old new parts key lent.planned lent.began
-        (run.comes.strange key (laws.bad_row ran key bad.1))
+        (run.told_so.strange key (laws.bad_row ran key bad.1))
 
     -- ---- counts
 
     fails : HadMemory answer → All (FailsAtOneOf (plans_of parts)) fates
     fails ok =
-        let caused = run.comes.caused ok in
+        let caused = run.told_so.caused ok in
         fail_at_parts t custom cut ticks caused.0 parts
         (λ component part is. laws.part parts component part lent.planned is) fates caused.1
 
@@ -157,7 +163,7 @@ module _ {S M : Type 0} {tells : S → CellMap → Type 0} {count : S → ℕ}
     quiet_by : HadMemory answer → IsAnswer answer → SameCounts count ran closed
         → FaultsAreCounted t (maker_use tells count holds made faults old new) fates
     quiet_by ok answers same =
-        let counted = run.comes.counted answers in
+        let counted = run.told_so.counted answers in
         counted_quiet tells count holds made faults t old mid new parts ran closed lent fates counted
         (failed_by ok counted) same
 
@@ -166,8 +172,8 @@ module _ {S M : Type 0} {tells : S → CellMap → Type 0} {count : S → ℕ}
     broken_by key closes same =
         let ok = had_memory (end.BadCell key) closes in
         counted_broken tells count holds made faults t old mid new parts ran closed lent fates
-        run.comes.but_last
-        (laws.last_sum fates parts ran (fails ok) run.comes.but_last) same
+        run.told_so.but_last
+        (laws.last_sum fates parts ran (fails ok) run.told_so.but_last) same
 
     -- no reading failed that answers otherwise
     abbrev Quiet : RunEnd → Type 0
@@ -186,7 +192,7 @@ module _ {S M : Type 0} {tells : S → CellMap → Type 0} {count : S → ℕ}
         (quiet (λ same. cc))
     counted_by end.StoreFault closes quiet =
         let ok = had_memory end.StoreFault closes in
-        let counted = run.comes.counted (had_answer end.StoreFault closes tt) in
+        let counted = run.told_so.counted (had_answer end.StoreFault closes tt) in
         counted_fault tells count holds made faults t old mid new parts ran closed lent fates counted
         (failed_by ok counted) closes.1
     counted_by (end.BadCell key) closes quiet = broken_by key closes (quiet (λ same. cc))
@@ -207,13 +213,13 @@ module _ {S M : Type 0} {tells : S → CellMap → Type 0} {count : S → ℕ}
     run_at ending closes quiet =
         let ok = had_memory ending closes in
         record {
-          once = run.comes.in_time ok;
+          once = run.told_so.in_time ok;
           comes = end_comes ending closes;
           caused = record {
-            by_some = run.comes.caused ok;
+            by_some = run.told_so.caused ok;
             by_told = λ words are. run.drawn words are ok;
           };
-          failed_in_turn = run.comes.failed_in_turn ok;
+          failed_in_turn = run.told_so.failed_in_turn ok;
           counted = counted_by ending closes quiet;
           stands = stands_at;
         }
@@ -240,45 +246,46 @@ module _ {S M : Type 0} {tells : S → CellMap → Type 0} {count : S → ℕ}
 
     -- ---- the world
 
-    world_at : (words : ℕ → ℕ → ℕ) (ending : RunEnd) → ClosesAs ending
-        → (IsAnswer answer → IsOfWorld t custom cut words steps answer fates)
-        → IsEndOfWorld t custom cut words steps fates ending
-    world_at words (end.All tables) closes is =
-        subst (λ (r : Result Ended Stop). IsOfWorld t custom cut words steps r fates) closes.0
-        (is (had_answer (end.All tables) closes tt))
-    world_at words (end.Exhausted txid) closes is =
-        subst (λ (r : Result Ended Stop). IsOfWorld t custom cut words steps r fates) closes
-        (is (had_answer (end.Exhausted txid) closes tt))
-    world_at words (end.Unfinished k) closes is =
-        subst (λ (r : Result Ended Stop). IsOfWorld t custom cut words steps r fates) closes
-        (is (had_answer (end.Unfinished k) closes tt))
-    world_at words end.StoreFault closes is =
-        subst (λ (r : Result Ended Stop). IsOfWorld t custom cut words steps r fates) closes.0
-        (is (had_answer end.StoreFault closes tt))
-    world_at words (end.BadCell key) closes is = tt
+    module _ {steps : List Step} (world : OfWorld t custom cut told steps answer fates) where
+      world_at : (words : ℕ → ℕ → ℕ) (ending : RunEnd) → ClosesAs ending
+          → (IsAnswer answer → IsOfWorld t custom cut words steps answer fates)
+          → IsEndOfWorld t custom cut words steps fates ending
+      world_at words (end.All tables) closes is =
+          subst (λ (r : Result Ended Stop). IsOfWorld t custom cut words steps r fates) closes.0
+          (is (had_answer (end.All tables) closes tt))
+      world_at words (end.Exhausted txid) closes is =
+          subst (λ (r : Result Ended Stop). IsOfWorld t custom cut words steps r fates) closes
+          (is (had_answer (end.Exhausted txid) closes tt))
+      world_at words (end.Unfinished k) closes is =
+          subst (λ (r : Result Ended Stop). IsOfWorld t custom cut words steps r fates) closes
+          (is (had_answer (end.Unfinished k) closes tt))
+      world_at words end.StoreFault closes is =
+          subst (λ (r : Result Ended Stop). IsOfWorld t custom cut words steps r fates) closes.0
+          (is (had_answer end.StoreFault closes tt))
+      world_at words (end.BadCell key) closes is = tt
 
-    world_by : (ending : RunEnd) → ClosesAs ending → MetNoBadCell ending
-        → (words : ℕ → ℕ → ℕ) × IsEndOfWorld t custom cut words steps fates ending
-    world_by ending closes none =
-        let of_world = run.comes.of_world (had_answer ending closes none) in
-        (of_world.0, world_at of_world.0 ending closes (λ ok. of_world.1))
+      world_by : (ending : RunEnd) → ClosesAs ending → MetNoBadCell ending
+          → (words : ℕ → ℕ → ℕ) × IsEndOfWorld t custom cut words steps fates ending
+      world_by ending closes none =
+          let of_world = world.by_some (had_answer ending closes none) in
+          (of_world.0, world_at of_world.0 ending closes (λ ok. of_world.1))
 
-    world_some : (ending : RunEnd) → ClosesAs ending
-        → (words : ℕ → ℕ → ℕ) × IsEndOfWorld t custom cut words steps fates ending
-    world_some (end.All tables) closes = world_by (end.All tables) closes tt
-    world_some (end.Exhausted txid) closes = world_by (end.Exhausted txid) closes tt
-    world_some (end.Unfinished k) closes = world_by (end.Unfinished k) closes tt
-    world_some end.StoreFault closes = world_by end.StoreFault closes tt
-    world_some (end.BadCell key) closes = (λ s k. 0, tt)
+      world_some : (ending : RunEnd) → ClosesAs ending
+          → (words : ℕ → ℕ → ℕ) × IsEndOfWorld t custom cut words steps fates ending
+      world_some (end.All tables) closes = world_by (end.All tables) closes tt
+      world_some (end.Exhausted txid) closes = world_by (end.Exhausted txid) closes tt
+      world_some (end.Unfinished k) closes = world_by (end.Unfinished k) closes tt
+      world_some end.StoreFault closes = world_by end.StoreFault closes tt
+      world_some (end.BadCell key) closes = (λ s k. 0, tt)
 
-    -- it is the run of one world
-    pub world_is : (r : Result RunEnd E) → Closes tells count t answer ran closed r
-        → IfOk r (IsRunOfWorld told t custom cut steps fates)
-    world_is (Ok ending) closes = record {
-      by_some = world_some ending closes;
-      by_told = λ words are. world_at words ending closes (run.of_told words are);
-    }
-    world_is (Err e) closes = tt
+      -- it is the run of one world
+      pub world_is : (r : Result RunEnd E) → Closes tells count t answer ran closed r
+          → IfOk r (IsRunOfWorld told t custom cut steps fates)
+      world_is (Ok ending) closes = record {
+        by_some = world_some ending closes;
+        by_told = λ words are. world_at words ending closes (world.by_told words are);
+      }
+      world_is (Err e) closes = tt
 
     -- ---- where nothing is in the way
 
@@ -353,39 +360,40 @@ module _ {S M : Type 0} {tells : S → CellMap → Type 0} {count : S → ℕ}
           of_ok e same = cc
       all_by (Err e) closes quiet free finishes = tt
 
-      -- a schedule with enough rounds commits all
-      pub given_finishes : WorldLaws t custom cut → IsCustom custom
-          → (r : Result RunEnd E) → Closes tells count t answer ran closed r
-          → ((r ≡ Ok end.StoreFault → ⊥) → SameCounts count ran closed)
-          → NothingIsInTheWay t (maker_use tells count holds made faults old new) fates
-          → HasRounds t (rounds_needed t custom cut) steps → ticks_in steps < t.buckets
-          → IfOk r IsAll
-      given_finishes worlds keeps r closes quiet free rounds few =
-          all_by r closes quiet free
-          (λ ok none.
-          let of_world = run.comes.of_world ok in
-          given_all t custom cut worlds input keeps free.can_finish of_world.0 fates none
-          free.no_coincidence steps answer of_world.1 rounds few)
+      module _ {steps : List Step} (world : OfWorld t custom cut told steps answer fates) where
+        -- a schedule with enough rounds commits all
+        pub given_finishes : WorldLaws t custom cut → IsCustom custom
+            → (r : Result RunEnd E) → Closes tells count t answer ran closed r
+            → ((r ≡ Ok end.StoreFault → ⊥) → SameCounts count ran closed)
+            → NothingIsInTheWay t (maker_use tells count holds made faults old new) fates
+            → HasRounds t (rounds_needed t custom cut) steps → ticks_in steps < t.buckets
+            → IfOk r IsAll
+        given_finishes worlds keeps r closes quiet free rounds few =
+            all_by r closes quiet free
+            (λ ok none.
+            let of_world = world.by_some ok in
+            given_all t custom cut worlds input keeps free.can_finish of_world.0 fates none
+            free.no_coincidence steps answer of_world.1 rounds few)
 
-      -- so does a run of rounds, with few ticks in the first of them
-      pub rounds_finish : WorldLaws t custom cut → IsCustom custom
-          → (done : Result (Unit {0}) Stop) → answer ≡ ended_of done → (answers to_come : List ℕ)
-          → HasRoundsOf t answers steps → answers ≡ first_answers (length answers) to_come
-          → (r : Result RunEnd E) → Closes tells count t answer ran closed r
-          → ((r ≡ Ok end.StoreFault → ⊥) → SameCounts count ran closed)
-          → NothingIsInTheWay t (maker_use tells count holds made faults old new) fates
-          → sum (first_answers (rounds_needed t custom cut) to_come) < t.buckets
-          → IfOk r IsAll
-      rounds_finish worlds keeps done is answers to_come has are r closes quiet free few =
-          all_by r closes quiet free
-          (λ ok none.
-          let of_world = run.comes.of_world ok in
-          is
-          ∙ rounds_all t custom cut worlds input keeps free.can_finish of_world.0 fates none
-          free.no_coincidence steps answers to_come done
-          (subst (λ (s : Result Ended Stop). IsOfWorld t custom cut of_world.0 steps s fates) is
-          of_world.1)
-          has are few)
+        -- so does a run of rounds, with few ticks in the first of them
+        pub rounds_finish : WorldLaws t custom cut → IsCustom custom
+            → (done : Result (Unit {0}) Stop) → answer ≡ ended_of done → (answers to_come : List ℕ)
+            → HasRoundsOf t answers steps → answers ≡ first_answers (length answers) to_come
+            → (r : Result RunEnd E) → Closes tells count t answer ran closed r
+            → ((r ≡ Ok end.StoreFault → ⊥) → SameCounts count ran closed)
+            → NothingIsInTheWay t (maker_use tells count holds made faults old new) fates
+            → sum (first_answers (rounds_needed t custom cut) to_come) < t.buckets
+            → IfOk r IsAll
+        rounds_finish worlds keeps done is answers to_come has are r closes quiet free few =
+            all_by r closes quiet free
+            (λ ok none.
+            let of_world = world.by_some ok in
+            is
+            ∙ rounds_all t custom cut worlds input keeps free.can_finish of_world.0 fates none
+            free.no_coincidence steps answers to_come done
+            (subst (λ (s : Result Ended Stop). IsOfWorld t custom cut of_world.0 steps s fates) is
+            of_world.1)
+            has are few)
 
 -- nothing is left open where rounds go on until all is over
 pub none_left : {S E : Type 0} (tells : S → CellMap → Type 0) (count : S → ℕ) (t : Topology)

@@ -18,7 +18,7 @@ use Rattle.state_parts.specs.declared.parts.StatePart.{StatePart}
 use Rattle.state_parts.specs.Makers.{Began, CameBack as PartCameBack, HasNotFailed, RoseBySum, faults_of}
 use Rattle.state_parts.specs.PartPlans.{IsOneOf, PartPlan, plan_of, plans_of}
 use Rattle.state_parts.specs.PartTables.{IsRead, OneRaised}
-use Rattle.stored_runs.proofs.Lent.{Lent, at_map, each-get}
+use Rattle.stored_runs.proofs.Lent.{Lent, at_map}
 use Rattle.stored_runs.specs.Makers.{CountsOf, FaultsAreCounted, FaultsBeforeBadCell, ReadingFailed, StoreStood, maker_use}
 use Rattle.storm_stores.specs.CellMaps.{CellMap}
 use Rattle.storm_values.specs.Counts.{raised, raised_by}

@@ -1,5 +1,5 @@
 -- What a run over the stores of a maker comes to. This project's own.
-use Rattle.std.specs.Prelude.{◌≡◌, ◌<◌, ◌≤◌, ◌-◌, ◌^◌, ℕ, List, Ok, Err, All, fold, length}
+use Rattle.std.specs.Prelude.{◌≡◌, ◌<◌, ℕ, List, Ok, Err, All, fold, length}
 use Rattle.attempt_fates.specs.declared.fates.Attempt.{Attempt}
 use Rattle.attempt_fates.specs.Fates.{IsOnce, IsWhole}
 use Rattle.batch_commits.specs.Standing.{batches_in}

@@ -3,7 +3,7 @@ use Rattle.attempt_fates.specs.declared.fates.Attempt.{Attempt}
 use Rattle.event_worlds.specs.Rounds.{ticks_in}
 use Rattle.schedule_core.specs.Runs.{committed_count}
 use Rattle.schedule_core.specs.Schedules.{all_steps}
-use Rattle.stored_runs.proofs.Comings.{Ran, all_back, given_finishes, run_is, short_is, world_is}
+use Rattle.stored_runs.proofs.Comings.{OfWorld, Ran, all_back, given_finishes, run_is, short_is, world_is}
 use Rattle.stored_runs.proofs.Lent.{Lent, idle_stand, on_err, still_made}
 use Rattle.stored_runs.specs.Makers.{MapsStand, maker_use}
 use Rattle.stored_runs.proofs.given.replay_over.Goals as goal
@@ -11,7 +11,7 @@ use Rattle.stored_runs.proofs.given.replay_over.Goals as goal
 pub give_back-requires : goal.give_back-requires
 give_back-requires g c =
     still_made g.M.StoreMaker.has_made c.make.new.stores c.in_ok-parts.parts c.replay-answer.new.parts
-    c.close-ended.new.parts c.replay-answer.ensures.comes.kept.plans c.close-ended.ensures.plans
+    c.close-ended.new.parts c.replay-answer.ensures.comes.tells.kept.plans c.close-ended.ensures.plans
     c.in_ok-parts.ensures.made
 
 pub returns : goal.returns
@@ -24,7 +24,7 @@ returns g c =
       no_fault = c.in_ok-parts.ensures.no_fault;
       others_out = c.in_ok-parts.ensures.others;
       same_count = c.in_ok-parts.ensures.same_count;
-      kept = c.replay-answer.ensures.comes.kept;
+      kept = c.replay-answer.ensures.comes.tells.kept;
       read = c.close-ended.ensures.read;
       plans = c.close-ended.ensures.plans;
       back = c.give_back.ensures.back;
@@ -34,10 +34,13 @@ returns g c =
     } in
     let run : Ran g.M.C.CellStore.tells g.M.C.CellStore.fault_count c.args.plan.now
     (g.O.RowOp.meaning c.args.custom.now) c.args.batches (g.N.IdMaker.tells c.args.ids.now)
-    (all_steps c.args.plan.now c.args.events.now)
     (ticks_in (all_steps c.args.plan.now c.args.events.now))
     c.replay-answer.result c.replay-answer.new.fates c.in_ok-parts.parts c.replay-answer.new.parts =
-    record { comes = c.replay-answer.ensures.comes; drawn = c.replay-answer.ensures.drawn; of_told = c.replay-answer.ensures.told } in
+    record { told_so = c.replay-answer.ensures.comes.tells; drawn = c.replay-answer.ensures.drawn } in
+    let world : OfWorld c.args.plan.now (g.O.RowOp.meaning c.args.custom.now) c.args.batches
+    (g.N.IdMaker.tells c.args.ids.now) (all_steps c.args.plan.now c.args.events.now)
+    c.replay-answer.result c.replay-answer.new.fates =
+    record { by_some = c.replay-answer.ensures.comes.of_world; by_told = c.replay-answer.ensures.told } in
     let laws = c.laws_of_runs.ensures.parts c.args.plan.now (g.O.RowOp.meaning c.args.custom.now)
     c.args.batches in
     let worlds = c.laws_of_runs.ensures.worlds c.args.plan.now
@@ -52,11 +55,11 @@ returns g c =
     record {
       comes = run_is made lent laws input run _ r closes quiet;
       short = short_is made lent laws input run _ r;
-      once = c.replay-answer.ensures.comes.once;
+      once = c.replay-answer.ensures.comes.tells.once;
       back = all_back made lent;
-      world = world_is made lent laws input run _ r closes;
+      world = world_is made lent laws input run _ world r closes;
       finishes = λ free rounds few.
-          given_finishes made lent laws input run _ ends worlds keeps r closes quiet free rounds few;
+          given_finishes made lent laws input run _ ends world worlds keeps r closes quiet free rounds few;
     }
 
 pub returns-in_err-parts-clause-short : goal.returns-in_err-parts-clause-short

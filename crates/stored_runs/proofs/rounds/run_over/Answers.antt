@@ -3,7 +3,7 @@ use Rattle.attempt_fates.specs.declared.fates.Attempt.{Attempt}
 use Rattle.commit_order.specs.declared.stop.Stop.{Stop}
 use Rattle.schedule_core.specs.declared.ended.Ended.{Ended}
 use Rattle.schedule_core.specs.Runs.{committed_count, ended, ticks_between}
-use Rattle.stored_runs.proofs.Comings.{Ran, all_back, by_rounds, none_left, rounds_finish, run_is, short_is, world_is}
+use Rattle.stored_runs.proofs.Comings.{OfWorld, Ran, all_back, by_rounds, none_left, rounds_finish, run_is, short_is, world_is}
 use Rattle.stored_runs.proofs.Lent.{Lent, idle_stand, on_err, still_made}
 use Rattle.stored_runs.specs.Makers.{MapsStand, maker_use}
 use Rattle.stored_runs.specs.Closing.{Closes}
@@ -12,7 +12,7 @@ use Rattle.stored_runs.proofs.rounds.run_over.Goals as goal
 pub give_back-requires : goal.give_back-requires
 give_back-requires g c =
     still_made g.M.StoreMaker.has_made c.make.new.stores c.in_ok-parts.parts c.run_rounds-done.new.parts
-    c.close-ended.new.parts c.run_rounds-done.ensures.comes.comes.kept.plans c.close-ended.ensures.plans
+    c.close-ended.new.parts c.run_rounds-done.ensures.comes.comes.tells.kept.plans c.close-ended.ensures.plans
     c.in_ok-parts.ensures.made
 
 pub returns : goal.returns
@@ -25,7 +25,7 @@ returns g c =
       no_fault = c.in_ok-parts.ensures.no_fault;
       others_out = c.in_ok-parts.ensures.others;
       same_count = c.in_ok-parts.ensures.same_count;
-      kept = c.run_rounds-done.ensures.comes.comes.kept;
+      kept = c.run_rounds-done.ensures.comes.comes.tells.kept;
       read = c.close-ended.ensures.read;
       plans = c.close-ended.ensures.plans;
       back = c.give_back.ensures.back;
@@ -35,11 +35,14 @@ returns g c =
     } in
     let run : Ran g.M.C.CellStore.tells g.M.C.CellStore.fault_count c.args.plan.now
     (g.O.RowOp.meaning c.args.custom.now) c.args.batches (g.N.IdMaker.tells c.args.ids.now)
-    c.run_rounds-done.ensures.comes.steps
     (ticks_between (g.T.Ticks.handed_out c.args.ticks.now)
     (g.T.Ticks.handed_out c.run_rounds-done.new.ticks))
     (ended c.run_rounds-done.result) c.run_rounds-done.new.fates c.in_ok-parts.parts c.run_rounds-done.new.parts =
-    record { comes = c.run_rounds-done.ensures.comes.comes; drawn = c.run_rounds-done.ensures.comes.drawn; of_told = c.run_rounds-done.ensures.comes.of_told } in
+    record { told_so = c.run_rounds-done.ensures.comes.comes.tells; drawn = c.run_rounds-done.ensures.comes.drawn } in
+    let world : OfWorld c.args.plan.now (g.O.RowOp.meaning c.args.custom.now) c.args.batches
+    (g.N.IdMaker.tells c.args.ids.now) c.run_rounds-done.ensures.comes.steps
+    (ended c.run_rounds-done.result) c.run_rounds-done.new.fates =
+    record { by_some = c.run_rounds-done.ensures.comes.comes.of_world; by_told = c.run_rounds-done.ensures.comes.of_told } in
     let laws = c.laws_of_runs.ensures.parts c.args.plan.now (g.O.RowOp.meaning c.args.custom.now)
     c.args.batches in
     let worlds = c.laws_of_runs.ensures.worlds c.args.plan.now
@@ -64,11 +67,11 @@ returns g c =
       goes_on =
           none_left g.M.C.CellStore.tells g.M.C.CellStore.fault_count c.args.plan.now
           c.run_rounds-done.new.parts c.close-ended.new.parts c.run_rounds-done.result r closes;
-      once = c.run_rounds-done.ensures.comes.comes.once;
+      once = c.run_rounds-done.ensures.comes.comes.tells.once;
       back = all_back made lent;
-      world = by_rounds asked r (world_is made lent laws input run _ r closes);
+      world = by_rounds asked r (world_is made lent laws input run _ world r closes);
       finishes = λ to_come tells free few.
-          rounds_finish made lent laws input run _ ends worlds keeps c.run_rounds-done.result refl
+          rounds_finish made lent laws input run _ ends world worlds keeps c.run_rounds-done.result refl
           asked.answers to_come asked.rounds (asked.asked to_come tells) r closes quiet free few;
     }
 
