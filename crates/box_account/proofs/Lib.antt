@@ -1,5 +1,5 @@
 mod Boxes
 mod Histories
 mod Verdicts
-mod Hearing
+pub mod Hearing
 mod Truth

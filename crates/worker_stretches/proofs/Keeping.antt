@@ -36,7 +36,8 @@ use Rattle.world_progress.specs.Lasting.{IsSeat}
 use Rattle.world_progress.specs.Young.{AreYoung}
 use Rattle.world_progress.proofs.Doing as doing
 use Rattle.worker_stretches.specs.Places.{IsAckerAt, IsTaskAt, ZipFrom}
-use Rattle.worker_stretches.specs.Standing.{IsInTime, weigh_acker_inboxes, weigh_inboxes, weigh_task_inboxes}
+use Rattle.box_account.specs.Inboxes.{weigh_acker_inboxes, weigh_inboxes, weigh_task_inboxes}
+use Rattle.worker_stretches.specs.Standing.{IsInTime}
 use Rattle.worker_stretches.specs.Teams.{HaveCounted, TakesMore}
 
 -- ---- inboxes

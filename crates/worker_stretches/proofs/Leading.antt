@@ -53,7 +53,9 @@ use Rattle.worker_pool.specs.Desks.{given_at, source_at}
 use Rattle.worker_stretches.specs.Leads.{Leads, SeatsDid}
 use Rattle.worker_stretches.specs.Places.{AreAllSeats, IsAckerAt, IsSilent, IsTaskAt, ZipFrom, desk_number}
 use Rattle.world_progress.specs.Lasting.{IsSeat}
-use Rattle.worker_stretches.specs.Standing.{GoesOn, IsInTime, IsLasting, Later, beside_it, weigh_acker_inboxes, weigh_task_inboxes}
+use Rattle.box_account.specs.Inboxes.{weigh_acker_inboxes, weigh_task_inboxes}
+use Rattle.box_account.proofs.Hearing.{heard_later}
+use Rattle.worker_stretches.specs.Standing.{GoesOn, IsInTime, IsLasting, Later, beside_it}
 use Rattle.worker_stretches.specs.Teams.{AreNextWords, BoxState, Giving, TakesMore, TeamWorked, Waiting, WereGiven, desks_waiting, is_given, new_desk, old_desk, was_given}
 use Rattle.worker_stretches.proofs.Gathering.{task-numbers}
 use Rattle.worker_stretches.proofs.Givings.{One, count-few, count-none, count-one, no-spans, none-given, own-words, the-one, words_of}
@@ -444,9 +446,10 @@ module _ {I : Type 0} {g : Ghosts I} (tells : I → (ℕ → ℕ) → ℕ → Ty
             stands = record {
               led = led-after law words counts gives (beside_it row over) (beside_it row_now over) shift h stands.led;
               through = through;
+              heard = heard_later h did.history (shape old).fates stands.heard;
               lasts = λ sure short. lasting-after law words counts gives (beside_it row over) (beside_it row_now over) shift h stands.led first input.valid in_time drew tells_all short (stands.lasts sure short);
             };
-            rose = λ sure short goes. no-less-done row row_now h did.history (shape old) after_world stands.through through told.more refl;
+            rose = λ can sure short goes. no-less-done row row_now h did.history (shape old) after_world stands.through through told.more refl;
           } in
           subst (λ (w : World). Later t custom cut words outcomes row_now over 0 given counts h (shape old) w (has_ended new ≡ true)) (sym shape-after) later;
     }

@@ -4,16 +4,17 @@ use Rattle.std.specs.Prelude.{◌≡◌, ◌≤◌, ◌<◌, ◌^◌, ℕ, ◌+�
 use Rattle.std.specs.List.{AllByRecursion}
 use Rattle.attempt_fates.specs.declared.fates.Attempt.{Attempt}
 use Rattle.bolt_ops.specs.RowOp.{Custom, IsCustom}
+use Rattle.box_account.specs.Hearing.{HeardBeforeFailing}
+use Rattle.box_account.specs.Inboxes.{GoesThrough}
 use Rattle.box_rows.specs.declared.mail.Mail.{Mail}
 use Rattle.box_rows.specs.FitRows.{held_in}
-use Rattle.box_rows.specs.Rows.{taken_in}
 use Rattle.commit_turns.specs.Outcomes.{IsOutcome}
-use Rattle.counted_items.specs.Weights.{weigh}
 use Rattle.event_engine.specs.declared.engine.Engine.{Engine}
 use Rattle.event_engine.specs.Engines.{Gives, HasOutcomes, has_ended, shape, sources}
 use Rattle.event_worlds.specs.Accounted.{IsInput}
 use Rattle.event_worlds.specs.Beside.{LedBeside}
-use Rattle.event_worlds.specs.Worlds.{AckerSide, Known, TaskSide, World}
+use Rattle.event_worlds.specs.Rounds.{CanFinish}
+use Rattle.event_worlds.specs.Worlds.{Known, World}
 use Rattle.output_collector.specs.Draws.{Draws}
 use Rattle.pulse_board.specs.declared.rule.Book.{Book}
 use Rattle.state_parts.specs.declared.answer.CommitOutcome.{CommitOutcome}
@@ -21,41 +22,18 @@ use Rattle.state_parts.specs.declared.answer.CommitOutcome.TheVariants.{Done}
 use Rattle.storm_ids.specs.declared.ids.Ids.{Ghosts}
 use Rattle.task_queues.specs.declared.pass.Pass.{Pass}
 use Rattle.topology_plan.specs.Topology.{Topology}
-use Rattle.tree_model.specs.declared.messages.AckMsg.{AckMsg}
 use Rattle.tree_model.specs.declared.messages.Parcel.{Parcel}
-use Rattle.tree_model.specs.declared.messages.Parcel.TheVariants.{ToTask, ToAcker}
-use Rattle.tree_model.specs.declared.messages.Tuple.{Tuple}
 use Rattle.trident_batches.specs.Batches.{Cut}
-use Rattle.tuple_account.specs.Histories.{History, Packet, of_parcel, of_verdict, taken, weigh_parcels}
+use Rattle.tuple_account.specs.Histories.{History, weigh_parcels}
 use Rattle.world_progress.specs.Doing.{done}
 use Rattle.world_progress.specs.Lasting.{AreSeats, IsFine}
 use Rattle.worker_stretches.specs.Teams.{Waiting}
 
--- ---- what waits, and what stands in inboxes
+-- ---- what waits
 
 -- what waits beside an engine: what boxes hold, and parcels that are still to be handed over
 abbrev pub beside_it : List (Pass Mail) → List Parcel → Waiting
 beside_it row left f = held_in row f + weigh_parcels f left
-
--- what stands in the inboxes of tasks from a number on
-abbrev pub weigh_task_inboxes : (Packet → ℕ) → ℕ → List TaskSide → ℕ
-weigh_task_inboxes f n [] = 0
-weigh_task_inboxes f n (side ∷ sides) =
-    weigh (λ (tuple : Tuple). f (of_parcel (ToTask n tuple))) side.inbox
-    + weigh_task_inboxes f (n + 1) sides
-
--- the same of ackers
-abbrev pub weigh_acker_inboxes : (Packet → ℕ) → ℕ → List AckerSide → ℕ
-weigh_acker_inboxes f n [] = 0
-weigh_acker_inboxes f n (side ∷ sides) =
-    weigh (λ (m : AckMsg). f (of_parcel (ToAcker n m))) side.inbox
-    + weigh_acker_inboxes f (n + 1) sides
-
--- what stands in all inboxes, the coordinator's with it
-abbrev pub weigh_inboxes : (Packet → ℕ) → World → ℕ
-weigh_inboxes f w =
-    weigh_task_inboxes f 0 w.tasks
-    + (weigh_acker_inboxes f 0 w.ackers + weigh (λ v. f (of_verdict v)) w.verdicts)
 
 -- ---- what stands
 
@@ -66,13 +44,14 @@ pub record IsLasting (t : Topology) (h : History) (w : World) : Type 0 where
   pub fine : AllByRecursion IsFine w.fates
 
 -- A history led to a world and to what waits beside it. All that was taken from boxes was executed,
--- met or heard, or stands in an inbox. Where no commit fails, and fewer ticks passed than there are
--- buckets, nothing was lost.
+-- met or heard, or stands in an inbox, and a verdict was heard before a commit failed. Where no
+-- commit fails, and fewer ticks passed than there are buckets, nothing was lost.
 pub record Stands (t : Topology) (custom : Custom) (cut : Cut) (words : ℕ → ℕ → ℕ)
     (outcomes : List CommitOutcome) (row : List (Pass Mail)) (left : List Parcel) (h : History)
     (k : Known) : Type 0 where
   pub led : LedBeside t custom cut words (beside_it row left) h k
-  pub through : (f : Packet → ℕ) → taken_in row f ≡ taken f h + weigh_inboxes f k.world
+  pub through : GoesThrough row h k.world
+  pub heard : HeardBeforeFailing h k.world.fates
   pub lasts : All (λ (how : CommitOutcome). how ≡ Done) outcomes → k.world.tick < t.buckets
       → IsLasting t h k.world
 
@@ -82,7 +61,8 @@ IsInTime tick book = tick ≡ min (length book.drawn) (2 ^ 64 - 1)
 
 -- ---- how it goes on
 
--- Later a history led to a world, and no less was done, or so much more where all is not over.
+-- Later a history led to a world. Where every bolt lets batches through, no commit fails and few
+-- ticks passed, no less was done, or so much more where all is not over.
 pub record Later (t : Topology) (custom : Custom) (cut : Cut) (words : ℕ → ℕ → ℕ)
     (outcomes : List CommitOutcome) (row : List (Pass Mail)) (left : List Parcel) (least : ℕ)
     (given : ℕ → List ℕ) (counts : ℕ → ℕ) (h : History) (was is : World) (over : Type 0)
@@ -92,8 +72,8 @@ pub record Later (t : Topology) (custom : Custom) (cut : Cut) (words : ℕ → �
   pub counted : (s : ℕ) → now s ≡ counts s + length (given s)
   pub stands : Stands t custom cut words outcomes row left history
       (record { world = is; counts = now })
-  pub rose : All (λ (how : CommitOutcome). how ≡ Done) outcomes → is.tick < t.buckets
-      → (over → ⊥) → done h was + least ≤ done history is
+  pub rose : CanFinish t → All (λ (how : CommitOutcome). how ≡ Done) outcomes
+      → is.tick < t.buckets → (over → ⊥) → done h was + least ≤ done history is
 
 module _ {I : Type 0} {g : Ghosts I} where
   -- An engine went on beside boxes: sources gave words, attempts ended, and what stood stands
