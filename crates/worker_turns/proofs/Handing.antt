@@ -15,7 +15,8 @@ use Rattle.tree_model.specs.declared.messages.Parcel.{Parcel}
 use Rattle.tree_model.specs.declared.messages.Parcel.TheVariants.{ToTask, ToAcker}
 use Rattle.tuple_account.specs.Histories.{Packet, of_parcel, weigh_parcels}
 use Rattle.worker_pool.proofs.Outboxing.{run_more, run_new}
-use Rattle.worker_turns.specs.Orders.{HasHandedOver, WaitsAlike, beside_it}
+use Rattle.worker_stretches.specs.Standing.{beside_it}
+use Rattle.worker_turns.specs.Orders.{HasHandedOver, WaitsAlike}
 
 -- ---- runs
 

@@ -1,2 +1,5 @@
 pub mod Leading
 pub mod Handing
+pub mod Carrying
+pub mod Stands
+pub mod Sweeps

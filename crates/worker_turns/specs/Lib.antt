@@ -1,3 +1,4 @@
 pub mod Orders
 pub mod Verdicts
 pub mod Gathered
+pub mod Carrying

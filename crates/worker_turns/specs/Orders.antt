@@ -1,19 +1,14 @@
 -- What the coordinator has still to hand over, beside the boxes. This project's own.
-use Rattle.std.specs.Prelude.{◌≡◌, ℕ, ◌+◌, List, [], ◌∷◌, ◌++◌}
+use Rattle.std.specs.Prelude.{◌≡◌, ℕ, List, [], ◌∷◌, ◌++◌}
 use Rattle.box_rows.specs.declared.mail.Mail.{Mail}
-use Rattle.box_rows.specs.FitRows.{held_in}
 use Rattle.box_rows.specs.Mails.{box_of}
 use Rattle.box_rows.specs.Rows.{IsFull, IsViewAt}
 use Rattle.task_queues.specs.declared.pass.Pass.{Pass}
 use Rattle.task_queues.specs.declared.rule.View.{View}
 use Rattle.topology_plan.specs.Topology.{Topology}
 use Rattle.tree_model.specs.declared.messages.Parcel.{Parcel}
-use Rattle.tuple_account.specs.Histories.{Packet, weigh_parcels}
+use Rattle.tuple_account.specs.Histories.{Packet}
 use Rattle.worker_stretches.specs.Teams.{Waiting}
-
--- what waits beside an engine: what boxes hold, and parcels that are still to be handed over
-abbrev pub beside_it : List (Pass Mail) → List Parcel → Waiting
-beside_it row left f = held_in row f + weigh_parcels f left
 
 -- the same waits
 abbrev pub WaitsAlike : Waiting → Waiting → Type 0

@@ -5,8 +5,10 @@
 mod orders;
 mod rounds;
 mod runs;
+mod sweeping;
 mod turns;
 
 pub use orders::{hand_over, put_behind};
 pub use rounds::coordinate_once;
+pub use sweeping::sweep;
 pub use turns::{hear_one, turn_once};

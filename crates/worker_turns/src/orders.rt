@@ -3,7 +3,8 @@ ghost use Rattle.std.specs.Prelude.{◌≡◌, ◌++◌, OnOk};
 ghost use Rattle.std.specs.List.{AllByRecursion};
 ghost use Rattle.box_rows.specs.FitRows.{IsFitRow};
 ghost use Rattle.event_worlds.specs.Orderly.{FitsParcel};
-ghost use Rattle.worker_turns.specs.Orders.{HasHandedOver, HasStopped, WaitsAlike, beside_it};
+ghost use Rattle.worker_stretches.specs.Standing.{beside_it};
+ghost use Rattle.worker_turns.specs.Orders.{HasHandedOver, HasStopped, WaitsAlike};
 
 use crate::runs::{box_number, put_back, run_from, run_in};
 use box_rows::{Mail, Posts, Row, send_fit};

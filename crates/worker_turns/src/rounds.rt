@@ -4,7 +4,7 @@ ghost use Rattle.bolt_ops.specs.RowOp.{Custom};
 ghost use Rattle.event_engine.specs.Engines.{cut_in};
 ghost use Rattle.worker_stretches.specs.Leads.{Leads};
 ghost use Rattle.worker_turns.specs.Gathered.{IsGathered};
-ghost use Rattle.worker_turns.specs.Orders.{beside_it};
+ghost use Rattle.worker_stretches.specs.Standing.{beside_it};
 
 use crate::orders::{hand_over, put_behind};
 use crate::turns::{hear_one, turn_once};

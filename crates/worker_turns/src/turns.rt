@@ -12,7 +12,7 @@ ghost use Rattle.task_queues.specs.declared.rule.View.{View};
 ghost use Rattle.tree_model.specs.declared.messages.Parcel.{Parcel};
 ghost use Rattle.worker_stretches.specs.Leads.{Leads};
 ghost use Rattle.worker_stretches.specs.Teams.{Waiting};
-ghost use Rattle.worker_turns.specs.Orders.{beside_it};
+ghost use Rattle.worker_stretches.specs.Standing.{beside_it};
 ghost use Rattle.worker_turns.specs.Verdicts.{HearsOne};
 
 use acker_core::Verdict;

@@ -8,7 +8,7 @@ use Rattle.tree_model.specs.declared.messages.Parcel.{Parcel}
 use Rattle.worker_turns.proofs.Handing.{waits-behind}
 use Rattle.worker_turns.proofs.Leading.{leads-gives, leads-same, leads-then, leads-there}
 use Rattle.worker_turns.proofs.rounds.coordinate_once.Goals as goal
-use Rattle.worker_turns.specs.Orders.{beside_it}
+use Rattle.worker_stretches.specs.Standing.{beside_it}
 
 pub hand_over-requires-clause-fits : goal.hand_over-requires-clause-fits
 hand_over-requires-clause-fits g c =

@@ -3,7 +3,7 @@ use Rattle.event_engine.specs.Engines.{cut_in, topology_in}
 use Rattle.worker_turns.proofs.Handing.{same-alike}
 use Rattle.worker_turns.proofs.Leading.{leads-hears, leads-same}
 use Rattle.worker_turns.proofs.turns.hear_one.Goals as goal
-use Rattle.worker_turns.specs.Orders.{beside_it}
+use Rattle.worker_stretches.specs.Standing.{beside_it}
 
 pub returns-in_ok-hear-in-Some-clause-leads : goal.returns-in_ok-hear-in-Some-clause-leads
 returns-in_ok-hear-in-Some-clause-leads g c = λ custom left.

@@ -1,0 +1,11 @@
+use Rattle.box_rows.specs.FitRows.{held_in}
+use Rattle.event_engine.specs.Engines.{cut_in}
+use Rattle.tuple_account.specs.Histories.{Packet}
+use Rattle.worker_turns.proofs.Sweeps.{Gathering}
+use Rattle.worker_turns.proofs.sweeping.gather_box.Given as goal
+
+abbrev pub invariant-loop-mail : goal.invariant-loop-mail
+invariant-loop-mail g l = Gathering l.posts.plan.now (cut_in l.fn.engine) l.posts.boxes.items l.at l.fn.engine l.engine l.fn.row.items l.row.items
+
+abbrev pub decreases-loop-mail : goal.decreases-loop-mail
+decreases-loop-mail g l = held_in l.row.items (λ (p : Packet). 1)
