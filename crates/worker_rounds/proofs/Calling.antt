@@ -1,0 +1,122 @@
+-- What the calls of a round leave, for the call that follows.
+use Rattle.std.proofs.Common.{◌≡◌, ◌≤◌, ◌<◌, ℕ, ◌+◌, ◌-◌, ◌^◌, Bool, true, false, cond, List, [], ◌∷◌, length, length-append, map, refl, sym, subst, ◌∙◌, arith}
+use Rattle.std.specs.Prelude.{Err, Ok, OnErr, Result, min, nat_le}
+use Rattle.std.specs.List.{AllZip, range_with_len}
+use Rattle.std.specs.Result.{IsErrAnd}
+use Rattle.attempt_fates.specs.declared.fates.Attempt.{Attempt}
+use Rattle.attempt_fates.specs.Fates.{IsOnce}
+use Rattle.bolt_ops.specs.RowOp.{Custom}
+use Rattle.commit_turns.specs.Turns.{last_tick}
+use Rattle.event_engine.proofs.GoesLemmas.{goes-then}
+use Rattle.event_engine.proofs.LoopLemmas.{ready_here}
+use Rattle.event_engine.specs.declared.engine.Engine.{Engine}
+use Rattle.event_engine.specs.Engines.{Goes, IsIdle, IsReady, IsStill, cut_in, topology_in}
+use Rattle.event_worlds.specs.Worlds.{of_acker, of_task}
+use Rattle.pulse_board.specs.Books.{Tells, drew, marked, ticked}
+use Rattle.pulse_board.specs.declared.rule.Book.{Book}
+use Rattle.schedule_core.specs.Driving.{AreKept, IsAtRest, IsOfSameRun, StillTells}
+use Rattle.schedule_core.specs.Rounding.{opening_steps}
+use Rattle.state_parts.specs.declared.parts.StatePart.{StatePart}
+use Rattle.state_parts.specs.PartPlans.{AreParts}
+use Rattle.storm_ids.specs.declared.ids.Ids.{Ghosts}
+use Rattle.storm_stores.specs.CellMaps.{CellMap}
+use Rattle.topology_plan.specs.Topology.{Topology, tasks_in_all}
+use Rattle.trident_batches.specs.Batches.{Cut}
+use Rattle.worker_turns.proofs.Leading.{idle-still}
+
+-- ---- errors that are handed on
+
+-- the fault that a `?` hands on is that of the call
+pub handed-on : {T U E : Type 0} (r : Result T E) (s : Result U E) (error e : E) → IsErrAnd r (λ x. x ≡ error) → s ≡ Err error → r ≡ Err e → s ≡ Err e
+handed-on {T} {U} {E} r s error e exits was is =
+    let same : e ≡ error = subst (λ (x : Result T E). IsErrAnd x (λ y. y ≡ error)) is exits in
+    subst (λ (x : E). s ≡ Err x) (sym same) was
+
+pub on-err : {T E X : Type 0} (r : Result T E) → X → OnErr r X
+on-err (Ok v) x = tt
+on-err (Err e) x = x
+
+-- ---- the board
+
+-- a tick is counted, up to the greatest count
+pub ticks-once : (b : Book) (number : ℕ) → Tells (ticked b number) → min (length (ticked b number).drawn) (2 ^ 64 - 1) ≡ min (length b.drawn + 1) (2 ^ 64 - 1)
+ticks-once b number tells = by (nat_le number b.seen) tells
+  where
+    by : (c : Bool) → Tells (cond c (marked b) (drew b number)) → min (length (cond c (marked b) (drew b number)).drawn) (2 ^ 64 - 1) ≡ min (length b.drawn + 1) (2 ^ 64 - 1)
+    by true told = let most = told.marked refl in omega arith
+    by false told = let l = length-append b.drawn (number ∷ []) in omega arith
+
+-- then so many ticks were counted
+pub ticks-more : (first count now next : ℕ) → min now (2 ^ 64 - 1) ≡ min (first + count) (2 ^ 64 - 1) → min next (2 ^ 64 - 1) ≡ min (now + 1) (2 ^ 64 - 1) → min next (2 ^ 64 - 1) ≡ min (first + (count + 1)) (2 ^ 64 - 1)
+ticks-more first count now next before once = omega arith
+
+-- ---- fates
+
+more-ticks : (n size ticks most : ℕ) (fates : List Attempt) → ticks ≤ most → IsOnce n size ticks fates → IsOnce n size most fates
+more-ticks n size ticks most fates few once = record {
+  in_order = once.in_order;
+  records_in_order = once.records_in_order;
+  numbered = once.numbered;
+  last_committed = once.last_committed;
+  of_batch = once.of_batch;
+  spans = once.spans;
+  finishes = once.finishes;
+  handed_out = λ k d below. (let so = once.handed_out k d below in omega arith);
+}
+
+-- ---- parts
+
+told-none : {S : Type 0} (tells : S → CellMap → Type 0) (parts : List (StatePart S)) → AllZip (StillTells tells) parts parts
+told-none tells [] = tt
+told-none tells (x ∷ xs) = (λ cells told. (cells, told), told-none tells xs)
+
+-- nothing was done
+pub kept-none : {S : Type 0} (tells : S → CellMap → Type 0) (parts : List (StatePart S)) → AreKept tells parts parts
+kept-none tells parts = record { plans = refl; told = told-none tells parts }
+
+-- ---- engines
+
+module _ {I : Type 0} {g : Ghosts I} (t : Topology) (cut : Cut) where
+  -- the fates of an engine whose fates are those of one that is ready
+  pub once-still : (old new : Engine I g) → IsReady t cut old → IsStill old new → IsOnce (length cut.records) cut.size last_tick new.fates
+  once-still old new ready still = subst (IsOnce (length cut.records) cut.size last_tick) (sym still.fates) (more-ticks (length cut.records) cut.size _ last_tick old.fates ready.ticks ready.kept.once)
+
+  -- it is ready for the cut that it has
+  pub ready-own : (e : Engine I g) → IsReady t cut e → IsReady t (cut_in e) e
+  ready-own e ready = subst (λ (k : Cut). IsReady t k e) (sym ready.seated.of_cut) ready
+
+  -- and what is ready for that is ready for this
+  pub ready-after : (e new : Engine I g) → IsReady t cut e → IsReady t (cut_in e) new → IsReady t cut new
+  ready-after e new ready own = subst (λ (k : Cut). IsReady t k new) ready.seated.of_cut own
+
+  -- no ordered commit is out where the coordinator stays as it is
+  pub rests-opened : (old new : Engine I g) → IsReady t cut new → IsIdle old → IsStill old new → IsAtRest new
+  rests-opened old new ready idle still = record { ready = ready_here t cut new ready; idle = idle-still old new still idle }
+
+  -- the engine after a round's rest is ready
+  pub ready-closed : (old new : Engine I g) → IsReady t cut old → IsOfSameRun old new → IsAtRest new → IsReady t cut new
+  ready-closed old new ready same rest =
+      subst (λ (u : Topology). IsReady u cut new) (same.topology ∙ ready.seated.of_topology)
+      (subst (λ (k : Cut). IsReady (topology_in new) k new) (same.cut ∙ ready.seated.of_cut) rest.ready)
+
+  -- parts of the plan are those of the engine's
+  pub parts-there : {S : Type 0} (e : Engine I g) (parts : List (StatePart S)) → IsReady t cut e → AreParts t parts → AreParts (topology_in e) parts
+  parts-there e parts ready are = subst (λ (u : Topology). AreParts u parts) (sym ready.seated.of_topology) are
+
+  -- a task's number is one of the engine's
+  pub task-there : (e : Engine I g) (n : ℕ) → IsReady t cut e → n < tasks_in_all t → n < tasks_in_all (topology_in e)
+  task-there e n ready there = subst (λ (u : Topology). n < tasks_in_all u) (sym ready.seated.of_topology) there
+
+  -- each task's event, and then each acker's
+  pub goes-opened : (tells : I → (ℕ → ℕ) → ℕ → Type 0) (custom : Custom) (a b c : Engine I g) → IsReady t cut b
+      → Goes tells t custom cut (map of_task (range_with_len 0 (tasks_in_all t))) a b
+      → Goes tells (topology_in b) custom (cut_in b) (map of_acker (range_with_len 0 (topology_in b).ackers)) b c
+      → Goes tells t custom cut (opening_steps t) a c
+  goes-opened tells custom a b c ready tasks ackers =
+      goes-then tells t custom cut (map of_task (range_with_len 0 (tasks_in_all t))) (map of_acker (range_with_len 0 t.ackers)) a b c tasks
+      (subst (λ (u : Topology). Goes tells u custom cut (map of_acker (range_with_len 0 u.ackers)) b c) ready.seated.of_topology
+      (subst (λ (k : Cut). Goes tells (topology_in b) custom k (map of_acker (range_with_len 0 (topology_in b).ackers)) b c) ready.seated.of_cut ackers))
+
+-- ticks of an engine and of the board
+pub in-time : (old new passed drawn now : ℕ) → old ≡ min drawn (2 ^ 64 - 1) → new ≡ min (old + passed) (2 ^ 64 - 1) → min now (2 ^ 64 - 1) ≡ min (drawn + passed) (2 ^ 64 - 1) → new ≡ min now (2 ^ 64 - 1)
+in-time old new passed drawn now was is board = omega arith

@@ -1,0 +1,100 @@
+-- An engine that goes on beside boxes, by one thing after another.
+use Rattle.std.proofs.Common.{◌≡◌, ℕ, ◌+◌, List, [], ◌∷◌, ◌++◌, All, length, map, append_assoc, length-append, sym, refl, ap, subst, ◌∙◌, arith}
+use Rattle.std.specs.List.{range_with_len}
+use Rattle.attempt_fates.specs.declared.fates.Attempt.{Attempt}
+use Rattle.batch_commits.specs.Standing.{FailuresAreCounted, PartsStand}
+use Rattle.bolt_ops.specs.RowOp.{Custom}
+use Rattle.box_rows.specs.declared.mail.Mail.{Mail}
+use Rattle.commit_order.specs.Orders.{desk_of}
+use Rattle.commit_turns.specs.Outcomes.{IsOutcome}
+use Rattle.event_engine.specs.declared.engine.Engine.{Engine}
+use Rattle.event_engine.specs.Engines.{HasOutcomes, IsStill}
+use Rattle.event_engine.proofs.GoesLemmas.{draws-then, gives-parts, outcomes-append}
+use Rattle.event_worlds.specs.Worlds.{outcomes_of}
+use Rattle.schedule_core.specs.Laws.{Laws}
+use Rattle.state_parts.specs.declared.answer.CommitOutcome.{CommitOutcome}
+use Rattle.state_parts.specs.declared.parts.StatePart.{StatePart}
+use Rattle.storm_ids.specs.declared.ids.Ids.{Ghosts}
+use Rattle.storm_stores.specs.CellMaps.{CellMap}
+use Rattle.task_queues.specs.declared.pass.Pass.{Pass}
+use Rattle.topology_plan.specs.Topology.{Topology}
+use Rattle.tree_model.specs.declared.messages.Parcel.{Parcel}
+use Rattle.trident_batches.specs.Batches.{Cut}
+use Rattle.worker_rounds.specs.Running.{RunsOn}
+use Rattle.worker_stretches.specs.Standing.{GoesOn}
+
+-- outcomes that begin with those of more fates begin with those of the first
+first-outcomes : (outcomes : List CommitOutcome) (fates more all : List Attempt) → all ≡ fates ++ more → HasOutcomes outcomes all → HasOutcomes outcomes fates
+first-outcomes outcomes fates more all is has = record {
+  rest = outcomes_of more ++ has.rest;
+  first = has.first ∙ ap (λ xs. xs ++ has.rest) (ap outcomes_of is ∙ outcomes-append fates more) ∙ append_assoc (outcomes_of fates) (outcomes_of more) has.rest;
+}
+
+-- what is added to a list that stays as it is
+pub none-added : {X : Type 0} (xs ys : List X) → xs ≡ xs ++ ys → ys ≡ []
+none-added [] ys is = sym is
+none-added {X} (x ∷ xs) ys is = none-added xs ys (let e : x ∷ xs ≡ x ∷ (xs ++ ys) = is in cc)
+
+module _ {I : Type 0} {g : Ghosts I} (tells : I → (ℕ → ℕ) → ℕ → Type 0) (t : Topology) (custom : Custom) (cut : Cut) where
+  -- one after the other
+  pub goes-on-then : (m n : ℕ) (a b c : Engine I g) (p q r : List (Pass Mail)) (x y z : List Parcel)
+      → GoesOn tells t custom cut m a b p q x y → GoesOn tells t custom cut n b c q r y z → GoesOn tells t custom cut (m + n) a c p r x z
+  goes-on-then m n a b c p q r x y z first second = record {
+    given = λ s. first.given s ++ second.given s;
+    draws = λ s source at.
+        let d = first.draws s source at in
+        let e = second.draws s d.0 d.1 in (e.0, e.1, draws-then tells source d.0 e.0 (first.given s) (second.given s) d.2 e.2);
+    none = λ s off.
+        let one = first.none s off in
+        let two = second.none s one.1 in ((λ i. one.0 i ++ two.0 i), two.1);
+    more = first.more ++ second.more;
+    added = second.added ∙ ap (λ (fs : List Attempt). fs ++ second.more) first.added ∙ append_assoc a.fates first.more second.more;
+    ticks = (let i = first.ticks in let j = second.ticks in omega arith);
+    over = λ over. second.over (first.over over);
+    on = λ words counts outcomes gives has input keeps fine h stands.
+        let both = gives-parts words counts first.given second.given gives in
+        let one = first.on words counts outcomes both.0 (first-outcomes outcomes b.fates second.more c.fates second.added has) input keeps fine h stands in
+        let two = second.on words one.now outcomes (λ s. ap (λ (n : ℕ). map (words s) (range_with_len n (length (second.given s)))) (one.counted s) ∙ both.1 s) has input keeps fine one.history one.stands in record {
+          history = two.history;
+          now = two.now;
+          counted = λ s. two.counted s ∙ (let e = one.counted s in let len = length-append (first.given s) (second.given s) in omega arith);
+          stands = two.stands;
+          rose = λ can all few open_end.
+              (let j = second.ticks in
+              let i = one.rose can all (omega arith) (λ over. open_end (second.over over)) in
+              let k = two.rose can all few open_end in omega arith);
+        };
+  }
+
+module _ {I S : Type 0} {g : Ghosts I} (tells : I → (ℕ → ℕ) → ℕ → Type 0) (holds : S → CellMap → Type 0) (count : S → ℕ) (t : Topology) (custom : Custom) (cut : Cut) (laws : Laws count t custom cut) where
+  -- an engine that goes on leaves parts alone where its coordinator and its fates stay as they are
+  pub runs-quiet : (least : ℕ) (old new : Engine I g) (p q : List (Pass Mail)) (parts : List (StatePart S)) → IsStill old new
+      → GoesOn tells t custom cut least old new p q [] [] → RunsOn tells holds count t custom cut least old new p q parts parts
+  runs-quiet least old new p q parts still goes = record {
+    goes = goes;
+    plans = refl;
+    outcomes = λ are good. subst (λ (fs : List Attempt). All (IsOutcome t) (outcomes_of fs)) (sym still.fates) good;
+    stands = λ words counts outcomes gives has input keeps good h stands on. subst (λ (n : ℕ). PartsStand holds t custom cut n parts) (ap (λ c. (desk_of c).committed) (sym still.coordinator)) on;
+    bad = λ key found. found;
+    strange = λ key found. found;
+    counted = subst (λ (xs : List Attempt). FailuresAreCounted count xs parts parts) (sym (none-added old.fates goes.more (sym still.fates ∙ goes.added))) (laws.counts_none parts);
+  }
+
+  -- one run after the other
+  pub runs-then : (m n : ℕ) (a b c : Engine I g) (p q r : List (Pass Mail)) (u v w : List (StatePart S))
+      → RunsOn tells holds count t custom cut m a b p q u v → RunsOn tells holds count t custom cut n b c q r v w → RunsOn tells holds count t custom cut (m + n) a c p r u w
+  unfolding goes-on-then
+  runs-then m n a b c p q r u v w first second = record {
+    goes = goes-on-then tells t custom cut m n a b c p q r [] [] [] first.goes second.goes;
+    plans = second.plans ∙ first.plans;
+    outcomes = λ are good. second.outcomes (first.plans ∙ are) (first.outcomes are good);
+    stands = λ words counts outcomes gives has input keeps good h stands on.
+        let both = gives-parts words counts first.goes.given second.goes.given gives in
+        let had = first-outcomes outcomes b.fates second.goes.more c.fates second.goes.added has in
+        let one = first.goes.on words counts outcomes both.0 had input keeps good h stands in
+        second.stands words one.now outcomes (λ s. ap (λ (n : ℕ). map (words s) (range_with_len n (length (second.goes.given s)))) (one.counted s) ∙ both.1 s) has input keeps good one.history one.stands
+        (first.stands words counts outcomes both.0 had input keeps good h stands on);
+    bad = λ key found. first.bad key (second.bad key found);
+    strange = λ key found. first.strange key (second.strange key found);
+    counted = laws.counts_then first.goes.more second.goes.more u v w first.plans first.counted second.counted;
+  }

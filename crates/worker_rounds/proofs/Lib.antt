@@ -1,0 +1,6 @@
+pub mod Through
+pub mod Ticking
+pub mod Going
+pub mod Rounds
+mod Driving
+mod Calling

@@ -1,0 +1,46 @@
+-- The laws of worlds that rounds between stretches rest on. This project's own.
+use Rattle.std.specs.Prelude.{◌≡◌, ◌<◌, ◌+◌, ℕ, List, All}
+use Rattle.bolt_ops.specs.RowOp.{Custom, IsCustom}
+use Rattle.box_account.specs.Hearing.{HeardBeforeFailing}
+use Rattle.commit_turns.specs.Outcomes.{IsOutcome}
+use Rattle.event_worlds.specs.Accounted.{IsInput, LedTo}
+use Rattle.event_worlds.specs.Added.{added}
+use Rattle.event_worlds.specs.Rounds.{CanFinish, round_with, ticks_in}
+use Rattle.event_worlds.specs.Worlds.{Known, Step, next, run}
+use Rattle.state_parts.specs.declared.answer.CommitOutcome.{CommitOutcome}
+use Rattle.state_parts.specs.declared.answer.CommitOutcome.TheVariants.{Done}
+use Rattle.topology_plan.specs.Topology.{Topology}
+use Rattle.trident_batches.specs.Batches.{Cut}
+use Rattle.tuple_account.specs.Histories.{History, joined}
+use Rattle.world_progress.specs.Lasting.{Lasting}
+use Rattle.world_progress.specs.Rounding.{DoesMore, LastsOn}
+use Rattle.world_progress.specs.Running.{so_far}
+
+-- What rounds rest on: each step leads on, and a verdict is heard before a commit fails; nothing is
+-- lost by steps, and a round does something.
+pub record RoundLaws (t : Topology) (custom : Custom) (cut : Cut) : Type 0 where
+  pub leads : (words : ℕ → ℕ → ℕ) (outcomes : List CommitOutcome) (s : Step) (h : History)
+      (k : Known) → IsInput t cut → IsCustom custom → All (IsOutcome t) outcomes
+      → LedTo t custom cut words h k
+      → LedTo t custom cut words (joined h (added t custom cut words s k))
+      (next t custom cut words outcomes s k)
+  pub hears : (words : ℕ → ℕ → ℕ) (outcomes : List CommitOutcome) (s : Step) (h : History)
+      (k : Known) → LedTo t custom cut words h k → HeardBeforeFailing h k.world.fates
+      → HeardBeforeFailing (joined h (added t custom cut words s k))
+      (next t custom cut words outcomes s k).world.fates
+  pub lasts : (words : ℕ → ℕ → ℕ) (outcomes : List CommitOutcome) (steps : List Step)
+      (h : History) (k : Known) → IsInput t cut → IsCustom custom
+      → All (λ (how : CommitOutcome). how ≡ Done) outcomes → Lasting t custom cut words h k
+      → k.world.tick + ticks_in steps < t.buckets
+      → LastsOn t custom cut words (ticks_in steps) h k
+      (so_far t custom cut words outcomes steps h k)
+      (run t custom cut words outcomes steps k)
+  pub does : (words : ℕ → ℕ → ℕ) (outcomes : List CommitOutcome) (ticks : ℕ) (h : History)
+      (k : Known) → IsInput t cut → IsCustom custom → CanFinish t
+      → All (λ (how : CommitOutcome). how ≡ Done) outcomes → Lasting t custom cut words h k
+      → k.world.tick + ticks < t.buckets
+      → LastsOn t custom cut words ticks h k
+      (so_far t custom cut words outcomes (round_with t ticks) h k)
+      (run t custom cut words outcomes (round_with t ticks) k)
+      × DoesMore t cut h k (so_far t custom cut words outcomes (round_with t ticks) h k)
+      (run t custom cut words outcomes (round_with t ticks) k)
