@@ -134,6 +134,7 @@ pub fn stretch_once<'p, I: Ids + Send, R: Threads + Wait + Sync, O: RowOp + Sync
     requires few { workers ≤ 64 }
     ensures row { IsFitRow posts.now.plan.now posts.now.boxes.items row.new.items }
     ensures seat { IsWholeSeat board.now seat.new }
+    ensures drawn { (book_of seat.new).drawn ≡ (book_of seat.old).drawn }
     ensures in_time { OnOk result (IsInTime engine.new.tick (book_of seat.new)) }
     ensures still { IsStill engine.old engine.new }
     ensures ready { OnOk result
