@@ -1,0 +1,409 @@
+-- What a run of workers comes to at its end.
+use Rattle.std.proofs.Common.{◌≡◌, ◌≤◌, ◌<◌, ◌==◌, ℕ, zero, suc, ◌-◌, ◌^◌, Bool, true, false, cond, List, [], ◌∷◌, ◌++◌, All, length, map, filter, fold, min, sum, Option, None, Some, is_some, Result, Ok, Err, refl, sym, ap, subst, ◌∙◌, append-nil, eqb-true, true≢false, arith}
+use Rattle.std.specs.Prelude.{OnErr, OnOk, replicate}
+use Rattle.std.specs.List.{AllByRecursion, cons_option, range_with_len}
+use Rattle.std.specs.Result.{IsErrAnd}
+use Rattle.std.proofs.lemmas.List.Elements.{All-from_recursion, recursion_from_All}
+use Rattle.std.proofs.Math.Nat.{min-le_left}
+use Rattle.attempt_fates.specs.declared.fates.Attempt.{Attempt}
+use Rattle.attempt_fates.specs.declared.fates.End.{End}
+use Rattle.attempt_fates.specs.declared.fates.End.TheVariants as end
+use Rattle.attempt_fates.specs.Fates.{IsOfBatch, IsOnce, attempt_numbers}
+use Rattle.batch_commits.specs.Standing.{failed_commits}
+use Rattle.bolt_ops.specs.RowOp.{Custom, IsCustom}
+use Rattle.box_account.specs.Taken.{TookTrue}
+use Rattle.box_account.specs.Telling.{BoxesTell}
+use Rattle.box_rows.specs.declared.mail.Mail.{Mail}
+use Rattle.box_rows.specs.FirstRow.{first_views}
+use Rattle.commit_order.specs.declared.stop.Stop.{Stop}
+use Rattle.commit_order.specs.declared.stop.Stop.TheVariants as stop
+use Rattle.commit_turns.specs.Desks.{Desk}
+use Rattle.commit_turns.specs.Kept.{IsKept, is_failed_commit}
+use Rattle.commit_turns.specs.Turns.{is_finished, last_tick}
+use Rattle.event_engine.proofs.GoesLemmas.{gives-parts}
+use Rattle.event_engine.proofs.WorldLemmas.{words_begin}
+use Rattle.event_engine.specs.declared.engine.Engine.{Engine}
+use Rattle.event_engine.specs.Engines.{HasOutcomes, IsReady, cut_in, has_ended, shape, topology_in}
+use Rattle.event_engine.specs.Starts.{IsStarted}
+use Rattle.event_worlds.specs.Accounted.{AreCaused, IsInput}
+use Rattle.event_worlds.specs.Added.{first_history}
+use Rattle.event_worlds.specs.Rounds.{CanFinish, DoesNotCoincide, round_with, rounds_needed, ticks_in}
+use Rattle.event_worlds.specs.Worlds.{Known, Step, coordinator_steps, first_counts, is_over, of_acker, of_task, of_tick, outcome_by, outcomes_of}
+use Rattle.pulse_board.specs.declared.seat.Board.{Board}
+use Rattle.pulse_board.specs.declared.seat.BoardSeat.{BoardSeat}
+use Rattle.pulse_board.specs.Seats.{book_of}
+use Rattle.schedule_core.proofs.Going.{leads-drives}
+use Rattle.schedule_core.proofs.Rounding.{ticks-gone}
+use Rattle.schedule_core.proofs.Telling.{broken_come, come_caused, come_low, come_tells, short_come, tells_not_begun}
+use Rattle.schedule_core.proofs.TicksOfRuns.{ticks-of-rounds}
+use Rattle.schedule_core.specs.declared.ended.Ended.{Ended}
+use Rattle.schedule_core.specs.declared.ended.Ended.TheVariants as ending
+use Rattle.schedule_core.specs.Driving.{AreKept, HasCome, LeadsOn}
+use Rattle.schedule_core.specs.Laws.{Laws, WorldLaws}
+use Rattle.schedule_core.specs.Rounding.{end_by}
+use Rattle.schedule_core.specs.Runs.{RunTells, ended, first_answers, ticks_between}
+use Rattle.schedule_core.specs.Schedules.{HadMemory, IsAnswer, answer_by, answer_of}
+use Rattle.state_parts.specs.declared.answer.CommitFault.{CommitFault}
+use Rattle.state_parts.specs.declared.answer.CommitFault.TheVariants as fault
+use Rattle.state_parts.specs.declared.answer.CommitOutcome.{CommitOutcome}
+use Rattle.state_parts.specs.declared.answer.CommitOutcome.TheVariants.{Done}
+use Rattle.state_parts.specs.declared.parts.StatePart.{StatePart}
+use Rattle.state_parts.specs.PartPlans.{AreParts}
+use Rattle.storm_ids.specs.declared.ids.Ids.{Ghosts}
+use Rattle.storm_stores.specs.CellMaps.{CellMap}
+use Rattle.storm_ticks.specs.Ticking.{handed_on}
+use Rattle.task_queues.specs.declared.pass.Mailbox.{Mailbox}
+use Rattle.task_queues.specs.declared.pass.Pass.{Pass}
+use Rattle.task_queues.specs.Passes.{view_of}
+use Rattle.topology_plan.specs.Topology.{Topology, tasks_in_all}
+use Rattle.trident_batches.specs.Batches.{Cut, batch_count}
+use Rattle.worker_rounds.specs.Running.{IsGathered, RunsOn}
+use Rattle.worker_runs.proofs.Few.{lasts-here}
+use Rattle.worker_runs.proofs.Going.{first-outcomes, gives-next}
+use Rattle.worker_runs.proofs.Handed.{answered-all, answered-most, sum-more, ticks-below}
+use Rattle.worker_runs.proofs.Starting.{CameBy, came-runs, came-some, came-then, came-told, good-now, stands-start, stood-start}
+use Rattle.worker_runs.specs.Going.{RanOn}
+use Rattle.worker_runs.specs.Laws.{RunLaws}
+use Rattle.worker_runs.specs.WorkerRuns.{DrewEach, NothingRanOut, WorkersCome}
+use Rattle.worker_stretches.specs.Parts.{IsWholeSeat}
+use Rattle.worker_stretches.specs.Standing.{beside_it}
+use Rattle.worker_turns.specs.Carrying.{AreEmpty}
+
+-- ---- ticks of a round
+
+no-tasks : (xs : List ℕ) → ticks_in (map of_task xs) ≡ 0
+no-tasks [] = refl
+no-tasks (x ∷ xs) = no-tasks xs
+
+no-ackers : (xs : List ℕ) → ticks_in (map of_acker xs) ≡ 0
+no-ackers [] = refl
+no-ackers (x ∷ xs) = no-ackers xs
+
+all-ticks : (n : ℕ) → ticks_in (replicate n of_tick) ≡ n
+all-ticks zero = refl
+all-ticks (suc n) = ap (λ (k : ℕ). suc k) (all-ticks n)
+
+-- the first steps of a round have no more ticks than it
+ticks-of-first : (t : Topology) (n : ℕ) (steps rest : List Step) → round_with t n ≡ steps ++ rest → ticks_in steps ≤ n
+ticks-of-first t n steps rest are =
+    let tasks : List Step = map of_task (range_with_len 0 (tasks_in_all t)) in
+    let ackers : List Step = map of_acker (range_with_len 0 t.ackers) in
+    let ticks : List Step = replicate n of_tick in
+    let a = ticks-of-rounds (tasks ++ ackers ++ ticks) coordinator_steps in
+    let b = ticks-of-rounds (tasks ++ ackers) ticks in
+    let c = ticks-of-rounds tasks ackers in
+    let d : ticks_in coordinator_steps ≡ 0 = refl in
+    let e = no-tasks (range_with_len 0 (tasks_in_all t)) in
+    let f = no-ackers (range_with_len 0 t.ackers) in
+    let h = all-ticks n in
+    let whole : ticks_in (round_with t n) ≡ n = omega arith in
+    let both = ap ticks_in are in
+    let parts = ticks-of-rounds steps rest in omega arith
+
+-- ---- where no commit failed
+
+done-each : (fates : List Attempt) → failed_commits fates ≡ 0 → AllByRecursion (λ (how : CommitOutcome). how ≡ Done) (outcomes_of fates)
+done-each [] none = tt
+done-each (a ∷ fates) none = by (λ few. done-each fates few) a.end none
+  where
+    by : (failed_commits fates ≡ 0 → AllByRecursion (λ (how : CommitOutcome). how ≡ Done) (outcomes_of fates)) → (e : End)
+        → length (cond (is_failed_commit e) (a ∷ filter (λ (x : Attempt). is_failed_commit x.end) fates) (filter (λ (x : Attempt). is_failed_commit x.end) fates)) ≡ 0
+        → AllByRecursion (λ (how : CommitOutcome). how ≡ Done) (cons_option (outcome_by e) (outcomes_of fates))
+    by rest (end.Committed list) few = (refl, rest few)
+    by rest (end.Failed path) few = rest few
+    by rest end.TimedOut few = rest few
+    by rest (end.Coincided list) few = rest few
+    by rest (end.CommitFailed c p before after) few = absurd (omega arith)
+
+-- all outcomes are done
+are-done : (fates : List Attempt) → failed_commits fates ≡ 0 → All (λ (how : CommitOutcome). how ≡ Done) (outcomes_of fates)
+are-done fates none = All-from_recursion (λ (how : CommitOutcome). how ≡ Done) (outcomes_of fates) (done-each fates none)
+
+-- a transaction with an attempt is of a batch that is there
+of-batch : (n size txid : ℕ) (fates : List Attempt) → AllByRecursion (IsOfBatch n size) fates → 1 ≤ length (attempt_numbers txid fates) → txid ≤ batch_count n size
+of-batch n size txid [] each some = absurd (omega arith)
+of-batch n size txid (a ∷ fates) each some = by (of-batch n size txid fates each.1) (a.root.txid == txid) refl some
+  where
+    by : (1 ≤ length (attempt_numbers txid fates) → txid ≤ batch_count n size) → (b : Bool) → (a.root.txid == txid) ≡ b
+        → 1 ≤ length (map (λ (x : Attempt). x.root.attempt) (cond b (a ∷ filter (λ (x : Attempt). x.root.txid == txid) fates) (filter (λ (x : Attempt). x.root.txid == txid) fates)))
+        → txid ≤ batch_count n size
+    by rest true is more =
+        let same : a.root.txid ≡ txid = eqb-true a.root.txid txid is in
+        let there = each.0.is_there.1 in omega arith
+    by rest false is more = rest more
+
+-- where every batch is committed no transaction ran out of attempts
+not-exhausted : (t : Topology) (cut : Cut) (d : Desk) (fates : List Attempt) → IsKept t cut d fates → 1 ≤ t.attempts → is_finished t cut d ≡ true → (txid : ℕ) → d.exhausted ≡ Some txid → ⊥
+not-exhausted t cut d fates kept some done txid is =
+    let out = kept.ran_out txid is in
+    let all : d.committed ≡ batch_count (length cut.records) cut.size = eqb-true d.committed (batch_count (length cut.records) cut.size) done in
+    let many = out.0 in
+    let few = out.1 in
+    let there = of-batch (length cut.records) cut.size txid fates (recursion_from_All (IsOfBatch (length cut.records) cut.size) fates kept.once.of_batch) (omega arith) in omega arith
+
+-- so it answers that all is committed
+finished-answer : (t : Topology) (cut : Cut) (d : Desk) (fates : List Attempt) → IsKept t cut d fates → 1 ≤ t.attempts → is_finished t cut d ≡ true → answer_by d.exhausted (is_finished t cut d) d.committed ≡ Ok ending.All
+finished-answer t cut d fates kept some done = by d.exhausted (is_finished t cut d) (not-exhausted t cut d fates kept some done) done
+  where
+    by : (o : Option ℕ) (b : Bool) → ((txid : ℕ) → o ≡ Some txid → ⊥) → b ≡ true → answer_by o b d.committed ≡ Ok ending.All
+    by (Some txid) b none is = absurd (none txid refl)
+    by None b none is = ap (λ (c : Bool). answer_by None c d.committed) is
+
+-- what did not run out of attempts
+not-out : (answer : Result (Unit {0}) Stop) (end_is : Result Ended Stop) → end_is ≡ ended answer → ((txid : ℕ) → end_is ≡ Err (stop.Exhausted txid) → ⊥) → NothingRanOut answer
+not-out (Ok ok) end_is same none = tt
+not-out (Err (stop.Exhausted txid)) end_is same none = none txid same
+not-out (Err (stop.BadCell key)) end_is same none = tt
+not-out (Err stop.Memory) end_is same none = tt
+
+-- a count that has not come to its end
+same-count : (tick drawn sums : ℕ) → tick ≡ min drawn (2 ^ 64 - 1) → tick ≡ min sums (2 ^ 64 - 1) → sums < 2 ^ 64 - 1 → drawn ≡ sums
+same-count tick drawn sums one two few = omega arith
+
+-- ---- the whole
+
+-- an engine ran on, and what ran came to this
+pub record RunEnded {I S T : Type 0} {g : Ghosts I} (tells : I → (ℕ → ℕ) → ℕ → Type 0) (holds : S → CellMap → Type 0) (count : S → ℕ) (handed : T → ℕ) (ticking : T → List ℕ → Type 0) (custom : Custom) (boxes : List (Mailbox Mail)) (board : Board) (before after : T) (old : Engine I g)
+    (row : List (Pass Mail)) (was : List (StatePart S)) (done : Result (Unit {0}) CommitFault) (e : Engine I g) (now_row : List (Pass Mail)) (seat : BoardSeat) (is : List (StatePart S)) (t : Topology) (cut : Cut) : Type 0 where
+  pub ran : RanOn tells holds count handed ticking t custom cut done old e row now_row was is before after
+  pub gathered : OnOk done (IsGathered t cut boxes board e now_row seat)
+  pub over : OnOk done (has_ended e ≡ true)
+  pub once : OnErr done (IsOnce (length cut.records) cut.size last_tick e.fates)
+  pub kept : AreKept holds was is
+
+module _ {I S T : Type 0} {g : Ghosts I} (told : (ℕ → ℕ → ℕ) → Type 0) (tells : I → (ℕ → ℕ) → ℕ → Type 0) (holds : S → CellMap → Type 0) (count : S → ℕ) (handed : T → ℕ) (ticking : T → List ℕ → Type 0) (t : Topology) (custom : Custom) (cut : Cut)
+    (run_laws : RunLaws t custom cut) (laws : WorldLaws holds count t custom cut) (steps : Laws count t custom cut) (input : IsInput t cut) (keeps : IsCustom custom) (some : 0 < cut.size)
+    (boxes : List (Mailbox Mail)) (board : Board) (e0 : Engine I g) (started : IsStarted told tells t e0) (row : List (Pass Mail)) (first : map view_of row ≡ first_views t) (was : List (StatePart S)) (planned : AreParts t was) (before after : T)
+    (e : Engine I g) (now_row : List (Pass Mail)) (seat : BoardSeat) (is : List (StatePart S)) where
+  abbrev DidEnd : Result (Unit {0}) CommitFault → Type 0
+  DidEnd done = RunEnded tells holds count handed ticking custom boxes board before after e0 row was done e now_row seat is t cut
+
+  abbrev answer_at : Result Ended Stop
+  answer_at = answer_of (topology_in e) (cut_in e) (shape e)
+
+  abbrev ticks_at : ℕ
+  ticks_at = ticks_between (handed before) (handed after)
+
+  -- ---- what a run has come to
+
+  abbrev Came : Engine I g → List (StatePart S) → Type 0
+  Came at parts = CameBy told tells t e0 started holds count custom cut run_laws laws steps input keeps some row first was planned at parts
+
+  by_runs : (n : ℕ) (mid : Engine I g) (mid_row : List (Pass Mail)) (q : List (StatePart S)) → RunsOn tells holds count t custom cut n e0 mid row mid_row was q → AreEmpty mid_row → Came mid q
+  by_runs n mid mid_row q runs empty = came-runs told tells t e0 started holds count custom cut run_laws laws steps input keeps some row first was planned n mid mid_row q runs empty
+
+  on_then : (mid at : Engine I g) (q r : List (StatePart S)) → Came mid q → LeadsOn tells holds count t custom cut mid at q r → Came at r
+  on_then mid at q r came on = came-then told tells t e0 started holds count custom cut run_laws laws steps input keeps some row first was planned mid at q r came on
+
+  some_words : (at : Engine I g) (r : List (StatePart S)) → Came at r → (words : ℕ → ℕ → ℕ) × HasCome holds count t custom cut words at was r
+  some_words at r came = came-some told tells t e0 started holds count custom cut run_laws laws steps input keeps some row first was planned at r came
+
+  told_words : (at : Engine I g) (r : List (StatePart S)) → Came at r → (words : ℕ → ℕ → ℕ) → told words → HasCome holds count t custom cut words at was r
+  told_words at r came words are = came-told told tells t e0 started holds count custom cut run_laws laws steps input keeps some row first was planned at r came words are
+
+  -- ---- what is told
+
+  -- of the answer, the fates and the parts, also by words that sources told
+  pub record Told (answer : Result Ended Stop) : Type 0 where
+    pub tells_so : RunTells holds count t custom cut (ticks_between (handed before) (handed after)) answer e.fates was is
+    pub drawn : (words : ℕ → ℕ → ℕ) → told words → HadMemory answer → AreCaused t custom cut (ticks_between (handed before) (handed after)) words e.fates
+
+  answer_is : IsReady t cut e → answer_at ≡ answer_of t cut (shape e)
+  answer_is ready =
+      ap (λ (u : Topology). answer_of u (cut_in e) (shape e)) ready.seated.of_topology
+      ∙ ap (λ (k : Cut). answer_of t k (shape e)) ready.seated.of_cut
+
+  -- no more ticks than were answered are no more than were handed out
+  allows : (answers : List ℕ) → handed after ≡ fold handed_on (handed before) answers → (shape e).tick ≤ sum answers → (n : ℕ) → n ≤ (shape e).tick → n ≤ last_tick → n ≤ ticks_at
+  allows answers is most n low last = answered-most answers (handed before) (handed after) is n (omega arith) last
+
+  told_ok : DidEnd (Ok tt) → Told answer_at
+  told_ok ended_so =
+      let went = ended_so.ran.went in
+      let came = by_runs went.rounds e now_row is went.runs ended_so.gathered.empty in
+      let one = some_words e is came in
+      let all = allows ended_so.ran.answers ended_so.ran.asked.handed_out (let a = min-le_left (sum ended_so.ran.answers) (2 ^ 64 - 1) in let b = went.ticked in omega arith) in
+      let low = come_low holds count t custom cut laws input one.0 e was is one.1 ticks_at all in record {
+        tells_so =
+            subst (λ (r : Result Ended Stop). RunTells holds count t custom cut ticks_at r e.fates was is) (sym (answer_is ended_so.gathered.ready))
+            (come_tells holds count t custom cut laws input one.0 e was is one.1 some ticks_at low ended_so.kept);
+        drawn = λ words are had. come_caused holds count t custom cut laws input words e was is (told_words e is came words are) ticks_at low;
+      }
+
+  told_bad : (key : List ℕ) → DidEnd (Err (fault.BadCell key)) → Told (Err (stop.BadCell key))
+  told_bad key ended_so =
+      let b = ended_so.ran.bad key refl in
+      let br = b.broken.breaks in
+      let on = leads-drives tells holds count t custom cut steps.accounted br.steps b.mid e b.between br.between br.drives in
+      let came = on_then b.mid e b.between br.between (by_runs b.went.rounds b.mid b.mid_row b.between b.went.runs b.empty) on in
+      let one = some_words e br.between came in
+      let most : (shape e).tick ≤ sum ended_so.ran.answers =
+      (let gone = ticks-gone tells t custom cut br.steps b.mid e br.drives.goes in
+      let few = ticks-of-first t b.last br.steps br.rest br.first in
+      let sums = ap (λ (xs : List ℕ). sum xs) b.answers_are ∙ sum-more b.first b.last in
+      let a = min-le_left (sum b.first) (2 ^ 64 - 1) in
+      let c = b.went.ticked in omega arith) in
+      let low = come_low holds count t custom cut laws input one.0 e was br.between one.1 ticks_at (allows ended_so.ran.answers ended_so.ran.asked.handed_out most) in record {
+        tells_so = broken_come holds count t custom cut laws input one.0 e e.fates was br.between is one.1 br.leaves refl ticks_at key low ended_so.kept (b.went.runs.bad key br.bad);
+        drawn = λ words are had. come_caused holds count t custom cut laws input words e was br.between (told_words e br.between came words are) ticks_at low;
+      }
+
+  told_short : DidEnd (Err fault.Memory) → Told (Err stop.Memory)
+  told_short ended_so =
+      let s = ended_so.ran.short refl in
+      let came = on_then s.mid s.out.mid s.between s.out.between (by_runs s.rounds s.mid s.mid_row s.between s.runs s.empty) s.out.leads in
+      let one = some_words s.out.mid s.out.between came in record {
+        tells_so = short_come holds count t custom cut laws input one.0 s.out.mid e.fates was s.out.between is one.1 s.out.leaves ticks_at ended_so.once ended_so.kept;
+        drawn = λ words are had. absurd had;
+      }
+
+  told_end : (done : Result (Unit {0}) CommitFault) → DidEnd done → Told (end_by done answer_at)
+  told_end (Ok ok) ended_so = told_ok ended_so
+  told_end (Err (fault.BadCell key)) ended_so = told_bad key ended_so
+  told_end (Err fault.Memory) ended_so = told_short ended_so
+
+  -- what the whole came to
+  pub comes-end : (done : Result (Unit {0}) CommitFault) → DidEnd done → (answer : Result (Unit {0}) Stop) → end_by done answer_at ≡ ended answer → WorkersCome told (ticking before) holds count t custom cut (handed before) (handed after) answer e.fates was is
+  comes-end done ended_so answer same =
+      let all = subst Told same (told_end done ended_so) in record {
+        answers = ended_so.ran.answers;
+        handed_out = ended_so.ran.asked.handed_out;
+        asked = ended_so.ran.asked.first;
+        tells = all.tells_so;
+        drawn = all.drawn;
+      }
+
+  -- ---- what boxes tell
+
+  books_ok : DidEnd (Ok tt) → TookTrue t now_row → BoxesTell t custom cut now_row e.fates
+  books_ok ended_so took =
+      let runs = ended_so.ran.went.runs in
+      let all = words_begin told tells t e0 started runs.goes.given in
+      let outcomes = outcomes_of e.fates in
+      let has : HasOutcomes outcomes e.fates = record { rest = []; first = sym (append-nil outcomes) } in
+      let good = good-now told tells t e0 started holds count custom cut run_laws laws steps input keeps some row first was planned ended_so.ran.went.rounds e now_row is runs in
+      let stands = stands-start told tells t e0 started holds count custom cut run_laws laws steps input keeps some row first was planned all.0 outcomes all.1 in
+      let later = runs.goes.on all.0 (first_counts t all.0) outcomes all.2 has input keeps good (first_history t all.0) stands in
+      run_laws.boxes all.0 (beside_it now_row []) later.history (record { world = shape e; counts = later.now }) now_row later.stands.led later.stands.through took later.stands.heard
+
+  books_bad : (key : List ℕ) → DidEnd (Err (fault.BadCell key)) → TookTrue t now_row → BoxesTell t custom cut now_row e.fates
+  books_bad key ended_so took =
+      let b = ended_so.ran.bad key refl in
+      let runs = b.went.runs in
+      let drives = b.broken.breaks.drives in
+      let all = words_begin told tells t e0 started (λ s. runs.goes.given s ++ drives.goes.given s) in
+      let parts = gives-parts all.0 (first_counts t all.0) runs.goes.given drives.goes.given all.2 in
+      let outcomes = outcomes_of e.fates in
+      let has : HasOutcomes outcomes e.fates = record { rest = []; first = sym (append-nil outcomes) } in
+      let good_mid = good-now told tells t e0 started holds count custom cut run_laws laws steps input keeps some row first was planned b.went.rounds b.mid b.mid_row b.between runs in
+      let good = drives.outcomes (runs.plans ∙ planned) good_mid in
+      let stands = stands-start told tells t e0 started holds count custom cut run_laws laws steps input keeps some row first was planned all.0 outcomes all.1 in
+      let later = runs.goes.on all.0 (first_counts t all.0) outcomes parts.0 (first-outcomes outcomes b.mid.fates drives.goes.more e.fates drives.goes.added has) input keeps good (first_history t all.0) stands in
+      let reach = b.broken.stood all.0 later.now outcomes (gives-next all.0 (first_counts t all.0) later.now runs.goes.given drives.goes.given later.counted parts.1) has input keeps good later.history later.stands in
+      subst (λ (r : List (Pass Mail)). BoxesTell t custom cut r e.fates) (sym b.same)
+      (run_laws.boxes all.0 (beside_it b.mid_row []) reach.history (record { world = shape e; counts = reach.counts }) b.mid_row reach.led reach.through (subst (TookTrue t) b.same took) reach.heard)
+
+  books_by : (done : Result (Unit {0}) CommitFault) → DidEnd done → HadMemory (end_by done answer_at) → TookTrue t now_row → BoxesTell t custom cut now_row e.fates
+  books_by (Ok ok) ended_so had took = books_ok ended_so took
+  books_by (Err (fault.BadCell key)) ended_so had took = books_bad key ended_so took
+  books_by (Err fault.Memory) ended_so had took = absurd had
+
+  pub books-end : (done : Result (Unit {0}) CommitFault) → DidEnd done → (answer : Result (Unit {0}) Stop) → end_by done answer_at ≡ ended answer → HadMemory (ended answer) → TookTrue t now_row → BoxesTell t custom cut now_row e.fates
+  books-end done ended_so answer same had took = books_by done ended_so (subst HadMemory (sym same) had) took
+
+  -- ---- where nothing is in the way
+
+  module _ (to_come : List ℕ) (tells_so : ticking before to_come) (can : CanFinish t) (apart : All DoesNotCoincide e.fates) (no_failure : failed_commits e.fates ≡ 0) (low : sum (first_answers (rounds_needed t custom cut) to_come) < t.buckets) where
+    finished_ok : DidEnd (Ok tt) → answer_at ≡ Ok ending.All
+    finished_ok ended_so =
+        let went = ended_so.ran.went in
+        let runs = went.runs in
+        let ready = ended_so.gathered.ready in
+        let all = words_begin told tells t e0 started runs.goes.given in
+        let outcomes = outcomes_of e.fates in
+        let has : HasOutcomes outcomes e.fates = record { rest = []; first = sym (append-nil outcomes) } in
+        let good = good-now told tells t e0 started holds count custom cut run_laws laws steps input keeps some row first was planned went.rounds e now_row is runs in
+        let stands = stands-start told tells t e0 started holds count custom cut run_laws laws steps input keeps some row first was planned all.0 outcomes all.1 in
+        let stood = stood-start told tells t e0 started holds count custom cut run_laws laws steps input keeps some row first was planned went.rounds e now_row is runs all.0 outcomes all.1 all.2 has good in
+        let later = runs.goes.on all.0 (first_counts t all.0) outcomes all.2 has input keeps good (first_history t all.0) stands in
+        let k : Known = record { world = shape e; counts = later.now } in
+        let done_all = are-done e.fates no_failure in
+        let most = went.few to_come tells_so low can outcomes done_all stood in
+        let below = ticks-below e.tick went.rounds (rounds_needed t custom cut) t.buckets ended_so.ran.answers to_come went.ticked went.many (ended_so.ran.asked.first to_come tells_so) most low in
+        let lasting = lasts-here t custom cut all.0 outcomes now_row later.history k ended_so.gathered.empty later.stands done_all below in
+        let over : is_over t cut (shape e) ≡ true =
+        sym (ap (λ (u : Topology). is_over u (cut_in e) (shape e)) ready.seated.of_topology ∙ ap (λ (c : Cut). is_over t c (shape e)) ready.seated.of_cut) ∙ ended_so.over in
+        let finished = run_laws.finished all.0 later.history k input can lasting below apart over in
+        answer_is ready ∙ finished-answer t cut (shape e).desk e.fates ready.kept input.valid.attempts.0 finished
+
+    finishes_by : (done : Result (Unit {0}) CommitFault) → DidEnd done → (txid : ℕ) → end_by done answer_at ≡ Err (stop.Exhausted txid) → ⊥
+    finishes_by (Ok ok) ended_so txid out = let all = finished_ok ended_so in cc
+    finishes_by (Err (fault.BadCell key)) ended_so txid out = let e : Err (stop.BadCell key) ≡ Err (stop.Exhausted txid) = out in cc
+    finishes_by (Err fault.Memory) ended_so txid out = let e : Err stop.Memory ≡ Err (stop.Exhausted txid) = out in cc
+
+    pub finishes-end : (done : Result (Unit {0}) CommitFault) → DidEnd done → (answer : Result (Unit {0}) Stop) → end_by done answer_at ≡ ended answer → NothingRanOut answer
+    finishes-end done ended_so answer same = not-out answer (end_by done answer_at) same (finishes_by done ended_so)
+
+  -- ---- the board
+
+  seat_by : (done : Result (Unit {0}) CommitFault) → DidEnd done → IsAnswer (end_by done answer_at) → IsWholeSeat board seat × DrewEach ticks_at seat
+  seat_by (Ok ok) ended_so answered = (
+    ended_so.gathered.whole,
+    λ few.
+        let sums = answered-all ended_so.ran.answers (handed before) (handed after) ended_so.ran.asked.handed_out few in
+        same-count e.tick (length (book_of seat).drawn) (sum ended_so.ran.answers) ended_so.gathered.in_time ended_so.ran.went.ticked (omega arith) ∙ sums,
+  )
+  seat_by (Err (fault.BadCell key)) ended_so answered = absurd answered
+  seat_by (Err fault.Memory) ended_so answered = absurd answered
+
+  pub seat-end : (done : Result (Unit {0}) CommitFault) → DidEnd done → (answer : Result (Unit {0}) Stop) → end_by done answer_at ≡ ended answer → IsAnswer (ended answer) → IsWholeSeat board seat × DrewEach ticks_at seat
+  seat-end done ended_so answer same answered = seat_by done ended_so (subst IsAnswer (sym same) answered)
+
+  -- ---- all of it
+
+  -- what a run of workers promises
+  pub record Ends (answer : Result (Unit {0}) Stop) (fates : List Attempt) : Type 0 where
+    pub comes : WorkersCome told (ticking before) holds count t custom cut (handed before) (handed after) answer fates was is
+    pub finishes : (to_come : List ℕ) → ticking before to_come → CanFinish t → All DoesNotCoincide fates → failed_commits fates ≡ 0 → sum (first_answers (rounds_needed t custom cut) to_come) < t.buckets → NothingRanOut answer
+    pub books : HadMemory (ended answer) → TookTrue t now_row → BoxesTell t custom cut now_row fates
+    pub seat_is : IsAnswer (ended answer) → IsWholeSeat board seat
+    pub ticked : IsAnswer (ended answer) → DrewEach (ticks_between (handed before) (handed after)) seat
+
+  pub ends : (done : Result (Unit {0}) CommitFault) → DidEnd done → (answer : Result (Unit {0}) Stop) → end_by done answer_at ≡ ended answer → (fates : List Attempt) → fates ≡ e.fates → Ends answer fates
+  ends done so answer same fates are =
+      subst (λ (fs : List Attempt). Ends answer fs) (sym are) (record {
+        comes = comes-end done so answer same;
+        finishes = λ to_come tells_so can apart none low. finishes-end to_come tells_so can apart none low done so answer same;
+        books = λ had took. books-end done so answer same had took;
+        seat_is = λ answered. (seat-end done so answer same answered).0;
+        ticked = λ answered. (seat-end done so answer same answered).1;
+      })
+
+-- memory was wanted before anything was done
+pub comes-not-begun : {S : Type 0} (told : (ℕ → ℕ → ℕ) → Type 0) (ticking : List ℕ → Type 0) (holds : S → CellMap → Type 0) (count : S → ℕ) (t : Topology) (custom : Custom) (cut : Cut) (laws : WorldLaws holds count t custom cut) (before : ℕ) (fates : List Attempt) (parts : List (StatePart S))
+    → 0 < cut.size → fates ≡ [] → WorkersCome told ticking holds count t custom cut before before (Err stop.Memory) fates parts parts
+comes-not-begun told ticking holds count t custom cut laws before fates parts some none = record {
+  answers = [];
+  handed_out = refl;
+  asked = λ to_come is. refl;
+  tells = tells_not_begun holds count t custom cut laws (ticks_between before before) fates parts some none;
+  drawn = λ words are had. absurd had;
+}
+
+-- ---- the two ends
+
+-- where all is over and nothing stopped the run, all is committed
+whole-by : (o : Option ℕ) (b : Bool) (n : ℕ) (how : Ended) → cond (is_some o) true b ≡ true → answer_by o b n ≡ Ok how → answer_by o b n ≡ Ok ending.All
+whole-by (Some txid) b n how over is = absurd (let e : Err (stop.Exhausted txid) ≡ Ok how = is in cc)
+whole-by None true n how over is = refl
+whole-by None false n how over is = absurd (true≢false (sym over))
+
+pub whole-end : {I : Type 0} {g : Ghosts I} (done : Result (Unit {0}) CommitFault) (e : Engine I g) (end_is : Result Ended Stop) (how : Ended) → OnOk done (has_ended e ≡ true) → end_is ≡ end_by done (answer_of (topology_in e) (cut_in e) (shape e)) → end_is ≡ Ok how → end_by done (answer_of (topology_in e) (cut_in e) (shape e)) ≡ ended (Ok tt)
+whole-end (Ok ok) e end_is how over is whole = whole-by (shape e).desk.exhausted (is_finished (topology_in e) (cut_in e) (shape e).desk) (shape e).desk.committed how over (sym is ∙ whole)
+whole-end (Err (fault.BadCell key)) e end_is how over is whole = absurd (let a : end_is ≡ Err (stop.BadCell key) = is in let b = whole in cc)
+whole-end (Err fault.Memory) e end_is how over is whole = absurd (let a : end_is ≡ Err stop.Memory = is in let b = whole in cc)
+
+-- an error is handed on
+pub stopped-end : (end_is made : Result Ended Stop) (answer : Result (Unit {0}) Stop) (error : Stop) → IsErrAnd answer (λ e. e ≡ error) → end_is ≡ made → end_is ≡ Err error → made ≡ ended answer
+stopped-end end_is made (Ok ok) error exits is same = absurd exits
+stopped-end end_is made (Err e) error exits is same = sym is ∙ same ∙ ap (λ (x : Stop). Err x) (sym exits)

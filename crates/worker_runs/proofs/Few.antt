@@ -1,0 +1,54 @@
+-- Where nothing is lost there are no more rounds than are needed.
+use Rattle.std.proofs.Common.{◌≡◌, ◌<◌, ℕ, List, [], All, sym, ◌∙◌, true≢false, true, false, arith}
+use Rattle.bolt_ops.specs.RowOp.{Custom}
+use Rattle.box_rows.specs.declared.mail.Mail.{Mail}
+use Rattle.event_engine.specs.declared.engine.Engine.{Engine}
+use Rattle.event_engine.specs.Engines.{has_ended, shape}
+use Rattle.event_worlds.specs.Accounted.{IsInput, LedTo}
+use Rattle.event_worlds.specs.Rounds.{CanFinish, rounds_needed}
+use Rattle.event_worlds.specs.Worlds.{Known}
+use Rattle.schedule_core.proofs.Going.{led-alone}
+use Rattle.state_parts.specs.declared.answer.CommitOutcome.{CommitOutcome}
+use Rattle.state_parts.specs.declared.answer.CommitOutcome.TheVariants.{Done}
+use Rattle.storm_ids.specs.declared.ids.Ids.{Ghosts}
+use Rattle.task_queues.specs.declared.pass.Pass.{Pass}
+use Rattle.topology_plan.specs.Topology.{Topology}
+use Rattle.trident_batches.specs.Batches.{Cut}
+use Rattle.tuple_account.specs.Histories.{History}
+use Rattle.worker_runs.proofs.Rows.{none-held}
+use Rattle.worker_runs.specs.Going.{StoodAt}
+use Rattle.worker_stretches.specs.Standing.{GoesOn, Later, Stands, beside_it}
+use Rattle.worker_turns.specs.Carrying.{AreEmpty}
+use Rattle.world_progress.specs.Doing.{done}
+use Rattle.world_progress.specs.Lasting.{Lasting}
+
+-- ---- a world beside empty boxes
+
+module _ (t : Topology) (custom : Custom) (cut : Cut) where
+  -- what led to it with what boxes hold led to it alone
+  pub led-here : (words : ℕ → ℕ → ℕ) (outcomes : List CommitOutcome) (row : List (Pass Mail)) (h : History) (k : Known) → AreEmpty row → Stands t custom cut words outcomes row [] h k → LedTo t custom cut words h k
+  led-here words outcomes row h k empty stands =
+      led-alone t custom cut words (beside_it row []) (λ f. (let e = none-held row empty f in omega arith)) h k stands.led
+
+  -- nothing was lost in it
+  pub lasts-here : (words : ℕ → ℕ → ℕ) (outcomes : List CommitOutcome) (row : List (Pass Mail)) (h : History) (k : Known) → AreEmpty row → Stands t custom cut words outcomes row [] h k
+      → All (λ (how : CommitOutcome). how ≡ Done) outcomes → k.world.tick < t.buckets → Lasting t custom cut words h k
+  lasts-here words outcomes row h k empty stands all few =
+      let lasts = stands.lasts all few in record { led = led-here words outcomes row h k empty stands; seats = lasts.seats; whole = lasts.whole; fine = lasts.fine }
+
+  -- what was done in such a world is less than the number of rounds that are needed
+  abbrev pub IsBounded : Type 0
+  IsBounded = (words : ℕ → ℕ → ℕ) (h : History) (k : Known) → IsInput t cut → Lasting t custom cut words h k → done h k.world < rounds_needed t custom cut
+
+module _ {I : Type 0} {g : Ghosts I} (tells : I → (ℕ → ℕ) → ℕ → Type 0) (t : Topology) (custom : Custom) (cut : Cut) (outcomes : List CommitOutcome) (least : ℕ) (old new : Engine I g) (row now_row : List (Pass Mail)) (goes : GoesOn tells t custom cut least old new row now_row [] []) (stood : StoodAt tells t custom cut outcomes least old new row now_row goes) where
+  -- what it went on to
+  pub later-of : Later t custom cut stood.words outcomes now_row [] least goes.given stood.counts stood.history (shape old) (shape new) (has_ended new ≡ true)
+  later-of = goes.on stood.words stood.counts outcomes stood.gives stood.has stood.input stood.keeps stood.good stood.history stood.stands
+
+  -- where all is not over less rounds went by than are needed
+  pub rounds-left : IsBounded t custom cut → AreEmpty now_row → CanFinish t → All (λ (how : CommitOutcome). how ≡ Done) outcomes → new.tick < t.buckets → has_ended new ≡ false → least < rounds_needed t custom cut
+  rounds-left bounded empty can all few open_still =
+      let later = later-of in
+      let k : Known = record { world = shape new; counts = later.now } in
+      let rose = later.rose can all few (λ over. true≢false (sym over ∙ open_still)) in
+      let most = bounded stood.words later.history k stood.input (lasts-here t custom cut stood.words outcomes now_row later.history k empty later.stands all few) in omega arith

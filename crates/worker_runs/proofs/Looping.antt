@@ -1,0 +1,216 @@
+-- Rounds of the caller and stretches, one after another.
+use Rattle.std.proofs.Common.{◌≡◌, ℕ, ◌+◌, ◌-◌, ◌^◌, false, List, [], ◌∷◌, ◌++◌, length-append, drop, min, sum, Result, Ok, Err, refl, sym, ap, subst, ◌∙◌, arith}
+use Rattle.std.specs.Prelude.{OnErr, OnOk}
+use Rattle.std.specs.Result.{IsErrAnd}
+use Rattle.bolt_ops.specs.RowOp.{Custom}
+use Rattle.box_rows.specs.declared.mail.Mail.{Mail}
+use Rattle.event_engine.specs.declared.engine.Engine.{Engine}
+use Rattle.event_engine.specs.Engines.{IsStill, cut_in, has_ended}
+use Rattle.event_worlds.specs.Rounds.{rounds_needed}
+use Rattle.pulse_board.specs.declared.seat.Board.{Board}
+use Rattle.pulse_board.specs.declared.seat.BoardSeat.{BoardSeat}
+use Rattle.schedule_core.proofs.Going.{leads-drives, leads-none, leads-short}
+use Rattle.schedule_core.proofs.Rounding.{asked-more, asked-none}
+use Rattle.schedule_core.specs.Driving.{AreKept, WantsMemory}
+use Rattle.schedule_core.specs.Laws.{Laws}
+use Rattle.schedule_core.specs.Rounding.{Asked}
+use Rattle.state_parts.specs.declared.answer.CommitFault.{CommitFault}
+use Rattle.state_parts.specs.declared.answer.CommitFault.TheVariants as fault
+use Rattle.state_parts.specs.declared.parts.StatePart.{StatePart}
+use Rattle.state_parts.specs.PartPlans.{AreParts}
+use Rattle.storm_ids.specs.declared.ids.Ids.{Ghosts}
+use Rattle.storm_stores.specs.CellMaps.{CellMap}
+use Rattle.storm_ticks.specs.Ticking.{first_answer, handed_on}
+use Rattle.task_queues.specs.declared.pass.Mailbox.{Mailbox}
+use Rattle.task_queues.specs.declared.pass.Pass.{Pass}
+use Rattle.topology_plan.specs.Topology.{Topology}
+use Rattle.trident_batches.specs.Batches.{Cut}
+use Rattle.worker_rounds.specs.Running.{Broken, IsGathered, RunsOn}
+use Rattle.worker_runs.proofs.Few.{IsBounded, rounds-left}
+use Rattle.worker_runs.proofs.Going.{runs-none, runs-still, runs-then, stood-runs}
+use Rattle.worker_runs.proofs.Handed.{sum-more, ticks-below}
+use Rattle.worker_runs.proofs.Keeping.{gathered-back, kept-none, kept-then}
+use Rattle.worker_runs.specs.Going.{RanOn, Went}
+use Rattle.worker_stretches.specs.Standing.{GoesOn}
+use Rattle.worker_turns.specs.Carrying.{AreEmpty}
+
+-- a count that ends rises by one more answer
+min-more : (tick top a n : ℕ) → tick ≡ min (min a top + n) top → tick ≡ min (a + n) top
+min-more tick top a n is = omega arith
+
+short-ok : (X : Type 0) (done : Result (Unit {0}) CommitFault) (error : CommitFault) → IsErrAnd done (λ e. e ≡ error) → OnOk done X
+short-ok X (Ok ok) error exits = absurd exits
+short-ok X (Err e) error exits = tt
+
+-- want of memory is no bad cell
+no-key : (done : Result (Unit {0}) CommitFault) (error : CommitFault) (key : List ℕ) → IsErrAnd done (λ e. e ≡ error) → error ≡ fault.Memory → done ≡ Err (fault.BadCell key) → ⊥
+no-key (Ok ok) error key exits is bad = absurd exits
+no-key (Err e) error key exits is bad = let a : e ≡ error = exits in cc
+
+-- the fault that a `?` hands on is that of the call
+pub handed-on : {A B E : Type 0} (r : Result A E) (s : Result B E) (error e : E) → IsErrAnd r (λ x. x ≡ error) → s ≡ Err error → r ≡ Err e → s ≡ Err e
+handed-on {A} {B} {E} r s error e exits was is =
+    let same : e ≡ error = subst (λ (x : Result A E). IsErrAnd x (λ y. y ≡ error)) is exits in subst (λ (x : E). s ≡ Err x) (sym same) was
+
+-- what is so where a call met a fault
+pub err-told : {A E P : Type 0} (r : Result A E) (error : E) → r ≡ Err error → OnErr r P → P
+err-told {A} {E} {P} r error is so = subst (λ (x : Result A E). OnErr x P) is so
+
+pub on-err : {A E X : Type 0} (r : Result A E) → X → OnErr r X
+on-err (Ok v) x = tt
+on-err (Err e) x = x
+
+module _ {I S T : Type 0} {g : Ghosts I} (tells : I → (ℕ → ℕ) → ℕ → Type 0) (holds : S → CellMap → Type 0) (count : S → ℕ) (handed : T → ℕ) (ticking : T → List ℕ → Type 0) (t : Topology) (custom : Custom) (cut : Cut) where
+  module _ (laws : Laws count t custom cut) (before : T) where
+    -- ---- rounds
+
+    went-none : (e : Engine I g) (row : List (Pass Mail)) (parts : List (StatePart S)) → e.tick ≡ 0 → Went tells holds count handed ticking t custom cut before [] e e row row parts parts
+    went-none e row parts none = record {
+      rounds = 0;
+      many = refl;
+      runs = runs-none tells holds count t custom cut laws e row parts;
+      ticked = none;
+      few = λ to_come told low can outcomes all stood. omega arith;
+    }
+
+    module _ (answers : List ℕ) (old mid : Engine I g) (row mid_row : List (Pass Mail)) (was p : List (StatePart S)) (went : Went tells holds count handed ticking t custom cut before answers old mid row mid_row was p) where
+      -- one more round, from an engine at which all is not over
+      went-round : (now : T) (n : ℕ) (new : Engine I g) (now_row : List (Pass Mail)) (is : List (StatePart S)) → IsBounded t custom cut → Asked handed ticking answers before now → AreEmpty mid_row → has_ended mid ≡ false → new.tick ≡ min (mid.tick + n) (2 ^ 64 - 1)
+          → RunsOn tells holds count t custom cut 1 mid new mid_row now_row p is → Went tells holds count handed ticking t custom cut before (answers ++ n ∷ []) old new row now_row was is
+      went-round now n new now_row is bounded asked empty open_still ticked next = record {
+        rounds = went.rounds + 1;
+        many = let m = went.many in let l = length-append answers (n ∷ []) in omega arith;
+        runs = runs-then tells holds count t custom cut laws went.rounds 1 old mid new row mid_row now_row was p is went.runs next;
+        ticked = min-more new.tick (2 ^ 64 - 1) (sum answers) n (ticked ∙ ap (λ (k : ℕ). min (k + n) (2 ^ 64 - 1)) went.ticked) ∙ ap (λ (k : ℕ). min k (2 ^ 64 - 1)) (sym (sum-more answers n));
+        few = λ to_come told low can outcomes all stood.
+            let first = stood-runs tells holds count t custom cut laws went.rounds 1 old mid new row mid_row now_row was p is went.runs next outcomes stood in
+            let most = went.few to_come told low can outcomes all first in
+            let below = ticks-below mid.tick went.rounds (rounds_needed t custom cut) t.buckets answers to_come went.ticked went.many (asked.first to_come told) most low in
+            let left = rounds-left tells t custom cut outcomes went.rounds old mid row mid_row went.runs.goes first bounded empty can all below open_still in omega arith;
+      }
+
+      -- work that no round is of
+      went-still : (new : Engine I g) (now_row : List (Pass Mail)) → new.tick ≡ mid.tick → IsStill mid new → GoesOn tells t custom cut 0 mid new mid_row now_row [] [] → Went tells holds count handed ticking t custom cut before answers old new row now_row was p
+      went-still new now_row same still goes =
+          let next = runs-still tells holds count t custom cut laws 0 mid new mid_row now_row p still goes in record {
+            rounds = went.rounds + 0;
+            many = let m = went.many in omega arith;
+            runs = runs-then tells holds count t custom cut laws went.rounds 0 old mid new row mid_row now_row was p p went.runs next;
+            ticked = same ∙ went.ticked;
+            few = λ to_come told low can outcomes all stood.
+                let first = stood-runs tells holds count t custom cut laws went.rounds 0 old mid new row mid_row now_row was p p went.runs next outcomes stood in
+                let most = went.few to_come told low can outcomes all first in omega arith;
+          }
+
+  module _ (boxes : List (Mailbox Mail)) (board : Board) where
+    -- rounds were carried out with these answers, and nobody works
+    pub record Turning (old mid : Engine I g) (row mid_row : List (Pass Mail)) (seat : BoardSeat) (was p : List (StatePart S)) (before now : T) : Type 0 where
+      pub gathered : IsGathered t cut boxes board mid mid_row seat
+      pub answers : List ℕ
+      pub asked : Asked handed ticking answers before now
+      pub went : Went tells holds count handed ticking t custom cut before answers old mid row mid_row was p
+      pub kept : AreKept holds was p
+
+    module _ (laws : Laws count t custom cut) (old : Engine I g) (row : List (Pass Mail)) (was : List (StatePart S)) (before : T) where
+      pub turning-none : (seat : BoardSeat) → IsGathered t cut boxes board old row seat → old.tick ≡ 0 → Turning old old row row seat was was before before
+      turning-none seat gathered none = record {
+        gathered = gathered;
+        answers = [];
+        asked = asked-none handed ticking before;
+        went = went-none laws before old row was none;
+        kept = kept-none holds was;
+      }
+
+      module _ (mid : Engine I g) (mid_row : List (Pass Mail)) (seat : BoardSeat) (p : List (StatePart S)) (now : T) (turning : Turning old mid row mid_row seat was p before now) where
+        pub parts-now : AreParts t was → AreParts t p
+        parts-now planned = turning.went.runs.plans ∙ planned
+
+        -- it is over
+        pub turned-over : RanOn tells holds count handed ticking t custom cut (Ok tt) old mid row mid_row was p before now
+        turned-over = record {
+          answers = turning.answers;
+          asked = turning.asked;
+          went = turning.went;
+          bad = λ key is. absurd (let e : Ok tt ≡ Err (fault.BadCell key) = is in cc);
+          short = λ is. absurd (let e : Ok tt ≡ Err fault.Memory = is in cc);
+        }
+
+        -- memory was wanted in work that no round is of
+        pub turned-short : (done : Result (Unit {0}) CommitFault) (error : CommitFault) (new : Engine I g) (now_row : List (Pass Mail)) → IsErrAnd done (λ e. e ≡ error) → error ≡ fault.Memory → IsStill mid new → RanOn tells holds count handed ticking t custom cut done old new row now_row was p before now
+        turned-short done error new now_row exits is still = record {
+          answers = turning.answers;
+          asked = turning.asked;
+          went = short-ok _ done error exits;
+          bad = λ key bad. absurd (no-key done error key exits is bad);
+          short = λ met. record {
+            rounds = turning.went.rounds;
+            mid = mid;
+            mid_row = mid_row;
+            between = p;
+            runs = turning.went.runs;
+            empty = turning.gathered.empty;
+            out = leads-short tells holds count t custom cut laws mid mid new.fates p p (leads-none tells holds count t custom cut laws mid p) still.fates;
+          };
+        }
+
+        -- work that no round is of
+        pub turning-still : (new : Engine I g) (now_row : List (Pass Mail)) (now_seat : BoardSeat) → IsGathered t (cut_in mid) boxes board new now_row now_seat → new.tick ≡ mid.tick → IsStill mid new → GoesOn tells t custom (cut_in mid) 0 mid new mid_row now_row [] [] → Turning old new row now_row now_seat was p before now
+        turning-still new now_row now_seat gathered same still goes = record {
+          gathered = gathered-back t boxes board cut mid new now_row now_seat turning.gathered.ready gathered;
+          answers = turning.answers;
+          asked = turning.asked;
+          went = went-still laws before turning.answers old mid row mid_row was p turning.went new now_row same still
+              (subst (λ (k : Cut). GoesOn tells t custom k 0 mid new mid_row now_row [] []) turning.gathered.ready.seated.of_cut goes);
+          kept = turning.kept;
+        }
+
+        -- the source was asked once more
+        module _ (n : ℕ) (later : T) (counted : handed later ≡ handed_on (handed now) n) (first : (xs : List ℕ) → ticking now xs → n ≡ first_answer xs) (rest : (xs : List ℕ) → ticking now xs → ticking later (drop 1 xs)) where
+          asked-now : Asked handed ticking (turning.answers ++ n ∷ []) before later
+          asked-now = asked-more handed ticking turning.answers n before now later turning.asked counted first rest
+
+          -- and a round followed
+          pub turning-round : IsBounded t custom cut → has_ended mid ≡ false → (new : Engine I g) (now_row : List (Pass Mail)) (now_seat : BoardSeat) (is : List (StatePart S)) → IsGathered t (cut_in mid) boxes board new now_row now_seat → new.tick ≡ min (mid.tick + n) (2 ^ 64 - 1)
+              → RunsOn tells holds count t custom (cut_in mid) 1 mid new mid_row now_row p is → AreKept holds p is → Turning old new row now_row now_seat was is before later
+          turning-round bounded open_still new now_row now_seat is gathered ticked runs kept = record {
+            gathered = gathered-back t boxes board cut mid new now_row now_seat turning.gathered.ready gathered;
+            answers = turning.answers ++ n ∷ [];
+            asked = asked-now;
+            went = went-round laws before turning.answers old mid row mid_row was p turning.went now n new now_row is bounded turning.asked turning.gathered.empty open_still ticked
+                (subst (λ (k : Cut). RunsOn tells holds count t custom k 1 mid new mid_row now_row p is) turning.gathered.ready.seated.of_cut runs);
+            kept = kept-then holds was p is turning.kept kept;
+          }
+
+          -- which met a fault
+          pub turned-bad : (done : Result (Unit {0}) CommitFault) (error : CommitFault) (new : Engine I g) (now_row : List (Pass Mail)) (is : List (StatePart S)) → IsErrAnd done (λ e. e ≡ error)
+              → ((key : List ℕ) → done ≡ Err (fault.BadCell key) → Broken tells holds count t custom (cut_in mid) n key mid new mid_row p is × (now_row ≡ mid_row))
+              → (done ≡ Err fault.Memory → WantsMemory tells holds count t custom (cut_in mid) mid new.fates p is)
+              → RanOn tells holds count handed ticking t custom cut done old new row now_row was is before later
+          turned-bad done error new now_row is exits bad short = record {
+            answers = turning.answers ++ n ∷ [];
+            asked = asked-now;
+            went = short-ok _ done error exits;
+            bad = λ key met.
+                let b = bad key met in record {
+                  first = turning.answers;
+                  last = n;
+                  answers_are = refl;
+                  mid = mid;
+                  mid_row = mid_row;
+                  between = p;
+                  went = turning.went;
+                  broken = subst (λ (k : Cut). Broken tells holds count t custom k n key mid new mid_row p is) turning.gathered.ready.seated.of_cut b.0;
+                  empty = turning.gathered.empty;
+                  same = b.1;
+                };
+            short = λ met.
+                let wants = subst (λ (k : Cut). WantsMemory tells holds count t custom k mid new.fates p is) turning.gathered.ready.seated.of_cut (short met) in record {
+                  rounds = turning.went.rounds;
+                  mid = mid;
+                  mid_row = mid_row;
+                  between = p;
+                  runs = turning.went.runs;
+                  empty = turning.gathered.empty;
+                  out = record { mid = wants.mid; between = wants.between; leads = leads-drives tells holds count t custom cut laws.accounted wants.steps mid wants.mid p wants.between wants.drives; leaves = wants.leaves };
+                };
+          }

@@ -1,0 +1,9 @@
+use Rattle.worker_runs.proofs.laws.laws_of_workers.Goals as goal
+
+pub returns : goal.returns
+returns c = λ t custom cut. record {
+  lasting = c.lasting_worlds_go_on.ensures.first t custom cut;
+  heard = c.complete_verdicts_are_heard.ensures.first t;
+  finished = c.what_is_over_is_finished.ensures t custom cut;
+  boxes = c.boxes_tell_of_ends.ensures t custom cut;
+}

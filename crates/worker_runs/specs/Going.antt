@@ -1,0 +1,98 @@
+-- A run of workers while it goes on. This project's own.
+use Rattle.std.specs.Prelude.{◌≡◌, ◌≤◌, ◌<◌, ◌-◌, ◌^◌, ◌++◌, ◌∷◌, ℕ, List, [], Result, Err, OnOk, All, length, min, sum}
+use Rattle.bolt_ops.specs.RowOp.{Custom, IsCustom}
+use Rattle.box_rows.specs.declared.mail.Mail.{Mail}
+use Rattle.commit_turns.specs.Outcomes.{IsOutcome}
+use Rattle.event_engine.specs.declared.engine.Engine.{Engine}
+use Rattle.event_engine.specs.Engines.{Gives, HasOutcomes, shape}
+use Rattle.event_worlds.specs.Accounted.{IsInput}
+use Rattle.event_worlds.specs.Rounds.{CanFinish, rounds_needed}
+use Rattle.schedule_core.specs.Driving.{RunsOut}
+use Rattle.schedule_core.specs.Rounding.{Asked}
+use Rattle.schedule_core.specs.Runs.{first_answers}
+use Rattle.state_parts.specs.declared.answer.CommitFault.{CommitFault}
+use Rattle.state_parts.specs.declared.answer.CommitFault.TheVariants as fault
+use Rattle.state_parts.specs.declared.answer.CommitOutcome.{CommitOutcome}
+use Rattle.state_parts.specs.declared.answer.CommitOutcome.TheVariants.{Done}
+use Rattle.state_parts.specs.declared.parts.StatePart.{StatePart}
+use Rattle.storm_ids.specs.declared.ids.Ids.{Ghosts}
+use Rattle.storm_stores.specs.CellMaps.{CellMap}
+use Rattle.task_queues.specs.declared.pass.Pass.{Pass}
+use Rattle.topology_plan.specs.Topology.{Topology}
+use Rattle.trident_batches.specs.Batches.{Cut}
+use Rattle.tuple_account.specs.Histories.{History}
+use Rattle.worker_rounds.specs.Running.{Broken, RunsOn}
+use Rattle.worker_stretches.specs.Standing.{GoesOn, Stands}
+use Rattle.worker_turns.specs.Carrying.{AreEmpty}
+
+module _ {I : Type 0} {g : Ghosts I} (tells : I → (ℕ → ℕ) → ℕ → Type 0) (t : Topology)
+    (custom : Custom) (cut : Cut) where
+  -- An engine went on from where something stood beside its boxes, by words that its sources gave,
+  -- where commits came to these outcomes.
+  pub record StoodAt (outcomes : List CommitOutcome) (least : ℕ) (old new : Engine I g)
+      (row now_row : List (Pass Mail))
+      (goes : GoesOn tells t custom cut least old new row now_row [] []) : Type 0 where
+    pub words : ℕ → ℕ → ℕ
+    pub counts : ℕ → ℕ
+    pub history : History
+    pub gives : Gives words counts goes.given
+    pub has : HasOutcomes outcomes new.fates
+    pub input : IsInput t cut
+    pub keeps : IsCustom custom
+    pub good : All (IsOutcome t) outcomes
+    pub stands : Stands t custom cut words outcomes row [] history
+        (record { world = shape old; counts = counts })
+
+module _ {I S T : Type 0} {g : Ghosts I} (tells : I → (ℕ → ℕ) → ℕ → Type 0)
+    (holds : S → CellMap → Type 0) (count : S → ℕ) (handed : T → ℕ) (ticking : T → List ℕ → Type 0)
+    (t : Topology) (custom : Custom) (cut : Cut) where
+  -- A round of the caller for each of these answers of a source of ticks, and stretches between
+  -- them, led an engine without a tick to an engine. Where every bolt lets batches through, no
+  -- commit failed and few ticks are to come, there were no more rounds than are needed.
+  pub record Went (before : T) (answers : List ℕ) (old new : Engine I g)
+      (row now_row : List (Pass Mail)) (was is : List (StatePart S)) : Type 0 where
+    pub rounds : ℕ
+    pub many : rounds ≡ length answers
+    pub runs : RunsOn tells holds count t custom cut rounds old new row now_row was is
+    pub ticked : new.tick ≡ min (sum answers) (2 ^ 64 - 1)
+    pub few : (to_come : List ℕ) → ticking before to_come
+        → sum (first_answers (rounds_needed t custom cut) to_come) < t.buckets → CanFinish t
+        → (outcomes : List CommitOutcome) → All (λ (how : CommitOutcome). how ≡ Done) outcomes
+        → StoodAt tells t custom cut outcomes rounds old new row now_row runs.goes
+        → rounds ≤ rounds_needed t custom cut
+
+  -- rounds went to an engine with empty boxes, and the last one met a bad cell
+  pub record BrokeOff (before : T) (answers : List ℕ) (key : List ℕ) (old new : Engine I g)
+      (row now_row : List (Pass Mail)) (was is : List (StatePart S)) : Type 0 where
+    pub first : List ℕ
+    pub last : ℕ
+    pub answers_are : answers ≡ first ++ last ∷ []
+    pub mid : Engine I g
+    pub mid_row : List (Pass Mail)
+    pub between : List (StatePart S)
+    pub went : Went before first old mid row mid_row was between
+    pub broken : Broken tells holds count t custom cut last key mid new mid_row between is
+    pub empty : AreEmpty mid_row
+    pub same : now_row ≡ mid_row
+
+  -- rounds went to an engine with empty boxes, and memory was wanted after it
+  pub record WantedMemory (old new : Engine I g) (row : List (Pass Mail))
+      (was is : List (StatePart S)) : Type 0 where
+    pub rounds : ℕ
+    pub mid : Engine I g
+    pub mid_row : List (Pass Mail)
+    pub between : List (StatePart S)
+    pub runs : RunsOn tells holds count t custom cut rounds old mid row mid_row was between
+    pub empty : AreEmpty mid_row
+    pub out : RunsOut tells holds count t custom cut mid new.fates between is
+
+  -- What a run of rounds and stretches came to.
+  pub record RanOn (done : Result (Unit {0}) CommitFault) (old new : Engine I g)
+      (row now_row : List (Pass Mail)) (was is : List (StatePart S)) (before after : T)
+      : Type 0 where
+    pub answers : List ℕ
+    pub asked : Asked handed ticking answers before after
+    pub went : OnOk done (Went before answers old new row now_row was is)
+    pub bad : (key : List ℕ) → done ≡ Err (fault.BadCell key)
+        → BrokeOff before answers key old new row now_row was is
+    pub short : done ≡ Err fault.Memory → WantedMemory old new row was is

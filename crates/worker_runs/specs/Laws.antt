@@ -1,0 +1,34 @@
+-- The laws of worlds and of boxes that a run of workers rests on. This project's own.
+use Rattle.std.specs.Prelude.{◌≡◌, ◌<◌, ℕ, List, All, true}
+use Rattle.bolt_ops.specs.RowOp.{Custom}
+use Rattle.box_account.specs.Hearing.{HeardBeforeFailing}
+use Rattle.box_account.specs.Inboxes.{GoesThrough}
+use Rattle.box_account.specs.Taken.{TookTrue}
+use Rattle.box_account.specs.Telling.{BoxesTell}
+use Rattle.box_rows.specs.declared.mail.Mail.{Mail}
+use Rattle.commit_turns.specs.Turns.{is_finished}
+use Rattle.event_worlds.specs.Accounted.{IsInput}
+use Rattle.event_worlds.specs.Added.{first_history}
+use Rattle.event_worlds.specs.Beside.{LedBeside}
+use Rattle.event_worlds.specs.Rounds.{CanFinish, DoesNotCoincide}
+use Rattle.event_worlds.specs.Worlds.{Known, first_known, first_world, is_over}
+use Rattle.task_queues.specs.declared.pass.Pass.{Pass}
+use Rattle.topology_plan.specs.Topology.{Topology}
+use Rattle.trident_batches.specs.Batches.{Cut}
+use Rattle.tuple_account.specs.Histories.{History, Packet}
+use Rattle.world_progress.specs.Lasting.{Lasting}
+
+-- how a run of workers begins, what is finished, and what boxes tell at its end
+pub record RunLaws (t : Topology) (custom : Custom) (cut : Cut) : Type 0 where
+  pub lasting : (words : ℕ → ℕ → ℕ) → IsInput t cut
+      → Lasting t custom cut words (first_history t words) (first_known t words)
+  pub heard : (words : ℕ → ℕ → ℕ)
+      → HeardBeforeFailing (first_history t words) (first_world t words).fates
+  pub finished : (words : ℕ → ℕ → ℕ) (h : History) (k : Known) → IsInput t cut → CanFinish t
+      → Lasting t custom cut words h k → k.world.tick < t.buckets
+      → All DoesNotCoincide k.world.fates → is_over t cut k.world ≡ true
+      → is_finished t cut k.world.desk ≡ true
+  pub boxes : (words : ℕ → ℕ → ℕ) (weight : (Packet → ℕ) → ℕ) (h : History) (k : Known)
+      (row : List (Pass Mail)) → LedBeside t custom cut words weight h k
+      → GoesThrough row h k.world → TookTrue t row → HeardBeforeFailing h k.world.fates
+      → BoxesTell t custom cut row k.world.fates

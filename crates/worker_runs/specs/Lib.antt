@@ -1,0 +1,3 @@
+pub mod WorkerRuns
+pub mod Going
+pub mod Laws

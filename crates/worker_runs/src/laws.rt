@@ -1,0 +1,18 @@
+//! The laws of other crates that a run of workers rests on, put together.
+ghost use Rattle.bolt_ops.specs.RowOp.{Custom};
+ghost use Rattle.topology_plan.specs.Topology.{Topology};
+ghost use Rattle.trident_batches.specs.Batches.{Cut};
+ghost use Rattle.worker_runs.specs.Laws.{RunLaws};
+
+use box_account::{boxes_tell_of_ends, complete_verdicts_are_heard};
+use world_progress::{lasting_worlds_go_on, what_is_over_is_finished};
+
+/// A law: how a run of workers begins, what is finished, and what boxes tell at its end.
+pub(crate) fn laws_of_workers()
+    ensures { (t : Topology) (custom : Custom) (cut : Cut) → RunLaws t custom cut }
+{
+    lasting_worlds_go_on();
+    complete_verdicts_are_heard();
+    what_is_over_is_finished();
+    boxes_tell_of_ends();
+}

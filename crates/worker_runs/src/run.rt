@@ -1,0 +1,260 @@
+//! A run of workers over the batches of an input, until all is over.
+ghost use Rattle.std.specs.Prelude.{◌≡◌, ◌≤◌, ◌<◌, ℕ, List, [], true, All, OnOk, OnErr, length, sum};
+ghost use Rattle.attempt_fates.specs.Fates.{IsOnce};
+ghost use Rattle.batch_commits.specs.Standing.{failed_commits};
+ghost use Rattle.box_account.specs.Taken.{TookTrue};
+ghost use Rattle.box_account.specs.Telling.{BoxesTell};
+ghost use Rattle.commit_turns.specs.Turns.{last_tick};
+ghost use Rattle.event_engine.specs.Engines.{IsStill, cut_in, has_ended};
+ghost use Rattle.event_worlds.specs.Accounted.{IsInput};
+ghost use Rattle.event_worlds.specs.Rounds.{CanFinish, DoesNotCoincide, rounds_needed};
+ghost use Rattle.schedule_core.specs.Driving.{AreKept};
+ghost use Rattle.schedule_core.specs.Runs.{ended, first_answers, ticks_between};
+ghost use Rattle.schedule_core.specs.Schedules.{HadMemory, IsAnswer};
+ghost use Rattle.state_parts.specs.PartPlans.{AreParts};
+ghost use Rattle.worker_rounds.specs.Running.{IsGathered};
+ghost use Rattle.worker_runs.specs.Going.{RanOn};
+ghost use Rattle.worker_runs.specs.WorkerRuns.{AreFirstBoxes, DrewEach, IsFirstSeat, NothingRanOut, WorkersCome};
+ghost use Rattle.worker_stretches.specs.Parts.{IsWholeSeat};
+ghost use Rattle.worker_stretches.specs.Standing.{GoesOn};
+
+use crate::laws::laws_of_workers;
+use attempt_fates::Fates;
+use bolt_ops::RowOp;
+use box_rows::{Boxes, Posts, Row};
+use commit_order::Stop;
+use event_engine::Engine;
+use pulse_board::{Board, BoardSeat};
+use schedule_core::{end_run, laws_of_runs, laws_of_steps};
+use state_parts::{CommitFault, Parts};
+use std::alloc::Global;
+use std::sync::Wait;
+use std::thread::Threads;
+use storm_ids::{IdMaker, Ids};
+use storm_stores::CellStore;
+use storm_ticks::Ticks;
+use storm_values::Memory;
+use topology_plan::Plan;
+use trident_batches::Batches;
+use worker_pool::Gate;
+use worker_rounds::caller_round;
+use worker_stretches::stretch_once;
+use worker_turns::sweep;
+use world_progress::what_can_be_done_is_bounded;
+
+// A stretch of so many workers; what waits after it comes to inboxes.
+fn work<'p, I: Ids + Send, R: Threads + Wait + Sync, O: RowOp + Sync, G: Gate>(
+    rt: &R,
+    alloc: Global,
+    posts: &Posts<'_>,
+    board: &Board,
+    row: &mut Row,
+    seat: &mut BoardSeat,
+    engine: &mut Engine<'p, I>,
+    workers: u32,
+    custom: &O,
+    gate: &G,
+) -> Result<(), Memory>
+    requires gathered { IsGathered posts.now.plan.now (cut_in engine.old) posts.now.boxes.items
+        board.now engine.old row.old.items seat.old }
+    requires some { 1 ≤ workers }
+    requires few { workers ≤ 64 }
+    ensures gathered { OnOk result (IsGathered posts.now.plan.now (cut_in engine.old)
+        posts.now.boxes.items board.now engine.new row.new.items seat.new) }
+    ensures still { IsStill engine.old engine.new }
+    ensures ticks { OnOk result (engine.new.tick ≡ engine.old.tick) }
+    ensures goes { OnOk result (GoesOn I.tells posts.now.plan.now (O.meaning custom.now)
+        (cut_in engine.old) 0 engine.old engine.new row.old.items row.new.items [] []) }
+{
+    stretch_once(
+        rt, alloc, posts, board, row, seat, engine, workers, custom, gate,
+    )?;
+    sweep(rt, alloc, posts, row, engine)?;
+    Ok(())
+}
+
+// Whether the coordinator has something to do at once: a verdict waits, or it has just committed,
+// so that a settled attempt may be next.
+fn has_more<I: Ids>(engine: &Engine<'_, I>, committed: u64) -> bool {
+    engine.has_verdict() | (engine.committed_count() != committed)
+}
+
+// A stretch, unless the coordinator has something to do at once.
+fn work_unless<'p, I: Ids + Send, R: Threads + Wait + Sync, O: RowOp + Sync, G: Gate>(
+    busy: bool,
+    rt: &R,
+    alloc: Global,
+    posts: &Posts<'_>,
+    board: &Board,
+    row: &mut Row,
+    seat: &mut BoardSeat,
+    engine: &mut Engine<'p, I>,
+    workers: u32,
+    custom: &O,
+    gate: &G,
+) -> Result<(), Memory>
+    requires gathered { IsGathered posts.now.plan.now (cut_in engine.old) posts.now.boxes.items
+        board.now engine.old row.old.items seat.old }
+    requires some { 1 ≤ workers }
+    requires few { workers ≤ 64 }
+    ensures gathered { OnOk result (IsGathered posts.now.plan.now (cut_in engine.old)
+        posts.now.boxes.items board.now engine.new row.new.items seat.new) }
+    ensures still { IsStill engine.old engine.new }
+    ensures ticks { OnOk result (engine.new.tick ≡ engine.old.tick) }
+    ensures goes { OnOk result (GoesOn I.tells posts.now.plan.now (O.meaning custom.now)
+        (cut_in engine.old) 0 engine.old engine.new row.old.items row.new.items [] []) }
+{
+    if busy {
+        return Ok(());
+    }
+    work(
+        rt, alloc, posts, board, row, seat, engine, workers, custom, gate,
+    )
+}
+
+// Rounds of the caller, and stretches between them where the coordinator has nothing to do at once,
+// until all is over.
+fn run_on<
+    'p,
+    I: Ids + Send,
+    R: Threads + Wait + Sync,
+    T: Ticks,
+    C: CellStore,
+    O: RowOp + Sync,
+    G: Gate,
+>(
+    rt: &R,
+    alloc: Global,
+    posts: &Posts<'_>,
+    board: &Board,
+    row: &mut Row,
+    seat: &mut BoardSeat,
+    engine: &mut Engine<'p, I>,
+    workers: u32,
+    ticks: &mut T,
+    parts: &mut Parts<C>,
+    custom: &O,
+    gate: &G,
+) -> Result<(), CommitFault>
+    requires gathered { IsGathered posts.now.plan.now (cut_in engine.old) posts.now.boxes.items
+        board.now engine.old row.old.items seat.old }
+    requires no_tick { engine.old.tick ≡ 0 }
+    requires parts { AreParts posts.now.plan.now parts.old }
+    requires some { 1 ≤ workers }
+    requires few { workers ≤ 64 }
+    ensures gathered { OnOk result (IsGathered posts.now.plan.now (cut_in engine.old)
+        posts.now.boxes.items board.now engine.new row.new.items seat.new) }
+    ensures over { OnOk result (has_ended engine.new ≡ true) }
+    ensures ran { RanOn I.tells C.tells C.fault_count T.handed_out T.tells posts.now.plan.now
+        (O.meaning custom.now) (cut_in engine.old) result engine.old engine.new row.old.items
+        row.new.items parts.old parts.new ticks.old ticks.new }
+    ensures once { OnErr result (IsOnce (length (cut_in engine.old).records)
+        (cut_in engine.old).size last_tick engine.new.fates) }
+    ensures kept { AreKept C.tells parts.old parts.new }
+{
+    // laws: how steps add up, and how much can be done
+    laws_of_steps::<C>();
+    what_can_be_done_is_bounded();
+    for _ in rt.forever() {
+        if engine.is_over() {
+            return Ok(());
+        }
+        let committed = engine.committed_count();
+        let passed = ticks.passed();
+        caller_round(
+            rt, alloc, posts, board, row, seat, engine, parts, passed, custom, gate,
+        )?;
+        let busy = has_more(engine, committed);
+        work_unless(
+            busy, rt, alloc, posts, board, row, seat, engine, workers, custom, gate,
+        )?;
+    }
+    unreachable!()
+}
+
+/// Runs a plan over the batches of an input by so many workers on threads, until every batch is
+/// committed or all attempts of one ended without a commit.
+///
+/// Before each turn of the coordinator it asks once how many ticks passed, and the board is raised
+/// by the answer. Every tuple, note and verdict goes through the boxes. Nothing says that it ends.
+/// The attempts that ended are in the fates, whatever the answer.
+pub fn run_workers<
+    R: Threads + Wait + Sync,
+    T: Ticks,
+    N: IdMaker,
+    C: CellStore,
+    O: RowOp + Sync,
+    G: Gate,
+>(
+    rt: &R,
+    alloc: Global,
+    plan: &Plan,
+    batches: Batches,
+    workers: u32,
+    boxes: &mut Boxes<'_>,
+    board: &Board,
+    seat: &mut BoardSeat,
+    ticks: &mut T,
+    ids: &mut N,
+    parts: &mut Parts<C>,
+    custom: &O,
+    gate: &G,
+    fates: &mut Fates,
+) -> Result<(), Stop>
+where
+    N::I: Send,
+    requires empty { fates.old ≡ [] }
+    requires input { IsInput plan.now batches }
+    requires parts { AreParts plan.now parts.old }
+    requires some { 1 ≤ workers }
+    requires few { workers ≤ 64 }
+    requires boxes { AreFirstBoxes plan.now boxes.old }
+    requires seat { IsFirstSeat board.now seat.old }
+
+    // What the answer, the fates, the ticks and the parts come to.
+    ensures comes { WorkersCome (N.tells ids.old) (T.tells ticks.old) C.tells C.fault_count
+        plan.now (O.meaning custom.now) batches (T.handed_out ticks.old) (T.handed_out ticks.new)
+        result fates.new parts.old parts.new }
+
+    // Where few ticks are to come in so many rounds as a run needs, no transaction runs out of
+    // attempts, where every bolt lets batches through, no ids coincide and no commit fails.
+    ensures finishes { (to_come : List ℕ) → T.tells ticks.old to_come → CanFinish plan.now
+        → All DoesNotCoincide fates.new → failed_commits fates.new ≡ 0
+        → sum (first_answers (rounds_needed plan.now (O.meaning custom.now) batches) to_come)
+        < plan.now.buckets → NothingRanOut result }
+
+    // What was taken from boxes tells of the end of each attempt, where all that was taken from a
+    // box is true of it.
+    ensures books { HadMemory (ended result) → TookTrue plan.now boxes.new.row.items
+        → BoxesTell plan.now (O.meaning custom.now) batches boxes.new.row.items fates.new }
+
+    // The board was raised by each tick, where no fault stopped the run.
+    ensures seat { IsAnswer (ended result) → IsWholeSeat board.now seat.new }
+    ensures ticked { IsAnswer (ended result)
+        → DrewEach (ticks_between (T.handed_out ticks.old) (T.handed_out ticks.new)) seat.new }
+{
+    // laws: where a run begins, how steps add up, and what boxes tell at its end
+    laws_of_runs::<C>();
+    laws_of_steps::<C>();
+    laws_of_workers();
+    let mut engine = match Engine::start(alloc, plan, batches, ids) {
+        Ok(engine) => engine,
+        Err(_) => return Err(Stop::Memory),
+    };
+    let done = run_on(
+        rt,
+        alloc,
+        &boxes.posts,
+        board,
+        &mut boxes.row,
+        seat,
+        &mut engine,
+        workers,
+        ticks,
+        parts,
+        custom,
+        gate,
+    );
+    end_run(done, engine, fates)?;
+    Ok(())
+}
