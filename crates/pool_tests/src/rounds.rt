@@ -1,15 +1,14 @@
 // Rounds: first tuples are sent, workers have a stretch, and what came to the ackers is counted.
-ghost use Rattle.std.specs.Prelude.{◌<◌, IfOk, OnOk, length};
+ghost use Rattle.std.specs.Prelude.{◌≡◌, ◌<◌, ◌≤◌, IfOk, OnOk, length};
 ghost use Rattle.std.specs.List.{AllByRecursion};
 ghost use Rattle.box_rows.specs.FitRows.{IsFitRow};
-ghost use Rattle.pool_test_kit.specs.Resting.{Rests};
+ghost use Rattle.pool_tests.specs.Resting.{Rests};
 
+use crate::gates::Counting;
+use crate::plans::{ACKERS_AT, LAST_BOX, LEVELS, chain, first_mail, wrong};
 use crate::tally::Tally;
-use box_rows::{Boxes, Posts, Row, take_fit};
-use pool_test_kit::{
-    ACKERS_AT, Counting, Hiring, LAST_BOX, LEVELS, TestWorker, chain, hire, send_firsts, stretch,
-    wrong,
-};
+use crate::team::{Hiring, TestWorker, hire, stretch};
+use box_rows::{Boxes, Posts, Row, send_fit, take_fit};
 use pulse_board::Board;
 use std::alloc::Global;
 use std::sync::Wait;
@@ -19,8 +18,49 @@ use test_kit::Mismatch;
 // How many rounds there are at most.
 const ROUNDS: u32 = 1000;
 
-// Takes all that is in a box.
-fn take_all<R: Wait>(rt: &R, posts: &Posts<'_>, row: &mut Row, at: usize, tally: &mut Tally)
+// Sends the first tuple of a number, the odd ones to the second task. Whether there was room.
+fn send_first<R: Wait>(
+    rt: &R,
+    alloc: Global,
+    posts: &Posts<'_>,
+    row: &mut Row,
+    number: u32,
+) -> Result<bool, Mismatch>
+    requires { IsFitRow posts.now.plan.now posts.now.boxes.items row.old.items }
+    ensures { IsFitRow posts.now.plan.now posts.now.boxes.items row.new.items }
+{
+    let task = number % 2;
+    if posts.plan.tasks() <= task {
+        return Err(wrong(alloc, "tasks"));
+    }
+    let mail = first_mail(alloc, posts.plan, task, number, 0)?;
+    Ok(send_fit(rt, posts, row, task as usize, mail).is_ok())
+}
+
+/// Sends first tuples from a number on, as long as there is room. The number of the first one that
+/// was not sent.
+pub fn send_firsts<R: Wait>(
+    rt: &R,
+    alloc: Global,
+    posts: &Posts<'_>,
+    row: &mut Row,
+    from: u32,
+    to: u32,
+) -> Result<u32, Mismatch>
+    requires { IsFitRow posts.now.plan.now posts.now.boxes.items row.old.items }
+    ensures { IsFitRow posts.now.plan.now posts.now.boxes.items row.new.items }
+{
+    for number in from..to {
+        let sent = send_first(rt, alloc, posts, row, number)?;
+        if !sent {
+            return Ok(number);
+        }
+    }
+    Ok(to)
+}
+
+/// Takes all that is in a box.
+pub fn take_all<R: Wait>(rt: &R, posts: &Posts<'_>, row: &mut Row, at: usize, tally: &mut Tally)
     requires row { IsFitRow posts.now.plan.now posts.now.boxes.items row.old.items }
     requires there { at < length posts.now.boxes.items }
     ensures { IsFitRow posts.now.plan.now posts.now.boxes.items row.new.items }
@@ -33,8 +73,8 @@ fn take_all<R: Wait>(rt: &R, posts: &Posts<'_>, row: &mut Row, at: usize, tally:
     }
 }
 
-// Takes all that is in the boxes of the ackers.
-fn take_notes<R: Wait>(rt: &R, posts: &Posts<'_>, row: &mut Row, tally: &mut Tally)
+/// Takes all that is in the boxes of the ackers.
+pub fn take_notes<R: Wait>(rt: &R, posts: &Posts<'_>, row: &mut Row, tally: &mut Tally)
     requires { IsFitRow posts.now.plan.now posts.now.boxes.items row.old.items }
     ensures { IsFitRow posts.now.plan.now posts.now.boxes.items row.new.items }
 {

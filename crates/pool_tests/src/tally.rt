@@ -1,6 +1,6 @@
 // What comes into the boxes of the ackers, counted.
+use crate::plans::{ACKERS_AT, LEVELS};
 use box_rows::Mail;
-use pool_test_kit::{ACKERS_AT, LEVELS};
 use std::alloc::Global;
 use storm_values::Memory;
 use tree_model::{AckMsg, Done, Parcel};

@@ -1,5 +1,5 @@
 use Rattle.std.specs.List.{AllByRecursion}
-use Rattle.pool_test_kit.specs.Resting.{Rests}
+use Rattle.pool_tests.specs.Resting.{Rests}
 use Rattle.box_rows.specs.FitRows.{IsFitRow}
 use Rattle.pool_tests.proofs.rounds.all_rounds.Given as goal
 
