@@ -15,7 +15,6 @@ use Rattle.box_account.specs.Taken.{TookTrue}
 use Rattle.box_account.specs.Telling.{BoxesTell}
 use Rattle.box_rows.specs.declared.mail.Mail.{Mail}
 use Rattle.box_rows.specs.FirstRow.{first_views}
-use Rattle.box_rows.specs.FitRows.{IsFitRow}
 use Rattle.commit_order.specs.declared.stop.Stop.{Stop}
 use Rattle.commit_order.specs.declared.stop.Stop.TheVariants as stop
 use Rattle.commit_turns.specs.Desks.{Desk}
@@ -169,7 +168,6 @@ pub record RunEnded {I S T : Type 0} {g : Ghosts I} (tells : I → (ℕ → ℕ)
   pub ran : RanOn tells holds count handed ticking t custom cut done old e row now_row was is before after
   pub gathered : OnOk done (IsGathered t cut boxes board e now_row seat)
   pub over : OnOk done (has_ended e ≡ true)
-  pub bad_row : (key : List ℕ) → done ≡ Err (fault.BadCell key) → IsFitRow t boxes now_row
   pub once : OnErr done (IsOnce (length cut.records) cut.size last_tick e.fates)
   pub kept : AreKept holds was is
 
@@ -313,12 +311,6 @@ module _ {I S T : Type 0} {g : Ghosts I} (told : (ℕ → ℕ → ℕ) → Type 
   pub books-end : (done : Result (Unit {0}) CommitFault) → DidEnd done → (answer : Result (Unit {0}) Stop) → end_by done answer_at ≡ ended answer → HadMemory (ended answer) → TookTrue t now_row → BoxesTell t custom cut now_row e.fates
   books-end done ended_so answer same had took = books_by done ended_so (subst HadMemory (sym same) had) took
 
-  -- the row is one of all boxes
-  row_by : (done : Result (Unit {0}) CommitFault) → DidEnd done → HadMemory (end_by done answer_at) → IsFitRow t boxes now_row
-  row_by (Ok ok) ended_so had = ended_so.gathered.fit
-  row_by (Err (fault.BadCell key)) ended_so had = ended_so.bad_row key refl
-  row_by (Err fault.Memory) ended_so had = absurd had
-
   -- ---- where nothing is in the way
 
   module _ (to_come : List ℕ) (tells_so : ticking before to_come) (can : CanFinish t) (apart : All DoesNotCoincide e.fates) (no_failure : failed_commits e.fates ≡ 0) (low : sum (first_answers (rounds_needed t custom cut) to_come) < t.buckets) where
@@ -373,7 +365,6 @@ module _ {I S T : Type 0} {g : Ghosts I} (told : (ℕ → ℕ → ℕ) → Type 
   pub record Ends (answer : Result (Unit {0}) Stop) (fates : List Attempt) : Type 0 where
     pub comes : WorkersCome told (ticking before) holds count t custom cut (handed before) (handed after) answer fates was is
     pub finishes : (to_come : List ℕ) → ticking before to_come → CanFinish t → All DoesNotCoincide fates → failed_commits fates ≡ 0 → sum (first_answers (rounds_needed t custom cut) to_come) < t.buckets → NothingRanOut answer
-    pub row_is : HadMemory (ended answer) → IsFitRow t boxes now_row
     pub books : HadMemory (ended answer) → TookTrue t now_row → BoxesTell t custom cut now_row fates
     pub seat_is : IsAnswer (ended answer) → IsWholeSeat board seat
     pub ticked : IsAnswer (ended answer) → DrewEach (ticks_between (handed before) (handed after)) seat
@@ -383,7 +374,6 @@ module _ {I S T : Type 0} {g : Ghosts I} (told : (ℕ → ℕ → ℕ) → Type 
       subst (λ (fs : List Attempt). Ends answer fs) (sym are) (record {
         comes = comes-end done so answer same;
         finishes = λ to_come tells_so can apart none low. finishes-end to_come tells_so can apart none low done so answer same;
-        row_is = λ had. row_by done so (subst HadMemory (sym same) had);
         books = λ had took. books-end done so answer same had took;
         seat_is = λ answered. (seat-end done so answer same answered).0;
         ticked = λ answered. (seat-end done so answer same answered).1;

@@ -43,12 +43,9 @@ short-ok X (Ok ok) error exits = absurd exits
 short-ok X (Err e) error exits = tt
 
 -- want of memory is no bad cell
-pub no-key : (done : Result (Unit {0}) CommitFault) (error : CommitFault) (key : List ℕ) → IsErrAnd done (λ e. e ≡ error) → error ≡ fault.Memory → done ≡ Err (fault.BadCell key) → ⊥
+no-key : (done : Result (Unit {0}) CommitFault) (error : CommitFault) (key : List ℕ) → IsErrAnd done (λ e. e ≡ error) → error ≡ fault.Memory → done ≡ Err (fault.BadCell key) → ⊥
 no-key (Ok ok) error key exits is bad = absurd exits
 no-key (Err e) error key exits is bad = let a : e ≡ error = exits in cc
-
-pub no-key-ok : (key : List ℕ) → ◌≡◌ {A = Result (Unit {0}) CommitFault} (Ok tt) (Err (fault.BadCell key)) → ⊥
-no-key-ok key is = cc
 
 -- the fault that a `?` hands on is that of the call
 pub handed-on : {A B E : Type 0} (r : Result A E) (s : Result B E) (error e : E) → IsErrAnd r (λ x. x ≡ error) → s ≡ Err error → r ≡ Err e → s ≡ Err e

@@ -1,10 +1,9 @@
 //! A run of workers over the batches of an input, until all is over.
-ghost use Rattle.std.specs.Prelude.{◌≡◌, ◌≤◌, ◌<◌, ℕ, List, [], true, All, Err, OnOk, OnErr, length, sum};
+ghost use Rattle.std.specs.Prelude.{◌≡◌, ◌≤◌, ◌<◌, ℕ, List, [], true, All, OnOk, OnErr, length, sum};
 ghost use Rattle.attempt_fates.specs.Fates.{IsOnce};
 ghost use Rattle.batch_commits.specs.Standing.{failed_commits};
 ghost use Rattle.box_account.specs.Taken.{TookTrue};
 ghost use Rattle.box_account.specs.Telling.{BoxesTell};
-ghost use Rattle.box_rows.specs.FitRows.{IsFitRow};
 ghost use Rattle.commit_turns.specs.Turns.{last_tick};
 ghost use Rattle.event_engine.specs.Engines.{IsStill, cut_in, has_ended};
 ghost use Rattle.event_worlds.specs.Accounted.{IsInput};
@@ -12,7 +11,6 @@ ghost use Rattle.event_worlds.specs.Rounds.{CanFinish, DoesNotCoincide, rounds_n
 ghost use Rattle.schedule_core.specs.Driving.{AreKept};
 ghost use Rattle.schedule_core.specs.Runs.{ended, first_answers, ticks_between};
 ghost use Rattle.schedule_core.specs.Schedules.{HadMemory, IsAnswer};
-ghost use Rattle.state_parts.specs.declared.answer.CommitFault.TheVariants as fault;
 ghost use Rattle.state_parts.specs.PartPlans.{AreParts};
 ghost use Rattle.worker_rounds.specs.Running.{IsGathered};
 ghost use Rattle.worker_runs.specs.Going.{RanOn};
@@ -147,8 +145,6 @@ fn run_on<
     ensures gathered { OnOk result (IsGathered posts.now.plan.now (cut_in engine.old)
         posts.now.boxes.items board.now engine.new row.new.items seat.new) }
     ensures over { OnOk result (has_ended engine.new ≡ true) }
-    ensures row { (key : List ℕ) → result ≡ Err (fault.BadCell key)
-        → IsFitRow posts.now.plan.now posts.now.boxes.items row.new.items }
     ensures ran { RanOn I.tells C.tells C.fault_count T.handed_out T.tells posts.now.plan.now
         (O.meaning custom.now) (cut_in engine.old) result engine.old engine.new row.old.items
         row.new.items parts.old parts.new ticks.old ticks.new }
@@ -226,10 +222,6 @@ where
         → All DoesNotCoincide fates.new → failed_commits fates.new ≡ 0
         → sum (first_answers (rounds_needed plan.now (O.meaning custom.now) batches) to_come)
         < plan.now.buckets → NothingRanOut result }
-
-    // The boxes are those that they were, also where a bad cell stopped the run.
-    ensures row { HadMemory (ended result)
-        → IsFitRow plan.now boxes.new.posts.boxes.items boxes.new.row.items }
 
     // What was taken from boxes tells of the end of each attempt, where all that was taken from a
     // box is true of it.

@@ -1,10 +1,9 @@
-use Rattle.std.proofs.Common.{◌≡◌, ◌∙◌, false, ap, refl, subst, sym}
+use Rattle.std.proofs.Common.{◌≡◌, ◌∙◌, false, ap, refl, sym}
 use Rattle.box_rows.specs.AllRows.{Row}
-use Rattle.box_rows.specs.FitRows.{IsFitRow}
 use Rattle.event_engine.specs.Engines.{cut_in, has_ended}
 use Rattle.state_parts.specs.declared.answer.CommitFault.TheVariants as fault
 use Rattle.worker_runs.proofs.Keeping.{gathered-own, kept-then, once-back, ready-back, ready-once}
-use Rattle.worker_runs.proofs.Looping.{err-told, handed-on, no-key, no-key-ok, on-err, parts-now, turned-bad, turned-over, turned-short, turning-none, turning-round, turning-still}
+use Rattle.worker_runs.proofs.Looping.{err-told, handed-on, on-err, parts-now, turned-bad, turned-over, turned-short, turning-none, turning-round, turning-still}
 use Rattle.worker_runs.proofs.run.run_on.Goals as goal
 
 pub loop-init : goal.loop-init
@@ -75,19 +74,6 @@ returns-in_err-caller_round-clause-once g c =
 
 pub returns-in_err-caller_round-clause-kept : goal.returns-in_err-caller_round-clause-kept
 returns-in_err-caller_round-clause-kept g c = kept-then g.C.CellStore.tells c.args.parts.now c.loop.parts c.caller_round.new.parts c.loop.invariant.kept c.caller_round.ensures.kept
-
-pub returns-in_err-caller_round-clause-row : goal.returns-in_err-caller_round-clause-row
-returns-in_err-caller_round-clause-row g c = λ key is.
-    let exits = c.from_residual in
-    let met = handed-on exits.result c.caller_round.result _ (fault.BadCell key) exits.ensures.1 c.in_err-caller_round.was is in
-    subst (λ (r : Row). IsFitRow c.args.posts.now.plan.now c.args.posts.now.boxes.items r.items) (sym (c.caller_round.ensures.bad_row key met)) c.loop.invariant.gathered.fit
-
-pub returns-in_err-work_unless-clause-row : goal.returns-in_err-work_unless-clause-row
-returns-in_err-work_unless-clause-row g c = λ key is.
-    absurd (no-key c.from_residual-in_err-work_unless.result fault.Memory key c.from_residual-in_err-work_unless.ensures.1 refl is)
-
-pub returns-then-is_over-clause-row : goal.returns-then-is_over-clause-row
-returns-then-is_over-clause-row g c = λ key is. absurd (no-key-ok key is)
 
 pub returns-in_err-work_unless-clause-ran : goal.returns-in_err-work_unless-clause-ran
 returns-in_err-work_unless-clause-ran g c =
