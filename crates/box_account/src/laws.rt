@@ -38,8 +38,8 @@ pub fn complete_verdicts_are_heard()
         (next t custom cut words outcomes s k).world.fates }
 {}
 
-/// A law: under the rule of boxes what a pass took is true of the plan and the box that it names, and
-/// so of the box that it is a row's pass to.
+/// A law: under the rule of boxes what a pass took is true of the plan and the box that it names,
+/// and so of the box that it is a row's pass to.
 pub fn rows_took_true()
     ensures stood { (v : View Mail) (items : List Mail) → Stood IsTrueMail v items → TookTruly v }
     ensures row { (t : Topology) (boxes : List (Mailbox Mail)) (row : List (Pass Mail))

@@ -1,4 +1,5 @@
-//! What comes into boxes and goes out of outboxes between events, for a caller with boxes of its own.
+//! What comes into boxes and goes out of outboxes between events, for a caller with boxes of its
+//! own.
 ghost use Rattle.std.specs.Prelude.{◌≡◌, ◌<◌, true, false, [], length, IfOk, OnOk};
 ghost use Rattle.std.specs.List.{AllByRecursion};
 ghost use Rattle.std.specs.Option.{option_copied};
