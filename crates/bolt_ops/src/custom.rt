@@ -7,7 +7,7 @@ use storm_values::{Duplicate, Memory, Row, Rows};
 
 /// An operation of the user's own, for rows within limits. What it makes depends on the
 /// operation and the row alone.
-pub trait RowOp {
+pub trait RowOp: Sync {
     ghost meaning: { Self → Custom };
 
     ghost keeps: { (op : Self) → IsCustom (meaning op) };

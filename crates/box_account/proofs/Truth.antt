@@ -4,6 +4,7 @@ use Rattle.std.specs.List.{AllByRecursion}
 use Rattle.std.proofs.lemmas.List.{length-map}
 use Rattle.box_account.specs.Taken.{TookTrue, TookTruly}
 use Rattle.box_rows.specs.declared.mail.Mail.{Mail}
+use Rattle.box_rows.specs.FitRows.{IsFitRow, IsFitView}
 use Rattle.box_rows.specs.Mails.{IsTrueMail}
 use Rattle.box_rows.specs.Rows.{ArePasses, IsPassFor}
 use Rattle.box_rows.proofs.Changing.{get-map, one_of}
@@ -61,3 +62,7 @@ row_took t boxes row passes truly n v at =
     by p is same =
         subst (λ (q : Topology × ℕ). AllByRecursion (λ (s : Stamped Mail). IsTrueMail q.0 q.1 s.item) (taken_of v.books))
         (λ i. ((sym (ap (λ (u : View Mail). u.plan) same) ∙ is.plan) i, (sym (ap (λ (u : View Mail). u.owner) same) ∙ is.owner) i)) (view-of TookTruly (map view_of row) n v truly at)
+
+-- a row with all numbers knows it
+pub fit_took : (t : Topology) (boxes : List (Mailbox Mail)) (row : List (Pass Mail)) → IsFitRow t boxes row → TookTrue t row
+fit_took t boxes row is = row_took t boxes row is.passes (each-weaker IsFitView TookTruly (λ v fit. fit.rest.took_true) (map view_of row) is.fit)

@@ -7,6 +7,7 @@ ghost use Rattle.box_account.specs.Inboxes.{GoesThrough};
 ghost use Rattle.box_account.specs.Taken.{TookTrue, TookTruly};
 ghost use Rattle.box_account.specs.Telling.{BoxesTell};
 ghost use Rattle.box_rows.specs.declared.mail.Mail.{Mail};
+ghost use Rattle.box_rows.specs.FitRows.{IsFitRow};
 ghost use Rattle.box_rows.specs.Mails.{IsTrueMail};
 ghost use Rattle.box_rows.specs.Rows.{ArePasses};
 ghost use Rattle.event_worlds.specs.Accounted.{LedAt};
@@ -39,12 +40,14 @@ pub fn complete_verdicts_are_heard()
 {}
 
 /// A law: under the rule of boxes what a pass took is true of the plan and the box that it names,
-/// and so of the box that it is a row's pass to.
+/// and so of the box that it is a row's pass to; a row with all numbers knows it.
 pub fn rows_took_true()
     ensures stood { (v : View Mail) (items : List Mail) → Stood IsTrueMail v items → TookTruly v }
     ensures row { (t : Topology) (boxes : List (Mailbox Mail)) (row : List (Pass Mail))
         → ArePasses t boxes row → AllByRecursion TookTruly (map view_of row)
         → TookTrue t row }
+    ensures fit { (t : Topology) (boxes : List (Mailbox Mail)) (row : List (Pass Mail))
+        → IsFitRow t boxes row → TookTrue t row }
 {}
 
 /// A law: where a history led to a world, all that was taken from boxes went through it, and each

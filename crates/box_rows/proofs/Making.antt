@@ -57,6 +57,7 @@ first-rest t n = record {
   held = [];
   all = λ f. refl;
   are_true = tt;
+  took_true = tt;
   few = (omega arith);
   rises = tt;
   above = (tt, tt);

@@ -8,6 +8,6 @@ mod TurnEvents
 pub mod LoopLemmas
 pub mod StartLemmas
 pub mod WorldLemmas
-mod FatesLemmas
+pub mod FatesLemmas
 pub mod BoostLemmas
 mod ExchangeLemmas

@@ -9,6 +9,7 @@ ghost use Rattle.own_operation.specs.BothWays.{both_ways, IsCustom-both_ways};
 use bolt_ops::RowOp;
 use std::alloc::Global;
 use std::process::ExitCode;
+use storm_gates::OpenGate;
 use storm_ids::ChaChaMaker;
 use storm_outside::{FileShelf, OutSink};
 use storm_program::{Fates, storm_run};
@@ -51,6 +52,7 @@ fn main(rt: HostRuntime) -> ExitCode {
         &mut MemMaker::new(alloc),
         &mut ChaChaMaker { key: [0; 32] },
         &BothWays,
+        &OpenGate {},
         &mut fates,
     );
     ExitCode::from(status.code())

@@ -2,8 +2,8 @@
 use std::hint;
 use std::sync::Wait;
 use std::sync::atomic::{AtomicBool, AtomicU64, Ordering};
+use storm_gates::Gate;
 use storm_values::{Path, Root};
-use worker_pool::Gate;
 
 /// Counts executions, those of first tuples apart. Each waits until the gate is open.
 #[derive(Drop)]

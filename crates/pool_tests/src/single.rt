@@ -18,8 +18,9 @@ use box_rows::{Boxes, Mail, Posts, Row, send_at, split_row, take_at};
 use pulse_board::Board;
 use std::alloc::Global;
 use std::sync::Wait;
+use storm_gates::OpenGate;
 use test_kit::Mismatch;
-use worker_pool::{AckerDesk, OpenGate, Spares};
+use worker_pool::{AckerDesk, Spares};
 
 const ONE: Hiring = Hiring {
     workers: 1,

@@ -19,9 +19,9 @@ use pulse_board::Board;
 use std::alloc::Global;
 use std::sync::Wait;
 use std::thread::{Threads, join};
+use storm_gates::{Gate, HoldUntil, OpenGate};
 use storm_values::Path;
 use test_kit::Mismatch;
-use worker_pool::{Gate, HoldUntil, OpenGate};
 
 const TWO: Hiring = Hiring {
     workers: 2,

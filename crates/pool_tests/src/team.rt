@@ -22,11 +22,12 @@ use std::alloc::Global;
 use std::collections::VecDeque;
 use std::sync::Wait;
 use std::thread::Threads;
+use storm_gates::Gate;
 use storm_ids::{ChaChaIds, ChaChaMaker, IdMaker};
 use storm_values::Memory;
 use test_kit::Mismatch;
 use topology_plan::Plan;
-use worker_pool::{AckerDesk, Gate, Outbox, Spares, TaskDesk, Worker, stretch_all};
+use worker_pool::{AckerDesk, Outbox, Spares, TaskDesk, Worker, stretch_all};
 
 pub type TestDesk<'p> = TaskDesk<'p, ChaChaIds>;
 

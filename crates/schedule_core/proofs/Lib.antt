@@ -1,8 +1,8 @@
-mod Keeping
-mod Drives
+pub mod Keeping
+pub mod Drives
 mod Quiet
 pub mod Coordinating
-mod Resting
+pub mod Resting
 mod Boosting
 mod Looping
 mod FatesOfRuns

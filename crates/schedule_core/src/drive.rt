@@ -114,7 +114,7 @@ fn boost<I: Ids, O: RowOp>(engine: &mut Engine<'_, I>, custom: &O) -> Result<(),
 }
 
 /// So many ticks.
-fn tick_on<I: Ids>(engine: &mut Engine<'_, I>, count: u32)
+pub(crate) fn tick_on<I: Ids>(engine: &mut Engine<'_, I>, count: u32)
     requires { IsAtRest engine.old }
     ensures at_rest { IsAtRest engine.new }
     ensures same_run { IsOfSameRun engine.old engine.new }
@@ -133,7 +133,7 @@ fn tick_on<I: Ids>(engine: &mut Engine<'_, I>, count: u32)
 /// It costs a tick each, what the turn hears and begins, and the writes of the commit. With a bad
 /// cell or want of memory the engine may have no more events; its fates are those of all attempts
 /// that ended.
-pub fn close_round<I: Ids, C: CellStore>(
+pub(crate) fn close_round<I: Ids, C: CellStore>(
     engine: &mut Engine<'_, I>,
     parts: &mut Parts<C>,
     passed: u32,

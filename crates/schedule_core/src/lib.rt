@@ -1,7 +1,9 @@
-//! Given schedules: the engine of events over the parts of all states, step by step on one thread.
+//! Given schedules: the engine of events over the parts of all states, step by step on one thread,
+//! and the rest of a round whose commit goes to the parts side by side.
 #![tactic(auto)]
 
 mod answer;
+mod beside;
 mod drive;
 mod ended;
 mod given;
@@ -9,7 +11,7 @@ mod laws;
 mod rounds;
 
 pub use answer::end_run;
-pub use drive::close_round;
+pub use beside::close_round_beside;
 pub use ended::Ended;
 pub use given::replay;
 pub use laws::{laws_of_commits, laws_of_runs, laws_of_steps};

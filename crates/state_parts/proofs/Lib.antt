@@ -2,6 +2,7 @@ mod Places
 mod MakerLemmas
 mod SplitLemmas
 mod TrialLemmas
+mod JoinLemmas
 mod TableLemmas
 mod StandingLemmas
 mod TableLaw

@@ -1,7 +1,7 @@
 -- What follows of the parts' answers to a commit.
-use Rattle.std.proofs.Common.{◌≡◌, ◌+◌, ◌≤◌, ◌<◌, ◌||◌, ◌&&◌, ◌==◌, inl, inr, ⊎_elim, ℕ, zero, suc, Bool, true, false, List, [], ◌∷◌, ◌++◌, length, map, get_or, set, slice_get, drop, All, Option, None, Some, Result, Ok, Err, OnOk, OnErr, IsErrOf, ℤ, refl, sym, ap, subst, ◌∙◌, append_assoc, arith}
+use Rattle.std.proofs.Common.{◌≡◌, ◌+◌, ◌≤◌, ◌<◌, ◌||◌, ◌&&◌, ◌==◌, inl, inr, ⊎_elim, ℕ, zero, suc, Bool, true, false, List, [], ◌∷◌, ◌++◌, length, map, get_or, set, slice_get, take, drop, All, Option, None, Some, Result, Ok, Err, OnOk, OnErr, IsErrOf, ℤ, refl, sym, ap, subst, ◌∙◌, append_assoc, arith}
 use Rattle.std.proofs.lemmas.Bool.{cases_eq, eq-eqb, ne_eqb}
-use Rattle.std.proofs.lemmas.List.{append-nil, drop_all, drop_more, get_or_at, length-map, length_push, map-append, set_at}
+use Rattle.std.proofs.lemmas.List.{append-nil, drop_all, drop_more, get_or_at, length-map, length_push, map-append, set_at, take_all}
 use Rattle.std.proofs.lemmas.List.Elements.{All-head, All-nil, All-push, All-tail}
 use Rattle.std.proofs.lemmas.List.Folds.{list_any-append}
 use Rattle.std.proofs.lemmas.Option.{none-some, same_Some}
@@ -34,7 +34,7 @@ use Rattle.state_parts.proofs.TableLemmas.{zip_at}
 
 -- ---- the first of each kind
 
-option_or_assoc : {X : Type 0} (a b c : Option X) → option_or (option_or a b) c ≡ option_or a (option_or b c)
+pub option_or_assoc : {X : Type 0} (a b c : Option X) → option_or (option_or a b) c ≡ option_or a (option_or b c)
 option_or_assoc None b c = refl
 option_or_assoc (Some x) b c = refl
 
@@ -50,7 +50,7 @@ or_true : (b : Bool) → true ≡ (b || true)
 or_true true = refl
 or_true false = refl
 
-first_cons : {Y : Type 0} (o : Option Y) (rest : List (Option Y)) → first_some (o ∷ rest) ≡ option_or o (first_some rest)
+pub first_cons : {Y : Type 0} (o : Option Y) (rest : List (Option Y)) → first_some (o ∷ rest) ≡ option_or o (first_some rest)
 first_cons None rest = refl
 first_cons (Some y) rest = refl
 
@@ -60,7 +60,7 @@ first_push f (z ∷ xs) x =
     first_cons (f z) (map f (xs ++ x ∷ [])) ∙ ap (option_or (f z)) (first_push f xs x) ∙ sym (option_or_assoc (f z) (first_some (map f xs)) (f x))
     ∙ ap (λ o. option_or o (f x)) (sym (first_cons (f z) (map f xs)))
 
-same_tally : (a b : Bool) (k l : Option (List ℕ)) (m n : Option CommitOutcome) → a ≡ b → k ≡ l → m ≡ n
+pub same_tally : (a b : Bool) (k l : Option (List ℕ)) (m n : Option CommitOutcome) → a ≡ b → k ≡ l → m ≡ n
     → ◌≡◌ {A = Tally} (record { no_memory = a; bad = k; failed = m }) (record { no_memory = b; bad = l; failed = n })
 same_tally a b k l m n one two three = rw (one, two, three) refl
 
@@ -219,6 +219,15 @@ module _ {S : Type 0} (tells : S → CellMap → Type 0) (count : S → ℕ) (tx
           news = sym (append-nil (map (λ (t : Trial S). t.new) trying.trials)) ∙ ap (λ xs. map (λ (t : Trial S). t.new) trying.trials ++ xs) (sym none) ∙ trying.news;
           tally_is = trying.tally_is;
         }
+
+    -- parts that were lent, and what was left of them
+    pub tried_lent : (old lent new : List (StatePart S)) (n : ℕ) (tally : Tally) → lent ≡ old → n ≡ length old → length new ≡ length lent → AreTried tells count txid writes lent new tally
+        → AreTried tells count txid writes old (take n (new ++ drop (length new) old)) tally
+    tried_lent old lent new n tally is many long tried =
+        let same : length new ≡ length old = long ∙ ap length is in
+        let left : take n (new ++ drop (length new) old) ≡ new =
+        ap (λ (xs : List (StatePart S)). take n (new ++ xs)) (drop_all (length new) old (omega arith)) ∙ ap (take n) (append-nil new) ∙ take_all n new (omega arith) in
+        subst (λ (xs : List (StatePart S)). AreTried tells count txid writes xs (take n (new ++ drop (length new) old)) tally) is (subst (λ (ys : List (StatePart S)). AreTried tells count txid writes lent ys tally) (sym left) tried)
 
     -- ---- what follows of all answers
 

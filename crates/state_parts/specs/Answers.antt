@@ -1,5 +1,5 @@
 -- What is noted of a part's answer.
-use Rattle.std.specs.Prelude.{◌≡◌, ℕ, true, List, Some, Result, Ok, Err}
+use Rattle.std.specs.Prelude.{◌≡◌, ◌||◌, ℕ, true, List, Some, Result, Ok, Err}
 use Rattle.std.specs.Option.{option_or}
 use Rattle.storm_stores.specs.CellMaps.{CellMap}
 use Rattle.tree_model.specs.declared.write.Write.{Write}
@@ -19,6 +19,14 @@ noted tally (Err fault.Store) failure =
 noted tally (Err (fault.BadCell key)) failure =
     record tally { bad = option_or tally.bad (Some key) }
 noted tally (Err fault.Memory) failure = record tally { no_memory = true }
+
+-- what parts answered, and then what those behind them did: the first of each kind
+abbrev pub joined : Tally → Tally → Tally
+joined first later = record {
+  no_memory = first.no_memory || later.no_memory;
+  bad = option_or first.bad later.bad;
+  failed = option_or first.failed later.failed;
+}
 
 -- a part was tried, and what it answered is noted
 pub record Tries {S : Type 0} (tells : S → CellMap → Type 0) (count : S → ℕ) (txid : ℕ)

@@ -15,7 +15,7 @@ use Rattle.state_parts.specs.declared.answer.CommitOutcome.{CommitOutcome}
 use Rattle.state_parts.specs.declared.answer.CommitOutcome.TheVariants.{Done, Failed}
 use Rattle.state_parts.specs.declared.answer.Tally.{Tally}
 use Rattle.state_parts.specs.declared.parts.StatePart.{StatePart}
-use Rattle.state_parts.specs.PartPlans.{plan_of}
+use Rattle.state_parts.specs.PartPlans.{plan_of, plans_of}
 
 -- ---- the writes of a part
 
@@ -210,3 +210,21 @@ pub record IsBadAt {S : Type 0} (tells : S → CellMap → Type 0) (old : List (
   pub was_at : slice_get old place ≡ Some was
   pub bad : (cells : CellMap) → tells was.over.store cells
       → IsBad was.over.kind (cell_at cells key)
+
+-- ---- all that is said of a commit
+
+-- a commit of these writes to all parts came to this answer
+pub record IsCommit {S : Type 0} (tells : S → CellMap → Type 0) (count : S → ℕ) (txid : ℕ)
+    (writes : List Write) (old new : List (StatePart S))
+    (result : Result CommitOutcome CommitFault) : Type 0 where
+  pub plans : plans_of new ≡ plans_of old
+  pub comes : (result ≡ Err Memory → ⊥) → Comes tells count txid writes old new result
+  pub done : result ≡ Ok Done → AreCommitted tells txid writes old new
+  pub kept : ArePerhapsCommitted tells txid writes old new
+  pub failed : (component part before after : ℕ)
+      → result ≡ Ok (Failed component part before after)
+      → IsFailedPart count old new component part before after
+  pub bad : (key : List ℕ) → result ≡ Err (BadCell key) → IsBadAt tells old key
+  pub never_falls : NoCountFell count old new
+  pub counted : (how : CommitOutcome) → result ≡ Ok how → CountsFollow count how old new
+  pub at_most_once : FailOnceAtMost count old new

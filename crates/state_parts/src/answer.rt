@@ -1,7 +1,7 @@
 ghost use Rattle.std.specs.Prelude.{◌≡◌, false, None, Some};
 ghost use Rattle.std.specs.Option.{option_or};
 ghost use Rattle.state_parts.specs.declared.answer.CommitFault.TheVariants as fault;
-ghost use Rattle.state_parts.specs.Answers.{noted};
+ghost use Rattle.state_parts.specs.Answers.{joined, noted};
 ghost use Rattle.state_parts.specs.Commits.{answer_of};
 
 use state_cells::PartFault;
@@ -84,6 +84,17 @@ impl Tally {
             Err(PartFault::Store) => keep_first(&mut self.failed, failure),
             Err(PartFault::BadCell(key)) => keep_first(&mut self.bad, key),
             Err(PartFault::Memory) => self.no_memory = true,
+        }
+    }
+
+    /// Adds what parts behind these ones answered.
+    pub fn join(self, later: Tally) -> Tally
+        ensures { result ≡ joined self later }
+    {
+        Tally {
+            no_memory: self.no_memory || later.no_memory,
+            bad: self.bad.or(later.bad),
+            failed: self.failed.or(later.failed),
         }
     }
 

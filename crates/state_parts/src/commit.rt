@@ -36,6 +36,23 @@ fn commit_part<C: CellStore>(
     );
 }
 
+/// Tries these parts, one after another, each with its writes.
+pub(crate) fn commit_run<C: CellStore>(
+    parts: &mut [StatePart<C>],
+    txid: u64,
+    dealt: &[GroupedWrites<'_>],
+) -> Tally
+    requires { length dealt.now ≡ length parts.old }
+    ensures { (writes : List Write) → AreDealt writes parts.old dealt.now →
+        AreTried C.tells C.fault_count txid writes parts.old parts.new result }
+{
+    let mut tally = Tally::new();
+    for i in 0..parts.len() {
+        commit_part(&mut parts[i], txid, &dealt[i], &mut tally);
+    }
+    tally
+}
+
 /// Tries every part, one after another, each with its writes.
 fn commit_each<C: CellStore>(
     parts: &mut Vec<StatePart<C>>,
@@ -46,11 +63,7 @@ fn commit_each<C: CellStore>(
     ensures { (writes : List Write) → AreDealt writes parts.old.items dealt.now →
         AreTried C.tells C.fault_count txid writes parts.old.items parts.new.items result }
 {
-    let mut tally = Tally::new();
-    for i in 0..parts.len() {
-        commit_part(&mut parts[i], txid, &dealt[i], &mut tally);
-    }
-    tally
+    commit_run(parts, txid, dealt)
 }
 
 /// Commits a batch to all parts, each with its writes.

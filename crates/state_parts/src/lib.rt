@@ -3,6 +3,7 @@
 #![tactic(auto)]
 
 mod answer;
+mod beside;
 mod commit;
 mod give;
 mod laws;

@@ -9,17 +9,22 @@ ghost use Rattle.state_parts.specs.PartPlans.{AreParts, IsOneOf, plans_of};
 ghost use Rattle.state_parts.specs.PartTables.{AreRead, IsBadRowAt, IsTableOver, OneRaised};
 
 use crate::answer::{Commit, CommitFault, CommitOutcome};
+use crate::beside::commit_parts_beside;
 use crate::commit::commit_parts;
 use crate::give::give_all;
 use crate::make::add_states;
 use crate::tables::tables_of;
 use state_cells::{Part, PartFault};
 use std::alloc::Global;
-use std::marker::Model;
+use std::marker::{Model, Send, Sync};
+use std::thread::Threads;
 use storm_stores::{CellStore, StoreMaker};
 use storm_values::Memory;
 use topology_plan::Plan;
 use tree_model::Tables;
+
+// With fewer writes than these a thread costs more than it saves.
+const FEW_WRITES: usize = 2048;
 
 /// A part of a state over its store, by the state's component number and its own.
 #[derive(Drop)]
@@ -146,5 +151,45 @@ impl<C: CellStore> Parts<C> {
             M.fault_count stores.new ≡ M.fault_count stores.old }
     {
         give_all(self.parts, stores);
+    }
+}
+
+impl<C: CellStore + Send> Parts<C> {
+    /// Commits a batch as `commit_all` does, with runs of the parts side by side, in so many
+    /// threads at most, of which the caller's is one. With few writes, or no two threads, the parts are
+    /// tried one after another. The answer is by the order of the parts, whichever ends first.
+    pub fn commit_beside<R: Threads + Sync>(
+        &mut self,
+        rt: &R,
+        threads: usize,
+        commit: Commit,
+    ) -> Result<CommitOutcome, CommitFault>
+        ensures plans { plans_of self.new ≡ plans_of self.old }
+        ensures comes { (result ≡ Err CommitFault.Memory → ⊥) →
+            Comes C.tells C.fault_count commit.root.txid commit.writes self.old self.new result }
+        ensures done { result ≡ Ok CommitOutcome.Done →
+            AreCommitted C.tells commit.root.txid commit.writes self.old self.new }
+        ensures kept { ArePerhapsCommitted C.tells commit.root.txid commit.writes
+            self.old self.new }
+        ensures failed { (component part before after : ℕ) →
+            result ≡ Ok (CommitOutcome.Failed component part before after) →
+            IsFailedPart C.fault_count self.old self.new component part before after }
+        ensures bad { (key : List ℕ) → result ≡ Err (CommitFault.BadCell key) →
+            IsBadAt C.tells self.old key }
+        ensures never_falls { NoCountFell C.fault_count self.old self.new }
+        ensures counted { (how : CommitOutcome) → result ≡ Ok how →
+            CountsFollow C.fault_count how self.old self.new }
+        ensures at_most_once { FailOnceAtMost C.fault_count self.old self.new }
+    {
+        let few = commit.writes.len() < FEW_WRITES;
+        let threads = if few { 1 } else { threads };
+        commit_parts_beside(
+            rt,
+            threads,
+            self.alloc,
+            &self.firsts,
+            &mut self.parts,
+            commit,
+        )
     }
 }

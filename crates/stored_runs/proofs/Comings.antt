@@ -1,5 +1,5 @@
 -- What a run over the stores of a maker comes to, from what it came to over parts.
-use Rattle.std.proofs.Common.{◌≡◌, ◌≤◌, ◌<◌, ◌+◌, ◌-◌, ◌^◌, inl, inr, ℕ, List, All, IfOk, OnErr, length, sum, Result, Ok, Err, sym, ap, subst, ◌∙◌, arith}
+use Rattle.std.proofs.Common.{◌≡◌, ◌≤◌, ◌<◌, ◌+◌, ◌-◌, ◌^◌, inl, inr, ℕ, List, All, IfOk, OnErr, length, sum, Result, Ok, Err, refl, sym, ap, subst, ◌∙◌, arith}
 use Rattle.std.specs.List.{AllZip}
 use Rattle.std.proofs.lemmas.List.FromFn.{length-range_with_len}
 use Rattle.attempt_fates.specs.declared.fates.Attempt.{Attempt}
@@ -35,6 +35,7 @@ use Rattle.tree_model.specs.declared.write.Table.{Table}
 use Rattle.tree_model.specs.Tables.{AreTables, states_of}
 use Rattle.tree_model.specs.Trees.{writes}
 use Rattle.trident_batches.specs.Batches.{Cut}
+use Rattle.worker_runs.specs.WorkerRuns.{NothingRanOut}
 
 -- batches of an input have a size
 some_size : (t : Topology) (cut : Cut) → IsInput t cut → 0 < cut.size
@@ -359,6 +360,23 @@ module _ {S M : Type 0} {tells : S → CellMap → Type 0} {count : S → ℕ}
               → e ≡ end.StoreFault
           of_ok e same = cc
       all_by (Err e) closes quiet free finishes = tt
+
+      -- a run of which no transaction ran out of attempts commits all
+      pub none_out_finishes : (done : Result (Unit {0}) Stop) → answer ≡ ended_of done
+          → (r : Result RunEnd E) → Closes tells count t answer ran closed r
+          → ((r ≡ Ok end.StoreFault → ⊥) → SameCounts count ran closed)
+          → NothingIsInTheWay t (maker_use tells count holds made faults old new) fates
+          → (failed_commits fates ≡ 0 → NothingRanOut done) → IfOk r IsAll
+      none_out_finishes done is r closes quiet free finishes =
+          all_by r closes quiet free
+          (λ ok none. is ∙ all_of done (subst IsAnswer is ok) (finishes none))
+        where
+          all_of : (d : Result (Unit {0}) Stop) → IsAnswer (ended_of d) → NothingRanOut d
+              → ended_of d ≡ Ok ended.All
+          all_of (Ok all) ok none = refl
+          all_of (Err (stop.Exhausted txid)) ok none = absurd none
+          all_of (Err (stop.BadCell key)) ok none = absurd ok
+          all_of (Err stop.Memory) ok none = absurd ok
 
       module _ {steps : List Step} (world : OfWorld t custom cut told steps answer fates) where
         -- a schedule with enough rounds commits all

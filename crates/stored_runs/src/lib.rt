@@ -1,5 +1,5 @@
-//! Runs over the stores of a maker: a given schedule, or rounds with the ticks of a source. The
-//! parts of all states are made, run over, read and given back.
+//! Runs over the stores of a maker: a given schedule, or with the ticks of a source rounds on one
+//! thread or workers on many. The parts of all states are made, run over, read and given back.
 #![tactic(auto)]
 
 mod closing;
@@ -7,7 +7,11 @@ mod ending;
 mod given;
 mod laws;
 mod rounds;
+mod runs;
+mod workers;
 
 pub use ending::RunEnd;
 pub use given::replay_over;
-pub use rounds::run_over;
+pub use rounds::run_over_rounds;
+pub use runs::run_over;
+pub use workers::run_over_workers;

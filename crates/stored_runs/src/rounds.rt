@@ -31,7 +31,7 @@ use trident_batches::Batches;
 /// It costs what `run_rounds` does, and one look at each key. The attempts that ended are in the
 /// fates, whatever the answer. With want of memory too all stores come back. It is never
 /// `Unfinished`.
-pub fn run_over<R: Wait, T: Ticks, N: IdMaker, M: StoreMaker, O: RowOp>(
+pub fn run_over_rounds<R: Wait, T: Ticks, N: IdMaker, M: StoreMaker, O: RowOp>(
     rt: &R,
     alloc: Global,
     plan: &Plan,

@@ -19,6 +19,7 @@ use std::alloc::Global;
 use std::process::ExitCode;
 use std::sync::Wait;
 use std::thread::Threads;
+use storm_gates::OpenGate;
 use storm_ids::{ChaChaMaker, IdMaker};
 use storm_outside::{FileShelf, OutSink, Shelf, Sink};
 use storm_program::{Fates, Status, storm};
@@ -40,6 +41,9 @@ fn exit_status<R: Threads + Wait + Sync, H: Shelf, K: Sink, T: Ticks, M: StoreMa
     stores: &mut M,
     ids: &mut N,
 ) -> u8
+where
+    N::I: Send,
+    M::C: Send,
     ensures { Exits reversed (map string_bytes words.now)
         (shelf_use H.holds H.ready H.fetches H.faults shelf.old shelf.new)
         (sink_use K.taken K.faults out.old out.new)
@@ -49,8 +53,9 @@ fn exit_status<R: Threads + Wait + Sync, H: Shelf, K: Sink, T: Ticks, M: StoreMa
         (ticks_use T.handed_out T.tells ticks.old ticks.new) result }
 {
     let mut fates = Fates::new(alloc);
+    let gate = OpenGate {};
     let status = storm(
-        rt, alloc, words, shelf, out, ticks, stores, ids, &Reversed, &mut fates,
+        rt, alloc, words, shelf, out, ticks, stores, ids, &Reversed, &gate, &mut fates,
     );
     status.code()
 }

@@ -1,8 +1,9 @@
 //! Calls `storm` over each folder of `examples`, and tells whether it prints what lies there.
 //!
 //! A folder has `topology.json` and `input.jsonl`. One of an operation or a grouping has in
-//! `plain.txt` what `plain` prints, and a run prints the same after its attempt lines. One of an
-//! end has in `report.txt` what a run prints, or a replay of its `schedule.txt`.
+//! `plain.txt` what `plain` prints, and a run prints the same after its attempt lines, whatever its
+//! number of workers. One of an end has in `report.txt` what a run prints, or a replay of its
+//! `schedule.txt`.
 #![tactic(auto)]
 
 ghost use Rattle.std.specs.Prelude.{[]};
@@ -12,6 +13,7 @@ use std::alloc::Global;
 use std::process::ExitCode;
 use std::sync::Wait;
 use std::thread::Threads;
+use storm_gates::OpenGate;
 use storm_ids::{ChaChaMaker, IdMaker, ScriptIds, Words};
 use storm_outside::{FileShelf, InFault, MemSink, OutSink, Shelf, Sink, read_all, write_all};
 use storm_program::{Fates, storm};
@@ -24,7 +26,7 @@ use storm_values::{Bytes, Indexes, Memory};
 enum Handed {
     /// Ids of ChaCha20 with a key of 32 zero bytes, and stores of which no call fails.
     Nothing,
-    /// A tick each 100 rounds.
+    /// A tick each 20 rounds.
     SlowTicks,
     /// The words of `TASK_WORDS` and `COORDINATOR_WORDS` as ids.
     TwoOfOneId,
@@ -55,6 +57,9 @@ const OPERATIONS: [(&str, Handed); 20] = [
     ("grouping_all", Handed::Nothing),
     ("grouping_direct", Handed::Nothing),
 ];
+
+// The numbers of workers by which each of these is run.
+const WORKERS: [&str; 4] = ["1", "2", "3", "7"];
 
 // The folders of ends, the command, and what is handed in.
 const ENDS: [(&str, &str, Handed); 9] = [
@@ -108,8 +113,8 @@ fn read_file<H: Shelf>(alloc: Global, shelf: &mut H, name: &str) -> Result<Bytes
 fn ticks(alloc: Global, handed: Handed) -> Result<ScriptTicks, Memory> {
     let mut answers = Indexes::new(alloc);
     if matches!(handed, Handed::SlowTicks) {
-        for question in 1..1_001 {
-            answers.push(u32::from(question % 100 == 0))?;
+        for question in 1..201 {
+            answers.push(u32::from(question % 20 == 0))?;
         }
     }
     Ok(ScriptTicks::new(answers))
@@ -136,14 +141,22 @@ fn two_of_one_id(alloc: Global) -> Result<ScriptIds, Memory> {
 
 // ---- what is printed
 
-// The words of a command on the files of a folder.
-fn words(alloc: Global, command: &str, name: &str) -> Result<Vec<String>, Memory> {
+// The words of a command on the files of a folder, and a number of workers, where there is one.
+fn words(
+    alloc: Global,
+    command: &str,
+    name: &str,
+    workers: Option<&str>,
+) -> Result<Vec<String>, Memory> {
     let mut words = Vec::new(alloc);
     words.push(String::from_str(alloc, command)?)?;
     words.push(format!(in alloc; "{name}/topology.json")?)?;
     words.push(format!(in alloc; "{name}/input.jsonl")?)?;
     if command == "replay" {
         words.push(format!(in alloc; "{name}/schedule.txt")?)?;
+    }
+    if let Some(number) = workers {
+        words.push(String::from_str(alloc, number)?)?;
     }
     Ok(words)
 }
@@ -155,7 +168,10 @@ fn printed_by<R: Threads + Wait + Sync, H: Shelf, N: IdMaker>(
     words: &[String],
     handed: Handed,
     ids: &mut N,
-) -> Result<MemSink, Memory> {
+) -> Result<MemSink, Memory>
+where
+    N::I: Send,
+{
     let mut out = MemSink::new(alloc, ROOM, ROOM)?;
     let mut ticks = ticks(alloc, handed)?;
     let mut stores = stores(alloc, handed)?;
@@ -170,6 +186,7 @@ fn printed_by<R: Threads + Wait + Sync, H: Shelf, N: IdMaker>(
         &mut stores,
         ids,
         &Reversed,
+        &OpenGate {},
         &mut fates,
     );
     Ok(out)
@@ -182,9 +199,10 @@ fn printed<R: Threads + Wait + Sync, H: Shelf>(
     shelf: &mut H,
     command: &str,
     name: &str,
+    workers: Option<&str>,
     handed: Handed,
 ) -> Result<MemSink, Memory> {
-    let words = words(alloc, command, name)?;
+    let words = words(alloc, command, name, workers)?;
     match handed {
         Handed::TwoOfOneId => {
             let mut ids = two_of_one_id(alloc)?;
@@ -228,22 +246,50 @@ fn tell<K: Sink>(
     Ok(())
 }
 
-// Tells whether a command on a folder's files prints its tables.
-fn tell_tables<R: Threads + Wait + Sync, H: Shelf, K: Sink>(
+// Whether a command on a folder's files prints its tables.
+fn has_tables<R: Threads + Wait + Sync, H: Shelf>(
+    rt: &R,
+    alloc: Global,
+    shelf: &mut H,
+    command: &str,
+    name: &str,
+    workers: Option<&str>,
+    handed: Handed,
+) -> Result<bool, InFault> {
+    let report = printed(rt, alloc, shelf, command, name, workers, handed)?;
+    let found = without_attempts(alloc, report.bytes())?;
+    let file = format!(in alloc; "{name}/plain.txt")?;
+    let want = read_file(alloc, shelf, file.as_str())?;
+    Ok(found.as_bytes() == want.as_slice())
+}
+
+// Tells whether `plain` on a folder's files prints its tables.
+fn tell_plain<R: Threads + Wait + Sync, H: Shelf, K: Sink>(
     rt: &R,
     alloc: Global,
     shelf: &mut H,
     out: &mut K,
-    command: &str,
+    name: &str,
+) -> Result<(), InFault> {
+    let same = has_tables(rt, alloc, shelf, "plain", name, None, Handed::Nothing)?;
+    tell(alloc, out, "plain", name, same)
+}
+
+// Tells whether runs on a folder's files, by each of the numbers of workers, print its tables.
+fn tell_runs<R: Threads + Wait + Sync, H: Shelf, K: Sink>(
+    rt: &R,
+    alloc: Global,
+    shelf: &mut H,
+    out: &mut K,
     name: &str,
     handed: Handed,
 ) -> Result<(), InFault> {
-    let report = printed(rt, alloc, shelf, command, name, handed)?;
-    let found = without_attempts(alloc, report.bytes())?;
-    let file = format!(in alloc; "{name}/plain.txt")?;
-    let want = read_file(alloc, shelf, file.as_str())?;
-    let same = found.as_bytes() == want.as_slice();
-    tell(alloc, out, command, name, same)
+    let mut same = true;
+    for workers in WORKERS {
+        same &= has_tables(rt, alloc, shelf, "run", name, Some(workers), handed)?;
+    }
+    let of = format!(in alloc; "{name} with 1, 2, 3 and 7 workers")?;
+    tell(alloc, out, "run", of.as_str(), same)
 }
 
 // Tells whether a command on a folder's files prints its report.
@@ -256,7 +302,7 @@ fn tell_report<R: Threads + Wait + Sync, H: Shelf, K: Sink>(
     name: &str,
     handed: Handed,
 ) -> Result<(), InFault> {
-    let report = printed(rt, alloc, shelf, command, name, handed)?;
+    let report = printed(rt, alloc, shelf, command, name, None, handed)?;
     let file = format!(in alloc; "{name}/report.txt")?;
     let want = read_file(alloc, shelf, file.as_str())?;
     let same = report.bytes() == want.as_slice();
@@ -270,8 +316,8 @@ fn tell_all<R: Threads + Wait + Sync, H: Shelf, K: Sink>(
     out: &mut K,
 ) -> Result<(), InFault> {
     for (name, handed) in OPERATIONS {
-        tell_tables(rt, alloc, shelf, out, "plain", name, Handed::Nothing)?;
-        tell_tables(rt, alloc, shelf, out, "run", name, handed)?;
+        tell_plain(rt, alloc, shelf, out, name)?;
+        tell_runs(rt, alloc, shelf, out, name, handed)?;
     }
     for (name, command, handed) in ENDS {
         tell_report(rt, alloc, shelf, out, command, name, handed)?;

@@ -1,5 +1,5 @@
 //! The world outside, as traits, with objects in memory and real ones: files by name and an output,
-//! and passed on the stores, the ids and the ticks.
+//! and passed on the stores, the ids, the ticks and the gates.
 #![tactic(auto)]
 
 mod calls;
@@ -16,6 +16,7 @@ pub use memory_shelf::MemShelf;
 pub use memory_sink::MemSink;
 pub use shelf::{InFault, Shelf, read_all};
 pub use sink::{Sink, write_all};
+pub use storm_gates::{Gate, HoldUntil, OpenGate};
 pub use storm_ids::{ChaChaIds, ChaChaMaker, IdMaker, Ids, ScriptIds, ScriptSource, Words};
 pub use storm_stores::{
     CallKind, CellStore, FailAt, MemMaker, MemStore, StoreFault, StoreMaker, puts_change_one_key,

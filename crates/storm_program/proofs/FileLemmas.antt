@@ -25,7 +25,7 @@ use Rattle.storm_program.specs.declared.stop.Stop.TheVariants.{Memory, Told}
 use Rattle.storm_program.specs.Ends.{HasText}
 use Rattle.storm_program.specs.Files.{IsAccepted, AreAccepted, AreRecords, IsTopologyLine, IsInputLine, IsNotRead, of_topology, of_input, FilesCome}
 use Rattle.storm_program.specs.Outside.{ShelfUse, AreBytesOf, Fetched}
-use Rattle.storm_program.specs.Schedules.{AllFilesCome, AreAllAccepted, AreEvents, IsOfSchedule, IsScheduleLine}
+use Rattle.storm_program.specs.Schedules.{AllFilesCome, AreAllAccepted, AreEvents, IsScheduleLine}
 use Rattle.storm_program.specs.steps.Reading.{TopologyComes, WasRead, NotReadComes, InputComes, ScheduleComes}
 use Rattle.storm_program.specs.steps.Stops.{Stops, IfTold}
 use Rattle.storm_program.specs.Texts.{topology_line, input_line, schedule_line, topology_not_read, input_not_read, schedule_not_read}

@@ -1,12 +1,11 @@
 -- What is written of a run over accepted files, from what the run came to.
-use Rattle.std.proofs.Common.{◌≡◌, ◌<◌, ◌≤◌, ℕ, List, [], All, length, Result, Ok, Err, IfOk, IfErr, OnOk, refl, sym, ap, subst, ◌∙◌, String, string_bytes}
-use Rattle.std.specs.List.{AllByRecursion, range_with_len}
+use Rattle.std.proofs.Common.{◌≡◌, ℕ, List, All, length, Result, Ok, Err, IfOk, IfErr, sym, ap, subst, ◌∙◌, String, string_bytes}
+use Rattle.std.specs.List.{AllByRecursion}
 use Rattle.std.proofs.lemmas.List.Elements.{All-from_recursion}
 use Rattle.std.proofs.lemmas.List.FromFn.{length-range_with_len}
 use Rattle.attempt_fates.proofs.RecordLemmas.{records_are_all}
 use Rattle.attempt_fates.specs.declared.fates.Attempt.{Attempt}
 use Rattle.attempt_fates.specs.declared.fates.End.{End}
-use Rattle.attempt_fates.specs.declared.fates.End.TheVariants as attempt_end
 use Rattle.attempt_fates.specs.Fates.{IsOnce}
 use Rattle.bolt_ops.specs.RowOp.{Custom}
 use Rattle.commit_turns.specs.Account.{ended_of, ending_of, ends_of, rows_in}
@@ -16,7 +15,6 @@ use Rattle.schedule_core.specs.Runs.{committed_count}
 use Rattle.schedule_core.specs.Schedules.{all_steps}
 use Rattle.schedule_reader.specs.declared.event.Event.{Event}
 use Rattle.storm_program.specs.declared.status.Status.{Status}
-use Rattle.storm_program.specs.declared.status.Status.TheVariants as status
 use Rattle.storm_program.specs.declared.stop.Stop.{Stop}
 use Rattle.storm_program.specs.declared.stop.Stop.TheVariants.{Memory, Told}
 use Rattle.storm_program.specs.Ends.{HasText}

@@ -1,5 +1,5 @@
 -- What a check, a `plain`, a run and a replay come to, from what their parts came to.
-use Rattle.std.proofs.Common.{◌≡◌, ◌⊎◌, ◌<◌, ℕ, List, [], Option, None, Result, Ok, Err, IfOk, String, string_bytes, inl, inr, refl, sym, subst, sum}
+use Rattle.std.proofs.Common.{◌≡◌, ◌⊎◌, ◌<◌, ℕ, List, Option, None, Result, Ok, Err, IfOk, String, string_bytes, inl, inr, refl, sym, subst, sum}
 use Rattle.bolt_ops.specs.RowOp.{Custom}
 use Rattle.attempt_fates.specs.declared.fates.Attempt.{Attempt}
 use Rattle.event_worlds.specs.Rounds.{HasRounds, rounds_needed}
@@ -25,11 +25,10 @@ use Rattle.storm_program.specs.Storm.{WordsCome, promise}
 use Rattle.storm_program.specs.Texts.{usage}
 use Rattle.storm_program.specs.Words.{Command}
 use Rattle.storm_program.specs.steps.Stops.{IsMemory, IsWritten, Stops}
-use Rattle.storm_program.proofs.CauseLemmas.{never_bad, never_bad_schedule, never_refused, read_fault_rose, same_events, same_plan, same_records}
+use Rattle.storm_program.proofs.CauseLemmas.{never_bad, never_bad_schedule, never_refused, same_events, same_plan, same_records}
 use Rattle.storm_program.proofs.EndLemmas.{ends_written}
 use Rattle.storm_values.specs.declared.value.Value.{Value}
 use Rattle.storm_values.specs.Lines.{records_of}
-use Rattle.stored_runs.specs.declared.ending.RunEnd.TheVariants as run_end
 use Rattle.stored_runs.specs.Makers.{IsUntouched, maker_use}
 use Rattle.stored_runs.specs.StoredRuns.{NothingIsInTheWay}
 use Rattle.storm_stores.specs.CellMaps.{CellMap}

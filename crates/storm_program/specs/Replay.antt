@@ -1,5 +1,5 @@
 -- The command `replay`.
-use Rattle.std.specs.Prelude.{◌≡◌, ◌⊎◌, ◌<◌, ℕ, List, [], length}
+use Rattle.std.specs.Prelude.{◌⊎◌, ◌<◌, ℕ, List, []}
 use Rattle.attempt_fates.specs.declared.fates.Attempt.{Attempt}
 use Rattle.bolt_ops.specs.RowOp.{Custom}
 use Rattle.event_worlds.specs.Rounds.{HasRounds, rounds_needed, ticks_in}

@@ -1,5 +1,5 @@
 -- What a call of the program promises, by the command that its words give.
-use Rattle.std.specs.Prelude.{◌≡◌, ℕ, List, [], Option, Some}
+use Rattle.std.specs.Prelude.{◌≡◌, ℕ, List, Option, Some}
 use Rattle.bolt_ops.specs.RowOp.{Custom}
 use Rattle.attempt_fates.specs.declared.fates.Attempt.{Attempt}
 use Rattle.storm_program.specs.declared.status.Status.{Status}

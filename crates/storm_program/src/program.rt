@@ -22,6 +22,7 @@ use bolt_ops::RowOp;
 use std::alloc::Global;
 use std::sync::Wait;
 use std::thread::Threads;
+use storm_gates::Gate;
 use storm_ids::IdMaker;
 use storm_outside::{Shelf, Sink};
 use storm_stores::StoreMaker;
@@ -31,7 +32,8 @@ use storm_ticks::Ticks;
 ///
 /// The words are those of `check`, `plain`, `replay` and `run` so far; all others get the usage
 /// line. Bolts with the operation `custom` do what is handed in. Stores are made by `stores` and
-/// given back, ids come of sources that `ids` makes, and ticks of `ticks`.
+/// given back, ids come of sources that `ids` makes, and ticks of `ticks`. A run of two workers or
+/// more passes `gate` before each execution.
 pub fn storm<
     R: Threads + Wait + Sync,
     H: Shelf,
@@ -40,6 +42,7 @@ pub fn storm<
     M: StoreMaker,
     N: IdMaker,
     O: RowOp,
+    G: Gate,
 >(
     rt: &R,
     alloc: Global,
@@ -50,8 +53,12 @@ pub fn storm<
     stores: &mut M,
     ids: &mut N,
     custom: &O,
+    gate: &G,
     fates: &mut Fates,
 ) -> Status
+where
+    N::I: Send,
+    M::C: Send,
     requires { fates.old ≡ [] }
 
     // What was written, fetched and run is what the command of the words comes to with this status.
@@ -117,7 +124,8 @@ pub fn storm<
                 workers,
             },
         ) => storm_run(
-            rt, alloc, topology, input, workers, shelf, out, ticks, stores, ids, custom, fates,
+            rt, alloc, topology, input, workers, shelf, out, ticks, stores, ids, custom, gate,
+            fates,
         ),
         None => write_text(Status::Words, USAGE.as_bytes(), out),
     }
@@ -237,12 +245,13 @@ pub fn storm_replay<H: Shelf, K: Sink, M: StoreMaker, N: IdMaker, O: RowOp>(
 
 /// Runs the topology of one file over the records of another, and writes the report.
 ///
-/// It goes by rounds on one thread so far, whatever the number of workers: every tuple is tracked
-/// by an acker, batches are in flight side by side, and each is committed in transaction order to
-/// the stores once its whole tuple tree was acked. Attempts that fail, time out or coincide are
-/// tried again, and so are those whose commit a store refused. It reads both files before it
-/// begins, and builds the whole text before it writes. Time and memory are proportional to the
-/// number of tuples; the messages of all committed tuples are kept in the fates.
+/// Two workers and more are threads, each with tasks and ackers of its own; one goes by rounds on
+/// the caller's thread and passes no gate. Every tuple is tracked by an acker, batches are in
+/// flight side by side, and each is committed in transaction order to the stores once its whole
+/// tuple tree was acked. Attempts that fail, time out or coincide are tried again, and so are those
+/// whose commit a store refused. It reads both files before it begins, and builds the whole text
+/// before it writes. Time and memory are proportional to the number of tuples; the messages of all
+/// committed tuples are kept in the fates.
 pub fn storm_run<
     R: Threads + Wait + Sync,
     H: Shelf,
@@ -251,6 +260,7 @@ pub fn storm_run<
     M: StoreMaker,
     N: IdMaker,
     O: RowOp,
+    G: Gate,
 >(
     rt: &R,
     alloc: Global,
@@ -263,8 +273,12 @@ pub fn storm_run<
     stores: &mut M,
     ids: &mut N,
     custom: &O,
+    gate: &G,
     fates: &mut Fates,
 ) -> Status
+where
+    N::I: Send,
+    M::C: Send,
     requires workers { (1 ≤ workers) × (workers ≤ most_workers) }
     requires no_fates { fates.old ≡ [] }
 
@@ -301,9 +315,8 @@ pub fn storm_run<
         (maker_use M.C.tells M.C.fault_count M.holds M.has_made M.fault_count
         stores.old stores.new) }
 {
-    let _ = workers;
     let came = run_files(
-        rt, alloc, topology, input, shelf, ticks, stores, ids, custom, fates,
+        rt, alloc, topology, input, workers, shelf, ticks, stores, ids, custom, gate, fates,
     );
     write_answer(came, out)
 }

@@ -8,6 +8,7 @@ ghost use Rattle.storm_program.specs.Reports.{EndsSo, IsReport, cut_by};
 ghost use Rattle.storm_program.specs.Run.{IsShort, MustCommitAll, RunComes, ticks_of_run};
 ghost use Rattle.storm_program.specs.steps.Ended.{IsRoundsEnd, WorkStops};
 ghost use Rattle.storm_program.specs.steps.Stops.{IsMemory, Stops};
+ghost use Rattle.storm_values.specs.Limits.{most_workers};
 ghost use Rattle.storm_values.specs.Rows.{IsRow};
 ghost use Rattle.stored_runs.specs.Makers.{maker_use};
 ghost use Rattle.stored_runs.specs.StoredRuns.{NothingIsInTheWay};
@@ -19,26 +20,43 @@ use attempt_fates::Fates;
 use bolt_ops::RowOp;
 use std::alloc::Global;
 use std::sync::Wait;
+use std::thread::Threads;
 use stored_runs::run_over;
+use storm_gates::Gate;
 use storm_ids::IdMaker;
 use storm_outside::Shelf;
 use storm_stores::StoreMaker;
 use storm_ticks::Ticks;
 
 /// Reads a topology and an input, and runs the one over the other.
-pub fn run_files<R: Wait, H: Shelf, T: Ticks, M: StoreMaker, N: IdMaker, O: RowOp>(
+pub fn run_files<
+    R: Threads + Wait + Sync,
+    H: Shelf,
+    T: Ticks,
+    M: StoreMaker,
+    N: IdMaker,
+    O: RowOp,
+    G: Gate,
+>(
     rt: &R,
     alloc: Global,
     topology: &str,
     input: &str,
+    workers: u32,
     shelf: &mut H,
     ticks: &mut T,
     stores: &mut M,
     ids: &mut N,
     custom: &O,
+    gate: &G,
     fates: &mut Fates,
 ) -> Result<String, Stop>
-    requires { fates.old ≡ [] }
+where
+    N::I: Send,
+    M::C: Send,
+    requires fates { fates.old ≡ [] }
+    requires some { 1 ≤ workers }
+    requires few { workers ≤ most_workers }
     ensures done { IfOk result (λ text. RunComes (O.meaning custom.now)
         (shelf_use H.holds H.ready H.fetches H.faults shelf.old shelf.new)
         (run_use (maker_use M.C.tells M.C.fault_count M.holds M.has_made M.fault_count
@@ -61,21 +79,30 @@ pub fn run_files<R: Wait, H: Shelf, T: Ticks, M: StoreMaker, N: IdMaker, O: RowO
     ensures store_faults { M.fault_count stores.old ≤ M.fault_count stores.new }
 {
     let files = read_files(alloc, topology, input, shelf)?;
-    run_accepted(rt, alloc, files, ticks, stores, ids, custom, fates)
+    run_accepted(
+        rt, alloc, files, workers, ticks, stores, ids, custom, gate, fates,
+    )
 }
 
 /// Runs a plan over the records of its input, and makes the report.
-fn run_accepted<R: Wait, T: Ticks, M: StoreMaker, N: IdMaker, O: RowOp>(
+fn run_accepted<R: Threads + Wait + Sync, T: Ticks, M: StoreMaker, N: IdMaker, O: RowOp, G: Gate>(
     rt: &R,
     alloc: Global,
     files: Accepted,
+    workers: u32,
     ticks: &mut T,
     stores: &mut M,
     ids: &mut N,
     custom: &O,
+    gate: &G,
     fates: &mut Fates,
 ) -> Result<String, Stop>
+where
+    N::I: Send,
+    M::C: Send,
     requires fates { fates.old ≡ [] }
+    requires some { 1 ≤ workers }
+    requires few { workers ≤ most_workers }
     requires rows { All (IsRow (length files.plan.spout_fields)) files.rows }
     ensures report { IfOk result (λ text. IsReport (O.meaning custom.now) files.plan files.rows
         (run_use (maker_use M.C.tells M.C.fault_count M.holds M.has_made M.fault_count
@@ -107,6 +134,8 @@ fn run_accepted<R: Wait, T: Ticks, M: StoreMaker, N: IdMaker, O: RowOp>(
     let Accepted { plan, rows } = files;
     let batches = batches_of(&plan, rows);
     let counted = counted_in(&batches);
-    let ending = run_over(rt, alloc, &plan, batches, ticks, ids, stores, custom, fates)?;
+    let ending = run_over(
+        rt, alloc, &plan, batches, workers, ticks, ids, stores, custom, gate, fates,
+    )?;
     text_of_end(alloc, &plan, counted, fates, &ending)
 }

@@ -3,7 +3,9 @@ use sample_topologies::{
     FAILS_ALWAYS, FAILS_TWICE, LAST_VALUE, MUTE_ALWAYS, MUTE_ONCE, SMALL_WORD_COUNT, STEADY,
     one_bolt,
 };
-use storm_test_kit::{CALM, Outside, Script, check_call, check_refusal, run_of, ticks_every};
+use storm_test_kit::{
+    CALM, Outside, Script, check_call, check_refusal, run_alone, run_of, ticks_every,
+};
 use test_kit::Mismatch;
 
 const RECORD: &str = "[\"a\"]";
@@ -72,18 +74,14 @@ ok 1 records 1 batches
     ),
 ];
 
+// One attempt is in flight, and where it is mute only ticks end it, so threads change nothing.
 #[test]
 fn ends_of_attempts_and_runs(rt: HostRuntime) -> Result<(), Mismatch> {
     for (topology, ticks, code, want) in ENDS {
         let outside = Outside { ticks, ..CALM };
-        check_call(
-            &rt,
-            rt.alloc(),
-            run_of(topology, RECORD),
-            outside,
-            code,
-            want,
-        )?;
+        for scene in [run_alone(topology, RECORD), run_of(topology, RECORD)] {
+            check_call(&rt, rt.alloc(), scene, outside, code, want)?;
+        }
     }
     Ok(())
 }
@@ -96,7 +94,8 @@ attempt 1.4 records 1-1 ticks 9-12 timed out
 exhausted 1
 ";
 
-// The coordinator has its turn, with all ticks since the last, once its parcels are handed over.
+// With one worker the coordinator has its turn, with all ticks since the last, once its parcels are
+// handed over.
 #[test]
 fn all_attempts_time_out(rt: HostRuntime) -> Result<(), Mismatch> {
     let alloc = rt.alloc();
@@ -105,7 +104,7 @@ fn all_attempts_time_out(rt: HostRuntime) -> Result<(), Mismatch> {
         ticks: ticks.as_slice(),
         ..CALM
     };
-    let scene = run_of(MUTE_ALWAYS, RECORD);
+    let scene = run_alone(MUTE_ALWAYS, RECORD);
     check_call(&rt, alloc, scene, outside, 7, ALL_TIMED_OUT)
 }
 
@@ -146,8 +145,8 @@ fn an_id_of_0_coincides(rt: HostRuntime) -> Result<(), Mismatch> {
     check_call(&rt, rt.alloc(), scene, outside, 7, ALL_COINCIDE)
 }
 
-// A run executes what there is to do before an init comes to its acker, which then meets a whole
-// list.
+// One worker executes what there is to do before an init comes to its acker, which then meets a
+// whole list.
 #[test]
 fn ids_of_0_are_acked_before_their_init(rt: HostRuntime) -> Result<(), Mismatch> {
     let outside = Outside {
@@ -155,7 +154,7 @@ fn ids_of_0_are_acked_before_their_init(rt: HostRuntime) -> Result<(), Mismatch>
         ..CALM
     };
     for topology in [STEADY, SMALL_WORD_COUNT] {
-        let scene = run_of(topology, RECORD);
+        let scene = run_alone(topology, RECORD);
         check_call(&rt, rt.alloc(), scene, outside, 0, COMMITTED)?;
     }
     Ok(())

@@ -2,6 +2,7 @@
 // part.
 use bolt_ops::Reversed;
 use sample_topologies::{STEADY, one_bolt};
+use storm_gates::OpenGate;
 use storm_ids::ChaChaMaker;
 use storm_program::{Fates, Status, storm_run};
 use storm_stores::{CallKind, CellStore, FailAt, MemMaker, StoreFault, StoreMaker};
@@ -201,6 +202,7 @@ fn a_store_comes_back_with_its_cell(rt: HostRuntime) -> Result<(), Mismatch> {
         &mut stores,
         &mut ChaChaMaker { key: [0; 32] },
         &Reversed,
+        &OpenGate {},
         &mut fates,
     );
     assert!(rt; status == Status::Done);

@@ -4,6 +4,7 @@ use sample_topologies::WORD_COUNT;
 use std::alloc::Global;
 use std::fmt::Write;
 use std::test::Fail;
+use storm_gates::OpenGate;
 use storm_ids::ChaChaMaker;
 use storm_program::{Fates, Status, storm_run};
 use storm_stores::MemMaker;
@@ -85,6 +86,7 @@ fn the_tables_of_three_hundred_lines(rt: HostRuntime) -> Result<(), Fail> {
         &mut stores,
         &mut ids,
         &Reversed,
+        &OpenGate {},
         &mut fates,
     );
     assert!(rt; status == Status::Done);

@@ -61,7 +61,7 @@ fn each_grouping_makes_the_plain_tables(rt: HostRuntime) -> Result<(), Mismatch>
 #[test]
 fn each_operation_makes_the_plain_tables(rt: HostRuntime) -> Result<(), Mismatch> {
     let alloc = rt.alloc();
-    let ticks = ticks_every(alloc, 100, 1, 12)?;
+    let ticks = ticks_every(alloc, 20, 1, 12)?;
     check_examples(&rt, alloc, &OPERATIONS, ticks.as_slice())
 }
 

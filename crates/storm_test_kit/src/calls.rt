@@ -5,6 +5,7 @@ use bolt_ops::Reversed;
 use std::alloc::Global;
 use std::sync::Wait;
 use std::thread::Threads;
+use storm_gates::{Gate, OpenGate};
 use storm_ids::{ChaChaMaker, IdMaker};
 use storm_program::{Attempt, End, Fates, Status, storm};
 use storm_values::{Memory, Root, Seq};
@@ -38,25 +39,40 @@ pub fn call<R: Threads + Wait + Sync>(
     scene: Scene<'_>,
     outside: Outside<'_>,
 ) -> Result<Told, Mismatch> {
+    call_behind(rt, alloc, scene, outside, &OpenGate {})
+}
+
+/// Calls `storm` with a gate.
+pub fn call_behind<R: Threads + Wait + Sync, G: Gate>(
+    rt: &R,
+    alloc: Global,
+    scene: Scene<'_>,
+    outside: Outside<'_>,
+    gate: &G,
+) -> Result<Told, Mismatch> {
     match outside.words {
         Some(script) => {
             let mut ids = scripted_ids(alloc, script)?;
-            call_with(rt, alloc, scene, outside, &mut ids)
+            call_with(rt, alloc, scene, outside, &mut ids, gate)
         }
         None => {
             let mut ids = ChaChaMaker { key: [0; 32] };
-            call_with(rt, alloc, scene, outside, &mut ids)
+            call_with(rt, alloc, scene, outside, &mut ids, gate)
         }
     }
 }
 
-fn call_with<R: Threads + Wait + Sync, N: IdMaker>(
+fn call_with<R: Threads + Wait + Sync, N: IdMaker, G: Gate>(
     rt: &R,
     alloc: Global,
     scene: Scene<'_>,
     outside: Outside<'_>,
     ids: &mut N,
-) -> Result<Told, Mismatch> {
+    gate: &G,
+) -> Result<Told, Mismatch>
+where
+    N::I: Send,
+{
     let words = owned(alloc, scene.words)?;
     let mut shelf = shelf(alloc, scene, outside)?;
     let mut sink = sink(alloc, outside)?;
@@ -73,6 +89,7 @@ fn call_with<R: Threads + Wait + Sync, N: IdMaker>(
         &mut stores,
         ids,
         &Reversed,
+        gate,
         &mut fates,
     );
     Ok(Told {

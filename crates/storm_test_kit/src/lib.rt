@@ -7,12 +7,14 @@ mod outside;
 mod scenes;
 
 pub use calls::{
-    Fate, Told, call, check_answer, check_call, check_faults, check_refusal, check_tables,
+    Fate, Told, call, call_behind, check_answer, check_call, check_faults, check_refusal,
+    check_tables,
 };
 pub use outside::{
     CALM, Cell, Failing, Outside, Script, scripted_ids, scripted_ticks, shelf, sink, stores, taken,
     ticks_every,
 };
 pub use scenes::{
-    CHECK, PLAIN, REPLAY, RUN, Scene, owned, plain_of, reads_of, replay_of, run_of, run_over,
+    CHECK, PLAIN, REPLAY, RUN, RUN_ALONE, Scene, owned, plain_of, reads_of, replay_of, run_alone,
+    run_of, run_over,
 };

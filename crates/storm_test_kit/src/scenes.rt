@@ -6,8 +6,11 @@ use sample_topologies::WORD_COUNT;
 use std::alloc::Global;
 use storm_values::Memory;
 
-/// The words of a run.
+/// The words of a run that names no number of workers. It has several, each on a thread.
 pub const RUN: [&str; 3] = ["run", "t", "i"];
+
+/// The words of a run by one worker, which takes the same steps in the same order each time.
+pub const RUN_ALONE: [&str; 4] = ["run", "t", "i", "1"];
 
 /// The words of a replay.
 pub const REPLAY: [&str; 4] = ["replay", "t", "i", "s"];
@@ -34,6 +37,14 @@ pub fn run_of<'a>(topology: &'a str, input: &'a str) -> Scene<'a> {
         topology: Some(topology),
         input: Some(input),
         schedule: None,
+    }
+}
+
+/// The scene of a run by one worker.
+pub fn run_alone<'a>(topology: &'a str, input: &'a str) -> Scene<'a> {
+    Scene {
+        words: &RUN_ALONE,
+        ..run_of(topology, input)
     }
 }
 

@@ -2,13 +2,14 @@
 use Rattle.std.proofs.Common.{◌≡◌, ◌≢◌, ℕ, ◌+◌, ◌≤◌, List, [], ◌∷◌, length, sym, refl, ap, subst, ◌∙◌, arith}
 use Rattle.std.proofs.lemmas.List.{length-map}
 use Rattle.std.specs.List.{AllByRecursion}
+use Rattle.counted_items.proofs.Each.{each-append}
 use Rattle.pass_numbers.specs.Numbers.{IsWhole}
 use Rattle.pass_numbers.proofs.Lists.{each-at}
 use Rattle.topology_plan.specs.Topology.{Topology}
 use Rattle.task_queues.specs.declared.rule.Book.{Book}
 use Rattle.task_queues.specs.declared.rule.Stamped.{Stamped}
 use Rattle.task_queues.specs.declared.rule.View.{View}
-use Rattle.task_queues.specs.Books.{all_shares, both_of, numbers_of}
+use Rattle.task_queues.specs.Books.{all_shares, both_of, numbers_of, taken_of}
 use Rattle.task_queues.specs.Rule.{items_of, IsKept, Stood}
 use Rattle.task_queues.specs.Whole.{HoldsRest}
 use Rattle.task_queues.proofs.Shares.{share-le, all_is_whole}
@@ -29,11 +30,19 @@ module _ {M : Type 0} (is_true : Topology → ℕ → M → Type 0) where
         held = kept.held;
         all = whole_balanced is_true items stood.views kept stood.pass v stood.here whole;
         are_true = named v.books some_book (each-at (λ (u : View M). AllByRecursion (IsKept is_true kept.plan kept.owner kept.capacity kept.held u) u.books) stood.views stood.pass v kept.books stood.here);
+        took_true = took v.books (each-at (λ (u : View M). AllByRecursion (IsKept is_true kept.plan kept.owner kept.capacity kept.held u) u.books) stood.views stood.pass v kept.books stood.here);
         few = omega arith;
         rises = kept.rises;
         above = whole_above is_true items stood.views kept stood.pass v stood.here;
       }
     where
+      took : (books : List (Book M)) → AllByRecursion (IsKept is_true stood.kept.plan stood.kept.owner stood.kept.capacity stood.kept.held v) books
+          → AllByRecursion (λ (s : Stamped M). is_true v.plan v.owner s.item) (taken_of books)
+      took [] all = tt
+      took (b ∷ books) all =
+          each-append (λ (s : Stamped M). is_true v.plan v.owner s.item) b.taken (taken_of books)
+          (subst (λ (p : Topology × ℕ). AllByRecursion (λ (s : Stamped M). is_true p.0 p.1 s.item) b.taken) (λ i. (sym all.0.plan_is i, sym all.0.owner_is i)) all.0.taken_true) (took books all.1)
+
       named : (books : List (Book M)) → books ≢ [] → AllByRecursion (IsKept is_true stood.kept.plan stood.kept.owner stood.kept.capacity stood.kept.held v) books
           → AllByRecursion (λ (s : Stamped M). is_true v.plan v.owner s.item) stood.kept.held
       named [] some_book all = absurd (some_book refl)

@@ -38,11 +38,13 @@ module _ {M : Type 0} where
 
   -- These stamps are what the box holds: with what was taken they are all that was sent, each once.
   -- They are true and no more than the capacity, and of each number they rise, above what was
-  -- taken.
+  -- taken. What was taken is true too.
   pub record HoldsRest (is_true : Topology → ℕ → M → Type 0) (v : View M) : Type 0 where
     pub held : List (Stamped M)
     pub all : Same (sent_of v.books) (taken_of v.books ++ held)
     pub are_true : AllByRecursion (λ (s : Stamped M). is_true v.plan v.owner s.item) held
+    pub took_true : AllByRecursion (λ (s : Stamped M). is_true v.plan v.owner s.item)
+        (taken_of v.books)
     pub few : length held ≤ v.capacity
     pub rises : Rises held
     pub above : AllByRecursion (λ (b : Book M). Rises (b.taken ++ held)) v.books

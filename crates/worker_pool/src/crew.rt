@@ -12,11 +12,11 @@ ghost use Rattle.worker_pool.specs.Desks.{IsDesk};
 
 use crate::acker::AckerDesk;
 use crate::desk::TaskDesk;
-use crate::gate::Gate;
 use crate::spares::Spares;
 use bolt_ops::RowOp;
 use box_rows::{Posts, Row};
 use std::sync::Wait;
+use storm_gates::Gate;
 use storm_ids::Ids;
 use storm_values::Memory;
 

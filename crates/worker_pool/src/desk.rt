@@ -8,7 +8,6 @@ ghost use Rattle.tree_model.specs.declared.messages.Parcel.TheVariants.{ToTask};
 ghost use Rattle.worker_pool.specs.Desks.{DeskDid, IsDesk, MovesMail, Receives};
 ghost use Rattle.worker_pool.specs.Desks.{RunsTuple, TaskSays};
 
-use crate::gate::Gate;
 use crate::outbox::{Outbox, run_in};
 use crate::spares::Spares;
 use bolt_ops::RowOp;
@@ -16,6 +15,7 @@ use bolt_task::BoltTask;
 use box_rows::{Mail, Posts, Row, take_at};
 use std::collections::VecDeque;
 use std::sync::Wait;
+use storm_gates::Gate;
 use storm_ids::Ids;
 use storm_values::Memory;
 use topology_plan::Plan;

@@ -5,14 +5,12 @@
 mod acker;
 mod crew;
 mod desk;
-mod gate;
 mod outbox;
 mod spares;
 mod worker;
 
 pub use acker::AckerDesk;
 pub use desk::TaskDesk;
-pub use gate::{Gate, HoldUntil, OpenGate};
 pub use outbox::{Outbox, Run};
 pub use spares::Spares;
 pub use worker::{Worker, stretch_all};

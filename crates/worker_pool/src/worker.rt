@@ -6,7 +6,6 @@ ghost use Rattle.worker_pool.specs.Workers.{Did, IsAtWork, IsReady, Keeps, Stret
 use crate::acker::AckerDesk;
 use crate::crew::{turn_of_ackers, turn_of_tasks};
 use crate::desk::TaskDesk;
-use crate::gate::Gate;
 use crate::spares::Spares;
 use bolt_ops::RowOp;
 use box_rows::{Posts, Row};
@@ -14,6 +13,7 @@ use pulse_board::{Board, BoardSeat};
 use std::sync::Wait;
 use std::thread::Threads;
 use std::{hint, thread};
+use storm_gates::Gate;
 use storm_ids::Ids;
 use storm_values::Memory;
 
@@ -176,7 +176,7 @@ impl<'p, I: Ids> Worker<'p, I> {
 }
 
 /// Each worker has a stretch, beside the others.
-pub fn stretch_all<'p, I: Ids + Send, R: Threads + Wait + Sync, O: RowOp + Sync, G: Gate>(
+pub fn stretch_all<'p, I: Ids + Send, R: Threads + Wait + Sync, O: RowOp, G: Gate>(
     rt: &R,
     posts: &Posts<'_>,
     board: &Board,

@@ -22,7 +22,7 @@ use Rattle.storm_ids.specs.declared.ids.Ids.{Ghosts}
 use Rattle.storm_stores.specs.CellMaps.{CellMap}
 use Rattle.topology_plan.specs.Topology.{Topology, tasks_in_all}
 use Rattle.trident_batches.specs.Batches.{Cut}
-use Rattle.worker_turns.proofs.Leading.{idle-still}
+use Rattle.worker_turns.proofs.Stands.{idle-still}
 
 -- ---- errors that are handed on
 

@@ -20,15 +20,16 @@ use bolt_ops::RowOp;
 use box_rows::{Posts, Row};
 use event_engine::Engine;
 use pulse_board::{Board, BoardSeat};
-use schedule_core::{close_round, laws_of_steps};
+use schedule_core::{close_round_beside, laws_of_steps};
 use state_parts::{CommitFault, Parts};
 use std::alloc::Global;
 use std::sync::Wait;
+use std::thread::Threads;
+use storm_gates::Gate;
 use storm_ids::Ids;
 use storm_stores::CellStore;
 use storm_values::Memory;
 use topology_plan::Plan;
-use worker_pool::Gate;
 use worker_turns::sweep;
 
 // A task's event. Where it executes a tuple it passes the gate first.
@@ -105,8 +106,9 @@ fn tick_board(board: &Board, seat: &mut BoardSeat, count: u32)
     }
 }
 
-/// A round of the caller, with so many ticks. What it made waits in inboxes after it.
-pub fn caller_round<R: Wait, I: Ids, C: CellStore, O: RowOp, G: Gate>(
+/// A round of the caller, with so many ticks. Its commit goes to the parts side by side, in so many
+/// threads at most. What it made waits in inboxes after it.
+pub fn caller_round<R: Threads + Wait + Sync, I: Ids, C: CellStore + Send, O: RowOp, G: Gate>(
     rt: &R,
     alloc: Global,
     posts: &Posts<'_>,
@@ -115,6 +117,7 @@ pub fn caller_round<R: Wait, I: Ids, C: CellStore, O: RowOp, G: Gate>(
     seat: &mut BoardSeat,
     engine: &mut Engine<'_, I>,
     parts: &mut Parts<C>,
+    threads: usize,
     passed: u32,
     custom: &O,
     gate: &G,
@@ -134,6 +137,10 @@ pub fn caller_round<R: Wait, I: Ids, C: CellStore, O: RowOp, G: Gate>(
         → Broken I.tells C.tells C.fault_count posts.now.plan.now (O.meaning custom.now)
         (cut_in engine.old) passed key engine.old engine.new row.old.items parts.old parts.new }
     ensures bad_row { (key : List ℕ) → result ≡ Err (fault.BadCell key) → row.new ≡ row.old }
+    ensures bad_drawn { (key : List ℕ) → result ≡ Err (fault.BadCell key)
+        → min (length (book_of seat.new).drawn) (2 ^ 64 - 1)
+        ≡ min (length (book_of seat.old).drawn + passed) (2 ^ 64 - 1) }
+    ensures seat { IsWholeSeat board.now seat.new }
     ensures short { result ≡ Err fault.Memory → WantsMemory I.tells C.tells C.fault_count
         posts.now.plan.now (O.meaning custom.now) (cut_in engine.old) engine.old
         engine.new.fates parts.old parts.new }
@@ -145,7 +152,7 @@ pub fn caller_round<R: Wait, I: Ids, C: CellStore, O: RowOp, G: Gate>(
     laws_of_rounds();
     open_round(rt, posts.plan, engine, custom, gate)?;
     tick_board(board, seat, passed);
-    close_round(engine, parts, passed)?;
+    close_round_beside(rt, engine, parts, threads, passed)?;
     sweep(rt, alloc, posts, row, engine)?;
     Ok(())
 }

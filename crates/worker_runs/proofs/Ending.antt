@@ -15,6 +15,7 @@ use Rattle.box_account.specs.Taken.{TookTrue}
 use Rattle.box_account.specs.Telling.{BoxesTell}
 use Rattle.box_rows.specs.declared.mail.Mail.{Mail}
 use Rattle.box_rows.specs.FirstRow.{first_views}
+use Rattle.box_rows.specs.FitRows.{IsFitRow}
 use Rattle.commit_order.specs.declared.stop.Stop.{Stop}
 use Rattle.commit_order.specs.declared.stop.Stop.TheVariants as stop
 use Rattle.commit_turns.specs.Desks.{Desk}
@@ -42,7 +43,7 @@ use Rattle.schedule_core.specs.Driving.{AreKept, HasCome, LeadsOn}
 use Rattle.schedule_core.specs.Laws.{Laws, WorldLaws}
 use Rattle.schedule_core.specs.Rounding.{end_by}
 use Rattle.schedule_core.specs.Runs.{RunTells, ended, first_answers, ticks_between}
-use Rattle.schedule_core.specs.Schedules.{HadMemory, IsAnswer, answer_by, answer_of}
+use Rattle.schedule_core.specs.Schedules.{HadMemory, answer_by, answer_of}
 use Rattle.state_parts.specs.declared.answer.CommitFault.{CommitFault}
 use Rattle.state_parts.specs.declared.answer.CommitFault.TheVariants as fault
 use Rattle.state_parts.specs.declared.answer.CommitOutcome.{CommitOutcome}
@@ -62,7 +63,7 @@ use Rattle.worker_runs.proofs.Few.{lasts-here}
 use Rattle.worker_runs.proofs.Going.{first-outcomes, gives-next}
 use Rattle.worker_runs.proofs.Handed.{answered-all, answered-most, sum-more, ticks-below}
 use Rattle.worker_runs.proofs.Starting.{CameBy, came-runs, came-some, came-then, came-told, good-now, stands-start, stood-start}
-use Rattle.worker_runs.specs.Going.{RanOn}
+use Rattle.worker_runs.specs.Going.{IsAllBack, RanOn}
 use Rattle.worker_runs.specs.Laws.{RunLaws}
 use Rattle.worker_runs.specs.WorkerRuns.{DrewEach, NothingRanOut, WorkersCome}
 use Rattle.worker_stretches.specs.Parts.{IsWholeSeat}
@@ -168,6 +169,7 @@ pub record RunEnded {I S T : Type 0} {g : Ghosts I} (tells : I → (ℕ → ℕ)
   pub ran : RanOn tells holds count handed ticking t custom cut done old e row now_row was is before after
   pub gathered : OnOk done (IsGathered t cut boxes board e now_row seat)
   pub over : OnOk done (has_ended e ≡ true)
+  pub bad : (key : List ℕ) → done ≡ Err (fault.BadCell key) → IsAllBack t boxes board now_row seat (ticks_between (handed before) (handed after))
   pub once : OnErr done (IsOnce (length cut.records) cut.size last_tick e.fates)
   pub kept : AreKept holds was is
 
@@ -275,8 +277,9 @@ module _ {I S T : Type 0} {g : Ghosts I} (told : (ℕ → ℕ → ℕ) → Type 
 
   -- ---- what boxes tell
 
-  books_ok : DidEnd (Ok tt) → TookTrue t now_row → BoxesTell t custom cut now_row e.fates
-  books_ok ended_so took =
+  books_ok : DidEnd (Ok tt) → BoxesTell t custom cut now_row e.fates
+  books_ok ended_so =
+      let took = run_laws.took boxes now_row ended_so.gathered.fit in
       let runs = ended_so.ran.went.runs in
       let all = words_begin told tells t e0 started runs.goes.given in
       let outcomes = outcomes_of e.fates in
@@ -286,8 +289,9 @@ module _ {I S T : Type 0} {g : Ghosts I} (told : (ℕ → ℕ → ℕ) → Type 
       let later = runs.goes.on all.0 (first_counts t all.0) outcomes all.2 has input keeps good (first_history t all.0) stands in
       run_laws.boxes all.0 (beside_it now_row []) later.history (record { world = shape e; counts = later.now }) now_row later.stands.led later.stands.through took later.stands.heard
 
-  books_bad : (key : List ℕ) → DidEnd (Err (fault.BadCell key)) → TookTrue t now_row → BoxesTell t custom cut now_row e.fates
-  books_bad key ended_so took =
+  books_bad : (key : List ℕ) → DidEnd (Err (fault.BadCell key)) → BoxesTell t custom cut now_row e.fates
+  books_bad key ended_so =
+      let took = run_laws.took boxes now_row (ended_so.bad key refl).row_is in
       let b = ended_so.ran.bad key refl in
       let runs = b.went.runs in
       let drives = b.broken.breaks.drives in
@@ -303,13 +307,19 @@ module _ {I S T : Type 0} {g : Ghosts I} (told : (ℕ → ℕ → ℕ) → Type 
       subst (λ (r : List (Pass Mail)). BoxesTell t custom cut r e.fates) (sym b.same)
       (run_laws.boxes all.0 (beside_it b.mid_row []) reach.history (record { world = shape e; counts = reach.counts }) b.mid_row reach.led reach.through (subst (TookTrue t) b.same took) reach.heard)
 
-  books_by : (done : Result (Unit {0}) CommitFault) → DidEnd done → HadMemory (end_by done answer_at) → TookTrue t now_row → BoxesTell t custom cut now_row e.fates
-  books_by (Ok ok) ended_so had took = books_ok ended_so took
-  books_by (Err (fault.BadCell key)) ended_so had took = books_bad key ended_so took
-  books_by (Err fault.Memory) ended_so had took = absurd had
+  books_by : (done : Result (Unit {0}) CommitFault) → DidEnd done → HadMemory (end_by done answer_at) → BoxesTell t custom cut now_row e.fates
+  books_by (Ok ok) ended_so had = books_ok ended_so
+  books_by (Err (fault.BadCell key)) ended_so had = books_bad key ended_so
+  books_by (Err fault.Memory) ended_so had = absurd had
 
-  pub books-end : (done : Result (Unit {0}) CommitFault) → DidEnd done → (answer : Result (Unit {0}) Stop) → end_by done answer_at ≡ ended answer → HadMemory (ended answer) → TookTrue t now_row → BoxesTell t custom cut now_row e.fates
-  books-end done ended_so answer same had took = books_by done ended_so (subst HadMemory (sym same) had) took
+  pub books-end : (done : Result (Unit {0}) CommitFault) → DidEnd done → (answer : Result (Unit {0}) Stop) → end_by done answer_at ≡ ended answer → HadMemory (ended answer) → BoxesTell t custom cut now_row e.fates
+  books-end done ended_so answer same had = books_by done ended_so (subst HadMemory (sym same) had)
+
+  -- the row is one of all boxes
+  row_by : (done : Result (Unit {0}) CommitFault) → DidEnd done → HadMemory (end_by done answer_at) → IsFitRow t boxes now_row
+  row_by (Ok ok) ended_so had = ended_so.gathered.fit
+  row_by (Err (fault.BadCell key)) ended_so had = (ended_so.bad key refl).row_is
+  row_by (Err fault.Memory) ended_so had = absurd had
 
   -- ---- where nothing is in the way
 
@@ -346,18 +356,18 @@ module _ {I S T : Type 0} {g : Ghosts I} (told : (ℕ → ℕ → ℕ) → Type 
 
   -- ---- the board
 
-  seat_by : (done : Result (Unit {0}) CommitFault) → DidEnd done → IsAnswer (end_by done answer_at) → IsWholeSeat board seat × DrewEach ticks_at seat
-  seat_by (Ok ok) ended_so answered = (
+  seat_by : (done : Result (Unit {0}) CommitFault) → DidEnd done → HadMemory (end_by done answer_at) → IsWholeSeat board seat × DrewEach ticks_at seat
+  seat_by (Ok ok) ended_so had = (
     ended_so.gathered.whole,
     λ few.
         let sums = answered-all ended_so.ran.answers (handed before) (handed after) ended_so.ran.asked.handed_out few in
         same-count e.tick (length (book_of seat).drawn) (sum ended_so.ran.answers) ended_so.gathered.in_time ended_so.ran.went.ticked (omega arith) ∙ sums,
   )
-  seat_by (Err (fault.BadCell key)) ended_so answered = absurd answered
-  seat_by (Err fault.Memory) ended_so answered = absurd answered
+  seat_by (Err (fault.BadCell key)) ended_so had = let b = ended_so.bad key refl in (b.seat_is, b.drawn)
+  seat_by (Err fault.Memory) ended_so had = absurd had
 
-  pub seat-end : (done : Result (Unit {0}) CommitFault) → DidEnd done → (answer : Result (Unit {0}) Stop) → end_by done answer_at ≡ ended answer → IsAnswer (ended answer) → IsWholeSeat board seat × DrewEach ticks_at seat
-  seat-end done ended_so answer same answered = seat_by done ended_so (subst IsAnswer (sym same) answered)
+  pub seat-end : (done : Result (Unit {0}) CommitFault) → DidEnd done → (answer : Result (Unit {0}) Stop) → end_by done answer_at ≡ ended answer → HadMemory (ended answer) → IsWholeSeat board seat × DrewEach ticks_at seat
+  seat-end done ended_so answer same had = seat_by done ended_so (subst HadMemory (sym same) had)
 
   -- ---- all of it
 
@@ -365,18 +375,20 @@ module _ {I S T : Type 0} {g : Ghosts I} (told : (ℕ → ℕ → ℕ) → Type 
   pub record Ends (answer : Result (Unit {0}) Stop) (fates : List Attempt) : Type 0 where
     pub comes : WorkersCome told (ticking before) holds count t custom cut (handed before) (handed after) answer fates was is
     pub finishes : (to_come : List ℕ) → ticking before to_come → CanFinish t → All DoesNotCoincide fates → failed_commits fates ≡ 0 → sum (first_answers (rounds_needed t custom cut) to_come) < t.buckets → NothingRanOut answer
-    pub books : HadMemory (ended answer) → TookTrue t now_row → BoxesTell t custom cut now_row fates
-    pub seat_is : IsAnswer (ended answer) → IsWholeSeat board seat
-    pub ticked : IsAnswer (ended answer) → DrewEach (ticks_between (handed before) (handed after)) seat
+    pub row_is : HadMemory (ended answer) → IsFitRow t boxes now_row
+    pub books : HadMemory (ended answer) → BoxesTell t custom cut now_row fates
+    pub seat_is : HadMemory (ended answer) → IsWholeSeat board seat
+    pub ticked : HadMemory (ended answer) → DrewEach (ticks_between (handed before) (handed after)) seat
 
   pub ends : (done : Result (Unit {0}) CommitFault) → DidEnd done → (answer : Result (Unit {0}) Stop) → end_by done answer_at ≡ ended answer → (fates : List Attempt) → fates ≡ e.fates → Ends answer fates
   ends done so answer same fates are =
       subst (λ (fs : List Attempt). Ends answer fs) (sym are) (record {
         comes = comes-end done so answer same;
         finishes = λ to_come tells_so can apart none low. finishes-end to_come tells_so can apart none low done so answer same;
-        books = λ had took. books-end done so answer same had took;
-        seat_is = λ answered. (seat-end done so answer same answered).0;
-        ticked = λ answered. (seat-end done so answer same answered).1;
+        row_is = λ had. row_by done so (subst HadMemory (sym same) had);
+        books = λ had. books-end done so answer same had;
+        seat_is = λ had. (seat-end done so answer same had).0;
+        ticked = λ had. (seat-end done so answer same had).1;
       })
 
 -- memory was wanted before anything was done

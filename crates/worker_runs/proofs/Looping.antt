@@ -1,5 +1,5 @@
 -- Rounds of the caller and stretches, one after another.
-use Rattle.std.proofs.Common.{◌≡◌, ℕ, ◌+◌, ◌-◌, ◌^◌, false, List, [], ◌∷◌, ◌++◌, length-append, drop, min, sum, Result, Ok, Err, refl, sym, ap, subst, ◌∙◌, arith}
+use Rattle.std.proofs.Common.{◌≡◌, ◌<◌, ℕ, ◌+◌, ◌-◌, ◌^◌, false, List, [], ◌∷◌, ◌++◌, length, length-append, drop, min, sum, Result, Ok, Err, refl, sym, ap, subst, ◌∙◌, arith}
 use Rattle.std.specs.Prelude.{OnErr, OnOk}
 use Rattle.std.specs.Result.{IsErrAnd}
 use Rattle.bolt_ops.specs.RowOp.{Custom}
@@ -9,11 +9,13 @@ use Rattle.event_engine.specs.Engines.{IsStill, cut_in, has_ended}
 use Rattle.event_worlds.specs.Rounds.{rounds_needed}
 use Rattle.pulse_board.specs.declared.seat.Board.{Board}
 use Rattle.pulse_board.specs.declared.seat.BoardSeat.{BoardSeat}
+use Rattle.pulse_board.specs.Seats.{book_of}
 use Rattle.schedule_core.proofs.Going.{leads-drives, leads-none, leads-short}
 use Rattle.schedule_core.proofs.Rounding.{asked-more, asked-none}
 use Rattle.schedule_core.specs.Driving.{AreKept, WantsMemory}
 use Rattle.schedule_core.specs.Laws.{Laws}
 use Rattle.schedule_core.specs.Rounding.{Asked}
+use Rattle.schedule_core.specs.Runs.{ticks_between}
 use Rattle.state_parts.specs.declared.answer.CommitFault.{CommitFault}
 use Rattle.state_parts.specs.declared.answer.CommitFault.TheVariants as fault
 use Rattle.state_parts.specs.declared.parts.StatePart.{StatePart}
@@ -28,11 +30,16 @@ use Rattle.trident_batches.specs.Batches.{Cut}
 use Rattle.worker_rounds.specs.Running.{Broken, IsGathered, RunsOn}
 use Rattle.worker_runs.proofs.Few.{IsBounded, rounds-left}
 use Rattle.worker_runs.proofs.Going.{runs-none, runs-still, runs-then, stood-runs}
-use Rattle.worker_runs.proofs.Handed.{sum-more, ticks-below}
+use Rattle.worker_runs.proofs.Handed.{answered-all, sum-more, ticks-below}
 use Rattle.worker_runs.proofs.Keeping.{gathered-back, kept-none, kept-then}
 use Rattle.worker_runs.specs.Going.{RanOn, Went}
+use Rattle.worker_runs.specs.WorkerRuns.{DrewEach}
 use Rattle.worker_stretches.specs.Standing.{GoesOn}
 use Rattle.worker_turns.specs.Carrying.{AreEmpty}
+
+-- so many more were drawn, of a count that has not come to its end
+drawn-more : (tick top drawn later sums n : ℕ) → tick ≡ min drawn top → tick ≡ min sums top → min later top ≡ min (drawn + n) top → sums + n < top → later ≡ sums + n
+drawn-more tick top drawn later sums n seen ticked rose few = omega arith
 
 -- a count that ends rises by one more answer
 min-more : (tick top a n : ℕ) → tick ≡ min (min a top + n) top → tick ≡ min (a + n) top
@@ -43,9 +50,12 @@ short-ok X (Ok ok) error exits = absurd exits
 short-ok X (Err e) error exits = tt
 
 -- want of memory is no bad cell
-no-key : (done : Result (Unit {0}) CommitFault) (error : CommitFault) (key : List ℕ) → IsErrAnd done (λ e. e ≡ error) → error ≡ fault.Memory → done ≡ Err (fault.BadCell key) → ⊥
+pub no-key : (done : Result (Unit {0}) CommitFault) (error : CommitFault) (key : List ℕ) → IsErrAnd done (λ e. e ≡ error) → error ≡ fault.Memory → done ≡ Err (fault.BadCell key) → ⊥
 no-key (Ok ok) error key exits is bad = absurd exits
 no-key (Err e) error key exits is bad = let a : e ≡ error = exits in cc
+
+pub no-key-ok : (key : List ℕ) → ◌≡◌ {A = Result (Unit {0}) CommitFault} (Ok tt) (Err (fault.BadCell key)) → ⊥
+no-key-ok key is = cc
 
 -- the fault that a `?` hands on is that of the call
 pub handed-on : {A B E : Type 0} (r : Result A E) (s : Result B E) (error e : E) → IsErrAnd r (λ x. x ≡ error) → s ≡ Err error → r ≡ Err e → s ≡ Err e
@@ -180,6 +190,13 @@ module _ {I S T : Type 0} {g : Ghosts I} (tells : I → (ℕ → ℕ) → ℕ �
                 (subst (λ (k : Cut). RunsOn tells holds count t custom k 1 mid new mid_row now_row p is) turning.gathered.ready.seated.of_cut runs);
             kept = kept-then holds was p is turning.kept kept;
           }
+
+          -- which a bad cell stopped: the seat drew a number for each tick that was handed out
+          pub turned-drew : (now_seat : BoardSeat) → min (length (book_of now_seat).drawn) (2 ^ 64 - 1) ≡ min (length (book_of seat).drawn + n) (2 ^ 64 - 1) → DrewEach (ticks_between (handed before) (handed later)) now_seat
+          turned-drew now_seat rose = λ few.
+              let all = answered-all (turning.answers ++ n ∷ []) (handed before) (handed later) asked-now.handed_out few in
+              let sums = sum-more turning.answers n in
+              drawn-more mid.tick (2 ^ 64 - 1) (length (book_of seat).drawn) (length (book_of now_seat).drawn) (sum turning.answers) n turning.gathered.in_time turning.went.ticked rose (omega arith) ∙ sym sums ∙ all
 
           -- which met a fault
           pub turned-bad : (done : Result (Unit {0}) CommitFault) (error : CommitFault) (new : Engine I g) (now_row : List (Pass Mail)) (is : List (StatePart S)) → IsErrAnd done (λ e. e ≡ error)

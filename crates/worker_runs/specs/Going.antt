@@ -2,11 +2,14 @@
 use Rattle.std.specs.Prelude.{◌≡◌, ◌≤◌, ◌<◌, ◌-◌, ◌^◌, ◌++◌, ◌∷◌, ℕ, List, [], Result, Err, OnOk, All, length, min, sum}
 use Rattle.bolt_ops.specs.RowOp.{Custom, IsCustom}
 use Rattle.box_rows.specs.declared.mail.Mail.{Mail}
+use Rattle.box_rows.specs.FitRows.{IsFitRow}
 use Rattle.commit_turns.specs.Outcomes.{IsOutcome}
 use Rattle.event_engine.specs.declared.engine.Engine.{Engine}
 use Rattle.event_engine.specs.Engines.{Gives, HasOutcomes, shape}
 use Rattle.event_worlds.specs.Accounted.{IsInput}
 use Rattle.event_worlds.specs.Rounds.{CanFinish, rounds_needed}
+use Rattle.pulse_board.specs.declared.seat.Board.{Board}
+use Rattle.pulse_board.specs.declared.seat.BoardSeat.{BoardSeat}
 use Rattle.schedule_core.specs.Driving.{RunsOut}
 use Rattle.schedule_core.specs.Rounding.{Asked}
 use Rattle.schedule_core.specs.Runs.{first_answers}
@@ -17,13 +20,24 @@ use Rattle.state_parts.specs.declared.answer.CommitOutcome.TheVariants.{Done}
 use Rattle.state_parts.specs.declared.parts.StatePart.{StatePart}
 use Rattle.storm_ids.specs.declared.ids.Ids.{Ghosts}
 use Rattle.storm_stores.specs.CellMaps.{CellMap}
+use Rattle.task_queues.specs.declared.pass.Mailbox.{Mailbox}
 use Rattle.task_queues.specs.declared.pass.Pass.{Pass}
 use Rattle.topology_plan.specs.Topology.{Topology}
 use Rattle.trident_batches.specs.Batches.{Cut}
 use Rattle.tuple_account.specs.Histories.{History}
 use Rattle.worker_rounds.specs.Running.{Broken, RunsOn}
+use Rattle.worker_runs.specs.WorkerRuns.{DrewEach}
+use Rattle.worker_stretches.specs.Parts.{IsWholeSeat}
 use Rattle.worker_stretches.specs.Standing.{GoesOn, Stands}
 use Rattle.worker_turns.specs.Carrying.{AreEmpty}
+
+-- A row of these boxes and a seat at this board have all numbers, and the seat drew a number for each
+-- of so many ticks.
+pub record IsAllBack (t : Topology) (boxes : List (Mailbox Mail)) (board : Board)
+    (row : List (Pass Mail)) (seat : BoardSeat) (ticks : ℕ) : Type 0 where
+  pub row_is : IsFitRow t boxes row
+  pub seat_is : IsWholeSeat board seat
+  pub drawn : DrewEach ticks seat
 
 module _ {I : Type 0} {g : Ghosts I} (tells : I → (ℕ → ℕ) → ℕ → Type 0) (t : Topology)
     (custom : Custom) (cut : Cut) where

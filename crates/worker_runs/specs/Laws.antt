@@ -6,12 +6,14 @@ use Rattle.box_account.specs.Inboxes.{GoesThrough}
 use Rattle.box_account.specs.Taken.{TookTrue}
 use Rattle.box_account.specs.Telling.{BoxesTell}
 use Rattle.box_rows.specs.declared.mail.Mail.{Mail}
+use Rattle.box_rows.specs.FitRows.{IsFitRow}
 use Rattle.commit_turns.specs.Turns.{is_finished}
 use Rattle.event_worlds.specs.Accounted.{IsInput}
 use Rattle.event_worlds.specs.Added.{first_history}
 use Rattle.event_worlds.specs.Beside.{LedBeside}
 use Rattle.event_worlds.specs.Rounds.{CanFinish, DoesNotCoincide}
 use Rattle.event_worlds.specs.Worlds.{Known, first_known, first_world, is_over}
+use Rattle.task_queues.specs.declared.pass.Mailbox.{Mailbox}
 use Rattle.task_queues.specs.declared.pass.Pass.{Pass}
 use Rattle.topology_plan.specs.Topology.{Topology}
 use Rattle.trident_batches.specs.Batches.{Cut}
@@ -32,3 +34,5 @@ pub record RunLaws (t : Topology) (custom : Custom) (cut : Cut) : Type 0 where
       (row : List (Pass Mail)) → LedBeside t custom cut words weight h k
       → GoesThrough row h k.world → TookTrue t row → HeardBeforeFailing h k.world.fates
       → BoxesTell t custom cut row k.world.fates
+  pub took : (boxes : List (Mailbox Mail)) (row : List (Pass Mail)) → IsFitRow t boxes row
+      → TookTrue t row

@@ -4,7 +4,7 @@ ghost use Rattle.topology_plan.specs.Topology.{Topology};
 ghost use Rattle.trident_batches.specs.Batches.{Cut};
 ghost use Rattle.worker_runs.specs.Laws.{RunLaws};
 
-use box_account::{boxes_tell_of_ends, complete_verdicts_are_heard};
+use box_account::{boxes_tell_of_ends, complete_verdicts_are_heard, rows_took_true};
 use world_progress::{lasting_worlds_go_on, what_is_over_is_finished};
 
 /// A law: how a run of workers begins, what is finished, and what boxes tell at its end.
@@ -15,4 +15,5 @@ pub(crate) fn laws_of_workers()
     complete_verdicts_are_heard();
     what_is_over_is_finished();
     boxes_tell_of_ends();
+    rows_took_true();
 }

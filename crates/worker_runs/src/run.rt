@@ -1,19 +1,20 @@
 //! A run of workers over the batches of an input, until all is over.
-ghost use Rattle.std.specs.Prelude.{◌≡◌, ◌≤◌, ◌<◌, ℕ, List, [], true, All, OnOk, OnErr, length, sum};
+ghost use Rattle.std.specs.Prelude.{◌≡◌, ◌≤◌, ◌<◌, ℕ, List, [], true, All, Err, OnOk, OnErr, length, sum};
 ghost use Rattle.attempt_fates.specs.Fates.{IsOnce};
 ghost use Rattle.batch_commits.specs.Standing.{failed_commits};
-ghost use Rattle.box_account.specs.Taken.{TookTrue};
 ghost use Rattle.box_account.specs.Telling.{BoxesTell};
+ghost use Rattle.box_rows.specs.FitRows.{IsFitRow};
 ghost use Rattle.commit_turns.specs.Turns.{last_tick};
 ghost use Rattle.event_engine.specs.Engines.{IsStill, cut_in, has_ended};
 ghost use Rattle.event_worlds.specs.Accounted.{IsInput};
 ghost use Rattle.event_worlds.specs.Rounds.{CanFinish, DoesNotCoincide, rounds_needed};
 ghost use Rattle.schedule_core.specs.Driving.{AreKept};
 ghost use Rattle.schedule_core.specs.Runs.{ended, first_answers, ticks_between};
-ghost use Rattle.schedule_core.specs.Schedules.{HadMemory, IsAnswer};
+ghost use Rattle.schedule_core.specs.Schedules.{HadMemory};
+ghost use Rattle.state_parts.specs.declared.answer.CommitFault.TheVariants as fault;
 ghost use Rattle.state_parts.specs.PartPlans.{AreParts};
 ghost use Rattle.worker_rounds.specs.Running.{IsGathered};
-ghost use Rattle.worker_runs.specs.Going.{RanOn};
+ghost use Rattle.worker_runs.specs.Going.{IsAllBack, RanOn};
 ghost use Rattle.worker_runs.specs.WorkerRuns.{AreFirstBoxes, DrewEach, IsFirstSeat, NothingRanOut, WorkersCome};
 ghost use Rattle.worker_stretches.specs.Parts.{IsWholeSeat};
 ghost use Rattle.worker_stretches.specs.Standing.{GoesOn};
@@ -30,20 +31,30 @@ use state_parts::{CommitFault, Parts};
 use std::alloc::Global;
 use std::sync::Wait;
 use std::thread::Threads;
+use storm_gates::Gate;
 use storm_ids::{IdMaker, Ids};
 use storm_stores::CellStore;
 use storm_ticks::Ticks;
 use storm_values::Memory;
 use topology_plan::Plan;
 use trident_batches::Batches;
-use worker_pool::Gate;
 use worker_rounds::caller_round;
 use worker_stretches::stretch_once;
 use worker_turns::sweep;
 use world_progress::what_can_be_done_is_bounded;
 
+// How many of the workers get a task or an acker.
+fn needed(plan: &Plan, workers: u32) -> u32
+    requires { 1 ≤ workers }
+    ensures some { 1 ≤ result }
+    ensures few { result ≤ workers }
+{
+    let desks = plan.tasks().saturating_add(plan.ackers());
+    workers.min(desks.max(1))
+}
+
 // A stretch of so many workers; what waits after it comes to inboxes.
-fn work<'p, I: Ids + Send, R: Threads + Wait + Sync, O: RowOp + Sync, G: Gate>(
+fn work<'p, I: Ids + Send, R: Threads + Wait + Sync, O: RowOp, G: Gate>(
     rt: &R,
     alloc: Global,
     posts: &Posts<'_>,
@@ -80,7 +91,7 @@ fn has_more<I: Ids>(engine: &Engine<'_, I>, committed: u64) -> bool {
 }
 
 // A stretch, unless the coordinator has something to do at once.
-fn work_unless<'p, I: Ids + Send, R: Threads + Wait + Sync, O: RowOp + Sync, G: Gate>(
+fn work_unless<'p, I: Ids + Send, R: Threads + Wait + Sync, O: RowOp, G: Gate>(
     busy: bool,
     rt: &R,
     alloc: Global,
@@ -119,8 +130,8 @@ fn run_on<
     I: Ids + Send,
     R: Threads + Wait + Sync,
     T: Ticks,
-    C: CellStore,
-    O: RowOp + Sync,
+    C: CellStore + Send,
+    O: RowOp,
     G: Gate,
 >(
     rt: &R,
@@ -145,6 +156,9 @@ fn run_on<
     ensures gathered { OnOk result (IsGathered posts.now.plan.now (cut_in engine.old)
         posts.now.boxes.items board.now engine.new row.new.items seat.new) }
     ensures over { OnOk result (has_ended engine.new ≡ true) }
+    ensures bad { (key : List ℕ) → result ≡ Err (fault.BadCell key)
+        → IsAllBack posts.now.plan.now posts.now.boxes.items board.now row.new.items seat.new
+        (ticks_between (T.handed_out ticks.old) (T.handed_out ticks.new)) }
     ensures ran { RanOn I.tells C.tells C.fault_count T.handed_out T.tells posts.now.plan.now
         (O.meaning custom.now) (cut_in engine.old) result engine.old engine.new row.old.items
         row.new.items parts.old parts.new ticks.old ticks.new }
@@ -162,7 +176,18 @@ fn run_on<
         let committed = engine.committed_count();
         let passed = ticks.passed();
         caller_round(
-            rt, alloc, posts, board, row, seat, engine, parts, passed, custom, gate,
+            rt,
+            alloc,
+            posts,
+            board,
+            row,
+            seat,
+            engine,
+            parts,
+            workers as usize,
+            passed,
+            custom,
+            gate,
         )?;
         let busy = has_more(engine, committed);
         work_unless(
@@ -182,8 +207,8 @@ pub fn run_workers<
     R: Threads + Wait + Sync,
     T: Ticks,
     N: IdMaker,
-    C: CellStore,
-    O: RowOp + Sync,
+    C: CellStore + Send,
+    O: RowOp,
     G: Gate,
 >(
     rt: &R,
@@ -223,14 +248,15 @@ where
         → sum (first_answers (rounds_needed plan.now (O.meaning custom.now) batches) to_come)
         < plan.now.buckets → NothingRanOut result }
 
-    // What was taken from boxes tells of the end of each attempt, where all that was taken from a
-    // box is true of it.
-    ensures books { HadMemory (ended result) → TookTrue plan.now boxes.new.row.items
+    // What was taken from boxes tells of the end of each attempt.
+    ensures row { HadMemory (ended result)
+        → IsFitRow plan.now boxes.new.posts.boxes.items boxes.new.row.items }
+    ensures books { HadMemory (ended result)
         → BoxesTell plan.now (O.meaning custom.now) batches boxes.new.row.items fates.new }
 
-    // The board was raised by each tick, where no fault stopped the run.
-    ensures seat { IsAnswer (ended result) → IsWholeSeat board.now seat.new }
-    ensures ticked { IsAnswer (ended result)
+    // The board was raised by each tick.
+    ensures seat { HadMemory (ended result) → IsWholeSeat board.now seat.new }
+    ensures ticked { HadMemory (ended result)
         → DrewEach (ticks_between (T.handed_out ticks.old) (T.handed_out ticks.new)) seat.new }
 {
     // laws: where a run begins, how steps add up, and what boxes tell at its end
@@ -241,6 +267,7 @@ where
         Ok(engine) => engine,
         Err(_) => return Err(Stop::Memory),
     };
+    let workers = needed(plan, workers);
     let done = run_on(
         rt,
         alloc,

@@ -23,9 +23,10 @@ use std::alloc::{AllocError, Global};
 use std::collections::VecDeque;
 use std::sync::Wait;
 use std::thread::Threads;
+use storm_gates::Gate;
 use storm_ids::Ids;
 use storm_values::Memory;
-use worker_pool::{AckerDesk, Gate, Spares, TaskDesk, Worker, stretch_all};
+use worker_pool::{AckerDesk, Spares, TaskDesk, Worker, stretch_all};
 
 // A worker for each row, with a hand of desks and one of ackers, and a seat of its own.
 fn crews_of<'p, I: Ids>(
@@ -79,7 +80,7 @@ fn crews_of<'p, I: Ids>(
 }
 
 // All workers have a stretch.
-fn work<'p, I: Ids + Send, R: Threads + Wait + Sync, O: RowOp + Sync, G: Gate>(
+fn work<'p, I: Ids + Send, R: Threads + Wait + Sync, O: RowOp, G: Gate>(
     rt: &R,
     posts: &Posts<'_>,
     board: &Board,
@@ -185,7 +186,7 @@ fn rooms<'p, I: Ids>(
 // Workers with these hands have a stretch over a row, which has all numbers again after it, as the
 // seat has, whatever comes of it. Then the seat looks how many ticks there were, no fewer than any
 // worker has seen.
-fn work_rows<'p, I: Ids + Send, R: Threads + Wait + Sync, O: RowOp + Sync, G: Gate>(
+fn work_rows<'p, I: Ids + Send, R: Threads + Wait + Sync, O: RowOp, G: Gate>(
     rt: &R,
     alloc: Global,
     posts: &Posts<'_>,
@@ -227,7 +228,7 @@ fn work_rows<'p, I: Ids + Send, R: Threads + Wait + Sync, O: RowOp + Sync, G: Ga
 }
 
 /// The same, and then the row says what all boxes hold.
-pub(crate) fn work_hands<'p, I: Ids + Send, R: Threads + Wait + Sync, O: RowOp + Sync, G: Gate>(
+pub(crate) fn work_hands<'p, I: Ids + Send, R: Threads + Wait + Sync, O: RowOp, G: Gate>(
     rt: &R,
     alloc: Global,
     posts: &Posts<'_>,

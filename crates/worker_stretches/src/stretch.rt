@@ -23,11 +23,12 @@ use pulse_board::{Board, BoardSeat};
 use std::alloc::Global;
 use std::sync::Wait;
 use std::thread::Threads;
+use storm_gates::Gate;
 use storm_ids::Ids;
 use storm_values::Memory;
 use stretch_worlds::stretches_lead_on;
 use topology_plan::Plan;
-use worker_pool::{AckerDesk, Gate, TaskDesk};
+use worker_pool::{AckerDesk, TaskDesk};
 
 // All tasks and ackers are dealt out to so many hands, one after another: first the tasks, and then
 // the ackers.
@@ -74,7 +75,7 @@ fn gathered<'p, I: Ids>(
 }
 
 // So many workers have a stretch with the seats of all tasks and ackers.
-fn stretch_seats<'p, I: Ids + Send, R: Threads + Wait + Sync, O: RowOp + Sync, G: Gate>(
+fn stretch_seats<'p, I: Ids + Send, R: Threads + Wait + Sync, O: RowOp, G: Gate>(
     rt: &R,
     alloc: Global,
     posts: &Posts<'_>,
@@ -114,7 +115,7 @@ fn stretch_seats<'p, I: Ids + Send, R: Threads + Wait + Sync, O: RowOp + Sync, G
 /// One stretch of so many workers, over an engine whose seats are lent to them. Whatever is
 /// answered, the row and the seat at the board have all numbers again. Without memory the engine
 /// may have lost seats. The seat draws all ticks, and the engine counts them.
-pub fn stretch_once<'p, I: Ids + Send, R: Threads + Wait + Sync, O: RowOp + Sync, G: Gate>(
+pub fn stretch_once<'p, I: Ids + Send, R: Threads + Wait + Sync, O: RowOp, G: Gate>(
     rt: &R,
     alloc: Global,
     posts: &Posts<'_>,

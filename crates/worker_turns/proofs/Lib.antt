@@ -1,4 +1,3 @@
-pub mod Leading
 pub mod Handing
 pub mod Carrying
 pub mod Stands

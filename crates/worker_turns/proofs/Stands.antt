@@ -15,7 +15,7 @@ use Rattle.counted_items.specs.Weights.{weigh}
 use Rattle.counted_items.proofs.Each.{each-map, each-to_map}
 use Rattle.counted_items.proofs.Weighing.{weigh-map, weigh-ones}
 use Rattle.event_engine.specs.declared.engine.Engine.{Engine}
-use Rattle.event_engine.specs.Engines.{has_ended, shape}
+use Rattle.event_engine.specs.Engines.{IsIdle, IsStill, has_ended, shape}
 use Rattle.event_worlds.specs.Accounted.{station_of}
 use Rattle.event_worlds.specs.Beside.{LedBeside, waits}
 use Rattle.event_worlds.specs.Orderly.{IsOrderly}
@@ -158,3 +158,7 @@ module _ {I : Type 0} {g : Ghosts I} where
       rose = λ can all few open_end. (let d = done-carried (shape old) (shape new) was is nothing_left nothing_left h e.carries in omega arith);
     };
   }
+
+-- a coordinator that stays as it was stays idle
+pub idle-still : {I : Type 0} {g : Ghosts I} (old new : Engine I g) → IsStill old new → IsIdle old → IsIdle new
+idle-still {I = I} old new still idle = subst (λ (c : Coordinator I). IsIdle (record old { coordinator = c })) (sym still.coordinator) idle

@@ -1,4 +1,2 @@
 pub mod Orders
-pub mod Verdicts
-pub mod Gathered
 pub mod Carrying

@@ -1,14 +1,8 @@
-//! What a caller does between stretches of workers: verdicts are taken and heard, the coordinator
-//! has turns, and what it orders is handed over.
+//! What a caller does between stretches of workers: all that waits in boxes and outboxes comes,
+//! each through its box, to the inbox that it is for.
 #![tactic(auto)]
 
-mod orders;
-mod rounds;
 mod runs;
 mod sweeping;
-mod turns;
 
-pub use orders::{hand_over, put_behind};
-pub use rounds::coordinate_once;
 pub use sweeping::sweep;
-pub use turns::{hear_one, turn_once};

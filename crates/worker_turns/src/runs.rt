@@ -2,13 +2,10 @@
 ghost use Rattle.std.specs.Prelude.{◌≡◌, ◌∷◌, ◌++◌, [], IfOk, IfSome, IsTrue, OnOk};
 ghost use Rattle.std.specs.List.{AllByRecursion};
 ghost use Rattle.std.specs.Option.{IfNone};
-ghost use Rattle.box_rows.specs.declared.mail.Mail.TheVariants as mails;
 ghost use Rattle.box_rows.specs.Mails.{IsRunFor, box_of};
 ghost use Rattle.event_worlds.specs.Orderly.{FitsParcel};
-ghost use Rattle.worker_pool.specs.Outboxes.{IsRun};
 ghost use Rattle.worker_turns.specs.Orders.{IsForBox};
 
-use box_rows::Mail;
 use std::alloc::Global;
 use std::collections::VecDeque;
 use storm_values::Memory;
@@ -25,17 +22,6 @@ pub(crate) fn box_number(plan: &Plan, parcel: &Parcel) -> usize
     match parcel {
         Parcel::ToTask(n, _) => *n as usize,
         Parcel::ToAcker(n, _) => plan.tasks() as usize + *n as usize,
-    }
-}
-
-// The run that the mail is.
-pub(crate) fn run_in(mail: Mail) -> Parcels
-    requires { IsRun mail }
-    ensures { mail ≡ mails.Run result }
-{
-    match mail {
-        Mail::Run(parcels) => parcels,
-        Mail::Verdict(_) => unreachable!(),
     }
 }
 
@@ -92,15 +78,4 @@ pub(crate) fn run_from(
         made.push(parcel)?;
     }
     Ok(made)
-}
-
-// Puts the parcels of a run in front of what is left.
-pub(crate) fn put_back(left: &mut VecDeque<Parcel>, run: Parcels) -> Result<(), Memory>
-    ensures { OnOk result (left.new.items ≡ run ++ left.old.items) }
-{
-    let mut rest = run.into_vec();
-    while let Some(parcel) = rest.pop() {
-        left.push_front(parcel)?;
-    }
-    Ok(())
 }

@@ -4,10 +4,10 @@ use Rattle.event_engine.proofs.SeatLemmas.{acts_at, acts_work, at-some}
 use Rattle.event_engine.proofs.task.execute_at.Goals as goal
 
 pub execute-requires-clause-takes : goal.execute-requires-clause-takes
-execute-requires-clause-takes g c = c.requires.takes c.index_mut.result.now (at-some c.args.tasks.now.items c.args.n c.index_mut.result.now c.requires.within (search rules))
+execute-requires-clause-takes g c = λ lives bounds. c.requires.takes c.index_mut.result.now (at-some c.args.tasks.now.items c.args.n c.index_mut.result.now c.requires.within (search rules))
 
 pub execute-requires-clause-empty : goal.execute-requires-clause-empty
-execute-requires-clause-empty g c = c.requires.empty c.index_mut.result.now (at-some c.args.tasks.now.items c.args.n c.index_mut.result.now c.requires.within (search rules))
+execute-requires-clause-empty g c = λ lives bounds. c.requires.empty c.index_mut.result.now (at-some c.args.tasks.now.items c.args.n c.index_mut.result.now c.requires.within (search rules))
 
 pub returns : goal.returns
 returns g c =

@@ -36,10 +36,10 @@ returns-then-is_over-clause-drives g c =
     driven-over g.I.Ids.tells g.C.CellStore.tells g.C.CellStore.fault_count custom old parts laws (all_steps t (take c.loop-event.event-index c.args.events.now)) c.loop-event.engine c.loop-event.parts c.loop-event.invariant (all_steps t c.args.events.now) begun.0 begun.1 (sym c.is_over.ensures ∙ c.if-is_over.true)
 
 pub carry_out-requires-clause-at_rest : goal.carry_out-requires-clause-at_rest
-carry_out-requires-clause-at_rest g c = c.loop-event.invariant.at_rest
+carry_out-requires-clause-at_rest g c = λ lives bounds. c.loop-event.invariant.at_rest
 
 pub carry_out-requires-clause-parts : goal.carry_out-requires-clause-parts
-carry_out-requires-clause-parts g c =
+carry_out-requires-clause-parts g c = λ lives bounds.
     let old = c.args.engine.now in
     let parts = c.args.parts.now in
     let t = topology_in old in
@@ -48,7 +48,7 @@ carry_out-requires-clause-parts g c =
     parts_here g.I.Ids.tells g.C.CellStore.tells g.C.CellStore.fault_count custom old parts laws (all_steps t (take c.loop-event.event-index c.args.events.now)) c.loop-event.engine c.loop-event.parts c.loop-event.invariant
 
 pub carry_out-requires-clause-fits : goal.carry_out-requires-clause-fits
-carry_out-requires-clause-fits g c =
+carry_out-requires-clause-fits g c = λ lives bounds.
     fits_there c.args.engine.now c.loop-event.engine c.loop-event.invariant.same_run c.as_slice-event-items.result.now c.args.events.now c.loop-event.event-index (Task 0) c.as_slice-event-items.ensures c.requires.fit c.loop-event-test.true
 
 pub returns-in_err-carry_out-clause-bad : goal.returns-in_err-carry_out-clause-bad

@@ -33,10 +33,10 @@ returns-then-is_over-clause-drives g c =
     driven-over g.I.Ids.tells g.C.CellStore.tells g.C.CellStore.fault_count custom old parts laws (rounds_steps t c.loop-done.done) c.loop-done.engine c.loop-done.parts c.loop-done.invariant (rounds_steps t c.args.count) begun.0 begun.1 (sym c.is_over.ensures ∙ c.if-is_over.true)
 
 pub round-requires-clause-at_rest : goal.round-requires-clause-at_rest
-round-requires-clause-at_rest g c = c.loop-done.invariant.at_rest
+round-requires-clause-at_rest g c = λ lives bounds. c.loop-done.invariant.at_rest
 
 pub round-requires-clause-parts : goal.round-requires-clause-parts
-round-requires-clause-parts g c =
+round-requires-clause-parts g c = λ lives bounds.
     let old = c.args.engine.now in
     let parts = c.args.parts.now in
     let t = topology_in old in

@@ -5,10 +5,10 @@ use Rattle.topology_plan.specs.Topology.{Topology}
 use Rattle.schedule_core.proofs.given.replay.Goals as goal
 
 pub carry_out_all-done-requires-clause-at_rest : goal.carry_out_all-done-requires-clause-at_rest
-carry_out_all-done-requires-clause-at_rest g c = at_rest c.args.plan.now c.args.batches c.in-Ok.engine c.in-Ok.ensures.ready c.in-Ok.ensures.idle
+carry_out_all-done-requires-clause-at_rest g c = λ lives bounds. at_rest c.args.plan.now c.args.batches c.in-Ok.engine c.in-Ok.ensures.ready c.in-Ok.ensures.idle
 
 pub carry_out_all-done-requires-clause-fit : goal.carry_out_all-done-requires-clause-fit
-carry_out_all-done-requires-clause-fit g c = fits_first c.args.plan.now c.args.batches c.in-Ok.engine c.args.events.now c.in-Ok.ensures.ready c.requires.fit
+carry_out_all-done-requires-clause-fit g c = λ lives bounds. fits_first c.args.plan.now c.args.batches c.in-Ok.engine c.args.events.now c.in-Ok.ensures.ready c.requires.fit
 
 pub returns-in-Err : goal.returns-in-Err
 returns-in-Err g c = record {

@@ -4,7 +4,7 @@ use Rattle.schedule_core.proofs.RunByRounds.{rounds-end, rounds-not-begun, stopp
 use Rattle.schedule_core.proofs.rounds.run_rounds.Goals as goal
 
 pub rounds_until_over-done-requires-clause-at_rest : goal.rounds_until_over-done-requires-clause-at_rest
-rounds_until_over-done-requires-clause-at_rest g c = at_rest c.args.plan.now c.args.batches c.in-Ok.engine c.in-Ok.ensures.ready c.in-Ok.ensures.idle
+rounds_until_over-done-requires-clause-at_rest g c = λ lives bounds. at_rest c.args.plan.now c.args.batches c.in-Ok.engine c.in-Ok.ensures.ready c.in-Ok.ensures.idle
 
 pub returns-in-Err : goal.returns-in-Err
 returns-in-Err g c =

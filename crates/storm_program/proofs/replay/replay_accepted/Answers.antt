@@ -1,4 +1,4 @@
-use Rattle.std.proofs.Common.{ℕ, ◌<◌, List, sym, subst}
+use Rattle.std.proofs.Common.{List, sym, subst}
 use Rattle.event_worlds.specs.Rounds.{HasRounds, rounds_needed}
 use Rattle.schedule_core.specs.Schedules.{all_steps}
 use Rattle.storm_program.proofs.EndLemmas.{IfErr-exit}

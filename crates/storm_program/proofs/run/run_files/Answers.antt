@@ -13,7 +13,7 @@ returns-in_err-files-clause-stop g c =
     (run_use (maker_use g.M.C.CellStore.tells g.M.C.CellStore.fault_count g.M.StoreMaker.holds g.M.StoreMaker.has_made g.M.StoreMaker.fault_count c.args.stores.now c.args.stores.now) (g.N.IdMaker.tells c.args.ids.now))
     (ticks_use g.T.Ticks.handed_out g.T.Ticks.tells c.args.ticks.now c.args.ticks.now)
     c.args.topology.now c.args.input.now c.args.fates.now
-    (c.requires, untouched g.M.C.CellStore.tells g.M.C.CellStore.fault_count g.M.StoreMaker.holds g.M.StoreMaker.has_made g.M.StoreMaker.fault_count c.args.stores.now))
+    (c.requires.fates, untouched g.M.C.CellStore.tells g.M.C.CellStore.fault_count g.M.StoreMaker.holds g.M.StoreMaker.has_made g.M.StoreMaker.fault_count c.args.stores.now))
     c.in_err-files.ensures.stop)
 
 pub returns-in_err-files-clause-finishes : goal.returns-in_err-files-clause-finishes

@@ -1,4 +1,4 @@
-use Rattle.std.proofs.Common.{◌≡◌, codes, sym, refl, ◌∙◌}
+use Rattle.std.proofs.Common.{sym, refl, ◌∙◌}
 use Rattle.storm_program.proofs.WordLemmas.{workers_good}
 use Rattle.storm_program.proofs.words.run_with.Goals as goal
 

@@ -11,23 +11,22 @@ use Rattle.worker_rounds.proofs.Driving.{breaks-round, broken-round, drives-roun
 use Rattle.worker_rounds.proofs.Going.{runs-quiet, runs-then}
 use Rattle.worker_rounds.proofs.Rounds.{runs-round, ticked}
 use Rattle.worker_rounds.proofs.round.caller_round.Goals as goal
-use Rattle.worker_turns.proofs.Leading.{idle-still}
-use Rattle.worker_turns.proofs.Stands.{goes-carried}
+use Rattle.worker_turns.proofs.Stands.{goes-carried, idle-still}
 
-pub close_round-requires-clause-at_rest : goal.close_round-requires-clause-at_rest
-close_round-requires-clause-at_rest g c =
+pub close_round_beside-requires-clause-at_rest : goal.close_round_beside-requires-clause-at_rest
+close_round_beside-requires-clause-at_rest g c = λ lives bounds.
     rests-opened c.args.posts.now.plan.now (cut_in c.args.engine.now) c.args.engine.now c.open_round.new.engine c.in_ok-open_round.ensures.ready c.requires.gathered.idle c.open_round.ensures.still
 
-pub close_round-requires-clause-parts : goal.close_round-requires-clause-parts
-close_round-requires-clause-parts g c =
+pub close_round_beside-requires-clause-parts : goal.close_round_beside-requires-clause-parts
+close_round_beside-requires-clause-parts g c = λ lives bounds.
     parts-there c.args.posts.now.plan.now (cut_in c.args.engine.now) c.open_round.new.engine c.args.parts.now c.in_ok-open_round.ensures.ready c.requires.parts
 
 pub sweep-requires-clause-ready : goal.sweep-requires-clause-ready
 sweep-requires-clause-ready g c =
     let t = c.args.posts.now.plan.now in
     let cut = cut_in c.args.engine.now in
-    let new = c.close_round.new.engine in
-    ready-own t cut new (ready-closed t cut c.open_round.new.engine new c.in_ok-open_round.ensures.ready c.in_ok-close_round.ensures.same_run c.in_ok-close_round.ensures.at_rest)
+    let new = c.close_round_beside.new.engine in
+    ready-own t cut new (ready-closed t cut c.open_round.new.engine new c.in_ok-open_round.ensures.ready c.in_ok-close_round_beside.ensures.same_run c.in_ok-close_round_beside.ensures.at_rest)
 
 pub returns-clause-gathered : goal.returns-clause-gathered
 returns-clause-gathered g c =
@@ -36,14 +35,14 @@ returns-clause-gathered g c =
     let cut = cut_in old in
     let custom = g.O.RowOp.meaning c.args.custom.now in
     let opened = c.open_round.new.engine in
-    let closed = c.close_round.new.engine in
+    let closed = c.close_round_beside.new.engine in
     let end = c.sweep.new.engine in
     let was = c.requires.gathered in
     let steps_laws = c.laws_of_steps.ensures t custom cut in
-    let ready = ready-closed t cut opened closed c.in_ok-open_round.ensures.ready c.in_ok-close_round.ensures.same_run c.in_ok-close_round.ensures.at_rest in
-    let drives = drives-round g.I.Ids.tells g.C.CellStore.tells g.C.CellStore.fault_count t custom cut steps_laws c.args.passed old opened c.in_ok-open_round.ensures.ready c.in_ok-open_round.ensures.goes c.open_round.ensures.still c.args.parts.now closed c.close_round.new.parts (c.in_ok-close_round.ensures.drives custom) in record {
+    let ready = ready-closed t cut opened closed c.in_ok-open_round.ensures.ready c.in_ok-close_round_beside.ensures.same_run c.in_ok-close_round_beside.ensures.at_rest in
+    let drives = drives-round g.I.Ids.tells g.C.CellStore.tells g.C.CellStore.fault_count t custom cut steps_laws c.args.passed old opened c.in_ok-open_round.ensures.ready c.in_ok-open_round.ensures.goes c.open_round.ensures.still c.args.parts.now closed c.close_round_beside.new.parts (c.in_ok-close_round_beside.ensures.drives custom) in record {
       ready = ready-after t cut closed end ready c.in_ok-sweep.ensures.ready;
-      idle = idle-still closed end c.sweep.ensures.still c.in_ok-close_round.ensures.at_rest.idle;
+      idle = idle-still closed end c.sweep.ensures.still c.in_ok-close_round_beside.ensures.at_rest.idle;
       swept = c.in_ok-sweep.ensures.swept;
       fit = c.sweep.ensures.row;
       empty = c.in_ok-sweep.ensures.empty;
@@ -60,10 +59,10 @@ returns-clause-ticked g c =
     let cut = cut_in old in
     let custom = g.O.RowOp.meaning c.args.custom.now in
     let opened = c.open_round.new.engine in
-    let closed = c.close_round.new.engine in
+    let closed = c.close_round_beside.new.engine in
     let was = c.requires.gathered in
     let steps_laws = c.laws_of_steps.ensures t custom cut in
-    let drives = drives-round g.I.Ids.tells g.C.CellStore.tells g.C.CellStore.fault_count t custom cut steps_laws c.args.passed old opened c.in_ok-open_round.ensures.ready c.in_ok-open_round.ensures.goes c.open_round.ensures.still c.args.parts.now closed c.close_round.new.parts (c.in_ok-close_round.ensures.drives custom) in
+    let drives = drives-round g.I.Ids.tells g.C.CellStore.tells g.C.CellStore.fault_count t custom cut steps_laws c.args.passed old opened c.in_ok-open_round.ensures.ready c.in_ok-open_round.ensures.goes c.open_round.ensures.still c.args.parts.now closed c.close_round_beside.new.parts (c.in_ok-close_round_beside.ensures.drives custom) in
     c.in_ok-sweep.ensures.carries.carries.arranged.tick ∙ ticked g.I.Ids.tells t custom cut c.args.passed old closed was.ready c.requires.goes_on (let e = was.in_time in omega arith) drives.goes
 
 pub returns-clause-runs : goal.returns-clause-runs
@@ -73,42 +72,42 @@ returns-clause-runs g c =
     let cut = cut_in old in
     let custom = g.O.RowOp.meaning c.args.custom.now in
     let opened = c.open_round.new.engine in
-    let closed = c.close_round.new.engine in
+    let closed = c.close_round_beside.new.engine in
     let end = c.sweep.new.engine in
     let row = c.args.row.now.items in
     let swept_row = c.sweep.new.row.items in
     let parts = c.args.parts.now in
-    let new_parts = c.close_round.new.parts in
+    let new_parts = c.close_round_beside.new.parts in
     let was = c.requires.gathered in
     let tells = g.I.Ids.tells in
     let holds = g.C.CellStore.tells in
     let count = g.C.CellStore.fault_count in
     let steps_laws = c.laws_of_steps.ensures t custom cut in
     let round_laws = c.laws_of_rounds.ensures t custom cut in
-    let ready = ready-closed t cut opened closed c.in_ok-open_round.ensures.ready c.in_ok-close_round.ensures.same_run c.in_ok-close_round.ensures.at_rest in
+    let ready = ready-closed t cut opened closed c.in_ok-open_round.ensures.ready c.in_ok-close_round_beside.ensures.same_run c.in_ok-close_round_beside.ensures.at_rest in
     let ready_end = ready-after t cut closed end ready c.in_ok-sweep.ensures.ready in
-    let drives = drives-round tells holds count t custom cut steps_laws c.args.passed old opened c.in_ok-open_round.ensures.ready c.in_ok-open_round.ensures.goes c.open_round.ensures.still parts closed new_parts (c.in_ok-close_round.ensures.drives custom) in
+    let drives = drives-round tells holds count t custom cut steps_laws c.args.passed old opened c.in_ok-open_round.ensures.ready c.in_ok-open_round.ensures.goes c.open_round.ensures.still parts closed new_parts (c.in_ok-close_round_beside.ensures.drives custom) in
     runs-then tells holds count t custom cut steps_laws 1 0 old closed end row row swept_row parts new_parts new_parts
     (runs-round tells t custom cut round_laws old closed row was.ready was.swept was.empty holds count c.args.passed parts new_parts ready c.requires.goes_on (let e = was.in_time in omega arith) drives)
     (runs-quiet tells holds count t custom cut steps_laws 0 closed end row swept_row new_parts c.sweep.ensures.still (goes-carried tells t custom cut closed end row swept_row ready_end.orderly c.in_ok-sweep.ensures.carries))
 
-pub returns-in_err-close_round-clause-bad : goal.returns-in_err-close_round-clause-bad
-returns-in_err-close_round-clause-bad g c = λ key is.
+pub returns-in_err-close_round_beside-clause-bad : goal.returns-in_err-close_round_beside-clause-bad
+returns-in_err-close_round_beside-clause-bad g c = λ key is.
     let t = c.args.posts.now.plan.now in
     let old = c.args.engine.now in
     let cut = cut_in old in
     let custom = g.O.RowOp.meaning c.args.custom.now in
     let opened = c.open_round.new.engine in
-    let closed = c.close_round.new.engine in
+    let closed = c.close_round_beside.new.engine in
     let was = c.requires.gathered in
     let tells = g.I.Ids.tells in
     let holds = g.C.CellStore.tells in
     let count = g.C.CellStore.fault_count in
     let steps_laws = c.laws_of_steps.ensures t custom cut in
-    let exits = c.from_residual-in_err-close_round in
-    broken-round tells holds count t custom cut (c.laws_of_rounds.ensures t custom cut) old closed c.args.row.now.items was.ready was.swept was.empty c.args.passed c.args.parts.now c.close_round.new.parts key
-    (breaks-round tells holds count t custom cut steps_laws c.args.passed old opened c.in_ok-open_round.ensures.ready c.in_ok-open_round.ensures.goes c.open_round.ensures.still c.args.parts.now key closed c.close_round.new.parts
-    (c.close_round.ensures.bad custom key (handed-on exits.result c.close_round.result _ (fault.BadCell key) exits.ensures.1 c.in_err-close_round.was is)))
+    let exits = c.from_residual-in_err-close_round_beside in
+    broken-round tells holds count t custom cut (c.laws_of_rounds.ensures t custom cut) old closed c.args.row.now.items was.ready was.swept was.empty c.args.passed c.args.parts.now c.close_round_beside.new.parts key
+    (breaks-round tells holds count t custom cut steps_laws c.args.passed old opened c.in_ok-open_round.ensures.ready c.in_ok-open_round.ensures.goes c.open_round.ensures.still c.args.parts.now key closed c.close_round_beside.new.parts
+    (c.close_round_beside.ensures.bad custom key (handed-on exits.result c.close_round_beside.result _ (fault.BadCell key) exits.ensures.1 c.in_err-close_round_beside.was is)))
 
 pub returns-in_err-open_round-clause-short : goal.returns-in_err-open_round-clause-short
 returns-in_err-open_round-clause-short g c = λ is.
@@ -117,14 +116,14 @@ returns-in_err-open_round-clause-short g c = λ is.
     let custom = g.O.RowOp.meaning c.args.custom.now in
     wants-still g.I.Ids.tells g.C.CellStore.tells g.C.CellStore.fault_count t custom (cut_in old) (c.laws_of_steps.ensures t custom (cut_in old)) old c.open_round.new.engine.fates c.args.parts.now c.open_round.ensures.still.fates
 
-pub returns-in_err-close_round-clause-short : goal.returns-in_err-close_round-clause-short
-returns-in_err-close_round-clause-short g c = λ is.
+pub returns-in_err-close_round_beside-clause-short : goal.returns-in_err-close_round_beside-clause-short
+returns-in_err-close_round_beside-clause-short g c = λ is.
     let t = c.args.posts.now.plan.now in
     let old = c.args.engine.now in
     let custom = g.O.RowOp.meaning c.args.custom.now in
-    let exits = c.from_residual-in_err-close_round in
-    wants-closed g.I.Ids.tells g.C.CellStore.tells g.C.CellStore.fault_count t custom (cut_in old) (c.laws_of_steps.ensures t custom (cut_in old)) c.args.passed old c.open_round.new.engine c.in_ok-open_round.ensures.ready c.in_ok-open_round.ensures.goes c.open_round.ensures.still c.args.parts.now c.close_round.new.engine.fates c.close_round.new.parts
-    (c.close_round.ensures.short custom (handed-on exits.result c.close_round.result _ fault.Memory exits.ensures.1 c.in_err-close_round.was is))
+    let exits = c.from_residual-in_err-close_round_beside in
+    wants-closed g.I.Ids.tells g.C.CellStore.tells g.C.CellStore.fault_count t custom (cut_in old) (c.laws_of_steps.ensures t custom (cut_in old)) c.args.passed old c.open_round.new.engine c.in_ok-open_round.ensures.ready c.in_ok-open_round.ensures.goes c.open_round.ensures.still c.args.parts.now c.close_round_beside.new.engine.fates c.close_round_beside.new.parts
+    (c.close_round_beside.ensures.short custom (handed-on exits.result c.close_round_beside.result _ fault.Memory exits.ensures.1 c.in_err-close_round_beside.was is))
 
 pub returns-in_err-sweep-clause-short : goal.returns-in_err-sweep-clause-short
 returns-in_err-sweep-clause-short g c = λ is.
@@ -136,26 +135,26 @@ returns-in_err-sweep-clause-short g c = λ is.
     let holds = g.C.CellStore.tells in
     let count = g.C.CellStore.fault_count in
     let laws = c.laws_of_steps.ensures t custom cut in
-    let closed = c.close_round.new.engine in
-    wants-swept tells holds count t custom cut laws (round_with t c.args.passed) old closed c.sweep.new.engine c.args.parts.now c.close_round.new.parts
-    (drives-round tells holds count t custom cut laws c.args.passed old c.open_round.new.engine c.in_ok-open_round.ensures.ready c.in_ok-open_round.ensures.goes c.open_round.ensures.still c.args.parts.now closed c.close_round.new.parts (c.in_ok-close_round.ensures.drives custom))
+    let closed = c.close_round_beside.new.engine in
+    wants-swept tells holds count t custom cut laws (round_with t c.args.passed) old closed c.sweep.new.engine c.args.parts.now c.close_round_beside.new.parts
+    (drives-round tells holds count t custom cut laws c.args.passed old c.open_round.new.engine c.in_ok-open_round.ensures.ready c.in_ok-open_round.ensures.goes c.open_round.ensures.still c.args.parts.now closed c.close_round_beside.new.parts (c.in_ok-close_round_beside.ensures.drives custom))
     c.sweep.ensures.still
 
 pub returns-in_err-open_round-clause-once : goal.returns-in_err-open_round-clause-once
 returns-in_err-open_round-clause-once g c =
     on-err c.from_residual.result (once-still c.args.posts.now.plan.now (cut_in c.args.engine.now) c.args.engine.now c.open_round.new.engine c.requires.gathered.ready c.open_round.ensures.still)
 
-pub returns-in_err-close_round-clause-once : goal.returns-in_err-close_round-clause-once
-returns-in_err-close_round-clause-once g c =
-    on-err c.from_residual-in_err-close_round.result (subst (λ (k : Cut). IsOnce (length k.records) k.size last_tick c.close_round.new.engine.fates) c.in_ok-open_round.ensures.ready.seated.of_cut c.in_err-close_round.ensures.once)
+pub returns-in_err-close_round_beside-clause-once : goal.returns-in_err-close_round_beside-clause-once
+returns-in_err-close_round_beside-clause-once g c =
+    on-err c.from_residual-in_err-close_round_beside.result (subst (λ (k : Cut). IsOnce (length k.records) k.size last_tick c.close_round_beside.new.engine.fates) c.in_ok-open_round.ensures.ready.seated.of_cut c.in_err-close_round_beside.ensures.once)
 
 pub returns-in_err-sweep-clause-once : goal.returns-in_err-sweep-clause-once
 returns-in_err-sweep-clause-once g c =
     let t = c.args.posts.now.plan.now in
     let cut = cut_in c.args.engine.now in
-    let closed = c.close_round.new.engine in
+    let closed = c.close_round_beside.new.engine in
     on-err c.from_residual-in_err-sweep.result
-    (once-still t cut closed c.sweep.new.engine (ready-closed t cut c.open_round.new.engine closed c.in_ok-open_round.ensures.ready c.in_ok-close_round.ensures.same_run c.in_ok-close_round.ensures.at_rest) c.sweep.ensures.still)
+    (once-still t cut closed c.sweep.new.engine (ready-closed t cut c.open_round.new.engine closed c.in_ok-open_round.ensures.ready c.in_ok-close_round_beside.ensures.same_run c.in_ok-close_round_beside.ensures.at_rest) c.sweep.ensures.still)
 
 pub returns-in_err-open_round-clause-kept : goal.returns-in_err-open_round-clause-kept
 returns-in_err-open_round-clause-kept g c = kept-none g.C.CellStore.tells c.args.parts.now

@@ -6,4 +6,5 @@ returns c = λ t custom cut. record {
   heard = c.complete_verdicts_are_heard.ensures.first t;
   finished = c.what_is_over_is_finished.ensures t custom cut;
   boxes = c.boxes_tell_of_ends.ensures t custom cut;
+  took = c.rows_took_true.ensures.fit t;
 }

@@ -1,9 +1,10 @@
-use Rattle.std.proofs.Common.{◌≡◌, ◌∙◌, false, ap, refl, sym}
+use Rattle.std.proofs.Common.{◌≡◌, ◌∙◌, false, ap, refl, subst, sym}
 use Rattle.box_rows.specs.AllRows.{Row}
+use Rattle.box_rows.specs.FitRows.{IsFitRow}
 use Rattle.event_engine.specs.Engines.{cut_in, has_ended}
 use Rattle.state_parts.specs.declared.answer.CommitFault.TheVariants as fault
 use Rattle.worker_runs.proofs.Keeping.{gathered-own, kept-then, once-back, ready-back, ready-once}
-use Rattle.worker_runs.proofs.Looping.{err-told, handed-on, on-err, parts-now, turned-bad, turned-over, turned-short, turning-none, turning-round, turning-still}
+use Rattle.worker_runs.proofs.Looping.{err-told, handed-on, no-key, no-key-ok, on-err, parts-now, turned-bad, turned-drew, turned-over, turned-short, turning-none, turning-round, turning-still}
 use Rattle.worker_runs.proofs.run.run_on.Goals as goal
 
 pub loop-init : goal.loop-init
@@ -74,6 +75,30 @@ returns-in_err-caller_round-clause-once g c =
 
 pub returns-in_err-caller_round-clause-kept : goal.returns-in_err-caller_round-clause-kept
 returns-in_err-caller_round-clause-kept g c = kept-then g.C.CellStore.tells c.args.parts.now c.loop.parts c.caller_round.new.parts c.loop.invariant.kept c.caller_round.ensures.kept
+
+pub returns-in_err-caller_round-clause-bad : goal.returns-in_err-caller_round-clause-bad
+returns-in_err-caller_round-clause-bad g c = λ key is.
+    let t = c.args.posts.now.plan.now in
+    let custom = g.O.RowOp.meaning c.args.custom.now in
+    let cut = cut_in c.args.engine.now in
+    let boxes = c.args.posts.now.boxes.items in
+    let board = c.args.board.now in
+    let asked = c.passed-passed.ensures in
+    let exits = c.from_residual in
+    let met = handed-on exits.result c.caller_round.result _ (fault.BadCell key) exits.ensures.1 c.in_err-caller_round.was is in record {
+      row_is = subst (λ (r : Row). IsFitRow t boxes r.items) (sym (c.caller_round.ensures.bad_row key met)) c.loop.invariant.gathered.fit;
+      seat_is = c.caller_round.ensures.seat;
+      drawn =
+          turned-drew g.I.Ids.tells g.C.CellStore.tells g.C.CellStore.fault_count g.T.Ticks.handed_out g.T.Ticks.tells t custom cut boxes board (c.laws_of_steps.ensures t custom cut) c.args.engine.now c.args.row.now.items c.args.parts.now c.args.ticks.now
+          c.loop.engine c.loop.row.items c.loop.seat c.loop.parts c.loop.ticks c.loop.invariant c.passed-passed.result c.passed-passed.new.self asked.counted asked.told asked.tells_the_rest c.caller_round.new.seat (c.caller_round.ensures.bad_drawn key met);
+    }
+
+pub returns-in_err-work_unless-clause-bad : goal.returns-in_err-work_unless-clause-bad
+returns-in_err-work_unless-clause-bad g c = λ key is.
+    absurd (no-key c.from_residual-in_err-work_unless.result fault.Memory key c.from_residual-in_err-work_unless.ensures.1 refl is)
+
+pub returns-then-is_over-clause-bad : goal.returns-then-is_over-clause-bad
+returns-then-is_over-clause-bad g c = λ key is. absurd (no-key-ok key is)
 
 pub returns-in_err-work_unless-clause-ran : goal.returns-in_err-work_unless-clause-ran
 returns-in_err-work_unless-clause-ran g c =

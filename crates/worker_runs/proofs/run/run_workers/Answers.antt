@@ -21,9 +21,10 @@ returns-in-Err g c =
     record {
       comes = comes-not-begun (g.N.IdMaker.tells c.args.ids.now) (g.T.Ticks.tells c.args.ticks.now) g.C.CellStore.tells g.C.CellStore.fault_count t custom cut (c.laws_of_runs.ensures t custom cut) (g.T.Ticks.handed_out c.args.ticks.now) c.args.fates.now c.args.parts.now (some-size t cut c.requires.input) c.requires.empty;
       finishes = λ to_come tells can apart none low. tt;
-      books = λ had took. absurd had;
-      seat = λ answered. absurd answered;
-      ticked = λ answered. absurd answered;
+      row = λ had. absurd had;
+      books = λ had. absurd had;
+      seat = λ had. absurd had;
+      ticked = λ had. absurd had;
     }
 
 pub returns-in_err-end_run : goal.returns-in_err-end_run
@@ -35,11 +36,11 @@ returns-in_err-end_run g c =
     let boxes = c.args.boxes.now in
     let e0 = c.in-Ok.engine in
     let so = ended-here g.N.I.Ids.tells g.C.CellStore.tells g.C.CellStore.fault_count g.T.Ticks.handed_out g.T.Ticks.tells custom boxes.posts.boxes.items c.args.board.now c.args.ticks.now run.new.ticks e0 boxes.row.items c.args.parts.now run.result run.new.engine run.new.row.items run.new.seat run.new.parts
-    boxes.posts.plan.now t (cut_in e0) cut c.requires.boxes.plan c.in-Ok.ensures.ready.seated.of_cut (record { ran = run.ensures.ran; gathered = run.ensures.gathered; over = run.ensures.over; once = run.ensures.once; kept = run.ensures.kept }) in
+    boxes.posts.plan.now t (cut_in e0) cut c.requires.boxes.plan c.in-Ok.ensures.ready.seated.of_cut (record { ran = run.ensures.ran; gathered = run.ensures.gathered; over = run.ensures.over; bad = run.ensures.bad; once = run.ensures.once; kept = run.ensures.kept }) in
     let all = ends (g.N.IdMaker.tells c.args.ids.now) g.N.I.Ids.tells g.C.CellStore.tells g.C.CellStore.fault_count g.T.Ticks.handed_out g.T.Ticks.tells t custom cut (c.laws_of_workers.ensures t custom cut) (c.laws_of_runs.ensures t custom cut) (c.laws_of_steps.ensures t custom cut) c.requires.input (g.O.RowOp.keeps c.args.custom.now) (some-size t cut c.requires.input)
     boxes.posts.boxes.items c.args.board.now e0 c.in-Ok.ensures.started boxes.row.items c.requires.boxes.first c.args.parts.now c.requires.parts c.args.ticks.now run.new.ticks run.new.engine run.new.row.items run.new.seat run.new.parts
     run.result so c.from_residual.result (stopped-end c.end_run.result _ c.from_residual.result _ c.from_residual.ensures.1 c.end_run.ensures.answer c.in_err-end_run.was) c.end_run.new.fates c.end_run.ensures.fates in
-    record { comes = all.comes; finishes = all.finishes; books = all.books; seat = all.seat_is; ticked = all.ticked }
+    record { comes = all.comes; finishes = all.finishes; row = all.row_is; books = all.books; seat = all.seat_is; ticked = all.ticked }
 
 pub returns : goal.returns
 returns g c =
@@ -50,8 +51,8 @@ returns g c =
     let boxes = c.args.boxes.now in
     let e0 = c.in-Ok.engine in
     let so = ended-here g.N.I.Ids.tells g.C.CellStore.tells g.C.CellStore.fault_count g.T.Ticks.handed_out g.T.Ticks.tells custom boxes.posts.boxes.items c.args.board.now c.args.ticks.now run.new.ticks e0 boxes.row.items c.args.parts.now run.result run.new.engine run.new.row.items run.new.seat run.new.parts
-    boxes.posts.plan.now t (cut_in e0) cut c.requires.boxes.plan c.in-Ok.ensures.ready.seated.of_cut (record { ran = run.ensures.ran; gathered = run.ensures.gathered; over = run.ensures.over; once = run.ensures.once; kept = run.ensures.kept }) in
+    boxes.posts.plan.now t (cut_in e0) cut c.requires.boxes.plan c.in-Ok.ensures.ready.seated.of_cut (record { ran = run.ensures.ran; gathered = run.ensures.gathered; over = run.ensures.over; bad = run.ensures.bad; once = run.ensures.once; kept = run.ensures.kept }) in
     let all = ends (g.N.IdMaker.tells c.args.ids.now) g.N.I.Ids.tells g.C.CellStore.tells g.C.CellStore.fault_count g.T.Ticks.handed_out g.T.Ticks.tells t custom cut (c.laws_of_workers.ensures t custom cut) (c.laws_of_runs.ensures t custom cut) (c.laws_of_steps.ensures t custom cut) c.requires.input (g.O.RowOp.keeps c.args.custom.now) (some-size t cut c.requires.input)
     boxes.posts.boxes.items c.args.board.now e0 c.in-Ok.ensures.started boxes.row.items c.requires.boxes.first c.args.parts.now c.requires.parts c.args.ticks.now run.new.ticks run.new.engine run.new.row.items run.new.seat run.new.parts
     run.result so (Ok tt) (whole-end run.result run.new.engine c.end_run.result _ run.ensures.over c.end_run.ensures.answer c.in_ok-end_run.was) c.end_run.new.fates c.end_run.ensures.fates in
-    record { comes = all.comes; finishes = all.finishes; books = all.books; seat = all.seat_is; ticked = all.ticked }
+    record { comes = all.comes; finishes = all.finishes; row = all.row_is; books = all.books; seat = all.seat_is; ticked = all.ticked }

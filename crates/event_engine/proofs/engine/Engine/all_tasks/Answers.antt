@@ -15,7 +15,7 @@ loop-n-init g c =
     record { ready = c.requires; goes = goes-none g.I.Ids.tells (topology_in old) (g.O.RowOp.meaning c.args.custom.now) (cut_in old) old; still = record { coordinator = refl; fates = refl } }
 
 pub task-requires-clause-ready : goal.task-requires-clause-ready
-task-requires-clause-ready g c = let old = c.args.self.now in ready_here (topology_in old) (cut_in old) c.loop-n.self c.loop-n.invariant.ready
+task-requires-clause-ready g c = λ lives bounds. let old = c.args.self.now in ready_here (topology_in old) (cut_in old) c.loop-n.self c.loop-n.invariant.ready
 
 pub loop-n-preserved : goal.loop-n-preserved
 loop-n-preserved g c =

@@ -12,7 +12,7 @@ returns-then-is_over-clause-boosts g c =
     boosts_over g.I.Ids.tells (topology_in old) (g.O.RowOp.meaning c.args.custom.now) (cut_in old) c.args.most old (sym c.is_over.ensures ∙ c.if-is_over.true)
 
 pub tasks_often-requires-clause-goes_on : goal.tasks_often-requires-clause-goes_on
-tasks_often-requires-clause-goes_on g c = sym c.is_over.ensures ∙ c.if-is_over.false
+tasks_often-requires-clause-goes_on g c = λ lives bounds. sym c.is_over.ensures ∙ c.if-is_over.false
 
 pub ackers_often-requires-clause-ready : goal.ackers_often-requires-clause-ready
 ackers_often-requires-clause-ready g c = let old = c.args.self.now in ready_here (topology_in old) (cut_in old) c.tasks_often.new.self c.in_ok-tasks_often.ensures.ready

@@ -31,7 +31,7 @@ returns-then-has_parcel_at-clause-seated g c =
     (act_seats g.I.Ids.tells custom c.args.n t (Some handed.result) old.tasks.items handed.new.tasks.items c.requires.ready.seated.tasks (handed.ensures custom)) c.requires.ready.seated.ackers)
 
 pub execute_at-requires-clause-takes : goal.execute_at-requires-clause-takes
-execute_at-requires-clause-takes g c = takes_at g.I.Ids.tells (topology_in c.args.self.now) (g.O.RowOp.meaning c.args.custom.now) c.args.n (cut_in c.args.self.now) c.args.self.now c.requires.ready c.requires.there
+execute_at-requires-clause-takes g c = λ lives bounds. takes_at g.I.Ids.tells (topology_in c.args.self.now) (g.O.RowOp.meaning c.args.custom.now) c.args.n (cut_in c.args.self.now) c.args.self.now c.requires.ready c.requires.there
 
 pub returns-clause-done : goal.returns-clause-done
 returns-clause-done g c =

@@ -17,10 +17,10 @@ pub task_rests-requires : goal.task_rests-requires
 task_rests-requires g c = let old = c.args.self.now in task_here (topology_in old) (cut_in old) c.loop-done.self c.loop-done.invariant.ready c.args.n c.requires.there
 
 pub task_event-requires-clause-there : goal.task_event-requires-clause-there
-task_event-requires-clause-there g c = let old = c.args.self.now in task_of_its_own (topology_in old) (cut_in old) c.loop-done.self c.loop-done.invariant.ready c.args.n c.requires.there
+task_event-requires-clause-there g c = λ lives bounds. let old = c.args.self.now in task_of_its_own (topology_in old) (cut_in old) c.loop-done.self c.loop-done.invariant.ready c.args.n c.requires.there
 
 pub task_event-requires-clause-ready : goal.task_event-requires-clause-ready
-task_event-requires-clause-ready g c = let old = c.args.self.now in ready_here (topology_in old) (cut_in old) c.loop-done.self c.loop-done.invariant.ready
+task_event-requires-clause-ready g c = λ lives bounds. let old = c.args.self.now in ready_here (topology_in old) (cut_in old) c.loop-done.self c.loop-done.invariant.ready
 
 pub returns-then-task_rests-clause-goes : goal.returns-then-task_rests-clause-goes
 returns-then-task_rests-clause-goes g c =

@@ -11,10 +11,10 @@ pub loop-n-init : goal.loop-n-init
 loop-n-init g c = record { ready = c.requires.ready; boosts = refl; still = record { coordinator = refl; fates = refl } }
 
 pub task_often-requires-clause-ready : goal.task_often-requires-clause-ready
-task_often-requires-clause-ready g c = let old = c.args.self.now in ready_here (topology_in old) (cut_in old) c.loop-n.self c.loop-n.invariant.ready
+task_often-requires-clause-ready g c = λ lives bounds. let old = c.args.self.now in ready_here (topology_in old) (cut_in old) c.loop-n.self c.loop-n.invariant.ready
 
 pub task_often-requires-clause-goes_on : goal.task_often-requires-clause-goes_on
-task_often-requires-clause-goes_on g c = goes_on_still c.args.self.now c.loop-n.self c.loop-n.invariant.still c.requires.goes_on
+task_often-requires-clause-goes_on g c = λ lives bounds. goes_on_still c.args.self.now c.loop-n.self c.loop-n.invariant.still c.requires.goes_on
 
 pub loop-n-preserved : goal.loop-n-preserved
 loop-n-preserved g c =

@@ -1,0 +1,29 @@
+use Rattle.std.specs.Prelude.{replicate}
+use Rattle.event_engine.specs.Engines.{cut_in, topology_in}
+use Rattle.event_worlds.specs.Worlds.{coordinator_steps, of_tick}
+use Rattle.schedule_core.proofs.Resting.{breaks_on, drives_on, handed_on, wants_on}
+use Rattle.topology_plan.specs.Topology.{Topology}
+use Rattle.schedule_core.proofs.beside.close_round_beside.Goals as goal
+
+pub returns-in_err-coordinate_beside-clause-bad : goal.returns-in_err-coordinate_beside-clause-bad
+returns-in_err-coordinate_beside-clause-bad g c = λ custom key is.
+    let old = c.args.engine.now in
+    let laws = c.laws_of_steps.ensures (topology_in old) custom (cut_in old) in
+    let ticked = c.tick_on.ensures in
+    breaks_on g.I.Ids.tells g.C.CellStore.tells g.C.CellStore.fault_count custom (λ (u : Topology). replicate c.args.passed of_tick) (λ (u : Topology). coordinator_steps) old c.tick_on.new.engine c.coordinate_beside.new.engine c.args.parts.now c.coordinate_beside.new.parts laws ticked.same_run (ticked.goes custom) ticked.still key
+    (c.coordinate_beside.ensures.bad custom key (handed_on c.from_residual.result c.coordinate_beside.result _ _ c.from_residual.ensures.1 c.in_err-coordinate_beside.was is))
+
+pub returns-in_err-coordinate_beside-clause-short : goal.returns-in_err-coordinate_beside-clause-short
+returns-in_err-coordinate_beside-clause-short g c = λ custom is.
+    let old = c.args.engine.now in
+    let laws = c.laws_of_steps.ensures (topology_in old) custom (cut_in old) in
+    let ticked = c.tick_on.ensures in
+    wants_on g.I.Ids.tells g.C.CellStore.tells g.C.CellStore.fault_count custom (λ (u : Topology). replicate c.args.passed of_tick) old c.tick_on.new.engine c.coordinate_beside.new.engine.fates c.args.parts.now c.coordinate_beside.new.parts laws ticked.same_run (ticked.goes custom) ticked.still
+    (c.coordinate_beside.ensures.short custom (handed_on c.from_residual.result c.coordinate_beside.result _ _ c.from_residual.ensures.1 c.in_err-coordinate_beside.was is))
+
+pub returns-clause-drives : goal.returns-clause-drives
+returns-clause-drives g c = λ custom.
+    let old = c.args.engine.now in
+    let laws = c.laws_of_steps.ensures (topology_in old) custom (cut_in old) in
+    let ticked = c.tick_on.ensures in
+    drives_on g.I.Ids.tells g.C.CellStore.tells g.C.CellStore.fault_count custom (λ (u : Topology). replicate c.args.passed of_tick) (λ (u : Topology). coordinator_steps) old c.tick_on.new.engine c.coordinate_beside.new.engine c.args.parts.now c.coordinate_beside.new.parts laws ticked.same_run (ticked.goes custom) ticked.still (c.in_ok-coordinate_beside.ensures.drives custom)

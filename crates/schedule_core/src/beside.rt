@@ -1,0 +1,87 @@
+//! The rest of a round of workers: the commit that the coordinator orders goes to the parts side by
+//! side. Its clauses are those of a round on one thread.
+ghost use Rattle.std.specs.Prelude.{◌≡◌, ℕ, List, length, Err, OnOk, OnErr};
+ghost use Rattle.attempt_fates.specs.Fates.{IsOnce};
+ghost use Rattle.bolt_ops.specs.RowOp.{Custom};
+ghost use Rattle.commit_turns.specs.Turns.{last_tick};
+ghost use Rattle.event_engine.specs.Engines.{cut_in, topology_in};
+ghost use Rattle.event_worlds.specs.Worlds.{coordinator_steps};
+ghost use Rattle.schedule_core.specs.Driving.{AreKept, Breaks, Drives, IsAtRest, IsOfSameRun, WantsMemory};
+ghost use Rattle.schedule_core.specs.Rounding.{closing_steps};
+ghost use Rattle.state_parts.specs.declared.answer.CommitFault.TheVariants as fault;
+ghost use Rattle.state_parts.specs.PartPlans.{AreParts};
+
+use crate::drive::tick_on;
+use crate::laws::{laws_of_commits, laws_of_steps};
+use event_engine::Engine;
+use state_parts::{CommitFault, Parts};
+use std::thread::Threads;
+use storm_ids::Ids;
+use storm_stores::CellStore;
+
+/// The coordinator's step, and the commit that it orders, to all parts side by side.
+fn coordinate_beside<R: Threads + Sync, I: Ids, C: CellStore + Send>(
+    rt: &R,
+    engine: &mut Engine<'_, I>,
+    parts: &mut Parts<C>,
+    threads: usize,
+) -> Result<(), CommitFault>
+    requires at_rest { IsAtRest engine.old }
+    requires parts { AreParts (topology_in engine.old) parts.old }
+    ensures at_rest { OnOk result (IsAtRest engine.new) }
+    ensures same_run { OnOk result (IsOfSameRun engine.old engine.new) }
+    ensures drives { (custom : Custom) → OnOk result
+        (Drives I.tells C.tells C.fault_count (topology_in engine.old) custom (cut_in engine.old)
+        coordinator_steps engine.old engine.new parts.old parts.new) }
+    ensures bad { (custom : Custom) (key : List ℕ) → result ≡ Err (fault.BadCell key)
+        → Breaks I.tells C.tells C.fault_count (topology_in engine.old) custom (cut_in engine.old)
+        coordinator_steps key engine.old engine.new parts.old parts.new }
+    ensures short { (custom : Custom) → result ≡ Err fault.Memory
+        → WantsMemory I.tells C.tells C.fault_count (topology_in engine.old) custom
+        (cut_in engine.old) engine.old engine.new.fates parts.old parts.new }
+    ensures once { OnErr result (IsOnce (length (cut_in engine.old).records)
+        (cut_in engine.old).size last_tick engine.new.fates) }
+    ensures kept { AreKept C.tells parts.old parts.new }
+{
+    laws_of_steps::<C>();
+    laws_of_commits::<C>();
+    let Some(commit) = engine.turn()? else {
+        return Ok(());
+    };
+    commit.writes.keys_are_texts();
+    let how = parts.commit_beside(rt, threads, commit)?;
+    engine.decide(how)?;
+    Ok(())
+}
+
+/// The rest of a round, as `close_round` has it, with the commit to the parts side by side, in so
+/// many threads at most.
+pub fn close_round_beside<R: Threads + Sync, I: Ids, C: CellStore + Send>(
+    rt: &R,
+    engine: &mut Engine<'_, I>,
+    parts: &mut Parts<C>,
+    threads: usize,
+    passed: u32,
+) -> Result<(), CommitFault>
+    requires at_rest { IsAtRest engine.old }
+    requires parts { AreParts (topology_in engine.old) parts.old }
+    ensures at_rest { OnOk result (IsAtRest engine.new) }
+    ensures same_run { OnOk result (IsOfSameRun engine.old engine.new) }
+    ensures drives { (custom : Custom) → OnOk result
+        (Drives I.tells C.tells C.fault_count (topology_in engine.old) custom (cut_in engine.old)
+        (closing_steps passed) engine.old engine.new parts.old parts.new) }
+    ensures bad { (custom : Custom) (key : List ℕ) → result ≡ Err (fault.BadCell key)
+        → Breaks I.tells C.tells C.fault_count (topology_in engine.old) custom (cut_in engine.old)
+        (closing_steps passed) key engine.old engine.new parts.old parts.new }
+    ensures short { (custom : Custom) → result ≡ Err fault.Memory
+        → WantsMemory I.tells C.tells C.fault_count (topology_in engine.old) custom
+        (cut_in engine.old) engine.old engine.new.fates parts.old parts.new }
+    ensures once { OnErr result (IsOnce (length (cut_in engine.old).records)
+        (cut_in engine.old).size last_tick engine.new.fates) }
+    ensures kept { AreKept C.tells parts.old parts.new }
+{
+    laws_of_steps::<C>();
+    tick_on(engine, passed);
+    coordinate_beside(rt, engine, parts, threads)?;
+    Ok(())
+}

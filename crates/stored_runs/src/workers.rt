@@ -1,0 +1,95 @@
+//! Runs by workers with the ticks of a source, over the stores of a maker.
+ghost use Rattle.std.specs.Prelude.{◌≡◌, ◌≤◌, ◌<◌, ℕ, List, [], IfOk, OnErr, length, sum};
+ghost use Rattle.attempt_fates.specs.Fates.{IsOnce};
+ghost use Rattle.commit_turns.specs.Turns.{last_tick};
+ghost use Rattle.event_worlds.specs.Accounted.{IsInput};
+ghost use Rattle.event_worlds.specs.Rounds.{rounds_needed};
+ghost use Rattle.schedule_core.specs.Runs.{first_answers, ticks_between};
+ghost use Rattle.stored_runs.specs.Makers.{CameBack, maker_use};
+ghost use Rattle.stored_runs.specs.StoredRuns.{IsAll, IsRun, NothingIsInTheWay, StandsWithoutMemory};
+
+use crate::closing::{as_ended, close};
+use crate::ending::RunEnd;
+use crate::laws::laws_of_runs;
+use attempt_fates::Fates;
+use bolt_ops::RowOp;
+use state_parts::Parts;
+use std::alloc::Global;
+use std::sync::Wait;
+use std::thread::Threads;
+use storm_gates::Gate;
+use storm_ids::IdMaker;
+use storm_stores::StoreMaker;
+use storm_ticks::Ticks;
+use storm_values::Memory;
+use topology_plan::Plan;
+use trident_batches::Batches;
+use worker_runs::run_by_workers;
+
+/// Runs a plan by so many workers over stores that the maker makes, until every batch is committed
+/// or all attempts of one ended without a commit. Then it reads the tables where every batch is
+/// committed, and gives the stores back.
+///
+/// It costs what `run_by_workers` does, and one look at each key. The attempts that ended are in
+/// the fates, whatever the answer. With want of memory too all stores come back. It is never
+/// `Unfinished`.
+pub fn run_over_workers<
+    R: Threads + Wait + Sync,
+    T: Ticks,
+    N: IdMaker,
+    M: StoreMaker,
+    O: RowOp,
+    G: Gate,
+>(
+    rt: &R,
+    alloc: Global,
+    plan: &Plan,
+    batches: Batches,
+    workers: u32,
+    ticks: &mut T,
+    ids: &mut N,
+    stores: &mut M,
+    custom: &O,
+    gate: &G,
+    fates: &mut Fates,
+) -> Result<RunEnd, Memory>
+where
+    N::I: Send,
+    M::C: Send,
+    requires empty { fates.old ≡ [] }
+    requires input { IsInput plan.now batches }
+    requires some { 1 ≤ workers }
+    requires few { workers ≤ 64 }
+
+    // What the end, the fates and the stores come to.
+    ensures comes { IfOk result (IsRun (N.tells ids.old) plan.now (O.meaning custom.now) batches
+        (ticks_between (T.handed_out ticks.old) (T.handed_out ticks.new))
+        (maker_use M.C.tells M.C.fault_count M.holds M.has_made M.fault_count
+        stores.old stores.new) fates.new) }
+    ensures goes_on { (k : ℕ) → result ≡ Ok (RunEnd.Unfinished k) → ⊥ }
+    ensures once { IsOnce (length batches.records) batches.size last_tick fates.new }
+    ensures back { CameBack plan.now
+        (maker_use M.C.tells M.C.fault_count M.holds M.has_made M.fault_count
+        stores.old stores.new) }
+    ensures short { OnErr result (StandsWithoutMemory plan.now (O.meaning custom.now) batches
+        (maker_use M.C.tells M.C.fault_count M.holds M.has_made M.fault_count
+        stores.old stores.new) fates.new) }
+
+    // Where few ticks are to come in so many rounds as a run needs, every batch is committed, where
+    // nothing is in the way.
+    ensures finishes { (to_come : List ℕ) → T.tells ticks.old to_come
+        → NothingIsInTheWay plan.now
+        (maker_use M.C.tells M.C.fault_count M.holds M.has_made M.fault_count
+        stores.old stores.new) fates.new
+        → sum (first_answers (rounds_needed plan.now (O.meaning custom.now) batches) to_come)
+        < plan.now.buckets → IfOk result IsAll }
+{
+    laws_of_runs::<M::C>();
+    let mut parts = Parts::make(alloc, plan, stores)?;
+    let done = run_by_workers(
+        rt, alloc, plan, batches, workers, ticks, ids, &mut parts, custom, gate, fates,
+    );
+    let ended = close(plan, &mut parts, as_ended(done));
+    parts.give_back(stores);
+    ended
+}

@@ -1,0 +1,83 @@
+//! A run of workers over boxes and a board that are made for it.
+ghost use Rattle.std.specs.Prelude.{◌≡◌, ◌≤◌, ◌<◌, ℕ, List, [], All, sum};
+ghost use Rattle.batch_commits.specs.Standing.{failed_commits};
+ghost use Rattle.event_worlds.specs.Accounted.{IsInput};
+ghost use Rattle.event_worlds.specs.Rounds.{CanFinish, DoesNotCoincide, rounds_needed};
+ghost use Rattle.schedule_core.specs.Runs.{first_answers};
+ghost use Rattle.state_parts.specs.PartPlans.{AreParts};
+ghost use Rattle.worker_runs.specs.WorkerRuns.{NothingRanOut, WorkersCome};
+
+use crate::run::run_workers;
+use attempt_fates::Fates;
+use bolt_ops::RowOp;
+use box_rows::Boxes;
+use commit_order::Stop;
+use pulse_board::Board;
+use schedule_core::laws_of_runs;
+use state_parts::Parts;
+use std::alloc::Global;
+use std::sync::Wait;
+use std::thread::Threads;
+use storm_gates::Gate;
+use storm_ids::IdMaker;
+use storm_stores::CellStore;
+use storm_ticks::Ticks;
+use topology_plan::Plan;
+use trident_batches::Batches;
+
+/// Makes the boxes of a plan and a board, and runs the plan over them as `run_workers` does.
+pub fn run_by_workers<
+    R: Threads + Wait + Sync,
+    T: Ticks,
+    N: IdMaker,
+    C: CellStore + Send,
+    O: RowOp,
+    G: Gate,
+>(
+    rt: &R,
+    alloc: Global,
+    plan: &Plan,
+    batches: Batches,
+    workers: u32,
+    ticks: &mut T,
+    ids: &mut N,
+    parts: &mut Parts<C>,
+    custom: &O,
+    gate: &G,
+    fates: &mut Fates,
+) -> Result<(), Stop>
+where
+    N::I: Send,
+    requires empty { fates.old ≡ [] }
+    requires input { IsInput plan.now batches }
+    requires parts { AreParts plan.now parts.old }
+    requires some { 1 ≤ workers }
+    requires few { workers ≤ 64 }
+
+    // What the answer, the fates, the ticks and the parts come to.
+    ensures comes { WorkersCome (N.tells ids.old) (T.tells ticks.old) C.tells C.fault_count
+        plan.now (O.meaning custom.now) batches (T.handed_out ticks.old) (T.handed_out ticks.new)
+        result fates.new parts.old parts.new }
+
+    // Where few ticks are to come in so many rounds as a run needs, no transaction runs out of
+    // attempts, where every bolt lets batches through, no ids coincide and no commit fails.
+    ensures finishes { (to_come : List ℕ) → T.tells ticks.old to_come → CanFinish plan.now
+        → All DoesNotCoincide fates.new → failed_commits fates.new ≡ 0
+        → sum (first_answers (rounds_needed plan.now (O.meaning custom.now) batches) to_come)
+        < plan.now.buckets → NothingRanOut result }
+{
+    // a law: what no run was begun of
+    laws_of_runs::<C>();
+    let mut boxes = match Boxes::new(alloc, plan) {
+        Ok(boxes) => boxes,
+        Err(_) => return Err(Stop::Memory),
+    };
+    let (board, mut seat) = match Board::new(alloc) {
+        Ok(made) => made,
+        Err(_) => return Err(Stop::Memory),
+    };
+    run_workers(
+        rt, alloc, plan, batches, workers, &mut boxes, &board, &mut seat, ticks, ids, parts,
+        custom, gate, fates,
+    )
+}
