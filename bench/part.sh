@@ -3,8 +3,6 @@
 # The program is a crate that the gate does not know: it is put beside copies of the crates that it
 # stands on, proved and built there, and run. That takes as long as these crates' proofs; a folder
 # as the second word keeps the copies, so that a later run there begins with what is proved.
-# A program whose first line says so is not proved. It is built with checks at run time, which make
-# it some hundred times slower, so that its figures say little beyond that it runs.
 set -euo pipefail
 here="$(cd "$(dirname "${BASH_SOURCE[0]}")" && pwd)"
 top="$here/.."
@@ -48,8 +46,4 @@ echo "bench_$part: $below" >>"$work/crates.txt"
 mkdir -p "$work/crates/bench_$part/src"
 sed 1d "$program" >"$work/crates/bench_$part/src/main.rt"
 cd "$work/crates/bench_$part"
-if sed 1q "$program" | grep -q '^// unproved'; then
-  rt try --steps 1 --seconds 300
-else
-  rt run
-fi
+rt run

@@ -12,7 +12,10 @@ program, work, topology = sys.argv[1:]
 
 def command(name, size):
     text = f"{work}/{size}.jsonl"
-    return [f"{work}/single", text] if name == "single" else [program, name, topology, text]
+    if name == "single":
+        return [f"{work}/single", text]
+    verb, _, workers = name.partition(" ")
+    return [program, verb, topology, text, *workers.split()]
 
 
 def once(words, out):
@@ -32,7 +35,7 @@ def cells(name, size):
         return [line for line in file if not line.startswith(b"attempt ")]
 
 
-names = ["single", "plain", "run"]
+names = ["single", "plain", "run 1", "run 2", "run 4"]
 runs = {(name, size): [] for size in SIZES for name in names}
 for _ in range(ROUNDS):
     for name, size in runs:

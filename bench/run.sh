@@ -1,5 +1,5 @@
 #!/usr/bin/env bash
-# Times the built program's `plain` and `run` on word counts of 1, 4 and 16 MiB, and of 10,000 and
+# Times the built program's `plain`, and its `run` with 1, 2 and 4 workers, on word counts of 1, 4 and 16 MiB, and of 10,000 and
 # 100,000 lines of ten words, beside `single`, the word count by hand in one thread. Five rounds over
 # all commands in turn; the table has medians.
 # Needs rustc and python3, and the proved program (./storm --prove builds it).
