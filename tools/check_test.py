@@ -51,6 +51,15 @@ class Documents(unittest.TestCase):
         for it in said:
             self.assertIn(it, faults[0])
 
+    def test_ways_down(self):
+        names = [f"a{it}" for it in range(16)]
+        self.write("crates.txt", "# a line\n" + "".join(f"{it} may_wait=1: {' '.join(names[:at])} std\n" for at, it in enumerate(names)))
+        faults = self.check.ways()
+        self.assertEqual([it.split(":")[1].split(" has ")[0].strip() for it in faults], ["a14", "a15"])
+        self.assertIn("16,384 ways down", faults[0])
+        self.write("crates.txt", "".join(f"{it}: {names[max(at - 1, 0)] if at else ''}\n" for at, it in enumerate(names)))
+        self.assertEqual(self.check.ways(), [])
+
     def test_output_in_the_same_block(self):
         self.assert_well("Text.\n\n```sh\n$ ./storm a b\na\nb\n$ ./storm c\nc\n```\n")
         self.assert_wrong("Text.\n\n```sh\n$ ./storm a b\na\n$ ./storm c\nc\n```\n", "README.md:4: ./storm a b", "and the document shows")

@@ -6,8 +6,8 @@ use Rattle.std.proofs.lemmas.Cmp.{nat_list_cmp_total}
 use Rattle.std.proofs.lemmas.List.{append_assoc}
 use Rattle.std.proofs.lemmas.List.Elements.{All-from_recursion, recursion_from_All}
 use Rattle.std.proofs.lemmas.List.Sorted.{All-permutation, IsPermutation-map}
-use Rattle.counted_items.proofs.Each.{each-to_map, each-weaker}
-use Rattle.storm_values.specs.Order.{path_cmp}
+use Rattle.tree_model.proofs.counted_items.Each.{each-to_map, each-weaker}
+use Rattle.tree_model.specs.storm_values.Order.{path_cmp}
 use Rattle.tree_model.specs.declared.messages.AckMsg.{AckMsg}
 use Rattle.tree_model.specs.declared.messages.Done.{Done}
 use Rattle.commit_writes.specs.Writes.{AreInPathOrder, HasDoneAt, IsPathOrderOf, done_in, done_of, dones_at, dones_in}

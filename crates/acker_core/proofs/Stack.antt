@@ -6,12 +6,12 @@ use Rattle.std.specs.List.Sorted.{IsStrictlySortedBy}
 use Rattle.std.specs.Ordering.{is_eq, is_gt, is_lt, ordering_reverse}
 use Rattle.std.specs.declared.cmp.Ordering.{Ordering}
 use Rattle.std.specs.declared.cmp.Ordering.TheVariants.{Less, Equal, Greater}
-use Rattle.counted_items.proofs.Weighing.{weigh-push}
-use Rattle.counted_items.proofs.Sums.{same-IsPermutation}
-use Rattle.tuple_tickets.specs.declared.edge.Edge.{Edge}
-use Rattle.tuple_tickets.specs.Edges.{edge_cmp, edge_eq, is_edge, times}
-use Rattle.tuple_tickets.proofs.EdgeOrder.{edge_cmp-total, edge_cmp-apart}
-use Rattle.tuple_tickets.proofs.Toggles.{same_edge}
+use Rattle.tree_model.proofs.counted_items.Weighing.{weigh-push}
+use Rattle.tree_model.proofs.counted_items.Sums.{same-IsPermutation}
+use Rattle.tree_model.specs.tuple_tickets.declared.edge.Edge.{Edge}
+use Rattle.tree_model.specs.tuple_tickets.Edges.{edge_cmp, edge_eq, is_edge, times}
+use Rattle.tree_model.proofs.tuple_tickets.EdgeOrder.{edge_cmp-total, edge_cmp-apart}
+use Rattle.tree_model.proofs.tuple_tickets.Toggles.{same_edge}
 use Rattle.acker_core.specs.Edges.{AreLeft, AreInOrder, top_is, put_on}
 
 own_reverse : (o : Ordering) → o ≡ ordering_reverse o → o ≡ Equal

@@ -3,8 +3,8 @@ use Rattle.std.proofs.Common.{◌≡◌, ℕ, ◌||◌, bit_xor, List, [], ◌�
 use Rattle.std.specs.Prelude.{is_some}
 use Rattle.std.specs.Int.Bits.{xor_assoc, xor_zero_l, xor_zero_r}
 use Rattle.rotating_ledger.specs.Told.{merged}
-use Rattle.tuple_tickets.specs.declared.edge.Edge.{Edge}
-use Rattle.tuple_tickets.specs.Edges.{xor_ids}
+use Rattle.tree_model.specs.tuple_tickets.declared.edge.Edge.{Edge}
+use Rattle.tree_model.specs.tuple_tickets.Edges.{xor_ids}
 use Rattle.tree_model.specs.declared.messages.AckMsg.{AckMsg}
 use Rattle.tree_model.specs.declared.messages.AckMsg.TheVariants.{Init, Done, Failed}
 use Rattle.tree_model.specs.Lists.{occurrences, occurrences_in, word}

@@ -1,7 +1,7 @@
 -- What a message makes of an acker's entries.
 use Rattle.std.proofs.Common.{◌≡◌, Bool, true, false, cond, Some, None, List, [], ◌∷◌, Result, Ok, Err, refl, sym, ap, subst, ◌∙◌}
 use Rattle.std.specs.Prelude.{is_some, option_and_then, OnErr}
-use Rattle.storm_values.specs.declared.value.Root.{Root}
+use Rattle.tree_model.specs.storm_values.declared.value.Root.{Root}
 use Rattle.rotating_ledger.specs.Held.{Held, held_at, root_eq, value_of, with_value, without, entered, settled}
 use Rattle.rotating_ledger.specs.Told.{told, tells}
 use Rattle.rotating_ledger.proofs.HeldLemmas.{value-entered, without-entered, each-entered, each-without}

@@ -1,8 +1,8 @@
 -- What a list tells, by its state, and where it is complete.
 use Rattle.std.proofs.Common.{◌≡◌, ◌==◌, ◌↔◌, ◌≤◌, ℕ, Bool, true, false, cond, Option, Some, None, List, [], ◌∷◌, refl, ap, ◌∙◌, eqb-true, eq-eqb, arith}
 use Rattle.std.specs.Prelude.{is_some}
-use Rattle.counted_items.specs.Weights.{weigh}
-use Rattle.storm_values.specs.declared.value.Root.{Root}
+use Rattle.tree_model.specs.counted_items.Weights.{weigh}
+use Rattle.tree_model.specs.storm_values.declared.value.Root.{Root}
 use Rattle.rotating_ledger.specs.Told.{told, tells}
 use Rattle.rotating_ledger.specs.declared.state.Told.{Told}
 use Rattle.rotating_ledger.specs.declared.state.Told.TheVariants as ledger

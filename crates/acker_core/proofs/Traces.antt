@@ -1,7 +1,7 @@
 -- The entry of a root is all its messages, where nothing disturbs it.
 use Rattle.std.proofs.Common.{◌≡◌, ℕ, Bool, true, false, cond, Option, None, Some, List, [], ◌∷◌, ◌++◌, refl, sym, ap, subst, ◌∙◌, append_assoc, append-nil}
 use Rattle.std.specs.Prelude.{fold, is_some}
-use Rattle.storm_values.specs.declared.value.Root.{Root}
+use Rattle.tree_model.specs.storm_values.declared.value.Root.{Root}
 use Rattle.rotating_ledger.specs.Held.{Held, root_eq, value_of, settled, rotated}
 use Rattle.rotating_ledger.proofs.RootLemmas.{root_eq-same}
 use Rattle.rotating_ledger.proofs.HeldLemmas.{value-entered}

@@ -1,7 +1,7 @@
 -- Traces in which a root's entry stays young and its messages tell nothing.
 use Rattle.std.proofs.Common.{◌≡◌, ◌+◌, ◌<◌, ℕ, Bool, true, false, cond, true≢false, nat_lt, Option, None, Some, List, [], ◌∷◌, ◌++◌, append_assoc, refl, sym, ap, ◌∙◌, arith}
 use Rattle.std.proofs.lemmas.Bool.Decides.{nat_tests}
-use Rattle.storm_values.specs.declared.value.Root.{Root}
+use Rattle.tree_model.specs.storm_values.declared.value.Root.{Root}
 use Rattle.rotating_ledger.specs.Held.{Held, root_eq, value_of, entry_of, aged, rotated, AreHeldOnce}
 use Rattle.rotating_ledger.proofs.RootLemmas.{root_eq-same}
 use Rattle.rotating_ledger.proofs.OnceLemmas.{once-rotated}

@@ -4,13 +4,13 @@ use Rattle.std.specs.Prelude.{slice_get}
 use Rattle.std.specs.List.{AllByRecursion}
 use Rattle.std.specs.Ordering.{ordering_reverse}
 use Rattle.std.proofs.lemmas.Cmp.{nat_list_cmp_total}
-use Rattle.counted_items.specs.Weights.{Same, weigh}
-use Rattle.counted_items.proofs.Each.{each-append, each-weaker}
-use Rattle.counted_items.proofs.Sums.{same-IsPermutation}
-use Rattle.counted_items.proofs.Weighing.{weigh-append, weigh-flat_map, weigh-push}
-use Rattle.storm_values.specs.Order.{path_cmp}
-use Rattle.tuple_tickets.specs.declared.edge.Edge.{Edge}
-use Rattle.tuple_tickets.specs.Edges.{is_edge}
+use Rattle.tree_model.specs.counted_items.Weights.{Same, weigh}
+use Rattle.tree_model.proofs.counted_items.Each.{each-append, each-weaker}
+use Rattle.tree_model.proofs.counted_items.Sums.{same-IsPermutation}
+use Rattle.tree_model.proofs.counted_items.Weighing.{weigh-append, weigh-flat_map, weigh-push}
+use Rattle.tree_model.specs.storm_values.Order.{path_cmp}
+use Rattle.tree_model.specs.tuple_tickets.declared.edge.Edge.{Edge}
+use Rattle.tree_model.specs.tuple_tickets.Edges.{is_edge}
 use Rattle.tree_model.specs.declared.messages.AckMsg.{AckMsg}
 use Rattle.tree_model.specs.declared.messages.AckMsg.TheVariants as msg
 use Rattle.tree_model.specs.declared.messages.Done.{Done}

@@ -3,7 +3,7 @@
 -- stays in the bucket of its first message is this project's own.
 use Rattle.std.specs.Prelude.{◌≡◌, ℕ, ◌==◌, Bool, true, false, Option, None, Some, is_some, List, [], ◌∷◌, ◌++◌, fold}
 use Rattle.std.specs.List.{AllByRecursion}
-use Rattle.storm_values.specs.declared.value.Root.{Root}
+use Rattle.tree_model.specs.storm_values.declared.value.Root.{Root}
 use Rattle.rotating_ledger.specs.Held.{Held, value_of, settled, rotated}
 use Rattle.tree_model.specs.declared.messages.AckMsg.{AckMsg}
 use Rattle.tree_model.specs.declared.messages.AckMsg.TheVariants as msg

@@ -2,9 +2,9 @@
 use Rattle.std.specs.Prelude.{◌≡◌, ℕ, Some, slice_get, List, [], ◌∷◌, ◌++◌, flat_map}
 use Rattle.std.specs.Borrow.{Bor}
 use Rattle.std.specs.declared.cmp.Ordering.TheVariants.{Less}
-use Rattle.counted_items.specs.Weights.{Same}
-use Rattle.storm_values.specs.Order.{path_cmp}
-use Rattle.tuple_tickets.specs.declared.edge.Edge.{Edge}
+use Rattle.tree_model.specs.counted_items.Weights.{Same}
+use Rattle.tree_model.specs.storm_values.Order.{path_cmp}
+use Rattle.tree_model.specs.tuple_tickets.declared.edge.Edge.{Edge}
 use Rattle.tree_model.specs.declared.messages.AckMsg.{AckMsg}
 use Rattle.tree_model.specs.declared.messages.AckMsg.TheVariants as msg
 use Rattle.tree_model.specs.declared.messages.Done.{Done}

@@ -2,7 +2,7 @@
 use Rattle.std.specs.Prelude.{bit_xor, is_some, List}
 use Rattle.rotating_ledger.specs.Told.{init_of, ack_of, fail_note}
 use Rattle.rotating_ledger.specs.declared.state.AckState.{AckState}
-use Rattle.tuple_tickets.specs.Edges.{xor_ids}
+use Rattle.tree_model.specs.tuple_tickets.Edges.{xor_ids}
 use Rattle.tree_model.specs.declared.messages.AckMsg.{AckMsg}
 use Rattle.tree_model.specs.declared.messages.AckMsg.TheVariants as msg
 use Rattle.tree_model.specs.Lists.{word}

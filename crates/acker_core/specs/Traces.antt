@@ -1,7 +1,7 @@
 -- What traces come to for one root: its entry by itself, its messages, and where neither a rotation
 -- nor a verdict disturbs its entry. After Storm's acker.
 use Rattle.std.specs.Prelude.{◌≡◌, ℕ, ◌+◌, true, if◌then◌else◌, Option, None, Some, List, [], ◌∷◌, ◌++◌}
-use Rattle.storm_values.specs.declared.value.Root.{Root}
+use Rattle.tree_model.specs.storm_values.declared.value.Root.{Root}
 use Rattle.rotating_ledger.specs.Held.{Held, root_eq, value_of, aged, rotated}
 use Rattle.tree_model.specs.declared.messages.AckMsg.{AckMsg}
 use Rattle.tree_model.specs.Lists.{root_of}

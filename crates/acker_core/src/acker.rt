@@ -10,8 +10,8 @@ use crate::verdict::Verdict;
 use rotating_ledger::{Rotating, Told};
 use std::alloc::{AllocError, Global};
 use std::marker::Model;
-use storm_values::{Memory, Root};
 use tree_model::AckMsg;
+use tree_model::storm_values::{Memory, Root};
 
 /// Keeps the messages of each root until they tell something, in buckets that rotate: an entry
 /// stays in the bucket of its first message. Contracts see the entries as lists of messages, in the

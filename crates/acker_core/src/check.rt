@@ -1,5 +1,5 @@
 ghost use Rattle.std.specs.Prelude.{◌≡◌, ◌++◌, List, IfOk, OnOk, IsPermutation};
-ghost use Rattle.tuple_tickets.specs.declared.edge.Edge.{Edge};
+ghost use Rattle.tree_model.specs.tuple_tickets.declared.edge.Edge.{Edge};
 ghost use Rattle.tree_model.specs.Lists.{occurrences, occurrences_in};
 ghost use Rattle.acker_core.specs.Edges.{AreLeft, AreInOrder, tops, put_on};
 ghost use Rattle.acker_core.specs.Check.{IsCheckOf};
@@ -7,9 +7,9 @@ ghost use Rattle.acker_core.specs.Check.{IsCheckOf};
 use crate::follow::followed_order;
 use crate::sorted::sorted_order;
 use std::alloc::Global;
-use storm_values::{Duplicate, Memory, Seq};
+use tree_model::storm_values::{Duplicate, Memory, Seq};
+use tree_model::tuple_tickets::{Edge, Edges};
 use tree_model::{AckMsg, Notes};
-use tuple_tickets::{Edge, Edges};
 
 /// What a check of a list comes to.
 #[derive(Debug, Drop)]

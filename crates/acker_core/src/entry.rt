@@ -1,6 +1,6 @@
 ghost use Rattle.std.specs.Prelude.{◌≡◌, ◌∷◌, ◌++◌, [], bit_xor, IfOk, OnOk, OnErr};
 ghost use Rattle.rotating_ledger.specs.Told.{told};
-ghost use Rattle.tuple_tickets.specs.Edges.{xor_ids};
+ghost use Rattle.tree_model.specs.tuple_tickets.Edges.{xor_ids};
 ghost use Rattle.tree_model.specs.Lists.{root_of};
 ghost use Rattle.acker_core.specs.Entries.{first_failed, tell};
 ghost use Rattle.acker_core.specs.States.{state_of, state_in};
@@ -9,9 +9,9 @@ use crate::verdict::Verdict;
 use rotating_ledger::{AckState, Told};
 use std::alloc::Global;
 use std::marker::Model;
-use storm_values::{Memory, Path, Root};
+use tree_model::storm_values::{Memory, Path, Root};
+use tree_model::tuple_tickets::Edges;
 use tree_model::{AckMsg, Notes};
-use tuple_tickets::Edges;
 
 /// The messages of a root since its entry began, with what they come to.
 #[derive(Debug, Drop)]

@@ -1,8 +1,8 @@
 // The path order of a list by a walk over its tuple tree.
 ghost use Rattle.std.specs.Prelude.{◌≡◌, ◌∷◌, ◌++◌, IfOk, IfSome, IsTrue, OnOk};
 ghost use Rattle.std.specs.declared.cmp.Ordering.TheVariants.{Less};
-ghost use Rattle.counted_items.specs.Weights.{Same};
-ghost use Rattle.storm_values.specs.Order.{path_cmp};
+ghost use Rattle.tree_model.specs.counted_items.Weights.{Same};
+ghost use Rattle.tree_model.specs.storm_values.Order.{path_cmp};
 ghost use Rattle.tree_model.specs.Lists.{IsClosed};
 ghost use Rattle.commit_writes.specs.Writes.{IsPathOrderOf};
 ghost use Rattle.acker_core.specs.Orders.{FollowsOn, HasInit, StandsAt, open_edges};
@@ -10,9 +10,9 @@ ghost use Rattle.acker_core.specs.Orders.{FollowsOn, HasInit, StandsAt, open_edg
 use crate::placing::{Slot, placed_slots};
 use std::alloc::Global;
 use std::cmp::Ordering;
-use storm_values::{Memory, Seq};
+use tree_model::storm_values::{Memory, Seq};
+use tree_model::tuple_tickets::Edge;
 use tree_model::{AckMsg, Done, Notes};
-use tuple_tickets::Edge;
 
 /// The path order of a closed list, where its dones are found at their paths, each once. Each edge
 /// is then produced once and consumed once. Where one is not found, this is no answer. It takes

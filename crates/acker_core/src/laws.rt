@@ -1,9 +1,9 @@
 ghost use Rattle.std.specs.Prelude.{◌≡◌, ◌↔◌, ◌<◌, ◌∷◌, ◌++◌, ℕ, [], None, Some, List, fold};
-ghost use Rattle.bolt_ops.specs.RowOp.{Custom};
-ghost use Rattle.storm_values.specs.declared.value.Root.{Root};
-ghost use Rattle.storm_values.specs.declared.value.Value.{Value};
+ghost use Rattle.tree_model.specs.bolt_ops.RowOp.{Custom};
+ghost use Rattle.tree_model.specs.storm_values.declared.value.Root.{Root};
+ghost use Rattle.tree_model.specs.storm_values.declared.value.Value.{Value};
 ghost use Rattle.rotating_ledger.specs.Held.{AreHeldOnce, Held, entry_of, value_of};
-ghost use Rattle.topology_plan.specs.Topology.{Topology};
+ghost use Rattle.tree_model.specs.topology_plan.Topology.{Topology};
 ghost use Rattle.tree_model.specs.declared.messages.AckMsg.{AckMsg};
 ghost use Rattle.tree_model.specs.Lists.{AreTrueOf, IsSingle, IsSteady, Covers, Coincides, NoneCancel, root_of};
 ghost use Rattle.acker_core.specs.Entries.{Met, after, entries_of, list_with, tell, told_of};

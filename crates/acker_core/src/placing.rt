@@ -3,8 +3,8 @@
 ghost use Rattle.std.specs.Prelude.{◌<◌, IfSome, length};
 
 use std::alloc::Global;
-use storm_values::Memory;
 use tree_model::AckMsg;
+use tree_model::storm_values::Memory;
 
 // In place of a number that no message or slot has.
 const NONE: u32 = u32::MAX;

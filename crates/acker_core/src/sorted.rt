@@ -6,7 +6,7 @@ ghost use Rattle.commit_writes.specs.Writes.{AreInPathOrder, IsPathOrderOf, done
 ghost use Rattle.acker_core.specs.Orders.{StandsIn, done_beside, place_of};
 
 use std::alloc::Global;
-use storm_values::{Memory, Seq};
+use tree_model::storm_values::{Memory, Seq};
 use tree_model::{AckMsg, Done, Notes};
 
 /// The places of a list's dones in the order of the paths that they consume, in time in proportion

@@ -2,9 +2,9 @@ use crate::follow::followed_order;
 use crate::{Acker, Check, Verdict, check_list};
 use std::alloc::Global;
 use std::test::Fail;
-use storm_values::{Few, Memory, Path, Root};
+use tree_model::storm_values::{Few, Memory, Path, Root};
+use tree_model::tuple_tickets::{Edge, Edges};
 use tree_model::{AckMsg, Done, Draw, FailNote, Init, Notes};
-use tuple_tickets::{Edge, Edges};
 
 const ROOT: Root = Root {
     txid: 1,

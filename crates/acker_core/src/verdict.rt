@@ -1,5 +1,5 @@
-use storm_values::{Path, Root};
 use tree_model::Notes;
+use tree_model::storm_values::{Path, Root};
 
 /// What an acker tells of a root.
 #[derive(Debug, Drop)]

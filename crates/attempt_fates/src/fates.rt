@@ -1,5 +1,5 @@
-use storm_values::{Path, Root, Seq};
 use tree_model::Notes;
+use tree_model::storm_values::{Path, Root, Seq};
 
 /// How an attempt of a batch ended.
 #[derive(Debug, Drop)]

@@ -1,5 +1,5 @@
 ghost use Rattle.std.specs.Prelude.{◌≡◌, ◌≤◌, ℕ, List, length};
-ghost use Rattle.storm_values.specs.declared.value.Value.{Value};
+ghost use Rattle.tree_model.specs.storm_values.declared.value.Value.{Value};
 ghost use Rattle.attempt_fates.specs.declared.fates.Attempt.{Attempt};
 ghost use Rattle.attempt_fates.specs.Fates.{IsWhole, commits_of, committed_records};
 

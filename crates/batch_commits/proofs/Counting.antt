@@ -14,9 +14,9 @@ use Rattle.state_parts.specs.declared.answer.CommitOutcome.{CommitOutcome}
 use Rattle.state_parts.specs.declared.answer.CommitOutcome.TheVariants.{Done, Failed}
 use Rattle.state_parts.specs.declared.parts.StatePart.{StatePart}
 use Rattle.state_parts.specs.PartPlans.{AreParts, IsOneOf, PartPlan, plans_of}
-use Rattle.storm_values.specs.Counts.{Rose, raised}
-use Rattle.topology_plan.specs.Topology.{Topology}
-use Rattle.tree_model.specs.declared.messages.AckMsg.{AckMsg}
+use Rattle.tuple_account.specs.storm_values.Counts.{Rose, raised}
+use Rattle.tuple_account.specs.topology_plan.Topology.{Topology}
+use Rattle.tuple_account.specs.tree_model.declared.messages.AckMsg.{AckMsg}
 use Rattle.trident_batches.specs.Batches.{Cut}
 use Rattle.tuple_account.specs.Ends.{IsPart}
 use Rattle.batch_commits.proofs.Numbers.{one_at, planned_is_part}

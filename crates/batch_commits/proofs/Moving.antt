@@ -3,7 +3,7 @@ use Rattle.std.proofs.Common.{◌≡◌, ◌<◌, ℕ, ◌+◌, zero, suc, List,
 use Rattle.std.proofs.lemmas.List.{append-nil}
 use Rattle.std.specs.List.{flat_map, range_with_len, AllZip}
 use Rattle.batch_commits.specs.Standing.{PartsStand, batches_in, writes_at, writes_to}
-use Rattle.bolt_ops.specs.RowOp.{Custom}
+use Rattle.tuple_account.specs.bolt_ops.RowOp.{Custom}
 use Rattle.commit_turns.specs.Account.{rows_in}
 use Rattle.state_parts.specs.Commits.{AreCommitted, ArePerhapsCommitted}
 use Rattle.state_parts.specs.declared.parts.StatePart.{StatePart}
@@ -11,13 +11,13 @@ use Rattle.state_parts.specs.PartPlans.{AreParts}
 use Rattle.state_parts.specs.PartTables.{IsTableOver}
 use Rattle.state_parts.specs.Standing.{AllAreAt, AllStand, ArePlaced, HaveOnePart, IsEmpty}
 use Rattle.storm_stores.specs.CellMaps.{CellMap}
-use Rattle.storm_values.specs.declared.value.Value.{Value}
-use Rattle.topology_plan.specs.Topology.{Topology}
-use Rattle.topology_plan.specs.Wired.{IsWired}
-use Rattle.tree_model.specs.declared.write.Table.{Table}
-use Rattle.tree_model.specs.declared.write.Write.{Write}
-use Rattle.tree_model.specs.Tables.{AreTables, states_of}
-use Rattle.tree_model.specs.Trees.{nodes_of, writes}
+use Rattle.tuple_account.specs.storm_values.declared.value.Value.{Value}
+use Rattle.tuple_account.specs.topology_plan.Topology.{Topology}
+use Rattle.tuple_account.specs.topology_plan.Wired.{IsWired}
+use Rattle.tuple_account.specs.tree_model.declared.write.Table.{Table}
+use Rattle.tuple_account.specs.tree_model.declared.write.Write.{Write}
+use Rattle.tuple_account.specs.tree_model.Tables.{AreTables, states_of}
+use Rattle.tuple_account.specs.tree_model.Trees.{nodes_of, writes}
 use Rattle.trident_batches.specs.Batches.{Cut, batch_count, batch_of, batches_joined}
 
 -- what one more number adds

@@ -6,12 +6,12 @@ use Rattle.std.specs.List.{flat_map, range_with_len}
 use Rattle.std.specs.Option.{option_map_or}
 use Rattle.state_parts.specs.declared.parts.StatePart.{StatePart}
 use Rattle.state_parts.specs.PartPlans.{AreParts, IsOneOf, PartPlan, part_by, parts_at, parts_by, planned_parts, plans_of}
-use Rattle.topology_plan.specs.declared.parts.Body.{Body}
-use Rattle.topology_plan.specs.declared.parts.Body.TheVariants.{Bolt, State}
-use Rattle.topology_plan.specs.declared.parts.Component.{Component}
-use Rattle.topology_plan.specs.declared.parts.Fold.{Fold}
-use Rattle.topology_plan.specs.declared.parts.Kind.{Kind}
-use Rattle.topology_plan.specs.Topology.{Topology}
+use Rattle.tuple_account.specs.topology_plan.declared.parts.Body.{Body}
+use Rattle.tuple_account.specs.topology_plan.declared.parts.Body.TheVariants.{Bolt, State}
+use Rattle.tuple_account.specs.topology_plan.declared.parts.Component.{Component}
+use Rattle.tuple_account.specs.topology_plan.declared.parts.Fold.{Fold}
+use Rattle.tuple_account.specs.topology_plan.declared.parts.Kind.{Kind}
+use Rattle.tuple_account.specs.topology_plan.Topology.{Topology}
 use Rattle.tuple_account.specs.Ends.{IsPart, IsState}
 
 -- ---- one of some parts

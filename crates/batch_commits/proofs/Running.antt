@@ -11,7 +11,7 @@ use Rattle.state_parts.specs.Commits.{FailOnceAtMost, FailedOnceAtMost, FailureF
 use Rattle.state_parts.specs.declared.parts.StatePart.{StatePart}
 use Rattle.state_parts.specs.Makers.{RoseBySum, faults_of}
 use Rattle.state_parts.specs.PartPlans.{IsOneOf, PartPlan, plan_of, plans_of}
-use Rattle.storm_values.specs.Counts.{raised}
+use Rattle.tuple_account.specs.storm_values.Counts.{raised}
 
 -- ---- counts run on
 

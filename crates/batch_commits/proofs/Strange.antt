@@ -15,9 +15,9 @@ use Rattle.state_parts.specs.declared.parts.StatePart.{StatePart}
 use Rattle.state_parts.specs.PartPlans.{PartPlan}
 use Rattle.state_parts.specs.PartTables.{IsBadRowAt}
 use Rattle.storm_stores.specs.CellMaps.{CellMap, cell_at}
-use Rattle.topology_plan.specs.declared.parts.Fold.{Fold}
-use Rattle.topology_plan.specs.declared.parts.Kind.{Kind}
-use Rattle.tree_model.specs.declared.write.Write.{Write}
+use Rattle.tuple_account.specs.topology_plan.declared.parts.Fold.{Fold}
+use Rattle.tuple_account.specs.topology_plan.declared.parts.Kind.{Kind}
+use Rattle.tuple_account.specs.tree_model.declared.write.Write.{Write}
 
 -- no write has a key that is no text
 none_at : (c p : ℕ) (made : List Write) → All HasTextKey made → (key : List ℕ) → (IsUtf8 key → ⊥) → amounts_at (filter (is_for_part c p) made) key ≡ []

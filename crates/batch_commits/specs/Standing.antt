@@ -5,7 +5,7 @@ use Rattle.std.specs.Str.{IsUtf8}
 use Rattle.attempt_fates.specs.declared.fates.Attempt.{Attempt}
 use Rattle.attempt_fates.specs.declared.fates.End.{End}
 use Rattle.attempt_fates.specs.declared.fates.End.TheVariants as end
-use Rattle.bolt_ops.specs.RowOp.{Custom}
+use Rattle.tuple_account.specs.bolt_ops.RowOp.{Custom}
 use Rattle.commit_turns.specs.Account.{rows_in}
 use Rattle.commit_turns.specs.Kept.{is_failed_commit}
 use Rattle.state_cells.specs.Turns.{IsBad}
@@ -17,10 +17,10 @@ use Rattle.state_parts.specs.Makers.{RoseBySum}
 use Rattle.state_parts.specs.PartPlans.{IsOneOf, PartPlan}
 use Rattle.state_parts.specs.Standing.{AllAreAt, AllStand}
 use Rattle.storm_stores.specs.CellMaps.{CellMap, cell_at}
-use Rattle.topology_plan.specs.declared.parts.Kind.{Kind}
-use Rattle.topology_plan.specs.Topology.{Topology}
-use Rattle.tree_model.specs.declared.write.Write.{Write}
-use Rattle.tree_model.specs.Trees.{writes}
+use Rattle.tuple_account.specs.topology_plan.declared.parts.Kind.{Kind}
+use Rattle.tuple_account.specs.topology_plan.Topology.{Topology}
+use Rattle.tuple_account.specs.tree_model.declared.write.Write.{Write}
+use Rattle.tuple_account.specs.tree_model.Trees.{writes}
 use Rattle.trident_batches.specs.Batches.{Cut, batch_count, batches_joined}
 
 -- the writes of the batches of the transactions 1 to so many

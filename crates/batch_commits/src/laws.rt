@@ -1,9 +1,9 @@
 ghost use Rattle.std.specs.Prelude.{◌≡◌, ◌<◌, ◌+◌, ℕ, List, [], ◌∷◌, ◌++◌, All, Option, Some, length};
 ghost use Rattle.std.specs.List.{AllZip};
-ghost use Rattle.acker_core.specs.declared.verdict.Verdict.{Verdict};
+ghost use Rattle.tuple_account.specs.acker_core.declared.verdict.Verdict.{Verdict};
 ghost use Rattle.attempt_fates.specs.declared.fates.Attempt.{Attempt};
 ghost use Rattle.batch_commits.specs.Standing.{AllButLastAreCounted, FailsAtOneOf, FailuresAreCounted, HasStrangeAt, HasTextKey, PartsStand, RoseByFailures, TellsFailedPart, batches_in, failed_commits, writes_at};
-ghost use Rattle.bolt_ops.specs.RowOp.{Custom};
+ghost use Rattle.tuple_account.specs.bolt_ops.RowOp.{Custom};
 ghost use Rattle.commit_turns.specs.Desks.{Desk};
 ghost use Rattle.commit_turns.specs.Outcomes.{IsOutcome};
 ghost use Rattle.commit_turns.specs.declared.wait.Wait.{Wait};
@@ -15,13 +15,13 @@ ghost use Rattle.state_parts.specs.PartTables.{IsBadRowAt, IsTableOver};
 ghost use Rattle.state_parts.specs.Standing.{IsEmpty};
 ghost use Rattle.state_parts.specs.declared.answer.CommitOutcome.{CommitOutcome};
 ghost use Rattle.state_parts.specs.declared.parts.StatePart.{StatePart};
-ghost use Rattle.topology_plan.specs.Topology.{Topology};
-ghost use Rattle.topology_plan.specs.Wired.{IsWired};
-ghost use Rattle.tree_model.specs.Tables.{AreTables, states_of};
-ghost use Rattle.tree_model.specs.Trees.{writes};
-ghost use Rattle.tree_model.specs.declared.messages.AckMsg.{AckMsg};
-ghost use Rattle.tree_model.specs.declared.write.Table.{Table};
-ghost use Rattle.tree_model.specs.declared.write.Write.{Write};
+ghost use Rattle.tuple_account.specs.topology_plan.Topology.{Topology};
+ghost use Rattle.tuple_account.specs.topology_plan.Wired.{IsWired};
+ghost use Rattle.tuple_account.specs.tree_model.Tables.{AreTables, states_of};
+ghost use Rattle.tuple_account.specs.tree_model.Trees.{writes};
+ghost use Rattle.tuple_account.specs.tree_model.declared.messages.AckMsg.{AckMsg};
+ghost use Rattle.tuple_account.specs.tree_model.declared.write.Table.{Table};
+ghost use Rattle.tuple_account.specs.tree_model.declared.write.Write.{Write};
 ghost use Rattle.trident_batches.specs.Batches.{Cut};
 ghost use Rattle.tuple_account.specs.Ends.{IsPart};
 
@@ -30,8 +30,8 @@ use state_parts::{
     writes_of_trees_are_placed,
 };
 use storm_stores::CellStore;
-use tree_model::writes_of_joined_rows;
 use trident_batches::batches_in_order_are_all_records;
+use tuple_account::tree_model::writes_of_joined_rows;
 
 /// A law: parts over empty stores stand at 0 batches, a commit of the next batch's writes that is
 /// done moves them on by one, and one that was broken off leaves them where they stand.

@@ -1,25 +1,25 @@
 -- What a task sends for a tuple is what the tuple's execution makes.
 use Rattle.std.proofs.Common.{◌≡◌, ◌<◌, ℕ, List, [], ◌∷◌, ◌++◌, length, map, All, sym, ap, subst, ◌∙◌}
 use Rattle.std.specs.Option.{option_map_or, option_to_list}
-use Rattle.bolt_ops.specs.declared.operation.Outcome.TheVariants as outcome
-use Rattle.bolt_ops.specs.RowOp.{Custom}
-use Rattle.bolt_ops.proofs.Outcomes.{rows_from_exec_of}
-use Rattle.storm_values.specs.declared.value.Value.{Value}
-use Rattle.topology_plan.specs.declared.parts.Body.{Body}
-use Rattle.topology_plan.specs.declared.parts.Body.TheVariants.{Bolt, State}
-use Rattle.topology_plan.specs.declared.parts.Component.{Component}
-use Rattle.topology_plan.specs.declared.parts.Origin.TheVariants as origin
-use Rattle.topology_plan.specs.Topology.{Topology}
-use Rattle.topology_plan.specs.Valid.{IsValid}
-use Rattle.topology_plan.specs.Wired.{IsWired}
+use Rattle.tuple_account.specs.bolt_ops.declared.operation.Outcome.TheVariants as outcome
+use Rattle.tuple_account.specs.bolt_ops.RowOp.{Custom}
+use Rattle.tuple_account.proofs.bolt_ops.Outcomes.{rows_from_exec_of}
+use Rattle.tuple_account.specs.storm_values.declared.value.Value.{Value}
+use Rattle.tuple_account.specs.topology_plan.declared.parts.Body.{Body}
+use Rattle.tuple_account.specs.topology_plan.declared.parts.Body.TheVariants.{Bolt, State}
+use Rattle.tuple_account.specs.topology_plan.declared.parts.Component.{Component}
+use Rattle.tuple_account.specs.topology_plan.declared.parts.Origin.TheVariants as origin
+use Rattle.tuple_account.specs.topology_plan.Topology.{Topology}
+use Rattle.tuple_account.specs.topology_plan.Valid.{IsValid}
+use Rattle.tuple_account.specs.topology_plan.Wired.{IsWired}
 use Rattle.groupings.specs.Allowed.{IsLane}
-use Rattle.tuple_tickets.specs.Tickets.{made_by}
-use Rattle.tuple_tickets.specs.Trees.{goes, fails, mute}
-use Rattle.tree_model.specs.Courses.{course_of, course_by, course_at}
-use Rattle.tree_model.specs.declared.messages.AckMsg.TheVariants.{Done, Failed}
-use Rattle.tree_model.specs.declared.messages.Parcel.{Parcel}
-use Rattle.tree_model.specs.declared.messages.Tuple.{Tuple}
-use Rattle.tree_model.specs.Trees.{Node, exec_by, exec_at, kids, kids_of, rows_by, write_of}
+use Rattle.tuple_account.specs.tuple_tickets.Tickets.{made_by}
+use Rattle.tuple_account.specs.tuple_tickets.Trees.{goes, fails, mute}
+use Rattle.tuple_account.specs.tree_model.Courses.{course_of, course_by, course_at}
+use Rattle.tuple_account.specs.tree_model.declared.messages.AckMsg.TheVariants.{Done, Failed}
+use Rattle.tuple_account.specs.tree_model.declared.messages.Parcel.{Parcel}
+use Rattle.tuple_account.specs.tree_model.declared.messages.Tuple.{Tuple}
+use Rattle.tuple_account.specs.tree_model.Trees.{Node, exec_by, exec_at, kids, kids_of, rows_by, write_of}
 use Rattle.tuple_account.specs.Issued.{Run, children_of, course_of_run, draw_from, edges_of, node_of, notes_by, tuples_from}
 use Rattle.tuple_account.specs.Histories.{Execution, GoTo, IsExecution, execution_parcels, to_acker, to_tasks}
 use Rattle.output_collector.specs.Outlets.{HasItsLanes, Outlet, tasks_for, tuples_for}

@@ -1,18 +1,18 @@
 -- What a task makes of a tuple. This project's own.
 use Rattle.std.specs.Prelude.{◌≡◌, ℕ, List, [], ◌∷◌, ◌++◌, length}
-use Rattle.bolt_ops.specs.declared.operation.Outcome.{Outcome}
-use Rattle.bolt_ops.specs.declared.operation.Outcome.TheVariants.{Rows, Fail, Mute}
-use Rattle.bolt_ops.specs.RowOp.{Custom}
+use Rattle.tuple_account.specs.bolt_ops.declared.operation.Outcome.{Outcome}
+use Rattle.tuple_account.specs.bolt_ops.declared.operation.Outcome.TheVariants.{Rows, Fail, Mute}
+use Rattle.tuple_account.specs.bolt_ops.RowOp.{Custom}
 use Rattle.storm_ids.specs.declared.ids.Ids.{Ghosts}
-use Rattle.storm_values.specs.declared.value.Value.{Value}
-use Rattle.storm_values.specs.Rows.{IsRow}
-use Rattle.topology_plan.specs.Topology.{Topology}
-use Rattle.topology_plan.specs.Wired.{width_to}
-use Rattle.tree_model.specs.declared.messages.AckMsg.TheVariants.{Done}
-use Rattle.tree_model.specs.declared.messages.Parcel.{Parcel}
-use Rattle.tree_model.specs.declared.messages.Tuple.{Tuple}
-use Rattle.tree_model.specs.declared.write.Write.{Write}
-use Rattle.tree_model.specs.Trees.{exec_at, kids}
+use Rattle.tuple_account.specs.storm_values.declared.value.Value.{Value}
+use Rattle.tuple_account.specs.storm_values.Rows.{IsRow}
+use Rattle.tuple_account.specs.topology_plan.Topology.{Topology}
+use Rattle.tuple_account.specs.topology_plan.Wired.{width_to}
+use Rattle.tuple_account.specs.tree_model.declared.messages.AckMsg.TheVariants.{Done}
+use Rattle.tuple_account.specs.tree_model.declared.messages.Parcel.{Parcel}
+use Rattle.tuple_account.specs.tree_model.declared.messages.Tuple.{Tuple}
+use Rattle.tuple_account.specs.tree_model.declared.write.Write.{Write}
+use Rattle.tuple_account.specs.tree_model.Trees.{exec_at, kids}
 use Rattle.tuple_account.specs.Issued.{draw_from, edges_of, node_of}
 use Rattle.tuple_account.specs.Histories.{Execution, IsExecution, execution_parcels, to_acker}
 use Rattle.output_collector.specs.declared.collector.Collector.{Collector}

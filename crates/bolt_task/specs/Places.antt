@@ -1,7 +1,7 @@
 -- Where a task stands. This project's own.
 use Rattle.std.specs.Prelude.{◌≡◌, ◌<◌, ℕ, length}
-use Rattle.topology_plan.specs.declared.parts.Origin.TheVariants as origin
-use Rattle.topology_plan.specs.Topology.{Topology, tasks_in_all, component_of}
+use Rattle.tuple_account.specs.topology_plan.declared.parts.Origin.TheVariants as origin
+use Rattle.tuple_account.specs.topology_plan.Topology.{Topology, tasks_in_all, component_of}
 use Rattle.output_collector.specs.declared.collector.Collector.{Collector}
 use Rattle.output_collector.specs.Collectors.{outlet_of, source_of}
 

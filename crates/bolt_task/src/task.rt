@@ -1,24 +1,24 @@
 ghost use Rattle.std.specs.Prelude.{◌≡◌, ◌<◌, [], ◌∷◌, All, IfOk};
 ghost use Rattle.std.specs.Option.{option_to_list};
 ghost use Rattle.groupings.specs.Allowed.{IsLane};
-ghost use Rattle.topology_plan.specs.Topology.{component_of, tasks_in_all};
-ghost use Rattle.topology_plan.specs.Valid.{IsValid};
-ghost use Rattle.topology_plan.specs.Wired.{IsWired};
-ghost use Rattle.tree_model.specs.declared.messages.AckMsg.TheVariants.{Failed};
-ghost use Rattle.tree_model.specs.Trees.{exec_at, write_of};
+ghost use Rattle.tuple_account.specs.topology_plan.Topology.{component_of, tasks_in_all};
+ghost use Rattle.tuple_account.specs.topology_plan.Valid.{IsValid};
+ghost use Rattle.tuple_account.specs.topology_plan.Wired.{IsWired};
+ghost use Rattle.tuple_account.specs.tree_model.declared.messages.AckMsg.TheVariants.{Failed};
+ghost use Rattle.tuple_account.specs.tree_model.Trees.{exec_at, write_of};
 ghost use Rattle.tuple_account.specs.Issued.{node_of};
 ghost use Rattle.tuple_account.specs.Histories.{acker_of, to_acker};
 ghost use Rattle.output_collector.specs.Collectors.{IsStarted, outlet_of};
 ghost use Rattle.output_collector.specs.Outlets.{HasItsLanes};
 ghost use Rattle.bolt_task.specs.Places.{IsPlaced};
 
-use bolt_ops::{Outcome, RowOp, exec};
 use output_collector::{Collector, Emitted};
 use std::alloc::Global;
 use storm_ids::Ids;
-use storm_values::{Few, Memory, Root, Rows};
-use topology_plan::{Body, Origin, Plan};
-use tree_model::{AckMsg, Done, FailNote, Parcel, Parcels, Tuple, Write, write_at};
+use tuple_account::bolt_ops::{Outcome, RowOp, exec};
+use tuple_account::storm_values::{Few, Memory, Root, Rows};
+use tuple_account::topology_plan::{Body, Origin, Plan};
+use tuple_account::tree_model::{AckMsg, Done, FailNote, Parcel, Parcels, Tuple, Write, write_at};
 
 /// One task of a bolt, or one part of a state.
 #[derive(Drop)]

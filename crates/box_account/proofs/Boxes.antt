@@ -9,19 +9,19 @@ use Rattle.box_rows.specs.declared.mail.Mail.{Mail}
 use Rattle.box_rows.specs.declared.mail.Mail.TheVariants as mail
 use Rattle.box_rows.specs.Mails.{IsTrueMail, IsTrueParcel, box_of, last_box, weigh_mail}
 use Rattle.box_rows.specs.Rows.{taken_in, weigh_taken}
-use Rattle.counted_items.specs.Weights.{weigh}
-use Rattle.counted_items.proofs.Each.{each-both, each-flat_map, each-to_map, each-weaker}
-use Rattle.counted_items.proofs.Equality.{each-within}
-use Rattle.counted_items.proofs.Weighing.{weigh-flat_map, weigh-map, weigh-same}
+use Rattle.event_worlds.specs.counted_items.Weights.{weigh}
+use Rattle.event_worlds.proofs.counted_items.Each.{each-both, each-flat_map, each-to_map, each-weaker}
+use Rattle.event_worlds.proofs.counted_items.Equality.{each-within}
+use Rattle.event_worlds.proofs.counted_items.Weighing.{weigh-flat_map, weigh-map, weigh-same}
 use Rattle.task_queues.specs.Books.{taken_of}
 use Rattle.task_queues.specs.declared.pass.Pass.{Pass}
 use Rattle.task_queues.specs.declared.rule.Stamped.{Stamped}
 use Rattle.task_queues.specs.declared.rule.View.{View}
 use Rattle.task_queues.specs.Passes.{view_of}
-use Rattle.topology_plan.specs.Topology.{Topology}
-use Rattle.tree_model.specs.declared.messages.Parcel.{Parcel}
-use Rattle.tuple_account.specs.Histories.{Packet, of_parcel, of_verdict}
-use Rattle.tuple_account.proofs.Routing.{packet_code}
+use Rattle.event_worlds.specs.topology_plan.Topology.{Topology}
+use Rattle.event_worlds.specs.tree_model.declared.messages.Parcel.{Parcel}
+use Rattle.event_worlds.specs.tuple_account.Histories.{Packet, of_parcel, of_verdict}
+use Rattle.event_worlds.proofs.tuple_account.Routing.{packet_code}
 
 -- ---- weights
 

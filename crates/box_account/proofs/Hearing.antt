@@ -4,35 +4,35 @@ use Rattle.std.proofs.Common.{◌≡◌, ◌≤◌, ℕ, ◌+◌, ◌==◌, ◌&
 use Rattle.std.specs.Prelude.{is_some}
 use Rattle.std.specs.List.{AllByRecursion, find}
 use Rattle.std.proofs.lemmas.Bool.{and_parts}
-use Rattle.acker_core.specs.declared.verdict.Verdict.{Verdict}
-use Rattle.acker_core.specs.declared.verdict.Verdict.TheVariants.{Complete}
-use Rattle.attempt_fates.specs.declared.fates.Attempt.{Attempt}
-use Rattle.bolt_ops.specs.RowOp.{Custom}
+use Rattle.event_worlds.specs.acker_core.declared.verdict.Verdict.{Verdict}
+use Rattle.event_worlds.specs.acker_core.declared.verdict.Verdict.TheVariants.{Complete}
+use Rattle.event_worlds.specs.attempt_fates.declared.fates.Attempt.{Attempt}
+use Rattle.event_worlds.specs.bolt_ops.RowOp.{Custom}
 use Rattle.box_account.specs.Hearing.{HeardBeforeFailing, HeardComplete}
 use Rattle.box_account.specs.Inboxes.{weigh_acker_inboxes, weigh_inboxes, weigh_task_inboxes}
-use Rattle.commit_turns.specs.declared.wait.Wait.{Wait}
-use Rattle.commit_turns.specs.Account.{desk_of, ends_of, rows_in, waits_of}
-use Rattle.commit_turns.specs.Desks.{Desk}
-use Rattle.commit_turns.specs.Kept.{is_failed_commit}
-use Rattle.commit_turns.specs.Turns.{decided_by, next_to_commit}
-use Rattle.counted_items.specs.Weights.{weigh}
-use Rattle.counted_items.proofs.Counts.{times-within}
-use Rattle.counted_items.proofs.Each.{each-append, each-weaker}
-use Rattle.counted_items.proofs.Weighing.{weigh-append}
+use Rattle.event_worlds.specs.commit_turns.declared.wait.Wait.{Wait}
+use Rattle.event_worlds.specs.commit_turns.Account.{desk_of, ends_of, rows_in, waits_of}
+use Rattle.event_worlds.specs.commit_turns.Desks.{Desk}
+use Rattle.event_worlds.specs.commit_turns.Kept.{is_failed_commit}
+use Rattle.event_worlds.specs.commit_turns.Turns.{decided_by, next_to_commit}
+use Rattle.event_worlds.specs.counted_items.Weights.{weigh}
+use Rattle.event_worlds.proofs.counted_items.Counts.{times-within}
+use Rattle.event_worlds.proofs.counted_items.Each.{each-append, each-weaker}
+use Rattle.event_worlds.proofs.counted_items.Weighing.{weigh-append}
 use Rattle.event_worlds.specs.Accounted.{LedAt, station_of, weigh_ackers, weigh_tasks}
 use Rattle.event_worlds.specs.Added.{added}
 use Rattle.event_worlds.specs.Worlds.{AckerSide, Known, Step, TaskSide, World, acted_past, delivered, is_over, next, next_outcome, next_words, of_acker, of_outcome, of_task, of_tick, of_turn, sent, step, task_at, task_needs, turn_needs, turn_past, turned_in, with_progress, with_task}
-use Rattle.state_parts.specs.declared.answer.CommitOutcome.{CommitOutcome}
-use Rattle.topology_plan.specs.Topology.{Topology, tasks_in_all}
-use Rattle.tree_model.specs.declared.messages.AckMsg.{AckMsg}
-use Rattle.tree_model.specs.declared.messages.Parcel.{Parcel}
-use Rattle.tree_model.specs.declared.messages.Parcel.TheVariants.{ToTask, ToAcker}
-use Rattle.trident_batches.specs.Batches.{Cut}
-use Rattle.tuple_account.specs.Ends.{verdicts_of_ends, verdicts_of_waits, verdicts_settled}
-use Rattle.tuple_account.specs.Fits.{Fits}
-use Rattle.tuple_account.specs.Histories.{History, Packet, joined}
-use Rattle.tuple_account.specs.Moves.{Station}
-use Rattle.tuple_account.proofs.Routing.{verdict_code}
+use Rattle.event_worlds.specs.state_parts.declared.answer.CommitOutcome.{CommitOutcome}
+use Rattle.event_worlds.specs.topology_plan.Topology.{Topology, tasks_in_all}
+use Rattle.event_worlds.specs.tree_model.declared.messages.AckMsg.{AckMsg}
+use Rattle.event_worlds.specs.tree_model.declared.messages.Parcel.{Parcel}
+use Rattle.event_worlds.specs.tree_model.declared.messages.Parcel.TheVariants.{ToTask, ToAcker}
+use Rattle.event_worlds.specs.trident_batches.Batches.{Cut}
+use Rattle.event_worlds.specs.tuple_account.Ends.{verdicts_of_ends, verdicts_of_waits, verdicts_settled}
+use Rattle.event_worlds.specs.tuple_account.Fits.{Fits}
+use Rattle.event_worlds.specs.tuple_account.Histories.{History, Packet, joined}
+use Rattle.event_worlds.specs.tuple_account.Moves.{Station}
+use Rattle.event_worlds.proofs.tuple_account.Routing.{verdict_code}
 use Rattle.world_progress.specs.Lasting.{IsFine}
 use Rattle.world_progress.proofs.Turning.{turn_fine}
 

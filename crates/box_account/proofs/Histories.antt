@@ -3,40 +3,40 @@
 use Rattle.std.proofs.Common.{◌≡◌, ◌≤◌, ℕ, ◌+◌, ◌&&◌, Bool, cond, List, map, flat_map, refl, ap, ◌∙◌, subst, arith}
 use Rattle.std.specs.Coded.{Coded, code_by, coded×, coded_ℕ, coded_list}
 use Rattle.std.specs.List.{AllByRecursion}
-use Rattle.acker_core.specs.declared.verdict.Verdict.{Verdict}
-use Rattle.bolt_ops.specs.RowOp.{Custom}
+use Rattle.event_worlds.specs.acker_core.declared.verdict.Verdict.{Verdict}
+use Rattle.event_worlds.specs.bolt_ops.RowOp.{Custom}
 use Rattle.box_account.specs.Taken.{TookTrue, WasHeard, WasTaken}
 use Rattle.box_account.specs.Telling.{TookOnce, TookTuple}
 use Rattle.box_account.proofs.Boxes.{all-weight, stands_there}
 use Rattle.box_rows.specs.declared.mail.Mail.{Mail}
 use Rattle.box_rows.specs.Rows.{taken_in}
-use Rattle.counted_items.specs.Weights.{weigh}
-use Rattle.counted_items.proofs.Each.{each-any, each-append, each-both, each-flat_map, each-map, each-to_map, each-weaker}
-use Rattle.counted_items.proofs.Equality.{each-within}
-use Rattle.counted_items.proofs.Weighing.{each-weighs, weigh-map}
-use Rattle.storm_values.specs.declared.value.Root.{Root}
-use Rattle.storm_values.specs.declared.value.Value.{Value}
+use Rattle.event_worlds.specs.counted_items.Weights.{weigh}
+use Rattle.event_worlds.proofs.counted_items.Each.{each-any, each-append, each-both, each-flat_map, each-map, each-to_map, each-weaker}
+use Rattle.event_worlds.proofs.counted_items.Equality.{each-within}
+use Rattle.event_worlds.proofs.counted_items.Weighing.{each-weighs, weigh-map}
+use Rattle.event_worlds.specs.storm_values.declared.value.Root.{Root}
+use Rattle.event_worlds.specs.storm_values.declared.value.Value.{Value}
 use Rattle.task_queues.specs.declared.pass.Pass.{Pass}
-use Rattle.topology_plan.specs.Topology.{Topology}
-use Rattle.tree_model.specs.declared.messages.AckMsg.{AckMsg}
-use Rattle.tree_model.specs.declared.messages.Parcel.TheVariants.{ToTask, ToAcker}
-use Rattle.tree_model.specs.declared.messages.Tuple.{Tuple}
-use Rattle.tree_model.specs.Lists.{root_of}
-use Rattle.tuple_account.specs.Accounts.{IsNode, is_at, issued_notes}
-use Rattle.tuple_account.specs.Accounts as tuples
-use Rattle.tuple_account.specs.Histories.{Execution, History, IsTaskOf, Opening, Packet, Receipt, acker_of, of_parcel, of_verdict, on_tuple, taken}
-use Rattle.tuple_account.specs.Issued.{Begun, Run, course_of_run, init_of, notes_by, notes_of}
-use Rattle.tuple_account.specs.Moves.{AreRows, Reached, Station, account_of}
-use Rattle.tuple_account.specs.Sound.{IsRouted}
-use Rattle.tuple_account.proofs.Codes.{msg_code, value_code}
-use Rattle.tuple_account.proofs.Reading.{met_issued, nodes, once, packets, tuples_weight}
-use Rattle.tuple_account.proofs.Routing.{routed, runs_routed}
-use Rattle.tuple_tickets.specs.declared.edge.Edge.{Edge}
-use Rattle.tuple_tickets.specs.Paths.{path_eq}
-use Rattle.tuple_tickets.specs.Trees.{Course, fails, goes, mute}
-use Rattle.tuple_tickets.proofs.Codes.{edge_code, root_code}
-use Rattle.tuple_tickets.proofs.Paths.{path_itself}
-use Rattle.tuple_tickets.proofs.Roots.{root_itself}
+use Rattle.event_worlds.specs.topology_plan.Topology.{Topology}
+use Rattle.event_worlds.specs.tree_model.declared.messages.AckMsg.{AckMsg}
+use Rattle.event_worlds.specs.tree_model.declared.messages.Parcel.TheVariants.{ToTask, ToAcker}
+use Rattle.event_worlds.specs.tree_model.declared.messages.Tuple.{Tuple}
+use Rattle.event_worlds.specs.tree_model.Lists.{root_of}
+use Rattle.event_worlds.specs.tuple_account.Accounts.{IsNode, is_at, issued_notes}
+use Rattle.event_worlds.specs.tuple_account.Accounts as tuples
+use Rattle.event_worlds.specs.tuple_account.Histories.{Execution, History, IsTaskOf, Opening, Packet, Receipt, acker_of, of_parcel, of_verdict, on_tuple, taken}
+use Rattle.event_worlds.specs.tuple_account.Issued.{Begun, Run, course_of_run, init_of, notes_by, notes_of}
+use Rattle.event_worlds.specs.tuple_account.Moves.{AreRows, Reached, Station, account_of}
+use Rattle.event_worlds.specs.tuple_account.Sound.{IsRouted}
+use Rattle.event_worlds.proofs.tuple_account.Codes.{msg_code, value_code}
+use Rattle.event_worlds.proofs.tuple_account.Reading.{met_issued, nodes, once, packets, tuples_weight}
+use Rattle.event_worlds.proofs.tuple_account.Routing.{routed, runs_routed}
+use Rattle.event_worlds.specs.tuple_tickets.declared.edge.Edge.{Edge}
+use Rattle.event_worlds.specs.tuple_tickets.Paths.{path_eq}
+use Rattle.event_worlds.specs.tuple_tickets.Trees.{Course, fails, goes, mute}
+use Rattle.event_worlds.proofs.tuple_tickets.Codes.{edge_code, root_code}
+use Rattle.event_worlds.proofs.tuple_tickets.Paths.{path_itself}
+use Rattle.event_worlds.proofs.tuple_tickets.Roots.{root_itself}
 
 tuple_code : Coded Tuple
 tuple_code =

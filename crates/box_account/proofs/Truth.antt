@@ -8,7 +8,7 @@ use Rattle.box_rows.specs.FitRows.{IsFitRow, IsFitView}
 use Rattle.box_rows.specs.Mails.{IsTrueMail}
 use Rattle.box_rows.specs.Rows.{ArePasses, IsPassFor}
 use Rattle.box_rows.proofs.Changing.{get-map, one_of}
-use Rattle.counted_items.proofs.Each.{each-flat_map, each-weaker}
+use Rattle.event_worlds.proofs.counted_items.Each.{each-flat_map, each-weaker}
 use Rattle.pass_numbers.proofs.Lists.{each-at}
 use Rattle.task_queues.specs.Books.{taken_of}
 use Rattle.task_queues.specs.declared.pass.Mailbox.{Mailbox}
@@ -18,7 +18,7 @@ use Rattle.task_queues.specs.declared.rule.Stamped.{Stamped}
 use Rattle.task_queues.specs.declared.rule.View.{View}
 use Rattle.task_queues.specs.Passes.{view_of}
 use Rattle.task_queues.specs.Rule.{IsKept, Stood}
-use Rattle.topology_plan.specs.Topology.{Topology}
+use Rattle.event_worlds.specs.topology_plan.Topology.{Topology}
 
 -- under the rule
 pub took_under_rule : (v : View Mail) (items : List Mail) → Stood IsTrueMail v items → TookTruly v

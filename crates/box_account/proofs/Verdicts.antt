@@ -1,41 +1,41 @@
 -- What taken lists tell of each verdict that was heard, and so of each end.
 use Rattle.std.proofs.Common.{◌≡◌, ◌≤◌, ℕ, ◌+◌, true, List, [], ◌∷◌, ◌++◌, map, flat_map, Option, None, Some, Contains, refl, sym, subst, arith}
 use Rattle.std.specs.List.{AllByRecursion}
-use Rattle.acker_core.specs.Entries.{first_failed}
-use Rattle.acker_core.specs.declared.verdict.Verdict.{Verdict}
-use Rattle.acker_core.specs.declared.verdict.Verdict.TheVariants.{Complete, Fails}
-use Rattle.attempt_fates.specs.declared.fates.Attempt.{Attempt}
-use Rattle.attempt_fates.specs.declared.fates.End.{End}
-use Rattle.attempt_fates.specs.declared.fates.End.TheVariants as end
-use Rattle.bolt_ops.specs.RowOp.{Custom}
+use Rattle.event_worlds.specs.acker_core.Entries.{first_failed}
+use Rattle.event_worlds.specs.acker_core.declared.verdict.Verdict.{Verdict}
+use Rattle.event_worlds.specs.acker_core.declared.verdict.Verdict.TheVariants.{Complete, Fails}
+use Rattle.event_worlds.specs.attempt_fates.declared.fates.Attempt.{Attempt}
+use Rattle.event_worlds.specs.attempt_fates.declared.fates.End.{End}
+use Rattle.event_worlds.specs.attempt_fates.declared.fates.End.TheVariants as end
+use Rattle.event_worlds.specs.bolt_ops.RowOp.{Custom}
 use Rattle.box_account.specs.Hearing.{HeardBeforeFailing, HeardComplete}
 use Rattle.box_account.specs.Taken.{TookTrue, WasHeard}
 use Rattle.box_account.specs.Telling.{TellsEnd, TellsMessage}
 use Rattle.box_account.proofs.Histories.{TellsItself, all_heard, all_met}
 use Rattle.box_rows.specs.declared.mail.Mail.{Mail}
 use Rattle.box_rows.specs.Rows.{taken_in}
-use Rattle.commit_turns.specs.Account.{ended_of, ending_of, ends_of}
-use Rattle.commit_turns.specs.Kept.{is_failed_commit}
-use Rattle.counted_items.proofs.Each.{each-both, each-front, each-map, each-parts, each-to_map, each-weaker}
-use Rattle.counted_items.proofs.Equality.{each-within}
-use Rattle.counted_items.proofs.Weighing.{item-weighs, weigh-flat_map, weigh-map}
-use Rattle.storm_values.specs.declared.value.Root.{Root}
-use Rattle.storm_values.specs.declared.value.Value.{Value}
+use Rattle.event_worlds.specs.commit_turns.Account.{ended_of, ending_of, ends_of}
+use Rattle.event_worlds.specs.commit_turns.Kept.{is_failed_commit}
+use Rattle.event_worlds.proofs.counted_items.Each.{each-both, each-front, each-map, each-parts, each-to_map, each-weaker}
+use Rattle.event_worlds.proofs.counted_items.Equality.{each-within}
+use Rattle.event_worlds.proofs.counted_items.Weighing.{item-weighs, weigh-flat_map, weigh-map}
+use Rattle.event_worlds.specs.storm_values.declared.value.Root.{Root}
+use Rattle.event_worlds.specs.storm_values.declared.value.Value.{Value}
 use Rattle.task_queues.specs.declared.pass.Pass.{Pass}
-use Rattle.topology_plan.specs.Topology.{Topology}
-use Rattle.tree_model.specs.declared.messages.AckMsg.{AckMsg}
-use Rattle.tree_model.specs.declared.messages.AckMsg.TheVariants as msg
-use Rattle.tree_model.specs.Lists.{AreTrueOf, IsTrueOf, root_of}
-use Rattle.tuple_account.specs.Ends.{Desk, Ended, verdicts_by, verdicts_of_ends, verdicts_of_waits}
-use Rattle.tuple_account.specs.Fits.{Fits}
-use Rattle.tuple_account.specs.Histories.{History, IsTold, Packet, Receipt, Told, taken}
-use Rattle.tuple_account.specs.Moves.{AreRows, Reached, Station}
-use Rattle.tuple_account.specs.Sound.{IsSound}
-use Rattle.tuple_account.proofs.Codes.{msg_code}
-use Rattle.tuple_account.proofs.Listing.{told_lists}
-use Rattle.tuple_account.proofs.Reading.{held_met}
-use Rattle.tuple_account.proofs.Routing.{verdict_code}
-use Rattle.tuple_account.proofs.Telling.{Says, heard_told, says}
+use Rattle.event_worlds.specs.topology_plan.Topology.{Topology}
+use Rattle.event_worlds.specs.tree_model.declared.messages.AckMsg.{AckMsg}
+use Rattle.event_worlds.specs.tree_model.declared.messages.AckMsg.TheVariants as msg
+use Rattle.event_worlds.specs.tree_model.Lists.{AreTrueOf, IsTrueOf, root_of}
+use Rattle.event_worlds.specs.tuple_account.Ends.{Desk, Ended, verdicts_by, verdicts_of_ends, verdicts_of_waits}
+use Rattle.event_worlds.specs.tuple_account.Fits.{Fits}
+use Rattle.event_worlds.specs.tuple_account.Histories.{History, IsTold, Packet, Receipt, Told, taken}
+use Rattle.event_worlds.specs.tuple_account.Moves.{AreRows, Reached, Station}
+use Rattle.event_worlds.specs.tuple_account.Sound.{IsSound}
+use Rattle.event_worlds.proofs.tuple_account.Codes.{msg_code}
+use Rattle.event_worlds.proofs.tuple_account.Listing.{told_lists}
+use Rattle.event_worlds.proofs.tuple_account.Reading.{held_met}
+use Rattle.event_worlds.proofs.tuple_account.Routing.{verdict_code}
+use Rattle.event_worlds.proofs.tuple_account.Telling.{Says, heard_told, says}
 
 abbrev some_path : List ℕ → Option (List ℕ) → List ℕ
 some_path d None = d

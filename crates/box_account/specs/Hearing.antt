@@ -1,12 +1,12 @@
 -- What the coordinator heard of attempts whose commits failed. This project's own.
 use Rattle.std.specs.Prelude.{◌≡◌, true, List}
 use Rattle.std.specs.List.{AllByRecursion, Contains}
-use Rattle.acker_core.specs.declared.verdict.Verdict.TheVariants.{Complete}
-use Rattle.attempt_fates.specs.declared.fates.Attempt.{Attempt}
-use Rattle.commit_turns.specs.Kept.{is_failed_commit}
-use Rattle.storm_values.specs.declared.value.Root.{Root}
-use Rattle.tree_model.specs.declared.messages.AckMsg.{AckMsg}
-use Rattle.tuple_account.specs.Histories.{History}
+use Rattle.event_worlds.specs.acker_core.declared.verdict.Verdict.TheVariants.{Complete}
+use Rattle.event_worlds.specs.attempt_fates.declared.fates.Attempt.{Attempt}
+use Rattle.event_worlds.specs.commit_turns.Kept.{is_failed_commit}
+use Rattle.event_worlds.specs.storm_values.declared.value.Root.{Root}
+use Rattle.event_worlds.specs.tree_model.declared.messages.AckMsg.{AckMsg}
+use Rattle.event_worlds.specs.tuple_account.Histories.{History}
 
 -- a verdict that a root is complete was heard
 abbrev pub HeardComplete : History → Root → Type 0

@@ -3,13 +3,13 @@
 use Rattle.std.specs.Prelude.{◌≡◌, ℕ, ◌+◌, List, [], ◌∷◌}
 use Rattle.box_rows.specs.declared.mail.Mail.{Mail}
 use Rattle.box_rows.specs.Rows.{taken_in}
-use Rattle.counted_items.specs.Weights.{weigh}
+use Rattle.event_worlds.specs.counted_items.Weights.{weigh}
 use Rattle.event_worlds.specs.Worlds.{AckerSide, TaskSide, World}
 use Rattle.task_queues.specs.declared.pass.Pass.{Pass}
-use Rattle.tree_model.specs.declared.messages.AckMsg.{AckMsg}
-use Rattle.tree_model.specs.declared.messages.Parcel.TheVariants.{ToTask, ToAcker}
-use Rattle.tree_model.specs.declared.messages.Tuple.{Tuple}
-use Rattle.tuple_account.specs.Histories.{History, Packet, of_parcel, of_verdict, taken}
+use Rattle.event_worlds.specs.tree_model.declared.messages.AckMsg.{AckMsg}
+use Rattle.event_worlds.specs.tree_model.declared.messages.Parcel.TheVariants.{ToTask, ToAcker}
+use Rattle.event_worlds.specs.tree_model.declared.messages.Tuple.{Tuple}
+use Rattle.event_worlds.specs.tuple_account.Histories.{History, Packet, of_parcel, of_verdict, taken}
 
 -- what stands in the inboxes of tasks from a number on
 abbrev pub weigh_task_inboxes : (Packet → ℕ) → ℕ → List TaskSide → ℕ

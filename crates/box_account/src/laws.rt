@@ -1,7 +1,7 @@
 ghost use Rattle.std.specs.Prelude.{ℕ, List, map};
 ghost use Rattle.std.specs.List.{AllByRecursion};
-ghost use Rattle.attempt_fates.specs.declared.fates.Attempt.{Attempt};
-ghost use Rattle.bolt_ops.specs.RowOp.{Custom};
+ghost use Rattle.event_worlds.specs.attempt_fates.declared.fates.Attempt.{Attempt};
+ghost use Rattle.event_worlds.specs.bolt_ops.RowOp.{Custom};
 ghost use Rattle.box_account.specs.Hearing.{HeardBeforeFailing};
 ghost use Rattle.box_account.specs.Inboxes.{GoesThrough};
 ghost use Rattle.box_account.specs.Taken.{TookTrue, TookTruly};
@@ -14,16 +14,16 @@ ghost use Rattle.event_worlds.specs.Accounted.{LedAt};
 ghost use Rattle.event_worlds.specs.Added.{added, first_history};
 ghost use Rattle.event_worlds.specs.Beside.{LedBeside};
 ghost use Rattle.event_worlds.specs.Worlds.{Known, Step, first_world, next};
-ghost use Rattle.state_parts.specs.declared.answer.CommitOutcome.{CommitOutcome};
+ghost use Rattle.event_worlds.specs.state_parts.declared.answer.CommitOutcome.{CommitOutcome};
 ghost use Rattle.task_queues.specs.declared.pass.Mailbox.{Mailbox};
 ghost use Rattle.task_queues.specs.declared.pass.Pass.{Pass};
 ghost use Rattle.task_queues.specs.declared.rule.View.{View};
 ghost use Rattle.task_queues.specs.Passes.{view_of};
 ghost use Rattle.task_queues.specs.Rule.{Stood};
-ghost use Rattle.topology_plan.specs.Topology.{Topology};
-ghost use Rattle.trident_batches.specs.Batches.{Cut};
-ghost use Rattle.tuple_account.specs.Histories.{History, Packet, joined};
-ghost use Rattle.tuple_account.specs.Moves.{Station};
+ghost use Rattle.event_worlds.specs.topology_plan.Topology.{Topology};
+ghost use Rattle.event_worlds.specs.trident_batches.Batches.{Cut};
+ghost use Rattle.event_worlds.specs.tuple_account.Histories.{History, Packet, joined};
+ghost use Rattle.event_worlds.specs.tuple_account.Moves.{Station};
 
 /// A law: before the commit of an attempt fails a verdict that it is complete is heard: so it is at
 /// first, so it stays with whatever happens beside, and after each step, whatever waits.

@@ -14,7 +14,7 @@ use Rattle.task_queues.specs.declared.rule.Stamped.{Stamped}
 use Rattle.task_queues.specs.declared.rule.View.{View}
 use Rattle.task_queues.specs.Passes.{IsPassOf, view_of}
 use Rattle.task_queues.specs.Steps.{IsNext}
-use Rattle.topology_plan.specs.Topology.{Topology}
+use Rattle.event_worlds.specs.topology_plan.Topology.{Topology}
 
 pub one_of : {X : Type 0} (x y : X) → Some x ≡ Some y → x ≡ y
 one_of x y is = cc

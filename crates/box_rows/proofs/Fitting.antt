@@ -4,8 +4,8 @@ use Rattle.std.specs.Prelude.{slice_get, IfSome, OnOk, OnErr, Result, Ok, Err}
 use Rattle.std.specs.Option.{IfNone}
 use Rattle.std.specs.List.{AllByRecursion}
 use Rattle.std.proofs.lemmas.List.{length-map}
-use Rattle.counted_items.specs.Weights.{weigh}
-use Rattle.counted_items.proofs.Weighing.{weigh-append}
+use Rattle.event_worlds.specs.counted_items.Weights.{weigh}
+use Rattle.event_worlds.proofs.counted_items.Weighing.{weigh-append}
 use Rattle.event_worlds.proofs.Waiting.{each-set}
 use Rattle.pass_numbers.specs.Numbers.{IsWhole}
 use Rattle.box_rows.specs.declared.mail.Mail.{Mail}
@@ -22,8 +22,8 @@ use Rattle.task_queues.specs.declared.rule.Stamped.{Stamped}
 use Rattle.task_queues.specs.declared.rule.View.{View}
 use Rattle.task_queues.specs.Passes.{view_of}
 use Rattle.task_queues.specs.Whole.{HoldsRest}
-use Rattle.topology_plan.specs.Topology.{Topology}
-use Rattle.tuple_account.specs.Histories.{Packet}
+use Rattle.event_worlds.specs.topology_plan.Topology.{Topology}
+use Rattle.event_worlds.specs.tuple_account.Histories.{Packet}
 
 -- ---- what is held was sent
 

@@ -17,7 +17,7 @@ use Rattle.task_queues.specs.declared.pass.Pass.{Pass}
 use Rattle.task_queues.specs.declared.rule.View.{View}
 use Rattle.task_queues.specs.Passes.{IsPassOf, view_of}
 use Rattle.task_queues.specs.Whole.{HoldsRest}
-use Rattle.topology_plan.specs.Topology.{Topology}
+use Rattle.event_worlds.specs.topology_plan.Topology.{Topology}
 
 -- so many boxes were made, each with its pass
 pub record Made (t : Topology) (n : ℕ) (boxes : List (Mailbox Mail)) (row : List (Pass Mail)) : Type 0 where

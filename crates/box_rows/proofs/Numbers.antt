@@ -1,6 +1,6 @@
 -- The books and the numbers of rows.
 use Rattle.std.proofs.Common.{◌≡◌, ◌≢◌, ◌≤◌, ℕ, zero, suc, ◌+◌, List, [], ◌∷◌, ◌++◌, length, map, sym, refl, append-nil, arith}
-use Rattle.counted_items.specs.Weights.{weigh}
+use Rattle.event_worlds.specs.counted_items.Weights.{weigh}
 use Rattle.pass_numbers.proofs.Lists.{map-append}
 use Rattle.pass_numbers.proofs.Numbering.{join_beside, split_beside}
 use Rattle.pass_numbers.specs.Numbers.{Numbered, cut_numbers, kept_numbers}
@@ -11,7 +11,7 @@ use Rattle.box_rows.proofs.Weighing.{view_cuts, view_joins, view_keeps}
 use Rattle.task_queues.specs.Books.{cut_first, cut_of, kept_first, kept_of, numbers_in}
 use Rattle.task_queues.specs.declared.rule.Book.{Book}
 use Rattle.task_queues.specs.declared.rule.View.{View}
-use Rattle.tuple_account.specs.Histories.{Packet}
+use Rattle.event_worlds.specs.tuple_account.Histories.{Packet}
 
 module _ (f : Packet → ℕ) where
   pub kept-sent : (vs : List (View Mail)) → (weigh (weigh_sent f) (map kept_of vs) ≡ weigh (weigh_sent f) vs) × (weigh (weigh_taken f) (map kept_of vs) ≡ weigh (weigh_taken f) vs)

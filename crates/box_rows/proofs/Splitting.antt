@@ -11,7 +11,7 @@ use Rattle.task_queues.specs.declared.pass.Mailbox.{Mailbox}
 use Rattle.task_queues.specs.declared.pass.Pass.{Pass}
 use Rattle.task_queues.specs.declared.rule.View.{View}
 use Rattle.task_queues.specs.Passes.{IsPassOf, view_of}
-use Rattle.topology_plan.specs.Topology.{Topology}
+use Rattle.event_worlds.specs.topology_plan.Topology.{Topology}
 
 -- the first so many changed
 abbrev pub half : {X : Type 0} → (X → X) → ℕ → List X → List X

@@ -1,8 +1,8 @@
 -- What the books of a view weigh after a step.
 use Rattle.std.proofs.Common.{◌≡◌, ◌≢◌, ◌<◌, ℕ, zero, suc, ◌+◌, List, [], ◌∷◌, ◌++◌, length, Some, None, get_or, set, sym, refl, ap, ◌∙◌, arith}
 use Rattle.std.specs.Prelude.{slice_get}
-use Rattle.counted_items.specs.Weights.{weigh}
-use Rattle.counted_items.proofs.Weighing.{weigh-append, weigh-flat_map, weigh-same}
+use Rattle.event_worlds.specs.counted_items.Weights.{weigh}
+use Rattle.event_worlds.proofs.counted_items.Weighing.{weigh-append, weigh-flat_map, weigh-same}
 use Rattle.box_rows.specs.declared.mail.Mail.{Mail}
 use Rattle.box_rows.specs.Mails.{weigh_mail}
 use Rattle.box_rows.specs.Rows.{weigh_sent, weigh_taken}
@@ -10,7 +10,7 @@ use Rattle.task_queues.specs.Books.{sent_of, taken_of, sent_first, taken_first, 
 use Rattle.task_queues.specs.declared.rule.Book.{Book}
 use Rattle.task_queues.specs.declared.rule.Stamped.{Stamped}
 use Rattle.task_queues.specs.declared.rule.View.{View}
-use Rattle.tuple_account.specs.Histories.{Packet}
+use Rattle.event_worlds.specs.tuple_account.Histories.{Packet}
 
 -- ---- lists in which one item changes
 

@@ -2,7 +2,7 @@
 use Rattle.std.specs.Prelude.{◌≡◌, ◌<◌, ℕ, ◌+◌, List, [], ◌∷◌, length, map, Vec}
 use Rattle.std.specs.List.{AllByRecursion}
 use Rattle.std.specs.declared.alloc.Global.{Global}
-use Rattle.counted_items.specs.Weights.{weigh}
+use Rattle.event_worlds.specs.counted_items.Weights.{weigh}
 use Rattle.pass_numbers.specs.declared.Number.{Number}
 use Rattle.pass_numbers.specs.Numbers.{Numbered}
 use Rattle.box_rows.specs.declared.mail.Mail.{Mail}
@@ -12,8 +12,8 @@ use Rattle.task_queues.specs.declared.pass.Mailbox.{Mailbox}
 use Rattle.task_queues.specs.declared.pass.Pass.{Pass}
 use Rattle.task_queues.specs.declared.rule.View.{View}
 use Rattle.task_queues.specs.Passes.{view_of}
-use Rattle.topology_plan.specs.Topology.{Topology}
-use Rattle.tuple_account.specs.Histories.{Packet}
+use Rattle.event_worlds.specs.topology_plan.Topology.{Topology}
+use Rattle.event_worlds.specs.tuple_account.Histories.{Packet}
 
 abbrev pub Row : Type 0
 Row = Vec (Pass Mail) Global

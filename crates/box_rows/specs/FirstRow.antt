@@ -5,7 +5,7 @@ use Rattle.box_rows.specs.declared.mail.Mail.{Mail}
 use Rattle.box_rows.specs.Mails.{last_box}
 use Rattle.task_queues.specs.Books.{first_view}
 use Rattle.task_queues.specs.declared.rule.View.{View}
-use Rattle.topology_plan.specs.Topology.{Topology}
+use Rattle.event_worlds.specs.topology_plan.Topology.{Topology}
 
 -- how many messages a box holds at most
 abbrev pub box_capacity : ℕ

@@ -11,8 +11,8 @@ use Rattle.task_queues.specs.declared.pass.Pass.{Pass}
 use Rattle.task_queues.specs.declared.rule.View.{View}
 use Rattle.task_queues.specs.Passes.{view_of}
 use Rattle.task_queues.specs.Whole.{HoldsRest}
-use Rattle.topology_plan.specs.Topology.{Topology}
-use Rattle.tuple_account.specs.Histories.{Packet}
+use Rattle.event_worlds.specs.topology_plan.Topology.{Topology}
+use Rattle.event_worlds.specs.tuple_account.Histories.{Packet}
 
 -- a view has all numbers, and says what the box holds: what was sent and was not taken
 pub record IsFitView (v : View Mail) : Type 0 where

@@ -1,6 +1,6 @@
 -- Rows of passes, one to each box, and what their books weigh. This project's own.
 use Rattle.std.specs.Prelude.{◌≡◌, ℕ, ◌+◌, List, length, map, Some, slice_get, slice_set}
-use Rattle.counted_items.specs.Weights.{Same, weigh}
+use Rattle.event_worlds.specs.counted_items.Weights.{Same, weigh}
 use Rattle.crossbeam_queue.specs.Fifo.{Held}
 use Rattle.pass_numbers.specs.declared.Number.{Number}
 use Rattle.box_rows.specs.declared.mail.Mail.{Mail}
@@ -13,8 +13,8 @@ use Rattle.task_queues.specs.declared.rule.View.{View}
 use Rattle.task_queues.specs.Passes.{IsPassOf, view_of}
 use Rattle.task_queues.specs.Rule.{Stood}
 use Rattle.task_queues.specs.Steps.{IsNext}
-use Rattle.topology_plan.specs.Topology.{Topology}
-use Rattle.tuple_account.specs.Histories.{Packet}
+use Rattle.event_worlds.specs.topology_plan.Topology.{Topology}
+use Rattle.event_worlds.specs.tuple_account.Histories.{Packet}
 
 -- the pass is of the box of a number, and names the plan and that number
 pub record IsPassFor (t : Topology) (n : ℕ) (box : Mailbox Mail) (p : Pass Mail) : Type 0 where

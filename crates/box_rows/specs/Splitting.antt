@@ -8,7 +8,7 @@ use Rattle.task_queues.specs.declared.pass.Mailbox.{Mailbox}
 use Rattle.task_queues.specs.declared.pass.Pass.{Pass}
 use Rattle.task_queues.specs.declared.rule.View.{View}
 use Rattle.task_queues.specs.Passes.{view_of}
-use Rattle.topology_plan.specs.Topology.{Topology}
+use Rattle.event_worlds.specs.topology_plan.Topology.{Topology}
 
 abbrev pub MailView : Type 0
 MailView = View Mail

@@ -6,8 +6,8 @@ ghost use Rattle.box_rows.specs.Rows.{ArePasses};
 
 use crate::boxes::{Posts, Row};
 use crate::rows::{join_row, split_row};
+use event_worlds::storm_values::Memory;
 use std::alloc::Global;
-use storm_values::Memory;
 
 /// So many more rows. Without memory they are joined again.
 pub fn split_rows(

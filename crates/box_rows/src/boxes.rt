@@ -5,10 +5,10 @@ ghost use Rattle.box_rows.specs.FitRows.{IsFitRow};
 ghost use Rattle.box_rows.specs.FirstRow.{first_views};
 
 use crate::mail::Mail;
+use event_worlds::storm_values::Memory;
+use event_worlds::topology_plan::Plan;
 use std::alloc::Global;
-use storm_values::Memory;
 use task_queues::{Mailbox, Pass};
-use topology_plan::Plan;
 
 // How many messages a box holds at most.
 const CAPACITY: u32 = 256;

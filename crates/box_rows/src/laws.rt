@@ -1,5 +1,5 @@
 ghost use Rattle.std.specs.Prelude.{◌≡◌, ◌≢◌, ◌<◌, ◌≤◌, ℕ, ◌+◌, List, [], ◌∷◌, length, map};
-ghost use Rattle.counted_items.specs.Weights.{weigh};
+ghost use Rattle.event_worlds.specs.counted_items.Weights.{weigh};
 ghost use Rattle.pass_numbers.specs.Numbers.{Numbered};
 ghost use Rattle.box_rows.specs.AllRows.{AreAll, Row, numbers_by};
 ghost use Rattle.box_rows.specs.declared.mail.Mail.{Mail};
@@ -9,8 +9,8 @@ ghost use Rattle.box_rows.specs.Splitting.{MailView, joined_views, numbers_in_bo
 ghost use Rattle.task_queues.specs.Books.{cut_of, kept_of};
 ghost use Rattle.task_queues.specs.declared.pass.Mailbox.{Mailbox};
 ghost use Rattle.task_queues.specs.declared.pass.Pass.{Pass};
-ghost use Rattle.topology_plan.specs.Topology.{Topology};
-ghost use Rattle.tuple_account.specs.Histories.{Packet};
+ghost use Rattle.event_worlds.specs.topology_plan.Topology.{Topology};
+ghost use Rattle.event_worlds.specs.tuple_account.Histories.{Packet};
 
 /// A law: a row that was split has the books that it had, and the new one has empty ones. The books
 /// of joined rows are those of both.

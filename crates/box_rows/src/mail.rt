@@ -1,9 +1,9 @@
 //! What lies in a box.
 ghost use Rattle.std.specs.Prelude.{ℕ};
 
-use acker_core::Verdict;
+use event_worlds::acker_core::Verdict;
+use event_worlds::tree_model::Parcels;
 use task_queues::Truth;
-use tree_model::Parcels;
 
 /// What lies in a box: a run of 1 to 64 parcels, all for this box, or a verdict for the
 /// coordinator.

@@ -7,8 +7,8 @@ ghost use Rattle.task_queues.specs.Passes.{view_of};
 
 use crate::boxes::{Posts, Row};
 use crate::mail::Mail;
+use event_worlds::storm_values::Memory;
 use std::alloc::Global;
-use storm_values::Memory;
 use task_queues::Pass;
 
 // A second pass of the box of a number.

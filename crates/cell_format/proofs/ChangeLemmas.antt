@@ -1,8 +1,8 @@
 -- A cell that is made of writes has a value.
 use Rattle.std.proofs.Common.{◌≡◌, ◌≢◌, ℤ, List, [], ◌∷◌, Option, Some, IsSome, true, false, true≢false, length, ◌==◌, ap, sym, ◌∙◌, refl}
-use Rattle.topology_plan.specs.declared.parts.Fold.{Fold}
-use Rattle.topology_plan.specs.declared.parts.Kind.{Kind}
-use Rattle.topology_plan.specs.declared.parts.Kind.TheVariants.{Transactional, Opaque}
+use Rattle.tree_model.specs.topology_plan.declared.parts.Fold.{Fold}
+use Rattle.tree_model.specs.topology_plan.declared.parts.Kind.{Kind}
+use Rattle.tree_model.specs.topology_plan.declared.parts.Kind.TheVariants.{Transactional, Opaque}
 use Rattle.tree_model.specs.Tables.{folded}
 use Rattle.cell_format.specs.Commits.{kept_by, value_after}
 use Rattle.cell_format.specs.Layout.{IsWhole}

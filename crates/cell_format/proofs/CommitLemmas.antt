@@ -2,9 +2,9 @@
 use Rattle.std.proofs.Common.{◌≡◌, ◌≢◌, ◌≤◌, ◌⊎◌, inl, inr, ℕ, ◌+◌, ◌==◌, ℤ, Bool, true, false, cond, true≢false, List, [], ◌∷◌, ◌++◌, Option, None, Some, IsSome, option_map, map, filter, refl, sym, ap, subst, ◌∙◌, eqb-true, eq-eqb, arith}
 use Rattle.std.specs.Str.{bytes_eq}
 use Rattle.std.proofs.lemmas.List.Sums.{fold-append}
-use Rattle.topology_plan.specs.declared.parts.Fold.{Fold}
-use Rattle.topology_plan.specs.declared.parts.Kind.{Kind}
-use Rattle.topology_plan.specs.declared.parts.Kind.TheVariants.{Transactional, Opaque}
+use Rattle.tree_model.specs.topology_plan.declared.parts.Fold.{Fold}
+use Rattle.tree_model.specs.topology_plan.declared.parts.Kind.{Kind}
+use Rattle.tree_model.specs.topology_plan.declared.parts.Kind.TheVariants.{Transactional, Opaque}
 use Rattle.tree_model.specs.Tables.{folded}
 use Rattle.tree_model.specs.declared.write.Write.{Write}
 use Rattle.cell_format.specs.declared.cell.Cell.{Cell}

@@ -5,8 +5,8 @@ use Rattle.std.proofs.Math.Nat.{pow-suc, div-div-eq-div-mul, div-add-mod, add-mu
 use Rattle.std.proofs.Math.Seq.{take-append_seam, drop-append_seam, drop-append-add}
 use Rattle.std.proofs.Math.Facts.{Fits-of_z, to_z-of_z}
 use Rattle.std.proofs.lemmas.List.{take_all}
-use Rattle.topology_plan.specs.declared.parts.Kind.{Kind}
-use Rattle.topology_plan.specs.declared.parts.Kind.TheVariants.{Transactional, Opaque}
+use Rattle.tree_model.specs.topology_plan.declared.parts.Kind.{Kind}
+use Rattle.tree_model.specs.topology_plan.declared.parts.Kind.TheVariants.{Transactional, Opaque}
 use Rattle.cell_format.specs.declared.cell.Cell.{Cell}
 use Rattle.cell_format.specs.Layout.{IsCell, IsWhole, bytes_of, flags_of, flag_if, has_flag, kind_flag, kind_if, number_bytes, number_if, number_of, read_of, txid_bytes}
 

@@ -1,9 +1,9 @@
 -- What a commit makes of a key's cell. After Trident's transactional and opaque states.
 use Rattle.std.specs.Prelude.{◌≡◌, ◌⊎◌, ℕ, ◌==◌, ℤ, if◌then◌else◌, List, [], ◌∷◌, Option, None, Some, option_map, IfSome, map, filter, fold}
 use Rattle.std.specs.Str.{bytes_eq}
-use Rattle.topology_plan.specs.declared.parts.Fold.{Fold}
-use Rattle.topology_plan.specs.declared.parts.Kind.{Kind}
-use Rattle.topology_plan.specs.declared.parts.Kind.TheVariants.{Transactional, Opaque}
+use Rattle.tree_model.specs.topology_plan.declared.parts.Fold.{Fold}
+use Rattle.tree_model.specs.topology_plan.declared.parts.Kind.{Kind}
+use Rattle.tree_model.specs.topology_plan.declared.parts.Kind.TheVariants.{Transactional, Opaque}
 use Rattle.tree_model.specs.Tables.{folded}
 use Rattle.tree_model.specs.declared.write.Write.{Write}
 use Rattle.cell_format.specs.declared.cell.Cell.{Cell}

@@ -1,8 +1,8 @@
 -- The 42 bytes of a cell. This project's own format, version 1.
 use Rattle.std.specs.Prelude.{ℕ, ◌+◌, ◌*◌, ◌<◌, ◌^◌, ◌==◌, ℤ, Bool, true, false, not, List, ◌∷◌, ◌++◌, take, drop, fold, replicate, slice_index_or, bit_and, Option, None, Some, IsSome, IsNone, IfSome, is_some, FitsSigned}
 use Rattle.std.specs.Int.{w64, w128, to_be_bytes, cast_unsigned, cast_signed}
-use Rattle.topology_plan.specs.declared.parts.Kind.{Kind}
-use Rattle.topology_plan.specs.declared.parts.Kind.TheVariants.{Transactional, Opaque}
+use Rattle.tree_model.specs.topology_plan.declared.parts.Kind.{Kind}
+use Rattle.tree_model.specs.topology_plan.declared.parts.Kind.TheVariants.{Transactional, Opaque}
 use Rattle.cell_format.specs.declared.cell.Cell.{Cell}
 
 -- the flag of something that is there

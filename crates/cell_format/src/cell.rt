@@ -1,5 +1,5 @@
 use thiserror::Error;
-use topology_plan::Kind;
+use tree_model::topology_plan::Kind;
 
 /// The value of a key in a part of a state, with the transaction that wrote it.
 #[derive(Clone, Copy, Debug, PartialEq, Eq)]

@@ -3,7 +3,7 @@ ghost use Rattle.cell_format.specs.Layout.{IsCell, IsWhole, bytes_of, flags_of, 
 ghost use Rattle.cell_format.specs.declared.cell.Cell.{Cell};
 
 use crate::cell::{Cell, CellFault};
-use topology_plan::Kind;
+use tree_model::topology_plan::Kind;
 
 /// How many bytes a cell has.
 pub const CELL_BYTES: usize = 42;

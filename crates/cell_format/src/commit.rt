@@ -5,7 +5,7 @@ ghost use Rattle.tree_model.specs.Tables.{folded};
 
 use crate::cell::Cell;
 use crate::codec::decode_cell;
-use topology_plan::{Fold, Kind};
+use tree_model::topology_plan::{Fold, Kind};
 
 /// The cell that the bytes are, where a part of this kind takes it.
 pub fn cell_for(kind: Kind, bytes: &[u8]) -> Option<Cell>

@@ -3,8 +3,8 @@ ghost use Rattle.cell_format.specs.Commits.{IsDone, IsPerhapsDone, amounts_at};
 ghost use Rattle.cell_format.specs.Layout.{IsCell, bytes_of};
 ghost use Rattle.cell_format.specs.Standing.{AreOwn, IsWithin, Stands};
 ghost use Rattle.cell_format.specs.declared.cell.Cell.{Cell};
-ghost use Rattle.topology_plan.specs.declared.parts.Fold.{Fold};
-ghost use Rattle.topology_plan.specs.declared.parts.Kind.{Kind};
+ghost use Rattle.tree_model.specs.topology_plan.declared.parts.Fold.{Fold};
+ghost use Rattle.tree_model.specs.topology_plan.declared.parts.Kind.{Kind};
 ghost use Rattle.tree_model.specs.declared.write.Write.{Write};
 
 /// A law: two cells have not the same bytes.

@@ -1,13 +1,13 @@
 // Plans, rows, ids and parcels of these tests.
-ghost use Rattle.storm_values.specs.Rows.{IsRow};
+ghost use Rattle.tree_model.specs.storm_values.Rows.{IsRow};
 ghost use Rattle.std.specs.Prelude.{IfOk};
 
 use std::alloc::Global;
 use storm_ids::{IdMaker, ScriptIds, ScriptSource, Words};
-use storm_values::{Row, Value, row_from_line};
 use test_kit::Mismatch;
-use topology_plan::Plan;
 use topology_reader::read_topology;
+use tree_model::storm_values::{Row, Value, row_from_line};
+use tree_model::topology_plan::Plan;
 use tree_model::{Parcel, Tuple};
 
 // A tuple that is to be sent: the task that it goes to, its component, the numbers of its path, its

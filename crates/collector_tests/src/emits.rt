@@ -2,9 +2,9 @@
 use crate::calls::{Sent, case_of, check_sent, ids_of, plan_of, row_of};
 use output_collector::{Collector, Emitted};
 use std::alloc::Global;
-use storm_values::{Path, Root, Rows};
 use test_kit::Mismatch;
-use topology_plan::Origin;
+use tree_model::storm_values::{Path, Root, Rows};
+use tree_model::topology_plan::Origin;
 use tree_model::{Draw, Edge, Parcels};
 
 const ROOT: Root = Root {

@@ -1,15 +1,15 @@
 // What tasks make of the tuples that come to them.
 ghost use Rattle.std.specs.Prelude.{◌≡◌, IsTrue, length};
-ghost use Rattle.topology_plan.specs.Wired.{width_to};
+ghost use Rattle.tree_model.specs.topology_plan.Wired.{width_to};
 
 use crate::calls::{Sent, case_of, check_sent, ids_of, plan_of, row_of};
-use bolt_ops::Reversed;
 use bolt_task::BoltTask;
 use std::alloc::Global;
 use storm_ids::ScriptSource;
-use storm_values::{Path, Root};
 use test_kit::Mismatch;
-use topology_plan::{Origin, Plan};
+use tree_model::bolt_ops::Reversed;
+use tree_model::storm_values::{Path, Root};
+use tree_model::topology_plan::{Origin, Plan};
 use tree_model::{AckMsg, Done, Draw, Edge, FailNote, Parcel, Parcels, Tuple, Write};
 
 // Components 0 to 2 are bolts behind the spout with a task each: `split`, one that fails and one

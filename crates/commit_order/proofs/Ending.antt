@@ -14,20 +14,20 @@ use Rattle.commit_turns.specs.Turns.{decided, end_by, end_timed, free_txid, is_c
 use Rattle.commit_turns.specs.declared.wait.Wait.{Wait}
 use Rattle.replay_pending.specs.InFlight as flight
 use Rattle.replay_pending.specs.InFlight.{InFlight, attempts_of}
-use Rattle.rotating_ledger.specs.Held.{root_eq}
-use Rattle.rotating_ledger.proofs.RootLemmas.{root_eq-same}
+use Rattle.tuple_account.specs.rotating_ledger.Held.{root_eq}
+use Rattle.tuple_account.proofs.rotating_ledger.RootLemmas.{root_eq-same}
 use Rattle.state_parts.specs.declared.answer.CommitOutcome.{CommitOutcome}
 use Rattle.state_parts.specs.declared.answer.CommitOutcome.TheVariants as outcome
-use Rattle.storm_values.specs.Lines.{first_some}
-use Rattle.storm_values.specs.declared.value.Root.{Root}
-use Rattle.topology_plan.specs.Topology.{Topology}
-use Rattle.tree_model.specs.Lists.{IsClosed, occurrences}
-use Rattle.tree_model.specs.declared.messages.AckMsg.{AckMsg}
+use Rattle.tuple_account.specs.storm_values.Lines.{first_some}
+use Rattle.tuple_account.specs.storm_values.declared.value.Root.{Root}
+use Rattle.tuple_account.specs.topology_plan.Topology.{Topology}
+use Rattle.tuple_account.specs.tree_model.Lists.{IsClosed, occurrences}
+use Rattle.tuple_account.specs.tree_model.declared.messages.AckMsg.{AckMsg}
 use Rattle.trident_batches.specs.Batches.{Cut, batch_count, first_of, last_of}
-use Rattle.tuple_tickets.specs.Edges.{edge_eq, is_edge, times}
-use Rattle.tuple_tickets.specs.declared.edge.Edge.{Edge}
-use Rattle.tuple_tickets.proofs.Toggles.{same_edge, edge_itself}
-use Rattle.acker_core.specs.Edges.{AreLeft}
+use Rattle.tuple_account.specs.tuple_tickets.Edges.{edge_eq, is_edge, times}
+use Rattle.tuple_account.specs.tuple_tickets.declared.edge.Edge.{Edge}
+use Rattle.tuple_account.proofs.tuple_tickets.Toggles.{same_edge, edge_itself}
+use Rattle.tuple_account.specs.acker_core.Edges.{AreLeft}
 
 -- ---- what a search comes to
 

@@ -14,20 +14,20 @@ use Rattle.output_collector.specs.Draws.{Draws, given_after}
 use Rattle.output_collector.specs.Outlets.{after_rows, parcels_for, tasks_for, tuples_for}
 use Rattle.output_collector.specs.declared.collector.Collector.{Collector}
 use Rattle.output_collector.proofs.Sending.{Draws-none, Draws-then}
-use Rattle.storm_values.specs.declared.value.Root.{Root}
-use Rattle.storm_values.specs.declared.value.Value.{Value}
-use Rattle.topology_plan.specs.Topology.{Topology, tasks_in_all}
-use Rattle.topology_plan.specs.declared.parts.Origin.TheVariants as origin
-use Rattle.tree_model.specs.Trees.{kids}
-use Rattle.tree_model.specs.declared.messages.Draw.{Draw}
-use Rattle.tree_model.specs.declared.messages.AckMsg.TheVariants as msg
-use Rattle.tree_model.specs.declared.messages.Parcel.{Parcel}
-use Rattle.tree_model.specs.declared.messages.Parcel.TheVariants.{ToAcker}
+use Rattle.tuple_account.specs.storm_values.declared.value.Root.{Root}
+use Rattle.tuple_account.specs.storm_values.declared.value.Value.{Value}
+use Rattle.tuple_account.specs.topology_plan.Topology.{Topology, tasks_in_all}
+use Rattle.tuple_account.specs.topology_plan.declared.parts.Origin.TheVariants as origin
+use Rattle.tuple_account.specs.tree_model.Trees.{kids}
+use Rattle.tuple_account.specs.tree_model.declared.messages.Draw.{Draw}
+use Rattle.tuple_account.specs.tree_model.declared.messages.AckMsg.TheVariants as msg
+use Rattle.tuple_account.specs.tree_model.declared.messages.Parcel.{Parcel}
+use Rattle.tuple_account.specs.tree_model.declared.messages.Parcel.TheVariants.{ToAcker}
 use Rattle.trident_batches.specs.Batches.{Cut}
 use Rattle.tuple_account.specs.Histories.{Opening, acker_of, opening_parcels, to_acker, to_tasks}
 use Rattle.tuple_account.specs.Places.{ids_of}
 use Rattle.tuple_account.specs.Issued.{draw_from, edges_of, first_tuples, init_of, tuples_from}
-use Rattle.tuple_tickets.specs.declared.edge.Edge.{Edge}
+use Rattle.tuple_account.specs.tuple_tickets.declared.edge.Edge.{Edge}
 
 open-then : (cut : Cut) (source : ℕ) (a b c : Stand) (xs ys : List Opening) → OpenFrom cut source a xs b → OpenFrom cut source b ys c
     → OpenFrom cut source a (xs ++ ys) c

@@ -9,10 +9,10 @@ use Rattle.commit_order.specs.Offices.{IsFoundAt, awaits, is_timed_of}
 use Rattle.commit_turns.specs.Desks.{is_timed, settled, without}
 use Rattle.commit_turns.specs.declared.wait.Wait.{Wait}
 use Rattle.replay_pending.specs.InFlight.{AreDistinct, is_pending}
-use Rattle.rotating_ledger.specs.Held.{root_eq}
-use Rattle.rotating_ledger.proofs.RootLemmas.{root_eq-refl, root_eq-same}
-use Rattle.storm_values.specs.declared.value.Root.{Root}
-use Rattle.tree_model.specs.declared.messages.AckMsg.{AckMsg}
+use Rattle.tuple_account.specs.rotating_ledger.Held.{root_eq}
+use Rattle.tuple_account.proofs.rotating_ledger.RootLemmas.{root_eq-refl, root_eq-same}
+use Rattle.tuple_account.specs.storm_values.declared.value.Root.{Root}
+use Rattle.tuple_account.specs.tree_model.declared.messages.AckMsg.{AckMsg}
 
 pub true_false : true ≡ false → ⊥
 true_false e = cc

@@ -7,10 +7,10 @@ use Rattle.commit_turns.specs.Desks.{has_txid, is_of_root, settle_with, settled,
 use Rattle.commit_turns.specs.declared.wait.Wait.{Wait}
 use Rattle.replay_pending.specs.InFlight as flight
 use Rattle.replay_pending.specs.InFlight.{Awaited, InFlight, awaited, untimed}
-use Rattle.rotating_ledger.specs.Held.{root_eq}
-use Rattle.storm_values.specs.declared.value.Root.{Root}
-use Rattle.topology_plan.specs.Topology.{Topology}
-use Rattle.tree_model.specs.declared.messages.AckMsg.{AckMsg}
+use Rattle.tuple_account.specs.rotating_ledger.Held.{root_eq}
+use Rattle.tuple_account.specs.storm_values.declared.value.Root.{Root}
+use Rattle.tuple_account.specs.topology_plan.Topology.{Topology}
+use Rattle.tuple_account.specs.tree_model.declared.messages.AckMsg.{AckMsg}
 use Rattle.trident_batches.specs.Batches.{Cut}
 
 some_none : {X : Type 0} (x : X) → Some x ≡ None → ⊥

@@ -11,10 +11,10 @@ use Rattle.commit_turns.specs.declared.wait.Wait.{Wait}
 use Rattle.replay_pending.specs.InFlight.{Awaited, InFlight, awaited, due, is_due, older, ticked}
 use Rattle.commit_order.proofs.Places.{true_false}
 use Rattle.commit_order.proofs.Steps.{office_by}
-use Rattle.storm_values.specs.Lines.{first_some}
-use Rattle.storm_values.specs.declared.value.Root.{Root}
-use Rattle.topology_plan.specs.Topology.{Topology}
-use Rattle.tree_model.specs.declared.messages.AckMsg.{AckMsg}
+use Rattle.tuple_account.specs.storm_values.Lines.{first_some}
+use Rattle.tuple_account.specs.storm_values.declared.value.Root.{Root}
+use Rattle.tuple_account.specs.topology_plan.Topology.{Topology}
+use Rattle.tuple_account.specs.tree_model.declared.messages.AckMsg.{AckMsg}
 use Rattle.trident_batches.specs.Batches.{Cut}
 
 module _ (cut : Cut) (buckets tick : ℕ) where

@@ -2,15 +2,15 @@
 use Rattle.std.proofs.Common.{◌≡◌, ℕ, zero, suc, Bool, true, false, Option, Some, None, refl, ap, ◌∙◌}
 use Rattle.std.specs.Prelude.{OnOk, Result, Ok, Err}
 use Rattle.std.specs.Result.{is_err}
-use Rattle.acker_core.specs.declared.verdict.Verdict.{Verdict}
+use Rattle.tuple_account.specs.acker_core.declared.verdict.Verdict.{Verdict}
 use Rattle.commit_order.specs.Offices.{IsCommitOf, Office}
 use Rattle.commit_order.specs.Orders.{Begins, TurnsTo, collector_of, cut_of, desk_of, office_of, plan_of, stop_by, stop_of, wanted_memory}
 use Rattle.commit_order.specs.declared.coordinator.Coordinator.{Coordinator}
 use Rattle.commit_order.specs.declared.coordinator.Orders.{Orders}
 use Rattle.commit_turns.specs.Desks.{Desk, Progress}
 use Rattle.commit_turns.specs.Turns.{begun, fill_more, filled, heard, next_root, next_to_commit, ordered, passed, turned, turned_by}
-use Rattle.storm_values.specs.declared.value.Root.{Root}
-use Rattle.topology_plan.specs.Topology.{Topology}
+use Rattle.tuple_account.specs.storm_values.declared.value.Root.{Root}
+use Rattle.tuple_account.specs.topology_plan.Topology.{Topology}
 use Rattle.trident_batches.specs.Batches.{Cut}
 
 pub ok_of : {X E A : Type 0} (r : Result X E) → is_err r ≡ false → OnOk r A → A

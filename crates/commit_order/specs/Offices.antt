@@ -12,10 +12,10 @@ use Rattle.replay_pending.specs.InFlight.{Awaited, InFlight}
 use Rattle.state_parts.specs.declared.answer.Commit.{Commit}
 use Rattle.state_parts.specs.declared.answer.CommitOutcome.{CommitOutcome}
 use Rattle.state_parts.specs.declared.answer.CommitOutcome.TheVariants as outcome
-use Rattle.storm_values.specs.Lines.{first_some}
-use Rattle.storm_values.specs.declared.value.Root.{Root}
-use Rattle.topology_plan.specs.Topology.{Topology}
-use Rattle.tree_model.specs.declared.messages.AckMsg.{AckMsg}
+use Rattle.tuple_account.specs.storm_values.Lines.{first_some}
+use Rattle.tuple_account.specs.storm_values.declared.value.Root.{Root}
+use Rattle.tuple_account.specs.topology_plan.Topology.{Topology}
+use Rattle.tuple_account.specs.tree_model.declared.messages.AckMsg.{AckMsg}
 use Rattle.trident_batches.specs.Batches.{Cut, batch_count, first_of, last_of}
 
 -- a plan, its batches, and what the coordinator knows

@@ -15,11 +15,11 @@ use Rattle.output_collector.specs.Collectors.{IsStarted, given_by, ids_in, outle
 use Rattle.output_collector.specs.Draws.{Draws, given_after}
 use Rattle.output_collector.specs.Outlets.{Outlet, after_rows, tasks_for}
 use Rattle.output_collector.specs.declared.collector.Collector.{Collector}
-use Rattle.storm_values.specs.declared.value.Root.{Root}
-use Rattle.topology_plan.specs.Topology.{Topology, tasks_in_all}
-use Rattle.topology_plan.specs.declared.parts.Origin.TheVariants as origin
-use Rattle.tree_model.specs.Trees.{kids}
-use Rattle.tree_model.specs.declared.messages.Parcel.{Parcel}
+use Rattle.tuple_account.specs.storm_values.declared.value.Root.{Root}
+use Rattle.tuple_account.specs.topology_plan.Topology.{Topology, tasks_in_all}
+use Rattle.tuple_account.specs.topology_plan.declared.parts.Origin.TheVariants as origin
+use Rattle.tuple_account.specs.tree_model.Trees.{kids}
+use Rattle.tuple_account.specs.tree_model.declared.messages.Parcel.{Parcel}
 use Rattle.trident_batches.specs.Batches.{Cut}
 use Rattle.tuple_account.specs.Histories.{Opening, opening_parcels}
 

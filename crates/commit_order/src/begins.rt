@@ -6,7 +6,7 @@ use crate::office::Office;
 use crate::waiting::Waiting;
 use crate::waits::is_pending;
 use std::alloc::AllocError;
-use storm_values::{Memory, Root};
+use tuple_account::storm_values::{Memory, Root};
 
 impl<'p> Office<'p> {
     /// The next root begins, where one may.

@@ -8,16 +8,16 @@ ghost use Rattle.commit_turns.specs.Turns.{decided, filled, is_finished, next_to
 
 use crate::office::Office;
 use crate::stop::Stop;
-use acker_core::Verdict;
 use attempt_fates::Fates;
 use output_collector::Collector;
 use state_parts::{Commit, CommitOutcome};
 use std::alloc::Global;
 use storm_ids::Ids;
-use storm_values::{Duplicate, Memory, Path, Root, Row, Rows};
-use topology_plan::{Origin, Plan};
-use tree_model::{AckMsg, Init, Parcel, Parcels};
 use trident_batches::Batches;
+use tuple_account::acker_core::Verdict;
+use tuple_account::storm_values::{Duplicate, Memory, Path, Root, Row, Rows};
+use tuple_account::topology_plan::{Origin, Plan};
+use tuple_account::tree_model::{AckMsg, Init, Parcel, Parcels};
 
 /// What a turn orders: parcels in the order of the roots that begin, of each the first tuples in
 /// path order and then the init, and a commit.

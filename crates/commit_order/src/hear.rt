@@ -8,10 +8,10 @@ ghost use Rattle.commit_order.specs.Offices.{AddsSome, GoesOn, IsBatch, IsFoundA
 
 use crate::office::Office;
 use crate::waits::{remove, timed_place};
-use acker_core::{Check, Verdict, check_list};
 use attempt_fates::{Attempt, End, Fates};
-use storm_values::{Memory, Root, Seq};
-use tree_model::Notes;
+use tuple_account::acker_core::{Check, Verdict, check_list};
+use tuple_account::storm_values::{Memory, Root, Seq};
+use tuple_account::tree_model::Notes;
 
 impl<'p> Office<'p> {
     /// A verdict is heard.

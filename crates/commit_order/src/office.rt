@@ -10,9 +10,9 @@ use crate::waiting::Waiting;
 use replay_pending::Pending;
 use std::alloc::Global;
 use std::marker::Model;
-use storm_values::{Memory, Root, Row};
-use topology_plan::Plan;
 use trident_batches::Batches;
+use tuple_account::storm_values::{Memory, Root, Row};
+use tuple_account::topology_plan::Plan;
 
 /// What the coordinator knows of the batches of a plan, apart from ids and targets.
 #[derive(Drop)]

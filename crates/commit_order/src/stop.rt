@@ -1,8 +1,8 @@
 ghost use Rattle.std.specs.Prelude.{◌≡◌};
 ghost use Rattle.commit_order.specs.declared.stop.Stop.TheVariants as stop;
 
-use storm_values::{Bytes, Memory};
 use thiserror::Error;
+use tuple_account::storm_values::{Bytes, Memory};
 
 /// Why a run stops before every batch is committed.
 #[derive(Debug, Drop, Error)]

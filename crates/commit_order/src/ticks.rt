@@ -1,14 +1,14 @@
 ghost use Rattle.std.specs.Prelude.{◌≡◌, ◌++◌, [], ◌∷◌, false, map, OnOk, OnErr};
-ghost use Rattle.storm_values.specs.Lines.{first_some};
+ghost use Rattle.tuple_account.specs.storm_values.Lines.{first_some};
 ghost use Rattle.commit_turns.specs.Turns.{has_no_tick, heard, one_tick, passed, ticked};
 ghost use Rattle.commit_order.specs.Offices.{AddsSome, AreBatches, GoesOn, IsBatch, timed_out, try_of};
 
 use crate::office::Office;
 use crate::waits::remove_late;
-use acker_core::Verdict;
 use attempt_fates::{Attempt, End, Fates};
 use replay_pending::Roots;
-use storm_values::{Memory, Root};
+use tuple_account::acker_core::Verdict;
+use tuple_account::storm_values::{Memory, Root};
 
 impl<'p> Office<'p> {
     /// A verdict is heard, if there is one, and then the ticks pass.

@@ -5,8 +5,8 @@ use crate::writes::writes_in_path_order;
 use commit_turns::Wait;
 use std::alloc::Global;
 use std::marker::Model;
-use storm_values::{Memory, Root, Seq};
-use tree_model::{Notes, PackedWrites};
+use tuple_account::storm_values::{Memory, Root, Seq};
+use tuple_account::tree_model::{Notes, PackedWrites};
 
 /// The list that an attempt was settled with, beside the places of its dones in the order of the
 /// paths that they consume. Contracts see the list.
@@ -18,7 +18,7 @@ pub(crate) struct Settled {
 
 impl Model for Settled {
     ghost use Rattle.std.specs.Prelude.{List};
-    ghost use Rattle.tree_model.specs.declared.messages.AckMsg.{AckMsg};
+    ghost use Rattle.tuple_account.specs.tree_model.declared.messages.AckMsg.{AckMsg};
     ghost use Rattle.commit_writes.specs.Writes.{IsPathOrderOf};
 
     ghost Value = { List AckMsg };

@@ -5,7 +5,7 @@ ghost use Rattle.commit_turns.specs.Desks.{has_txid, is_late, is_of_root, withou
 ghost use Rattle.commit_order.specs.Offices.{is_settled_after, is_timed_of};
 
 use crate::waiting::Waiting;
-use storm_values::Root;
+use tuple_account::storm_values::Root;
 
 fn is_of(root: Root, wait: &Waiting) -> bool
     ensures { result ≡ is_of_root root wait.now }

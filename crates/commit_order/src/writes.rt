@@ -2,8 +2,8 @@ ghost use Rattle.std.specs.Prelude.{◌≡◌, ◌++◌, IfOk, OnOk, option_copi
 ghost use Rattle.commit_writes.specs.Writes.{AreWritesOf, IsPathOrderOf, done_in, done_of, writes_in};
 
 use std::alloc::Global;
-use storm_values::{Memory, Seq};
-use tree_model::{AckMsg, Notes, PackedWrites, Write};
+use tuple_account::storm_values::{Memory, Seq};
+use tuple_account::tree_model::{AckMsg, Notes, PackedWrites, Write};
 
 /// The writes of a list's dones, in the order of the paths that they consume, by the places of the
 /// dones in this order: one pass over these.

@@ -1,20 +1,20 @@
 // What a coordinator is told, call by call, and what it is to answer.
 ghost use Rattle.commit_order.specs.Orders.{StaysOwn};
 ghost use Rattle.std.specs.Prelude.{IfOk, All};
-ghost use Rattle.storm_values.specs.Rows.{IsRow};
+ghost use Rattle.commit_order.specs.storm_values.Rows.{IsRow};
 
-use acker_core::Verdict;
+use commit_order::acker_core::Verdict;
+use commit_order::state_parts::CommitOutcome;
+use commit_order::storm_ids::{IdMaker, ScriptIds, ScriptSource};
+use commit_order::storm_values::{Few, Path, Root, Rows, Seq, row_from_line};
+use commit_order::topology_plan::Plan;
+use commit_order::tree_model::{AckMsg, Done, Draw, Init, Notes, Parcel, Parcels};
+use commit_order::trident_batches::Batches;
+use commit_order::tuple_tickets::{Edge, Edges};
 use commit_order::{Attempt, Coordinator, End, Fates, Orders, Stop};
-use state_parts::CommitOutcome;
 use std::alloc::Global;
-use storm_ids::{IdMaker, ScriptIds, ScriptSource};
-use storm_values::{Few, Path, Root, Rows, Seq, row_from_line};
 use test_kit::Mismatch;
-use topology_plan::Plan;
 use topology_reader::read_topology;
-use tree_model::{AckMsg, Done, Draw, Init, Notes, Parcel, Parcels};
-use trident_batches::Batches;
-use tuple_tickets::{Edge, Edges};
 
 /// The verdict of a turn: none, or that of a root, with a list that is closed or that leaves an
 /// edge open, or its failure.

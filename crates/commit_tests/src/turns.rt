@@ -1,6 +1,6 @@
 // Turns of the coordinator by hand, from the rule of each step.
 use crate::scenes::{Call, Ended, How, Step, Told, check_steps};
-use storm_values::Root;
+use commit_order::storm_values::Root;
 use test_kit::Mismatch;
 
 // Two attempts may be pending, buckets are 3, and a batch has two attempts and one record.

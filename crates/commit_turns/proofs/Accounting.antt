@@ -5,20 +5,20 @@ use Rattle.std.specs.List.{AllByRecursion}
 use Rattle.std.specs.Option.{option_to_list}
 use Rattle.std.proofs.lemmas.Bool.{and_cases, and_parts}
 use Rattle.std.proofs.lemmas.List.{append-nil, append_assoc}
-use Rattle.acker_core.specs.declared.verdict.Verdict.{Verdict}
-use Rattle.acker_core.specs.declared.verdict.Verdict.TheVariants.{Complete, Fails}
+use Rattle.tuple_account.specs.acker_core.declared.verdict.Verdict.{Verdict}
+use Rattle.tuple_account.specs.acker_core.declared.verdict.Verdict.TheVariants.{Complete, Fails}
 use Rattle.attempt_fates.specs.declared.fates.Attempt.{Attempt}
 use Rattle.attempt_fates.specs.declared.fates.End.{End}
 use Rattle.attempt_fates.specs.declared.fates.End.TheVariants as end
-use Rattle.counted_items.specs.Weights.{weigh}
-use Rattle.counted_items.proofs.Each.{each-back, each-both, each-weaker}
-use Rattle.counted_items.proofs.Weighing.{weigh-append, weigh-push}
-use Rattle.rotating_ledger.proofs.RootLemmas.{root_eq-same}
-use Rattle.storm_values.specs.declared.value.Root.{Root}
-use Rattle.topology_plan.specs.Topology.{Topology}
-use Rattle.topology_plan.specs.Valid.{IsValid}
-use Rattle.tree_model.specs.Lists.{IsClosed}
-use Rattle.tree_model.specs.declared.messages.AckMsg.{AckMsg}
+use Rattle.tuple_account.specs.counted_items.Weights.{weigh}
+use Rattle.tuple_account.proofs.counted_items.Each.{each-back, each-both, each-weaker}
+use Rattle.tuple_account.proofs.counted_items.Weighing.{weigh-append, weigh-push}
+use Rattle.tuple_account.proofs.rotating_ledger.RootLemmas.{root_eq-same}
+use Rattle.tuple_account.specs.storm_values.declared.value.Root.{Root}
+use Rattle.tuple_account.specs.topology_plan.Topology.{Topology}
+use Rattle.tuple_account.specs.topology_plan.Valid.{IsValid}
+use Rattle.tuple_account.specs.tree_model.Lists.{IsClosed}
+use Rattle.tuple_account.specs.tree_model.declared.messages.AckMsg.{AckMsg}
 use Rattle.trident_batches.specs.Batches.{Cut}
 use Rattle.tuple_account.specs.Ends.{Ended, commits_by, verdicts_by, verdicts_settled}
 use Rattle.tuple_account.specs.Fits.{CheckedBy}

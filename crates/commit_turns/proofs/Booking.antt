@@ -4,21 +4,21 @@ use Rattle.std.specs.FinMap as fin_map
 use Rattle.std.specs.List.{AllByRecursion}
 use Rattle.std.proofs.lemmas.Bool.{cases_eq, eq-eqb, ne_eqb, and_right, le-ltb}
 use Rattle.std.proofs.lemmas.Bool.Decides.{nat_tests}
-use Rattle.acker_core.specs.declared.verdict.Verdict.{Verdict}
+use Rattle.tuple_account.specs.acker_core.declared.verdict.Verdict.{Verdict}
 use Rattle.attempt_fates.specs.declared.fates.Attempt.{Attempt}
 use Rattle.attempt_fates.specs.declared.fates.End.{End}
-use Rattle.counted_items.specs.Weights.{weigh}
-use Rattle.counted_items.proofs.Each.{each-append, each-front, each-back}
-use Rattle.counted_items.proofs.Weighing.{weigh-append, weigh-push}
+use Rattle.tuple_account.specs.counted_items.Weights.{weigh}
+use Rattle.tuple_account.proofs.counted_items.Each.{each-append, each-front, each-back}
+use Rattle.tuple_account.proofs.counted_items.Weighing.{weigh-append, weigh-push}
 use Rattle.replay_pending.specs.InFlight.{Counts, attempts_of}
-use Rattle.storm_values.specs.declared.value.Root.{Root}
-use Rattle.topology_plan.specs.Topology.{Topology}
-use Rattle.tree_model.specs.declared.messages.AckMsg.{AckMsg}
+use Rattle.tuple_account.specs.storm_values.declared.value.Root.{Root}
+use Rattle.tuple_account.specs.topology_plan.Topology.{Topology}
+use Rattle.tuple_account.specs.tree_model.declared.messages.AckMsg.{AckMsg}
 use Rattle.trident_batches.specs.Batches.{Cut}
 use Rattle.tuple_account.specs.Ends.{commits_by, verdicts_by, verdicts_settled}
 use Rattle.tuple_account.specs.Fits.{CheckedBy, is_tried}
 use Rattle.tuple_account.specs.Sound.{is_about}
-use Rattle.tuple_tickets.specs.Roots.{root_eq}
+use Rattle.tuple_account.specs.tuple_tickets.Roots.{root_eq}
 use Rattle.commit_turns.specs.declared.wait.Wait.{Wait}
 use Rattle.commit_turns.specs.Account.{ended_of, ending_of}
 use Rattle.commit_turns.specs.Desks.{ended_at}

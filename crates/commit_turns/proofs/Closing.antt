@@ -2,11 +2,11 @@
 use Rattle.std.proofs.Common.{◌≡◌, ℕ, zero, suc, ◌≤◌, ◌%◌, ◌==◌, Bool, true, false, cond, List, [], ◌∷◌, refl, sym, ap, ◌∙◌, arith, eqb-true, eq-eqb}
 use Rattle.std.specs.List.{list_all}
 use Rattle.std.proofs.lemmas.Bool.{and_parts, and_from}
-use Rattle.tree_model.specs.Lists.{IsClosed, occurrences}
-use Rattle.tree_model.specs.declared.messages.AckMsg.{AckMsg}
-use Rattle.tuple_tickets.proofs.Toggles.{same_edge}
-use Rattle.tuple_tickets.specs.Edges.{edge_eq, times}
-use Rattle.tuple_tickets.specs.declared.edge.Edge.{Edge}
+use Rattle.tuple_account.specs.tree_model.Lists.{IsClosed, occurrences}
+use Rattle.tuple_account.specs.tree_model.declared.messages.AckMsg.{AckMsg}
+use Rattle.tuple_account.proofs.tuple_tickets.Toggles.{same_edge}
+use Rattle.tuple_account.specs.tuple_tickets.Edges.{edge_eq, times}
+use Rattle.tuple_account.specs.tuple_tickets.declared.edge.Edge.{Edge}
 use Rattle.commit_turns.specs.Turns.{is_closed}
 
 module _ (test : Edge → Bool) where

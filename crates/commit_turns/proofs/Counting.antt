@@ -3,8 +3,8 @@ use Rattle.std.proofs.Common.{◌≡◌, ℕ, zero, suc, ◌+◌, ◌<◌, ◌�
 use Rattle.std.specs.List.{AllByRecursion, range_with_len}
 use Rattle.std.proofs.lemmas.Bool.{cases_eq, not-false}
 use Rattle.std.proofs.lemmas.List.FromFn.{length-range_with_len}
-use Rattle.counted_items.specs.Weights.{weigh}
-use Rattle.counted_items.proofs.Weighing.{weigh-append, weigh-few, weigh-le_each, weigh-ones, weigh-swap}
+use Rattle.tuple_account.specs.counted_items.Weights.{weigh}
+use Rattle.tuple_account.proofs.counted_items.Weighing.{weigh-append, weigh-few, weigh-le_each, weigh-ones, weigh-swap}
 use Rattle.commit_turns.specs.declared.wait.Wait.{Wait}
 use Rattle.commit_turns.specs.Desks.{has_txid}
 use Rattle.commit_turns.proofs.Tallies.{own, own-few, own-itself, own-other, none-has, tally}

@@ -6,8 +6,8 @@ use Rattle.std.proofs.lemmas.List.{append-nil}
 use Rattle.attempt_fates.specs.declared.fates.Attempt.{Attempt}
 use Rattle.attempt_fates.specs.declared.fates.End.TheVariants as end
 use Rattle.attempt_fates.specs.Fates.{is_committed}
-use Rattle.topology_plan.specs.Topology.{Topology}
-use Rattle.tree_model.specs.declared.messages.AckMsg.{AckMsg}
+use Rattle.tuple_account.specs.topology_plan.Topology.{Topology}
+use Rattle.tuple_account.specs.tree_model.declared.messages.AckMsg.{AckMsg}
 use Rattle.trident_batches.specs.Batches.{Cut}
 use Rattle.state_parts.specs.declared.answer.CommitOutcome.{CommitOutcome}
 use Rattle.state_parts.specs.declared.answer.CommitOutcome.TheVariants as outcome

@@ -1,7 +1,7 @@
 -- Turns, worked out by hand.
 use Rattle.std.proofs.Common.{◌≡◌, ℕ, ◌^◌, ◌-◌, true, false, None, Some, List, [], ◌∷◌, refl}
 use Rattle.std.specs.FinMap as fin_map
-use Rattle.acker_core.specs.declared.verdict.Verdict.TheVariants.{Complete, Fails}
+use Rattle.tuple_account.specs.acker_core.declared.verdict.Verdict.TheVariants.{Complete, Fails}
 use Rattle.attempt_fates.specs.declared.fates.Attempt.{Attempt}
 use Rattle.attempt_fates.specs.declared.fates.End.{End}
 use Rattle.attempt_fates.specs.declared.fates.End.TheVariants as end
@@ -9,11 +9,11 @@ use Rattle.commit_turns.specs.declared.wait.Wait.{Wait}
 use Rattle.commit_turns.specs.Desks.{Desk}
 use Rattle.commit_turns.specs.Turns.{decided, free_txid, heard, is_finished, turned}
 use Rattle.state_parts.specs.declared.answer.CommitOutcome.TheVariants as outcome
-use Rattle.storm_values.specs.declared.value.Root.{Root}
-use Rattle.topology_plan.specs.Topology.{Topology}
-use Rattle.topology_plan.specs.declared.parts.Kind.TheVariants.{Transactional}
-use Rattle.tree_model.specs.declared.messages.AckMsg.{AckMsg}
-use Rattle.tree_model.specs.declared.messages.AckMsg.TheVariants as msg
+use Rattle.tuple_account.specs.storm_values.declared.value.Root.{Root}
+use Rattle.tuple_account.specs.topology_plan.Topology.{Topology}
+use Rattle.tuple_account.specs.topology_plan.declared.parts.Kind.TheVariants.{Transactional}
+use Rattle.tuple_account.specs.tree_model.declared.messages.AckMsg.{AckMsg}
+use Rattle.tuple_account.specs.tree_model.declared.messages.AckMsg.TheVariants as msg
 use Rattle.trident_batches.specs.Batches.{Cut}
 
 -- 3 buckets

@@ -2,13 +2,13 @@
 use Rattle.std.proofs.Common.{◌≡◌, ℕ, ◌≤◌, None, List, map, sym, subst, ◌∙◌, arith}
 use Rattle.std.proofs.lemmas.List.{length-map}
 use Rattle.std.proofs.lemmas.List.Elements.{recursion_from_All}
-use Rattle.acker_core.specs.declared.verdict.Verdict.{Verdict}
+use Rattle.tuple_account.specs.acker_core.declared.verdict.Verdict.{Verdict}
 use Rattle.attempt_fates.specs.declared.fates.Attempt.{Attempt}
-use Rattle.counted_items.specs.Weights.{weigh}
-use Rattle.counted_items.proofs.Each.{each-both, each-map, each-to_map, each-weaker}
-use Rattle.counted_items.proofs.Weighing.{weigh-append, weigh-flat_map, weigh-map}
-use Rattle.storm_values.specs.declared.value.Root.{Root}
-use Rattle.topology_plan.specs.Topology.{Topology}
+use Rattle.tuple_account.specs.counted_items.Weights.{weigh}
+use Rattle.tuple_account.proofs.counted_items.Each.{each-both, each-map, each-to_map, each-weaker}
+use Rattle.tuple_account.proofs.counted_items.Weighing.{weigh-append, weigh-flat_map, weigh-map}
+use Rattle.tuple_account.specs.storm_values.declared.value.Root.{Root}
+use Rattle.tuple_account.specs.topology_plan.Topology.{Topology}
 use Rattle.trident_batches.specs.Batches.{Cut}
 use Rattle.tuple_account.specs.Ends.{Ended, Waits, commits, verdicts_by, verdicts_of_ends, verdicts_of_waits, verdicts_settled}
 use Rattle.tuple_account.specs.Fits.{Fits, IsEnd, IsWaiting}

@@ -5,13 +5,13 @@ use Rattle.std.specs.List.{AllByRecursion}
 use Rattle.attempt_fates.specs.declared.fates.Attempt.{Attempt}
 use Rattle.attempt_fates.specs.declared.fates.End.{End}
 use Rattle.attempt_fates.specs.Fates.{is_committed}
-use Rattle.counted_items.proofs.Each.{each-append, each-front, each-back}
+use Rattle.tuple_account.proofs.counted_items.Each.{each-append, each-front, each-back}
 use Rattle.replay_pending.specs.InFlight.{attempts_of}
-use Rattle.storm_values.specs.declared.value.Root.{Root}
-use Rattle.storm_values.specs.Lines.{first_some}
-use Rattle.topology_plan.specs.Topology.{Topology}
-use Rattle.tree_model.specs.Lists.{IsClosed}
-use Rattle.tree_model.specs.declared.messages.AckMsg.{AckMsg}
+use Rattle.tuple_account.specs.storm_values.declared.value.Root.{Root}
+use Rattle.tuple_account.specs.storm_values.Lines.{first_some}
+use Rattle.tuple_account.specs.topology_plan.Topology.{Topology}
+use Rattle.tuple_account.specs.tree_model.Lists.{IsClosed}
+use Rattle.tuple_account.specs.tree_model.declared.messages.AckMsg.{AckMsg}
 use Rattle.trident_batches.specs.Batches.{Cut, batch_count}
 use Rattle.commit_turns.specs.declared.wait.Wait.{Wait}
 use Rattle.commit_turns.specs.Desks.{Desk, ended_at, settled, without}

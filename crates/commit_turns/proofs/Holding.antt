@@ -8,13 +8,13 @@ use Rattle.std.proofs.lemmas.Bool.{ltb-false, ltb-true, cases_eq}
 use Rattle.attempt_fates.specs.declared.fates.Attempt.{Attempt}
 use Rattle.attempt_fates.specs.declared.fates.End.{End}
 use Rattle.attempt_fates.specs.Fates.{IsOfBatch, attempt_numbers, is_committed}
-use Rattle.counted_items.proofs.Each.{each-append, each-front, each-back, each-weaker, each-both}
-use Rattle.counted_items.proofs.Weighing.{weigh-append}
+use Rattle.tuple_account.proofs.counted_items.Each.{each-append, each-front, each-back, each-weaker, each-both}
+use Rattle.tuple_account.proofs.counted_items.Weighing.{weigh-append}
 use Rattle.replay_pending.specs.InFlight.{Counts, attempts_of}
-use Rattle.storm_values.specs.declared.value.Root.{Root}
-use Rattle.topology_plan.specs.Topology.{Topology}
-use Rattle.tree_model.specs.Lists.{IsClosed}
-use Rattle.tree_model.specs.declared.messages.AckMsg.{AckMsg}
+use Rattle.tuple_account.specs.storm_values.declared.value.Root.{Root}
+use Rattle.tuple_account.specs.topology_plan.Topology.{Topology}
+use Rattle.tuple_account.specs.tree_model.Lists.{IsClosed}
+use Rattle.tuple_account.specs.tree_model.declared.messages.AckMsg.{AckMsg}
 use Rattle.trident_batches.specs.Batches.{Cut, batch_count}
 use Rattle.commit_turns.specs.declared.wait.Wait.{Wait}
 use Rattle.commit_turns.specs.Desks.{Desk, ended_at}

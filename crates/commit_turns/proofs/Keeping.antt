@@ -5,8 +5,8 @@ use Rattle.std.specs.List.{AllByRecursion}
 use Rattle.std.proofs.lemmas.List.Elements.{All-from_recursion, recursion_from_All}
 use Rattle.attempt_fates.specs.declared.fates.Attempt.{Attempt}
 use Rattle.attempt_fates.specs.Fates.{attempt_numbers, committed_txids, is_committed}
-use Rattle.counted_items.proofs.Each.{each-weaker, each-both}
-use Rattle.topology_plan.specs.Topology.{Topology}
+use Rattle.tuple_account.proofs.counted_items.Each.{each-weaker, each-both}
+use Rattle.tuple_account.specs.topology_plan.Topology.{Topology}
 use Rattle.trident_batches.specs.Batches.{Cut}
 use Rattle.commit_turns.specs.declared.wait.Wait.{Wait}
 use Rattle.commit_turns.specs.Desks.{Desk}

@@ -3,18 +3,18 @@ use Rattle.std.proofs.Common.{◌≡◌, ℕ, ◌+◌, ◌<◌, ◌≤◌, Bool,
 use Rattle.std.specs.Option.{option_to_list}
 use Rattle.std.proofs.lemmas.List.{append-nil, append_assoc, map-append}
 use Rattle.std.proofs.lemmas.List.Elements.{All-nil}
-use Rattle.acker_core.specs.declared.verdict.Verdict.{Verdict}
-use Rattle.acker_core.specs.declared.verdict.Verdict.TheVariants.{Complete, Fails}
+use Rattle.tuple_account.specs.acker_core.declared.verdict.Verdict.{Verdict}
+use Rattle.tuple_account.specs.acker_core.declared.verdict.Verdict.TheVariants.{Complete, Fails}
 use Rattle.attempt_fates.specs.declared.fates.Attempt.{Attempt}
 use Rattle.attempt_fates.specs.declared.fates.End.TheVariants as end
 use Rattle.attempt_fates.specs.Fates.{IsOfBatch}
-use Rattle.counted_items.specs.Weights.{weigh}
-use Rattle.counted_items.proofs.Each.{each-append}
-use Rattle.counted_items.proofs.Weighing.{weigh-append, weigh-map}
+use Rattle.tuple_account.specs.counted_items.Weights.{weigh}
+use Rattle.tuple_account.proofs.counted_items.Each.{each-append}
+use Rattle.tuple_account.proofs.counted_items.Weighing.{weigh-append, weigh-map}
 use Rattle.replay_pending.specs.InFlight.{Counts, attempts_of}
-use Rattle.storm_values.specs.declared.value.Root.{Root}
-use Rattle.topology_plan.specs.Topology.{Topology}
-use Rattle.topology_plan.specs.Valid.{IsValid}
+use Rattle.tuple_account.specs.storm_values.declared.value.Root.{Root}
+use Rattle.tuple_account.specs.topology_plan.Topology.{Topology}
+use Rattle.tuple_account.specs.topology_plan.Valid.{IsValid}
 use Rattle.trident_batches.specs.Batches.{Cut}
 use Rattle.tuple_account.proofs.Beginning.{fits_first}
 use Rattle.tuple_account.specs.Fits.{Fits, is_tried}

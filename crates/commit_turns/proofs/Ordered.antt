@@ -3,12 +3,12 @@ use Rattle.std.proofs.Common.{◌≡◌, ℕ, ◌+◌, ◌==◌, Bool, true, fal
 use Rattle.std.specs.Prelude.{is_some}
 use Rattle.std.specs.List.{find}
 use Rattle.std.proofs.lemmas.Bool.{and_right}
-use Rattle.acker_core.specs.declared.verdict.Verdict.{Verdict}
-use Rattle.acker_core.specs.declared.verdict.Verdict.TheVariants.{Complete, Fails}
+use Rattle.tuple_account.specs.acker_core.declared.verdict.Verdict.{Verdict}
+use Rattle.tuple_account.specs.acker_core.declared.verdict.Verdict.TheVariants.{Complete, Fails}
 use Rattle.attempt_fates.specs.declared.fates.Attempt.{Attempt}
 use Rattle.attempt_fates.specs.declared.fates.End.TheVariants as end
-use Rattle.storm_values.specs.declared.value.Root.{Root}
-use Rattle.topology_plan.specs.Topology.{Topology}
+use Rattle.tuple_account.specs.storm_values.declared.value.Root.{Root}
+use Rattle.tuple_account.specs.topology_plan.Topology.{Topology}
 use Rattle.trident_batches.specs.Batches.{Cut}
 use Rattle.commit_turns.specs.declared.wait.Wait.{Wait}
 use Rattle.commit_turns.specs.Desks.{Desk, Progress, timed_of}

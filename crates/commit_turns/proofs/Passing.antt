@@ -3,10 +3,10 @@ use Rattle.std.proofs.Common.{◌≡◌, ℕ, zero, suc, Bool, true, false, cond
 use Rattle.std.proofs.lemmas.List.{append-nil, append_assoc}
 use Rattle.attempt_fates.specs.declared.fates.Attempt.{Attempt}
 use Rattle.attempt_fates.specs.declared.fates.End.TheVariants as end
-use Rattle.acker_core.specs.declared.verdict.Verdict.{Verdict}
-use Rattle.storm_values.specs.declared.value.Root.{Root}
-use Rattle.storm_values.specs.Lines.{first_some}
-use Rattle.topology_plan.specs.Topology.{Topology}
+use Rattle.tuple_account.specs.acker_core.declared.verdict.Verdict.{Verdict}
+use Rattle.tuple_account.specs.storm_values.declared.value.Root.{Root}
+use Rattle.tuple_account.specs.storm_values.Lines.{first_some}
+use Rattle.tuple_account.specs.topology_plan.Topology.{Topology}
 use Rattle.trident_batches.specs.Batches.{Cut}
 use Rattle.commit_turns.specs.declared.wait.Wait.{Wait}
 use Rattle.commit_turns.specs.Desks.{Desk, ended_at, is_late, still}

@@ -9,14 +9,14 @@ use Rattle.std.specs.Ordering.{nat_cmp}
 use Rattle.std.proofs.lemmas.Bool.{false_from_ne_true}
 use Rattle.std.proofs.lemmas.List.{map-append}
 use Rattle.std.proofs.lemmas.List.Elements.{filter-append}
-use Rattle.counted_items.specs.Weights.{weigh}
-use Rattle.counted_items.proofs.Each.{each-front, each-back}
-use Rattle.counted_items.proofs.Weighing.{weigh-append}
+use Rattle.tuple_account.specs.counted_items.Weights.{weigh}
+use Rattle.tuple_account.proofs.counted_items.Each.{each-front, each-back}
+use Rattle.tuple_account.proofs.counted_items.Weighing.{weigh-append}
 use Rattle.replay_pending.specs.InFlight.{Counts, attempts_of}
-use Rattle.rotating_ledger.specs.Held.{root_eq}
-use Rattle.rotating_ledger.proofs.RootLemmas.{root_eq-refl, root_eq-same}
-use Rattle.storm_values.specs.declared.value.Root.{Root}
-use Rattle.tree_model.specs.declared.messages.AckMsg.{AckMsg}
+use Rattle.tuple_account.specs.rotating_ledger.Held.{root_eq}
+use Rattle.tuple_account.proofs.rotating_ledger.RootLemmas.{root_eq-refl, root_eq-same}
+use Rattle.tuple_account.specs.storm_values.declared.value.Root.{Root}
+use Rattle.tuple_account.specs.tree_model.declared.messages.AckMsg.{AckMsg}
 use Rattle.commit_turns.specs.declared.wait.Wait.{Wait}
 use Rattle.commit_turns.specs.Desks.{has_txid, is_of_root, settle_with, settled, without}
 use Rattle.commit_turns.proofs.Lists.{Pairs, pairs_of, of_pairs}

@@ -10,7 +10,7 @@ use Rattle.std.proofs.lemmas.List.Quantifiers.{all_pairs_push}
 use Rattle.attempt_fates.specs.declared.fates.Attempt.{Attempt}
 use Rattle.attempt_fates.specs.Fates.{IsOfBatch, IsNoneAfterCommit, attempt_numbers, committed_txids, is_committed}
 use Rattle.attempt_fates.specs.Fates.{committed as committed_of}
-use Rattle.counted_items.proofs.Each.{each-append, each-weaker}
+use Rattle.tuple_account.proofs.counted_items.Each.{each-append, each-weaker}
 use Rattle.commit_turns.specs.Kept.{FailsInTurn, is_failed_commit}
 use Rattle.commit_turns.proofs.Lists.{InOrder, in_order_more, kept_push, last_or_front, rises_push}
 use Rattle.commit_turns.proofs.Tallies.{own}

@@ -4,18 +4,18 @@ use Rattle.std.specs.Prelude.{is_some}
 use Rattle.std.specs.List.{AllByRecursion, range_with_len}
 use Rattle.std.proofs.lemmas.Bool.{ltb-true, and_from, not-true}
 use Rattle.std.proofs.lemmas.List.{append-nil, append_assoc}
-use Rattle.acker_core.specs.declared.verdict.Verdict.{Verdict}
-use Rattle.acker_core.specs.declared.verdict.Verdict.TheVariants.{Complete, Fails}
+use Rattle.tuple_account.specs.acker_core.declared.verdict.Verdict.{Verdict}
+use Rattle.tuple_account.specs.acker_core.declared.verdict.Verdict.TheVariants.{Complete, Fails}
 use Rattle.attempt_fates.specs.declared.fates.Attempt.{Attempt}
 use Rattle.attempt_fates.specs.declared.fates.End.{End}
 use Rattle.attempt_fates.specs.declared.fates.End.TheVariants as end
 use Rattle.attempt_fates.specs.Fates.{is_committed}
-use Rattle.counted_items.proofs.Each.{each-back}
+use Rattle.tuple_account.proofs.counted_items.Each.{each-back}
 use Rattle.replay_pending.specs.InFlight.{attempts_of}
-use Rattle.storm_values.specs.declared.value.Root.{Root}
-use Rattle.topology_plan.specs.Topology.{Topology}
-use Rattle.topology_plan.specs.Valid.{IsValid}
-use Rattle.tree_model.specs.declared.messages.AckMsg.{AckMsg}
+use Rattle.tuple_account.specs.storm_values.declared.value.Root.{Root}
+use Rattle.tuple_account.specs.topology_plan.Topology.{Topology}
+use Rattle.tuple_account.specs.topology_plan.Valid.{IsValid}
+use Rattle.tuple_account.specs.tree_model.declared.messages.AckMsg.{AckMsg}
 use Rattle.trident_batches.specs.Batches.{Cut, batch_count}
 use Rattle.commit_turns.specs.declared.wait.Wait.{Wait}
 use Rattle.commit_turns.specs.Desks.{Desk, ended_at, has_txid, is_late, is_of_root, is_timed, timed_of}

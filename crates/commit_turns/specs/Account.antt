@@ -6,7 +6,7 @@ use Rattle.attempt_fates.specs.declared.fates.End.TheVariants as end
 use Rattle.commit_turns.specs.declared.wait.Wait.{Wait}
 use Rattle.commit_turns.specs.Desks.{Desk}
 use Rattle.replay_pending.specs.InFlight.{attempts_of}
-use Rattle.storm_values.specs.declared.value.Value.{Value}
+use Rattle.tuple_account.specs.storm_values.declared.value.Value.{Value}
 use Rattle.trident_batches.specs.Batches.{Cut, batch_of}
 use Rattle.tuple_account.specs.Ends as account
 use Rattle.tuple_account.specs.Ends.{Ending, Ended, Waits}

@@ -7,9 +7,9 @@ use Rattle.attempt_fates.specs.declared.fates.Attempt.{Attempt}
 use Rattle.attempt_fates.specs.declared.fates.End.{End}
 use Rattle.commit_turns.specs.declared.wait.Wait.{Wait}
 use Rattle.replay_pending.specs.InFlight.{Counts}
-use Rattle.rotating_ledger.specs.Held.{root_eq}
-use Rattle.storm_values.specs.declared.value.Root.{Root}
-use Rattle.tree_model.specs.declared.messages.AckMsg.{AckMsg}
+use Rattle.tuple_account.specs.rotating_ledger.Held.{root_eq}
+use Rattle.tuple_account.specs.storm_values.declared.value.Root.{Root}
+use Rattle.tuple_account.specs.tree_model.declared.messages.AckMsg.{AckMsg}
 use Rattle.trident_batches.specs.Batches.{Cut, first_of, last_of}
 
 -- The ticks that were counted, how many batches were committed, how many attempts of each

@@ -8,9 +8,9 @@ use Rattle.attempt_fates.specs.Fates.{IsOnce, attempt_numbers, committed, commit
 use Rattle.commit_turns.specs.declared.wait.Wait.{Wait}
 use Rattle.commit_turns.specs.Desks.{Desk, has_txid}
 use Rattle.replay_pending.specs.InFlight.{attempts_of}
-use Rattle.topology_plan.specs.Topology.{Topology}
-use Rattle.tree_model.specs.Lists.{IsClosed}
-use Rattle.tree_model.specs.declared.messages.AckMsg.{AckMsg}
+use Rattle.tuple_account.specs.topology_plan.Topology.{Topology}
+use Rattle.tuple_account.specs.tree_model.Lists.{IsClosed}
+use Rattle.tuple_account.specs.tree_model.declared.messages.AckMsg.{AckMsg}
 use Rattle.trident_batches.specs.Batches.{Cut, batch_count}
 
 abbrev pub is_failed_commit : End → Bool

@@ -1,13 +1,13 @@
 -- What the coordinator is told of a commit, and what happens in a turn.
 use Rattle.std.specs.Prelude.{◌≡◌, Option, List, map}
 use Rattle.std.specs.Option.{option_to_list}
-use Rattle.acker_core.specs.declared.verdict.Verdict.{Verdict}
+use Rattle.tuple_account.specs.acker_core.declared.verdict.Verdict.{Verdict}
 use Rattle.commit_turns.specs.Account.{rows_in}
 use Rattle.state_parts.specs.declared.answer.CommitOutcome.{CommitOutcome}
 use Rattle.state_parts.specs.declared.answer.CommitOutcome.TheVariants.{Done, Failed}
-use Rattle.storm_values.specs.Counts.{Rose}
-use Rattle.storm_values.specs.declared.value.Root.{Root}
-use Rattle.topology_plan.specs.Topology.{Topology}
+use Rattle.tuple_account.specs.storm_values.Counts.{Rose}
+use Rattle.tuple_account.specs.storm_values.declared.value.Root.{Root}
+use Rattle.tuple_account.specs.topology_plan.Topology.{Topology}
 use Rattle.trident_batches.specs.Batches.{Cut}
 use Rattle.tuple_account.specs.Ends.{IsPart}
 use Rattle.tuple_account.specs.Histories.{History, Opening, nothing}

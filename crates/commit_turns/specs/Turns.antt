@@ -4,8 +4,8 @@
 use Rattle.std.specs.Prelude.{ℕ, zero, suc, ◌+◌, ◌-◌, ◌^◌, ◌==◌, ◌&&◌, nat_lt, ◌%◌, not, Bool, true, false, if◌then◌else◌, Option, None, Some, is_some, List, [], ◌∷◌, ◌++◌, map, filter, length}
 use Rattle.std.specs.FinMap as fin_map
 use Rattle.std.specs.List.{find, list_all, range_with_len}
-use Rattle.acker_core.specs.declared.verdict.Verdict.{Verdict}
-use Rattle.acker_core.specs.declared.verdict.Verdict.TheVariants.{Complete, Fails}
+use Rattle.tuple_account.specs.acker_core.declared.verdict.Verdict.{Verdict}
+use Rattle.tuple_account.specs.acker_core.declared.verdict.Verdict.TheVariants.{Complete, Fails}
 use Rattle.attempt_fates.specs.declared.fates.Attempt.{Attempt}
 use Rattle.attempt_fates.specs.declared.fates.End.{End}
 use Rattle.attempt_fates.specs.declared.fates.End.TheVariants as end
@@ -14,14 +14,14 @@ use Rattle.commit_turns.specs.Desks.{Desk, Progress, still, ended_at, has_txid, 
 use Rattle.replay_pending.specs.InFlight.{attempts_of}
 use Rattle.state_parts.specs.declared.answer.CommitOutcome.{CommitOutcome}
 use Rattle.state_parts.specs.declared.answer.CommitOutcome.TheVariants as outcome
-use Rattle.storm_values.specs.declared.value.Root.{Root}
-use Rattle.storm_values.specs.Lines.{first_some}
-use Rattle.topology_plan.specs.Topology.{Topology}
-use Rattle.tree_model.specs.declared.messages.AckMsg.{AckMsg}
-use Rattle.tree_model.specs.Lists.{occurrences}
+use Rattle.tuple_account.specs.storm_values.declared.value.Root.{Root}
+use Rattle.tuple_account.specs.storm_values.Lines.{first_some}
+use Rattle.tuple_account.specs.topology_plan.Topology.{Topology}
+use Rattle.tuple_account.specs.tree_model.declared.messages.AckMsg.{AckMsg}
+use Rattle.tuple_account.specs.tree_model.Lists.{occurrences}
 use Rattle.trident_batches.specs.Batches.{Cut, batch_count}
-use Rattle.tuple_tickets.specs.Edges.{times}
-use Rattle.tuple_tickets.specs.declared.edge.Edge.{Edge}
+use Rattle.tuple_account.specs.tuple_tickets.Edges.{times}
+use Rattle.tuple_account.specs.tuple_tickets.declared.edge.Edge.{Edge}
 
 -- whether each edge of a list occurs an even number of times
 abbrev pub is_closed : List AckMsg → Bool

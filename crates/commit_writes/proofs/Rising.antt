@@ -3,11 +3,11 @@ use Rattle.std.proofs.Common.{◌≡◌, ℕ, ◌≤◌, false, true≢false, Li
 use Rattle.std.proofs.lemmas.Map.Lookups.{exact_bytes}
 use Rattle.std.specs.List.{AllByRecursion}
 use Rattle.std.specs.List.Sorted.{IsStrictlySortedBy}
-use Rattle.counted_items.specs.Weights.{weigh}
-use Rattle.counted_items.proofs.Each.{each-to_map}
-use Rattle.storm_values.specs.Order.{path_cmp}
-use Rattle.tuple_tickets.specs.Paths.{is_path}
-use Rattle.tuple_tickets.proofs.Paths.{path_itself}
+use Rattle.tree_model.specs.counted_items.Weights.{weigh}
+use Rattle.tree_model.proofs.counted_items.Each.{each-to_map}
+use Rattle.tree_model.specs.storm_values.Order.{path_cmp}
+use Rattle.tree_model.specs.tuple_tickets.Paths.{is_path}
+use Rattle.tree_model.proofs.tuple_tickets.Paths.{path_itself}
 use Rattle.tree_model.specs.declared.messages.Done.{Done}
 use Rattle.commit_writes.specs.Writes.{AreInPathOrder}
 

@@ -2,11 +2,11 @@
 #![tactic(auto)]
 
 ghost use Rattle.std.specs.Prelude.{◌≡◌, List};
-ghost use Rattle.bolt_ops.specs.RowOp.{Custom};
-ghost use Rattle.storm_values.specs.declared.value.Root.{Root};
-ghost use Rattle.storm_values.specs.declared.value.Value.{Value};
-ghost use Rattle.topology_plan.specs.Topology.{Topology};
-ghost use Rattle.topology_plan.specs.Valid.{IsValid};
+ghost use Rattle.tree_model.specs.bolt_ops.RowOp.{Custom};
+ghost use Rattle.tree_model.specs.storm_values.declared.value.Root.{Root};
+ghost use Rattle.tree_model.specs.storm_values.declared.value.Value.{Value};
+ghost use Rattle.tree_model.specs.topology_plan.Topology.{Topology};
+ghost use Rattle.tree_model.specs.topology_plan.Valid.{IsValid};
 ghost use Rattle.tree_model.specs.declared.messages.AckMsg.{AckMsg};
 ghost use Rattle.tree_model.specs.declared.write.Write.{Write};
 ghost use Rattle.tree_model.specs.Lists.{AreTrueOf, IsSingle, Covers};

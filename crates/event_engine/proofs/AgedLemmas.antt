@@ -4,8 +4,8 @@ use Rattle.std.specs.Prelude.{min}
 use Rattle.std.specs.List.{AllByRecursion}
 use Rattle.std.proofs.lemmas.Bool.Decides.{nat_tests}
 use Rattle.event_worlds.specs.Worlds.{AckerSide, aged, counted_up}
-use Rattle.rotating_ledger.specs.Held.{Held, rotated}
-use Rattle.tree_model.specs.declared.messages.AckMsg.{AckMsg}
+use Rattle.event_worlds.specs.rotating_ledger.Held.{Held, rotated}
+use Rattle.event_worlds.specs.tree_model.declared.messages.AckMsg.{AckMsg}
 
 -- an entry was there for so many rotations at least, and is still within its buckets
 record HasAged (buckets n : ℕ) (h : Held (List AckMsg)) : Type 0 where

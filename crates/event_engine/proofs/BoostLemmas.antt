@@ -2,7 +2,7 @@
 use Rattle.std.proofs.Common.{◌≡◌, ◌<◌, ◌≤◌, ℕ, zero, suc, ◌+◌, true, false, true≢false, [], ◌∷◌, length, sym, refl, ap, subst, ◌∙◌, arith}
 use Rattle.std.specs.Prelude.{replicate}
 use Rattle.std.proofs.lemmas.List.{length-map, replicate-append-replicate}
-use Rattle.bolt_ops.specs.RowOp.{Custom, IsCustom}
+use Rattle.event_worlds.specs.bolt_ops.RowOp.{Custom, IsCustom}
 use Rattle.event_engine.specs.Boosts.{AckerRests, AckersBoost, Boosts, GoesUpTo, InTurn, TaskRests, TasksBoost}
 use Rattle.event_engine.specs.Engines.{Goes, Happens, IsReady, IsSeated, IsStill, cut_in, has_ended, shape, sources, topology_in}
 use Rattle.event_engine.specs.Seats.{acker_side, task_side}
@@ -11,9 +11,9 @@ use Rattle.event_engine.proofs.EngineLemmas.{acker_ready, task_ready}
 use Rattle.event_engine.proofs.GoesLemmas.{goes-acker, goes-none, goes-task, goes-then}
 use Rattle.event_engine.proofs.LoopLemmas.{goes_there, ready_here, ready_there}
 use Rattle.event_worlds.specs.Worlds.{Step, World, acker_step, is_over, of_acker, of_task, task_at, task_needs, task_step}
-use Rattle.storm_ids.specs.declared.ids.Ids.{Ghosts}
-use Rattle.topology_plan.specs.Topology.{Topology, tasks_in_all}
-use Rattle.trident_batches.specs.Batches.{Cut}
+use Rattle.event_worlds.specs.storm_ids.declared.ids.Ids.{Ghosts}
+use Rattle.event_worlds.specs.topology_plan.Topology.{Topology, tasks_in_all}
+use Rattle.event_worlds.specs.trident_batches.Batches.{Cut}
 
 -- ---- one more
 

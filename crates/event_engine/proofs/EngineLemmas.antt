@@ -3,9 +3,9 @@ use Rattle.std.proofs.Common.{◌≡◌, ◌<◌, ℕ, zero, suc, List, [], ◌�
 use Rattle.std.specs.Prelude.{slice_get}
 use Rattle.std.specs.List.{AllByRecursion}
 use Rattle.std.proofs.lemmas.List.{length-map, length-set, map-set}
-use Rattle.bolt_ops.specs.RowOp.{Custom, IsCustom}
-use Rattle.commit_order.specs.Orders.{IsOwn, collector_of, cut_of, desk_of, plan_of, wanted_memory}
-use Rattle.commit_order.specs.declared.coordinator.Coordinator.{Coordinator}
+use Rattle.event_worlds.specs.bolt_ops.RowOp.{Custom, IsCustom}
+use Rattle.event_worlds.specs.commit_order.Orders.{IsOwn, collector_of, cut_of, desk_of, plan_of, wanted_memory}
+use Rattle.event_worlds.specs.commit_order.declared.coordinator.Coordinator.{Coordinator}
 use Rattle.event_engine.specs.Engines.{Happens, IsReady, IsSeated, IsStill, IsThere, shape, sources}
 use Rattle.event_engine.specs.Seats.{Acts, ActsAt, AreSeats, HasBuckets, Puts, TakesAt, acker_side, source_in, task_side}
 use Rattle.event_engine.specs.declared.engine.Engine.{Engine}
@@ -14,12 +14,12 @@ use Rattle.event_engine.proofs.SeatLemmas.{acts_of, fits_there, get-map, get-map
 use Rattle.event_worlds.specs.Orderly.{IsOrderly, IsTaskOrderly}
 use Rattle.event_worlds.specs.Worlds.{TaskSide, acker_step, acted, gets_tuple, no_task, sent, task_at, task_needs, task_step, tick_step}
 use Rattle.event_worlds.proofs.Orderly.{orderly-acker, orderly-task, orderly-tick, task-seat}
-use Rattle.output_collector.specs.Collectors.{ids_in}
-use Rattle.storm_ids.specs.declared.ids.Ids.{Ghosts}
-use Rattle.topology_plan.specs.Topology.{Topology, tasks_in_all}
-use Rattle.tree_model.specs.declared.messages.Parcel.{Parcel}
-use Rattle.tree_model.specs.declared.messages.Tuple.{Tuple}
-use Rattle.trident_batches.specs.Batches.{Cut}
+use Rattle.event_worlds.specs.output_collector.Collectors.{ids_in}
+use Rattle.event_worlds.specs.storm_ids.declared.ids.Ids.{Ghosts}
+use Rattle.event_worlds.specs.topology_plan.Topology.{Topology, tasks_in_all}
+use Rattle.event_worlds.specs.tree_model.declared.messages.Parcel.{Parcel}
+use Rattle.event_worlds.specs.tree_model.declared.messages.Tuple.{Tuple}
+use Rattle.event_worlds.specs.trident_batches.Batches.{Cut}
 
 -- ---- lists
 

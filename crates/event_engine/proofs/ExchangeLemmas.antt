@@ -2,7 +2,7 @@
 use Rattle.std.proofs.Common.{◌≡◌, ◌≤◌, ◌<◌, ℕ, zero, suc, ◌+◌, List, [], ◌∷◌, ◌++◌, length, map, append-nil, append_assoc, get_or, set, sym, refl, ap, subst, ◌∙◌, arith}
 use Rattle.std.specs.List.{AllByRecursion, flat_map}
 use Rattle.std.proofs.lemmas.List.{length-map}
-use Rattle.acker_core.specs.declared.verdict.Verdict.{Verdict}
+use Rattle.event_worlds.specs.acker_core.declared.verdict.Verdict.{Verdict}
 use Rattle.event_engine.specs.Engines.{IsReady, IsSeated, IsStill, IsThere, cut_in, shape, sources, topology_in}
 use Rattle.event_engine.specs.Exchanges.{GivesAllParcels, GivesAllVerdicts, GivesParcelsAt, GivesVerdictAt, delivered_all, without_parcels, without_verdicts}
 use Rattle.event_engine.specs.Seats.{AreSeats, acker_side, buckets_in, source_in, task_side}
@@ -15,10 +15,10 @@ use Rattle.event_engine.proofs.SeatLemmas.{at-some, fits_there, get-map, seats_s
 use Rattle.event_worlds.specs.Orderly.{AreTasksOrderly, FitsParcel, IsOrderly}
 use Rattle.event_worlds.proofs.Orderly.{orderly-delivered}
 use Rattle.event_worlds.specs.Worlds.{AckerSide, TaskSide, delivered, no_acker}
-use Rattle.storm_ids.specs.declared.ids.Ids.{Ghosts}
-use Rattle.topology_plan.specs.Topology.{Topology}
-use Rattle.tree_model.specs.declared.messages.Parcel.{Parcel}
-use Rattle.trident_batches.specs.Batches.{Cut}
+use Rattle.event_worlds.specs.storm_ids.declared.ids.Ids.{Ghosts}
+use Rattle.event_worlds.specs.topology_plan.Topology.{Topology}
+use Rattle.event_worlds.specs.tree_model.declared.messages.Parcel.{Parcel}
+use Rattle.event_worlds.specs.trident_batches.Batches.{Cut}
 
 -- ---- the first so many of a list
 

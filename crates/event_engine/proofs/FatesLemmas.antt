@@ -9,14 +9,14 @@ use Rattle.std.proofs.lemmas.List.Elements.{filter-append}
 use Rattle.std.proofs.lemmas.List.Prefix.{front_reads}
 use Rattle.std.proofs.lemmas.List.Sorted.{IsNonDecreasingBy-take}
 use Rattle.std.proofs.Math.Seq.{take-append_seam}
-use Rattle.attempt_fates.specs.declared.fates.Attempt.{Attempt}
-use Rattle.attempt_fates.specs.Fates.{IsNoneAfterCommit, IsOfBatch, IsOnce, attempt_numbers, committed, committed_numbers, committed_txids, is_committed, record_numbers}
-use Rattle.commit_order.specs.Offices.{AddsSome}
-use Rattle.commit_turns.specs.Desks.{Desk}
-use Rattle.commit_turns.specs.Kept.{IsKept}
-use Rattle.commit_turns.specs.Turns.{last_tick}
-use Rattle.topology_plan.specs.Topology.{Topology}
-use Rattle.trident_batches.specs.Batches.{Cut}
+use Rattle.event_worlds.specs.attempt_fates.declared.fates.Attempt.{Attempt}
+use Rattle.event_worlds.specs.attempt_fates.Fates.{IsNoneAfterCommit, IsOfBatch, IsOnce, attempt_numbers, committed, committed_numbers, committed_txids, is_committed, record_numbers}
+use Rattle.event_worlds.specs.commit_order.Offices.{AddsSome}
+use Rattle.event_worlds.specs.commit_turns.Desks.{Desk}
+use Rattle.event_worlds.specs.commit_turns.Kept.{IsKept}
+use Rattle.event_worlds.specs.commit_turns.Turns.{last_tick}
+use Rattle.event_worlds.specs.topology_plan.Topology.{Topology}
+use Rattle.event_worlds.specs.trident_batches.Batches.{Cut}
 
 front_of_range : (xs ys : List ℕ) (k n : ℕ) → xs ++ ys ≡ range_with_len k n → xs ≡ range_with_len k (length xs)
 front_of_range [] ys k n is = refl

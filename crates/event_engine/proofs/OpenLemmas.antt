@@ -1,15 +1,15 @@
 -- Roots that open with the ids that are drawn for them.
 use Rattle.std.proofs.Common.{◌≡◌, ℕ, zero, suc, ◌+◌, List, [], ◌∷◌, ◌++◌, length, map, take, drop, sum, refl, sym, ap, ◌∙◌, length-append, arith}
 use Rattle.std.proofs.lemmas.List.Sums.{sum_by-cons}
-use Rattle.commit_order.specs.Orders.{OpenFrom, Stand, ids_drawn, opening_of, stand_after}
-use Rattle.commit_turns.specs.Account.{rows_in}
+use Rattle.event_worlds.specs.commit_order.Orders.{OpenFrom, Stand, ids_drawn, opening_of, stand_after}
+use Rattle.event_worlds.specs.commit_turns.Account.{rows_in}
 use Rattle.event_worlds.specs.Worlds.{first_needs, opened, stand_past}
-use Rattle.storm_values.specs.declared.value.Root.{Root}
-use Rattle.topology_plan.specs.declared.parts.Origin.TheVariants as origin
-use Rattle.topology_plan.specs.Topology.{Topology, tasks_in_all}
-use Rattle.tree_model.specs.Trees.{kids}
-use Rattle.trident_batches.specs.Batches.{Cut}
-use Rattle.tuple_account.specs.Histories.{Opening}
+use Rattle.event_worlds.specs.storm_values.declared.value.Root.{Root}
+use Rattle.event_worlds.specs.topology_plan.declared.parts.Origin.TheVariants as origin
+use Rattle.event_worlds.specs.topology_plan.Topology.{Topology, tasks_in_all}
+use Rattle.event_worlds.specs.tree_model.Trees.{kids}
+use Rattle.event_worlds.specs.trident_batches.Batches.{Cut}
+use Rattle.event_worlds.specs.tuple_account.Histories.{Opening}
 
 take_front : {X : Type 0} (n : ℕ) (xs ys : List X) → length xs ≡ n → take n (xs ++ ys) ≡ xs
 take_front zero [] ys len = refl

@@ -3,24 +3,24 @@ use Rattle.std.proofs.Common.{◌≡◌, ◌<◌, ℕ, zero, suc, ◌+◌, List,
 use Rattle.std.specs.Prelude.{slice_get}
 use Rattle.std.specs.List.{AllByRecursion}
 use Rattle.std.proofs.lemmas.List.{map-set}
-use Rattle.acker_core.specs.declared.verdict.Verdict.{Verdict}
-use Rattle.bolt_ops.specs.RowOp.{Custom}
-use Rattle.bolt_task.specs.Executing.{IsFor, IsSameTask, component_at, number_of, topology_at}
-use Rattle.counted_items.proofs.Each.{each-map, each-to_map, each-weaker}
+use Rattle.event_worlds.specs.acker_core.declared.verdict.Verdict.{Verdict}
+use Rattle.event_worlds.specs.bolt_ops.RowOp.{Custom}
+use Rattle.event_worlds.specs.bolt_task.Executing.{IsFor, IsSameTask, component_at, number_of, topology_at}
+use Rattle.event_worlds.proofs.counted_items.Each.{each-map, each-to_map, each-weaker}
 use Rattle.event_engine.specs.Engines.{IsThere}
 use Rattle.event_engine.specs.Seats.{Acts, ActsAt, AllFrom, AnswersAt, AreSeats, HasBuckets, IsSeatOf, PutsMessage, Takes, Works, acker_side, buckets_in, source_in, task_side}
 use Rattle.event_engine.specs.declared.acker.AckerSeat.{AckerSeat}
 use Rattle.event_engine.specs.declared.task.TaskSeat.{TaskSeat}
 use Rattle.event_worlds.specs.Orderly.{FitsParcel, IsForTask, IsTaskOrderly}
 use Rattle.event_worlds.specs.Worlds.{AckerSide, TaskSide, acted_past, answered, gets_message, needed_past, no_acker}
-use Rattle.output_collector.specs.Draws.{Draws}
-use Rattle.storm_ids.specs.declared.ids.Ids.{Ghosts}
-use Rattle.storm_values.specs.Rows.{IsRow}
-use Rattle.topology_plan.specs.Topology.{Topology, tasks_in_all}
-use Rattle.topology_plan.specs.Wired.{width_to}
-use Rattle.tree_model.specs.declared.messages.AckMsg.{AckMsg}
-use Rattle.tree_model.specs.declared.messages.Parcel.{Parcel}
-use Rattle.tree_model.specs.declared.messages.Parcel.TheVariants.{ToTask, ToAcker}
+use Rattle.event_worlds.specs.output_collector.Draws.{Draws}
+use Rattle.event_worlds.specs.storm_ids.declared.ids.Ids.{Ghosts}
+use Rattle.event_worlds.specs.storm_values.Rows.{IsRow}
+use Rattle.event_worlds.specs.topology_plan.Topology.{Topology, tasks_in_all}
+use Rattle.event_worlds.specs.topology_plan.Wired.{width_to}
+use Rattle.event_worlds.specs.tree_model.declared.messages.AckMsg.{AckMsg}
+use Rattle.event_worlds.specs.tree_model.declared.messages.Parcel.{Parcel}
+use Rattle.event_worlds.specs.tree_model.declared.messages.Parcel.TheVariants.{ToTask, ToAcker}
 
 pub draws-none : {S : Type 0} (tells : S → (ℕ → ℕ) → ℕ → Type 0) (d : S) → Draws tells d [] d
 draws-none tells d = record {

@@ -4,12 +4,12 @@ use Rattle.std.specs.Prelude.{slice_get, replicate}
 use Rattle.std.specs.List.{AllByRecursion, range_with_len}
 use Rattle.std.proofs.lemmas.Bool.Decides.{nat_tests}
 use Rattle.std.proofs.lemmas.List.FromFn.{fill_by_all}
-use Rattle.bolt_task.specs.Executing.{collector_in, component_at, number_of, topology_at}
-use Rattle.commit_order.specs.Offices.{Office}
-use Rattle.commit_order.specs.Orders.{IsOwn, Stand, collector_of, desk_of, office_of, stand_of, wanted_memory}
-use Rattle.commit_turns.specs.Desks.{Desk, first_desk}
-use Rattle.commit_turns.specs.Kept.{IsKept}
-use Rattle.commit_turns.specs.Turns.{last_tick}
+use Rattle.event_worlds.specs.bolt_task.Executing.{collector_in, component_at, number_of, topology_at}
+use Rattle.event_worlds.specs.commit_order.Offices.{Office}
+use Rattle.event_worlds.specs.commit_order.Orders.{IsOwn, Stand, collector_of, desk_of, office_of, stand_of, wanted_memory}
+use Rattle.event_worlds.specs.commit_turns.Desks.{Desk, first_desk}
+use Rattle.event_worlds.specs.commit_turns.Kept.{IsKept}
+use Rattle.event_worlds.specs.commit_turns.Turns.{last_tick}
 use Rattle.event_engine.specs.Engines.{Gives, IsReady, shape}
 use Rattle.event_engine.specs.Seats.{AllFrom, HasBuckets, IsSeatOf, acker_side, source_in, task_side}
 use Rattle.event_engine.specs.Starts.{AreFirstSeats, IsFirstSeat, IsFirstSource, IsStarted}
@@ -20,15 +20,15 @@ use Rattle.event_worlds.specs.Accounted.{IsInput}
 use Rattle.event_worlds.specs.Orderly.{IsOrderly}
 use Rattle.event_worlds.proofs.Orderly.{orderly-first}
 use Rattle.event_worlds.specs.Worlds.{first_counts, first_stand, first_task, first_world, no_acker}
-use Rattle.groupings.specs.Routing.{lanes_of}
-use Rattle.output_collector.specs.declared.collector.Collector.{Collector}
-use Rattle.output_collector.specs.Collectors as collector
-use Rattle.output_collector.specs.Collectors.{ids_in}
-use Rattle.storm_ids.specs.declared.ids.Ids.{Ghosts}
-use Rattle.topology_plan.specs.declared.parts.Origin.{Origin}
-use Rattle.topology_plan.specs.declared.parts.Origin.TheVariants as origin
-use Rattle.topology_plan.specs.Topology.{Topology, component_of, subs_of, tasks_in_all}
-use Rattle.trident_batches.specs.Batches.{Cut}
+use Rattle.event_worlds.specs.groupings.Routing.{lanes_of}
+use Rattle.event_worlds.specs.output_collector.declared.collector.Collector.{Collector}
+use Rattle.event_worlds.specs.output_collector.Collectors as collector
+use Rattle.event_worlds.specs.output_collector.Collectors.{ids_in}
+use Rattle.event_worlds.specs.storm_ids.declared.ids.Ids.{Ghosts}
+use Rattle.event_worlds.specs.topology_plan.declared.parts.Origin.{Origin}
+use Rattle.event_worlds.specs.topology_plan.declared.parts.Origin.TheVariants as origin
+use Rattle.event_worlds.specs.topology_plan.Topology.{Topology, component_of, subs_of, tasks_in_all}
+use Rattle.event_worlds.specs.trident_batches.Batches.{Cut}
 
 pub from_push : {X : Type 0} (P : ℕ → X → Type 0) (k : ℕ) (xs : List X) (x : X) → AllFrom P k xs → P (k + length xs) x → AllFrom P k (xs ++ x ∷ [])
 from_push P k [] x all here = let e : k + 0 ≡ k = omega arith in (subst (λ (n : ℕ). P n x) e here, tt)

@@ -4,20 +4,20 @@ use Rattle.std.specs.Prelude.{Err, Result, is_some, slice_get}
 use Rattle.std.specs.List.{AllByRecursion, flat_map}
 use Rattle.std.specs.Option.{option_to_list}
 use Rattle.std.proofs.lemmas.List.{length-map, set_at}
-use Rattle.acker_core.specs.declared.verdict.Verdict.{Verdict}
-use Rattle.attempt_fates.specs.Fates.{IsOnce}
-use Rattle.attempt_fates.specs.declared.fates.Attempt.{Attempt}
-use Rattle.bolt_ops.specs.RowOp.{Custom}
-use Rattle.commit_order.specs.Offices.{IsCommitOf, Office}
-use Rattle.commit_order.specs.Orders.{Begins, IsOwn, OpenFrom, RunsShort, StaysOwn, StopsAt, TurnsTo, collector_of, cut_of, desk_of, ids_drawn, office_of, plan_of, stand_of, stop_of, wanted_memory}
-use Rattle.commit_order.specs.declared.coordinator.Coordinator.{Coordinator}
-use Rattle.commit_order.specs.declared.coordinator.Orders.{Orders}
-use Rattle.commit_order.specs.declared.stop.Stop.{Stop}
-use Rattle.commit_order.specs.declared.stop.Stop.TheVariants as stop
-use Rattle.commit_turns.specs.Kept.{IsKept}
-use Rattle.commit_turns.specs.declared.wait.Wait.{Wait}
-use Rattle.commit_turns.specs.Desks.{Desk, Progress}
-use Rattle.commit_turns.specs.Turns.{Turned, decided, is_finished, last_tick, next_to_commit, turned}
+use Rattle.event_worlds.specs.acker_core.declared.verdict.Verdict.{Verdict}
+use Rattle.event_worlds.specs.attempt_fates.Fates.{IsOnce}
+use Rattle.event_worlds.specs.attempt_fates.declared.fates.Attempt.{Attempt}
+use Rattle.event_worlds.specs.bolt_ops.RowOp.{Custom}
+use Rattle.event_worlds.specs.commit_order.Offices.{IsCommitOf, Office}
+use Rattle.event_worlds.specs.commit_order.Orders.{Begins, IsOwn, OpenFrom, RunsShort, StaysOwn, StopsAt, TurnsTo, collector_of, cut_of, desk_of, ids_drawn, office_of, plan_of, stand_of, stop_of, wanted_memory}
+use Rattle.event_worlds.specs.commit_order.declared.coordinator.Coordinator.{Coordinator}
+use Rattle.event_worlds.specs.commit_order.declared.coordinator.Orders.{Orders}
+use Rattle.event_worlds.specs.commit_order.declared.stop.Stop.{Stop}
+use Rattle.event_worlds.specs.commit_order.declared.stop.Stop.TheVariants as stop
+use Rattle.event_worlds.specs.commit_turns.Kept.{IsKept}
+use Rattle.event_worlds.specs.commit_turns.declared.wait.Wait.{Wait}
+use Rattle.event_worlds.specs.commit_turns.Desks.{Desk, Progress}
+use Rattle.event_worlds.specs.commit_turns.Turns.{Turned, decided, is_finished, last_tick, next_to_commit, turned}
 use Rattle.event_engine.specs.Engines.{Answers, DrawsAt, Goes, Happens, HasOrdered, IsIdle, IsReady, IsSeated, IsStill, TakesTurn, cut_in, has_ended, shape, sources, topology_in}
 use Rattle.event_engine.specs.Seats.{AreSeats, HasBuckets, acker_side, source_in, task_side}
 use Rattle.event_engine.specs.declared.engine.Engine.{Engine}
@@ -30,18 +30,18 @@ use Rattle.event_engine.proofs.TurnLemmas.{decided_out, decided_tells, decided_t
 use Rattle.event_worlds.specs.Orderly.{IsOrderly}
 use Rattle.event_worlds.proofs.Orderly.{orderly-outcome, orderly-turn}
 use Rattle.event_worlds.specs.Worlds.{World, delivered, is_over, of_outcome, opened, outcome_step, outcomes_of, stand_past, turn_needs, turn_needs_past, turn_past, turn_step, turned_in, with_progress, with_turn, first_needs}
-use Rattle.output_collector.specs.declared.collector.Collector.{Collector}
-use Rattle.output_collector.specs.Collectors.{ids_in, outlet_of, source_of}
-use Rattle.output_collector.specs.Draws.{Draws}
-use Rattle.state_parts.specs.declared.answer.Commit.{Commit}
-use Rattle.state_parts.specs.declared.answer.CommitOutcome.{CommitOutcome}
-use Rattle.storm_ids.specs.declared.ids.Ids.{Ghosts}
-use Rattle.storm_values.specs.declared.value.Root.{Root}
-use Rattle.topology_plan.specs.declared.parts.Origin.TheVariants as origin
-use Rattle.topology_plan.specs.Topology.{Topology, tasks_in_all}
-use Rattle.tree_model.specs.declared.messages.Parcel.{Parcel}
-use Rattle.trident_batches.specs.Batches.{Cut, batch_count}
-use Rattle.tuple_account.specs.Histories.{Opening, opening_parcels}
+use Rattle.event_worlds.specs.output_collector.declared.collector.Collector.{Collector}
+use Rattle.event_worlds.specs.output_collector.Collectors.{ids_in, outlet_of, source_of}
+use Rattle.event_worlds.specs.output_collector.Draws.{Draws}
+use Rattle.event_worlds.specs.state_parts.declared.answer.Commit.{Commit}
+use Rattle.event_worlds.specs.state_parts.declared.answer.CommitOutcome.{CommitOutcome}
+use Rattle.event_worlds.specs.storm_ids.declared.ids.Ids.{Ghosts}
+use Rattle.event_worlds.specs.storm_values.declared.value.Root.{Root}
+use Rattle.event_worlds.specs.topology_plan.declared.parts.Origin.TheVariants as origin
+use Rattle.event_worlds.specs.topology_plan.Topology.{Topology, tasks_in_all}
+use Rattle.event_worlds.specs.tree_model.declared.messages.Parcel.{Parcel}
+use Rattle.event_worlds.specs.trident_batches.Batches.{Cut, batch_count}
+use Rattle.event_worlds.specs.tuple_account.Histories.{Opening, opening_parcels}
 
 -- the verdict that was taken is the front one
 pub front_heard : {X : Type 0} (found : Option X) (old new : List X) → old ≡ option_to_list found ++ new → new ≡ drop 1 old → slice_get old 0 ≡ found

@@ -1,28 +1,28 @@
 -- An engine as a world, and what its events do. This project's own.
 use Rattle.std.specs.Prelude.{◌≡◌, ◌<◌, ◌≤◌, ◌+◌, ◌-◌, ◌^◌, ℕ, Bool, true, false, Option, None, Some, List, [], ◌∷◌, ◌++◌, map, length, slice_get, slice_set}
 use Rattle.std.specs.List.{AllByRecursion, range_with_len}
-use Rattle.acker_core.specs.declared.verdict.Verdict.{Verdict}
-use Rattle.attempt_fates.specs.declared.fates.Attempt.{Attempt}
-use Rattle.bolt_ops.specs.RowOp.{Custom}
-use Rattle.commit_order.specs.Offices.{AddsSome, IsCommitOf}
-use Rattle.commit_order.specs.Orders.{IsOwn, collector_of, cut_of, desk_of, plan_of, stand_of, wanted_memory}
-use Rattle.commit_turns.specs.declared.wait.Wait.{Wait}
-use Rattle.commit_turns.specs.Kept.{IsKept}
-use Rattle.commit_turns.specs.Turns.{decided, next_to_commit, turned}
+use Rattle.event_worlds.specs.acker_core.declared.verdict.Verdict.{Verdict}
+use Rattle.event_worlds.specs.attempt_fates.declared.fates.Attempt.{Attempt}
+use Rattle.event_worlds.specs.bolt_ops.RowOp.{Custom}
+use Rattle.event_worlds.specs.commit_order.Offices.{AddsSome, IsCommitOf}
+use Rattle.event_worlds.specs.commit_order.Orders.{IsOwn, collector_of, cut_of, desk_of, plan_of, stand_of, wanted_memory}
+use Rattle.event_worlds.specs.commit_turns.declared.wait.Wait.{Wait}
+use Rattle.event_worlds.specs.commit_turns.Kept.{IsKept}
+use Rattle.event_worlds.specs.commit_turns.Turns.{decided, next_to_commit, turned}
 use Rattle.event_engine.specs.Seats.{AreSeats, HasBuckets, acker_side, source_in, task_side}
 use Rattle.event_engine.specs.declared.engine.Engine.{Engine}
 use Rattle.event_worlds.specs.Accounted.{IsInput}
 use Rattle.event_worlds.specs.Orderly.{IsOrderly}
 use Rattle.event_worlds.specs.Worlds.{Step, World, is_over, outcomes_of, run, turn_needs, turn_step}
-use Rattle.output_collector.specs.Collectors.{ids_in}
-use Rattle.output_collector.specs.Draws.{Draws}
-use Rattle.state_parts.specs.declared.answer.Commit.{Commit}
-use Rattle.state_parts.specs.declared.answer.CommitOutcome.{CommitOutcome}
-use Rattle.storm_ids.specs.declared.ids.Ids.{Ghosts}
-use Rattle.topology_plan.specs.Topology.{Topology, tasks_in_all}
-use Rattle.tree_model.specs.declared.messages.Parcel.{Parcel}
-use Rattle.tree_model.specs.declared.messages.Parcel.TheVariants.{ToTask, ToAcker}
-use Rattle.trident_batches.specs.Batches.{Cut}
+use Rattle.event_worlds.specs.output_collector.Collectors.{ids_in}
+use Rattle.event_worlds.specs.output_collector.Draws.{Draws}
+use Rattle.event_worlds.specs.state_parts.declared.answer.Commit.{Commit}
+use Rattle.event_worlds.specs.state_parts.declared.answer.CommitOutcome.{CommitOutcome}
+use Rattle.event_worlds.specs.storm_ids.declared.ids.Ids.{Ghosts}
+use Rattle.event_worlds.specs.topology_plan.Topology.{Topology, tasks_in_all}
+use Rattle.event_worlds.specs.tree_model.declared.messages.Parcel.{Parcel}
+use Rattle.event_worlds.specs.tree_model.declared.messages.Parcel.TheVariants.{ToTask, ToAcker}
+use Rattle.event_worlds.specs.trident_batches.Batches.{Cut}
 
 -- source n gave these ids, and the others none
 pub record DrawsAt {S : Type 0} (tells : S → (ℕ → ℕ) → ℕ → Type 0) (n : ℕ) (ids : List ℕ)

@@ -1,17 +1,17 @@
 -- What comes into boxes and goes out of outboxes between events. This project's own.
 use Rattle.std.specs.Prelude.{◌≡◌, ℕ, List, [], ◌∷◌, ◌++◌, map, Option, None, Some, slice_get, slice_index_or, slice_set}
 use Rattle.std.specs.List.{flat_map}
-use Rattle.acker_core.specs.declared.verdict.Verdict.{Verdict}
+use Rattle.event_worlds.specs.acker_core.declared.verdict.Verdict.{Verdict}
 use Rattle.event_engine.specs.declared.acker.AckerSeat.{AckerSeat}
 use Rattle.event_engine.specs.declared.engine.Engine.{Engine}
 use Rattle.event_engine.specs.declared.task.TaskSeat.{TaskSeat}
 use Rattle.event_engine.specs.Engines.{shape, sources, topology_in}
 use Rattle.event_engine.specs.Seats.{AreSeats, acker_side, buckets_in, source_in, task_side}
 use Rattle.event_worlds.specs.Worlds.{AckerSide, TaskSide, World, delivered, no_acker, task_at}
-use Rattle.storm_ids.specs.declared.ids.Ids.{Ghosts}
-use Rattle.topology_plan.specs.Topology.{Topology}
-use Rattle.tree_model.specs.declared.messages.Parcel.{Parcel}
-use Rattle.tree_model.specs.declared.messages.Tuple.{Tuple}
+use Rattle.event_worlds.specs.storm_ids.declared.ids.Ids.{Ghosts}
+use Rattle.event_worlds.specs.topology_plan.Topology.{Topology}
+use Rattle.event_worlds.specs.tree_model.declared.messages.Parcel.{Parcel}
+use Rattle.event_worlds.specs.tree_model.declared.messages.Tuple.{Tuple}
 
 -- parcels come to the boxes that they name, the first first
 abbrev pub delivered_all : Topology → List Parcel → World → World

@@ -1,18 +1,18 @@
 -- What leaves an engine and comes back to it, beside its events. This project's own.
 use Rattle.std.specs.Prelude.{◌≡◌, ◌≤◌, ◌-◌, ◌^◌, false, List, [], ◌∷◌, ◌++◌, map}
-use Rattle.acker_core.specs.declared.verdict.Verdict.{Verdict}
-use Rattle.commit_order.specs.Orders.{IsOwn, desk_of, wanted_memory}
-use Rattle.commit_turns.specs.Kept.{IsKept}
+use Rattle.event_worlds.specs.acker_core.declared.verdict.Verdict.{Verdict}
+use Rattle.event_worlds.specs.commit_order.Orders.{IsOwn, desk_of, wanted_memory}
+use Rattle.event_worlds.specs.commit_turns.Kept.{IsKept}
 use Rattle.event_engine.specs.declared.acker.AckerSeat.{AckerSeat}
 use Rattle.event_engine.specs.declared.engine.Engine.{Engine}
 use Rattle.event_engine.specs.declared.task.TaskSeat.{TaskSeat}
 use Rattle.event_engine.specs.Engines.{cut_in, shape, sources, topology_in}
 use Rattle.event_engine.specs.Seats.{acker_side, task_side}
 use Rattle.event_worlds.specs.Accounted.{IsInput}
-use Rattle.storm_ids.specs.declared.ids.Ids.{Ghosts}
-use Rattle.topology_plan.specs.Topology.{Topology}
-use Rattle.tree_model.specs.declared.messages.Parcel.{Parcel}
-use Rattle.trident_batches.specs.Batches.{Cut}
+use Rattle.event_worlds.specs.storm_ids.declared.ids.Ids.{Ghosts}
+use Rattle.event_worlds.specs.topology_plan.Topology.{Topology}
+use Rattle.event_worlds.specs.tree_model.declared.messages.Parcel.{Parcel}
+use Rattle.event_worlds.specs.trident_batches.Batches.{Cut}
 
 module _ {I : Type 0} {g : Ghosts I} where
   -- one more verdict waits

@@ -2,20 +2,20 @@
 use Rattle.std.specs.Prelude.{◌≡◌, ◌<◌, ℕ, suc, List, [], ◌∷◌, ◌++◌, length, map, Option, Some, slice_get, slice_index_or, slice_set}
 use Rattle.std.specs.List.{AllByRecursion}
 use Rattle.std.specs.Option.{option_to_list}
-use Rattle.acker_core.specs.declared.verdict.Verdict.{Verdict}
-use Rattle.bolt_ops.specs.RowOp.{Custom}
-use Rattle.bolt_task.specs.Executing.{IsFor, IsSameTask, collector_in, component_at, number_of, topology_at}
-use Rattle.commit_order.specs.Orders.{stand_of}
+use Rattle.event_worlds.specs.acker_core.declared.verdict.Verdict.{Verdict}
+use Rattle.event_worlds.specs.bolt_ops.RowOp.{Custom}
+use Rattle.event_worlds.specs.bolt_task.Executing.{IsFor, IsSameTask, collector_in, component_at, number_of, topology_at}
+use Rattle.event_worlds.specs.commit_order.Orders.{stand_of}
 use Rattle.event_engine.specs.declared.acker.AckerSeat.{AckerSeat}
 use Rattle.event_engine.specs.declared.task.TaskSeat.{TaskSeat}
 use Rattle.event_worlds.specs.Worlds.{AckerSide, TaskSide, acted, answered, executed, gets_message, needed_by, no_acker, task_needs}
-use Rattle.output_collector.specs.Collectors.{ids_in}
-use Rattle.output_collector.specs.Draws.{Draws}
-use Rattle.storm_ids.specs.declared.ids.Ids.{Ghosts}
-use Rattle.topology_plan.specs.Topology.{Topology, component_of}
-use Rattle.tree_model.specs.declared.messages.AckMsg.{AckMsg}
-use Rattle.tree_model.specs.declared.messages.Parcel.{Parcel}
-use Rattle.tree_model.specs.declared.messages.Tuple.{Tuple}
+use Rattle.event_worlds.specs.output_collector.Collectors.{ids_in}
+use Rattle.event_worlds.specs.output_collector.Draws.{Draws}
+use Rattle.event_worlds.specs.storm_ids.declared.ids.Ids.{Ghosts}
+use Rattle.event_worlds.specs.topology_plan.Topology.{Topology, component_of}
+use Rattle.event_worlds.specs.tree_model.declared.messages.AckMsg.{AckMsg}
+use Rattle.event_worlds.specs.tree_model.declared.messages.Parcel.{Parcel}
+use Rattle.event_worlds.specs.tree_model.declared.messages.Tuple.{Tuple}
 
 -- each item has a property of its number, the first that of this number
 abbrev pub AllFrom : {X : Type 0} → (ℕ → X → Type 0) → ℕ → List X → Type 0

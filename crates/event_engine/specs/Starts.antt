@@ -1,17 +1,17 @@
 -- How an engine begins. This project's own.
 use Rattle.std.specs.Prelude.{◌≡◌, ℕ, List, [], length, map}
 use Rattle.std.specs.List.{range_with_len}
-use Rattle.commit_order.specs.Orders.{Stand}
+use Rattle.event_worlds.specs.commit_order.Orders.{Stand}
 use Rattle.event_engine.specs.Engines.{Gives, HaveTold, shape}
 use Rattle.event_engine.specs.Seats.{AllFrom, IsSeatOf, source_in, task_side}
 use Rattle.event_engine.specs.declared.engine.Engine.{Engine}
 use Rattle.event_engine.specs.declared.task.TaskSeat.{TaskSeat}
 use Rattle.event_worlds.specs.Worlds.{first_counts, first_world}
-use Rattle.groupings.specs.Routing.{lanes_of}
-use Rattle.storm_ids.specs.declared.ids.Ids.{Ghosts}
-use Rattle.topology_plan.specs.declared.parts.Origin.{Origin}
-use Rattle.topology_plan.specs.declared.parts.Origin.TheVariants as origin
-use Rattle.topology_plan.specs.Topology.{Topology, component_of, subs_of}
+use Rattle.event_worlds.specs.groupings.Routing.{lanes_of}
+use Rattle.event_worlds.specs.storm_ids.declared.ids.Ids.{Ghosts}
+use Rattle.event_worlds.specs.topology_plan.declared.parts.Origin.{Origin}
+use Rattle.event_worlds.specs.topology_plan.declared.parts.Origin.TheVariants as origin
+use Rattle.event_worlds.specs.topology_plan.Topology.{Topology, component_of, subs_of}
 
 -- where the rows of a source go, with these start words
 abbrev pub started_stand : Topology → Origin → List ℕ → Stand

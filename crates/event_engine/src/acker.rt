@@ -4,11 +4,11 @@ ghost use Rattle.event_engine.specs.Exchanges.{GivesAllVerdicts, GivesVerdictAt,
 ghost use Rattle.event_engine.specs.Seats.{AnswersAt, HasBuckets, PutsMessage, acker_side, buckets_in};
 ghost use Rattle.event_worlds.specs.Worlds.{answered, counted_up, gets_message, meets, no_acker};
 
-use acker_core::{Acker, Verdict};
+use event_worlds::acker_core::{Acker, Verdict};
+use event_worlds::storm_values::Memory;
+use event_worlds::tree_model::AckMsg;
 use std::alloc::Global;
 use std::collections::VecDeque;
-use storm_values::Memory;
-use tree_model::AckMsg;
 
 /// An acker with its box, the verdict that it has still to hand over, and the number of the tick up
 /// to which its entries have aged.

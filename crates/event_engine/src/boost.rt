@@ -1,16 +1,16 @@
 //! Many events of a task or of an acker in one call.
 ghost use Rattle.std.specs.Prelude.{◌≡◌, ◌<◌, ◌-◌, ◌^◌, true, false, length, OnOk, OnErr};
-ghost use Rattle.attempt_fates.specs.Fates.{IsOnce};
-ghost use Rattle.bolt_ops.specs.RowOp.{Custom};
+ghost use Rattle.event_worlds.specs.attempt_fates.Fates.{IsOnce};
+ghost use Rattle.event_worlds.specs.bolt_ops.RowOp.{Custom};
 ghost use Rattle.event_engine.specs.Boosts.{AckerRests, AckersBoost, Boosts, GoesUpTo, TaskRests, TasksBoost};
 ghost use Rattle.event_engine.specs.Engines.{IsReady, IsStill, cut_in, has_ended, shape, topology_in};
 ghost use Rattle.event_worlds.specs.Worlds.{of_acker, of_task};
-ghost use Rattle.topology_plan.specs.Topology.{tasks_in_all};
+ghost use Rattle.event_worlds.specs.topology_plan.Topology.{tasks_in_all};
 
 use crate::engine::Engine;
-use bolt_ops::RowOp;
-use storm_ids::Ids;
-use storm_values::Memory;
+use event_worlds::bolt_ops::RowOp;
+use event_worlds::storm_ids::Ids;
+use event_worlds::storm_values::Memory;
 
 impl<'p, I: Ids> Engine<'p, I> {
     /// Each task has its events, and then each acker: so many at most, and fewer only where nothing

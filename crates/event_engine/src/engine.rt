@@ -1,29 +1,29 @@
 ghost use Rattle.std.specs.Prelude.{◌≡◌, ◌≢◌, ◌<◌, ◌≤◌, ◌-◌, ◌∷◌, ◌++◌, ◌^◌, [], ℕ, false, None, length, map, IfOk, OnOk, OnErr};
 ghost use Rattle.std.specs.List.{range_with_len};
-ghost use Rattle.attempt_fates.specs.Fates.{IsOnce};
-ghost use Rattle.bolt_ops.specs.RowOp.{Custom};
-ghost use Rattle.commit_order.specs.Orders.{desk_of};
-ghost use Rattle.commit_order.specs.declared.stop.Stop.TheVariants as stop;
-ghost use Rattle.commit_turns.specs.Turns.{is_finished};
+ghost use Rattle.event_worlds.specs.attempt_fates.Fates.{IsOnce};
+ghost use Rattle.event_worlds.specs.bolt_ops.RowOp.{Custom};
+ghost use Rattle.event_worlds.specs.commit_order.Orders.{desk_of};
+ghost use Rattle.event_worlds.specs.commit_order.declared.stop.Stop.TheVariants as stop;
+ghost use Rattle.event_worlds.specs.commit_turns.Turns.{is_finished};
 ghost use Rattle.event_engine.specs.Engines.{Answers, DecidesShort, Goes, Happens, IsIdle, IsReady, IsSeated, IsStill, IsThere, MayDecide, TakesTurn, TurnsShort, cut_in, has_ended, shape, sources, topology_in};
 ghost use Rattle.event_worlds.specs.Worlds.{acker_step, delivered, of_acker, of_outcome, of_task, of_tick, of_turn, outcomes_of, task_at, task_needs, task_step, tick_step};
-ghost use Rattle.topology_plan.specs.Topology.{Topology, tasks_in_all};
-ghost use Rattle.trident_batches.specs.Batches.{Cut};
+ghost use Rattle.event_worlds.specs.topology_plan.Topology.{Topology, tasks_in_all};
+ghost use Rattle.event_worlds.specs.trident_batches.Batches.{Cut};
 
 use crate::acker::{AckerSeat, answer_at, put_message};
 use crate::task::{TaskSeat, execute_at, hand_over_at, has_parcel_at, put_tuple};
-use acker_core::Verdict;
-use attempt_fates::Fates;
-use bolt_ops::RowOp;
-use commit_order::{Coordinator, Orders, Stop};
-use commit_turns::{desks_are_kept, orders_are_decided};
-use state_parts::{Commit, CommitOutcome};
+use event_worlds::acker_core::Verdict;
+use event_worlds::attempt_fates::Fates;
+use event_worlds::bolt_ops::RowOp;
+use event_worlds::commit_order::{Coordinator, Orders, Stop};
+use event_worlds::commit_turns::{desks_are_kept, orders_are_decided};
+use event_worlds::state_parts::{Commit, CommitOutcome};
+use event_worlds::storm_ids::Ids;
+use event_worlds::storm_values::Memory;
+use event_worlds::topology_plan::Plan;
+use event_worlds::tree_model::{AckMsg, Parcel};
 use std::alloc::AllocError;
 use std::collections::VecDeque;
-use storm_ids::Ids;
-use storm_values::Memory;
-use topology_plan::Plan;
-use tree_model::{AckMsg, Parcel};
 
 /// Tasks, ackers and the coordinator, with their boxes. Each event is a step of the world; when all
 /// is over nothing changes.

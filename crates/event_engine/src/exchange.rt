@@ -6,16 +6,16 @@ ghost use Rattle.std.specs.Option.{option_copied};
 ghost use Rattle.event_engine.specs.Engines.{IsReady, IsStill, cut_in, shape, topology_in};
 ghost use Rattle.event_engine.specs.Exchanges.{GivesParcels, GivesVerdicts, Receives, next_tuple_at};
 ghost use Rattle.event_worlds.specs.Orderly.{FitsParcel};
-ghost use Rattle.topology_plan.specs.Topology.{tasks_in_all};
+ghost use Rattle.event_worlds.specs.topology_plan.Topology.{tasks_in_all};
 
 use crate::acker::give_all_verdicts;
 use crate::engine::Engine;
 use crate::task::give_all_parcels;
-use acker_core::Verdict;
+use event_worlds::acker_core::Verdict;
+use event_worlds::storm_ids::Ids;
+use event_worlds::storm_values::Memory;
+use event_worlds::tree_model::{Parcel, Parcels, Tuple};
 use std::collections::VecDeque;
-use storm_ids::Ids;
-use storm_values::Memory;
-use tree_model::{Parcel, Parcels, Tuple};
 
 impl<'p, I: Ids> Engine<'p, I> {
     /// Each parcel comes to the back of the box that it names, in their order.

@@ -10,12 +10,12 @@ ghost use Rattle.event_worlds.specs.Orderly.{IsOrderly};
 use crate::acker::AckerSeat;
 use crate::engine::Engine;
 use crate::task::TaskSeat;
-use acker_core::Verdict;
+use event_worlds::acker_core::Verdict;
+use event_worlds::storm_ids::Ids;
+use event_worlds::storm_values::Memory;
+use event_worlds::tree_model::Parcel;
 use std::collections::VecDeque;
 use std::mem;
-use storm_ids::Ids;
-use storm_values::Memory;
-use tree_model::Parcel;
 
 impl<'p, I: Ids> Engine<'p, I> {
     /// A verdict comes to the back of the coordinator's box.

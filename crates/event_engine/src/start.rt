@@ -6,21 +6,21 @@ ghost use Rattle.event_engine.specs.Seats.{HasBuckets, acker_side};
 ghost use Rattle.event_engine.specs.Starts.{AreFirstSeats, IsStarted};
 ghost use Rattle.event_worlds.specs.Accounted.{IsInput};
 ghost use Rattle.event_worlds.specs.Worlds.{no_acker};
-ghost use Rattle.topology_plan.specs.Topology.{tasks_in_all};
+ghost use Rattle.event_worlds.specs.topology_plan.Topology.{tasks_in_all};
 
 use crate::acker::AckerSeat;
 use crate::engine::Engine;
 use crate::task::TaskSeat;
-use attempt_fates::Fates;
-use bolt_task::BoltTask;
-use commit_order::Coordinator;
-use commit_turns::desks_are_kept;
+use event_worlds::attempt_fates::Fates;
+use event_worlds::bolt_task::BoltTask;
+use event_worlds::commit_order::Coordinator;
+use event_worlds::commit_turns::desks_are_kept;
+use event_worlds::storm_ids::{IdMaker, Ids};
+use event_worlds::storm_values::Memory;
+use event_worlds::topology_plan::Plan;
+use event_worlds::trident_batches::Batches;
 use std::alloc::Global;
 use std::collections::VecDeque;
-use storm_ids::{IdMaker, Ids};
-use storm_values::Memory;
-use topology_plan::Plan;
-use trident_batches::Batches;
 
 // The seats of all tasks, each with a source of ids of its own number.
 fn start_tasks<'p, N: IdMaker>(

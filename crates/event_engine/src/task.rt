@@ -1,18 +1,18 @@
 ghost use Rattle.std.specs.Prelude.{◌≡◌, ◌<◌, ◌++◌, true, false, None, Some, [], length, IfOk, OnOk};
 ghost use Rattle.std.specs.Option.{option_copied};
-ghost use Rattle.bolt_ops.specs.RowOp.{Custom};
-ghost use Rattle.bolt_task.specs.Executing.{number_of, topology_at};
+ghost use Rattle.event_worlds.specs.bolt_ops.RowOp.{Custom};
+ghost use Rattle.event_worlds.specs.bolt_task.Executing.{number_of, topology_at};
 ghost use Rattle.event_engine.specs.Exchanges.{GivesAllParcels, GivesParcelsAt, next_past};
 ghost use Rattle.event_engine.specs.Seats.{Acts, ActsAt, HandedOverAt, HasParcelAt, Puts, Takes, TakesAt, Works};
 
-use bolt_ops::RowOp;
-use bolt_task::BoltTask;
+use event_worlds::bolt_ops::RowOp;
+use event_worlds::bolt_task::BoltTask;
+use event_worlds::storm_ids::Ids;
+use event_worlds::storm_values::Memory;
+use event_worlds::tree_model::{Parcel, Tuple};
 use std::alloc::Global;
 use std::collections::VecDeque;
 use std::mem;
-use storm_ids::Ids;
-use storm_values::Memory;
-use tree_model::{Parcel, Tuple};
 
 /// A task with its box and its outbox.
 #[derive(Drop)]

@@ -3,13 +3,13 @@ use Rattle.std.proofs.Common.{◌≡◌, ◌<◌, ◌≤◌, ℕ, zero, suc, ◌
 use Rattle.std.specs.List.{AllByRecursion}
 use Rattle.std.specs.Option.{option_to_list}
 use Rattle.std.proofs.lemmas.List.{append-nil, get_or_past, set_past}
-use Rattle.acker_core.specs.Entries.{AreSilent, list_with, met, tell, told_of}
-use Rattle.acker_core.specs.States.{state_of}
-use Rattle.acker_core.specs.declared.verdict.Verdict.{Verdict}
-use Rattle.acker_core.proofs.StepLemmas.{list_at, met-gone, met-kept, silent-gone, silent-kept}
-use Rattle.bolt_ops.specs.RowOp.{Custom}
-use Rattle.counted_items.specs.Weights.{weigh}
-use Rattle.counted_items.proofs.Weighing.{weigh-append}
+use Rattle.commit_order.specs.acker_core.Entries.{AreSilent, list_with, met, tell, told_of}
+use Rattle.commit_order.specs.acker_core.States.{state_of}
+use Rattle.commit_order.specs.acker_core.declared.verdict.Verdict.{Verdict}
+use Rattle.commit_order.proofs.acker_core.StepLemmas.{list_at, met-gone, met-kept, silent-gone, silent-kept}
+use Rattle.commit_order.specs.bolt_ops.RowOp.{Custom}
+use Rattle.commit_order.specs.counted_items.Weights.{weigh}
+use Rattle.commit_order.proofs.counted_items.Weighing.{weigh-append}
 use Rattle.event_worlds.specs.Accounted.{LedTo, station_of}
 use Rattle.event_worlds.specs.Added.{acker_adds, acker_adds_past, lost, meets_front}
 use Rattle.event_worlds.specs.Orderly.{IsOrderly}
@@ -17,21 +17,21 @@ use Rattle.event_worlds.specs.Worlds.{AckerSide, Answered, World, acker_at, acke
 use Rattle.event_worlds.proofs.Leading.{fits-alike, joined-nothing, reached-more, starts-more}
 use Rattle.event_worlds.proofs.Orderly.{orderly-acker}
 use Rattle.event_worlds.proofs.Waiting.{ackers-set, each-at, each-set, weigh-set, weigh_acker}
-use Rattle.rotating_ledger.specs.Held.{Held, dropped, rotated}
-use Rattle.rotating_ledger.specs.Told.{told, tells}
-use Rattle.rotating_ledger.proofs.HeldLemmas.{each-rotated}
-use Rattle.storm_values.specs.declared.value.Root.{Root}
-use Rattle.topology_plan.specs.Topology.{Topology}
-use Rattle.tree_model.specs.Lists.{root_of}
-use Rattle.tree_model.specs.declared.messages.AckMsg.{AckMsg}
-use Rattle.tree_model.specs.declared.messages.Parcel.TheVariants.{ToAcker}
-use Rattle.trident_batches.specs.Batches.{Cut}
-use Rattle.tuple_account.specs.Histories.{History, Packet, Told, joined, nothing, of_parcel, of_verdict}
-use Rattle.tuple_account.specs.Moves.{Moves}
-use Rattle.tuple_account.specs.Parts.{meeting, telling_by, weigh_entries}
-use Rattle.tuple_account.proofs.Entering.{met-weight, rotated-weight, telling_told}
-use Rattle.tuple_account.specs.Places.{HasWords}
-use Rattle.tuple_account.proofs.Moving.{drawn-both}
+use Rattle.commit_order.specs.rotating_ledger.Held.{Held, dropped, rotated}
+use Rattle.commit_order.specs.rotating_ledger.Told.{told, tells}
+use Rattle.commit_order.proofs.rotating_ledger.HeldLemmas.{each-rotated}
+use Rattle.commit_order.specs.storm_values.declared.value.Root.{Root}
+use Rattle.commit_order.specs.topology_plan.Topology.{Topology}
+use Rattle.commit_order.specs.tree_model.Lists.{root_of}
+use Rattle.commit_order.specs.tree_model.declared.messages.AckMsg.{AckMsg}
+use Rattle.commit_order.specs.tree_model.declared.messages.Parcel.TheVariants.{ToAcker}
+use Rattle.commit_order.specs.trident_batches.Batches.{Cut}
+use Rattle.commit_order.specs.tuple_account.Histories.{History, Packet, Told, joined, nothing, of_parcel, of_verdict}
+use Rattle.commit_order.specs.tuple_account.Moves.{Moves}
+use Rattle.commit_order.specs.tuple_account.Parts.{meeting, telling_by, weigh_entries}
+use Rattle.commit_order.proofs.tuple_account.Entering.{met-weight, rotated-weight, telling_told}
+use Rattle.commit_order.specs.tuple_account.Places.{HasWords}
+use Rattle.commit_order.proofs.tuple_account.Moving.{drawn-both}
 
 -- ---- entries
 

@@ -1,17 +1,17 @@
 -- How many batches are committed, along a turn and an outcome.
 use Rattle.std.proofs.Common.{◌≡◌, ℕ, zero, suc, ◌+◌, Bool, true, false, cond, List, Option, None, Some, refl, sym, ap, ◌∙◌}
-use Rattle.acker_core.specs.declared.verdict.Verdict.{Verdict}
-use Rattle.acker_core.specs.declared.verdict.Verdict.TheVariants.{Complete, Fails}
-use Rattle.attempt_fates.specs.declared.fates.End.{End}
-use Rattle.commit_turns.specs.declared.wait.Wait.{Wait}
-use Rattle.commit_turns.specs.Desks.{Desk, Progress, still, timed_of}
-use Rattle.commit_turns.specs.Turns.{and_then, begun, complete_timed, decided, decided_by, end_timed, fill_more, filled, has_no_tick, heard, is_closed, next_root, next_to_commit, one_tick, ordered, passed, ticked, turned, turned_by}
-use Rattle.state_parts.specs.declared.answer.CommitOutcome.{CommitOutcome}
-use Rattle.state_parts.specs.declared.answer.CommitOutcome.TheVariants.{Done, Failed}
-use Rattle.storm_values.specs.declared.value.Root.{Root}
-use Rattle.topology_plan.specs.Topology.{Topology}
-use Rattle.tree_model.specs.declared.messages.AckMsg.{AckMsg}
-use Rattle.trident_batches.specs.Batches.{Cut}
+use Rattle.commit_order.specs.acker_core.declared.verdict.Verdict.{Verdict}
+use Rattle.commit_order.specs.acker_core.declared.verdict.Verdict.TheVariants.{Complete, Fails}
+use Rattle.commit_order.specs.attempt_fates.declared.fates.End.{End}
+use Rattle.commit_order.specs.commit_turns.declared.wait.Wait.{Wait}
+use Rattle.commit_order.specs.commit_turns.Desks.{Desk, Progress, still, timed_of}
+use Rattle.commit_order.specs.commit_turns.Turns.{and_then, begun, complete_timed, decided, decided_by, end_timed, fill_more, filled, has_no_tick, heard, is_closed, next_root, next_to_commit, one_tick, ordered, passed, ticked, turned, turned_by}
+use Rattle.commit_order.specs.state_parts.declared.answer.CommitOutcome.{CommitOutcome}
+use Rattle.commit_order.specs.state_parts.declared.answer.CommitOutcome.TheVariants.{Done, Failed}
+use Rattle.commit_order.specs.storm_values.declared.value.Root.{Root}
+use Rattle.commit_order.specs.topology_plan.Topology.{Topology}
+use Rattle.commit_order.specs.tree_model.declared.messages.AckMsg.{AckMsg}
+use Rattle.commit_order.specs.trident_batches.Batches.{Cut}
 
 module _ (t : Topology) (cut : Cut) where
   end_timed-committed : (how : End) (found : Option Wait) (d : Desk) → (end_timed t cut how found d).desk.committed ≡ d.committed

@@ -3,32 +3,32 @@ use Rattle.std.proofs.Common.{◌≡◌, ◌≤◌, ◌<◌, ℕ, zero, suc, ◌
 use Rattle.std.specs.Prelude.{slice_range}
 use Rattle.std.specs.List.{AllByRecursion}
 use Rattle.std.proofs.lemmas.List.{length-map}
-use Rattle.attempt_fates.specs.declared.fates.Attempt.{Attempt}
-use Rattle.bolt_ops.specs.RowOp.{Custom}
-use Rattle.commit_turns.specs.declared.wait.Wait.{Wait}
-use Rattle.commit_turns.specs.Account.{desk_of, ended_of, ends_of, rows_in, waits_of}
-use Rattle.counted_items.proofs.Each.{each-back, each-map, each-parts, each-weaker}
-use Rattle.counted_items.proofs.Equality.{each-within}
+use Rattle.commit_order.specs.attempt_fates.declared.fates.Attempt.{Attempt}
+use Rattle.commit_order.specs.bolt_ops.RowOp.{Custom}
+use Rattle.commit_order.specs.commit_turns.declared.wait.Wait.{Wait}
+use Rattle.commit_order.specs.commit_turns.Account.{desk_of, ended_of, ends_of, rows_in, waits_of}
+use Rattle.commit_order.proofs.counted_items.Each.{each-back, each-map, each-parts, each-weaker}
+use Rattle.commit_order.proofs.counted_items.Equality.{each-within}
 use Rattle.event_worlds.specs.Accounted.{AreCaused, IsInput, LedAt}
 use Rattle.event_worlds.specs.Worlds.{Known}
-use Rattle.storm_values.specs.declared.value.Root.{Root}
-use Rattle.storm_values.specs.declared.value.Value.{Value}
-use Rattle.topology_plan.specs.Topology.{Topology}
-use Rattle.tree_model.specs.declared.messages.AckMsg.{AckMsg}
-use Rattle.tree_model.specs.Lists.{Covers, IsClosed, IsComplete}
-use Rattle.tree_model.specs.Trees.{node_count}
-use Rattle.tree_model.proofs.ListLaws.{closed_covers}
-use Rattle.trident_batches.specs.Batches.{Cut}
-use Rattle.tuple_account.specs.Drawn.{AreDrawn}
-use Rattle.tuple_account.specs.Ends.{Waits, lists_of, verdicts_of_ends, verdicts_of_waits, verdicts_settled}
-use Rattle.tuple_account.specs.Fits.{IsWaiting}
-use Rattle.tuple_account.specs.Histories.{History, Opening}
-use Rattle.tuple_account.specs.Moves.{Station}
-use Rattle.tuple_account.specs.Places.{before}
-use Rattle.tuple_account.specs.Sound.{IsCaused, IsSound}
-use Rattle.tuple_account.proofs.Ending.{causes, ends_drawn}
-use Rattle.tuple_account.proofs.Routing.{verdict_code}
-use Rattle.tuple_account.proofs.Telling.{heard_causes}
+use Rattle.commit_order.specs.storm_values.declared.value.Root.{Root}
+use Rattle.commit_order.specs.storm_values.declared.value.Value.{Value}
+use Rattle.commit_order.specs.topology_plan.Topology.{Topology}
+use Rattle.commit_order.specs.tree_model.declared.messages.AckMsg.{AckMsg}
+use Rattle.commit_order.specs.tree_model.Lists.{Covers, IsClosed, IsComplete}
+use Rattle.commit_order.specs.tree_model.Trees.{node_count}
+use Rattle.commit_order.proofs.tree_model.ListLaws.{closed_covers}
+use Rattle.commit_order.specs.trident_batches.Batches.{Cut}
+use Rattle.commit_order.specs.tuple_account.Drawn.{AreDrawn}
+use Rattle.commit_order.specs.tuple_account.Ends.{Waits, lists_of, verdicts_of_ends, verdicts_of_waits, verdicts_settled}
+use Rattle.commit_order.specs.tuple_account.Fits.{IsWaiting}
+use Rattle.commit_order.specs.tuple_account.Histories.{History, Opening}
+use Rattle.commit_order.specs.tuple_account.Moves.{Station}
+use Rattle.commit_order.specs.tuple_account.Places.{before}
+use Rattle.commit_order.specs.tuple_account.Sound.{IsCaused, IsSound}
+use Rattle.commit_order.proofs.tuple_account.Ending.{causes, ends_drawn}
+use Rattle.commit_order.proofs.tuple_account.Routing.{verdict_code}
+use Rattle.commit_order.proofs.tuple_account.Telling.{heard_causes}
 
 -- what each item of a list has, the one at a place has
 at-place : {X : Type 0} (P : X → Type 0) (xs : List X) (i : ℕ) (x : X) → AllByRecursion P xs → slice_get xs i ≡ Some x → P x

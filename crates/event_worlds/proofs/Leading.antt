@@ -2,34 +2,34 @@
 use Rattle.std.proofs.Common.{◌≡◌, ◌<◌, ◌≤◌, ℕ, ◌+◌, ◌-◌, ◌^◌, ◌==◌, nat_lt, Bool, true, false, cond, List, [], ◌∷◌, ◌++◌, length, get_or, set, None, refl, sym, ap, subst, ◌∙◌, eqb-true, eq-eqb, true≢false, arith}
 use Rattle.std.specs.List.{AllByRecursion}
 use Rattle.std.proofs.lemmas.List.{append-nil, get_or-set_same, get_or-set_other}
-use Rattle.acker_core.specs.Entries.{AreSilent}
-use Rattle.bolt_ops.specs.RowOp.{Custom}
-use Rattle.commit_turns.specs.Account.{desk_of, ends_of, rows_in}
-use Rattle.commit_turns.specs.Kept.{IsKept}
-use Rattle.counted_items.specs.Weights.{weigh, Within}
-use Rattle.counted_items.proofs.Weighing.{weigh-append}
+use Rattle.commit_order.specs.acker_core.Entries.{AreSilent}
+use Rattle.commit_order.specs.bolt_ops.RowOp.{Custom}
+use Rattle.commit_order.specs.commit_turns.Account.{desk_of, ends_of, rows_in}
+use Rattle.commit_order.specs.commit_turns.Kept.{IsKept}
+use Rattle.commit_order.specs.counted_items.Weights.{weigh, Within}
+use Rattle.commit_order.proofs.counted_items.Weighing.{weigh-append}
 use Rattle.event_worlds.specs.Accounted.{IsCounted, LedTo, station_of}
 use Rattle.event_worlds.specs.Orderly.{FitsParcel, IsOrderly}
 use Rattle.event_worlds.specs.Worlds.{AckerSide, Known, TaskSide, World, acker_at, delivered, drew, ended, gets_message, gets_tuple, no_acker, no_task, task_at, with_task}
 use Rattle.event_worlds.proofs.Waiting.{ackers-set, each-at, each-set, tasks-set, weigh-set}
-use Rattle.storm_values.specs.declared.value.Value.{Value}
-use Rattle.topology_plan.specs.Topology.{Topology, tasks_in_all}
-use Rattle.tree_model.specs.declared.messages.AckMsg.{AckMsg}
-use Rattle.tree_model.specs.declared.messages.Parcel.{Parcel}
-use Rattle.tree_model.specs.declared.messages.Parcel.TheVariants.{ToTask, ToAcker}
-use Rattle.tree_model.specs.declared.messages.Tuple.{Tuple}
-use Rattle.trident_batches.specs.Batches.{Cut}
-use Rattle.tuple_account.specs.Drawn.{started}
-use Rattle.tuple_account.specs.Ends.{Desk, Ended, Waits, verdicts_of_ends, verdicts_of_waits}
-use Rattle.tuple_account.specs.Fits.{Fits}
-use Rattle.tuple_account.specs.Histories.{History, Opening, Start, joined, nothing, of_parcel, opens}
-use Rattle.tuple_account.specs.Moves.{AreRows, HasDrawn, IsAlike, Moves, Reached, Station, beside, empty}
-use Rattle.tuple_account.specs.Parts.{holding, weigh_entries}
-use Rattle.tuple_account.specs.Places.{before, spans}
-use Rattle.tuple_account.specs.Sound.{is_about}
-use Rattle.tuple_account.proofs.Moving.{moves-alike, reached-then}
-use Rattle.tuple_account.proofs.Placing.{span-is}
-use Rattle.acker_core.specs.declared.verdict.Verdict.{Verdict}
+use Rattle.commit_order.specs.storm_values.declared.value.Value.{Value}
+use Rattle.commit_order.specs.topology_plan.Topology.{Topology, tasks_in_all}
+use Rattle.commit_order.specs.tree_model.declared.messages.AckMsg.{AckMsg}
+use Rattle.commit_order.specs.tree_model.declared.messages.Parcel.{Parcel}
+use Rattle.commit_order.specs.tree_model.declared.messages.Parcel.TheVariants.{ToTask, ToAcker}
+use Rattle.commit_order.specs.tree_model.declared.messages.Tuple.{Tuple}
+use Rattle.commit_order.specs.trident_batches.Batches.{Cut}
+use Rattle.commit_order.specs.tuple_account.Drawn.{started}
+use Rattle.commit_order.specs.tuple_account.Ends.{Desk, Ended, Waits, verdicts_of_ends, verdicts_of_waits}
+use Rattle.commit_order.specs.tuple_account.Fits.{Fits}
+use Rattle.commit_order.specs.tuple_account.Histories.{History, Opening, Start, joined, nothing, of_parcel, opens}
+use Rattle.commit_order.specs.tuple_account.Moves.{AreRows, HasDrawn, IsAlike, Moves, Reached, Station, beside, empty}
+use Rattle.commit_order.specs.tuple_account.Parts.{holding, weigh_entries}
+use Rattle.commit_order.specs.tuple_account.Places.{before, spans}
+use Rattle.commit_order.specs.tuple_account.Sound.{is_about}
+use Rattle.commit_order.proofs.tuple_account.Moving.{moves-alike, reached-then}
+use Rattle.commit_order.proofs.tuple_account.Placing.{span-is}
+use Rattle.commit_order.specs.acker_core.declared.verdict.Verdict.{Verdict}
 
 -- ---- histories
 

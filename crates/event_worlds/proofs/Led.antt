@@ -4,15 +4,15 @@ use Rattle.std.specs.Prelude.{is_some}
 use Rattle.std.specs.Option.{option_to_list}
 use Rattle.std.proofs.lemmas.List.{get_or_past}
 use Rattle.std.proofs.lemmas.List.Elements.{recursion_from_All}
-use Rattle.acker_core.specs.declared.verdict.Verdict.{Verdict}
-use Rattle.attempt_fates.specs.declared.fates.Attempt.{Attempt}
-use Rattle.bolt_ops.specs.RowOp.{Custom, IsCustom}
-use Rattle.commit_turns.specs.Account.{desk_of, ends_of, rows_in}
-use Rattle.commit_turns.specs.Desks.{Desk, first_desk}
-use Rattle.commit_turns.specs.Kept.{IsKept}
-use Rattle.commit_turns.specs.Outcomes.{Begin, IsOutcome, hears}
-use Rattle.commit_turns.specs.Turns.{decided, is_finished, turned}
-use Rattle.counted_items.specs.Weights.{weigh}
+use Rattle.commit_order.specs.acker_core.declared.verdict.Verdict.{Verdict}
+use Rattle.commit_order.specs.attempt_fates.declared.fates.Attempt.{Attempt}
+use Rattle.commit_order.specs.bolt_ops.RowOp.{Custom, IsCustom}
+use Rattle.commit_order.specs.commit_turns.Account.{desk_of, ends_of, rows_in}
+use Rattle.commit_order.specs.commit_turns.Desks.{Desk, first_desk}
+use Rattle.commit_order.specs.commit_turns.Kept.{IsKept}
+use Rattle.commit_order.specs.commit_turns.Outcomes.{Begin, IsOutcome, hears}
+use Rattle.commit_order.specs.commit_turns.Turns.{decided, is_finished, turned}
+use Rattle.commit_order.specs.counted_items.Weights.{weigh}
 use Rattle.event_worlds.specs.Accounted.{Accounted, IsInput, LedAt, LedTo, station_of}
 use Rattle.event_worlds.specs.Beside.{IsFreeStep, waits}
 use Rattle.event_worlds.specs.Added.{added, first_history, step_adds, task_adds}
@@ -25,16 +25,16 @@ use Rattle.event_worlds.proofs.Tasking.{led-task}
 use Rattle.event_worlds.proofs.Ticking.{decided-tick, turned-tick}
 use Rattle.event_worlds.proofs.Turning.{MovesOn, TurnsWell, led-outcome, led-tick, led-turn, led-turn-none}
 use Rattle.event_worlds.proofs.Waiting.{drew-none, each-at}
-use Rattle.state_parts.specs.declared.answer.CommitOutcome.{CommitOutcome}
-use Rattle.state_parts.specs.declared.answer.CommitOutcome.TheVariants.{Done}
-use Rattle.storm_values.specs.declared.value.Root.{Root}
-use Rattle.topology_plan.specs.Topology.{Topology, tasks_in_all}
-use Rattle.topology_plan.specs.Valid.{IsValid}
-use Rattle.trident_batches.specs.Batches.{Cut}
-use Rattle.tuple_account.specs.Fits.{Fits}
-use Rattle.tuple_account.specs.Histories.{History, Opening, Packet, joined, nothing, opens}
-use Rattle.tuple_account.specs.Moves.{Station, beside}
-use Rattle.tuple_account.specs.Sound.{is_about}
+use Rattle.commit_order.specs.state_parts.declared.answer.CommitOutcome.{CommitOutcome}
+use Rattle.commit_order.specs.state_parts.declared.answer.CommitOutcome.TheVariants.{Done}
+use Rattle.commit_order.specs.storm_values.declared.value.Root.{Root}
+use Rattle.commit_order.specs.topology_plan.Topology.{Topology, tasks_in_all}
+use Rattle.commit_order.specs.topology_plan.Valid.{IsValid}
+use Rattle.commit_order.specs.trident_batches.Batches.{Cut}
+use Rattle.commit_order.specs.tuple_account.Fits.{Fits}
+use Rattle.commit_order.specs.tuple_account.Histories.{History, Opening, Packet, joined, nothing, opens}
+use Rattle.commit_order.specs.tuple_account.Moves.{Station, beside}
+use Rattle.commit_order.specs.tuple_account.Sound.{is_about}
 
 -- What the laws of the coordinator's turns say.
 pub record TurnLaws (t : Topology) (cut : Cut) : Type 0 where

@@ -5,39 +5,39 @@ use Rattle.std.proofs.lemmas.List.{get_or_past, length-drop, length-replicate, l
 use Rattle.std.proofs.lemmas.List.FromFn.{length-map-range_with_len}
 use Rattle.std.proofs.lemmas.List.Sums.{sum_by-cons}
 use Rattle.std.proofs.lemmas.Option.{slice_get-get_or}
-use Rattle.bolt_ops.specs.RowOp.{Custom, IsCustom}
+use Rattle.commit_order.specs.bolt_ops.RowOp.{Custom, IsCustom}
 use Rattle.bolt_task.specs.Executing.{rows_of}
 use Rattle.commit_order.specs.Orders.{OpenFrom, Stand, ids_drawn, opening_of, stand_after}
-use Rattle.commit_turns.specs.Account.{rows_in}
-use Rattle.commit_turns.specs.Desks.{Progress}
-use Rattle.commit_turns.specs.Turns.{Turned, decided}
-use Rattle.counted_items.proofs.Each.{each-append, each-any, each-to_map}
+use Rattle.commit_order.specs.commit_turns.Account.{rows_in}
+use Rattle.commit_order.specs.commit_turns.Desks.{Progress}
+use Rattle.commit_order.specs.commit_turns.Turns.{Turned, decided}
+use Rattle.commit_order.proofs.counted_items.Each.{each-append, each-any, each-to_map}
 use Rattle.event_worlds.specs.Accounted.{IsInput}
 use Rattle.event_worlds.specs.Orderly.{AreTasksOrderly, FitsParcel, IsForTask, IsOrderly, IsStandOf, IsTaskOrderly}
 use Rattle.event_worlds.specs.Worlds.{Acted, AckerSide, TaskSide, World, acker_at, acker_step, acted, acted_past, answered, delivered, executed, execution_by, first_needs, first_stand, first_task, first_world, gets_message, gets_tuple, needed_by, needed_past, no_acker, no_task, opened, outcome_step, sent, stand_moved, stand_past, task_at, task_needs, task_step, tick_step, tuples_made, turn_needs, turn_needs_past, turn_past, turn_step, turned_in, with_acker, with_progress, with_task, with_turn}
 use Rattle.event_worlds.proofs.Rows.{HasRow, batch_has_rows, children_have_rows, first_lanes_are_sound, go_by_component}
-use Rattle.output_collector.specs.Outlets.{AreLanesOf, after_rows}
-use Rattle.output_collector.proofs.Lanes.{All-after, AreLanesOf-after, AreLanesOf-started}
-use Rattle.output_collector.proofs.Targets.{go_to}
-use Rattle.state_parts.specs.declared.answer.CommitOutcome.{CommitOutcome}
-use Rattle.storm_values.specs.declared.value.Root.{Root}
-use Rattle.storm_values.specs.declared.value.Value.{Value}
-use Rattle.storm_values.specs.Rows.{IsRow}
-use Rattle.topology_plan.specs.declared.parts.Origin.{Origin}
-use Rattle.topology_plan.specs.declared.parts.Origin.TheVariants as origin
-use Rattle.topology_plan.specs.Topology.{Topology, component_of, subs_of, tasks_in_all}
-use Rattle.topology_plan.specs.Valid.{IsValid}
-use Rattle.topology_plan.specs.Wired.{IsWired, width_to}
-use Rattle.tree_model.specs.declared.messages.AckMsg.{AckMsg}
-use Rattle.tree_model.specs.declared.messages.Parcel.{Parcel}
-use Rattle.tree_model.specs.declared.messages.Parcel.TheVariants.{ToTask, ToAcker}
-use Rattle.tree_model.specs.declared.messages.Tuple.{Tuple}
-use Rattle.tree_model.specs.Trees.{Node, kids, kids_of}
-use Rattle.trident_batches.specs.Batches.{Cut}
-use Rattle.tuple_account.specs.Histories.{Execution, GoTo, IsExecution, IsOpening, Opening, execution_parcels, opening_parcels, to_acker, to_tasks}
-use Rattle.tuple_account.specs.Issued.{children_of, course_of_run, first_tuples, init_of, node_of, notes_of, tuples_from}
-use Rattle.tuple_tickets.specs.Tickets.{made_by}
-use Rattle.tuple_tickets.specs.Trees.{Course, goes, fails, mute}
+use Rattle.commit_order.specs.output_collector.Outlets.{AreLanesOf, after_rows}
+use Rattle.commit_order.proofs.output_collector.Lanes.{All-after, AreLanesOf-after, AreLanesOf-started}
+use Rattle.commit_order.proofs.output_collector.Targets.{go_to}
+use Rattle.commit_order.specs.state_parts.declared.answer.CommitOutcome.{CommitOutcome}
+use Rattle.commit_order.specs.storm_values.declared.value.Root.{Root}
+use Rattle.commit_order.specs.storm_values.declared.value.Value.{Value}
+use Rattle.commit_order.specs.storm_values.Rows.{IsRow}
+use Rattle.commit_order.specs.topology_plan.declared.parts.Origin.{Origin}
+use Rattle.commit_order.specs.topology_plan.declared.parts.Origin.TheVariants as origin
+use Rattle.commit_order.specs.topology_plan.Topology.{Topology, component_of, subs_of, tasks_in_all}
+use Rattle.commit_order.specs.topology_plan.Valid.{IsValid}
+use Rattle.commit_order.specs.topology_plan.Wired.{IsWired, width_to}
+use Rattle.commit_order.specs.tree_model.declared.messages.AckMsg.{AckMsg}
+use Rattle.commit_order.specs.tree_model.declared.messages.Parcel.{Parcel}
+use Rattle.commit_order.specs.tree_model.declared.messages.Parcel.TheVariants.{ToTask, ToAcker}
+use Rattle.commit_order.specs.tree_model.declared.messages.Tuple.{Tuple}
+use Rattle.commit_order.specs.tree_model.Trees.{Node, kids, kids_of}
+use Rattle.commit_order.specs.trident_batches.Batches.{Cut}
+use Rattle.commit_order.specs.tuple_account.Histories.{Execution, GoTo, IsExecution, IsOpening, Opening, execution_parcels, opening_parcels, to_acker, to_tasks}
+use Rattle.commit_order.specs.tuple_account.Issued.{children_of, course_of_run, first_tuples, init_of, node_of, notes_of, tuples_from}
+use Rattle.commit_order.specs.tuple_tickets.Tickets.{made_by}
+use Rattle.commit_order.specs.tuple_tickets.Trees.{Course, goes, fails, mute}
 
 -- ---- parcels
 

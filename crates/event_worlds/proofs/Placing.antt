@@ -3,19 +3,19 @@ use Rattle.std.proofs.Common.{◌≡◌, ℕ, ◌+◌, List, [], ◌∷◌, ◌+
 use Rattle.std.specs.List.{AllByRecursion, range_with_len}
 use Rattle.std.proofs.lemmas.List.{length-append}
 use Rattle.commit_order.specs.Orders.{OpenFrom, Stand, ids_drawn, stand_after}
-use Rattle.commit_turns.specs.Account.{rows_in}
-use Rattle.counted_items.specs.Weights.{weigh}
+use Rattle.commit_order.specs.commit_turns.Account.{rows_in}
+use Rattle.commit_order.specs.counted_items.Weights.{weigh}
 use Rattle.event_worlds.specs.Added.{placed}
 use Rattle.event_worlds.specs.Worlds.{ended}
-use Rattle.storm_values.specs.declared.value.Root.{Root}
-use Rattle.topology_plan.specs.Topology.{Topology}
-use Rattle.tree_model.specs.declared.messages.AckMsg.TheVariants as msg
-use Rattle.trident_batches.specs.Batches.{Cut}
-use Rattle.tuple_account.specs.Histories.{IsOpening, Opening, opening_parcels, opening_spans, to_acker, to_tasks}
-use Rattle.tuple_account.specs.Moves.{AreRows}
-use Rattle.tuple_account.specs.Places.{HasWords, spans}
-use Rattle.tuple_account.proofs.Placing.{spans-more}
-use Rattle.tuple_account.specs.Issued.{edges_of, first_tuples}
+use Rattle.commit_order.specs.storm_values.declared.value.Root.{Root}
+use Rattle.commit_order.specs.topology_plan.Topology.{Topology}
+use Rattle.commit_order.specs.tree_model.declared.messages.AckMsg.TheVariants as msg
+use Rattle.commit_order.specs.trident_batches.Batches.{Cut}
+use Rattle.commit_order.specs.tuple_account.Histories.{IsOpening, Opening, opening_parcels, opening_spans, to_acker, to_tasks}
+use Rattle.commit_order.specs.tuple_account.Moves.{AreRows}
+use Rattle.commit_order.specs.tuple_account.Places.{HasWords, spans}
+use Rattle.commit_order.proofs.tuple_account.Placing.{spans-more}
+use Rattle.commit_order.specs.tuple_account.Issued.{edges_of, first_tuples}
 
 -- ---- words
 

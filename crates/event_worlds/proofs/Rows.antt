@@ -7,40 +7,40 @@ use Rattle.std.proofs.lemmas.List.{take-map}
 use Rattle.std.proofs.lemmas.List.Elements.{recursion_from_All, All-from_recursion, All-nil, All-take, All-drop}
 use Rattle.std.proofs.lemmas.List.Sums.{sum-map, sum_by_more_le}
 use Rattle.std.proofs.lemmas.Option.{get_or_from_slice_get}
-use Rattle.bolt_ops.specs.RowOp.{Custom, IsCustom}
-use Rattle.bolt_ops.specs.declared.operation.Outcome.{Outcome}
-use Rattle.bolt_ops.specs.declared.operation.Outcome.TheVariants as outcome
-use Rattle.bolt_ops.proofs.Lengths.{out-within}
-use Rattle.bolt_ops.proofs.Outcomes.{rows_from_exec_of}
+use Rattle.commit_order.specs.bolt_ops.RowOp.{Custom, IsCustom}
+use Rattle.commit_order.specs.bolt_ops.declared.operation.Outcome.{Outcome}
+use Rattle.commit_order.specs.bolt_ops.declared.operation.Outcome.TheVariants as outcome
+use Rattle.commit_order.proofs.bolt_ops.Lengths.{out-within}
+use Rattle.commit_order.proofs.bolt_ops.Outcomes.{rows_from_exec_of}
 use Rattle.bolt_task.specs.Executing.{answered}
-use Rattle.commit_turns.specs.Account.{rows_in}
-use Rattle.counted_items.proofs.Each.{each-flat_map, each-weaker}
+use Rattle.commit_order.specs.commit_turns.Account.{rows_in}
+use Rattle.commit_order.proofs.counted_items.Each.{each-flat_map, each-weaker}
 use Rattle.groupings.specs.declared.lane.Lane.{Lane}
 use Rattle.groupings.specs.Allowed.{IsLane}
 use Rattle.groupings.specs.Routing.{first_task_of, lane_of, lanes_of}
-use Rattle.output_collector.specs.Outlets.{AreLanesOf, tasks_for}
-use Rattle.output_collector.proofs.Lanes.{at_place}
-use Rattle.output_collector.proofs.Targets.{go_to}
-use Rattle.storm_values.specs.declared.value.Root.{Root}
-use Rattle.storm_values.specs.declared.value.Value.{Value}
-use Rattle.storm_values.specs.Rows.{IsRow}
-use Rattle.topology_plan.specs.declared.parts.Body.{Body}
-use Rattle.topology_plan.specs.declared.parts.Body.TheVariants.{Bolt, State}
-use Rattle.topology_plan.specs.declared.parts.Component.{Component}
-use Rattle.topology_plan.specs.declared.parts.Origin.{Origin}
-use Rattle.topology_plan.specs.declared.parts.Origin.TheVariants as origin
-use Rattle.topology_plan.specs.declared.parts.Sub.{Sub}
-use Rattle.topology_plan.specs.Topology.{Topology, copies_of, subs_of, tasks_of}
-use Rattle.topology_plan.specs.Valid.{IsTarget, IsValid}
-use Rattle.topology_plan.specs.Wired.{IsAsWide, IsComponent, IsFed, IsWired, width_of, width_to}
-use Rattle.topology_plan.proofs.Widths.{as_wide}
-use Rattle.tree_model.specs.Courses.{course_by, course_of}
-use Rattle.tree_model.specs.Trees.{Node, copies_at, exec_by, kids, kids_by, kids_of, rows_by}
-use Rattle.trident_batches.specs.Batches.{Cut}
-use Rattle.tuple_account.specs.Histories.{GoTo}
-use Rattle.tuple_account.specs.Issued.{tuples_from}
-use Rattle.tuple_tickets.specs.Tickets.{made_by}
-use Rattle.tuple_tickets.specs.Trees.{mute}
+use Rattle.commit_order.specs.output_collector.Outlets.{AreLanesOf, tasks_for}
+use Rattle.commit_order.proofs.output_collector.Lanes.{at_place}
+use Rattle.commit_order.proofs.output_collector.Targets.{go_to}
+use Rattle.commit_order.specs.storm_values.declared.value.Root.{Root}
+use Rattle.commit_order.specs.storm_values.declared.value.Value.{Value}
+use Rattle.commit_order.specs.storm_values.Rows.{IsRow}
+use Rattle.commit_order.specs.topology_plan.declared.parts.Body.{Body}
+use Rattle.commit_order.specs.topology_plan.declared.parts.Body.TheVariants.{Bolt, State}
+use Rattle.commit_order.specs.topology_plan.declared.parts.Component.{Component}
+use Rattle.commit_order.specs.topology_plan.declared.parts.Origin.{Origin}
+use Rattle.commit_order.specs.topology_plan.declared.parts.Origin.TheVariants as origin
+use Rattle.commit_order.specs.topology_plan.declared.parts.Sub.{Sub}
+use Rattle.commit_order.specs.topology_plan.Topology.{Topology, copies_of, subs_of, tasks_of}
+use Rattle.commit_order.specs.topology_plan.Valid.{IsTarget, IsValid}
+use Rattle.commit_order.specs.topology_plan.Wired.{IsAsWide, IsComponent, IsFed, IsWired, width_of, width_to}
+use Rattle.commit_order.proofs.topology_plan.Widths.{as_wide}
+use Rattle.commit_order.specs.tree_model.Courses.{course_by, course_of}
+use Rattle.commit_order.specs.tree_model.Trees.{Node, copies_at, exec_by, kids, kids_by, kids_of, rows_by}
+use Rattle.commit_order.specs.trident_batches.Batches.{Cut}
+use Rattle.commit_order.specs.tuple_account.Histories.{GoTo}
+use Rattle.commit_order.specs.tuple_account.Issued.{tuples_from}
+use Rattle.commit_order.specs.tuple_tickets.Tickets.{made_by}
+use Rattle.commit_order.specs.tuple_tickets.Trees.{mute}
 
 -- ---- nodes with good rows
 

@@ -2,32 +2,32 @@
 use Rattle.std.proofs.Common.{◌≡◌, ◌<◌, ◌≤◌, ℕ, zero, suc, ◌+◌, ◌==◌, nat_lt, ltb-true, ltb-false, Bool, true, false, cond, eqb-true, eq-eqb, [], ◌∷◌, ◌++◌, length, map, replicate, refl, ap, ◌∙◌, arith}
 use Rattle.std.specs.List.{AllByRecursion, range_with_len}
 use Rattle.std.proofs.lemmas.List.FromFn.{get_or-map-range_with_len, map-range_with_len_more}
-use Rattle.acker_core.specs.Entries.{AreSilent}
-use Rattle.bolt_ops.specs.RowOp.{Custom}
-use Rattle.commit_turns.specs.Account.{desk_of, ends_of, rows_in}
-use Rattle.commit_turns.specs.Desks.{first_desk}
-use Rattle.commit_turns.specs.Kept.{IsKept}
-use Rattle.counted_items.specs.Weights.{weigh}
-use Rattle.counted_items.proofs.Weighing.{weigh-push}
+use Rattle.commit_order.specs.acker_core.Entries.{AreSilent}
+use Rattle.commit_order.specs.bolt_ops.RowOp.{Custom}
+use Rattle.commit_order.specs.commit_turns.Account.{desk_of, ends_of, rows_in}
+use Rattle.commit_order.specs.commit_turns.Desks.{first_desk}
+use Rattle.commit_order.specs.commit_turns.Kept.{IsKept}
+use Rattle.commit_order.specs.counted_items.Weights.{weigh}
+use Rattle.commit_order.proofs.counted_items.Weighing.{weigh-push}
 use Rattle.event_worlds.specs.Accounted.{IsCounted, IsInput, LedTo, station_of, weigh_ackers, weigh_tasks}
 use Rattle.event_worlds.specs.Added.{first_history, first_start}
 use Rattle.event_worlds.specs.Worlds.{AckerSide, TaskSide, first_counts, first_known, first_task, first_world, no_acker, no_task, origin_of, task_at}
 use Rattle.event_worlds.proofs.Leading.{fits-alike}
 use Rattle.event_worlds.proofs.Orderly.{orderly-first}
-use Rattle.output_collector.proofs.Lanes.{few_subs}
-use Rattle.storm_values.specs.declared.value.Root.{Root}
-use Rattle.topology_plan.specs.declared.parts.Origin.{Origin}
-use Rattle.topology_plan.specs.declared.parts.Origin.TheVariants as origin
-use Rattle.topology_plan.specs.Topology.{Topology, component_of, subs_of, tasks_in_all}
-use Rattle.tree_model.specs.declared.messages.AckMsg.{AckMsg}
-use Rattle.trident_batches.specs.Batches.{Cut}
-use Rattle.tuple_account.specs.Drawn.{started}
-use Rattle.tuple_account.specs.Fits.{Fits}
-use Rattle.tuple_account.specs.Histories.{Packet, Start, nothing, start_spans}
-use Rattle.tuple_account.specs.Moves.{Moves, empty}
-use Rattle.tuple_account.specs.Parts.{weigh_entries}
-use Rattle.tuple_account.specs.Stretches.{sum_below}
-use Rattle.tuple_account.proofs.Sourcing.{all-sources}
+use Rattle.commit_order.proofs.output_collector.Lanes.{few_subs}
+use Rattle.commit_order.specs.storm_values.declared.value.Root.{Root}
+use Rattle.commit_order.specs.topology_plan.declared.parts.Origin.{Origin}
+use Rattle.commit_order.specs.topology_plan.declared.parts.Origin.TheVariants as origin
+use Rattle.commit_order.specs.topology_plan.Topology.{Topology, component_of, subs_of, tasks_in_all}
+use Rattle.commit_order.specs.tree_model.declared.messages.AckMsg.{AckMsg}
+use Rattle.commit_order.specs.trident_batches.Batches.{Cut}
+use Rattle.commit_order.specs.tuple_account.Drawn.{started}
+use Rattle.commit_order.specs.tuple_account.Fits.{Fits}
+use Rattle.commit_order.specs.tuple_account.Histories.{Packet, Start, nothing, start_spans}
+use Rattle.commit_order.specs.tuple_account.Moves.{Moves, empty}
+use Rattle.commit_order.specs.tuple_account.Parts.{weigh_entries}
+use Rattle.commit_order.specs.tuple_account.Stretches.{sum_below}
+use Rattle.commit_order.proofs.tuple_account.Sourcing.{all-sources}
 
 -- ---- sources one after another
 

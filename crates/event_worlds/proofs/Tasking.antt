@@ -3,9 +3,9 @@ use Rattle.std.proofs.Common.{◌≡◌, ◌<◌, ℕ, ◌+◌, ◌==◌, Bool, 
 use Rattle.std.specs.List.{AllByRecursion, range_with_len}
 use Rattle.std.proofs.lemmas.List.{get_or-set_same, append-nil, get_or-set_other, length-set}
 use Rattle.std.proofs.lemmas.List.FromFn.{length-map-range_with_len}
-use Rattle.bolt_ops.specs.RowOp.{Custom, IsCustom}
+use Rattle.commit_order.specs.bolt_ops.RowOp.{Custom, IsCustom}
 use Rattle.commit_order.specs.Orders.{Stand}
-use Rattle.counted_items.specs.Weights.{weigh}
+use Rattle.commit_order.specs.counted_items.Weights.{weigh}
 use Rattle.event_worlds.specs.Accounted.{IsCounted, IsInput, LedTo, station_of}
 use Rattle.event_worlds.specs.Added.{executes, task_adds, task_adds_past}
 use Rattle.event_worlds.specs.Orderly.{FitsParcel, IsForTask, IsOrderly, IsStandOf, IsTaskOrderly}
@@ -13,22 +13,22 @@ use Rattle.event_worlds.specs.Worlds.{TaskSide, World, acted_past, drew, ended, 
 use Rattle.event_worlds.proofs.Leading.{counted-same, counted-set, draw-more, fits-alike, joined-nothing, led-delivered, reached-alike, reached-more, starts-more}
 use Rattle.event_worlds.proofs.Orderly.{executed-well, orderly-task, task-seat}
 use Rattle.event_worlds.proofs.Waiting.{drew-none, drew-other, tasks-set}
-use Rattle.topology_plan.specs.declared.parts.Origin.TheVariants as origin
-use Rattle.topology_plan.specs.Topology.{Topology, component_of, tasks_in_all}
-use Rattle.tree_model.specs.declared.messages.AckMsg.{AckMsg}
-use Rattle.tree_model.specs.declared.messages.AckMsg.TheVariants as msg
-use Rattle.tree_model.specs.declared.messages.Parcel.{Parcel}
-use Rattle.tree_model.specs.declared.messages.Parcel.TheVariants.{ToTask}
-use Rattle.tree_model.specs.declared.messages.Tuple.{Tuple}
-use Rattle.tree_model.specs.Trees.{write_of}
-use Rattle.trident_batches.specs.Batches.{Cut}
-use Rattle.tuple_account.specs.Histories.{Execution, History, execution_parcels, joined, of_parcel, to_acker, to_tasks, weigh_parcels}
-use Rattle.tuple_account.specs.Moves.{Moves, beside}
-use Rattle.tuple_account.specs.Parts.{executing, holding}
-use Rattle.tuple_account.specs.Places.{before, spans}
-use Rattle.tuple_account.proofs.Moving.{drawn-both}
-use Rattle.tuple_account.specs.Issued.{Run, children_of, course_of_run, edges_of, node_of, notes_by}
-use Rattle.tuple_tickets.specs.Trees.{Course, fails, goes, mute}
+use Rattle.commit_order.specs.topology_plan.declared.parts.Origin.TheVariants as origin
+use Rattle.commit_order.specs.topology_plan.Topology.{Topology, component_of, tasks_in_all}
+use Rattle.commit_order.specs.tree_model.declared.messages.AckMsg.{AckMsg}
+use Rattle.commit_order.specs.tree_model.declared.messages.AckMsg.TheVariants as msg
+use Rattle.commit_order.specs.tree_model.declared.messages.Parcel.{Parcel}
+use Rattle.commit_order.specs.tree_model.declared.messages.Parcel.TheVariants.{ToTask}
+use Rattle.commit_order.specs.tree_model.declared.messages.Tuple.{Tuple}
+use Rattle.commit_order.specs.tree_model.Trees.{write_of}
+use Rattle.commit_order.specs.trident_batches.Batches.{Cut}
+use Rattle.commit_order.specs.tuple_account.Histories.{Execution, History, execution_parcels, joined, of_parcel, to_acker, to_tasks, weigh_parcels}
+use Rattle.commit_order.specs.tuple_account.Moves.{Moves, beside}
+use Rattle.commit_order.specs.tuple_account.Parts.{executing, holding}
+use Rattle.commit_order.specs.tuple_account.Places.{before, spans}
+use Rattle.commit_order.proofs.tuple_account.Moving.{drawn-both}
+use Rattle.commit_order.specs.tuple_account.Issued.{Run, children_of, course_of_run, edges_of, node_of, notes_by}
+use Rattle.commit_order.specs.tuple_tickets.Trees.{Course, fails, goes, mute}
 use Rattle.std.specs.Option.{option_to_list}
 
 -- ---- places up to 2^64 - 1

@@ -1,18 +1,18 @@
 -- The ticks that the coordinator counts.
 use Rattle.std.proofs.Common.{◌≡◌, ◌≤◌, ℕ, zero, suc, ◌+◌, ◌-◌, ◌^◌, ◌==◌, Bool, true, false, cond, Option, None, Some, ◌++◌, refl, sym, ◌∙◌, eq-eqb, true≢false, arith}
 use Rattle.std.specs.Prelude.{is_some}
-use Rattle.acker_core.specs.declared.verdict.Verdict.{Verdict}
-use Rattle.acker_core.specs.declared.verdict.Verdict.TheVariants.{Complete, Fails}
-use Rattle.attempt_fates.specs.declared.fates.End.TheVariants as end
-use Rattle.commit_turns.specs.declared.wait.Wait.{Wait}
-use Rattle.commit_turns.specs.Desks.{Desk, still, timed_of}
-use Rattle.commit_turns.specs.Turns.{begun, complete_timed, decided, decided_by, end_timed, fill_more, filled, has_no_tick, heard, is_closed, last_tick, next_root, next_to_commit, one_tick, ordered, passed, ticked, turned, turned_by}
+use Rattle.commit_order.specs.acker_core.declared.verdict.Verdict.{Verdict}
+use Rattle.commit_order.specs.acker_core.declared.verdict.Verdict.TheVariants.{Complete, Fails}
+use Rattle.commit_order.specs.attempt_fates.declared.fates.End.TheVariants as end
+use Rattle.commit_order.specs.commit_turns.declared.wait.Wait.{Wait}
+use Rattle.commit_order.specs.commit_turns.Desks.{Desk, still, timed_of}
+use Rattle.commit_order.specs.commit_turns.Turns.{begun, complete_timed, decided, decided_by, end_timed, fill_more, filled, has_no_tick, heard, is_closed, last_tick, next_root, next_to_commit, one_tick, ordered, passed, ticked, turned, turned_by}
 use Rattle.event_worlds.specs.Worlds.{ended}
-use Rattle.state_parts.specs.declared.answer.CommitOutcome.{CommitOutcome}
-use Rattle.state_parts.specs.declared.answer.CommitOutcome.TheVariants.{Done, Failed}
-use Rattle.storm_values.specs.declared.value.Root.{Root}
-use Rattle.topology_plan.specs.Topology.{Topology}
-use Rattle.trident_batches.specs.Batches.{Cut}
+use Rattle.commit_order.specs.state_parts.declared.answer.CommitOutcome.{CommitOutcome}
+use Rattle.commit_order.specs.state_parts.declared.answer.CommitOutcome.TheVariants.{Done, Failed}
+use Rattle.commit_order.specs.storm_values.declared.value.Root.{Root}
+use Rattle.commit_order.specs.topology_plan.Topology.{Topology}
+use Rattle.commit_order.specs.trident_batches.Batches.{Cut}
 
 not_last : (o tick : Bool) → cond o true tick ≡ false → tick ≡ false
 not_last true tick is = absurd (true≢false is)

@@ -4,18 +4,18 @@ use Rattle.std.specs.List.{AllByRecursion, range_with_len}
 use Rattle.std.specs.Option.{option_to_list}
 use Rattle.std.proofs.lemmas.List.{append-nil}
 use Rattle.std.proofs.lemmas.List.FromFn.{length-map-range_with_len}
-use Rattle.acker_core.specs.declared.verdict.Verdict.{Verdict}
-use Rattle.attempt_fates.specs.declared.fates.Attempt.{Attempt}
-use Rattle.bolt_ops.specs.RowOp.{Custom}
+use Rattle.commit_order.specs.acker_core.declared.verdict.Verdict.{Verdict}
+use Rattle.commit_order.specs.attempt_fates.declared.fates.Attempt.{Attempt}
+use Rattle.commit_order.specs.bolt_ops.RowOp.{Custom}
 use Rattle.commit_order.specs.Orders.{Stand, ids_drawn}
-use Rattle.commit_turns.specs.Account.{desk_of, ends_of, rows_in}
-use Rattle.commit_turns.specs.Desks.{Progress}
-use Rattle.commit_turns.specs.Kept.{IsKept}
-use Rattle.commit_turns.specs.Outcomes.{Begin, hears}
-use Rattle.commit_turns.specs.Turns.{Turned, decided}
-use Rattle.counted_items.specs.Weights.{weigh}
-use Rattle.counted_items.proofs.Each.{each-weaker}
-use Rattle.counted_items.proofs.Weighing.{weigh-flat_map}
+use Rattle.commit_order.specs.commit_turns.Account.{desk_of, ends_of, rows_in}
+use Rattle.commit_order.specs.commit_turns.Desks.{Progress}
+use Rattle.commit_order.specs.commit_turns.Kept.{IsKept}
+use Rattle.commit_order.specs.commit_turns.Outcomes.{Begin, hears}
+use Rattle.commit_order.specs.commit_turns.Turns.{Turned, decided}
+use Rattle.commit_order.specs.counted_items.Weights.{weigh}
+use Rattle.commit_order.proofs.counted_items.Each.{each-weaker}
+use Rattle.commit_order.proofs.counted_items.Weighing.{weigh-flat_map}
 use Rattle.event_worlds.specs.Accounted.{IsCounted, IsInput, LedAt, LedTo, station_of}
 use Rattle.event_worlds.specs.Added.{placed, turn_adds, turn_adds_past}
 use Rattle.event_worlds.specs.Orderly.{FitsParcel, IsOrderly}
@@ -24,20 +24,20 @@ use Rattle.event_worlds.proofs.Leading.{counted-same, draw-more, joined-nothing,
 use Rattle.event_worlds.proofs.Orderly.{AreOpened, opened-fits, orderly-outcome, orderly-tick, orderly-turn}
 use Rattle.event_worlds.proofs.Placing.{AreOf, given-past, placed-parcels, placed-roots, placed-rows, placed-spans, placed-well, placed-words}
 use Rattle.event_worlds.proofs.Waiting.{drew-here, drew-none, drew-other, weigh-front}
-use Rattle.state_parts.specs.declared.answer.CommitOutcome.{CommitOutcome}
-use Rattle.storm_values.specs.declared.value.Root.{Root}
-use Rattle.topology_plan.specs.Topology.{Topology, tasks_in_all}
-use Rattle.tree_model.specs.declared.messages.Parcel.{Parcel}
-use Rattle.trident_batches.specs.Batches.{Cut}
-use Rattle.tuple_account.specs.Fits.{Fits}
-use Rattle.tuple_account.specs.Histories.{History, IsOpening, Opening, joined, of_parcel, of_verdict, opening_parcels, opens, weigh_parcels}
-use Rattle.tuple_account.specs.Moves.{Moves, Station, beside}
-use Rattle.tuple_account.specs.Parts.{holding}
-use Rattle.tuple_account.specs.Places.{HasWords, before, spans}
-use Rattle.tuple_account.specs.Sound.{is_about}
-use Rattle.tuple_account.proofs.Moving.{drawn-both, reached-then}
-use Rattle.tuple_account.proofs.Placing.{spans-more}
-use Rattle.tuple_account.proofs.Telling.{heard_begun}
+use Rattle.commit_order.specs.state_parts.declared.answer.CommitOutcome.{CommitOutcome}
+use Rattle.commit_order.specs.storm_values.declared.value.Root.{Root}
+use Rattle.commit_order.specs.topology_plan.Topology.{Topology, tasks_in_all}
+use Rattle.commit_order.specs.tree_model.declared.messages.Parcel.{Parcel}
+use Rattle.commit_order.specs.trident_batches.Batches.{Cut}
+use Rattle.commit_order.specs.tuple_account.Fits.{Fits}
+use Rattle.commit_order.specs.tuple_account.Histories.{History, IsOpening, Opening, joined, of_parcel, of_verdict, opening_parcels, opens, weigh_parcels}
+use Rattle.commit_order.specs.tuple_account.Moves.{Moves, Station, beside}
+use Rattle.commit_order.specs.tuple_account.Parts.{holding}
+use Rattle.commit_order.specs.tuple_account.Places.{HasWords, before, spans}
+use Rattle.commit_order.specs.tuple_account.Sound.{is_about}
+use Rattle.commit_order.proofs.tuple_account.Moving.{drawn-both, reached-then}
+use Rattle.commit_order.proofs.tuple_account.Placing.{spans-more}
+use Rattle.commit_order.proofs.tuple_account.Telling.{heard_begun}
 
 -- What the coordinator's laws say of a turn that heard this and came to this.
 pub record TurnsWell (t : Topology) (cut : Cut) (h : History) (fates : List Attempt) (tick : ℕ) (verdict : Option Verdict) (to : Turned t cut) : Type 0 where

@@ -2,14 +2,14 @@
 use Rattle.std.proofs.Common.{◌≡◌, ◌≢◌, ◌<◌, ℕ, zero, suc, ◌+◌, ◌==◌, Bool, true, false, cond, List, [], ◌∷◌, length, get_or, set, slice_get, drop, refl, ap, eqb-true, eq-eqb, arith}
 use Rattle.std.specs.List.{AllByRecursion}
 use Rattle.std.specs.Option.{option_to_list}
-use Rattle.acker_core.specs.declared.verdict.Verdict.{Verdict}
-use Rattle.counted_items.specs.Weights.{weigh}
+use Rattle.commit_order.specs.acker_core.declared.verdict.Verdict.{Verdict}
+use Rattle.commit_order.specs.counted_items.Weights.{weigh}
 use Rattle.event_worlds.specs.Accounted.{weigh_ackers, weigh_tasks}
 use Rattle.event_worlds.specs.Worlds.{AckerSide, TaskSide, drew}
-use Rattle.tree_model.specs.declared.messages.AckMsg.{AckMsg}
-use Rattle.tree_model.specs.declared.messages.Parcel.TheVariants.{ToTask, ToAcker}
-use Rattle.tree_model.specs.declared.messages.Tuple.{Tuple}
-use Rattle.tuple_account.specs.Histories.{Packet, of_parcel, of_verdict, weigh_parcels}
+use Rattle.commit_order.specs.tree_model.declared.messages.AckMsg.{AckMsg}
+use Rattle.commit_order.specs.tree_model.declared.messages.Parcel.TheVariants.{ToTask, ToAcker}
+use Rattle.commit_order.specs.tree_model.declared.messages.Tuple.{Tuple}
+use Rattle.commit_order.specs.tuple_account.Histories.{Packet, of_parcel, of_verdict, weigh_parcels}
 
 -- ---- lists with a changed item
 

@@ -2,30 +2,30 @@
 -- This project's own.
 use Rattle.std.specs.Prelude.{◌≡◌, ◌≤◌, ◌<◌, ◌^◌, ℕ, ◌+◌, ◌-◌, ◌*◌, List, [], ◌∷◌, All, length}
 use Rattle.std.specs.List.{AllByRecursion}
-use Rattle.acker_core.specs.Entries.{AreSilent}
-use Rattle.attempt_fates.specs.declared.fates.Attempt.{Attempt}
-use Rattle.bolt_ops.specs.RowOp.{Custom}
-use Rattle.commit_turns.specs.Account.{desk_of, ends_of, rows_in}
-use Rattle.commit_turns.specs.Kept.{IsKept}
-use Rattle.counted_items.specs.Weights.{weigh}
+use Rattle.commit_order.specs.acker_core.Entries.{AreSilent}
+use Rattle.commit_order.specs.attempt_fates.declared.fates.Attempt.{Attempt}
+use Rattle.commit_order.specs.bolt_ops.RowOp.{Custom}
+use Rattle.commit_order.specs.commit_turns.Account.{desk_of, ends_of, rows_in}
+use Rattle.commit_order.specs.commit_turns.Kept.{IsKept}
+use Rattle.commit_order.specs.counted_items.Weights.{weigh}
 use Rattle.event_worlds.specs.Orderly.{IsOrderly}
 use Rattle.event_worlds.specs.Worlds.{AckerSide, Known, TaskSide, ended, task_at}
-use Rattle.storm_values.specs.declared.value.Root.{Root}
-use Rattle.storm_values.specs.Rows.{IsRow}
-use Rattle.topology_plan.specs.declared.parts.Origin.TheVariants as origin
-use Rattle.topology_plan.specs.Topology.{Topology, tasks_in_all}
-use Rattle.topology_plan.specs.Valid.{IsValid}
-use Rattle.topology_plan.specs.Wired.{IsWired, width_of}
-use Rattle.tree_model.specs.declared.messages.Parcel.TheVariants.{ToTask, ToAcker}
-use Rattle.tree_model.specs.Trees.{node_count}
-use Rattle.trident_batches.specs.Batches.{Cut}
-use Rattle.tuple_account.specs.Drawn.{AreDrawn, started}
-use Rattle.tuple_account.specs.Ends.{HasCause, lists_of}
-use Rattle.tuple_account.specs.Fits.{Fits}
-use Rattle.tuple_account.specs.Histories.{History, Packet, of_parcel, of_verdict, weigh_parcels}
-use Rattle.tuple_account.specs.Moves.{HasDrawn, Reached, Station}
-use Rattle.tuple_account.specs.Parts.{weigh_entries}
-use Rattle.tuple_account.specs.Places.{before}
+use Rattle.commit_order.specs.storm_values.declared.value.Root.{Root}
+use Rattle.commit_order.specs.storm_values.Rows.{IsRow}
+use Rattle.commit_order.specs.topology_plan.declared.parts.Origin.TheVariants as origin
+use Rattle.commit_order.specs.topology_plan.Topology.{Topology, tasks_in_all}
+use Rattle.commit_order.specs.topology_plan.Valid.{IsValid}
+use Rattle.commit_order.specs.topology_plan.Wired.{IsWired, width_of}
+use Rattle.commit_order.specs.tree_model.declared.messages.Parcel.TheVariants.{ToTask, ToAcker}
+use Rattle.commit_order.specs.tree_model.Trees.{node_count}
+use Rattle.commit_order.specs.trident_batches.Batches.{Cut}
+use Rattle.commit_order.specs.tuple_account.Drawn.{AreDrawn, started}
+use Rattle.commit_order.specs.tuple_account.Ends.{HasCause, lists_of}
+use Rattle.commit_order.specs.tuple_account.Fits.{Fits}
+use Rattle.commit_order.specs.tuple_account.Histories.{History, Packet, of_parcel, of_verdict, weigh_parcels}
+use Rattle.commit_order.specs.tuple_account.Moves.{HasDrawn, Reached, Station}
+use Rattle.commit_order.specs.tuple_account.Parts.{weigh_entries}
+use Rattle.commit_order.specs.tuple_account.Places.{before}
 
 -- ---- what waits
 

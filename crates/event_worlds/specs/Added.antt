@@ -2,20 +2,20 @@
 -- the words that it draws. This project's own.
 use Rattle.std.specs.Prelude.{ℕ, zero, suc, ◌+◌, ◌-◌, if◌then◌else◌, List, [], ◌∷◌, ◌++◌, length, map, slice_get}
 use Rattle.std.specs.List.{range_with_len}
-use Rattle.acker_core.specs.declared.verdict.Verdict.{Verdict}
-use Rattle.bolt_ops.specs.RowOp.{Custom}
+use Rattle.commit_order.specs.acker_core.declared.verdict.Verdict.{Verdict}
+use Rattle.commit_order.specs.bolt_ops.RowOp.{Custom}
 use Rattle.commit_order.specs.Orders.{Stand}
-use Rattle.commit_turns.specs.Outcomes.{hears}
+use Rattle.commit_order.specs.commit_turns.Outcomes.{hears}
 use Rattle.event_worlds.specs.Worlds.{AckerSide, Known, Step, TaskSide, World, acker_at, aged, execution_by, first_counts, is_over, next_words, of_acker, of_outcome, of_task, of_tick, of_turn, opened, task_at, task_needs, turn_needs, turned_in}
-use Rattle.rotating_ledger.specs.Held.{Held, dropped}
-use Rattle.storm_values.specs.declared.value.Root.{Root}
-use Rattle.topology_plan.specs.Topology.{Topology, tasks_in_all}
-use Rattle.tree_model.specs.declared.messages.AckMsg.{AckMsg}
-use Rattle.tree_model.specs.declared.messages.Parcel.{Parcel}
-use Rattle.tree_model.specs.declared.messages.Tuple.{Tuple}
-use Rattle.trident_batches.specs.Batches.{Cut}
-use Rattle.tuple_account.specs.Histories.{History, Opening, Start, nothing}
-use Rattle.tuple_account.specs.Parts.{executing, meeting}
+use Rattle.commit_order.specs.rotating_ledger.Held.{Held, dropped}
+use Rattle.commit_order.specs.storm_values.declared.value.Root.{Root}
+use Rattle.commit_order.specs.topology_plan.Topology.{Topology, tasks_in_all}
+use Rattle.commit_order.specs.tree_model.declared.messages.AckMsg.{AckMsg}
+use Rattle.commit_order.specs.tree_model.declared.messages.Parcel.{Parcel}
+use Rattle.commit_order.specs.tree_model.declared.messages.Tuple.{Tuple}
+use Rattle.commit_order.specs.trident_batches.Batches.{Cut}
+use Rattle.commit_order.specs.tuple_account.Histories.{History, Opening, Start, nothing}
+use Rattle.commit_order.specs.tuple_account.Parts.{executing, meeting}
 
 -- ---- a task
 

@@ -1,13 +1,13 @@
 -- Worlds with more that waits beside them, as in boxes that others use. This project's own.
 use Rattle.std.specs.Prelude.{◌≡◌, ℕ, List, []}
-use Rattle.bolt_ops.specs.RowOp.{Custom}
+use Rattle.commit_order.specs.bolt_ops.RowOp.{Custom}
 use Rattle.event_worlds.specs.Accounted.{LedAt, station_of}
 use Rattle.event_worlds.specs.Worlds.{Known, Step, of_acker, of_outcome, of_task, of_tick, of_turn}
-use Rattle.topology_plan.specs.Topology.{Topology}
-use Rattle.tree_model.specs.declared.messages.Parcel.{Parcel}
-use Rattle.trident_batches.specs.Batches.{Cut}
-use Rattle.tuple_account.specs.Histories.{History, Packet}
-use Rattle.tuple_account.specs.Moves.{Station, beside}
+use Rattle.commit_order.specs.topology_plan.Topology.{Topology}
+use Rattle.commit_order.specs.tree_model.declared.messages.Parcel.{Parcel}
+use Rattle.commit_order.specs.trident_batches.Batches.{Cut}
+use Rattle.commit_order.specs.tuple_account.Histories.{History, Packet}
+use Rattle.commit_order.specs.tuple_account.Moves.{Station, beside}
 
 -- packets that wait, of this weight
 abbrev pub waits : ((Packet → ℕ) → ℕ) → Station

@@ -5,15 +5,15 @@ use Rattle.std.specs.List.{AllByRecursion}
 use Rattle.commit_order.specs.Orders.{Stand}
 use Rattle.event_worlds.specs.Worlds.{TaskSide, World}
 use Rattle.groupings.specs.Allowed.{IsLane}
-use Rattle.output_collector.specs.Outlets.{HasItsLanes}
-use Rattle.storm_values.specs.Rows.{IsRow}
-use Rattle.topology_plan.specs.declared.parts.Origin.{Origin}
-use Rattle.topology_plan.specs.declared.parts.Origin.TheVariants as origin
-use Rattle.topology_plan.specs.Topology.{Topology, component_of, tasks_in_all}
-use Rattle.topology_plan.specs.Wired.{width_to}
-use Rattle.tree_model.specs.declared.messages.Parcel.{Parcel}
-use Rattle.tree_model.specs.declared.messages.Parcel.TheVariants.{ToTask, ToAcker}
-use Rattle.tree_model.specs.declared.messages.Tuple.{Tuple}
+use Rattle.commit_order.specs.output_collector.Outlets.{HasItsLanes}
+use Rattle.commit_order.specs.storm_values.Rows.{IsRow}
+use Rattle.commit_order.specs.topology_plan.declared.parts.Origin.{Origin}
+use Rattle.commit_order.specs.topology_plan.declared.parts.Origin.TheVariants as origin
+use Rattle.commit_order.specs.topology_plan.Topology.{Topology, component_of, tasks_in_all}
+use Rattle.commit_order.specs.topology_plan.Wired.{width_to}
+use Rattle.commit_order.specs.tree_model.declared.messages.Parcel.{Parcel}
+use Rattle.commit_order.specs.tree_model.declared.messages.Parcel.TheVariants.{ToTask, ToAcker}
+use Rattle.commit_order.specs.tree_model.declared.messages.Tuple.{Tuple}
 
 -- a tuple is for a task's component, with a row that the component takes
 pub record IsForTask (t : Topology) (n : ℕ) (tuple : Tuple) : Type 0 where

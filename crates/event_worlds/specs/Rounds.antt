@@ -1,19 +1,19 @@
 -- Rounds of steps: each task has a step, each acker, and then the coordinator. This project's own.
 use Rattle.std.specs.Prelude.{◌≡◌, ◌≤◌, ℕ, zero, suc, ◌+◌, ◌*◌, Bool, true, false, List, ◌++◌, All, length, map, filter, replicate}
 use Rattle.std.specs.List.{range_with_len}
-use Rattle.attempt_fates.specs.declared.fates.Attempt.{Attempt}
-use Rattle.attempt_fates.specs.declared.fates.End.TheVariants as end
-use Rattle.bolt_ops.specs.RowOp.{Custom}
+use Rattle.commit_order.specs.attempt_fates.declared.fates.Attempt.{Attempt}
+use Rattle.commit_order.specs.attempt_fates.declared.fates.End.TheVariants as end
+use Rattle.commit_order.specs.bolt_ops.RowOp.{Custom}
 use Rattle.event_worlds.specs.Worlds.{Step, coordinator_steps, of_acker, of_outcome, of_task, of_tick, of_turn}
-use Rattle.topology_plan.specs.declared.parts.Body.{Body}
-use Rattle.topology_plan.specs.declared.parts.Body.TheVariants.{Bolt, State}
-use Rattle.topology_plan.specs.declared.parts.Component.{Component}
-use Rattle.topology_plan.specs.declared.parts.Op.{Op}
-use Rattle.topology_plan.specs.declared.parts.Op.TheVariants as op
-use Rattle.topology_plan.specs.Topology.{Topology, tasks_in_all}
-use Rattle.tree_model.specs.declared.messages.AckMsg.{AckMsg}
-use Rattle.tree_model.specs.Trees.{node_count}
-use Rattle.trident_batches.specs.Batches.{Cut, batch_count}
+use Rattle.commit_order.specs.topology_plan.declared.parts.Body.{Body}
+use Rattle.commit_order.specs.topology_plan.declared.parts.Body.TheVariants.{Bolt, State}
+use Rattle.commit_order.specs.topology_plan.declared.parts.Component.{Component}
+use Rattle.commit_order.specs.topology_plan.declared.parts.Op.{Op}
+use Rattle.commit_order.specs.topology_plan.declared.parts.Op.TheVariants as op
+use Rattle.commit_order.specs.topology_plan.Topology.{Topology, tasks_in_all}
+use Rattle.commit_order.specs.tree_model.declared.messages.AckMsg.{AckMsg}
+use Rattle.commit_order.specs.tree_model.Trees.{node_count}
+use Rattle.commit_order.specs.trident_batches.Batches.{Cut, batch_count}
 
 -- a round in which so many ticks come before the coordinator's step
 abbrev pub round_with : Topology → ℕ → List Step

@@ -4,38 +4,38 @@
 use Rattle.std.specs.Prelude.{ℕ, zero, suc, ◌+◌, ◌-◌, ◌^◌, ◌==◌, nat_lt, Bool, true, if◌then◌else◌, min, List, [], ◌∷◌, ◌++◌, length, map, take, drop, sum, Option, None, Some, is_some, slice_get, slice_set, slice_index_or, replicate}
 use Rattle.std.specs.Option.{option_to_list}
 use Rattle.std.specs.List.{filter_map, flat_map, range_with_len}
-use Rattle.acker_core.specs.declared.verdict.Verdict.{Verdict}
-use Rattle.acker_core.specs.Entries.{met, told_of}
-use Rattle.attempt_fates.specs.declared.fates.Attempt.{Attempt}
-use Rattle.attempt_fates.specs.declared.fates.End.{End}
-use Rattle.attempt_fates.specs.declared.fates.End.TheVariants as end
-use Rattle.bolt_ops.specs.RowOp.{Custom}
+use Rattle.commit_order.specs.acker_core.declared.verdict.Verdict.{Verdict}
+use Rattle.commit_order.specs.acker_core.Entries.{met, told_of}
+use Rattle.commit_order.specs.attempt_fates.declared.fates.Attempt.{Attempt}
+use Rattle.commit_order.specs.attempt_fates.declared.fates.End.{End}
+use Rattle.commit_order.specs.attempt_fates.declared.fates.End.TheVariants as end
+use Rattle.commit_order.specs.bolt_ops.RowOp.{Custom}
 use Rattle.bolt_task.specs.Executing.{rows_of}
 use Rattle.commit_order.specs.Orders.{Stand, opening_of, stand_after}
-use Rattle.commit_turns.specs.Account.{rows_in}
-use Rattle.commit_turns.specs.Desks.{Desk, Progress, first_desk}
-use Rattle.commit_turns.specs.Turns.{Turned, decided, is_finished, turned}
+use Rattle.commit_order.specs.commit_turns.Account.{rows_in}
+use Rattle.commit_order.specs.commit_turns.Desks.{Desk, Progress, first_desk}
+use Rattle.commit_order.specs.commit_turns.Turns.{Turned, decided, is_finished, turned}
 use Rattle.groupings.specs.Routing.{lanes_of}
-use Rattle.output_collector.specs.Draws.{given_after}
-use Rattle.output_collector.specs.Outlets.{after_rows, tasks_for}
-use Rattle.rotating_ledger.specs.Held.{Held, rotated}
-use Rattle.state_parts.specs.declared.answer.CommitOutcome.{CommitOutcome}
-use Rattle.state_parts.specs.declared.answer.CommitOutcome.TheVariants.{Done, Failed}
-use Rattle.storm_values.specs.declared.value.Root.{Root}
-use Rattle.storm_values.specs.declared.value.Value.{Value}
-use Rattle.topology_plan.specs.declared.parts.Origin.{Origin}
-use Rattle.topology_plan.specs.declared.parts.Origin.TheVariants as origin
-use Rattle.topology_plan.specs.Topology.{Topology, component_of, subs_of, tasks_in_all}
-use Rattle.tree_model.specs.Courses.{course_at}
-use Rattle.tree_model.specs.Trees.{kids, kids_of}
-use Rattle.tree_model.specs.declared.messages.AckMsg.{AckMsg}
-use Rattle.tree_model.specs.declared.messages.Parcel.{Parcel}
-use Rattle.tree_model.specs.declared.messages.Parcel.TheVariants.{ToTask, ToAcker}
-use Rattle.tree_model.specs.declared.messages.Tuple.{Tuple}
-use Rattle.trident_batches.specs.Batches.{Cut}
-use Rattle.tuple_account.specs.Issued.{node_of}
-use Rattle.tuple_tickets.specs.Tickets.{made_by}
-use Rattle.tuple_account.specs.Histories.{Execution, Opening, execution_parcels, opening_parcels}
+use Rattle.commit_order.specs.output_collector.Draws.{given_after}
+use Rattle.commit_order.specs.output_collector.Outlets.{after_rows, tasks_for}
+use Rattle.commit_order.specs.rotating_ledger.Held.{Held, rotated}
+use Rattle.commit_order.specs.state_parts.declared.answer.CommitOutcome.{CommitOutcome}
+use Rattle.commit_order.specs.state_parts.declared.answer.CommitOutcome.TheVariants.{Done, Failed}
+use Rattle.commit_order.specs.storm_values.declared.value.Root.{Root}
+use Rattle.commit_order.specs.storm_values.declared.value.Value.{Value}
+use Rattle.commit_order.specs.topology_plan.declared.parts.Origin.{Origin}
+use Rattle.commit_order.specs.topology_plan.declared.parts.Origin.TheVariants as origin
+use Rattle.commit_order.specs.topology_plan.Topology.{Topology, component_of, subs_of, tasks_in_all}
+use Rattle.commit_order.specs.tree_model.Courses.{course_at}
+use Rattle.commit_order.specs.tree_model.Trees.{kids, kids_of}
+use Rattle.commit_order.specs.tree_model.declared.messages.AckMsg.{AckMsg}
+use Rattle.commit_order.specs.tree_model.declared.messages.Parcel.{Parcel}
+use Rattle.commit_order.specs.tree_model.declared.messages.Parcel.TheVariants.{ToTask, ToAcker}
+use Rattle.commit_order.specs.tree_model.declared.messages.Tuple.{Tuple}
+use Rattle.commit_order.specs.trident_batches.Batches.{Cut}
+use Rattle.commit_order.specs.tuple_account.Issued.{node_of}
+use Rattle.commit_order.specs.tuple_tickets.Tickets.{made_by}
+use Rattle.commit_order.specs.tuple_account.Histories.{Execution, Opening, execution_parcels, opening_parcels}
 
 -- ---- who has what
 

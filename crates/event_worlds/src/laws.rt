@@ -1,23 +1,23 @@
 ghost use Rattle.std.specs.Prelude.{◌≡◌, ℕ, List, Some, All, slice_get};
-ghost use Rattle.bolt_ops.specs.RowOp.{Custom, IsCustom};
-ghost use Rattle.commit_turns.specs.declared.wait.Wait.{Wait};
-ghost use Rattle.commit_turns.specs.Account.{rows_in};
-ghost use Rattle.commit_turns.specs.Outcomes.{IsOutcome};
+ghost use Rattle.commit_order.specs.bolt_ops.RowOp.{Custom, IsCustom};
+ghost use Rattle.commit_order.specs.commit_turns.declared.wait.Wait.{Wait};
+ghost use Rattle.commit_order.specs.commit_turns.Account.{rows_in};
+ghost use Rattle.commit_order.specs.commit_turns.Outcomes.{IsOutcome};
 ghost use Rattle.event_worlds.specs.Accounted.{Accounted, AreCaused, IsInput, LedAt, LedTo};
 ghost use Rattle.event_worlds.specs.Beside.{IsFreeStep, LedBeside};
 ghost use Rattle.event_worlds.specs.Added.{added, first_history};
 ghost use Rattle.event_worlds.specs.Worlds.{Known, Step, first_known, next, run};
-ghost use Rattle.state_parts.specs.declared.answer.CommitOutcome.{CommitOutcome};
-ghost use Rattle.topology_plan.specs.Topology.{Topology};
-ghost use Rattle.tree_model.specs.declared.messages.AckMsg.{AckMsg};
-ghost use Rattle.tree_model.specs.Lists.{Covers, IsClosed};
-ghost use Rattle.trident_batches.specs.Batches.{Cut};
-ghost use Rattle.tuple_account.specs.Histories.{History, Packet, joined};
-ghost use Rattle.tuple_account.specs.Moves.{Station};
-ghost use Rattle.tuple_account.specs.Sound.{IsSound};
+ghost use Rattle.commit_order.specs.state_parts.declared.answer.CommitOutcome.{CommitOutcome};
+ghost use Rattle.commit_order.specs.topology_plan.Topology.{Topology};
+ghost use Rattle.commit_order.specs.tree_model.declared.messages.AckMsg.{AckMsg};
+ghost use Rattle.commit_order.specs.tree_model.Lists.{Covers, IsClosed};
+ghost use Rattle.commit_order.specs.trident_batches.Batches.{Cut};
+ghost use Rattle.commit_order.specs.tuple_account.Histories.{History, Packet, joined};
+ghost use Rattle.commit_order.specs.tuple_account.Moves.{Station};
+ghost use Rattle.commit_order.specs.tuple_account.Sound.{IsSound};
 
-use commit_turns::{accounts_stay_fit, desks_are_kept};
-use tree_model::nodes_of_joined_rows;
+use commit_order::commit_turns::{accounts_stay_fit, desks_are_kept};
+use commit_order::tree_model::nodes_of_joined_rows;
 
 /// A law: start words alone led to the first world, and each step leads on, with what it adds to
 /// the history, whatever the words of the sources and the outcomes of commits.

@@ -6,20 +6,20 @@ use Rattle.std.proofs.lemmas.List.{length-map, length-replicate, get_or-map}
 use Rattle.std.proofs.lemmas.List.Elements.{recursion_from_All, All-from_recursion}
 use Rattle.std.proofs.lemmas.List.FromFn.{length-range_with_len}
 use Rattle.std.proofs.lemmas.Option.{none-some, same_Some}
-use Rattle.storm_values.specs.declared.value.Value.{Value}
-use Rattle.storm_values.specs.Limits.{most_tasks_in_all}
-use Rattle.topology_plan.specs.declared.parts.Grouping.{Grouping}
-use Rattle.topology_plan.specs.declared.parts.Grouping.TheVariants as grouping
-use Rattle.topology_plan.specs.declared.parts.Origin.{Origin}
-use Rattle.topology_plan.specs.declared.parts.Sub.{Sub}
-use Rattle.topology_plan.specs.Topology.{Topology, subs_of, copies_by, copies_of}
-use Rattle.topology_plan.specs.Valid.{IsValid, IsTarget}
-use Rattle.topology_plan.specs.Wired.{IsWired}
+use Rattle.tuple_account.specs.storm_values.declared.value.Value.{Value}
+use Rattle.tuple_account.specs.storm_values.Limits.{most_tasks_in_all}
+use Rattle.tuple_account.specs.topology_plan.declared.parts.Grouping.{Grouping}
+use Rattle.tuple_account.specs.topology_plan.declared.parts.Grouping.TheVariants as grouping
+use Rattle.tuple_account.specs.topology_plan.declared.parts.Origin.{Origin}
+use Rattle.tuple_account.specs.topology_plan.declared.parts.Sub.{Sub}
+use Rattle.tuple_account.specs.topology_plan.Topology.{Topology, subs_of, copies_by, copies_of}
+use Rattle.tuple_account.specs.topology_plan.Valid.{IsValid, IsTarget}
+use Rattle.tuple_account.specs.topology_plan.Wired.{IsWired}
 use Rattle.groupings.specs.declared.lane.Lane.{Lane}
 use Rattle.groupings.specs.declared.lane.Targets.{Targets}
 use Rattle.groupings.specs.Allowed.{IsLane, told}
 use Rattle.groupings.specs.Routing.{lanes_of, moved, targets, targets_by, turn_after}
-use Rattle.tree_model.specs.Trees.{kids, kids_by, copies_at}
+use Rattle.tuple_account.specs.tree_model.Trees.{kids, kids_by, copies_at}
 use Rattle.output_collector.specs.Outlets.{IsLaneOf, AreLanesOf, tasks_for_row, tasks_for, lanes_after}
 use Rattle.output_collector.specs.Sending.{AreFew}
 

@@ -3,15 +3,15 @@ use Rattle.std.proofs.Common.{◌≡◌, ℕ, zero, suc, ◌+◌, ◌<◌, List,
 use Rattle.std.specs.List.{flat_map}
 use Rattle.std.proofs.lemmas.List.{length-map}
 use Rattle.std.proofs.lemmas.Option.{none-some, same_Some}
-use Rattle.storm_values.specs.declared.value.Root.{Root}
-use Rattle.storm_values.specs.declared.value.Value.{Value}
-use Rattle.topology_plan.specs.declared.parts.Sub.{Sub}
-use Rattle.topology_plan.specs.Topology.{Topology, subs_of}
+use Rattle.tuple_account.specs.storm_values.declared.value.Root.{Root}
+use Rattle.tuple_account.specs.storm_values.declared.value.Value.{Value}
+use Rattle.tuple_account.specs.topology_plan.declared.parts.Sub.{Sub}
+use Rattle.tuple_account.specs.topology_plan.Topology.{Topology, subs_of}
 use Rattle.groupings.specs.declared.lane.Lane.{Lane}
 use Rattle.groupings.specs.Allowed.{told}
 use Rattle.groupings.specs.Routing.{moved, targets}
-use Rattle.tree_model.specs.declared.messages.Parcel.{Parcel}
-use Rattle.tree_model.specs.Trees.{Node, kids, kids_by, copies_at}
+use Rattle.tuple_account.specs.tree_model.declared.messages.Parcel.{Parcel}
+use Rattle.tuple_account.specs.tree_model.Trees.{Node, kids, kids_by, copies_at}
 use Rattle.output_collector.specs.declared.outlet.Route.{Route}
 use Rattle.output_collector.specs.Outlets.{Outlet, IsLaneOf, HasItsLanes, after_rows, tasks_for_row, tasks_for}
 use Rattle.output_collector.specs.Sending.{Sent, Sends, nodes_at, route_along}

@@ -3,15 +3,15 @@ use Rattle.std.proofs.Common.{◌≡◌, ℕ, zero, suc, ◌+◌, ◌-◌, ◌^�
 use Rattle.std.specs.List.{range_with_len}
 use Rattle.std.specs.declared.alloc.AllocError.{AllocError}
 use Rattle.std.proofs.lemmas.List.{length-map, map-append}
-use Rattle.storm_values.specs.declared.value.Root.{Root}
-use Rattle.storm_values.specs.declared.value.Value.{Value}
+use Rattle.tuple_account.specs.storm_values.declared.value.Root.{Root}
+use Rattle.tuple_account.specs.storm_values.declared.value.Value.{Value}
 use Rattle.groupings.specs.declared.lane.Targets.{Targets}
 use Rattle.groupings.specs.declared.lane.Targets.TheVariants.{All}
 use Rattle.groupings.specs.Allowed.{told}
-use Rattle.tree_model.specs.declared.messages.Parcel.{Parcel}
-use Rattle.tree_model.specs.declared.messages.Parcel.TheVariants.{ToTask}
-use Rattle.tree_model.specs.declared.messages.Tuple.{Tuple}
-use Rattle.tree_model.specs.Trees.{Node}
+use Rattle.tuple_account.specs.tree_model.declared.messages.Parcel.{Parcel}
+use Rattle.tuple_account.specs.tree_model.declared.messages.Parcel.TheVariants.{ToTask}
+use Rattle.tuple_account.specs.tree_model.declared.messages.Tuple.{Tuple}
+use Rattle.tuple_account.specs.tree_model.Trees.{Node}
 use Rattle.tuple_account.specs.Issued.{tuples_from, edges_of}
 use Rattle.tuple_account.specs.Histories.{to_tasks}
 use Rattle.tuple_account.specs.Places.{ids_of}

@@ -6,19 +6,19 @@ use Rattle.std.proofs.lemmas.Bool.Decides.{nat_tests}
 use Rattle.std.proofs.lemmas.List.Elements.{recursion_from_All}
 use Rattle.std.proofs.lemmas.List.Sums.{sum_by-cons}
 use Rattle.std.proofs.lemmas.Option.{none-some, same_Some}
-use Rattle.storm_values.specs.declared.value.Root.{Root}
-use Rattle.storm_values.specs.declared.value.Value.{Value}
-use Rattle.topology_plan.specs.declared.parts.Component.{Component}
-use Rattle.topology_plan.specs.declared.parts.Origin.{Origin}
-use Rattle.topology_plan.specs.declared.parts.Sub.{Sub}
-use Rattle.topology_plan.specs.Topology.{Topology, subs_of, tasks_of, component_from, component_of, copies_of}
-use Rattle.topology_plan.specs.Valid.{IsValid, IsTarget}
-use Rattle.topology_plan.specs.Wired.{IsWired, IsComponent}
+use Rattle.tuple_account.specs.storm_values.declared.value.Root.{Root}
+use Rattle.tuple_account.specs.storm_values.declared.value.Value.{Value}
+use Rattle.tuple_account.specs.topology_plan.declared.parts.Component.{Component}
+use Rattle.tuple_account.specs.topology_plan.declared.parts.Origin.{Origin}
+use Rattle.tuple_account.specs.topology_plan.declared.parts.Sub.{Sub}
+use Rattle.tuple_account.specs.topology_plan.Topology.{Topology, subs_of, tasks_of, component_from, component_of, copies_of}
+use Rattle.tuple_account.specs.topology_plan.Valid.{IsValid, IsTarget}
+use Rattle.tuple_account.specs.topology_plan.Wired.{IsWired, IsComponent}
 use Rattle.groupings.specs.declared.lane.Lane.{Lane}
 use Rattle.groupings.specs.Allowed.{IsLane, IsAllowed, told}
 use Rattle.groupings.specs.Routing.{first_task_of, moved, targets}
 use Rattle.groupings.proofs.Choices.{targets_allowed}
-use Rattle.tree_model.specs.Trees.{Node, kids, kids_by, copies_at}
+use Rattle.tuple_account.specs.tree_model.Trees.{Node, kids, kids_by, copies_at}
 use Rattle.tuple_account.specs.Issued.{tuples_from}
 use Rattle.tuple_account.specs.Histories.{IsTaskOf, GoTo}
 use Rattle.output_collector.specs.Outlets.{IsLaneOf, AreLanesOf, tasks_for_row, tasks_for}

@@ -1,7 +1,7 @@
 -- What contracts see of a collector. This project's own.
 use Rattle.std.specs.Prelude.{◌≡◌, ℕ, List, length}
-use Rattle.topology_plan.specs.declared.parts.Origin.{Origin}
-use Rattle.topology_plan.specs.Topology.{Topology, subs_of}
+use Rattle.tuple_account.specs.topology_plan.declared.parts.Origin.{Origin}
+use Rattle.tuple_account.specs.topology_plan.Topology.{Topology, subs_of}
 use Rattle.groupings.specs.Routing.{lanes_of}
 use Rattle.output_collector.specs.declared.collector.Collector.{Collector}
 use Rattle.output_collector.specs.Draws.{Draws}

@@ -3,17 +3,17 @@
 -- documentation, "Concepts" (stream groupings, anchored tuples); the order is this project's own.
 use Rattle.std.specs.Prelude.{◌≡◌, ℕ, List, [], ◌∷◌, ◌++◌, map}
 use Rattle.std.specs.List.{flat_map, AllZip}
-use Rattle.storm_values.specs.declared.value.Root.{Root}
-use Rattle.storm_values.specs.declared.value.Value.{Value}
-use Rattle.topology_plan.specs.declared.parts.Origin.{Origin}
-use Rattle.topology_plan.specs.declared.parts.Sub.{Sub}
-use Rattle.topology_plan.specs.Topology.{Topology, subs_of, tasks_of}
+use Rattle.tuple_account.specs.storm_values.declared.value.Root.{Root}
+use Rattle.tuple_account.specs.storm_values.declared.value.Value.{Value}
+use Rattle.tuple_account.specs.topology_plan.declared.parts.Origin.{Origin}
+use Rattle.tuple_account.specs.topology_plan.declared.parts.Sub.{Sub}
+use Rattle.tuple_account.specs.topology_plan.Topology.{Topology, subs_of, tasks_of}
 use Rattle.groupings.specs.declared.lane.Lane.{Lane}
 use Rattle.groupings.specs.Allowed.{told}
 use Rattle.groupings.specs.Routing.{first_task_of, moved, targets}
-use Rattle.tree_model.specs.declared.messages.Parcel.{Parcel}
-use Rattle.tree_model.specs.declared.messages.Tuple.{Tuple}
-use Rattle.tree_model.specs.Trees.{kids}
+use Rattle.tuple_account.specs.tree_model.declared.messages.Parcel.{Parcel}
+use Rattle.tuple_account.specs.tree_model.declared.messages.Tuple.{Tuple}
+use Rattle.tuple_account.specs.tree_model.Trees.{kids}
 use Rattle.tuple_account.specs.Issued.{tuples_from}
 use Rattle.tuple_account.specs.Histories.{to_tasks}
 

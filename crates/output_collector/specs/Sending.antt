@@ -1,16 +1,16 @@
 -- What a call of `emit` has sent so far. This project's own.
 use Rattle.std.specs.Prelude.{◌≡◌, ◌≤◌, ℕ, ◌+◌, ◌-◌, ◌^◌, List, ◌++◌, length, map}
-use Rattle.storm_values.specs.declared.value.Root.{Root}
-use Rattle.storm_values.specs.declared.value.Value.{Value}
-use Rattle.storm_values.specs.Limits.{most_tasks_in_all}
-use Rattle.topology_plan.specs.declared.parts.Sub.{Sub}
+use Rattle.tuple_account.specs.storm_values.declared.value.Root.{Root}
+use Rattle.tuple_account.specs.storm_values.declared.value.Value.{Value}
+use Rattle.tuple_account.specs.storm_values.Limits.{most_tasks_in_all}
+use Rattle.tuple_account.specs.topology_plan.declared.parts.Sub.{Sub}
 use Rattle.groupings.specs.declared.lane.Lane.{Lane}
 use Rattle.groupings.specs.declared.lane.Targets.{Targets}
 use Rattle.groupings.specs.declared.lane.Targets.TheVariants.{One, All}
 use Rattle.groupings.specs.Routing.{targets}
-use Rattle.tuple_tickets.specs.declared.edge.Edge.{Edge}
-use Rattle.tree_model.specs.declared.messages.Parcel.{Parcel}
-use Rattle.tree_model.specs.Trees.{Node}
+use Rattle.tuple_account.specs.tuple_tickets.declared.edge.Edge.{Edge}
+use Rattle.tuple_account.specs.tree_model.declared.messages.Parcel.{Parcel}
+use Rattle.tuple_account.specs.tree_model.Trees.{Node}
 use Rattle.tuple_account.specs.Issued.{tuples_from, edges_of}
 use Rattle.tuple_account.specs.Histories.{to_tasks}
 use Rattle.output_collector.specs.declared.collector.Collector.{Collector}

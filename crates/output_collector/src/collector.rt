@@ -1,11 +1,11 @@
 ghost use Rattle.std.specs.Prelude.{◌≡◌, ◌≤◌, ◌+◌, ◌-◌, ◌^◌, [], ◌∷◌, ◌++◌, All, length, map, IfOk, OnOk};
 ghost use Rattle.std.specs.List.{range_with_len};
-ghost use Rattle.storm_values.specs.Limits.{most_tasks_in_all};
+ghost use Rattle.tuple_account.specs.storm_values.Limits.{most_tasks_in_all};
 ghost use Rattle.groupings.specs.Allowed.{IsLane, told};
 ghost use Rattle.groupings.specs.Routing.{moved};
-ghost use Rattle.topology_plan.specs.Valid.{IsValid};
-ghost use Rattle.topology_plan.specs.Wired.{IsWired};
-ghost use Rattle.tree_model.specs.Trees.{kids, kids_by};
+ghost use Rattle.tuple_account.specs.topology_plan.Valid.{IsValid};
+ghost use Rattle.tuple_account.specs.topology_plan.Wired.{IsWired};
+ghost use Rattle.tuple_account.specs.tree_model.Trees.{kids, kids_by};
 ghost use Rattle.tuple_account.specs.Issued.{draw_from, edges_of};
 ghost use Rattle.tuple_account.specs.Places.{ids_of};
 ghost use Rattle.output_collector.specs.Collectors.{outlet_of, ids_in, source_of, given_by, IsStarted};
@@ -17,9 +17,9 @@ use crate::outlet::{Outlet, Route};
 use groupings::Targets;
 use std::alloc::{AllocError, Global};
 use storm_ids::{Ids, Words};
-use storm_values::{Memory, Path, Root, Row, Rows};
-use topology_plan::{Origin, Plan};
-use tree_model::{Draw, Edge, Edges, Parcel, Parcels, Tuple};
+use tuple_account::storm_values::{Memory, Path, Root, Row, Rows};
+use tuple_account::topology_plan::{Origin, Plan};
+use tuple_account::tree_model::{Draw, Edge, Edges, Parcel, Parcels, Tuple};
 
 /// Emits the rows of one source, each tuple with an id of its own. It serves a task or the spout
 /// for a whole run.

@@ -2,18 +2,18 @@ ghost use Rattle.std.specs.Prelude.{◌≡◌, ◌<◌, All, length, slice_get, 
 ghost use Rattle.groupings.specs.Allowed.{IsLane};
 ghost use Rattle.groupings.specs.Routing.{lanes_of, moved};
 ghost use Rattle.groupings.specs.declared.lane.Lane.{Lane};
-ghost use Rattle.topology_plan.specs.declared.parts.Sub.{Sub};
-ghost use Rattle.topology_plan.specs.Topology.{subs_of};
-ghost use Rattle.topology_plan.specs.Valid.{IsValid};
-ghost use Rattle.topology_plan.specs.Wired.{IsWired};
+ghost use Rattle.tuple_account.specs.topology_plan.declared.parts.Sub.{Sub};
+ghost use Rattle.tuple_account.specs.topology_plan.Topology.{subs_of};
+ghost use Rattle.tuple_account.specs.topology_plan.Valid.{IsValid};
+ghost use Rattle.tuple_account.specs.topology_plan.Wired.{IsWired};
 ghost use Rattle.output_collector.specs.Outlets.{HasItsLanes, IsSameSource};
 ghost use Rattle.output_collector.specs.Sending.{AreFew, route_along};
 
 use groupings::{Router, Targets};
 use std::alloc::Global;
 use std::marker::Model;
-use storm_values::{Memory, Row};
-use topology_plan::{Origin, Plan};
+use tuple_account::storm_values::{Memory, Row};
+use tuple_account::topology_plan::{Origin, Plan};
 
 /// Where the rows of one source go.
 #[derive(Drop)]

@@ -5,7 +5,7 @@ use crate::scene::{
 use state_parts::{CommitFault, CommitOutcome, Parts};
 use std::alloc::Global;
 use storm_stores::MemMaker;
-use storm_values::Memory;
+use tree_model::storm_values::Memory;
 
 const CAT: &str = "[\"cat\"]";
 

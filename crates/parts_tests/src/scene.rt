@@ -8,9 +8,9 @@ use state_cells::PartFault;
 use state_parts::{Commit, CommitFault, CommitOutcome, Parts};
 use std::alloc::Global;
 use storm_stores::{CallKind, FailAt, MemMaker, MemStore};
-use storm_values::{Bytes, Memory, Root, Txt};
-use topology_plan::Plan;
 use topology_reader::{TopoFault, read_topology};
+use tree_model::storm_values::{Bytes, Memory, Root, Txt};
+use tree_model::topology_plan::Plan;
 use tree_model::{PackedWrites, Table, Write};
 
 const TWO_STATES: &str = r#"{"version":1,

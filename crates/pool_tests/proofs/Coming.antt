@@ -1,13 +1,13 @@
 -- Workers after a stretch.
 use Rattle.std.proofs.Common.{ℕ, List, [], ◌∷◌, ◌++◌}
 use Rattle.std.specs.List.{AllByRecursion, AllZip}
-use Rattle.bolt_ops.specs.RowOp.{Custom}
+use Rattle.event_worlds.specs.bolt_ops.RowOp.{Custom}
 use Rattle.box_rows.specs.declared.mail.Mail.{Mail}
 use Rattle.pool_tests.specs.Resting.{Came}
 use Rattle.pulse_board.specs.declared.seat.Board.{Board}
-use Rattle.storm_ids.specs.declared.ids.Ids.{Ghosts}
+use Rattle.event_worlds.specs.storm_ids.declared.ids.Ids.{Ghosts}
 use Rattle.task_queues.specs.declared.pass.Mailbox.{Mailbox}
-use Rattle.topology_plan.specs.Topology.{Topology}
+use Rattle.event_worlds.specs.topology_plan.Topology.{Topology}
 use Rattle.worker_pool.specs.declared.worker.Worker.{Worker}
 use Rattle.worker_pool.specs.Workers.{Stretched}
 

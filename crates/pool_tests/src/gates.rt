@@ -1,9 +1,9 @@
 // Gates of these tests.
+use event_worlds::storm_values::{Path, Root};
 use std::hint;
 use std::sync::Wait;
 use std::sync::atomic::{AtomicBool, AtomicU64, Ordering};
 use storm_gates::Gate;
-use storm_values::{Path, Root};
 
 /// Counts executions, those of first tuples apart. Each waits until the gate is open.
 #[derive(Drop)]

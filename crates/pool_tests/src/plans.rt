@@ -2,16 +2,16 @@
 ghost use Rattle.std.specs.Prelude.{◌≡◌, ◌<◌, ◌+◌, IfOk};
 ghost use Rattle.box_rows.specs.Mails.{IsTrueMail};
 ghost use Rattle.event_worlds.specs.Orderly.{IsForTask};
-ghost use Rattle.topology_plan.specs.Topology.{tasks_in_all};
+ghost use Rattle.event_worlds.specs.topology_plan.Topology.{tasks_in_all};
 
 use box_rows::Mail;
+use event_worlds::storm_values::{Few, Path, Root, row_from_line};
+use event_worlds::topology_plan::{Origin, Plan};
+use event_worlds::tree_model::{AckMsg, Done, Draw, Init, Parcel, Parcels, Tuple};
+use event_worlds::tuple_tickets::{Edge, Edges};
 use std::alloc::Global;
-use storm_values::{Few, Path, Root, row_from_line};
 use test_kit::Mismatch;
-use topology_plan::{Origin, Plan};
 use topology_reader::read_topology;
-use tree_model::{AckMsg, Done, Draw, Init, Parcel, Parcels, Tuple};
-use tuple_tickets::{Edge, Edges};
 
 // The tasks 0 and 1 are the first bolt's, 2 to 4 the second's, 5 and 6 the third's, and 7 and 8 the
 // parts of the state. With two ackers and the coordinator there are 12 boxes.

@@ -2,7 +2,7 @@
 ghost use Rattle.std.specs.Prelude.{◌≡◌, ◌<◌, ◌+◌, IfOk, OnOk, length};
 ghost use Rattle.box_rows.specs.Mails.{IsTrueMail, last_box};
 ghost use Rattle.box_rows.specs.Rows.{ArePasses};
-ghost use Rattle.topology_plan.specs.Topology.{tasks_in_all};
+ghost use Rattle.event_worlds.specs.topology_plan.Topology.{tasks_in_all};
 ghost use Rattle.worker_pool.specs.Ackers.{IsAcker};
 ghost use Rattle.worker_pool.specs.Desks.{IsDesk};
 ghost use Rattle.worker_pool.specs.Workers.{IsReady};
@@ -13,8 +13,8 @@ use crate::team::{
     Hiring, TestDesk, TestWorker, acker_desk, hire, last_worker, task_desk, with_row,
 };
 use crate::verdicts::Verdicts;
-use bolt_ops::Reversed;
 use box_rows::{Boxes, Mail, Posts, Row, send_at, split_row, take_at};
+use event_worlds::bolt_ops::Reversed;
 use pulse_board::Board;
 use std::alloc::Global;
 use std::sync::Wait;

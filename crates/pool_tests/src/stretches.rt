@@ -13,14 +13,14 @@ use crate::plans::{chain, first_mail, init_mail, wrong};
 use crate::rounds::send_firsts;
 use crate::team::{Hiring, TestWorker, hire, last_worker, stretch, with_row};
 use crate::verdicts::Verdicts;
-use bolt_ops::Reversed;
 use box_rows::{Boxes, Posts, Row, send_fit, split_row, take_at, take_fit};
+use event_worlds::bolt_ops::Reversed;
+use event_worlds::storm_values::Path;
 use pulse_board::Board;
 use std::alloc::Global;
 use std::sync::Wait;
 use std::thread::{Threads, join};
 use storm_gates::{Gate, HoldUntil, OpenGate};
-use storm_values::Path;
 use test_kit::Mismatch;
 
 const TWO: Hiring = Hiring {

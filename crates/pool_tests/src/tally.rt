@@ -1,9 +1,9 @@
 // What comes into the boxes of the ackers, counted.
 use crate::plans::{ACKERS_AT, LEVELS};
 use box_rows::Mail;
+use event_worlds::storm_values::Memory;
+use event_worlds::tree_model::{AckMsg, Done, Parcel};
 use std::alloc::Global;
-use storm_values::Memory;
-use tree_model::{AckMsg, Done, Parcel};
 
 /// How often each tuple was told as executed, and where the ids of each task stood in its last note
 /// to each acker.

@@ -1,8 +1,8 @@
 // Verdicts, counted.
-use acker_core::Verdict;
 use box_rows::Mail;
+use event_worlds::acker_core::Verdict;
+use event_worlds::storm_values::Memory;
 use std::alloc::Global;
-use storm_values::Memory;
 
 /// How often each root was told as complete.
 #[derive(Drop)]

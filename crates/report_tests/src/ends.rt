@@ -2,12 +2,12 @@
 use attempt_fates::{Attempt, End, Fates};
 use run_report::{Tail, report_text};
 use std::alloc::Global;
-use storm_values::{Path, Root, Txt};
 use test_kit::{Mismatch, compare};
-use topology_plan::Plan;
 use topology_reader::read_topology;
+use tree_model::storm_values::{Path, Root, Txt};
+use tree_model::topology_plan::Plan;
+use tree_model::tuple_tickets::{Edge, Edges};
 use tree_model::{AckMsg, Done, Draw, Init, Notes, Pair, Pairs, Table, Tables, Writes};
-use tuple_tickets::{Edge, Edges};
 
 /// The end of an attempt, in short: of a list that coincided the edges of its init.
 #[derive(Clone, Copy)]

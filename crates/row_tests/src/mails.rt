@@ -1,14 +1,14 @@
 // Mail by transaction ids.
 ghost use Rattle.std.specs.Prelude.{◌≡◌, ◌+◌, IfOk};
 ghost use Rattle.box_rows.specs.Mails.{IsTrueMail, last_box};
-ghost use Rattle.topology_plan.specs.Topology.{tasks_in_all};
+ghost use Rattle.tree_model.specs.topology_plan.Topology.{tasks_in_all};
 
 use acker_core::Verdict;
 use box_rows::Mail;
 use std::alloc::Global;
-use storm_values::{Memory, Path, Root};
-use topology_plan::Plan;
 use topology_reader::{TopoFault, read_topology};
+use tree_model::storm_values::{Memory, Path, Root};
+use tree_model::topology_plan::Plan;
 use tree_model::{AckMsg, FailNote, Parcel, Parcels};
 
 // A topology of four tasks and two ackers.

@@ -12,7 +12,7 @@ use box_rows::{
 use std::alloc::Global;
 use std::sync::Wait;
 use std::test::Fail;
-use storm_values::Memory;
+use tree_model::storm_values::Memory;
 
 // Whether each pass of a row is whole, or else none is.
 fn are_whole(row: &Row, whole: bool) -> bool {

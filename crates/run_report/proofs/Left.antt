@@ -5,10 +5,10 @@ use Rattle.std.specs.List.Sorted.{IsStrictlySortedBy}
 use Rattle.std.specs.Ordering.{ordering_reverse}
 use Rattle.std.specs.declared.cmp.Ordering.{Ordering}
 use Rattle.std.specs.declared.cmp.Ordering.TheVariants.{Less, Equal, Greater}
-use Rattle.tuple_tickets.specs.declared.edge.Edge.{Edge}
-use Rattle.tuple_tickets.specs.Edges.{edge_cmp, edge_eq, is_edge, times}
-use Rattle.tuple_tickets.proofs.EdgeOrder.{edge_cmp-total, edge_cmp-apart}
-use Rattle.tuple_tickets.proofs.Toggles.{same_edge, edge_itself, none-left}
+use Rattle.tree_model.specs.tuple_tickets.declared.edge.Edge.{Edge}
+use Rattle.tree_model.specs.tuple_tickets.Edges.{edge_cmp, edge_eq, is_edge, times}
+use Rattle.tree_model.proofs.tuple_tickets.EdgeOrder.{edge_cmp-total, edge_cmp-apart}
+use Rattle.tree_model.proofs.tuple_tickets.Toggles.{same_edge, edge_itself, none-left}
 use Rattle.acker_core.specs.Edges.{AreLeft}
 
 is_itself : (e : Edge) → is_edge e e ≡ 1

@@ -8,9 +8,9 @@ use crate::edges::{push_open, push_path};
 use attempt_fates::{Attempt, End};
 use std::alloc::Global;
 use std::fmt::Write;
-use storm_values::{Memory, Path};
-use topology_plan::Plan;
 use tree_model::Notes;
+use tree_model::storm_values::{Memory, Path};
+use tree_model::topology_plan::Plan;
 
 pub fn push_attempts(
     alloc: Global,

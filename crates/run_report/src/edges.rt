@@ -7,9 +7,9 @@ ghost use Rattle.run_report.specs.Steps.{AddsOpen};
 use acker_core::{Check, check_list};
 use std::alloc::Global;
 use std::fmt::Write;
-use storm_values::{Memory, Path};
 use tree_model::Notes;
-use tuple_tickets::Edge;
+use tree_model::storm_values::{Memory, Path};
+use tree_model::tuple_tickets::Edge;
 
 /// Adds the numbers of a path, joined by full stops.
 pub fn push_path(text: &mut String, path: &Path) -> Result<(), Memory>

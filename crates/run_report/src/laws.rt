@@ -1,5 +1,5 @@
 ghost use Rattle.std.specs.Prelude.{◌≡◌, List};
-ghost use Rattle.topology_plan.specs.Topology.{Topology};
+ghost use Rattle.tree_model.specs.topology_plan.Topology.{Topology};
 ghost use Rattle.attempt_fates.specs.declared.fates.Attempt.{Attempt};
 ghost use Rattle.run_report.specs.Fated.{AreLinesOf};
 ghost use Rattle.run_report.specs.Report.{AttemptText};

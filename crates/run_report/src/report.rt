@@ -8,8 +8,8 @@ use crate::attempts::push_attempts;
 use attempt_fates::Attempt;
 use std::alloc::Global;
 use std::fmt::Write;
-use storm_values::Memory;
-use topology_plan::Plan;
+use tree_model::storm_values::Memory;
+use tree_model::topology_plan::Plan;
 use tree_model::{Pair, Table};
 
 /// How a run ended.

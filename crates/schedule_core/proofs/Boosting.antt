@@ -1,7 +1,7 @@
 -- The steps of a boost, which have no ticks.
 use Rattle.std.proofs.Common.{◌≡◌, ℕ, zero, suc, ◌+◌, Bool, false, cond, List, [], ◌∷◌, ◌++◌, length, refl, sym, ap, subst, ◌∙◌}
 use Rattle.std.specs.Prelude.{replicate}
-use Rattle.bolt_ops.specs.RowOp.{Custom}
+use Rattle.event_worlds.specs.bolt_ops.RowOp.{Custom}
 use Rattle.event_engine.proofs.GoesLemmas.{goes-none, goes-then}
 use Rattle.event_engine.specs.Boosts.{AckerRests, Boosts, GoesUpTo, InTurn, TaskRests}
 use Rattle.event_engine.specs.declared.engine.Engine.{Engine}
@@ -10,9 +10,9 @@ use Rattle.event_worlds.specs.Rounds.{is_tick, ticks_in}
 use Rattle.event_worlds.specs.Worlds.{Step, World, of_acker, of_task}
 use Rattle.schedule_core.proofs.TicksOfRuns.{ticks-of-rounds}
 use Rattle.schedule_core.specs.Rounding.{OpensBoosted, most_before, opening_steps}
-use Rattle.storm_ids.specs.declared.ids.Ids.{Ghosts}
-use Rattle.topology_plan.specs.Topology.{Topology, tasks_in_all}
-use Rattle.trident_batches.specs.Batches.{Cut}
+use Rattle.event_worlds.specs.storm_ids.declared.ids.Ids.{Ghosts}
+use Rattle.event_worlds.specs.topology_plan.Topology.{Topology, tasks_in_all}
+use Rattle.event_worlds.specs.trident_batches.Batches.{Cut}
 
 none-again : (step : Step) (k : ℕ) → is_tick step ≡ false → ticks_in (replicate k step) ≡ 0
 none-again step zero is = refl

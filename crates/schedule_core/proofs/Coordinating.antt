@@ -7,19 +7,19 @@ use Rattle.std.proofs.lemmas.List.{append_cancel_left, take_all}
 use Rattle.std.proofs.lemmas.List.Elements.{All-append, All-cons, All-more, All-nil}
 use Rattle.std.proofs.lemmas.List.FromFn.{fill_by_all}
 use Rattle.std.proofs.lemmas.Option.{get_or_from_slice_get, slice_get_within}
-use Rattle.acker_core.specs.declared.verdict.Verdict.{Verdict}
-use Rattle.attempt_fates.specs.declared.fates.Attempt.{Attempt}
-use Rattle.attempt_fates.specs.Fates.{committed_txids}
+use Rattle.event_worlds.specs.acker_core.declared.verdict.Verdict.{Verdict}
+use Rattle.event_worlds.specs.attempt_fates.declared.fates.Attempt.{Attempt}
+use Rattle.event_worlds.specs.attempt_fates.Fates.{committed_txids}
 use Rattle.batch_commits.specs.Standing.{FailuresAreCounted, HasTextKey, PartsStand, TellsFailedPart, batches_in, failed_commits, writes_at}
-use Rattle.bolt_ops.specs.RowOp.{Custom}
-use Rattle.commit_order.specs.Offices.{AddsSome, IsCommitOf}
-use Rattle.commit_turns.specs.Account.{rows_in}
-use Rattle.commit_turns.specs.declared.wait.Wait.{Wait}
-use Rattle.commit_turns.specs.Desks.{Desk, ended_at}
-use Rattle.commit_turns.specs.Kept.{IsWaiting}
-use Rattle.commit_turns.specs.Outcomes.{IsOutcome}
-use Rattle.commit_turns.specs.Turns.{decided, decided_by, end_by, next_to_commit, turned}
-use Rattle.commit_writes.proofs.Whole.{whole_writes}
+use Rattle.event_worlds.specs.bolt_ops.RowOp.{Custom}
+use Rattle.event_worlds.specs.commit_order.Offices.{AddsSome, IsCommitOf}
+use Rattle.event_worlds.specs.commit_turns.Account.{rows_in}
+use Rattle.event_worlds.specs.commit_turns.declared.wait.Wait.{Wait}
+use Rattle.event_worlds.specs.commit_turns.Desks.{Desk, ended_at}
+use Rattle.event_worlds.specs.commit_turns.Kept.{IsWaiting}
+use Rattle.event_worlds.specs.commit_turns.Outcomes.{IsOutcome}
+use Rattle.event_worlds.specs.commit_turns.Turns.{decided, decided_by, end_by, next_to_commit, turned}
+use Rattle.event_worlds.proofs.commit_writes.Whole.{whole_writes}
 use Rattle.event_engine.proofs.GoesLemmas.{goes-idle, next-told, outcomes-append}
 use Rattle.event_engine.proofs.LoopLemmas.{goes_there}
 use Rattle.event_engine.specs.declared.engine.Engine.{Engine}
@@ -31,20 +31,20 @@ use Rattle.schedule_core.specs.Driving.{Breaks, Drives, HasDeskOf, Leaves, Wants
 use Rattle.schedule_core.specs.Laws.{CommitLaws, Laws}
 use Rattle.schedule_core.proofs.Drives.{drives-none, drives-still, drives-then}
 use Rattle.schedule_core.proofs.Quiet.{IsQuiet, commits_append, none_commits, none_failed_of, none_turned, quiet_nothing, quiet_same, quiet_turn, some_none}
-use Rattle.state_parts.specs.Commits.{AreCommitted, ArePerhapsCommitted, CountsFollow, FailOnceAtMost, IsBadAt}
-use Rattle.state_parts.specs.declared.answer.Commit.{Commit}
-use Rattle.state_parts.specs.declared.answer.CommitOutcome.{CommitOutcome}
-use Rattle.state_parts.specs.declared.answer.CommitOutcome.TheVariants.{Done, Failed}
-use Rattle.state_parts.specs.declared.parts.StatePart.{StatePart}
-use Rattle.state_parts.specs.PartPlans.{AreParts, plans_of}
-use Rattle.storm_ids.specs.declared.ids.Ids.{Ghosts}
+use Rattle.event_worlds.specs.state_parts.Commits.{AreCommitted, ArePerhapsCommitted, CountsFollow, FailOnceAtMost, IsBadAt}
+use Rattle.event_worlds.specs.state_parts.declared.answer.Commit.{Commit}
+use Rattle.event_worlds.specs.state_parts.declared.answer.CommitOutcome.{CommitOutcome}
+use Rattle.event_worlds.specs.state_parts.declared.answer.CommitOutcome.TheVariants.{Done, Failed}
+use Rattle.event_worlds.specs.state_parts.declared.parts.StatePart.{StatePart}
+use Rattle.event_worlds.specs.state_parts.PartPlans.{AreParts, plans_of}
+use Rattle.event_worlds.specs.storm_ids.declared.ids.Ids.{Ghosts}
 use Rattle.storm_stores.specs.CellMaps.{CellMap}
-use Rattle.topology_plan.specs.Topology.{Topology, tasks_in_all}
-use Rattle.tree_model.specs.declared.messages.AckMsg.{AckMsg}
-use Rattle.tree_model.specs.declared.write.Write.{Write}
-use Rattle.trident_batches.specs.Batches.{Cut}
-use Rattle.tuple_account.specs.Histories.{History}
-use Rattle.tuple_account.specs.Moves.{Station}
+use Rattle.event_worlds.specs.topology_plan.Topology.{Topology, tasks_in_all}
+use Rattle.event_worlds.specs.tree_model.declared.messages.AckMsg.{AckMsg}
+use Rattle.event_worlds.specs.tree_model.declared.write.Write.{Write}
+use Rattle.event_worlds.specs.trident_batches.Batches.{Cut}
+use Rattle.event_worlds.specs.tuple_account.Histories.{History}
+use Rattle.event_worlds.specs.tuple_account.Moves.{Station}
 
 -- ---- lists
 

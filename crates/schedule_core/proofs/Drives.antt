@@ -1,12 +1,12 @@
 -- Steps of an engine over parts, one after another.
 use Rattle.std.proofs.Common.{◌≡◌, ℕ, true, List, [], ◌∷◌, ◌++◌, All, length, refl, sym, ap, subst, ◌∙◌, append_assoc, append-nil}
-use Rattle.attempt_fates.specs.declared.fates.Attempt.{Attempt}
-use Rattle.attempt_fates.specs.Fates.{committed_txids}
+use Rattle.event_worlds.specs.attempt_fates.declared.fates.Attempt.{Attempt}
+use Rattle.event_worlds.specs.attempt_fates.Fates.{committed_txids}
 use Rattle.batch_commits.specs.Standing.{FailuresAreCounted, PartsStand}
-use Rattle.bolt_ops.specs.RowOp.{Custom}
-use Rattle.commit_order.specs.Orders.{desk_of}
-use Rattle.commit_turns.specs.Desks.{Desk}
-use Rattle.commit_turns.specs.Outcomes.{IsOutcome}
+use Rattle.event_worlds.specs.bolt_ops.RowOp.{Custom}
+use Rattle.event_worlds.specs.commit_order.Orders.{desk_of}
+use Rattle.event_worlds.specs.commit_turns.Desks.{Desk}
+use Rattle.event_worlds.specs.commit_turns.Outcomes.{IsOutcome}
 use Rattle.event_engine.proofs.GoesLemmas.{gives-both, goes-none, goes-over, goes-then, then-more}
 use Rattle.event_engine.specs.declared.engine.Engine.{Engine}
 use Rattle.event_engine.specs.Engines.{Goes, IsStill, shape}
@@ -14,11 +14,11 @@ use Rattle.event_worlds.specs.Accounted.{Accounted}
 use Rattle.event_worlds.specs.Worlds.{Known, Step, World, is_over, outcomes_of, run}
 use Rattle.schedule_core.specs.Driving.{Breaks, Drives, Leaves, WantsMemory}
 use Rattle.schedule_core.specs.Laws.{Laws}
-use Rattle.state_parts.specs.declared.parts.StatePart.{StatePart}
-use Rattle.storm_ids.specs.declared.ids.Ids.{Ghosts}
+use Rattle.event_worlds.specs.state_parts.declared.parts.StatePart.{StatePart}
+use Rattle.event_worlds.specs.storm_ids.declared.ids.Ids.{Ghosts}
 use Rattle.storm_stores.specs.CellMaps.{CellMap}
-use Rattle.topology_plan.specs.Topology.{Topology}
-use Rattle.trident_batches.specs.Batches.{Cut}
+use Rattle.event_worlds.specs.topology_plan.Topology.{Topology}
+use Rattle.event_worlds.specs.trident_batches.Batches.{Cut}
 
 -- what is added to a list that stays as it is
 none_added : {X : Type 0} (xs ys : List X) → xs ≡ xs ++ ys → ys ≡ []

@@ -2,12 +2,12 @@
 use Rattle.std.proofs.Common.{◌≡◌, ◌≤◌, ◌<◌, ℕ, ◌+◌, List, [], length, Result, Ok, Err, refl, sym, ap, subst, ◌∙◌, append-nil, arith}
 use Rattle.std.specs.Prelude.{OnErr, OnOk}
 use Rattle.std.specs.List.{AllByRecursion}
-use Rattle.attempt_fates.specs.Fates.{IsOnce}
-use Rattle.attempt_fates.specs.declared.fates.Attempt.{Attempt}
-use Rattle.bolt_ops.specs.RowOp.{Custom, IsCustom}
-use Rattle.commit_order.specs.declared.stop.Stop.{Stop}
-use Rattle.commit_order.specs.declared.stop.Stop.TheVariants as stop
-use Rattle.commit_turns.specs.Turns.{last_tick}
+use Rattle.event_worlds.specs.attempt_fates.Fates.{IsOnce}
+use Rattle.event_worlds.specs.attempt_fates.declared.fates.Attempt.{Attempt}
+use Rattle.event_worlds.specs.bolt_ops.RowOp.{Custom, IsCustom}
+use Rattle.event_worlds.specs.commit_order.declared.stop.Stop.{Stop}
+use Rattle.event_worlds.specs.commit_order.declared.stop.Stop.TheVariants as stop
+use Rattle.event_worlds.specs.commit_turns.Turns.{last_tick}
 use Rattle.event_engine.proofs.WorldLemmas.{from_start, some_words, told_world}
 use Rattle.event_engine.specs.declared.engine.Engine.{Engine}
 use Rattle.event_engine.specs.Engines.{Goes, HasOutcomes, IsIdle, IsReady, cut_in, shape, topology_in}
@@ -26,14 +26,14 @@ use Rattle.schedule_core.specs.Runs.{RunComes}
 use Rattle.schedule_core.specs.Schedules.{HadMemory, IsAnswer, IsOfWorld, answer_of}
 use Rattle.schedule_reader.specs.Events.{FitsEvent}
 use Rattle.schedule_reader.specs.declared.event.Event.{Event}
-use Rattle.state_parts.specs.declared.answer.CommitFault.{CommitFault}
-use Rattle.state_parts.specs.declared.answer.CommitFault.TheVariants as fault
-use Rattle.state_parts.specs.declared.parts.StatePart.{StatePart}
-use Rattle.state_parts.specs.PartPlans.{AreParts}
-use Rattle.storm_ids.specs.declared.ids.Ids.{Ghosts}
+use Rattle.event_worlds.specs.state_parts.declared.answer.CommitFault.{CommitFault}
+use Rattle.event_worlds.specs.state_parts.declared.answer.CommitFault.TheVariants as fault
+use Rattle.event_worlds.specs.state_parts.declared.parts.StatePart.{StatePart}
+use Rattle.event_worlds.specs.state_parts.PartPlans.{AreParts}
+use Rattle.event_worlds.specs.storm_ids.declared.ids.Ids.{Ghosts}
 use Rattle.storm_stores.specs.CellMaps.{CellMap}
-use Rattle.topology_plan.specs.Topology.{Topology}
-use Rattle.trident_batches.specs.Batches.{Cut}
+use Rattle.event_worlds.specs.topology_plan.Topology.{Topology}
+use Rattle.event_worlds.specs.trident_batches.Batches.{Cut}
 
 -- so many ticks are as many as the coordinator may count in these steps
 abbrev pub Allows : List Step → ℕ → Type 0

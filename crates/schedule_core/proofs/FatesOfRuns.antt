@@ -8,13 +8,13 @@ use Rattle.std.proofs.lemmas.Grind.{div_ceil_times}
 use Rattle.std.proofs.lemmas.List.{length-append, length-map}
 use Rattle.std.proofs.lemmas.List.Elements.{All-filter, recursion_from_All}
 use Rattle.std.proofs.lemmas.List.FromFn.{length-range_with_len}
-use Rattle.attempt_fates.specs.declared.fates.Attempt.{Attempt}
-use Rattle.attempt_fates.specs.Fates.{IsOfBatch, IsOnce, IsWhole, attempt_numbers, committed, committed_numbers, committed_txids, is_committed, record_numbers}
-use Rattle.commit_turns.specs.Desks.{Desk}
-use Rattle.commit_turns.specs.Kept.{IsKept}
-use Rattle.commit_turns.specs.Turns.{is_finished}
-use Rattle.topology_plan.specs.Topology.{Topology}
-use Rattle.trident_batches.specs.Batches.{Cut, batch_count}
+use Rattle.event_worlds.specs.attempt_fates.declared.fates.Attempt.{Attempt}
+use Rattle.event_worlds.specs.attempt_fates.Fates.{IsOfBatch, IsOnce, IsWhole, attempt_numbers, committed, committed_numbers, committed_txids, is_committed, record_numbers}
+use Rattle.event_worlds.specs.commit_turns.Desks.{Desk}
+use Rattle.event_worlds.specs.commit_turns.Kept.{IsKept}
+use Rattle.event_worlds.specs.commit_turns.Turns.{is_finished}
+use Rattle.event_worlds.specs.topology_plan.Topology.{Topology}
+use Rattle.event_worlds.specs.trident_batches.Batches.{Cut, batch_count}
 
 -- more ticks may have been handed out
 pub once-later : (n size a b : ℕ) (fates : List Attempt) → IsOnce n size a fates → a ≤ b

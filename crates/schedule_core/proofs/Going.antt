@@ -2,11 +2,11 @@
 use Rattle.std.proofs.Common.{◌≡◌, ◌<◌, ℕ, ◌+◌, List, [], ◌++◌, All, length, None, Some, refl, sym, ap, subst, ◌∙◌, append_assoc, append-nil, length-append, arith}
 use Rattle.std.proofs.lemmas.List.Elements.{All-nil}
 use Rattle.std.specs.Prelude.{slice_get}
-use Rattle.attempt_fates.specs.declared.fates.Attempt.{Attempt}
+use Rattle.event_worlds.specs.attempt_fates.declared.fates.Attempt.{Attempt}
 use Rattle.batch_commits.specs.Standing.{FailuresAreCounted, PartsStand}
-use Rattle.bolt_ops.specs.RowOp.{Custom, IsCustom}
-use Rattle.commit_order.specs.Orders.{desk_of}
-use Rattle.commit_turns.specs.Outcomes.{IsOutcome}
+use Rattle.event_worlds.specs.bolt_ops.RowOp.{Custom, IsCustom}
+use Rattle.event_worlds.specs.commit_order.Orders.{desk_of}
+use Rattle.event_worlds.specs.commit_turns.Outcomes.{IsOutcome}
 use Rattle.event_engine.proofs.GoesLemmas.{draws-then, gives-parts, outcomes-append}
 use Rattle.event_engine.proofs.WorldLemmas.{told_gives, words_begin}
 use Rattle.event_engine.specs.declared.engine.Engine.{Engine}
@@ -15,19 +15,19 @@ use Rattle.event_engine.specs.Starts.{IsStarted}
 use Rattle.event_worlds.specs.Accounted.{Accounted, IsInput, LedAt, LedTo, station_of}
 use Rattle.event_worlds.specs.Beside.{LedBeside, waits}
 use Rattle.event_worlds.specs.Worlds.{Known, Step, World, first_counts, first_known, first_world, outcomes_of, run}
-use Rattle.output_collector.specs.Draws.{Draws}
+use Rattle.event_worlds.specs.output_collector.Draws.{Draws}
 use Rattle.schedule_core.proofs.Drives.{drives-none, wants-still}
 use Rattle.schedule_core.specs.Driving.{Breaks, BreaksOff, Drives, HasCome, LeadsOn, RunsOut, WantsMemory}
 use Rattle.schedule_core.specs.Laws.{Laws, WorldLaws}
-use Rattle.state_parts.specs.declared.answer.CommitOutcome.{CommitOutcome}
-use Rattle.state_parts.specs.declared.parts.StatePart.{StatePart}
-use Rattle.state_parts.specs.PartPlans.{AreParts}
-use Rattle.storm_ids.specs.declared.ids.Ids.{Ghosts}
+use Rattle.event_worlds.specs.state_parts.declared.answer.CommitOutcome.{CommitOutcome}
+use Rattle.event_worlds.specs.state_parts.declared.parts.StatePart.{StatePart}
+use Rattle.event_worlds.specs.state_parts.PartPlans.{AreParts}
+use Rattle.event_worlds.specs.storm_ids.declared.ids.Ids.{Ghosts}
 use Rattle.storm_stores.specs.CellMaps.{CellMap}
-use Rattle.topology_plan.specs.Topology.{Topology}
-use Rattle.trident_batches.specs.Batches.{Cut}
-use Rattle.tuple_account.specs.Histories.{History, Packet}
-use Rattle.tuple_account.specs.Moves.{Station, beside}
+use Rattle.event_worlds.specs.topology_plan.Topology.{Topology}
+use Rattle.event_worlds.specs.trident_batches.Batches.{Cut}
+use Rattle.event_worlds.specs.tuple_account.Histories.{History, Packet}
+use Rattle.event_worlds.specs.tuple_account.Moves.{Station, beside}
 
 -- ---- a world with nothing beside it
 

@@ -2,11 +2,11 @@
 use Rattle.std.proofs.Common.{◌≡◌, ℕ, List, [], ◌∷◌, refl, sym, subst, ◌∙◌}
 use Rattle.std.specs.List.{AllZip}
 use Rattle.schedule_core.specs.Driving.{AreKept, StillTells}
-use Rattle.state_parts.specs.Commits.{ArePerhapsCommitted}
-use Rattle.state_parts.specs.declared.parts.StatePart.{StatePart}
-use Rattle.state_parts.specs.PartPlans.{plans_of}
+use Rattle.event_worlds.specs.state_parts.Commits.{ArePerhapsCommitted}
+use Rattle.event_worlds.specs.state_parts.declared.parts.StatePart.{StatePart}
+use Rattle.event_worlds.specs.state_parts.PartPlans.{plans_of}
 use Rattle.storm_stores.specs.CellMaps.{CellMap}
-use Rattle.tree_model.specs.declared.write.Write.{Write}
+use Rattle.event_worlds.specs.tree_model.declared.write.Write.{Write}
 
 module _ {S : Type 0} (tells : S → CellMap → Type 0) where
   told-none : (parts : List (StatePart S)) → AllZip (StillTells tells) parts parts

@@ -4,28 +4,28 @@ use Rattle.std.specs.Prelude.{slice_get}
 use Rattle.std.specs.List.{cons_option}
 use Rattle.std.proofs.lemmas.List.{map-append}
 use Rattle.std.proofs.lemmas.List.Elements.{filter-append}
-use Rattle.acker_core.specs.declared.verdict.Verdict.{Verdict}
-use Rattle.acker_core.specs.declared.verdict.Verdict.TheVariants.{Complete, Fails}
-use Rattle.attempt_fates.specs.declared.fates.Attempt.{Attempt}
-use Rattle.attempt_fates.specs.declared.fates.End.{End}
-use Rattle.attempt_fates.specs.declared.fates.End.TheVariants as end
-use Rattle.attempt_fates.specs.Fates.{committed, committed_txids, is_committed}
+use Rattle.event_worlds.specs.acker_core.declared.verdict.Verdict.{Verdict}
+use Rattle.event_worlds.specs.acker_core.declared.verdict.Verdict.TheVariants.{Complete, Fails}
+use Rattle.event_worlds.specs.attempt_fates.declared.fates.Attempt.{Attempt}
+use Rattle.event_worlds.specs.attempt_fates.declared.fates.End.{End}
+use Rattle.event_worlds.specs.attempt_fates.declared.fates.End.TheVariants as end
+use Rattle.event_worlds.specs.attempt_fates.Fates.{committed, committed_txids, is_committed}
 use Rattle.batch_commits.specs.Standing.{failed_commits}
-use Rattle.commit_order.specs.Offices.{AddsSome}
-use Rattle.commit_turns.specs.declared.wait.Wait.{Wait}
-use Rattle.commit_turns.specs.Desks.{Desk, Progress, ended_at, is_late, still, timed_of}
-use Rattle.commit_turns.specs.Kept.{is_failed_commit}
-use Rattle.commit_turns.specs.Turns.{and_then, complete_timed, end_timed, has_no_tick, heard, is_closed, one_tick, passed, ticked, turned, turned_by}
+use Rattle.event_worlds.specs.commit_order.Offices.{AddsSome}
+use Rattle.event_worlds.specs.commit_turns.declared.wait.Wait.{Wait}
+use Rattle.event_worlds.specs.commit_turns.Desks.{Desk, Progress, ended_at, is_late, still, timed_of}
+use Rattle.event_worlds.specs.commit_turns.Kept.{is_failed_commit}
+use Rattle.event_worlds.specs.commit_turns.Turns.{and_then, complete_timed, end_timed, has_no_tick, heard, is_closed, one_tick, passed, ticked, turned, turned_by}
 use Rattle.event_engine.proofs.GoesLemmas.{outcomes-append}
 use Rattle.event_worlds.proofs.Committed.{turned-committed}
 use Rattle.event_worlds.specs.Worlds.{World, delivered, outcome_by, outcomes_of, turn_past, turn_step}
-use Rattle.state_parts.specs.declared.answer.CommitOutcome.{CommitOutcome}
-use Rattle.state_parts.specs.declared.answer.CommitOutcome.TheVariants.{Done, Failed}
-use Rattle.topology_plan.specs.Topology.{Topology}
-use Rattle.tree_model.specs.declared.messages.AckMsg.{AckMsg}
-use Rattle.tree_model.specs.declared.messages.Parcel.{Parcel}
-use Rattle.tree_model.specs.declared.messages.Parcel.TheVariants.{ToTask, ToAcker}
-use Rattle.trident_batches.specs.Batches.{Cut}
+use Rattle.event_worlds.specs.state_parts.declared.answer.CommitOutcome.{CommitOutcome}
+use Rattle.event_worlds.specs.state_parts.declared.answer.CommitOutcome.TheVariants.{Done, Failed}
+use Rattle.event_worlds.specs.topology_plan.Topology.{Topology}
+use Rattle.event_worlds.specs.tree_model.declared.messages.AckMsg.{AckMsg}
+use Rattle.event_worlds.specs.tree_model.declared.messages.Parcel.{Parcel}
+use Rattle.event_worlds.specs.tree_model.declared.messages.Parcel.TheVariants.{ToTask, ToAcker}
+use Rattle.event_worlds.specs.trident_batches.Batches.{Cut}
 
 none_in_both : (xs ys : List Attempt) → outcomes_of xs ≡ [] → outcomes_of ys ≡ [] → outcomes_of (xs ++ ys) ≡ []
 none_in_both xs ys one two = outcomes-append xs ys ∙ ap (λ (hs : List CommitOutcome). hs ++ outcomes_of ys) one ∙ two

@@ -3,9 +3,9 @@ use Rattle.std.proofs.Common.{◌≡◌, ℕ, List, ◌++◌, map, refl, sym, ap
 use Rattle.std.specs.Prelude.{Err, Ok, OnErr, Result, replicate}
 use Rattle.std.specs.List.{range_with_len}
 use Rattle.std.specs.Result.{IsErrAnd}
-use Rattle.attempt_fates.specs.declared.fates.Attempt.{Attempt}
-use Rattle.bolt_ops.specs.RowOp.{Custom}
-use Rattle.commit_order.specs.Orders.{desk_of}
+use Rattle.event_worlds.specs.attempt_fates.declared.fates.Attempt.{Attempt}
+use Rattle.event_worlds.specs.bolt_ops.RowOp.{Custom}
+use Rattle.event_worlds.specs.commit_order.Orders.{desk_of}
 use Rattle.event_engine.proofs.GoesLemmas.{goes-then}
 use Rattle.event_engine.specs.declared.engine.Engine.{Engine}
 use Rattle.event_engine.specs.Engines.{Goes, IsReady, IsStill, cut_in, has_ended, topology_in}
@@ -17,11 +17,11 @@ use Rattle.schedule_core.specs.Rounding.{closing_steps, opening_steps}
 use Rattle.schedule_core.specs.Driving.{Breaks, Drives, IsAtRest, IsOfSameRun, WantsMemory}
 use Rattle.schedule_core.specs.Schedules.{steps_of}
 use Rattle.schedule_reader.specs.declared.event.Event.{Event}
-use Rattle.state_parts.specs.declared.parts.StatePart.{StatePart}
-use Rattle.storm_ids.specs.declared.ids.Ids.{Ghosts}
+use Rattle.event_worlds.specs.state_parts.declared.parts.StatePart.{StatePart}
+use Rattle.event_worlds.specs.storm_ids.declared.ids.Ids.{Ghosts}
 use Rattle.storm_stores.specs.CellMaps.{CellMap}
-use Rattle.topology_plan.specs.Topology.{Topology, tasks_in_all}
-use Rattle.trident_batches.specs.Batches.{Cut}
+use Rattle.event_worlds.specs.topology_plan.Topology.{Topology, tasks_in_all}
+use Rattle.event_worlds.specs.trident_batches.Batches.{Cut}
 
 -- the fault that a `?` hands on is that of the call
 pub handed_on : {T U E : Type 0} (r : Result T E) (s : Result U E) (error e : E) → IsErrAnd r (λ x. x ≡ error) → s ≡ Err error → r ≡ Err e → s ≡ Err e

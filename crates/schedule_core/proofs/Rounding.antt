@@ -6,8 +6,8 @@ use Rattle.std.proofs.lemmas.Bool.{leb-false}
 use Rattle.std.proofs.lemmas.List.{length-append}
 use Rattle.std.proofs.lemmas.List.FromFn.{fill_by_all, map-range_with_len_more}
 use Rattle.std.proofs.lemmas.List.Sums.{fold-append}
-use Rattle.bolt_ops.specs.RowOp.{Custom}
-use Rattle.commit_turns.specs.Turns.{last_tick}
+use Rattle.event_worlds.specs.bolt_ops.RowOp.{Custom}
+use Rattle.event_worlds.specs.commit_turns.Turns.{last_tick}
 use Rattle.event_engine.specs.declared.engine.Engine.{Engine}
 use Rattle.event_engine.specs.Engines.{Gives, Goes, HasOutcomes, shape}
 use Rattle.event_worlds.specs.Rounds.{round_with, ticks_in}
@@ -16,10 +16,10 @@ use Rattle.schedule_core.proofs.Ending.{Allows}
 use Rattle.schedule_core.proofs.TicksOfRuns.{run-tick, ticks-of-rounds}
 use Rattle.schedule_core.specs.Rounding.{Asked, closing_steps}
 use Rattle.schedule_core.specs.Runs.{HasRoundsOf, first_answers, ticks_between}
-use Rattle.storm_ids.specs.declared.ids.Ids.{Ghosts}
+use Rattle.event_worlds.specs.storm_ids.declared.ids.Ids.{Ghosts}
 use Rattle.storm_ticks.specs.Ticking.{first_answer, handed_on}
-use Rattle.topology_plan.specs.Topology.{Topology, tasks_in_all}
-use Rattle.trident_batches.specs.Batches.{Cut}
+use Rattle.event_worlds.specs.topology_plan.Topology.{Topology, tasks_in_all}
+use Rattle.event_worlds.specs.trident_batches.Batches.{Cut}
 
 -- ---- what a source was asked
 

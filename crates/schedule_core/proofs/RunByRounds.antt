@@ -2,12 +2,12 @@
 use Rattle.std.proofs.Common.{◌≡◌, ℕ, Bool, true, false, cond, List, [], ◌∷◌, ◌++◌, length, drop, Option, None, Some, is_some, Result, Ok, Err, refl, sym, ap, subst, ◌∙◌, append-nil, true≢false}
 use Rattle.std.specs.Prelude.{OnErr, OnOk}
 use Rattle.std.specs.Result.{IsErrAnd}
-use Rattle.attempt_fates.specs.Fates.{IsOnce}
-use Rattle.attempt_fates.specs.declared.fates.Attempt.{Attempt}
-use Rattle.bolt_ops.specs.RowOp.{Custom, IsCustom}
-use Rattle.commit_order.specs.declared.stop.Stop.{Stop}
-use Rattle.commit_order.specs.declared.stop.Stop.TheVariants as stop
-use Rattle.commit_turns.specs.Turns.{is_finished, last_tick}
+use Rattle.event_worlds.specs.attempt_fates.Fates.{IsOnce}
+use Rattle.event_worlds.specs.attempt_fates.declared.fates.Attempt.{Attempt}
+use Rattle.event_worlds.specs.bolt_ops.RowOp.{Custom, IsCustom}
+use Rattle.event_worlds.specs.commit_order.declared.stop.Stop.{Stop}
+use Rattle.event_worlds.specs.commit_order.declared.stop.Stop.TheVariants as stop
+use Rattle.event_worlds.specs.commit_turns.Turns.{is_finished, last_tick}
 use Rattle.event_engine.specs.declared.engine.Engine.{Engine}
 use Rattle.event_engine.specs.Engines.{Goes, IsReady, IsStill, cut_in, has_ended, shape, topology_in}
 use Rattle.event_engine.specs.Starts.{IsStarted}
@@ -26,15 +26,15 @@ use Rattle.schedule_core.specs.Laws.{Laws, WorldLaws}
 use Rattle.schedule_core.specs.Rounding.{Asked, Rounded, closing_steps, end_by, opening_steps}
 use Rattle.schedule_core.specs.Runs.{HasRoundsOf, RoundsCome, ended, ticks_between}
 use Rattle.schedule_core.specs.Schedules.{answer_by, answer_of}
-use Rattle.state_parts.specs.declared.answer.CommitFault.{CommitFault}
-use Rattle.state_parts.specs.declared.answer.CommitFault.TheVariants as fault
-use Rattle.state_parts.specs.declared.parts.StatePart.{StatePart}
-use Rattle.state_parts.specs.PartPlans.{AreParts}
-use Rattle.storm_ids.specs.declared.ids.Ids.{Ghosts}
+use Rattle.event_worlds.specs.state_parts.declared.answer.CommitFault.{CommitFault}
+use Rattle.event_worlds.specs.state_parts.declared.answer.CommitFault.TheVariants as fault
+use Rattle.event_worlds.specs.state_parts.declared.parts.StatePart.{StatePart}
+use Rattle.event_worlds.specs.state_parts.PartPlans.{AreParts}
+use Rattle.event_worlds.specs.storm_ids.declared.ids.Ids.{Ghosts}
 use Rattle.storm_stores.specs.CellMaps.{CellMap}
 use Rattle.storm_ticks.specs.Ticking.{first_answer, handed_on}
-use Rattle.topology_plan.specs.Topology.{Topology}
-use Rattle.trident_batches.specs.Batches.{Cut}
+use Rattle.event_worlds.specs.topology_plan.Topology.{Topology}
+use Rattle.event_worlds.specs.trident_batches.Batches.{Cut}
 
 -- ---- the answer
 

@@ -2,15 +2,15 @@
 -- step.
 use Rattle.std.proofs.Common.{◌≡◌, ◌≤◌, ◌<◌, ℕ, Bool, true, false, List, [], All, length, Option, None, Some, Result, Ok, Err, refl, sym, ap, subst, ◌∙◌, arith}
 use Rattle.std.specs.Prelude.{OnErr, OnOk}
-use Rattle.attempt_fates.specs.Fates.{IsOnce}
-use Rattle.attempt_fates.specs.declared.fates.Attempt.{Attempt}
+use Rattle.event_worlds.specs.attempt_fates.Fates.{IsOnce}
+use Rattle.event_worlds.specs.attempt_fates.declared.fates.Attempt.{Attempt}
 use Rattle.batch_commits.specs.Standing.{AllButLastAreCounted, HasStrangeAt, PartsStand}
-use Rattle.bolt_ops.specs.RowOp.{Custom, IsCustom}
-use Rattle.commit_order.specs.declared.stop.Stop.{Stop}
-use Rattle.commit_order.specs.declared.stop.Stop.TheVariants as stop
-use Rattle.commit_turns.specs.Desks.{Desk}
-use Rattle.commit_turns.specs.Kept.{FailsInTurn, IsKept}
-use Rattle.commit_turns.specs.Turns.{is_finished, last_tick}
+use Rattle.event_worlds.specs.bolt_ops.RowOp.{Custom, IsCustom}
+use Rattle.event_worlds.specs.commit_order.declared.stop.Stop.{Stop}
+use Rattle.event_worlds.specs.commit_order.declared.stop.Stop.TheVariants as stop
+use Rattle.event_worlds.specs.commit_turns.Desks.{Desk}
+use Rattle.event_worlds.specs.commit_turns.Kept.{FailsInTurn, IsKept}
+use Rattle.event_worlds.specs.commit_turns.Turns.{is_finished, last_tick}
 use Rattle.event_engine.specs.declared.engine.Engine.{Engine}
 use Rattle.event_engine.specs.Engines.{IsReady, cut_in, shape, topology_in}
 use Rattle.event_engine.specs.Starts.{IsStarted}
@@ -26,16 +26,16 @@ use Rattle.schedule_core.specs.Laws.{WorldLaws}
 use Rattle.schedule_core.specs.Rounding.{end_by}
 use Rattle.schedule_core.specs.Runs.{Answers, RunTells, committed_count}
 use Rattle.schedule_core.specs.Schedules.{HadMemory, answer_by, answer_of}
-use Rattle.state_parts.specs.declared.answer.CommitFault.{CommitFault}
-use Rattle.state_parts.specs.declared.answer.CommitFault.TheVariants as fault
-use Rattle.state_parts.specs.declared.parts.StatePart.{StatePart}
-use Rattle.state_parts.specs.Commits.{IsBadAt}
-use Rattle.state_parts.specs.PartPlans.{AreParts}
-use Rattle.state_parts.specs.Standing.{IsEmpty}
-use Rattle.storm_ids.specs.declared.ids.Ids.{Ghosts}
+use Rattle.event_worlds.specs.state_parts.declared.answer.CommitFault.{CommitFault}
+use Rattle.event_worlds.specs.state_parts.declared.answer.CommitFault.TheVariants as fault
+use Rattle.event_worlds.specs.state_parts.declared.parts.StatePart.{StatePart}
+use Rattle.event_worlds.specs.state_parts.Commits.{IsBadAt}
+use Rattle.event_worlds.specs.state_parts.PartPlans.{AreParts}
+use Rattle.event_worlds.specs.state_parts.Standing.{IsEmpty}
+use Rattle.event_worlds.specs.storm_ids.declared.ids.Ids.{Ghosts}
 use Rattle.storm_stores.specs.CellMaps.{CellMap}
-use Rattle.topology_plan.specs.Topology.{Topology}
-use Rattle.trident_batches.specs.Batches.{Cut}
+use Rattle.event_worlds.specs.topology_plan.Topology.{Topology}
+use Rattle.event_worlds.specs.trident_batches.Batches.{Cut}
 
 -- what is answered of what the coordinator knows
 answers_by : (t : Topology) (cut : Cut) (d : Desk) (ticks : ℕ) (fates : List Attempt) → AnswersFor t cut d ticks fates → (o : Option ℕ) (b : Bool) → d.exhausted ≡ o → is_finished t cut d ≡ b → Answers t cut ticks fates (answer_by o b d.committed)

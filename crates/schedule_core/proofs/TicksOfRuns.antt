@@ -2,20 +2,20 @@
 use Rattle.std.proofs.Common.{◌≡◌, ℕ, ◌+◌, ◌≤◌, Bool, true, false, cond, List, [], ◌∷◌, ◌++◌, length, filter, Option, None, Some, refl, ap, ◌∙◌, arith}
 use Rattle.std.proofs.lemmas.List.{length-append}
 use Rattle.std.proofs.lemmas.List.Elements.{filter-append}
-use Rattle.attempt_fates.specs.declared.fates.Attempt.{Attempt}
-use Rattle.bolt_ops.specs.RowOp.{Custom}
-use Rattle.commit_turns.specs.Account.{ends_of, rows_in}
-use Rattle.commit_turns.specs.Turns.{decided}
-use Rattle.counted_items.proofs.Each.{each-weaker}
+use Rattle.event_worlds.specs.attempt_fates.declared.fates.Attempt.{Attempt}
+use Rattle.event_worlds.specs.bolt_ops.RowOp.{Custom}
+use Rattle.event_worlds.specs.commit_turns.Account.{ends_of, rows_in}
+use Rattle.event_worlds.specs.commit_turns.Turns.{decided}
+use Rattle.event_worlds.proofs.counted_items.Each.{each-weaker}
 use Rattle.event_worlds.specs.Accounted.{Accounted, AreCaused}
 use Rattle.event_worlds.specs.Rounds.{is_tick, ticks_in}
 use Rattle.event_worlds.specs.Worlds.{Acted, Known, Step, World, acted, delivered, ended, first_known, is_over, next, next_outcome, next_words, of_acker, of_outcome, of_task, of_tick, of_turn, run, sent, step, task_at, task_needs, turn_needs, turn_past, with_progress, with_task, world_after}
-use Rattle.state_parts.specs.declared.answer.CommitOutcome.{CommitOutcome}
-use Rattle.topology_plan.specs.Topology.{Topology, tasks_in_all}
-use Rattle.tree_model.specs.declared.messages.Parcel.{Parcel}
-use Rattle.tree_model.specs.declared.messages.Parcel.TheVariants.{ToAcker, ToTask}
-use Rattle.trident_batches.specs.Batches.{Cut}
-use Rattle.tuple_account.specs.Ends.{CauseBy, Ended, Ending, HasCause, committed, failed, timed_out, coincided, commit_failed}
+use Rattle.event_worlds.specs.state_parts.declared.answer.CommitOutcome.{CommitOutcome}
+use Rattle.event_worlds.specs.topology_plan.Topology.{Topology, tasks_in_all}
+use Rattle.event_worlds.specs.tree_model.declared.messages.Parcel.{Parcel}
+use Rattle.event_worlds.specs.tree_model.declared.messages.Parcel.TheVariants.{ToAcker, ToTask}
+use Rattle.event_worlds.specs.trident_batches.Batches.{Cut}
+use Rattle.event_worlds.specs.tuple_account.Ends.{CauseBy, Ended, Ending, HasCause, committed, failed, timed_out, coincided, commit_failed}
 
 -- ---- numbers
 

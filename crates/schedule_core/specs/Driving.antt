@@ -1,27 +1,27 @@
 -- What the steps of an engine do to the parts that its commits go to. This project's own.
 use Rattle.std.specs.Prelude.{◌≡◌, ℕ, ◌+◌, List, [], ◌++◌, All, None, Some, length, slice_get}
 use Rattle.std.specs.List.{AllZip}
-use Rattle.attempt_fates.specs.declared.fates.Attempt.{Attempt}
-use Rattle.attempt_fates.specs.Fates.{committed_txids}
+use Rattle.event_worlds.specs.attempt_fates.declared.fates.Attempt.{Attempt}
+use Rattle.event_worlds.specs.attempt_fates.Fates.{committed_txids}
 use Rattle.batch_commits.specs.Standing.{AllButLastAreCounted, FailuresAreCounted, HasStrangeAt, PartsStand}
-use Rattle.bolt_ops.specs.RowOp.{Custom, IsCustom}
-use Rattle.commit_turns.specs.Outcomes.{IsOutcome}
+use Rattle.event_worlds.specs.bolt_ops.RowOp.{Custom, IsCustom}
+use Rattle.event_worlds.specs.commit_turns.Outcomes.{IsOutcome}
 use Rattle.event_engine.specs.declared.engine.Engine.{Engine}
 use Rattle.event_engine.specs.Engines.{Gives, Goes, HasOutcomes, IsIdle, IsReady, cut_in, shape, sources, topology_in}
 use Rattle.event_worlds.specs.Accounted.{Accounted, IsInput, LedAt}
 use Rattle.event_worlds.specs.Worlds.{Known, Step, outcomes_of}
-use Rattle.output_collector.specs.Draws.{Draws}
-use Rattle.state_parts.specs.Commits.{IsBadAt}
-use Rattle.state_parts.specs.declared.answer.CommitOutcome.{CommitOutcome}
-use Rattle.state_parts.specs.declared.parts.StatePart.{StatePart}
-use Rattle.state_parts.specs.PartPlans.{AreParts, plans_of}
-use Rattle.state_parts.specs.Standing.{IsEmpty}
-use Rattle.storm_ids.specs.declared.ids.Ids.{Ghosts}
+use Rattle.event_worlds.specs.output_collector.Draws.{Draws}
+use Rattle.event_worlds.specs.state_parts.Commits.{IsBadAt}
+use Rattle.event_worlds.specs.state_parts.declared.answer.CommitOutcome.{CommitOutcome}
+use Rattle.event_worlds.specs.state_parts.declared.parts.StatePart.{StatePart}
+use Rattle.event_worlds.specs.state_parts.PartPlans.{AreParts, plans_of}
+use Rattle.event_worlds.specs.state_parts.Standing.{IsEmpty}
+use Rattle.event_worlds.specs.storm_ids.declared.ids.Ids.{Ghosts}
 use Rattle.storm_stores.specs.CellMaps.{CellMap}
-use Rattle.topology_plan.specs.Topology.{Topology}
-use Rattle.trident_batches.specs.Batches.{Cut}
-use Rattle.tuple_account.specs.Histories.{History}
-use Rattle.tuple_account.specs.Moves.{Station}
+use Rattle.event_worlds.specs.topology_plan.Topology.{Topology}
+use Rattle.event_worlds.specs.trident_batches.Batches.{Cut}
+use Rattle.event_worlds.specs.tuple_account.Histories.{History}
+use Rattle.event_worlds.specs.tuple_account.Moves.{Station}
 
 -- how many batches an engine has committed
 abbrev pub committed_by : {I : Type 0} {g : Ghosts I} → Engine I g → ℕ

@@ -1,29 +1,29 @@
 -- The laws of worlds and of parts that runs rest on. This project's own.
 use Rattle.std.specs.Prelude.{◌≡◌, ◌<◌, ℕ, ◌+◌, List, [], ◌++◌, All, Some, slice_get}
-use Rattle.attempt_fates.specs.declared.fates.Attempt.{Attempt}
+use Rattle.event_worlds.specs.attempt_fates.declared.fates.Attempt.{Attempt}
 use Rattle.batch_commits.specs.Standing.{AllButLastAreCounted, FailuresAreCounted, HasStrangeAt, HasTextKey, PartsStand, TellsFailedPart, batches_in, failed_commits, writes_at}
-use Rattle.bolt_ops.specs.RowOp.{Custom, IsCustom}
-use Rattle.commit_turns.specs.Account.{rows_in}
-use Rattle.commit_turns.specs.declared.wait.Wait.{Wait}
-use Rattle.commit_turns.specs.Desks.{Desk}
-use Rattle.commit_turns.specs.Outcomes.{IsOutcome}
-use Rattle.commit_turns.specs.Turns.{decided, next_to_commit}
+use Rattle.event_worlds.specs.bolt_ops.RowOp.{Custom, IsCustom}
+use Rattle.event_worlds.specs.commit_turns.Account.{rows_in}
+use Rattle.event_worlds.specs.commit_turns.declared.wait.Wait.{Wait}
+use Rattle.event_worlds.specs.commit_turns.Desks.{Desk}
+use Rattle.event_worlds.specs.commit_turns.Outcomes.{IsOutcome}
+use Rattle.event_worlds.specs.commit_turns.Turns.{decided, next_to_commit}
 use Rattle.event_worlds.specs.Accounted.{Accounted, AreCaused, IsInput, LedAt}
 use Rattle.event_worlds.specs.Worlds.{Known, Step, first_known, run}
-use Rattle.state_parts.specs.Commits.{AreCommitted, ArePerhapsCommitted, CountsFollow, FailOnceAtMost, IsBadAt}
-use Rattle.state_parts.specs.declared.answer.CommitOutcome.{CommitOutcome}
-use Rattle.state_parts.specs.declared.parts.StatePart.{StatePart}
-use Rattle.state_parts.specs.PartPlans.{AreParts, plans_of}
-use Rattle.state_parts.specs.Standing.{IsEmpty}
+use Rattle.event_worlds.specs.state_parts.Commits.{AreCommitted, ArePerhapsCommitted, CountsFollow, FailOnceAtMost, IsBadAt}
+use Rattle.event_worlds.specs.state_parts.declared.answer.CommitOutcome.{CommitOutcome}
+use Rattle.event_worlds.specs.state_parts.declared.parts.StatePart.{StatePart}
+use Rattle.event_worlds.specs.state_parts.PartPlans.{AreParts, plans_of}
+use Rattle.event_worlds.specs.state_parts.Standing.{IsEmpty}
 use Rattle.storm_stores.specs.CellMaps.{CellMap}
-use Rattle.topology_plan.specs.Topology.{Topology}
-use Rattle.tree_model.specs.declared.messages.AckMsg.{AckMsg}
-use Rattle.tree_model.specs.declared.write.Write.{Write}
-use Rattle.tree_model.specs.Lists.{Covers, IsClosed}
-use Rattle.trident_batches.specs.Batches.{Cut}
-use Rattle.tuple_account.specs.Histories.{History}
-use Rattle.tuple_account.specs.Moves.{Station}
-use Rattle.tuple_account.specs.Sound.{IsSound}
+use Rattle.event_worlds.specs.topology_plan.Topology.{Topology}
+use Rattle.event_worlds.specs.tree_model.declared.messages.AckMsg.{AckMsg}
+use Rattle.event_worlds.specs.tree_model.declared.write.Write.{Write}
+use Rattle.event_worlds.specs.tree_model.Lists.{Covers, IsClosed}
+use Rattle.event_worlds.specs.trident_batches.Batches.{Cut}
+use Rattle.event_worlds.specs.tuple_account.Histories.{History}
+use Rattle.event_worlds.specs.tuple_account.Moves.{Station}
+use Rattle.event_worlds.specs.tuple_account.Sound.{IsSound}
 
 -- what steps rest on
 pub record Laws {S : Type 0} (count : S → ℕ) (t : Topology) (custom : Custom) (cut : Cut)

@@ -1,9 +1,9 @@
 -- Rounds of an engine with the ticks of a source, and how a run ends. This project's own.
 use Rattle.std.specs.Prelude.{◌≡◌, ℕ, List, ◌++◌, Result, Ok, Err, OnOk, length, map, fold, drop, replicate}
 use Rattle.std.specs.List.{range_with_len}
-use Rattle.bolt_ops.specs.RowOp.{Custom}
-use Rattle.commit_order.specs.declared.stop.Stop.{Stop}
-use Rattle.commit_order.specs.declared.stop.Stop.TheVariants as stop
+use Rattle.event_worlds.specs.bolt_ops.RowOp.{Custom}
+use Rattle.event_worlds.specs.commit_order.declared.stop.Stop.{Stop}
+use Rattle.event_worlds.specs.commit_order.declared.stop.Stop.TheVariants as stop
 use Rattle.event_engine.specs.Boosts.{Boosts}
 use Rattle.event_engine.specs.Engines.{Goes}
 use Rattle.event_engine.specs.declared.engine.Engine.{Engine}
@@ -11,14 +11,14 @@ use Rattle.event_worlds.specs.Worlds.{Step, coordinator_steps, of_acker, of_task
 use Rattle.schedule_core.specs.declared.ended.Ended.{Ended}
 use Rattle.schedule_core.specs.Driving.{Breaks, Drives, WantsMemory}
 use Rattle.schedule_core.specs.Runs.{HasRoundsOf, first_answers}
-use Rattle.state_parts.specs.declared.answer.CommitFault.{CommitFault}
-use Rattle.state_parts.specs.declared.answer.CommitFault.TheVariants as fault
-use Rattle.state_parts.specs.declared.parts.StatePart.{StatePart}
-use Rattle.storm_ids.specs.declared.ids.Ids.{Ghosts}
+use Rattle.event_worlds.specs.state_parts.declared.answer.CommitFault.{CommitFault}
+use Rattle.event_worlds.specs.state_parts.declared.answer.CommitFault.TheVariants as fault
+use Rattle.event_worlds.specs.state_parts.declared.parts.StatePart.{StatePart}
+use Rattle.event_worlds.specs.storm_ids.declared.ids.Ids.{Ghosts}
 use Rattle.storm_stores.specs.CellMaps.{CellMap}
 use Rattle.storm_ticks.specs.Ticking.{handed_on}
-use Rattle.topology_plan.specs.Topology.{Topology, tasks_in_all}
-use Rattle.trident_batches.specs.Batches.{Cut}
+use Rattle.event_worlds.specs.topology_plan.Topology.{Topology, tasks_in_all}
+use Rattle.event_worlds.specs.trident_batches.Batches.{Cut}
 
 -- what a run answers that came to this, where an engine that nothing stopped answers that
 abbrev pub end_by : Result (Unit {0}) CommitFault → Result Ended Stop → Result Ended Stop

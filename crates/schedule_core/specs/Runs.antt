@@ -1,27 +1,27 @@
 -- What a run of steps over the parts of all states comes to. This project's own.
 use Rattle.std.specs.Prelude.{◌≡◌, ◌<◌, ◌-◌, ◌^◌, ℕ, List, [], ◌∷◌, ◌++◌, Result, Ok, Err, All, length, map, fold, get_or, nat_le, if◌then◌else◌}
 use Rattle.std.specs.List.{range_with_len}
-use Rattle.attempt_fates.specs.declared.fates.Attempt.{Attempt}
-use Rattle.attempt_fates.specs.Fates.{IsOnce, IsWhole, attempt_numbers, committed_txids}
+use Rattle.event_worlds.specs.attempt_fates.declared.fates.Attempt.{Attempt}
+use Rattle.event_worlds.specs.attempt_fates.Fates.{IsOnce, IsWhole, attempt_numbers, committed_txids}
 use Rattle.batch_commits.specs.Standing.{AllButLastAreCounted, FailuresAreCounted, HasStrangeAt, PartsStand, batches_in}
-use Rattle.bolt_ops.specs.RowOp.{Custom}
-use Rattle.commit_order.specs.declared.stop.Stop.{Stop}
-use Rattle.commit_order.specs.declared.stop.Stop.TheVariants as stop
-use Rattle.commit_turns.specs.Kept.{FailsInTurn}
-use Rattle.commit_turns.specs.Turns.{last_tick}
+use Rattle.event_worlds.specs.bolt_ops.RowOp.{Custom}
+use Rattle.event_worlds.specs.commit_order.declared.stop.Stop.{Stop}
+use Rattle.event_worlds.specs.commit_order.declared.stop.Stop.TheVariants as stop
+use Rattle.event_worlds.specs.commit_turns.Kept.{FailsInTurn}
+use Rattle.event_worlds.specs.commit_turns.Turns.{last_tick}
 use Rattle.event_worlds.specs.Accounted.{AreCaused}
 use Rattle.event_worlds.specs.Worlds.{Step}
 use Rattle.schedule_core.specs.declared.ended.Ended.{Ended}
 use Rattle.schedule_core.specs.declared.ended.Ended.TheVariants as ending
 use Rattle.schedule_core.specs.Driving.{AreKept}
 use Rattle.schedule_core.specs.Schedules.{HadMemory, IsAnswer, IsOfWorld}
-use Rattle.state_parts.specs.Commits.{IsBadAt}
-use Rattle.state_parts.specs.declared.parts.StatePart.{StatePart}
-use Rattle.state_parts.specs.Standing.{IsEmpty}
+use Rattle.event_worlds.specs.state_parts.Commits.{IsBadAt}
+use Rattle.event_worlds.specs.state_parts.declared.parts.StatePart.{StatePart}
+use Rattle.event_worlds.specs.state_parts.Standing.{IsEmpty}
 use Rattle.storm_stores.specs.CellMaps.{CellMap}
 use Rattle.storm_ticks.specs.Ticking.{handed_on}
-use Rattle.topology_plan.specs.Topology.{Topology}
-use Rattle.trident_batches.specs.Batches.{Cut}
+use Rattle.event_worlds.specs.topology_plan.Topology.{Topology}
+use Rattle.event_worlds.specs.trident_batches.Batches.{Cut}
 use Rattle.event_worlds.specs.Rounds.{round_with, ticks_in}
 
 -- how many batches the fates say were committed

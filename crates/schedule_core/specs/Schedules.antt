@@ -1,18 +1,18 @@
 -- The steps of a schedule's events, and what a world answers. This project's own.
 use Rattle.std.specs.Prelude.{◌≡◌, ℕ, Bool, true, false, List, [], ◌∷◌, Option, None, Some, Result, Ok, Err}
 use Rattle.std.specs.List.{flat_map}
-use Rattle.attempt_fates.specs.declared.fates.Attempt.{Attempt}
-use Rattle.bolt_ops.specs.RowOp.{Custom}
-use Rattle.commit_order.specs.declared.stop.Stop.{Stop}
-use Rattle.commit_order.specs.declared.stop.Stop.TheVariants.{Exhausted, BadCell, Memory}
-use Rattle.commit_turns.specs.Turns.{is_finished}
+use Rattle.event_worlds.specs.attempt_fates.declared.fates.Attempt.{Attempt}
+use Rattle.event_worlds.specs.bolt_ops.RowOp.{Custom}
+use Rattle.event_worlds.specs.commit_order.declared.stop.Stop.{Stop}
+use Rattle.event_worlds.specs.commit_order.declared.stop.Stop.TheVariants.{Exhausted, BadCell, Memory}
+use Rattle.event_worlds.specs.commit_turns.Turns.{is_finished}
 use Rattle.event_worlds.specs.Worlds.{Step, World, coordinator_steps, of_acker, of_task, of_tick, outcomes_of, rounds_steps, world_after}
 use Rattle.schedule_core.specs.declared.ended.Ended.{Ended}
 use Rattle.schedule_core.specs.declared.ended.Ended.TheVariants.{All, Unfinished}
 use Rattle.schedule_reader.specs.declared.event.Event.{Event}
 use Rattle.schedule_reader.specs.declared.event.Event.TheVariants as event
-use Rattle.topology_plan.specs.Topology.{Topology}
-use Rattle.trident_batches.specs.Batches.{Cut}
+use Rattle.event_worlds.specs.topology_plan.Topology.{Topology}
+use Rattle.event_worlds.specs.trident_batches.Batches.{Cut}
 
 -- the steps of an event
 abbrev pub steps_of : Topology → Event → List Step

@@ -5,11 +5,11 @@ ghost use Rattle.schedule_core.specs.Rounding.{end_by};
 ghost use Rattle.schedule_core.specs.Schedules.{answer_of};
 
 use crate::ended::Ended;
-use attempt_fates::Fates;
-use commit_order::Stop;
 use event_engine::Engine;
-use state_parts::CommitFault;
-use storm_ids::Ids;
+use event_worlds::attempt_fates::Fates;
+use event_worlds::commit_order::Stop;
+use event_worlds::state_parts::CommitFault;
+use event_worlds::storm_ids::Ids;
 
 /// What a run answers whose last call came to this: what stopped it, or else what its coordinator
 /// knows. The attempts that ended take the place of those that are there, whatever the answer.

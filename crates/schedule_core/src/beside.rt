@@ -1,22 +1,22 @@
 //! The rest of a round of workers: the commit that the coordinator orders goes to the parts side by
 //! side. Its clauses are those of a round on one thread.
 ghost use Rattle.std.specs.Prelude.{◌≡◌, ℕ, List, length, Err, OnOk, OnErr};
-ghost use Rattle.attempt_fates.specs.Fates.{IsOnce};
-ghost use Rattle.bolt_ops.specs.RowOp.{Custom};
-ghost use Rattle.commit_turns.specs.Turns.{last_tick};
+ghost use Rattle.event_worlds.specs.attempt_fates.Fates.{IsOnce};
+ghost use Rattle.event_worlds.specs.bolt_ops.RowOp.{Custom};
+ghost use Rattle.event_worlds.specs.commit_turns.Turns.{last_tick};
 ghost use Rattle.event_engine.specs.Engines.{cut_in, topology_in};
 ghost use Rattle.event_worlds.specs.Worlds.{coordinator_steps};
 ghost use Rattle.schedule_core.specs.Driving.{AreKept, Breaks, Drives, IsAtRest, IsOfSameRun, WantsMemory};
 ghost use Rattle.schedule_core.specs.Rounding.{closing_steps};
-ghost use Rattle.state_parts.specs.declared.answer.CommitFault.TheVariants as fault;
-ghost use Rattle.state_parts.specs.PartPlans.{AreParts};
+ghost use Rattle.event_worlds.specs.state_parts.declared.answer.CommitFault.TheVariants as fault;
+ghost use Rattle.event_worlds.specs.state_parts.PartPlans.{AreParts};
 
 use crate::drive::tick_on;
 use crate::laws::{laws_of_commits, laws_of_steps};
 use event_engine::Engine;
-use state_parts::{CommitFault, Parts};
+use event_worlds::state_parts::{CommitFault, Parts};
+use event_worlds::storm_ids::Ids;
 use std::thread::Threads;
-use storm_ids::Ids;
 use storm_stores::CellStore;
 
 /// The coordinator's step, and the commit that it orders, to all parts side by side.

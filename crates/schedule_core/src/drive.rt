@@ -1,9 +1,9 @@
 //! Steps of the engine, with the commits that its coordinator orders.
 ghost use Rattle.std.specs.Prelude.{◌≡◌, ℕ, List, All, length, Err, OnOk, OnErr, replicate};
 ghost use Rattle.std.specs.List.{AllByRecursion};
-ghost use Rattle.attempt_fates.specs.Fates.{IsOnce};
-ghost use Rattle.bolt_ops.specs.RowOp.{Custom};
-ghost use Rattle.commit_turns.specs.Turns.{last_tick};
+ghost use Rattle.event_worlds.specs.attempt_fates.Fates.{IsOnce};
+ghost use Rattle.event_worlds.specs.bolt_ops.RowOp.{Custom};
+ghost use Rattle.event_worlds.specs.commit_turns.Turns.{last_tick};
 ghost use Rattle.event_engine.specs.Boosts.{Boosts};
 ghost use Rattle.event_engine.specs.Engines.{Goes, IsStill, cut_in, topology_in};
 ghost use Rattle.event_worlds.specs.Worlds.{coordinator_steps, of_tick, round_steps, rounds_steps};
@@ -11,17 +11,17 @@ ghost use Rattle.schedule_core.specs.Driving.{AreKept, Breaks, Drives, IsAtRest,
 ghost use Rattle.schedule_core.specs.Rounding.{OpensBoosted, closing_steps, most_before, opening_steps};
 ghost use Rattle.schedule_core.specs.Schedules.{all_steps, steps_of};
 ghost use Rattle.schedule_reader.specs.Events.{FitsEvent};
-ghost use Rattle.state_parts.specs.declared.answer.CommitFault.TheVariants as fault;
-ghost use Rattle.state_parts.specs.PartPlans.{AreParts};
+ghost use Rattle.event_worlds.specs.state_parts.declared.answer.CommitFault.TheVariants as fault;
+ghost use Rattle.event_worlds.specs.state_parts.PartPlans.{AreParts};
 
 use crate::laws::{laws_of_commits, laws_of_steps};
-use bolt_ops::RowOp;
 use event_engine::Engine;
+use event_worlds::bolt_ops::RowOp;
+use event_worlds::state_parts::{CommitFault, Parts};
+use event_worlds::storm_ids::Ids;
+use event_worlds::storm_values::Memory;
 use schedule_reader::{Event, Events};
-use state_parts::{CommitFault, Parts};
-use storm_ids::Ids;
 use storm_stores::CellStore;
-use storm_values::Memory;
 
 /// How many events a task or an acker has at most before a round. Boxes stay short by it.
 const MOST_BEFORE: u32 = 64;

@@ -6,23 +6,23 @@ ghost use Rattle.event_worlds.specs.Rounds.{ticks_in};
 ghost use Rattle.schedule_core.specs.Runs.{RunComes};
 ghost use Rattle.schedule_core.specs.Schedules.{HadMemory, IsAnswer, IsOfWorld, all_steps};
 ghost use Rattle.schedule_reader.specs.Events.{FitsEvent};
-ghost use Rattle.state_parts.specs.PartPlans.{AreParts};
+ghost use Rattle.event_worlds.specs.state_parts.PartPlans.{AreParts};
 
 use crate::answer::end_run;
 use crate::drive::carry_out_all;
 use crate::ended::Ended;
 use crate::laws::laws_of_runs;
-use attempt_fates::Fates;
-use bolt_ops::RowOp;
-use commit_order::Stop;
 use event_engine::Engine;
+use event_worlds::attempt_fates::Fates;
+use event_worlds::bolt_ops::RowOp;
+use event_worlds::commit_order::Stop;
+use event_worlds::state_parts::Parts;
+use event_worlds::storm_ids::IdMaker;
+use event_worlds::topology_plan::Plan;
+use event_worlds::trident_batches::Batches;
 use schedule_reader::Events;
-use state_parts::Parts;
 use std::alloc::Global;
-use storm_ids::IdMaker;
 use storm_stores::CellStore;
-use topology_plan::Plan;
-use trident_batches::Batches;
 
 /// Carries out a given schedule over the batches of an input, event by event on one thread, with
 /// commits to the parts of all states. When all is over it looks at no further event.

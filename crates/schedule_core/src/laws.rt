@@ -1,8 +1,8 @@
 //! The laws of other crates that runs rest on, put together.
-ghost use Rattle.bolt_ops.specs.RowOp.{Custom};
+ghost use Rattle.event_worlds.specs.bolt_ops.RowOp.{Custom};
 ghost use Rattle.schedule_core.specs.Laws.{CommitLaws, Laws, WorldLaws};
-ghost use Rattle.topology_plan.specs.Topology.{Topology};
-ghost use Rattle.trident_batches.specs.Batches.{Cut};
+ghost use Rattle.event_worlds.specs.topology_plan.Topology.{Topology};
+ghost use Rattle.event_worlds.specs.trident_batches.Batches.{Cut};
 
 use batch_commits::{
     commits_of_batches_move_parts, counts_run_on, failures_of_commits_are_counted,

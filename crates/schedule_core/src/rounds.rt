@@ -1,29 +1,29 @@
 //! A run by rounds, with the ticks of a source.
 ghost use Rattle.std.specs.Prelude.{◌≡◌, true, [], length, OnOk, OnErr};
-ghost use Rattle.attempt_fates.specs.Fates.{IsOnce};
-ghost use Rattle.commit_turns.specs.Turns.{last_tick};
+ghost use Rattle.event_worlds.specs.attempt_fates.Fates.{IsOnce};
+ghost use Rattle.event_worlds.specs.commit_turns.Turns.{last_tick};
 ghost use Rattle.event_engine.specs.Engines.{cut_in, has_ended, topology_in};
 ghost use Rattle.event_worlds.specs.Accounted.{IsInput};
 ghost use Rattle.schedule_core.specs.Driving.{AreKept, IsAtRest, IsOfSameRun};
 ghost use Rattle.schedule_core.specs.Rounding.{Rounded};
 ghost use Rattle.schedule_core.specs.Runs.{RoundsCome};
-ghost use Rattle.state_parts.specs.PartPlans.{AreParts};
+ghost use Rattle.event_worlds.specs.state_parts.PartPlans.{AreParts};
 
 use crate::answer::end_run;
 use crate::drive::{close_round, open_boosted};
 use crate::laws::{laws_of_runs, laws_of_steps};
-use attempt_fates::Fates;
-use bolt_ops::RowOp;
-use commit_order::Stop;
 use event_engine::Engine;
-use state_parts::{CommitFault, Parts};
+use event_worlds::attempt_fates::Fates;
+use event_worlds::bolt_ops::RowOp;
+use event_worlds::commit_order::Stop;
+use event_worlds::state_parts::{CommitFault, Parts};
+use event_worlds::storm_ids::{IdMaker, Ids};
+use event_worlds::topology_plan::Plan;
+use event_worlds::trident_batches::Batches;
 use std::alloc::Global;
 use std::sync::Wait;
-use storm_ids::{IdMaker, Ids};
 use storm_stores::CellStore;
 use storm_ticks::Ticks;
-use topology_plan::Plan;
-use trident_batches::Batches;
 
 /// Runs a plan over the batches of an input by rounds on one thread, until every batch is committed
 /// or all attempts of one ended without a commit.

@@ -1,7 +1,7 @@
 -- What one get and one put do.
 use Rattle.std.proofs.Common.{◌≡◌, ◌⊎◌, inl, inr, ℕ, ℤ, List, Option, Some, refl, sym, subst}
-use Rattle.topology_plan.specs.declared.parts.Fold.{Fold}
-use Rattle.topology_plan.specs.declared.parts.Kind.{Kind}
+use Rattle.tree_model.specs.topology_plan.declared.parts.Fold.{Fold}
+use Rattle.tree_model.specs.topology_plan.declared.parts.Kind.{Kind}
 use Rattle.storm_stores.specs.CellMaps.{CellMap, cell_at, with_cell}
 use Rattle.storm_stores.proofs.CellMapLemmas.{cell_at-with_cell, cell_at-with_cell_other}
 use Rattle.cell_format.specs.Commits.{Commits, Holds, IsCellOf, IsPerhapsDone, after}

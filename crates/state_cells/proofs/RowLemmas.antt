@@ -7,7 +7,7 @@ use Rattle.std.specs.Str.{IsUtf8}
 use Rattle.std.proofs.lemmas.List.{take_all}
 use Rattle.std.proofs.lemmas.List.Elements.{filter_map-append}
 use Rattle.std.proofs.lemmas.Map.Entries.{length-keys_of}
-use Rattle.topology_plan.specs.declared.parts.Kind.{Kind}
+use Rattle.tree_model.specs.topology_plan.declared.parts.Kind.{Kind}
 use Rattle.tree_model.specs.declared.write.Pair.{Pair}
 use Rattle.storm_stores.specs.CellMaps.{CellMap, cell_at}
 use Rattle.cell_format.specs.Commits.{Holds, value_of}

@@ -1,6 +1,6 @@
 -- A part, seen by contracts.
-use Rattle.topology_plan.specs.declared.parts.Fold.{Fold}
-use Rattle.topology_plan.specs.declared.parts.Kind.{Kind}
+use Rattle.tree_model.specs.topology_plan.declared.parts.Fold.{Fold}
+use Rattle.tree_model.specs.topology_plan.declared.parts.Kind.{Kind}
 
 -- the store, and how its cells are kept and folded
 pub record PartState (C : Type 0) : Type 0 where

@@ -1,7 +1,7 @@
 -- The jobs that a commit needs.
 use Rattle.std.specs.Prelude.{◌≡◌, ℕ, ℤ, false, List, [], Option, MatchOption}
-use Rattle.topology_plan.specs.declared.parts.Kind.{Kind}
-use Rattle.topology_plan.specs.declared.parts.Kind.TheVariants.{Transactional, Opaque}
+use Rattle.tree_model.specs.topology_plan.declared.parts.Kind.{Kind}
+use Rattle.tree_model.specs.topology_plan.declared.parts.Kind.TheVariants.{Transactional, Opaque}
 use Rattle.storm_stores.specs.CellMaps.{CellMap, cell_at}
 use Rattle.cell_format.specs.Commits.{Holds}
 use Rattle.cell_format.specs.declared.cell.Cell.{Cell}

@@ -4,7 +4,7 @@ use Rattle.std.specs.List.{filter_map}
 use Rattle.std.specs.Map.{keys_of}
 use Rattle.std.specs.Option.{option_to_list}
 use Rattle.std.specs.Str.{IsUtf8}
-use Rattle.topology_plan.specs.declared.parts.Kind.{Kind}
+use Rattle.tree_model.specs.topology_plan.declared.parts.Kind.{Kind}
 use Rattle.tree_model.specs.declared.write.Pair.{Pair}
 use Rattle.storm_stores.specs.CellMaps.{CellMap, cell_at}
 use Rattle.cell_format.specs.Commits.{Holds, value_of}

@@ -1,7 +1,7 @@
 -- What one look at each key of a store finds.
 use Rattle.std.specs.Prelude.{◌≡◌, ◌≤◌, ◌==◌, ℕ, Bool, true, false, List, [], ◌∷◌, ◌++◌, if◌then◌else◌, filter, slice_get, Option, None, Some}
 use Rattle.std.specs.Map.{keys_of}
-use Rattle.topology_plan.specs.declared.parts.Kind.{Kind}
+use Rattle.tree_model.specs.topology_plan.declared.parts.Kind.{Kind}
 use Rattle.storm_stores.specs.CellMaps.{CellMap, cell_at}
 use Rattle.cell_format.specs.Commits.{Holds}
 use Rattle.cell_format.specs.Layout.{read_of}

@@ -1,5 +1,5 @@
 ghost use Rattle.std.specs.Prelude.{◌≡◌, ◌≤◌, ◌⊎◌, ℕ, List, Option, IfOk, IfSome, OnOk, OnErr, IsErrOf};
-ghost use Rattle.storm_values.specs.Counts.{raised};
+ghost use Rattle.tree_model.specs.storm_values.Counts.{raised};
 ghost use Rattle.storm_stores.specs.CellMaps.{CellMap, cell_at, with_cell};
 ghost use Rattle.cell_format.specs.Commits.{Commits, Holds, IsCellOf, IsPerhapsDone};
 ghost use Rattle.cell_format.specs.Layout.{IsWhole, bytes_of};
@@ -11,8 +11,8 @@ use crate::group::Groups;
 use cell_format::{Cell, cell_for, change, encode_cell};
 use std::alloc::Global;
 use storm_stores::{CellStore, StoreFault};
-use storm_values::Bytes;
-use topology_plan::{Fold, Kind};
+use tree_model::storm_values::Bytes;
+use tree_model::topology_plan::{Fold, Kind};
 
 /// What a commit is of.
 #[derive(Clone, Copy, Debug)]

@@ -3,8 +3,8 @@ ghost use Rattle.state_cells.specs.Faults.{fault_of};
 ghost use Rattle.state_cells.specs.declared.fault.PartFault.TheVariants as fault;
 
 use storm_stores::StoreFault;
-use storm_values::{Bytes, Memory};
 use thiserror::Error;
+use tree_model::storm_values::{Bytes, Memory};
 
 /// Why a part did not do a call.
 #[derive(Debug, Drop, Error)]

@@ -8,7 +8,7 @@ use indexmap::IndexMap;
 use smallvec::SmallVec;
 use std::alloc::Global;
 use storm_stores::KeyBytes;
-use storm_values::{Bytes, Memory};
+use tree_model::storm_values::{Bytes, Memory};
 
 /// What is written for a key, in order. Up to four amounts take no memory.
 pub(crate) type Amounts = SmallVec<i64, 4>;

@@ -6,8 +6,8 @@ use crate::commit::Batch;
 use crate::group::Groups;
 use crate::plan::Work;
 use std::alloc::Global;
-use storm_values::{Bytes, Memory};
-use topology_plan::Kind;
+use tree_model::storm_values::{Bytes, Memory};
+use tree_model::topology_plan::Kind;
 
 /// What an opaque part knows of its store's cells, so that it does not look at each key again.
 #[derive(Debug, Drop)]

@@ -1,5 +1,5 @@
 ghost use Rattle.std.specs.Prelude.{◌≡◌, ◌≤◌, ℕ, List, IfOk, IfSome, OnOk, OnErr, IsErrOf};
-ghost use Rattle.storm_values.specs.Counts.{raised};
+ghost use Rattle.tree_model.specs.storm_values.Counts.{raised};
 ghost use Rattle.storm_stores.specs.CellMaps.{CellMap, cell_at};
 ghost use Rattle.cell_format.specs.Commits.{IsDone, IsPerhapsDone};
 ghost use Rattle.state_cells.specs.Groups.{amounts_in, amounts_of, jobs_in};
@@ -18,8 +18,8 @@ use crate::table::table;
 use std::alloc::Global;
 use std::marker::Model;
 use storm_stores::CellStore;
-use topology_plan::{Fold, Kind};
 use tree_model::Pairs;
+use tree_model::topology_plan::{Fold, Kind};
 
 /// A part of a state: its cells lie in a store that may refuse.
 #[derive(Drop)]

@@ -1,5 +1,5 @@
 ghost use Rattle.std.specs.Prelude.{◌≡◌, ◌≤◌, ℕ, List, IfOk, IfSome, IsErrOf};
-ghost use Rattle.storm_values.specs.Counts.{raised};
+ghost use Rattle.tree_model.specs.storm_values.Counts.{raised};
 ghost use Rattle.storm_stores.specs.CellMaps.{CellMap, cell_at};
 ghost use Rattle.state_cells.specs.Groups.{amounts_in, jobs_in, jobs_of};
 ghost use Rattle.state_cells.specs.Known.{AreKnown, Knows, keys_in};
@@ -13,8 +13,8 @@ use crate::known::{Known, known_of};
 use crate::scan::scan;
 use std::alloc::Global;
 use storm_stores::CellStore;
-use storm_values::Bytes;
-use topology_plan::Kind;
+use tree_model::storm_values::Bytes;
+use tree_model::topology_plan::Kind;
 
 /// What a commit does beside the keys that are written.
 #[derive(Drop)]

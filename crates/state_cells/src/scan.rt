@@ -1,5 +1,5 @@
 ghost use Rattle.std.specs.Prelude.{◌≡◌, ◌≤◌, ◌<◌, ◌==◌, if◌then◌else◌, true, ℕ, List, [], ◌∷◌, ◌++◌, length, Option, IfOk, OnOk, IsErrOf};
-ghost use Rattle.storm_values.specs.Counts.{raised};
+ghost use Rattle.tree_model.specs.storm_values.Counts.{raised};
 ghost use Rattle.storm_stores.specs.CellMaps.{CellMap, cell_at};
 ghost use Rattle.cell_format.specs.declared.cell.Cell.{Cell};
 ghost use Rattle.state_cells.specs.Known.{Knows};
@@ -12,8 +12,8 @@ use crate::known::Known;
 use cell_format::Cell;
 use std::alloc::Global;
 use storm_stores::CellStore;
-use storm_values::{Bytes, Memory};
-use topology_plan::Kind;
+use tree_model::storm_values::{Bytes, Memory};
+use tree_model::topology_plan::Kind;
 
 /// Notes a key where its cell is of the transaction, and that a cell is of a later one.
 fn note(found: &mut Known, key: Bytes, cell: Option<Cell>) -> Result<(), Memory>

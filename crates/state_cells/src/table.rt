@@ -1,6 +1,6 @@
 ghost use Rattle.std.specs.Prelude.{◌≡◌, ◌≤◌, ◌<◌, ℕ, List, [], ◌∷◌, ◌++◌, length, IfOk, OnOk, IsErrOf};
 ghost use Rattle.std.specs.Str.{IsUtf8};
-ghost use Rattle.storm_values.specs.Counts.{raised};
+ghost use Rattle.tree_model.specs.storm_values.Counts.{raised};
 ghost use Rattle.storm_stores.specs.CellMaps.{CellMap, cell_at};
 ghost use Rattle.state_cells.specs.Scans.{AreGood};
 ghost use Rattle.state_cells.specs.Rows.{IsBadRow, Reads, rows_of};
@@ -10,8 +10,8 @@ use crate::fault::PartFault;
 use cell_format::Cell;
 use std::alloc::Global;
 use storm_stores::CellStore;
-use storm_values::{Bytes, Txt};
-use topology_plan::Kind;
+use tree_model::storm_values::{Bytes, Txt};
+use tree_model::topology_plan::Kind;
 use tree_model::{Pair, Pairs};
 
 /// Reads the key of a number, and adds its value where it has one.

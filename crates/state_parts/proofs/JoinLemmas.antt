@@ -4,7 +4,7 @@ use Rattle.std.proofs.lemmas.List.{map-append}
 use Rattle.std.proofs.lemmas.List.Elements.{All-append}
 use Rattle.std.proofs.lemmas.List.Folds.{list_any-append}
 use Rattle.std.specs.Option.{option_or}
-use Rattle.storm_values.specs.Lines.{first_some}
+use Rattle.tree_model.specs.storm_values.Lines.{first_some}
 use Rattle.storm_stores.specs.CellMaps.{CellMap}
 use Rattle.state_cells.specs.declared.group.GroupedWrites.{GroupedWrites}
 use Rattle.tree_model.specs.declared.write.Write.{Write}

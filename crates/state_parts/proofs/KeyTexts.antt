@@ -6,10 +6,10 @@ use Rattle.json.specs.Print.{escape, quoted}
 use Rattle.json.specs.Text.{content, plain}
 use Rattle.json.proofs.Printed.Strings.{content-escape}
 use Rattle.serde_json.specs.Written.{compact_text, items_text}
-use Rattle.storm_values.specs.declared.value.Value.{Value}
-use Rattle.storm_values.specs.declared.value.Value.TheVariants.{Int, Text}
-use Rattle.storm_values.specs.Json.{data_of, items_of_values}
-use Rattle.storm_values.specs.Keys.{fnv_offset, fnv_step, hash_of, key_bytes, text_of, value_bytes}
+use Rattle.tree_model.specs.storm_values.declared.value.Value.{Value}
+use Rattle.tree_model.specs.storm_values.declared.value.Value.TheVariants.{Int, Text}
+use Rattle.tree_model.specs.storm_values.Json.{data_of, items_of_values}
+use Rattle.tree_model.specs.storm_values.Keys.{fnv_offset, fnv_step, hash_of, key_bytes, text_of, value_bytes}
 
 -- ---- lists of bytes that begin alike
 

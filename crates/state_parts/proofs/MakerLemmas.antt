@@ -4,7 +4,7 @@ use Rattle.std.proofs.lemmas.Bool.{cases_lt}
 use Rattle.std.proofs.lemmas.List.{map-append}
 use Rattle.std.proofs.lemmas.List.Elements.{All-cons, All-head, All-nil, All-push, All-tail, All-weaker}
 use Rattle.storm_stores.specs.CellMaps.{CellMap}
-use Rattle.storm_values.specs.Counts.{raised_by}
+use Rattle.tree_model.specs.storm_values.Counts.{raised_by}
 use Rattle.state_parts.specs.declared.parts.StatePart.{StatePart}
 use Rattle.state_parts.specs.Makers.{AreBack, AreMade, AreOut, Began, CameBack, HasNotFailed, OnlyMade, RoseBySum, WasMade, faults_of}
 use Rattle.state_parts.specs.PartPlans.{AreApart, IsOneOf, PartPlan, plan_of, plans_of}

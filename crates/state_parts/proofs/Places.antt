@@ -7,12 +7,12 @@ use Rattle.std.proofs.lemmas.List.FromFn.{map-range_with_len_more}
 use Rattle.std.proofs.lemmas.Option.{none-some, same_Some, slice_get_within}
 use Rattle.std.specs.List.{flat_map, range_with_len}
 use Rattle.std.specs.Option.{option_map, option_map_or}
-use Rattle.topology_plan.specs.declared.parts.Body.{Body}
-use Rattle.topology_plan.specs.declared.parts.Body.TheVariants.{Bolt, State}
-use Rattle.topology_plan.specs.declared.parts.Component.{Component}
-use Rattle.topology_plan.specs.declared.parts.Fold.{Fold}
-use Rattle.topology_plan.specs.declared.parts.Kind.{Kind}
-use Rattle.topology_plan.specs.Topology.{Topology}
+use Rattle.tree_model.specs.topology_plan.declared.parts.Body.{Body}
+use Rattle.tree_model.specs.topology_plan.declared.parts.Body.TheVariants.{Bolt, State}
+use Rattle.tree_model.specs.topology_plan.declared.parts.Component.{Component}
+use Rattle.tree_model.specs.topology_plan.declared.parts.Fold.{Fold}
+use Rattle.tree_model.specs.topology_plan.declared.parts.Kind.{Kind}
+use Rattle.tree_model.specs.topology_plan.Topology.{Topology}
 use Rattle.state_parts.specs.PartPlans.{PartPlan, AreApart, AreIndexed, IsFound, IsOneOf, part_by, parts_at, parts_below, parts_by, place_by}
 
 -- ---- one of some parts

@@ -4,7 +4,7 @@ use Rattle.std.proofs.lemmas.List.Elements.{All-cons, All-head, All-nil, All-tai
 use Rattle.std.specs.Str.{bytes_eq}
 use Rattle.std.specs.Cmp.Lexicographic.{bytes_decides}
 use Rattle.storm_stores.specs.CellMaps.{CellMap, cell_at}
-use Rattle.topology_plan.specs.Topology.{Topology, tasks_of}
+use Rattle.tree_model.specs.topology_plan.Topology.{Topology, tasks_of}
 use Rattle.tree_model.specs.declared.write.Write.{Write}
 use Rattle.cell_format.specs.Commits.{amounts_at}
 use Rattle.cell_format.specs.Standing.{AreOwn, IsKeyOf, IsWithin, Stands}

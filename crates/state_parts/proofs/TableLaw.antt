@@ -7,16 +7,16 @@ use Rattle.std.specs.List.{AllZip, cons_option, filter_map, flat_map, range_with
 use Rattle.std.specs.Option.{option_and_then, option_map_or, option_or}
 use Rattle.std.specs.Str.{bytes_eq}
 use Rattle.std.specs.Cmp.Lexicographic.{bytes_decides}
-use Rattle.storm_values.specs.Keys.{hash_of}
+use Rattle.tree_model.specs.storm_values.Keys.{hash_of}
 use Rattle.storm_stores.specs.CellMaps.{CellMap, cell_at}
-use Rattle.topology_plan.specs.declared.parts.Body.{Body}
-use Rattle.topology_plan.specs.declared.parts.Body.TheVariants.{Bolt, State}
-use Rattle.topology_plan.specs.declared.parts.Component.{Component}
-use Rattle.topology_plan.specs.declared.parts.StateSpec.{StateSpec}
-use Rattle.topology_plan.specs.declared.parts.Fold.{Fold}
-use Rattle.topology_plan.specs.declared.parts.Kind.{Kind}
-use Rattle.topology_plan.specs.Topology.{Topology, tasks_of}
-use Rattle.topology_plan.specs.Wired.{IsComponent, IsWired}
+use Rattle.tree_model.specs.topology_plan.declared.parts.Body.{Body}
+use Rattle.tree_model.specs.topology_plan.declared.parts.Body.TheVariants.{Bolt, State}
+use Rattle.tree_model.specs.topology_plan.declared.parts.Component.{Component}
+use Rattle.tree_model.specs.topology_plan.declared.parts.StateSpec.{StateSpec}
+use Rattle.tree_model.specs.topology_plan.declared.parts.Fold.{Fold}
+use Rattle.tree_model.specs.topology_plan.declared.parts.Kind.{Kind}
+use Rattle.tree_model.specs.topology_plan.Topology.{Topology, tasks_of}
+use Rattle.tree_model.specs.topology_plan.Wired.{IsComponent, IsWired}
 use Rattle.tree_model.specs.declared.write.Table.{Table}
 use Rattle.tree_model.specs.declared.write.Write.{Write}
 use Rattle.tree_model.specs.Tables.{AreTables, IsTableOf, StateOf, amounts_of, base, state_at, state_by, states_of}

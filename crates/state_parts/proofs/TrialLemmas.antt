@@ -8,11 +8,11 @@ use Rattle.std.proofs.lemmas.Option.{none-some, same_Some}
 use Rattle.std.proofs.lemmas.Result.{on_ok_weaker}
 use Rattle.std.specs.List.{list_any}
 use Rattle.std.specs.Option.{option_or}
-use Rattle.storm_values.specs.Lines.{first_some}
-use Rattle.storm_values.specs.Counts.{raised}
+use Rattle.tree_model.specs.storm_values.Lines.{first_some}
+use Rattle.tree_model.specs.storm_values.Counts.{raised}
 use Rattle.storm_stores.specs.CellMaps.{CellMap, cell_at}
-use Rattle.topology_plan.specs.declared.parts.Fold.{Fold}
-use Rattle.topology_plan.specs.declared.parts.Kind.{Kind}
+use Rattle.tree_model.specs.topology_plan.declared.parts.Fold.{Fold}
+use Rattle.tree_model.specs.topology_plan.declared.parts.Kind.{Kind}
 use Rattle.cell_format.specs.Commits.{IsDone, IsPerhapsDone, amounts_at}
 use Rattle.cell_format.proofs.CommitLemmas.{perhaps_if_done}
 use Rattle.state_cells.specs.Turns.{IsBad, Turns}

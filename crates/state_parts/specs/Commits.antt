@@ -1,8 +1,8 @@
 -- What the commit of a batch makes of all parts, and what is answered of it.
 use Rattle.std.specs.Prelude.{◌≡◌, ◌≤◌, ◌==◌, ◌&&◌, ◌⊎◌, ℕ, Bool, true, false, List, map, filter, All, Option, None, Some, unwrap_or, Result, Ok, Err, OnOk, IsErrOf, slice_get}
 use Rattle.std.specs.List.{list_any, AllZip}
-use Rattle.storm_values.specs.Lines.{first_some}
-use Rattle.storm_values.specs.Counts.{raised}
+use Rattle.tree_model.specs.storm_values.Lines.{first_some}
+use Rattle.tree_model.specs.storm_values.Counts.{raised}
 use Rattle.storm_stores.specs.CellMaps.{CellMap, cell_at}
 use Rattle.tree_model.specs.declared.write.Write.{Write}
 use Rattle.cell_format.specs.Commits.{IsDone, IsPerhapsDone, amounts_at}

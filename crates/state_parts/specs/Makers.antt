@@ -1,6 +1,6 @@
 -- What a maker of stores comes to while stores are out, and when they come back.
 use Rattle.std.specs.Prelude.{◌≡◌, ◌≤◌, ◌+◌, ◌-◌, ◌^◌, ◌⊎◌, ℕ, List, [], ◌∷◌, All}
-use Rattle.storm_values.specs.Counts.{raised_by}
+use Rattle.tree_model.specs.storm_values.Counts.{raised_by}
 use Rattle.storm_stores.specs.CellMaps.{CellMap}
 use Rattle.state_parts.specs.declared.parts.StatePart.{StatePart}
 use Rattle.state_parts.specs.PartPlans.{AreApart, IsOneOf, PartPlan, plans_of}

@@ -7,7 +7,7 @@ use Rattle.std.specs.Map.{update}
 use Rattle.std.specs.Option.{option_or}
 use Rattle.std.specs.Ordering.{nat_cmp}
 use Rattle.std.specs.Str.{bytes_eq}
-use Rattle.storm_values.specs.Counts.{raised}
+use Rattle.tree_model.specs.storm_values.Counts.{raised}
 use Rattle.storm_stores.specs.CellMaps.{CellMap, cell_at}
 use Rattle.tree_model.specs.Tables.{StateOf, value_at}
 use Rattle.tree_model.specs.declared.write.Pair.{Pair}

@@ -1,6 +1,6 @@
 -- When all parts stand at a number of commits. This project's own.
 use Rattle.std.specs.Prelude.{◌≡◌, ℕ, List, [], All, Contains}
-use Rattle.topology_plan.specs.Topology.{Topology, tasks_of}
+use Rattle.tree_model.specs.topology_plan.Topology.{Topology, tasks_of}
 use Rattle.tree_model.specs.declared.write.Write.{Write}
 use Rattle.storm_stores.specs.CellMaps.{CellMap, cell_at}
 use Rattle.cell_format.specs.Standing.{IsKeyOf, IsWithin, Stands}

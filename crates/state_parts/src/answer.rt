@@ -5,9 +5,9 @@ ghost use Rattle.state_parts.specs.Answers.{joined, noted};
 ghost use Rattle.state_parts.specs.Commits.{answer_of};
 
 use state_cells::PartFault;
-use storm_values::{Bytes, Memory, Root};
 use thiserror::Error;
 use tree_model::PackedWrites;
+use tree_model::storm_values::{Bytes, Memory, Root};
 
 /// The commit of an attempt of a batch, with the writes of the batch for all parts, in their order.
 #[derive(Debug, Drop)]

@@ -1,9 +1,9 @@
 ghost use Rattle.std.specs.Prelude.{◌≡◌, ◌+◌, ◌++◌, ℕ, List, [], All};
 ghost use Rattle.std.specs.List.{AllZip};
-ghost use Rattle.bolt_ops.specs.RowOp.{Custom};
-ghost use Rattle.storm_values.specs.declared.value.Value.{Value};
-ghost use Rattle.topology_plan.specs.Topology.{Topology};
-ghost use Rattle.topology_plan.specs.Wired.{IsWired};
+ghost use Rattle.tree_model.specs.bolt_ops.RowOp.{Custom};
+ghost use Rattle.tree_model.specs.storm_values.declared.value.Value.{Value};
+ghost use Rattle.tree_model.specs.topology_plan.Topology.{Topology};
+ghost use Rattle.tree_model.specs.topology_plan.Wired.{IsWired};
 ghost use Rattle.tree_model.specs.Tables.{AreTables, states_of};
 ghost use Rattle.tree_model.specs.Trees.{writes};
 ghost use Rattle.tree_model.specs.declared.write.Table.{Table};

@@ -7,8 +7,8 @@ use crate::parts::StatePart;
 use state_cells::Part;
 use std::alloc::{AllocError, Global};
 use storm_stores::{CellStore, StoreMaker};
-use storm_values::Memory;
-use topology_plan::{Body, Component, Plan, StateSpec};
+use tree_model::storm_values::Memory;
+use tree_model::topology_plan::{Body, Component, Plan, StateSpec};
 
 /// Adds a part of a state, over the store that the maker makes for it. Without memory the store
 /// goes back.

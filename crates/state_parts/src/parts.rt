@@ -1,6 +1,6 @@
 ghost use Rattle.std.specs.Prelude.{◌≡◌, ◌≤◌, ◌⊎◌, ℕ, List, All, Ok, Err, IfOk, OnOk, OnErr, IsErrOf};
 ghost use Rattle.std.specs.List.{AllZip};
-ghost use Rattle.storm_values.specs.Counts.{raised_by};
+ghost use Rattle.tree_model.specs.storm_values.Counts.{raised_by};
 ghost use Rattle.storm_stores.specs.CellMaps.{CellMap, cell_at};
 ghost use Rattle.tree_model.specs.Tables.{states_of};
 ghost use Rattle.state_parts.specs.Commits.{AreCommitted, ArePerhapsCommitted, Comes, CountsFollow, FailOnceAtMost, IsBadAt, IsFailedPart, NoCountFell, SameCounts};
@@ -19,9 +19,9 @@ use std::alloc::Global;
 use std::marker::{Model, Send, Sync};
 use std::thread::Threads;
 use storm_stores::{CellStore, StoreMaker};
-use storm_values::Memory;
-use topology_plan::Plan;
 use tree_model::Tables;
+use tree_model::storm_values::Memory;
+use tree_model::topology_plan::Plan;
 
 // With fewer writes than these a thread costs more than it saves.
 const FEW_WRITES: usize = 2048;

@@ -9,7 +9,7 @@ use crate::parts::StatePart;
 use state_cells::GroupedWrites;
 use std::alloc::Global;
 use storm_stores::CellStore;
-use storm_values::Memory;
+use tree_model::storm_values::Memory;
 use tree_model::{LentWrite, PackedWrites};
 
 /// The place of a part by the places of the components' first parts.

@@ -1,6 +1,6 @@
 // The bytes of cells.
 use cell_format::{Cell, CellFault, decode_cell, encode_cell};
-use topology_plan::Kind;
+use tree_model::topology_plan::Kind;
 
 const SUMMED: Cell = Cell {
     txid: 3,

@@ -1,7 +1,7 @@
 // What commits make of cells, where no call fails.
 use crate::scene::End::Done;
 use crate::scene::{Line, Scene, Trouble, check};
-use topology_plan::{Fold, Kind};
+use tree_model::topology_plan::{Fold, Kind};
 
 const ANIMALS: [Line; 3] = [
     (b"[\"apple\"]", 2, Some(10), None),

@@ -3,7 +3,7 @@ use crate::scene::End::{Done, Refused};
 use crate::scene::{Line, Scene, Trouble, check_failing};
 use std::alloc::Global;
 use storm_stores::{CallKind, FailAt};
-use topology_plan::{Fold, Kind};
+use tree_model::topology_plan::{Fold, Kind};
 
 const FIRST_PUT_FAILS: FailAt = FailAt {
     kind: CallKind::Put,

@@ -4,8 +4,8 @@ use cell_format::{Cell, encode_cell};
 use state_cells::{GroupedWrites, Part, PartFault};
 use std::alloc::Global;
 use storm_stores::{CellStore, FailAt, MemStore, StoreFault};
-use storm_values::{Bytes, Memory, Txt};
-use topology_plan::{Fold, Kind};
+use tree_model::storm_values::{Bytes, Memory, Txt};
+use tree_model::topology_plan::{Fold, Kind};
 use tree_model::{Write, Writes};
 
 // A key with the transaction, the value and the value before of its cell.

@@ -3,9 +3,9 @@ use crate::scene::{Line, Trouble, commit, store_of, writes_of};
 use state_cells::{Part, PartFault};
 use std::alloc::Global;
 use storm_stores::{CallKind, FailAt, MemStore};
-use storm_values::Memory;
-use topology_plan::{Fold, Kind};
 use tree_model::Pairs;
+use tree_model::storm_values::Memory;
+use tree_model::topology_plan::{Fold, Kind};
 
 fn part_of(alloc: Global, lines: &[Line], at: FailAt) -> Result<Part<MemStore>, Memory> {
     let mut store = store_of(alloc, Kind::Opaque, lines)?;

@@ -4,27 +4,27 @@ use Rattle.std.specs.List.{AllByRecursion, AllZip}
 use Rattle.std.proofs.lemmas.Bool.{cases_lt}
 use Rattle.std.proofs.lemmas.List.Elements.{All-from_recursion, recursion_from_All}
 use Rattle.std.proofs.lemmas.List.Sums.{sum_by-cons}
-use Rattle.attempt_fates.specs.declared.fates.Attempt.{Attempt}
-use Rattle.attempt_fates.specs.declared.fates.End.{End}
-use Rattle.attempt_fates.specs.declared.fates.End.TheVariants as end
-use Rattle.batch_commits.specs.Standing.{AllButLastAreCounted, CountsRun, FailsAtOneOf, FailuresAreCounted, failed_commits}
-use Rattle.bolt_ops.specs.RowOp.{Custom}
-use Rattle.commit_turns.specs.Account.{ended_of, ending_of, rows_in}
-use Rattle.counted_items.proofs.Each.{each-map}
-use Rattle.event_worlds.specs.Accounted.{AreCaused}
-use Rattle.schedule_core.specs.Driving.{StillTells}
-use Rattle.state_parts.specs.Commits.{FailedOnceAtMost, SameCounts}
-use Rattle.state_parts.specs.declared.parts.StatePart.{StatePart}
-use Rattle.state_parts.specs.Makers.{Began, CameBack as PartCameBack, HasNotFailed, RoseBySum, faults_of}
-use Rattle.state_parts.specs.PartPlans.{IsOneOf, PartPlan, plan_of, plans_of}
-use Rattle.state_parts.specs.PartTables.{IsRead, OneRaised}
+use Rattle.worker_runs.specs.attempt_fates.declared.fates.Attempt.{Attempt}
+use Rattle.worker_runs.specs.attempt_fates.declared.fates.End.{End}
+use Rattle.worker_runs.specs.attempt_fates.declared.fates.End.TheVariants as end
+use Rattle.worker_runs.specs.batch_commits.Standing.{AllButLastAreCounted, CountsRun, FailsAtOneOf, FailuresAreCounted, failed_commits}
+use Rattle.worker_runs.specs.bolt_ops.RowOp.{Custom}
+use Rattle.worker_runs.specs.commit_turns.Account.{ended_of, ending_of, rows_in}
+use Rattle.worker_runs.proofs.counted_items.Each.{each-map}
+use Rattle.worker_runs.specs.event_worlds.Accounted.{AreCaused}
+use Rattle.worker_runs.specs.schedule_core.Driving.{StillTells}
+use Rattle.worker_runs.specs.state_parts.Commits.{FailedOnceAtMost, SameCounts}
+use Rattle.worker_runs.specs.state_parts.declared.parts.StatePart.{StatePart}
+use Rattle.worker_runs.specs.state_parts.Makers.{Began, CameBack as PartCameBack, HasNotFailed, RoseBySum, faults_of}
+use Rattle.worker_runs.specs.state_parts.PartPlans.{IsOneOf, PartPlan, plan_of, plans_of}
+use Rattle.worker_runs.specs.state_parts.PartTables.{IsRead, OneRaised}
 use Rattle.stored_runs.proofs.Lent.{Lent, at_map}
 use Rattle.stored_runs.specs.Makers.{CountsOf, FaultsAreCounted, FaultsBeforeBadCell, ReadingFailed, StoreStood, maker_use}
-use Rattle.storm_stores.specs.CellMaps.{CellMap}
-use Rattle.storm_values.specs.Counts.{raised, raised_by}
-use Rattle.topology_plan.specs.Topology.{Topology}
-use Rattle.trident_batches.specs.Batches.{Cut}
-use Rattle.tuple_account.specs.Ends.{CauseBy, HasCause, IsPart}
+use Rattle.worker_runs.specs.storm_stores.CellMaps.{CellMap}
+use Rattle.worker_runs.specs.storm_values.Counts.{raised, raised_by}
+use Rattle.worker_runs.specs.topology_plan.Topology.{Topology}
+use Rattle.worker_runs.specs.trident_batches.Batches.{Cut}
+use Rattle.worker_runs.specs.tuple_account.Ends.{CauseBy, HasCause, IsPart}
 
 -- ---- each part
 

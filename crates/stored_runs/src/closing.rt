@@ -1,21 +1,21 @@
 //! How the answer of a run over parts comes to its end.
 ghost use Rattle.std.specs.Prelude.{◌≡◌, Ok};
-ghost use Rattle.schedule_core.specs.Runs.{ended};
-ghost use Rattle.schedule_core.specs.declared.ended.Ended.TheVariants as of_run;
-ghost use Rattle.state_parts.specs.Commits.{SameCounts};
-ghost use Rattle.state_parts.specs.PartPlans.{plans_of};
-ghost use Rattle.state_parts.specs.PartTables.{AreRead};
+ghost use Rattle.worker_runs.specs.schedule_core.Runs.{ended};
+ghost use Rattle.worker_runs.specs.schedule_core.declared.ended.Ended.TheVariants as of_run;
+ghost use Rattle.worker_runs.specs.state_parts.Commits.{SameCounts};
+ghost use Rattle.worker_runs.specs.state_parts.PartPlans.{plans_of};
+ghost use Rattle.worker_runs.specs.state_parts.PartTables.{AreRead};
 ghost use Rattle.stored_runs.specs.Closing.{Closes};
 
 use crate::ending::RunEnd;
-use commit_order::Stop;
-use schedule_core::Ended;
 use state_cells::PartFault;
-use state_parts::Parts;
 use std::alloc::AllocError;
-use storm_stores::CellStore;
-use storm_values::Memory;
-use topology_plan::Plan;
+use worker_runs::commit_order::Stop;
+use worker_runs::schedule_core::Ended;
+use worker_runs::state_parts::Parts;
+use worker_runs::storm_stores::CellStore;
+use worker_runs::storm_values::Memory;
+use worker_runs::topology_plan::Plan;
 
 /// The end of a run that came to this answer. Where every batch is committed the tables are read.
 pub(crate) fn close<C: CellStore>(

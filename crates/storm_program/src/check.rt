@@ -9,9 +9,9 @@ use crate::files::read_plan;
 use crate::stop::Stop;
 use std::alloc::Global;
 use std::fmt::Write;
+use stored_runs::storm_values::Memory;
+use stored_runs::topology_plan::Plan;
 use storm_outside::Shelf;
-use storm_values::Memory;
-use topology_plan::Plan;
 
 /// Reads a topology, and tells the size of its plan.
 pub fn check_file<H: Shelf>(alloc: Global, topology: &str, shelf: &mut H) -> Result<String, Stop>

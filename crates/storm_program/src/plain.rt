@@ -1,5 +1,5 @@
 ghost use Rattle.std.specs.Prelude.{◌≡◌, ◌≤◌, length, All, IfOk, IfErr, string_bytes};
-ghost use Rattle.storm_values.specs.Rows.{IsRow};
+ghost use Rattle.stored_runs.specs.storm_values.Rows.{IsRow};
 ghost use Rattle.storm_program.specs.declared.status.Status.{Status};
 ghost use Rattle.storm_program.specs.Outside.{shelf_use};
 ghost use Rattle.storm_program.specs.Plain.{IsPlainReport, PlainComes};
@@ -7,13 +7,13 @@ ghost use Rattle.storm_program.specs.steps.Stops.{Stops};
 
 use crate::files::{Accepted, read_files};
 use crate::stop::Stop;
-use bolt_ops::RowOp;
 use run_report::{Tail, report_text};
 use std::alloc::Global;
+use stored_runs::bolt_ops::RowOp;
+use stored_runs::storm_values::Memory;
+use stored_runs::tree_model::plain_tables;
+use stored_runs::trident_batches::Batches;
 use storm_outside::Shelf;
-use storm_values::Memory;
-use tree_model::plain_tables;
-use trident_batches::Batches;
 
 /// Reads a topology and an input, and makes the tables by definition.
 pub fn plain_files<H: Shelf, O: RowOp>(

@@ -1,6 +1,6 @@
 ghost use Rattle.std.specs.Prelude.{◌≡◌, ◌≤◌, ◌+◌, ◌%◌, ◌^◌, IfOk, IfErr};
 ghost use Rattle.std.specs.List.{AllByRecursion};
-ghost use Rattle.schedule_reader.specs.Events.{FitsEvent};
+ghost use Rattle.stored_runs.specs.schedule_reader.Events.{FitsEvent};
 ghost use Rattle.storm_program.specs.Outside.{shelf_use};
 ghost use Rattle.storm_program.specs.Schedules.{AreEvents};
 ghost use Rattle.storm_program.specs.steps.Reading.{ScheduleComes};
@@ -8,12 +8,12 @@ ghost use Rattle.storm_program.specs.steps.Stops.{Stops};
 
 use crate::files::read_file;
 use crate::stop::{Stop, refused_schedule};
-use schedule_reader::{
+use std::alloc::Global;
+use stored_runs::schedule_reader::{
     Events, MOST_SCHEDULE_BYTES, one_byte_past_the_limit_suffices, read_schedule,
 };
-use std::alloc::Global;
+use stored_runs::topology_plan::Plan;
 use storm_outside::Shelf;
-use topology_plan::Plan;
 
 /// The most bytes of a schedule.
 const MOST_SCHEDULE: u64 = MOST_SCHEDULE_BYTES as u64;

@@ -1,20 +1,20 @@
 -- A stretch of work leads on.
 use Rattle.std.proofs.Common.{◌≡◌, ◌≤◌, ◌^◌, ◌-◌, ◌+◌, ℕ, List, [], ◌++◌, sym, ap, subst, ◌∙◌, append-nil}
-use Rattle.attempt_fates.specs.declared.fates.Attempt.{Attempt}
-use Rattle.bolt_ops.specs.RowOp.{Custom}
-use Rattle.commit_turns.specs.Account.{desk_of, ends_of, rows_in}
-use Rattle.commit_turns.specs.Desks.{Desk}
-use Rattle.commit_turns.specs.Kept.{IsKept}
+use Rattle.event_worlds.specs.attempt_fates.declared.fates.Attempt.{Attempt}
+use Rattle.event_worlds.specs.bolt_ops.RowOp.{Custom}
+use Rattle.event_worlds.specs.commit_turns.Account.{desk_of, ends_of, rows_in}
+use Rattle.event_worlds.specs.commit_turns.Desks.{Desk}
+use Rattle.event_worlds.specs.commit_turns.Kept.{IsKept}
 use Rattle.event_worlds.specs.Accounted.{LedAt}
 use Rattle.event_worlds.specs.Worlds.{Known, ended}
 use Rattle.event_worlds.proofs.Leading.{fits-alike, reached-more, starts-more}
 use Rattle.stretch_worlds.specs.Stretching.{IsFit, IsInside, LeavesDesk}
-use Rattle.topology_plan.specs.Topology.{Topology}
-use Rattle.trident_batches.specs.Batches.{Cut}
-use Rattle.tuple_account.specs.Fits.{Fits}
-use Rattle.tuple_account.specs.Histories.{History, joined}
-use Rattle.tuple_account.specs.Moves.{HasDrawn, Moves, Station}
-use Rattle.tuple_account.proofs.Moving.{drawn-both}
+use Rattle.event_worlds.specs.topology_plan.Topology.{Topology}
+use Rattle.event_worlds.specs.trident_batches.Batches.{Cut}
+use Rattle.event_worlds.specs.tuple_account.Fits.{Fits}
+use Rattle.event_worlds.specs.tuple_account.Histories.{History, joined}
+use Rattle.event_worlds.specs.tuple_account.Moves.{HasDrawn, Moves, Station}
+use Rattle.event_worlds.proofs.tuple_account.Moving.{drawn-both}
 
 none_more : {X : Type 0} (xs more : List X) → more ≡ [] → xs ≡ xs ++ more
 none_more xs more none = sym (ap (λ ys. xs ++ ys) none ∙ append-nil xs)

@@ -1,8 +1,8 @@
 -- A task's turn over boxes beside a world leads on.
 use Rattle.std.proofs.Common.{◌≡◌, ◌≤◌, ◌<◌, ℕ, ◌+◌, ◌-◌, ◌==◌, Bool, true, false, true≢false, cond, List, get_or, set, sym, refl, ap, ◌∙◌, eq-eqb, eqb-true, arith}
 use Rattle.std.proofs.lemmas.List.{get_or-set_same, get_or-set_other}
-use Rattle.bolt_ops.specs.RowOp.{Custom}
-use Rattle.counted_items.specs.Weights.{weigh}
+use Rattle.event_worlds.specs.bolt_ops.RowOp.{Custom}
+use Rattle.event_worlds.specs.counted_items.Weights.{weigh}
 use Rattle.event_worlds.specs.Accounted.{IsCounted, station_of}
 use Rattle.event_worlds.specs.Beside.{LedBeside, waits}
 use Rattle.event_worlds.specs.Orderly.{IsOrderly}
@@ -12,14 +12,14 @@ use Rattle.event_worlds.proofs.Waiting.{drew-other, tasks-set}
 use Rattle.stretch_worlds.proofs.Leading.{leads_on}
 use Rattle.stretch_worlds.specs.Stretching.{IsInside}
 use Rattle.stretch_worlds.specs.Turns.{IsCovered, held_beside, known, task_bench}
-use Rattle.topology_plan.specs.Topology.{Topology, tasks_in_all}
-use Rattle.tree_model.specs.declared.messages.Parcel.TheVariants.{ToTask}
-use Rattle.tree_model.specs.declared.messages.Tuple.{Tuple}
-use Rattle.trident_batches.specs.Batches.{Cut}
-use Rattle.tuple_account.specs.Benches.{Works}
-use Rattle.tuple_account.specs.Histories.{History, Packet, issued, joined, of_parcel, taken, weigh_parcels}
-use Rattle.tuple_account.specs.Moves.{HasDrawn, Moves, beside}
-use Rattle.tuple_account.proofs.Placing.{spans-more}
+use Rattle.event_worlds.specs.topology_plan.Topology.{Topology, tasks_in_all}
+use Rattle.event_worlds.specs.tree_model.declared.messages.Parcel.TheVariants.{ToTask}
+use Rattle.event_worlds.specs.tree_model.declared.messages.Tuple.{Tuple}
+use Rattle.event_worlds.specs.trident_batches.Batches.{Cut}
+use Rattle.event_worlds.specs.tuple_account.Benches.{Works}
+use Rattle.event_worlds.specs.tuple_account.Histories.{History, Packet, issued, joined, of_parcel, taken, weigh_parcels}
+use Rattle.event_worlds.specs.tuple_account.Moves.{HasDrawn, Moves, beside}
+use Rattle.event_worlds.proofs.tuple_account.Placing.{spans-more}
 
 abbrev weigh_inbox : (Packet → ℕ) → ℕ → List Tuple → ℕ
 weigh_inbox f n xs = weigh (λ (x : Tuple). f (of_parcel (ToTask n x))) xs

@@ -2,10 +2,10 @@
 -- own.
 use Rattle.std.specs.Prelude.{◌≡◌, ◌≢◌, ◌<◌, ◌⊎◌, ℕ, ◌==◌, if◌then◌else◌, []}
 use Rattle.event_worlds.specs.Worlds.{World, acker_at, task_at}
-use Rattle.topology_plan.specs.Topology.{Topology, component_of, tasks_in_all}
-use Rattle.tree_model.specs.declared.messages.Parcel.{Parcel}
-use Rattle.tree_model.specs.declared.messages.Parcel.TheVariants.{ToTask, ToAcker}
-use Rattle.tuple_account.specs.Histories.{Packet, of_parcel, of_verdict}
+use Rattle.event_worlds.specs.topology_plan.Topology.{Topology, component_of, tasks_in_all}
+use Rattle.event_worlds.specs.tree_model.declared.messages.Parcel.{Parcel}
+use Rattle.event_worlds.specs.tree_model.declared.messages.Parcel.TheVariants.{ToTask, ToAcker}
+use Rattle.event_worlds.specs.tuple_account.Histories.{Packet, of_parcel, of_verdict}
 
 -- 1 at each packet for the box of a task, and 0 at all others
 abbrev pub for_task : ℕ → Packet → ℕ

@@ -1,14 +1,14 @@
 -- Worlds before and after a stretch of work. This project's own.
 use Rattle.std.specs.Prelude.{◌≡◌, []}
 use Rattle.std.specs.List.{AllByRecursion}
-use Rattle.acker_core.specs.Entries.{AreSilent}
-use Rattle.bolt_ops.specs.RowOp.{Custom}
+use Rattle.event_worlds.specs.acker_core.Entries.{AreSilent}
+use Rattle.event_worlds.specs.bolt_ops.RowOp.{Custom}
 use Rattle.event_worlds.specs.Accounted.{IsCounted}
 use Rattle.event_worlds.specs.Orderly.{FitsParcel, IsOrderly}
 use Rattle.event_worlds.specs.Worlds.{AckerSide, Known}
-use Rattle.topology_plan.specs.Topology.{Topology}
-use Rattle.tree_model.specs.declared.messages.Parcel.TheVariants.{ToTask}
-use Rattle.tuple_account.specs.Histories.{Execution, History, IsExecution, execution_parcels}
+use Rattle.event_worlds.specs.topology_plan.Topology.{Topology}
+use Rattle.event_worlds.specs.tree_model.declared.messages.Parcel.TheVariants.{ToTask}
+use Rattle.event_worlds.specs.tuple_account.Histories.{Execution, History, IsExecution, execution_parcels}
 
 -- only tuples were executed, messages met, verdicts told and entries dropped
 pub record IsInside (h : History) : Type 0 where

@@ -1,9 +1,9 @@
 -- What one task does over boxes whose books are kept beside the world. This project's own.
 use Rattle.std.specs.Prelude.{◌≤◌, ℕ, ◌+◌, ◌-◌}
 use Rattle.event_worlds.specs.Worlds.{Known, TaskSide, World}
-use Rattle.tuple_account.specs.Benches.{Bench}
-use Rattle.tuple_account.specs.Histories.{Packet, weigh_parcels}
-use Rattle.tuple_account.specs.Places.{spans}
+use Rattle.event_worlds.specs.tuple_account.Benches.{Bench}
+use Rattle.event_worlds.specs.tuple_account.Histories.{Packet, weigh_parcels}
+use Rattle.event_worlds.specs.tuple_account.Places.{spans}
 
 abbrev pub known : World → (ℕ → ℕ) → Known
 known w counts = record { world = w; counts = counts }

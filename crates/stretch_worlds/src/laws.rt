@@ -1,5 +1,5 @@
 ghost use Rattle.std.specs.Prelude.{◌≡◌, ◌<◌, ◌+◌, ℕ, []};
-ghost use Rattle.bolt_ops.specs.RowOp.{Custom, IsCustom};
+ghost use Rattle.event_worlds.specs.bolt_ops.RowOp.{Custom, IsCustom};
 ghost use Rattle.event_worlds.specs.Accounted.{LedAt};
 ghost use Rattle.event_worlds.specs.Beside.{LedBeside};
 ghost use Rattle.event_worlds.specs.Orderly.{IsOrderly};
@@ -7,13 +7,13 @@ ghost use Rattle.event_worlds.specs.Worlds.{Known, TaskSide, World, acker_at, dr
 ghost use Rattle.stretch_worlds.specs.Holding.{IsHeldUp, for_acker, for_task};
 ghost use Rattle.stretch_worlds.specs.Stretching.{ExecutionsFit, IsFit, IsInside, LeavesDesk};
 ghost use Rattle.stretch_worlds.specs.Turns.{IsCovered, held_beside, known, task_bench};
-ghost use Rattle.topology_plan.specs.Topology.{Topology, tasks_in_all};
-ghost use Rattle.topology_plan.specs.Valid.{IsValid};
-ghost use Rattle.topology_plan.specs.Wired.{IsWired};
-ghost use Rattle.trident_batches.specs.Batches.{Cut};
-ghost use Rattle.tuple_account.specs.Benches.{Works};
-ghost use Rattle.tuple_account.specs.Histories.{History, Packet, joined};
-ghost use Rattle.tuple_account.specs.Moves.{HasDrawn, Moves, Station};
+ghost use Rattle.event_worlds.specs.topology_plan.Topology.{Topology, tasks_in_all};
+ghost use Rattle.event_worlds.specs.topology_plan.Valid.{IsValid};
+ghost use Rattle.event_worlds.specs.topology_plan.Wired.{IsWired};
+ghost use Rattle.event_worlds.specs.trident_batches.Batches.{Cut};
+ghost use Rattle.event_worlds.specs.tuple_account.Benches.{Works};
+ghost use Rattle.event_worlds.specs.tuple_account.Histories.{History, Packet, joined};
+ghost use Rattle.event_worlds.specs.tuple_account.Moves.{HasDrawn, Moves, Station};
 
 /// A law: work that moves what waits somewhere and in a world, begins no root and hears no verdict
 /// leads on to any world that has what the work left in it.

@@ -1,7 +1,7 @@
 // Messages and parcels are copied with what they hold.
 use std::alloc::Global;
 use std::test::Fail;
-use storm_values::{Duplicate, Few, Memory, Path, Root, Row};
+use tree_model::storm_values::{Duplicate, Few, Memory, Path, Root, Row};
 use tree_model::{AckMsg, Done, Draw, Edge, Edges, FailNote, Init, Parcel, Tuple};
 
 const ROOT: Root = Root {

@@ -1,8 +1,8 @@
 // What the tuple trees of a word count write, and the tables by definition.
-use bolt_ops::Reversed;
 use std::test::Fail;
-use storm_values::read_input;
 use topology_reader::read_topology;
+use tree_model::bolt_ops::Reversed;
+use tree_model::storm_values::read_input;
 use tree_model::{count_nodes, plain_tables, writes_of};
 
 /// The counts of words, with three tasks and two parts.

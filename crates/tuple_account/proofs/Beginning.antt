@@ -1,7 +1,7 @@
 -- The coordinator's account fits at first.
 use Rattle.std.proofs.Common.{◌≡◌, ℕ, ◌&&◌, nat_lt, Bool, true, false, cond, List, [], refl, ltb-true, arith}
-use Rattle.storm_values.specs.declared.value.Value.{Value}
-use Rattle.topology_plan.specs.Topology.{Topology}
+use Rattle.tree_model.specs.storm_values.declared.value.Value.{Value}
+use Rattle.tree_model.specs.topology_plan.Topology.{Topology}
 use Rattle.tuple_account.specs.Ends.{first_desk}
 use Rattle.tuple_account.specs.Fits.{Fits}
 use Rattle.tuple_account.specs.Histories.{nothing}

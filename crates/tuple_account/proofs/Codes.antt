@@ -1,11 +1,11 @@
 -- Codes of nodes and messages.
 use Rattle.std.proofs.Common.{◌≡◌, ℕ, ℤ, ◌⊎◌, inl, inr, List, refl}
 use Rattle.std.specs.Coded.{Coded, code_by, coded×, coded⊎, coded_ℕ, coded_ℤ, coded_list}
-use Rattle.storm_values.specs.declared.value.Root.{Root}
-use Rattle.storm_values.specs.declared.value.Value.{Value}
-use Rattle.storm_values.specs.declared.value.Value.TheVariants.{Int, Text}
-use Rattle.tuple_tickets.specs.declared.edge.Edge.{Edge}
-use Rattle.tuple_tickets.proofs.Codes.{root_code, edge_code}
+use Rattle.tree_model.specs.storm_values.declared.value.Root.{Root}
+use Rattle.tree_model.specs.storm_values.declared.value.Value.{Value}
+use Rattle.tree_model.specs.storm_values.declared.value.Value.TheVariants.{Int, Text}
+use Rattle.tree_model.specs.tuple_tickets.declared.edge.Edge.{Edge}
+use Rattle.tree_model.proofs.tuple_tickets.Codes.{root_code, edge_code}
 use Rattle.tree_model.specs.declared.messages.AckMsg.{AckMsg}
 use Rattle.tree_model.specs.declared.messages.AckMsg.TheVariants as msg
 use Rattle.tree_model.specs.declared.messages.Done.{Done}

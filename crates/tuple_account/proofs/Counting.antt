@@ -1,18 +1,18 @@
 -- How many words a source gives at most.
 use Rattle.std.proofs.Common.{◌≡◌, ◌≤◌, ℕ, zero, suc, ◌+◌, ◌*◌, ◌==◌, Bool, true, false, cond, List, [], ◌∷◌, length, sym, refl, ap, ◌∙◌, arith}
 use Rattle.std.specs.List.{AllByRecursion}
-use Rattle.bolt_ops.specs.RowOp.{Custom}
-use Rattle.counted_items.specs.Weights.{weigh}
-use Rattle.counted_items.proofs.Each.{each-both}
-use Rattle.counted_items.proofs.Weighing.{weigh-le, weigh-le_each, weigh-same_each, weigh-swap, weigh-ones, each-weighs}
-use Rattle.storm_values.specs.declared.value.Root.{Root}
-use Rattle.topology_plan.specs.declared.parts.Origin.TheVariants as origin
-use Rattle.topology_plan.specs.Topology.{Topology}
-use Rattle.topology_plan.specs.Valid.{IsValid}
-use Rattle.tuple_tickets.specs.Roots.{root_eq}
-use Rattle.tuple_tickets.specs.Tickets.{made_by}
-use Rattle.tuple_tickets.specs.Trees.{Course, goes, fails, mute}
-use Rattle.tuple_tickets.proofs.Roots.{same_root, root_itself}
+use Rattle.tree_model.specs.bolt_ops.RowOp.{Custom}
+use Rattle.tree_model.specs.counted_items.Weights.{weigh}
+use Rattle.tree_model.proofs.counted_items.Each.{each-both}
+use Rattle.tree_model.proofs.counted_items.Weighing.{weigh-le, weigh-le_each, weigh-same_each, weigh-swap, weigh-ones, each-weighs}
+use Rattle.tree_model.specs.storm_values.declared.value.Root.{Root}
+use Rattle.tree_model.specs.topology_plan.declared.parts.Origin.TheVariants as origin
+use Rattle.tree_model.specs.topology_plan.Topology.{Topology}
+use Rattle.tree_model.specs.topology_plan.Valid.{IsValid}
+use Rattle.tree_model.specs.tuple_tickets.Roots.{root_eq}
+use Rattle.tree_model.specs.tuple_tickets.Tickets.{made_by}
+use Rattle.tree_model.specs.tuple_tickets.Trees.{Course, goes, fails, mute}
+use Rattle.tree_model.proofs.tuple_tickets.Roots.{same_root, root_itself}
 use Rattle.tree_model.specs.declared.messages.Tuple.{Tuple}
 use Rattle.tree_model.specs.Trees.{Node, kids, kids_of, nodes_of, node_count}
 use Rattle.tuple_account.specs.Accounts.{is_of}

@@ -1,17 +1,17 @@
 -- The ids of messages are words of sources, each in one message.
 use Rattle.std.proofs.Common.{◌≡◌, ◌<◌, ◌≤◌, ℕ, suc, ◌^◌, Option, None, Some, List, [], ◌∷◌, length, map, flat_map, sym, refl, ap, subst, ◌∙◌, arith}
 use Rattle.std.specs.List.{AllByRecursion}
-use Rattle.bolt_ops.specs.RowOp.{Custom}
-use Rattle.counted_items.specs.Weights.{weigh, Within}
-use Rattle.counted_items.proofs.Each.{each-append, each-flat_map, each-map, each-to_map, each-both}
-use Rattle.counted_items.proofs.Equality.{each-within}
-use Rattle.counted_items.proofs.Weighing.{weigh-map, weigh-flat_map}
-use Rattle.storm_values.specs.declared.value.Root.{Root}
-use Rattle.storm_values.specs.declared.value.Value.{Value}
-use Rattle.topology_plan.specs.declared.parts.Origin.TheVariants as origin
-use Rattle.topology_plan.specs.Topology.{Topology}
-use Rattle.tuple_tickets.specs.Tickets.{made_by}
-use Rattle.tuple_tickets.specs.Trees.{Course, goes, fails, mute}
+use Rattle.tree_model.specs.bolt_ops.RowOp.{Custom}
+use Rattle.tree_model.specs.counted_items.Weights.{weigh, Within}
+use Rattle.tree_model.proofs.counted_items.Each.{each-append, each-flat_map, each-map, each-to_map, each-both}
+use Rattle.tree_model.proofs.counted_items.Equality.{each-within}
+use Rattle.tree_model.proofs.counted_items.Weighing.{weigh-map, weigh-flat_map}
+use Rattle.tree_model.specs.storm_values.declared.value.Root.{Root}
+use Rattle.tree_model.specs.storm_values.declared.value.Value.{Value}
+use Rattle.tree_model.specs.topology_plan.declared.parts.Origin.TheVariants as origin
+use Rattle.tree_model.specs.topology_plan.Topology.{Topology}
+use Rattle.tree_model.specs.tuple_tickets.Tickets.{made_by}
+use Rattle.tree_model.specs.tuple_tickets.Trees.{Course, goes, fails, mute}
 use Rattle.tree_model.specs.declared.messages.AckMsg.{AckMsg}
 use Rattle.tree_model.specs.declared.messages.AckMsg.TheVariants as msg
 use Rattle.tree_model.specs.declared.messages.Tuple.{Tuple}

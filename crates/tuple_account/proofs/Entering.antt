@@ -4,14 +4,14 @@ use Rattle.std.specs.Prelude.{is_some}
 use Rattle.std.specs.List.{AllByRecursion}
 use Rattle.acker_core.specs.Entries.{appended, list_with, told_of, met}
 use Rattle.acker_core.specs.declared.verdict.Verdict.{Verdict}
-use Rattle.bolt_ops.specs.RowOp.{Custom}
-use Rattle.counted_items.specs.Weights.{weigh}
-use Rattle.counted_items.proofs.Weighing.{weigh-append, weigh-push, weigh-map}
+use Rattle.tree_model.specs.bolt_ops.RowOp.{Custom}
+use Rattle.tree_model.specs.counted_items.Weights.{weigh}
+use Rattle.tree_model.proofs.counted_items.Weighing.{weigh-append, weigh-push, weigh-map}
 use Rattle.rotating_ledger.specs.Held.{Held, held_at, value_of, without, with_value, entered, settled, rotated, dropped}
-use Rattle.storm_values.specs.declared.value.Root.{Root}
-use Rattle.topology_plan.specs.Topology.{Topology}
-use Rattle.tuple_tickets.specs.Roots.{root_eq}
-use Rattle.tuple_tickets.proofs.Roots.{same_root}
+use Rattle.tree_model.specs.storm_values.declared.value.Root.{Root}
+use Rattle.tree_model.specs.topology_plan.Topology.{Topology}
+use Rattle.tree_model.specs.tuple_tickets.Roots.{root_eq}
+use Rattle.tree_model.proofs.tuple_tickets.Roots.{same_root}
 use Rattle.tree_model.specs.declared.messages.AckMsg.{AckMsg}
 use Rattle.tree_model.specs.declared.messages.Parcel.TheVariants.{ToTask, ToAcker}
 use Rattle.tree_model.specs.Lists.{root_of}

@@ -1,12 +1,12 @@
 -- Moves one after another and side by side.
 use Rattle.std.proofs.Common.{◌≡◌, ◌≤◌, ℕ, ◌+◌, List, [], ◌∷◌, refl, arith}
 use Rattle.acker_core.specs.declared.verdict.Verdict.{Verdict}
-use Rattle.bolt_ops.specs.RowOp.{Custom}
-use Rattle.counted_items.specs.Weights.{weigh, Same}
-use Rattle.counted_items.proofs.Each.{each-append}
-use Rattle.counted_items.proofs.Weighing.{weigh-append}
-use Rattle.storm_values.specs.declared.value.Root.{Root}
-use Rattle.topology_plan.specs.Topology.{Topology}
+use Rattle.tree_model.specs.bolt_ops.RowOp.{Custom}
+use Rattle.tree_model.specs.counted_items.Weights.{weigh, Same}
+use Rattle.tree_model.proofs.counted_items.Each.{each-append}
+use Rattle.tree_model.proofs.counted_items.Weighing.{weigh-append}
+use Rattle.tree_model.specs.storm_values.declared.value.Root.{Root}
+use Rattle.tree_model.specs.topology_plan.Topology.{Topology}
 use Rattle.tree_model.specs.declared.messages.AckMsg.{AckMsg}
 use Rattle.tree_model.specs.declared.messages.Parcel.TheVariants.{ToTask, ToAcker}
 use Rattle.tree_model.specs.Lists.{root_of}

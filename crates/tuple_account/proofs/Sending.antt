@@ -1,10 +1,10 @@
 -- Weights of the parcels that openings and executions send.
 use Rattle.std.proofs.Common.{◌≡◌, ℕ, ◌+◌, List, [], ◌∷◌, map, refl, ap, arith}
 use Rattle.acker_core.specs.declared.verdict.Verdict.{Verdict}
-use Rattle.bolt_ops.specs.RowOp.{Custom}
-use Rattle.counted_items.specs.Weights.{weigh}
-use Rattle.counted_items.proofs.Weighing.{weigh-append, weigh-map, weigh-zero, weigh-same}
-use Rattle.topology_plan.specs.Topology.{Topology}
+use Rattle.tree_model.specs.bolt_ops.RowOp.{Custom}
+use Rattle.tree_model.specs.counted_items.Weights.{weigh}
+use Rattle.tree_model.proofs.counted_items.Weighing.{weigh-append, weigh-map, weigh-zero, weigh-same}
+use Rattle.tree_model.specs.topology_plan.Topology.{Topology}
 use Rattle.tree_model.specs.declared.messages.AckMsg.{AckMsg}
 use Rattle.tree_model.specs.declared.messages.Parcel.{Parcel}
 use Rattle.tree_model.specs.declared.messages.Parcel.TheVariants.{ToTask, ToAcker}

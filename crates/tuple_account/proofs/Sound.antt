@@ -1,29 +1,29 @@
 -- The laws of tickets, read off for tuples.
 use Rattle.std.proofs.Common.{◌≡◌, ◌≢◌, ℕ, ◌≤◌, Bool, true, false, cond, List, [], ◌∷◌, length, map, flat_map, Some, IsSome, sym, refl, ap, subst, ◌∙◌, arith}
 use Rattle.std.specs.List.{AllByRecursion}
-use Rattle.bolt_ops.specs.RowOp.{Custom}
-use Rattle.counted_items.specs.Weights.{weigh, Within}
-use Rattle.counted_items.proofs.Each.{each-append, each-flat_map, each-map, each-to_map, each-weaker, each-both}
-use Rattle.counted_items.proofs.Equality.{each-within}
-use Rattle.counted_items.proofs.Weighing.{weigh-map}
-use Rattle.storm_values.specs.declared.value.Root.{Root}
-use Rattle.storm_values.specs.declared.value.Value.{Value}
-use Rattle.topology_plan.specs.declared.parts.Origin.TheVariants as origin
-use Rattle.topology_plan.specs.Topology.{Topology}
-use Rattle.topology_plan.specs.Valid.{IsValid}
-use Rattle.tuple_tickets.specs.Lists.{paths_of}
-use Rattle.tuple_tickets.specs.Notes as notes
-use Rattle.tuple_tickets.specs.Paths.{paths_below}
-use Rattle.tuple_tickets.specs.Roots.{root_eq}
-use Rattle.tuple_tickets.specs.Tickets.{Ticket, made_by}
-use Rattle.tuple_tickets.specs.Tickets as tickets
-use Rattle.tuple_tickets.specs.Trees.{Course, goes, fails, mute}
-use Rattle.tuple_tickets.proofs.Codes.{ticket_code}
-use Rattle.tuple_tickets.proofs.Few as few_tickets
-use Rattle.tuple_tickets.proofs.Once as once_tickets
-use Rattle.tuple_tickets.proofs.Roots.{same_root}
-use Rattle.tuple_tickets.proofs.Stuck.{all_covered}
-use Rattle.tuple_tickets.proofs.Told.{paths_of_tickets, list_single, list_steady}
+use Rattle.tree_model.specs.bolt_ops.RowOp.{Custom}
+use Rattle.tree_model.specs.counted_items.Weights.{weigh, Within}
+use Rattle.tree_model.proofs.counted_items.Each.{each-append, each-flat_map, each-map, each-to_map, each-weaker, each-both}
+use Rattle.tree_model.proofs.counted_items.Equality.{each-within}
+use Rattle.tree_model.proofs.counted_items.Weighing.{weigh-map}
+use Rattle.tree_model.specs.storm_values.declared.value.Root.{Root}
+use Rattle.tree_model.specs.storm_values.declared.value.Value.{Value}
+use Rattle.tree_model.specs.topology_plan.declared.parts.Origin.TheVariants as origin
+use Rattle.tree_model.specs.topology_plan.Topology.{Topology}
+use Rattle.tree_model.specs.topology_plan.Valid.{IsValid}
+use Rattle.tree_model.specs.tuple_tickets.Lists.{paths_of}
+use Rattle.tree_model.specs.tuple_tickets.Notes as notes
+use Rattle.tree_model.specs.tuple_tickets.Paths.{paths_below}
+use Rattle.tree_model.specs.tuple_tickets.Roots.{root_eq}
+use Rattle.tree_model.specs.tuple_tickets.Tickets.{Ticket, made_by}
+use Rattle.tree_model.specs.tuple_tickets.Tickets as tickets
+use Rattle.tree_model.specs.tuple_tickets.Trees.{Course, goes, fails, mute}
+use Rattle.tree_model.proofs.tuple_tickets.Codes.{ticket_code}
+use Rattle.tree_model.proofs.tuple_tickets.Few as few_tickets
+use Rattle.tree_model.proofs.tuple_tickets.Once as once_tickets
+use Rattle.tree_model.proofs.tuple_tickets.Roots.{same_root}
+use Rattle.tree_model.proofs.tuple_tickets.Stuck.{all_covered}
+use Rattle.tree_model.proofs.tuple_tickets.Told.{paths_of_tickets, list_single, list_steady}
 use Rattle.tree_model.specs.declared.messages.AckMsg.{AckMsg}
 use Rattle.tree_model.specs.declared.messages.Tuple.{Tuple}
 use Rattle.tree_model.specs.Lists.{root_of, said, is_failed, IsTrueOf, AreTrueOf, IsSingle, IsSteady, Covers}

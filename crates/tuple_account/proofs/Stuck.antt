@@ -4,17 +4,17 @@ use Rattle.acker_core.specs.Entries.{has_init, first_failed, tell_by, tell, AreS
 use Rattle.acker_core.specs.declared.verdict.Verdict.{Verdict}
 use Rattle.acker_core.specs.declared.verdict.Verdict.TheVariants.{Complete}
 use Rattle.acker_core.proofs.TellLemmas.{complete-told}
-use Rattle.bolt_ops.specs.RowOp.{Custom}
-use Rattle.counted_items.specs.Weights.{weigh, Within}
-use Rattle.counted_items.proofs.Each.{each-to_map}
-use Rattle.counted_items.proofs.Weighing.{weigh-none, weigh-zero, weigh-same, weigh-map}
+use Rattle.tree_model.specs.bolt_ops.RowOp.{Custom}
+use Rattle.tree_model.specs.counted_items.Weights.{weigh, Within}
+use Rattle.tree_model.proofs.counted_items.Each.{each-to_map}
+use Rattle.tree_model.proofs.counted_items.Weighing.{weigh-none, weigh-zero, weigh-same, weigh-map}
 use Rattle.rotating_ledger.specs.Held.{Held, value_of}
-use Rattle.storm_values.specs.declared.value.Root.{Root}
-use Rattle.topology_plan.specs.Topology.{Topology}
-use Rattle.tuple_tickets.specs.Edges.{xor_ids}
-use Rattle.tuple_tickets.specs.Roots.{root_eq}
-use Rattle.tuple_tickets.specs.Trees.{mute}
-use Rattle.tuple_tickets.proofs.Roots.{same_root, root_itself}
+use Rattle.tree_model.specs.storm_values.declared.value.Root.{Root}
+use Rattle.tree_model.specs.topology_plan.Topology.{Topology}
+use Rattle.tree_model.specs.tuple_tickets.Edges.{xor_ids}
+use Rattle.tree_model.specs.tuple_tickets.Roots.{root_eq}
+use Rattle.tree_model.specs.tuple_tickets.Trees.{mute}
+use Rattle.tree_model.proofs.tuple_tickets.Roots.{same_root, root_itself}
 use Rattle.tree_model.specs.declared.messages.AckMsg.{AckMsg}
 use Rattle.tree_model.specs.declared.messages.AckMsg.TheVariants as msg
 use Rattle.tree_model.specs.Lists.{is_init, is_failed, word, IsClosed}

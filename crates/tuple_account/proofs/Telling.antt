@@ -5,16 +5,16 @@ use Rattle.acker_core.specs.Entries.{has_init, first_failed, tell_by, tell}
 use Rattle.acker_core.specs.declared.verdict.Verdict.{Verdict}
 use Rattle.acker_core.specs.declared.verdict.Verdict.TheVariants.{Complete, Fails}
 use Rattle.acker_core.proofs.TellLemmas.{complete-told}
-use Rattle.bolt_ops.specs.RowOp.{Custom}
-use Rattle.counted_items.specs.Weights.{weigh, Within}
-use Rattle.counted_items.proofs.Each.{each-to_map, each-weaker, each-both}
-use Rattle.counted_items.proofs.Equality.{each-within}
-use Rattle.counted_items.proofs.Weighing.{weigh-map, weigh-zero, weigh-same, weigh-le_each}
-use Rattle.storm_values.specs.declared.value.Root.{Root}
-use Rattle.storm_values.specs.declared.value.Value.{Value}
-use Rattle.topology_plan.specs.Topology.{Topology}
-use Rattle.tuple_tickets.specs.Roots.{root_eq}
-use Rattle.tuple_tickets.specs.Trees.{Course, goes, fails, mute}
+use Rattle.tree_model.specs.bolt_ops.RowOp.{Custom}
+use Rattle.tree_model.specs.counted_items.Weights.{weigh, Within}
+use Rattle.tree_model.proofs.counted_items.Each.{each-to_map, each-weaker, each-both}
+use Rattle.tree_model.proofs.counted_items.Equality.{each-within}
+use Rattle.tree_model.proofs.counted_items.Weighing.{weigh-map, weigh-zero, weigh-same, weigh-le_each}
+use Rattle.tree_model.specs.storm_values.declared.value.Root.{Root}
+use Rattle.tree_model.specs.storm_values.declared.value.Value.{Value}
+use Rattle.tree_model.specs.topology_plan.Topology.{Topology}
+use Rattle.tree_model.specs.tuple_tickets.Roots.{root_eq}
+use Rattle.tree_model.specs.tuple_tickets.Trees.{Course, goes, fails, mute}
 use Rattle.tree_model.specs.declared.messages.AckMsg.{AckMsg}
 use Rattle.tree_model.specs.declared.messages.AckMsg.TheVariants as msg
 use Rattle.tree_model.specs.Lists.{is_init, word, AreTrueOf, IsComplete}

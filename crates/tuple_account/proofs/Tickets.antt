@@ -1,24 +1,24 @@
 -- Tuples read as tickets, and their account as one of tickets.
 use Rattle.std.proofs.Common.{◌≡◌, ℕ, suc, ◌+◌, Bool, true, false, cond, List, [], ◌∷◌, ◌++◌, length, map, flat_map, sym, refl, ap, ◌∙◌, arith}
 use Rattle.std.specs.List.{AllByRecursion}
-use Rattle.bolt_ops.specs.RowOp.{Custom}
-use Rattle.counted_items.specs.Weights.{weigh, Within}
-use Rattle.counted_items.proofs.Each.{each-to_map, each-weaker}
-use Rattle.counted_items.proofs.Weighing.{weigh-append, weigh-map, weigh-flat_map, weigh-same, weigh-same_each}
-use Rattle.storm_values.specs.declared.value.Root.{Root}
-use Rattle.storm_values.specs.declared.value.Value.{Value}
-use Rattle.topology_plan.specs.declared.parts.Origin.TheVariants as origin
-use Rattle.topology_plan.specs.Topology.{Topology}
-use Rattle.tuple_tickets.specs.declared.edge.Edge.{Edge}
-use Rattle.tuple_tickets.specs.Lists.{Message, init, done}
-use Rattle.tuple_tickets.specs.Notes.{Note, said_about}
-use Rattle.tuple_tickets.specs.Notes as notes
-use Rattle.tuple_tickets.specs.Roots.{root_eq}
-use Rattle.tuple_tickets.specs.Tickets.{Ticket, tickets_from, made_by}
-use Rattle.tuple_tickets.specs.Tickets as tickets
-use Rattle.tuple_tickets.specs.Trees.{Course, goes, fails, mute, Growth}
-use Rattle.tuple_tickets.proofs.Once.{issued_weight}
-use Rattle.tuple_tickets.proofs.Told.{of_root, weigh-said_about}
+use Rattle.tree_model.specs.bolt_ops.RowOp.{Custom}
+use Rattle.tree_model.specs.counted_items.Weights.{weigh, Within}
+use Rattle.tree_model.proofs.counted_items.Each.{each-to_map, each-weaker}
+use Rattle.tree_model.proofs.counted_items.Weighing.{weigh-append, weigh-map, weigh-flat_map, weigh-same, weigh-same_each}
+use Rattle.tree_model.specs.storm_values.declared.value.Root.{Root}
+use Rattle.tree_model.specs.storm_values.declared.value.Value.{Value}
+use Rattle.tree_model.specs.topology_plan.declared.parts.Origin.TheVariants as origin
+use Rattle.tree_model.specs.topology_plan.Topology.{Topology}
+use Rattle.tree_model.specs.tuple_tickets.declared.edge.Edge.{Edge}
+use Rattle.tree_model.specs.tuple_tickets.Lists.{Message, init, done}
+use Rattle.tree_model.specs.tuple_tickets.Notes.{Note, said_about}
+use Rattle.tree_model.specs.tuple_tickets.Notes as notes
+use Rattle.tree_model.specs.tuple_tickets.Roots.{root_eq}
+use Rattle.tree_model.specs.tuple_tickets.Tickets.{Ticket, tickets_from, made_by}
+use Rattle.tree_model.specs.tuple_tickets.Tickets as tickets
+use Rattle.tree_model.specs.tuple_tickets.Trees.{Course, goes, fails, mute, Growth}
+use Rattle.tree_model.proofs.tuple_tickets.Once.{issued_weight}
+use Rattle.tree_model.proofs.tuple_tickets.Told.{of_root, weigh-said_about}
 use Rattle.tree_model.specs.declared.messages.AckMsg.{AckMsg}
 use Rattle.tree_model.specs.declared.messages.Tuple.{Tuple}
 use Rattle.tree_model.specs.Courses.{growth_of}

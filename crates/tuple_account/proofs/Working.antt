@@ -1,8 +1,8 @@
 -- What the functions of a worker say adds up to its share of a stretch.
 use Rattle.std.proofs.Common.{◌≡◌, ◌<◌, ◌≤◌, ℕ, zero, suc, ◌+◌, ◌==◌, Bool, true, false, cond, true≢false, eqb-true, eq-eqb, [], ◌∷◌, sym, refl, ap, ◌∙◌, arith}
-use Rattle.bolt_ops.specs.RowOp.{Custom}
-use Rattle.storm_values.specs.declared.value.Root.{Root}
-use Rattle.topology_plan.specs.Topology.{Topology}
+use Rattle.tree_model.specs.bolt_ops.RowOp.{Custom}
+use Rattle.tree_model.specs.storm_values.declared.value.Root.{Root}
+use Rattle.tree_model.specs.topology_plan.Topology.{Topology}
 use Rattle.tree_model.specs.declared.messages.AckMsg.{AckMsg}
 use Rattle.tuple_account.specs.Benches.{Bench, Works, IsFresh, OneMore, share_of}
 use Rattle.tuple_account.specs.Histories.{Packet, History, nothing, joined, taken}

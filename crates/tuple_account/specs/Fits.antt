@@ -2,11 +2,11 @@
 -- This project's own.
 use Rattle.std.specs.Prelude.{◌≡◌, ◌≤◌, ◌<◌, ℕ, ◌+◌, ◌&&◌, nat_lt, Bool, if◌then◌else◌, List, ◌++◌, length, None, Some}
 use Rattle.std.specs.List.{AllByRecursion}
-use Rattle.counted_items.specs.Weights.{weigh, Within}
-use Rattle.storm_values.specs.Counts.{Rose}
-use Rattle.storm_values.specs.declared.value.Root.{Root}
-use Rattle.storm_values.specs.declared.value.Value.{Value}
-use Rattle.topology_plan.specs.Topology.{Topology}
+use Rattle.tree_model.specs.counted_items.Weights.{weigh, Within}
+use Rattle.tree_model.specs.storm_values.Counts.{Rose}
+use Rattle.tree_model.specs.storm_values.declared.value.Root.{Root}
+use Rattle.tree_model.specs.storm_values.declared.value.Value.{Value}
+use Rattle.tree_model.specs.topology_plan.Topology.{Topology}
 use Rattle.tree_model.specs.Lists.{IsClosed}
 use Rattle.tree_model.specs.declared.messages.AckMsg.{AckMsg}
 use Rattle.tuple_account.specs.Ends.{Ending, committed, failed, timed_out, coincided, commit_failed, Ended, Waits, Desk, IsPart, verdicts_of_ends, verdicts_of_waits, commits}

@@ -1,14 +1,14 @@
 -- What a root issues when it begins, and a tuple when it is executed, with given ids.
 use Rattle.std.specs.Prelude.{ℕ, suc, ◌-◌, ◌^◌, min, List, [], ◌∷◌, ◌++◌, map}
 use Rattle.std.specs.Option.{option_to_list}
-use Rattle.bolt_ops.specs.RowOp.{Custom}
-use Rattle.storm_values.specs.declared.value.Root.{Root}
-use Rattle.storm_values.specs.declared.value.Value.{Value}
-use Rattle.topology_plan.specs.declared.parts.Origin.TheVariants as origin
-use Rattle.topology_plan.specs.Topology.{Topology}
-use Rattle.tuple_tickets.specs.declared.edge.Edge.{Edge}
-use Rattle.tuple_tickets.specs.Tickets.{made_by}
-use Rattle.tuple_tickets.specs.Trees.{Course, goes, fails, mute}
+use Rattle.tree_model.specs.bolt_ops.RowOp.{Custom}
+use Rattle.tree_model.specs.storm_values.declared.value.Root.{Root}
+use Rattle.tree_model.specs.storm_values.declared.value.Value.{Value}
+use Rattle.tree_model.specs.topology_plan.declared.parts.Origin.TheVariants as origin
+use Rattle.tree_model.specs.topology_plan.Topology.{Topology}
+use Rattle.tree_model.specs.tuple_tickets.declared.edge.Edge.{Edge}
+use Rattle.tree_model.specs.tuple_tickets.Tickets.{made_by}
+use Rattle.tree_model.specs.tuple_tickets.Trees.{Course, goes, fails, mute}
 use Rattle.tree_model.specs.declared.messages.AckMsg.{AckMsg}
 use Rattle.tree_model.specs.declared.messages.AckMsg.TheVariants as msg
 use Rattle.tree_model.specs.declared.messages.Draw.{Draw}

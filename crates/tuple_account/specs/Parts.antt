@@ -2,9 +2,9 @@
 use Rattle.std.specs.Prelude.{ℕ, List, [], ◌∷◌, Option, None, Some, map}
 use Rattle.acker_core.specs.declared.verdict.Verdict.{Verdict}
 use Rattle.acker_core.specs.Entries.{list_with, told_of}
-use Rattle.counted_items.specs.Weights.{weigh}
+use Rattle.tree_model.specs.counted_items.Weights.{weigh}
 use Rattle.rotating_ledger.specs.Held.{Held, dropped}
-use Rattle.storm_values.specs.declared.value.Root.{Root}
+use Rattle.tree_model.specs.storm_values.declared.value.Root.{Root}
 use Rattle.tree_model.specs.declared.messages.AckMsg.{AckMsg}
 use Rattle.tree_model.specs.Lists.{root_of}
 use Rattle.tuple_account.specs.Histories.{Packet, of_verdict, Opening, Execution, Told, History, nothing}

@@ -1,12 +1,12 @@
 ghost use Rattle.std.specs.Prelude.{◌≡◌, ◌≤◌, ◌<◌, ℕ, ◌+◌, ◌*◌, ◌^◌, List, length, map};
 ghost use Rattle.std.specs.List.{AllByRecursion, flat_map};
-ghost use Rattle.bolt_ops.specs.RowOp.{Custom};
-ghost use Rattle.counted_items.specs.Weights.{weigh, Within};
+ghost use Rattle.tree_model.specs.bolt_ops.RowOp.{Custom};
+ghost use Rattle.tree_model.specs.counted_items.Weights.{weigh, Within};
 ghost use Rattle.rotating_ledger.specs.Held.{Held};
-ghost use Rattle.storm_values.specs.declared.value.Root.{Root};
-ghost use Rattle.storm_values.specs.declared.value.Value.{Value};
-ghost use Rattle.topology_plan.specs.Topology.{Topology};
-ghost use Rattle.topology_plan.specs.Valid.{IsValid};
+ghost use Rattle.tree_model.specs.storm_values.declared.value.Root.{Root};
+ghost use Rattle.tree_model.specs.storm_values.declared.value.Value.{Value};
+ghost use Rattle.tree_model.specs.topology_plan.Topology.{Topology};
+ghost use Rattle.tree_model.specs.topology_plan.Valid.{IsValid};
 ghost use Rattle.tree_model.specs.declared.messages.AckMsg.{AckMsg};
 ghost use Rattle.tree_model.specs.Trees.{node_count};
 ghost use Rattle.tuple_account.specs.Accounts.{is_of, is_at, IsNode};

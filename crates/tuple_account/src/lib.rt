@@ -5,6 +5,9 @@
 //! A driver shows of each of its steps that it moves what waits, what ackers keep and what sources
 //! gave. Moves add up, one after another and side by side, so all that is said here holds of any
 //! schedule.
+//!
+//! It passes on the crates that it stands on: a crate above names them through this one, and
+//! lists this one alone.
 #![tactic(auto)]
 
 mod ends;
@@ -13,6 +16,7 @@ mod laws;
 mod moves;
 mod stretches;
 
+pub use acker_core;
 pub use ends::{accounts_fit_at_first, ends_have_causes, pending_attempts_are_settled};
 pub use issued::{
     issued_lists_are_sound, lists_of_all_notes_cover, roots_have_few_tuples,
@@ -23,6 +27,9 @@ pub use laws::{
     stuck_roots_were_told, tuples_are_issued_once, verdicts_have_causes, words_given_are_few,
 };
 pub use moves::{moves_add_up, reached_goes_on, work_moves};
+pub use rotating_ledger;
 pub use stretches::{
     books_tell_by_box, sources_add_up, stretches_are_moves, stretches_stay_gathered, works_add_up,
 };
+pub use tree_model;
+pub use tree_model::{bolt_ops, counted_items, storm_values, topology_plan, tuple_tickets};

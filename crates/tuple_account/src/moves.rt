@@ -1,11 +1,11 @@
 ghost use Rattle.std.specs.Prelude.{◌≤◌, ℕ, ◌+◌, List, [], ◌∷◌, length, map};
 ghost use Rattle.acker_core.specs.Entries.{met};
 ghost use Rattle.acker_core.specs.declared.verdict.Verdict.{Verdict};
-ghost use Rattle.bolt_ops.specs.RowOp.{Custom};
-ghost use Rattle.counted_items.specs.Weights.{weigh, Same};
+ghost use Rattle.tree_model.specs.bolt_ops.RowOp.{Custom};
+ghost use Rattle.tree_model.specs.counted_items.Weights.{weigh, Same};
 ghost use Rattle.rotating_ledger.specs.Held.{Held, rotated};
-ghost use Rattle.storm_values.specs.declared.value.Root.{Root};
-ghost use Rattle.topology_plan.specs.Topology.{Topology};
+ghost use Rattle.tree_model.specs.storm_values.declared.value.Root.{Root};
+ghost use Rattle.tree_model.specs.topology_plan.Topology.{Topology};
 ghost use Rattle.tree_model.specs.declared.messages.AckMsg.{AckMsg};
 ghost use Rattle.tree_model.specs.declared.messages.Parcel.TheVariants.{ToTask, ToAcker};
 ghost use Rattle.tuple_account.specs.Histories.{Packet, of_parcel, of_verdict, Opening, Execution, History, IsOpening, IsExecution, nothing, joined, opens, opening_parcels, execution_parcels};

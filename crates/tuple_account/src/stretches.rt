@@ -1,10 +1,10 @@
 ghost use Rattle.std.specs.Prelude.{◌≡◌, ◌≤◌, ◌<◌, ℕ, ◌+◌, List, [], ◌∷◌};
 ghost use Rattle.std.specs.List.{AllByRecursion};
 ghost use Rattle.tree_model.specs.declared.messages.AckMsg.{AckMsg};
-ghost use Rattle.bolt_ops.specs.RowOp.{Custom};
-ghost use Rattle.counted_items.specs.Weights.{weigh};
-ghost use Rattle.storm_values.specs.declared.value.Root.{Root};
-ghost use Rattle.topology_plan.specs.Topology.{Topology};
+ghost use Rattle.tree_model.specs.bolt_ops.RowOp.{Custom};
+ghost use Rattle.tree_model.specs.counted_items.Weights.{weigh};
+ghost use Rattle.tree_model.specs.storm_values.declared.value.Root.{Root};
+ghost use Rattle.tree_model.specs.topology_plan.Topology.{Topology};
 ghost use Rattle.tuple_account.specs.Benches.{Bench, Works, IsFresh, OneMore, share_of};
 ghost use Rattle.tuple_account.specs.Histories.{Packet, History, nothing, joined, opens, taken};
 ghost use Rattle.tuple_account.specs.Moves.{Station, beside, Moves, Reached};

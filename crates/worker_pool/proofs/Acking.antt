@@ -3,28 +3,28 @@ use Rattle.std.proofs.Common.{◌≡◌, ◌<◌, ◌≤◌, ◌⊎◌, inl, inr
 use Rattle.std.specs.Prelude.{max, min, fold, replicate, slice_get}
 use Rattle.std.specs.List.{AllByRecursion}
 use Rattle.std.specs.Option.{option_to_list}
-use Rattle.acker_core.specs.Entries.{after, list_with, message, met, tick, told_of}
-use Rattle.acker_core.specs.Traces.{ticks_in}
-use Rattle.acker_core.specs.declared.verdict.Verdict.{Verdict}
+use Rattle.event_worlds.specs.acker_core.Entries.{after, list_with, message, met, tick, told_of}
+use Rattle.event_worlds.specs.acker_core.Traces.{ticks_in}
+use Rattle.event_worlds.specs.acker_core.declared.verdict.Verdict.{Verdict}
 use Rattle.box_rows.specs.declared.mail.Mail.{Mail}
 use Rattle.box_rows.specs.declared.mail.Mail.TheVariants as mails
 use Rattle.box_rows.specs.Mails.{IsTrueMail, IsTrueParcel, last_box}
 use Rattle.box_rows.specs.Rows.{CouldBeEmpty, CouldBeFull, HasTaken, IsSameRow, sent_in, taken_in}
-use Rattle.counted_items.specs.Weights.{weigh}
-use Rattle.counted_items.proofs.Weighing.{weigh-append, weigh-push}
+use Rattle.event_worlds.specs.counted_items.Weights.{weigh}
+use Rattle.event_worlds.proofs.counted_items.Weighing.{weigh-append, weigh-push}
 use Rattle.pulse_board.specs.Rule.{bit}
-use Rattle.rotating_ledger.specs.Held.{Held, Rotation, dropped, rotated}
-use Rattle.storm_values.specs.declared.value.Root.{Root}
+use Rattle.event_worlds.specs.rotating_ledger.Held.{Held, Rotation, dropped, rotated}
+use Rattle.event_worlds.specs.storm_values.declared.value.Root.{Root}
 use Rattle.task_queues.specs.declared.pass.Pass.{Pass}
-use Rattle.topology_plan.specs.Topology.{Topology, tasks_in_all}
-use Rattle.tree_model.specs.Lists.{root_of}
-use Rattle.tree_model.specs.declared.messages.AckMsg.{AckMsg}
-use Rattle.tree_model.specs.declared.messages.Parcel.{Parcel}
-use Rattle.tree_model.specs.declared.messages.Parcel.TheVariants.{ToAcker}
-use Rattle.tuple_account.specs.Histories.{Packet, Told, of_parcel, of_verdict, nothing, weigh_parcels}
-use Rattle.tuple_account.specs.Parts.{meeting, telling_by, weigh_entries}
-use Rattle.tuple_account.proofs.Entering.{met-weight, rotated-weight, telling_told}
-use Rattle.tuple_account.proofs.Moving.{well-nothing}
+use Rattle.event_worlds.specs.topology_plan.Topology.{Topology, tasks_in_all}
+use Rattle.event_worlds.specs.tree_model.Lists.{root_of}
+use Rattle.event_worlds.specs.tree_model.declared.messages.AckMsg.{AckMsg}
+use Rattle.event_worlds.specs.tree_model.declared.messages.Parcel.{Parcel}
+use Rattle.event_worlds.specs.tree_model.declared.messages.Parcel.TheVariants.{ToAcker}
+use Rattle.event_worlds.specs.tuple_account.Histories.{Packet, Told, of_parcel, of_verdict, nothing, weigh_parcels}
+use Rattle.event_worlds.specs.tuple_account.Parts.{meeting, telling_by, weigh_entries}
+use Rattle.event_worlds.proofs.tuple_account.Entering.{met-weight, rotated-weight, telling_told}
+use Rattle.event_worlds.proofs.tuple_account.Moving.{well-nothing}
 use Rattle.worker_pool.specs.declared.acker.AckerDesk.{AckerDesk}
 use Rattle.worker_pool.specs.Ackers.{acker_left, AckerDid, AckerSays, Ages, CountsFew, CountsUp, HandsVerdict, HasYoung, IsAcker, IsAckerHeld, ReceivesNotes, weigh_messages, weigh_verdict}
 use Rattle.worker_pool.specs.Says.{HasDone, each_one}

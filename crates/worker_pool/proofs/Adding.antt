@@ -2,12 +2,12 @@
 use Rattle.std.proofs.Common.{◌≡◌, ◌<◌, ◌≤◌, ℕ, zero, suc, ◌+◌, ◌-◌, ◌==◌, Bool, true, false, cond, List, [], ◌∷◌, ◌++◌, length, map, None, Some, set, sym, refl, ap, subst, ◌∙◌, length-append, eq-eqb, eqb-true, arith}
 use Rattle.std.specs.Prelude.{fold, min, slice_get}
 use Rattle.std.specs.List.{AllByRecursion, AllZip, range_with_len}
-use Rattle.acker_core.specs.Entries.{Met, after, message, tick}
-use Rattle.acker_core.specs.Traces.{ticks_in}
+use Rattle.event_worlds.specs.acker_core.Entries.{Met, after, message, tick}
+use Rattle.event_worlds.specs.acker_core.Traces.{ticks_in}
 use Rattle.std.proofs.lemmas.List.{length-set}
-use Rattle.bolt_ops.specs.RowOp.{Custom}
-use Rattle.output_collector.proofs.Sending.{Draws-none, Draws-then}
-use Rattle.counted_items.proofs.Each.{each-back, each-front}
+use Rattle.event_worlds.specs.bolt_ops.RowOp.{Custom}
+use Rattle.event_worlds.proofs.output_collector.Sending.{Draws-none, Draws-then}
+use Rattle.event_worlds.proofs.counted_items.Each.{each-back, each-front}
 use Rattle.box_rows.proofs.Weighing.{weigh-at}
 use Rattle.box_rows.specs.declared.mail.Mail.{Mail}
 use Rattle.box_rows.specs.Rows.{sent_in, taken_in}
@@ -20,15 +20,15 @@ use Rattle.worker_pool.specs.Crews.{AckersDid, AllLast, AreGiven, AreNext, CrewD
 use Rattle.worker_pool.proofs.Outboxing.{each-get, each-put, get-below}
 use Rattle.worker_pool.proofs.Saying.{set-here}
 use Rattle.worker_pool.proofs.Lists.{is_in, was_in, words-split, zip-before, zip-same, zip-set, zip-then}
-use Rattle.storm_ids.specs.declared.ids.Ids.{Ghosts}
+use Rattle.event_worlds.specs.storm_ids.declared.ids.Ids.{Ghosts}
 use Rattle.task_queues.specs.declared.pass.Pass.{Pass}
-use Rattle.topology_plan.specs.Topology.{Topology}
-use Rattle.tree_model.specs.Lists.{root_of}
-use Rattle.tuple_account.specs.Histories.{Execution, History, Opening, Packet, Receipt, acker_of, joined, nothing}
-use Rattle.tuple_account.specs.Places.{HasWords, spans}
-use Rattle.tuple_account.specs.Moves.{Station}
-use Rattle.tuple_account.specs.Parts.{weigh_entries}
-use Rattle.tuple_account.proofs.Moving.{drawn-both, moves-then, taken-joined, well-nothing}
+use Rattle.event_worlds.specs.topology_plan.Topology.{Topology}
+use Rattle.event_worlds.specs.tree_model.Lists.{root_of}
+use Rattle.event_worlds.specs.tuple_account.Histories.{Execution, History, Opening, Packet, Receipt, acker_of, joined, nothing}
+use Rattle.event_worlds.specs.tuple_account.Places.{HasWords, spans}
+use Rattle.event_worlds.specs.tuple_account.Moves.{Station}
+use Rattle.event_worlds.specs.tuple_account.Parts.{weigh_entries}
+use Rattle.event_worlds.proofs.tuple_account.Moving.{drawn-both, moves-then, taken-joined, well-nothing}
 
 both-none : {X : Type 0} (xs ys : List X) → xs ≡ [] → ys ≡ [] → xs ++ ys ≡ []
 both-none xs ys a b = (λ i. a i ++ b i)

@@ -3,43 +3,43 @@ use Rattle.std.proofs.Common.{◌≡◌, ◌≢◌, ◌<◌, ◌≤◌, ◌⊎�
 use Rattle.std.specs.Prelude.{min, Result, Ok, Err, IfOk, OnOk}
 use Rattle.std.specs.List.{AllByRecursion, range_with_len}
 use Rattle.std.specs.Option.{option_to_list}
-use Rattle.bolt_ops.specs.RowOp.{Custom, IsCustom}
-use Rattle.bolt_task.specs.Executing.{Executes, IsFor, collector_in, component_at, execution_at, number_of, rows_of, topology_at}
-use Rattle.bolt_task.specs.declared.task.BoltTask.{BoltTask}
+use Rattle.event_worlds.specs.bolt_ops.RowOp.{Custom, IsCustom}
+use Rattle.event_worlds.specs.bolt_task.Executing.{Executes, IsFor, collector_in, component_at, execution_at, number_of, rows_of, topology_at}
+use Rattle.event_worlds.specs.bolt_task.declared.task.BoltTask.{BoltTask}
 use Rattle.box_rows.specs.declared.mail.Mail.{Mail}
 use Rattle.box_rows.specs.declared.mail.Mail.TheVariants as mails
 use Rattle.box_rows.specs.Mails.{IsRunFor, IsTrueMail, IsTrueParcel}
 use Rattle.box_rows.specs.Rows.{CouldBeEmpty, HasTaken, IsSameRow}
-use Rattle.commit_order.specs.Orders.{stand_of}
-use Rattle.counted_items.proofs.Each.{each-append}
-use Rattle.counted_items.proofs.Weighing.{weigh-push}
+use Rattle.event_worlds.specs.commit_order.Orders.{stand_of}
+use Rattle.event_worlds.proofs.counted_items.Each.{each-append}
+use Rattle.event_worlds.proofs.counted_items.Weighing.{weigh-push}
 use Rattle.event_worlds.specs.Orderly.{FitsParcel, IsForTask, IsStandOf}
 use Rattle.event_worlds.specs.Worlds.{execution_by}
 use Rattle.event_worlds.proofs.Orderly.{executed-fits}
-use Rattle.output_collector.proofs.Sending.{Draws-none}
-use Rattle.output_collector.specs.Collectors.{given_by, outlet_of}
-use Rattle.output_collector.specs.Draws.{Draws}
-use Rattle.output_collector.specs.Outlets.{after_rows}
-use Rattle.storm_ids.specs.declared.ids.Ids.{Ghosts}
-use Rattle.storm_values.specs.Rows.{IsRow}
+use Rattle.event_worlds.proofs.output_collector.Sending.{Draws-none}
+use Rattle.event_worlds.specs.output_collector.Collectors.{given_by, outlet_of}
+use Rattle.event_worlds.specs.output_collector.Draws.{Draws}
+use Rattle.event_worlds.specs.output_collector.Outlets.{after_rows}
+use Rattle.event_worlds.specs.storm_ids.declared.ids.Ids.{Ghosts}
+use Rattle.event_worlds.specs.storm_values.Rows.{IsRow}
 use Rattle.task_queues.specs.declared.pass.Pass.{Pass}
-use Rattle.topology_plan.specs.declared.parts.Origin.TheVariants as origin
-use Rattle.topology_plan.specs.Topology.{Topology, component_of, tasks_in_all}
-use Rattle.topology_plan.specs.Valid.{IsValid}
-use Rattle.topology_plan.specs.Wired.{IsWired, width_to}
-use Rattle.tree_model.specs.declared.messages.AckMsg.{AckMsg}
-use Rattle.tree_model.specs.declared.messages.AckMsg.TheVariants as msg
-use Rattle.tree_model.specs.declared.messages.Parcel.{Parcel}
-use Rattle.tree_model.specs.declared.messages.Parcel.TheVariants.{ToTask}
-use Rattle.tree_model.specs.declared.messages.Tuple.{Tuple}
-use Rattle.tree_model.specs.Trees.{write_of}
-use Rattle.tuple_account.specs.Histories.{Execution, IsExecution, Packet, execution_parcels, nothing, of_parcel, to_acker, to_tasks, weigh_parcels}
-use Rattle.tuple_account.specs.Issued.{Run, children_of, course_of_run, edges_of, node_of, notes_by}
-use Rattle.tuple_account.specs.Parts.{executing}
-use Rattle.tuple_account.specs.Places.{spans}
-use Rattle.tuple_account.proofs.Moving.{well-nothing}
-use Rattle.tuple_account.proofs.Placing.{spans-more}
-use Rattle.tuple_tickets.specs.Trees.{Course, fails, goes, mute}
+use Rattle.event_worlds.specs.topology_plan.declared.parts.Origin.TheVariants as origin
+use Rattle.event_worlds.specs.topology_plan.Topology.{Topology, component_of, tasks_in_all}
+use Rattle.event_worlds.specs.topology_plan.Valid.{IsValid}
+use Rattle.event_worlds.specs.topology_plan.Wired.{IsWired, width_to}
+use Rattle.event_worlds.specs.tree_model.declared.messages.AckMsg.{AckMsg}
+use Rattle.event_worlds.specs.tree_model.declared.messages.AckMsg.TheVariants as msg
+use Rattle.event_worlds.specs.tree_model.declared.messages.Parcel.{Parcel}
+use Rattle.event_worlds.specs.tree_model.declared.messages.Parcel.TheVariants.{ToTask}
+use Rattle.event_worlds.specs.tree_model.declared.messages.Tuple.{Tuple}
+use Rattle.event_worlds.specs.tree_model.Trees.{write_of}
+use Rattle.event_worlds.specs.tuple_account.Histories.{Execution, IsExecution, Packet, execution_parcels, nothing, of_parcel, to_acker, to_tasks, weigh_parcels}
+use Rattle.event_worlds.specs.tuple_account.Issued.{Run, children_of, course_of_run, edges_of, node_of, notes_by}
+use Rattle.event_worlds.specs.tuple_account.Parts.{executing}
+use Rattle.event_worlds.specs.tuple_account.Places.{spans}
+use Rattle.event_worlds.proofs.tuple_account.Moving.{well-nothing}
+use Rattle.event_worlds.proofs.tuple_account.Placing.{spans-more}
+use Rattle.event_worlds.specs.tuple_tickets.Trees.{Course, fails, goes, mute}
 use Rattle.worker_pool.specs.declared.desk.TaskDesk.{TaskDesk}
 use Rattle.pulse_board.specs.Rule.{bit}
 use Rattle.worker_pool.specs.declared.outbox.Run.{Run as OutboxRun}

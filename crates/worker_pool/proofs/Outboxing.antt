@@ -7,14 +7,14 @@ use Rattle.box_rows.specs.declared.mail.Mail.{Mail}
 use Rattle.box_rows.specs.declared.mail.Mail.TheVariants as mails
 use Rattle.box_rows.specs.Rows.{CouldBeFull, HasSent, IsSameRow, sent_in, taken_in}
 use Rattle.box_rows.proofs.Weighing.{weigh-at}
-use Rattle.counted_items.proofs.Each.{each-append}
-use Rattle.counted_items.proofs.Weighing.{weigh-append}
+use Rattle.event_worlds.proofs.counted_items.Each.{each-append}
+use Rattle.event_worlds.proofs.counted_items.Weighing.{weigh-append}
 use Rattle.pulse_board.specs.Rule.{bit}
 use Rattle.task_queues.specs.declared.pass.Pass.{Pass}
-use Rattle.topology_plan.specs.Topology.{Topology}
-use Rattle.tree_model.specs.declared.messages.Parcel.{Parcel}
-use Rattle.tree_model.specs.declared.messages.Parcel.TheVariants.{ToAcker, ToTask}
-use Rattle.tuple_account.specs.Histories.{Packet, of_parcel, weigh_parcels}
+use Rattle.event_worlds.specs.topology_plan.Topology.{Topology}
+use Rattle.event_worlds.specs.tree_model.declared.messages.Parcel.{Parcel}
+use Rattle.event_worlds.specs.tree_model.declared.messages.Parcel.TheVariants.{ToAcker, ToTask}
+use Rattle.event_worlds.specs.tuple_account.Histories.{Packet, of_parcel, weigh_parcels}
 use Rattle.worker_pool.specs.declared.outbox.Run.{Run}
 use Rattle.worker_pool.specs.Outboxes.{AddsAll, HandsOver, HasRoom, IsOutbox, weigh_outbox}
 use Rattle.worker_pool.specs.Says.{HasDone, each_one}

@@ -6,11 +6,11 @@ use Rattle.box_rows.specs.declared.mail.Mail.{Mail}
 use Rattle.box_rows.specs.declared.mail.Mail.TheVariants as mails
 use Rattle.box_rows.specs.Rows.{CouldBeEmpty, CouldBeFull, HasTaken, IsSameRow}
 use Rattle.box_rows.proofs.Weighing.{weigh-at}
-use Rattle.counted_items.specs.Weights.{weigh}
+use Rattle.event_worlds.specs.counted_items.Weights.{weigh}
 use Rattle.pulse_board.specs.Rule.{bit}
 use Rattle.task_queues.specs.declared.pass.Pass.{Pass}
-use Rattle.tree_model.specs.declared.messages.Parcel.{Parcel}
-use Rattle.tuple_account.specs.Histories.{weigh_parcels}
+use Rattle.event_worlds.specs.tree_model.declared.messages.Parcel.{Parcel}
+use Rattle.event_worlds.specs.tuple_account.Histories.{weigh_parcels}
 use Rattle.worker_pool.specs.Says.{AllSay, HasDone, MoreAt, Says, SaysAt, each_one}
 
 -- ---- rows

@@ -2,24 +2,24 @@
 use Rattle.std.specs.Prelude.{◌≡◌, ◌<◌, ◌≤◌, ◌⊎◌, ℕ, ◌+◌, ◌-◌, Bool, true, false, min, List, [], Option, None, Some, fold, length, replicate}
 use Rattle.std.specs.List.{AllByRecursion}
 use Rattle.std.specs.Option.{option_to_list}
-use Rattle.acker_core.specs.declared.verdict.Verdict.{Verdict}
-use Rattle.acker_core.specs.Entries.{Met, after, tick}
-use Rattle.acker_core.specs.Traces.{ticks_in}
-use Rattle.bolt_ops.specs.RowOp.{Custom}
+use Rattle.event_worlds.specs.acker_core.declared.verdict.Verdict.{Verdict}
+use Rattle.event_worlds.specs.acker_core.Entries.{Met, after, tick}
+use Rattle.event_worlds.specs.acker_core.Traces.{ticks_in}
+use Rattle.event_worlds.specs.bolt_ops.RowOp.{Custom}
 use Rattle.box_rows.specs.declared.mail.Mail.{Mail}
 use Rattle.box_rows.specs.declared.mail.Mail.TheVariants as mail
 use Rattle.box_rows.specs.Mails.{last_box}
 use Rattle.box_rows.specs.Rows.{CouldBeEmpty, CouldBeFull, IsSameRow, sent_in, taken_in}
-use Rattle.counted_items.specs.Weights.{weigh}
+use Rattle.event_worlds.specs.counted_items.Weights.{weigh}
 use Rattle.task_queues.specs.declared.pass.Pass.{Pass}
-use Rattle.topology_plan.specs.Topology.{Topology, tasks_in_all}
-use Rattle.tree_model.specs.declared.messages.AckMsg.{AckMsg}
-use Rattle.tree_model.specs.declared.messages.Parcel.{Parcel}
-use Rattle.tree_model.specs.declared.messages.Parcel.TheVariants.{ToAcker}
-use Rattle.tree_model.specs.Lists.{root_of}
-use Rattle.tuple_account.specs.Histories.{History, Packet, Receipt, acker_of, of_parcel, of_verdict, weigh_parcels}
-use Rattle.tuple_account.specs.Moves.{Station}
-use Rattle.tuple_account.specs.Parts.{weigh_entries}
+use Rattle.event_worlds.specs.topology_plan.Topology.{Topology, tasks_in_all}
+use Rattle.event_worlds.specs.tree_model.declared.messages.AckMsg.{AckMsg}
+use Rattle.event_worlds.specs.tree_model.declared.messages.Parcel.{Parcel}
+use Rattle.event_worlds.specs.tree_model.declared.messages.Parcel.TheVariants.{ToAcker}
+use Rattle.event_worlds.specs.tree_model.Lists.{root_of}
+use Rattle.event_worlds.specs.tuple_account.Histories.{History, Packet, Receipt, acker_of, of_parcel, of_verdict, weigh_parcels}
+use Rattle.event_worlds.specs.tuple_account.Moves.{Station}
+use Rattle.event_worlds.specs.tuple_account.Parts.{weigh_entries}
 use Rattle.worker_pool.specs.declared.acker.AckerDesk.{AckerDesk}
 use Rattle.worker_pool.specs.Says.{Says}
 use Rattle.worker_pool.specs.Works.{IsInside, Uses, Works}

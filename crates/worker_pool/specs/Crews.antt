@@ -1,20 +1,20 @@
 -- What the tasks and ackers of a worker do together. This project's own.
 use Rattle.std.specs.Prelude.{◌≡◌, ◌≤◌, ℕ, suc, ◌+◌, max, Bool, List, [], ◌∷◌, length, map, Some, slice_get}
 use Rattle.std.specs.List.{AllByRecursion, AllZip, range_with_len}
-use Rattle.bolt_ops.specs.RowOp.{Custom}
+use Rattle.event_worlds.specs.bolt_ops.RowOp.{Custom}
 use Rattle.box_rows.specs.declared.mail.Mail.{Mail}
 use Rattle.box_rows.specs.Mails.{last_box}
 use Rattle.box_rows.specs.Rows.{ArePasses}
-use Rattle.counted_items.specs.Weights.{weigh}
-use Rattle.output_collector.specs.Draws.{Draws}
-use Rattle.storm_ids.specs.declared.ids.Ids.{Ghosts}
+use Rattle.event_worlds.specs.counted_items.Weights.{weigh}
+use Rattle.event_worlds.specs.output_collector.Draws.{Draws}
+use Rattle.event_worlds.specs.storm_ids.declared.ids.Ids.{Ghosts}
 use Rattle.task_queues.specs.declared.pass.Mailbox.{Mailbox}
 use Rattle.task_queues.specs.declared.pass.Pass.{Pass}
-use Rattle.topology_plan.specs.Topology.{Topology}
-use Rattle.tuple_account.specs.Histories.{History, Packet}
-use Rattle.tuple_account.specs.Moves.{HasDrawn, Station}
-use Rattle.tuple_account.specs.Parts.{weigh_entries}
-use Rattle.tuple_account.specs.Places.{spans}
+use Rattle.event_worlds.specs.topology_plan.Topology.{Topology}
+use Rattle.event_worlds.specs.tuple_account.Histories.{History, Packet}
+use Rattle.event_worlds.specs.tuple_account.Moves.{HasDrawn, Station}
+use Rattle.event_worlds.specs.tuple_account.Parts.{weigh_entries}
+use Rattle.event_worlds.specs.tuple_account.Places.{spans}
 use Rattle.worker_pool.specs.declared.acker.AckerDesk.{AckerDesk}
 use Rattle.worker_pool.specs.declared.desk.TaskDesk.{TaskDesk}
 use Rattle.worker_pool.specs.Ackers.{Ages, AreRouted, CountsFew, HasYoung, IsAcker, IsAckerHeld, Meets, acker_inbox, acker_left, acker_station}

@@ -1,25 +1,25 @@
 -- What a task does over boxes. This project's own.
 use Rattle.std.specs.Prelude.{◌≡◌, ◌<◌, ◌⊎◌, ℕ, ◌+◌, Bool, List, [], length, map}
 use Rattle.std.specs.List.{AllByRecursion, range_with_len}
-use Rattle.bolt_ops.specs.RowOp.{Custom}
-use Rattle.bolt_task.specs.Executing.{Executes, collector_in, component_at, number_of, topology_at}
+use Rattle.event_worlds.specs.bolt_ops.RowOp.{Custom}
+use Rattle.event_worlds.specs.bolt_task.Executing.{Executes, collector_in, component_at, number_of, topology_at}
 use Rattle.box_rows.specs.declared.mail.Mail.{Mail}
 use Rattle.box_rows.specs.Rows.{CouldBeEmpty, sent_in, taken_in}
-use Rattle.commit_order.specs.Orders.{stand_of}
-use Rattle.counted_items.specs.Weights.{weigh}
+use Rattle.event_worlds.specs.commit_order.Orders.{stand_of}
+use Rattle.event_worlds.specs.counted_items.Weights.{weigh}
 use Rattle.event_worlds.specs.Orderly.{IsForTask, IsStandOf}
-use Rattle.output_collector.specs.Collectors.{given_by, ids_in}
-use Rattle.output_collector.specs.Draws.{Draws}
-use Rattle.storm_ids.specs.declared.ids.Ids.{Ghosts}
+use Rattle.event_worlds.specs.output_collector.Collectors.{given_by, ids_in}
+use Rattle.event_worlds.specs.output_collector.Draws.{Draws}
+use Rattle.event_worlds.specs.storm_ids.declared.ids.Ids.{Ghosts}
 use Rattle.task_queues.specs.declared.pass.Pass.{Pass}
-use Rattle.topology_plan.specs.declared.parts.Origin.TheVariants as origin
-use Rattle.topology_plan.specs.Topology.{Topology, component_of, tasks_in_all}
-use Rattle.tree_model.specs.declared.messages.Parcel.{Parcel}
-use Rattle.tree_model.specs.declared.messages.Parcel.TheVariants.{ToTask}
-use Rattle.tree_model.specs.declared.messages.Tuple.{Tuple}
-use Rattle.tuple_account.specs.Histories.{History, Packet, of_parcel, weigh_parcels}
-use Rattle.tuple_account.specs.Moves.{HasDrawn, Station}
-use Rattle.tuple_account.specs.Places.{spans}
+use Rattle.event_worlds.specs.topology_plan.declared.parts.Origin.TheVariants as origin
+use Rattle.event_worlds.specs.topology_plan.Topology.{Topology, component_of, tasks_in_all}
+use Rattle.event_worlds.specs.tree_model.declared.messages.Parcel.{Parcel}
+use Rattle.event_worlds.specs.tree_model.declared.messages.Parcel.TheVariants.{ToTask}
+use Rattle.event_worlds.specs.tree_model.declared.messages.Tuple.{Tuple}
+use Rattle.event_worlds.specs.tuple_account.Histories.{History, Packet, of_parcel, weigh_parcels}
+use Rattle.event_worlds.specs.tuple_account.Moves.{HasDrawn, Station}
+use Rattle.event_worlds.specs.tuple_account.Places.{spans}
 use Rattle.worker_pool.specs.declared.desk.TaskDesk.{TaskDesk}
 use Rattle.worker_pool.specs.Outboxes.{AddsAll, IsFrontFull, IsOutbox, weigh_outbox}
 use Rattle.worker_pool.specs.Says.{Says}

@@ -5,11 +5,11 @@ use Rattle.box_rows.specs.declared.mail.Mail.{Mail}
 use Rattle.box_rows.specs.declared.mail.Mail.TheVariants as mail
 use Rattle.box_rows.specs.Mails.{IsRunFor, most_in_run}
 use Rattle.box_rows.specs.Rows.{CouldBeFull, IsSameRow, sent_in, taken_in}
-use Rattle.counted_items.specs.Weights.{weigh}
+use Rattle.event_worlds.specs.counted_items.Weights.{weigh}
 use Rattle.task_queues.specs.declared.pass.Pass.{Pass}
-use Rattle.topology_plan.specs.Topology.{Topology}
-use Rattle.tree_model.specs.declared.messages.Parcel.{Parcel}
-use Rattle.tuple_account.specs.Histories.{Packet, weigh_parcels}
+use Rattle.event_worlds.specs.topology_plan.Topology.{Topology}
+use Rattle.event_worlds.specs.tree_model.declared.messages.Parcel.{Parcel}
+use Rattle.event_worlds.specs.tuple_account.Histories.{Packet, weigh_parcels}
 use Rattle.worker_pool.specs.declared.outbox.Run.{Run}
 
 -- the mail is a run

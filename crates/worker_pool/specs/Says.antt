@@ -3,10 +3,10 @@ use Rattle.std.specs.Prelude.{◌≡◌, ◌≤◌, ℕ, ◌+◌, Bool, false, L
 use Rattle.std.specs.List.{AllByRecursion}
 use Rattle.box_rows.specs.declared.mail.Mail.{Mail}
 use Rattle.box_rows.specs.Rows.{IsSameRow, sent_in, taken_in}
-use Rattle.counted_items.specs.Weights.{weigh}
+use Rattle.event_worlds.specs.counted_items.Weights.{weigh}
 use Rattle.pulse_board.specs.Rule.{bit}
 use Rattle.task_queues.specs.declared.pass.Pass.{Pass}
-use Rattle.tuple_account.specs.Histories.{Packet}
+use Rattle.event_worlds.specs.tuple_account.Histories.{Packet}
 
 -- the weight of each packet
 abbrev pub each_one : Packet → ℕ

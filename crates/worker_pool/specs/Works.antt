@@ -1,13 +1,13 @@
 -- What a piece of work moves between what a worker holds and the books of its row. This project's
 -- own.
 use Rattle.std.specs.Prelude.{◌≡◌, ℕ, ◌+◌, ◌-◌, ◌^◌, min, List, []}
-use Rattle.bolt_ops.specs.RowOp.{Custom}
+use Rattle.event_worlds.specs.bolt_ops.RowOp.{Custom}
 use Rattle.box_rows.specs.declared.mail.Mail.{Mail}
 use Rattle.box_rows.specs.Rows.{sent_in, taken_in}
 use Rattle.task_queues.specs.declared.pass.Pass.{Pass}
-use Rattle.topology_plan.specs.Topology.{Topology}
-use Rattle.tuple_account.specs.Histories.{History, Packet, taken}
-use Rattle.tuple_account.specs.Moves.{Moves, Station}
+use Rattle.event_worlds.specs.topology_plan.Topology.{Topology}
+use Rattle.event_worlds.specs.tuple_account.Histories.{History, Packet, taken}
+use Rattle.event_worlds.specs.tuple_account.Moves.{Moves, Station}
 
 -- a station, with what one row sent and what another took
 abbrev pub with_books : Station → List (Pass Mail) → List (Pass Mail) → Station

@@ -3,20 +3,20 @@ ghost use Rattle.std.specs.List.{AllByRecursion};
 ghost use Rattle.box_rows.specs.Mails.{IsTrueParcel, last_box};
 ghost use Rattle.box_rows.specs.Rows.{ArePasses, numbers_at};
 ghost use Rattle.box_rows.specs.declared.mail.Mail.TheVariants as mails;
-ghost use Rattle.topology_plan.specs.Topology.{tasks_in_all};
-ghost use Rattle.tree_model.specs.declared.messages.Parcel.TheVariants.{ToAcker};
+ghost use Rattle.event_worlds.specs.topology_plan.Topology.{tasks_in_all};
+ghost use Rattle.event_worlds.specs.tree_model.declared.messages.Parcel.TheVariants.{ToAcker};
 ghost use Rattle.worker_pool.specs.Ackers.{AckerDid, AckerSays, CountsUp, HandsVerdict};
 ghost use Rattle.worker_pool.specs.Ackers.{IsAcker, IsVerdict, ReceivesNotes};
 
 use crate::outbox::run_in;
 use crate::spares::Spares;
-use acker_core::{Acker, Verdict};
 use box_rows::{Mail, Posts, Row, send_at, take_at};
+use event_worlds::acker_core::{Acker, Verdict};
+use event_worlds::storm_values::Memory;
+use event_worlds::topology_plan::Plan;
+use event_worlds::tree_model::{AckMsg, Parcel, Parcels};
 use std::collections::VecDeque;
 use std::sync::Wait;
-use storm_values::Memory;
-use topology_plan::Plan;
-use tree_model::{AckMsg, Parcel, Parcels};
 
 /// An acker and its number, the messages that are left of the message that it took last, the
 /// verdict that it has still to hand over, and the number of the tick up to which its entries have

@@ -13,12 +13,12 @@ ghost use Rattle.worker_pool.specs.Desks.{IsDesk};
 use crate::acker::AckerDesk;
 use crate::desk::TaskDesk;
 use crate::spares::Spares;
-use bolt_ops::RowOp;
 use box_rows::{Posts, Row};
+use event_worlds::bolt_ops::RowOp;
+use event_worlds::storm_ids::Ids;
+use event_worlds::storm_values::Memory;
 use std::sync::Wait;
 use storm_gates::Gate;
-use storm_ids::Ids;
-use storm_values::Memory;
 
 // The task at a place has a step.
 fn step_at<'p, I: Ids, R: Wait, O: RowOp, G: Gate>(

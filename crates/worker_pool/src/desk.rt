@@ -3,23 +3,23 @@ ghost use Rattle.std.specs.List.{AllByRecursion};
 ghost use Rattle.box_rows.specs.Mails.{IsTrueParcel, last_box};
 ghost use Rattle.box_rows.specs.Rows.{ArePasses, numbers_at};
 ghost use Rattle.event_worlds.specs.Orderly.{IsForTask};
-ghost use Rattle.topology_plan.specs.Topology.{tasks_in_all};
-ghost use Rattle.tree_model.specs.declared.messages.Parcel.TheVariants.{ToTask};
+ghost use Rattle.event_worlds.specs.topology_plan.Topology.{tasks_in_all};
+ghost use Rattle.event_worlds.specs.tree_model.declared.messages.Parcel.TheVariants.{ToTask};
 ghost use Rattle.worker_pool.specs.Desks.{DeskDid, IsDesk, MovesMail, Receives};
 ghost use Rattle.worker_pool.specs.Desks.{RunsTuple, TaskSays};
 
 use crate::outbox::{Outbox, run_in};
 use crate::spares::Spares;
-use bolt_ops::RowOp;
-use bolt_task::BoltTask;
 use box_rows::{Mail, Posts, Row, take_at};
+use event_worlds::bolt_ops::RowOp;
+use event_worlds::bolt_task::BoltTask;
+use event_worlds::storm_ids::Ids;
+use event_worlds::storm_values::Memory;
+use event_worlds::topology_plan::Plan;
+use event_worlds::tree_model::{Parcel, Parcels, Tuple};
 use std::collections::VecDeque;
 use std::sync::Wait;
 use storm_gates::Gate;
-use storm_ids::Ids;
-use storm_values::Memory;
-use topology_plan::Plan;
-use tree_model::{Parcel, Parcels, Tuple};
 
 /// A task and its number, the tuples that are left of the message that it took last, and what it
 /// has still to hand over.

@@ -11,13 +11,13 @@ ghost use Rattle.box_rows.specs.declared.mail.Mail.TheVariants as mails;
 
 use crate::spares::Spares;
 use box_rows::{Mail, Posts, Row, send_at};
+use event_worlds::storm_values::Memory;
+use event_worlds::topology_plan::Plan;
+use event_worlds::tree_model::{Parcel, Parcels};
 use std::alloc::Global;
 use std::collections::VecDeque;
 use std::marker::Model;
 use std::sync::Wait;
-use storm_values::Memory;
-use topology_plan::Plan;
-use tree_model::{Parcel, Parcels};
 
 // How many parcels a run has at most.
 const MOST_IN_RUN: usize = 64;

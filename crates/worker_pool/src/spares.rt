@@ -1,9 +1,9 @@
 //! The memory of runs that were emptied, for those that begin.
 ghost use Rattle.std.specs.Prelude.{◌≡◌, []};
 
+use event_worlds::tree_model::Parcel;
 use std::alloc::Global;
 use std::mem;
-use tree_model::Parcel;
 
 // How many lists are kept at most.
 const MOST: usize = 64;

@@ -7,15 +7,15 @@ use crate::acker::AckerDesk;
 use crate::crew::{turn_of_ackers, turn_of_tasks};
 use crate::desk::TaskDesk;
 use crate::spares::Spares;
-use bolt_ops::RowOp;
 use box_rows::{Posts, Row};
+use event_worlds::bolt_ops::RowOp;
+use event_worlds::storm_ids::Ids;
+use event_worlds::storm_values::Memory;
 use pulse_board::{Board, BoardSeat};
 use std::sync::Wait;
 use std::thread::Threads;
 use std::{hint, thread};
 use storm_gates::Gate;
-use storm_ids::Ids;
-use storm_values::Memory;
 
 // How many turns a stretch has at most.
 const TURNS: u32 = 4096;

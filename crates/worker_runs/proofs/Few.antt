@@ -1,26 +1,26 @@
 -- Where nothing is lost there are no more rounds than are needed.
 use Rattle.std.proofs.Common.{◌≡◌, ◌<◌, ℕ, List, [], All, sym, ◌∙◌, true≢false, true, false, arith}
-use Rattle.bolt_ops.specs.RowOp.{Custom}
-use Rattle.box_rows.specs.declared.mail.Mail.{Mail}
-use Rattle.event_engine.specs.declared.engine.Engine.{Engine}
-use Rattle.event_engine.specs.Engines.{has_ended, shape}
-use Rattle.event_worlds.specs.Accounted.{IsInput, LedTo}
-use Rattle.event_worlds.specs.Rounds.{CanFinish, rounds_needed}
-use Rattle.event_worlds.specs.Worlds.{Known}
-use Rattle.schedule_core.proofs.Going.{led-alone}
-use Rattle.state_parts.specs.declared.answer.CommitOutcome.{CommitOutcome}
-use Rattle.state_parts.specs.declared.answer.CommitOutcome.TheVariants.{Done}
-use Rattle.storm_ids.specs.declared.ids.Ids.{Ghosts}
-use Rattle.task_queues.specs.declared.pass.Pass.{Pass}
-use Rattle.topology_plan.specs.Topology.{Topology}
-use Rattle.trident_batches.specs.Batches.{Cut}
-use Rattle.tuple_account.specs.Histories.{History}
+use Rattle.worker_rounds.specs.bolt_ops.RowOp.{Custom}
+use Rattle.worker_rounds.specs.box_rows.declared.mail.Mail.{Mail}
+use Rattle.worker_rounds.specs.event_engine.declared.engine.Engine.{Engine}
+use Rattle.worker_rounds.specs.event_engine.Engines.{has_ended, shape}
+use Rattle.worker_rounds.specs.event_worlds.Accounted.{IsInput, LedTo}
+use Rattle.worker_rounds.specs.event_worlds.Rounds.{CanFinish, rounds_needed}
+use Rattle.worker_rounds.specs.event_worlds.Worlds.{Known}
+use Rattle.worker_rounds.proofs.schedule_core.Going.{led-alone}
+use Rattle.worker_rounds.specs.state_parts.declared.answer.CommitOutcome.{CommitOutcome}
+use Rattle.worker_rounds.specs.state_parts.declared.answer.CommitOutcome.TheVariants.{Done}
+use Rattle.worker_rounds.specs.storm_ids.declared.ids.Ids.{Ghosts}
+use Rattle.worker_rounds.specs.task_queues.declared.pass.Pass.{Pass}
+use Rattle.worker_rounds.specs.topology_plan.Topology.{Topology}
+use Rattle.worker_rounds.specs.trident_batches.Batches.{Cut}
+use Rattle.worker_rounds.specs.tuple_account.Histories.{History}
 use Rattle.worker_runs.proofs.Rows.{none-held}
 use Rattle.worker_runs.specs.Going.{StoodAt}
-use Rattle.worker_stretches.specs.Standing.{GoesOn, Later, Stands, beside_it}
-use Rattle.worker_turns.specs.Carrying.{AreEmpty}
-use Rattle.world_progress.specs.Doing.{done}
-use Rattle.world_progress.specs.Lasting.{Lasting}
+use Rattle.worker_rounds.specs.worker_stretches.Standing.{GoesOn, Later, Stands, beside_it}
+use Rattle.worker_rounds.specs.worker_turns.Carrying.{AreEmpty}
+use Rattle.worker_rounds.specs.world_progress.Doing.{done}
+use Rattle.worker_rounds.specs.world_progress.Lasting.{Lasting}
 
 -- ---- a world beside empty boxes
 

@@ -12,8 +12,8 @@ use Rattle.box_rows.specs.Mails.{last_box}
 use Rattle.box_rows.specs.Rows.{ArePasses}
 use Rattle.box_rows.specs.Splitting.{joined_views}
 use Rattle.box_rows.proofs.AllRows.{one-fewer}
-use Rattle.counted_items.proofs.Each.{each-back, each-front}
-use Rattle.counted_items.proofs.Weighing.{weigh-append}
+use Rattle.event_worlds.proofs.counted_items.Each.{each-back, each-front}
+use Rattle.event_worlds.proofs.counted_items.Weighing.{weigh-append}
 use Rattle.pass_numbers.specs.Numbers.{Numbered}
 use Rattle.pass_numbers.proofs.Numbering.{any_order, one_numbered, one_whole}
 use Rattle.pulse_board.specs.Books.{numbers_in}
@@ -21,11 +21,11 @@ use Rattle.pulse_board.specs.declared.rule.Book.{Book}
 use Rattle.pulse_board.specs.declared.seat.Board.{Board}
 use Rattle.pulse_board.specs.declared.seat.BoardSeat.{BoardSeat}
 use Rattle.pulse_board.specs.Seats.{IsSeatOf, book_of}
-use Rattle.storm_ids.specs.declared.ids.Ids.{Ghosts}
+use Rattle.event_worlds.specs.storm_ids.declared.ids.Ids.{Ghosts}
 use Rattle.task_queues.specs.declared.pass.Mailbox.{Mailbox}
 use Rattle.task_queues.specs.declared.pass.Pass.{Pass}
 use Rattle.task_queues.specs.Passes.{view_of}
-use Rattle.topology_plan.specs.Topology.{Topology}
+use Rattle.event_worlds.specs.topology_plan.Topology.{Topology}
 use Rattle.worker_pool.specs.Ackers.{IsAcker}
 use Rattle.worker_pool.specs.declared.acker.AckerDesk.{AckerDesk}
 use Rattle.worker_pool.specs.declared.desk.TaskDesk.{TaskDesk}

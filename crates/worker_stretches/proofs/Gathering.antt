@@ -5,16 +5,16 @@ use Rattle.std.specs.List.Sorted.{IsPermutation}
 use Rattle.std.specs.declared.alloc.Global.{Global}
 use Rattle.std.proofs.lemmas.List.{length-map}
 use Rattle.std.proofs.lemmas.List.Sorted.{IsPermutation-map, IsPermutation-sym, IsPermutation-trans}
-use Rattle.bolt_ops.specs.RowOp.{Custom}
-use Rattle.counted_items.proofs.Sums.{same-IsPermutation}
-use Rattle.counted_items.proofs.Weighing.{weigh-ones}
+use Rattle.event_worlds.specs.bolt_ops.RowOp.{Custom}
+use Rattle.event_worlds.proofs.counted_items.Sums.{same-IsPermutation}
+use Rattle.event_worlds.proofs.counted_items.Weighing.{weigh-ones}
 use Rattle.event_engine.specs.declared.acker.AckerSeat.{AckerSeat}
 use Rattle.event_engine.specs.declared.task.TaskSeat.{TaskSeat}
 use Rattle.pulse_board.specs.declared.rule.Book.{Book}
-use Rattle.storm_ids.specs.declared.ids.Ids.{Ghosts}
-use Rattle.topology_plan.specs.Topology.{Topology, tasks_in_all}
-use Rattle.tuple_account.specs.Parts.{weigh_entries}
-use Rattle.tuple_account.proofs.Moving.{moves-alike}
+use Rattle.event_worlds.specs.storm_ids.declared.ids.Ids.{Ghosts}
+use Rattle.event_worlds.specs.topology_plan.Topology.{Topology, tasks_in_all}
+use Rattle.event_worlds.specs.tuple_account.Parts.{weigh_entries}
+use Rattle.event_worlds.proofs.tuple_account.Moving.{moves-alike}
 use Rattle.worker_pool.specs.Ackers.{HasYoung, IsAcker, acker_inbox, acker_station}
 use Rattle.worker_pool.specs.declared.acker.AckerDesk.{AckerDesk}
 use Rattle.worker_pool.specs.declared.desk.TaskDesk.{TaskDesk}

@@ -3,10 +3,10 @@ use Rattle.std.proofs.Common.{◌≡◌, ◌<◌, ◌≤◌, ◌≢◌, ◌==◌
 use borrow.Author.Tests.{ltb-false, ltb-true}
 use Rattle.std.specs.List.{AllByRecursion, range_with_len}
 use Rattle.std.specs.List.Sorted.{IsPermutation}
-use Rattle.counted_items.specs.Weights.{weigh}
-use Rattle.counted_items.proofs.Sums.{same-IsPermutation}
-use Rattle.counted_items.proofs.Weighing.{weigh-map}
-use Rattle.tuple_account.specs.Places.{before, spans}
+use Rattle.event_worlds.specs.counted_items.Weights.{weigh}
+use Rattle.event_worlds.proofs.counted_items.Sums.{same-IsPermutation}
+use Rattle.event_worlds.proofs.counted_items.Weighing.{weigh-map}
+use Rattle.event_worlds.specs.tuple_account.Places.{before, spans}
 
 -- ---- spans of one source
 

@@ -6,12 +6,12 @@ use Rattle.std.specs.List.{AllByRecursion, range_with_len}
 use Rattle.std.specs.List.Sorted.{IsNonDecreasingBy, IsPermutation}
 use Rattle.std.specs.declared.alloc.Global.{Global}
 use Rattle.std.proofs.lemmas.List.Sorted.{IsPermutation-append_left, IsPermutation-append_right, IsPermutation-append_comm, IsPermutation-refl, IsPermutation-trans}
-use Rattle.counted_items.specs.Weights.{Same, weigh}
+use Rattle.event_worlds.specs.counted_items.Weights.{Same, weigh}
 use Rattle.std.proofs.Math.Nat.{mod-add-mod, mod-eq_of_lt}
 use Rattle.std.proofs.lemmas.List.{length-map, length-set}
-use Rattle.counted_items.proofs.Each.{each-weaker}
-use Rattle.counted_items.proofs.Sums.{same-IsPermutation}
-use Rattle.counted_items.proofs.Weighing.{weigh-map}
+use Rattle.event_worlds.proofs.counted_items.Each.{each-weaker}
+use Rattle.event_worlds.proofs.counted_items.Sums.{same-IsPermutation}
+use Rattle.event_worlds.proofs.counted_items.Weighing.{weigh-map}
 use Rattle.worker_stretches.specs.Hands.{AreInTurn, GivesAt, IsInTurn, items_in}
 
 module _ {X : Type 0} where

@@ -2,31 +2,31 @@
 use Rattle.std.proofs.Common.{◌≡◌, ◌<◌, ◌≤◌, ◌^◌, ℕ, zero, suc, ◌+◌, ◌-◌, Bool, true, false, List, [], ◌∷◌, length, map, get_or, refl, sym, ap, subst, ◌∙◌, arith}
 use Rattle.std.specs.Prelude.{min}
 use Rattle.std.specs.List.{AllByRecursion}
-use Rattle.bolt_ops.specs.RowOp.{Custom}
+use Rattle.event_worlds.specs.bolt_ops.RowOp.{Custom}
 use Rattle.box_rows.specs.declared.mail.Mail.{Mail}
 use Rattle.box_rows.specs.Rows.{taken_in}
-use Rattle.counted_items.specs.Weights.{weigh}
-use Rattle.counted_items.proofs.Each.{each-map, each-weaker}
-use Rattle.counted_items.proofs.Weighing.{weigh-map, weigh-ones}
+use Rattle.event_worlds.specs.counted_items.Weights.{weigh}
+use Rattle.event_worlds.proofs.counted_items.Each.{each-map, each-weaker}
+use Rattle.event_worlds.proofs.counted_items.Weighing.{weigh-map, weigh-ones}
 use Rattle.event_engine.specs.declared.acker.AckerSeat.{AckerSeat}
 use Rattle.event_engine.specs.declared.task.TaskSeat.{TaskSeat}
 use Rattle.event_engine.specs.Seats.{acker_side, task_side}
 use Rattle.event_worlds.specs.Worlds.{AckerSide, TaskSide, World, no_acker}
 use Rattle.pulse_board.specs.Books.{Tells}
 use Rattle.pulse_board.specs.declared.rule.Book.{Book}
-use Rattle.rotating_ledger.specs.Held.{Held}
-use Rattle.storm_ids.specs.declared.ids.Ids.{Ghosts}
+use Rattle.event_worlds.specs.rotating_ledger.Held.{Held}
+use Rattle.event_worlds.specs.storm_ids.declared.ids.Ids.{Ghosts}
 use Rattle.task_queues.specs.declared.pass.Pass.{Pass}
-use Rattle.topology_plan.specs.Topology.{Topology}
-use Rattle.topology_plan.specs.Valid.{IsValid}
-use Rattle.tree_model.specs.declared.messages.AckMsg.{AckMsg}
-use Rattle.tree_model.specs.declared.messages.Parcel.TheVariants.{ToAcker}
-use Rattle.tree_model.specs.Lists.{root_of}
-use Rattle.tuple_account.specs.Histories.{History, Packet, Receipt, acker_of, joined, of_parcel, taken}
-use Rattle.tuple_account.specs.Moves.{Reached, Station}
-use Rattle.tuple_account.specs.Sound.{IsRouted}
-use Rattle.tuple_account.proofs.Moving.{taken-joined}
-use Rattle.tuple_account.proofs.Routing as routing
+use Rattle.event_worlds.specs.topology_plan.Topology.{Topology}
+use Rattle.event_worlds.specs.topology_plan.Valid.{IsValid}
+use Rattle.event_worlds.specs.tree_model.declared.messages.AckMsg.{AckMsg}
+use Rattle.event_worlds.specs.tree_model.declared.messages.Parcel.TheVariants.{ToAcker}
+use Rattle.event_worlds.specs.tree_model.Lists.{root_of}
+use Rattle.event_worlds.specs.tuple_account.Histories.{History, Packet, Receipt, acker_of, joined, of_parcel, taken}
+use Rattle.event_worlds.specs.tuple_account.Moves.{Reached, Station}
+use Rattle.event_worlds.specs.tuple_account.Sound.{IsRouted}
+use Rattle.event_worlds.proofs.tuple_account.Moving.{taken-joined}
+use Rattle.event_worlds.proofs.tuple_account.Routing as routing
 use Rattle.worker_pool.specs.Ackers.{AreRouted, HasYoung, acker_inbox, weigh_messages}
 use Rattle.worker_pool.specs.declared.acker.AckerDesk.{AckerDesk}
 use Rattle.worker_pool.specs.declared.desk.TaskDesk.{TaskDesk}

@@ -3,12 +3,12 @@ use Rattle.std.proofs.Common.{◌≡◌, ◌≤◌, ℕ, nat_lt, Bool, true, fal
 use borrow.Author.Tests.{ltb-false}
 use Rattle.std.specs.Prelude.{if◌then◌else◌}
 use Rattle.std.specs.List.{AllByRecursion}
-use Rattle.counted_items.proofs.Each.{each-weaker}
+use Rattle.event_worlds.proofs.counted_items.Each.{each-weaker}
 use Rattle.pulse_board.specs.Books.{both_of, looked, marked, saw}
 use Rattle.pulse_board.specs.declared.rule.Book.{Book}
 use Rattle.pulse_board.specs.declared.seat.BoardSeat.{BoardSeat}
 use Rattle.pulse_board.specs.Seats.{book_of}
-use Rattle.storm_ids.specs.declared.ids.Ids.{Ghosts}
+use Rattle.event_worlds.specs.storm_ids.declared.ids.Ids.{Ghosts}
 use Rattle.worker_pool.specs.Crews.{AreNotPast}
 use Rattle.worker_pool.specs.declared.acker.AckerDesk.{AckerDesk}
 use Rattle.worker_pool.specs.declared.worker.Worker.{Worker}

@@ -6,17 +6,17 @@ use Rattle.std.specs.List.{AllByRecursion, range_with_len}
 use Rattle.std.specs.List.Sorted.{IsPermutation}
 use Rattle.std.proofs.lemmas.List.{length-map}
 use Rattle.std.proofs.lemmas.List.Sorted.{IsPermutation-map, IsPermutation-sym}
-use Rattle.acker_core.specs.Entries.{AreSilent}
-use Rattle.bolt_ops.specs.RowOp.{Custom}
-use Rattle.bolt_task.specs.declared.task.BoltTask.{BoltTask}
-use Rattle.bolt_task.specs.Executing.{collector_in}
+use Rattle.event_worlds.specs.acker_core.Entries.{AreSilent}
+use Rattle.event_worlds.specs.bolt_ops.RowOp.{Custom}
+use Rattle.event_worlds.specs.bolt_task.declared.task.BoltTask.{BoltTask}
+use Rattle.event_worlds.specs.bolt_task.Executing.{collector_in}
 use Rattle.box_rows.specs.declared.mail.Mail.{Mail}
 use Rattle.box_rows.specs.FitRows.{held_in}
 use Rattle.box_rows.specs.Rows.{taken_in}
-use Rattle.commit_order.specs.declared.coordinator.Coordinator.{Coordinator}
-use Rattle.commit_order.specs.Orders.{collector_of, cut_of, desk_of, plan_of}
-use Rattle.counted_items.specs.Weights.{weigh}
-use Rattle.counted_items.proofs.Each.{each-both, each-map, each-to_map, each-weaker}
+use Rattle.event_worlds.specs.commit_order.declared.coordinator.Coordinator.{Coordinator}
+use Rattle.event_worlds.specs.commit_order.Orders.{collector_of, cut_of, desk_of, plan_of}
+use Rattle.event_worlds.specs.counted_items.Weights.{weigh}
+use Rattle.event_worlds.proofs.counted_items.Each.{each-both, each-map, each-to_map, each-weaker}
 use Rattle.event_engine.specs.declared.acker.AckerSeat.{AckerSeat}
 use Rattle.event_engine.specs.declared.engine.Engine.{Engine}
 use Rattle.event_engine.specs.declared.task.TaskSeat.{TaskSeat}
@@ -27,25 +27,25 @@ use Rattle.event_worlds.specs.Accounted.{LedAt, station_of, weigh_ackers, weigh_
 use Rattle.event_worlds.specs.Beside.{LedBeside, waits}
 use Rattle.event_worlds.specs.Orderly.{AreTasksOrderly, IsOrderly}
 use Rattle.event_worlds.specs.Worlds.{AckerSide, Known, TaskSide, World, ended, is_over, no_acker, no_task, task_at}
-use Rattle.output_collector.specs.Collectors.{given_by, ids_in}
-use Rattle.output_collector.specs.Draws.{Draws}
-use Rattle.output_collector.proofs.Sending.{Draws-none}
+use Rattle.event_worlds.specs.output_collector.Collectors.{given_by, ids_in}
+use Rattle.event_worlds.specs.output_collector.Draws.{Draws}
+use Rattle.event_worlds.proofs.output_collector.Sending.{Draws-none}
 use Rattle.pulse_board.specs.Books.{Tells}
 use Rattle.pulse_board.specs.declared.rule.Book.{Book}
-use Rattle.storm_ids.specs.declared.ids.Ids.{Ghosts}
+use Rattle.event_worlds.specs.storm_ids.declared.ids.Ids.{Ghosts}
 use Rattle.stretch_worlds.specs.Stretching.{IsFit, IsInside, LeavesDesk}
 use Rattle.task_queues.specs.declared.pass.Pass.{Pass}
-use Rattle.topology_plan.specs.Topology.{Topology, tasks_in_all}
-use Rattle.topology_plan.specs.Valid.{IsValid}
-use Rattle.storm_values.specs.declared.value.Root.{Root}
-use Rattle.tree_model.specs.declared.messages.AckMsg.{AckMsg}
-use Rattle.tree_model.specs.declared.messages.Parcel.{Parcel}
-use Rattle.trident_batches.specs.Batches.{Cut}
-use Rattle.tuple_account.specs.Histories.{History, Packet, drawn_in, joined}
-use Rattle.tuple_account.specs.Moves.{HasDrawn, Moves, Station, beside}
-use Rattle.tuple_account.specs.Parts.{weigh_entries}
-use Rattle.tuple_account.specs.Places.{before}
-use Rattle.tuple_account.proofs.Moving.{taken-joined}
+use Rattle.event_worlds.specs.topology_plan.Topology.{Topology, tasks_in_all}
+use Rattle.event_worlds.specs.topology_plan.Valid.{IsValid}
+use Rattle.event_worlds.specs.storm_values.declared.value.Root.{Root}
+use Rattle.event_worlds.specs.tree_model.declared.messages.AckMsg.{AckMsg}
+use Rattle.event_worlds.specs.tree_model.declared.messages.Parcel.{Parcel}
+use Rattle.event_worlds.specs.trident_batches.Batches.{Cut}
+use Rattle.event_worlds.specs.tuple_account.Histories.{History, Packet, drawn_in, joined}
+use Rattle.event_worlds.specs.tuple_account.Moves.{HasDrawn, Moves, Station, beside}
+use Rattle.event_worlds.specs.tuple_account.Parts.{weigh_entries}
+use Rattle.event_worlds.specs.tuple_account.Places.{before}
+use Rattle.event_worlds.proofs.tuple_account.Moving.{taken-joined}
 use Rattle.worker_pool.specs.Ackers.{CountsFew, acker_station, weigh_messages, weigh_verdict}
 use Rattle.worker_pool.specs.declared.acker.AckerDesk.{AckerDesk}
 use Rattle.worker_pool.specs.declared.desk.TaskDesk.{TaskDesk}

@@ -1,10 +1,10 @@
 -- Seats of ackers that become desks, and desks that become seats.
 use Rattle.std.proofs.Common.{◌≡◌, ◌<◌, ℕ, ◌+◌, List, [], ◌∷◌, ◌++◌, length, map, sym, ap, subst, ◌∙◌, arith}
 use Rattle.std.specs.List.{AllByRecursion, range_with_len}
-use Rattle.acker_core.specs.declared.acker.Acker.{Acker}
+use Rattle.event_worlds.specs.acker_core.declared.acker.Acker.{Acker}
 use Rattle.event_engine.specs.declared.acker.AckerSeat.{AckerSeat}
 use Rattle.event_engine.specs.Seats.{HasBuckets}
-use Rattle.topology_plan.specs.Topology.{Topology}
+use Rattle.event_worlds.specs.topology_plan.Topology.{Topology}
 use Rattle.worker_pool.specs.declared.acker.AckerDesk.{AckerDesk}
 use Rattle.worker_pool.specs.Ackers.{IsAcker}
 use Rattle.worker_stretches.specs.Places.{IsAckerAt, IsSilent, ZipFrom, office_number}

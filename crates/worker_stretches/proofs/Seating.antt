@@ -2,21 +2,21 @@
 use Rattle.std.proofs.Common.{◌≡◌, ◌<◌, ℕ, suc, ◌+◌, List, [], ◌∷◌, ◌++◌, length, map, sym, refl, ap, subst, ◌∙◌, arith}
 use Rattle.std.specs.List.{AllByRecursion, flat_map, range_with_len}
 use Rattle.std.proofs.lemmas.List.{map-append}
-use Rattle.bolt_task.specs.declared.task.BoltTask.{BoltTask}
-use Rattle.bolt_task.specs.Executing.{collector_in, component_at, number_of, topology_at}
+use Rattle.event_worlds.specs.bolt_task.declared.task.BoltTask.{BoltTask}
+use Rattle.event_worlds.specs.bolt_task.Executing.{collector_in, component_at, number_of, topology_at}
 use Rattle.box_rows.specs.Mails.{IsRunFor, IsTrueParcel}
-use Rattle.counted_items.proofs.Each.{each-flat_map, each-weaker}
-use Rattle.counted_items.proofs.Weighing.{weigh-flat_map}
-use Rattle.commit_order.specs.Orders.{stand_of}
+use Rattle.event_worlds.proofs.counted_items.Each.{each-flat_map, each-weaker}
+use Rattle.event_worlds.proofs.counted_items.Weighing.{weigh-flat_map}
+use Rattle.event_worlds.specs.commit_order.Orders.{stand_of}
 use Rattle.event_engine.specs.declared.task.TaskSeat.{TaskSeat}
 use Rattle.event_engine.specs.Seats.{AreSeats, IsSeatOf, task_side}
 use Rattle.event_worlds.specs.Orderly.{AreTasksOrderly, FitsParcel, IsForTask, IsStandOf, IsTaskOrderly}
 use Rattle.event_worlds.specs.Worlds.{TaskSide}
-use Rattle.storm_ids.specs.declared.ids.Ids.{Ghosts}
-use Rattle.topology_plan.specs.declared.parts.Origin.TheVariants as origin
-use Rattle.topology_plan.specs.Topology.{Topology, component_of, tasks_in_all}
-use Rattle.tree_model.specs.declared.messages.Parcel.{Parcel}
-use Rattle.tuple_account.specs.Histories.{Packet, of_parcel, weigh_parcels}
+use Rattle.event_worlds.specs.storm_ids.declared.ids.Ids.{Ghosts}
+use Rattle.event_worlds.specs.topology_plan.declared.parts.Origin.TheVariants as origin
+use Rattle.event_worlds.specs.topology_plan.Topology.{Topology, component_of, tasks_in_all}
+use Rattle.event_worlds.specs.tree_model.declared.messages.Parcel.{Parcel}
+use Rattle.event_worlds.specs.tuple_account.Histories.{Packet, of_parcel, weigh_parcels}
 use Rattle.worker_pool.specs.declared.desk.TaskDesk.{TaskDesk}
 use Rattle.worker_pool.specs.declared.outbox.Run.{Run}
 use Rattle.worker_pool.specs.Desks.{IsDesk, weigh_inbox}

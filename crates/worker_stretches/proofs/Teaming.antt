@@ -5,22 +5,22 @@ use Rattle.std.specs.List.{AllByRecursion, AllZip, range_with_len}
 use Rattle.std.specs.List.Sorted.{IsPermutation}
 use Rattle.std.proofs.lemmas.List.{map-append}
 use Rattle.std.proofs.lemmas.List.Sorted.{IsPermutation-append, IsPermutation-refl}
-use Rattle.bolt_ops.specs.RowOp.{Custom}
+use Rattle.event_worlds.specs.bolt_ops.RowOp.{Custom}
 use Rattle.box_rows.specs.declared.mail.Mail.{Mail}
 use Rattle.box_rows.specs.Rows.{sent_in, taken_in}
-use Rattle.counted_items.specs.Weights.{weigh}
-use Rattle.counted_items.proofs.Each.{each-append, each-back, each-front}
-use Rattle.counted_items.proofs.Weighing.{weigh-append}
+use Rattle.event_worlds.specs.counted_items.Weights.{weigh}
+use Rattle.event_worlds.proofs.counted_items.Each.{each-append, each-back, each-front}
+use Rattle.event_worlds.proofs.counted_items.Weighing.{weigh-append}
 use Rattle.pulse_board.specs.declared.rule.Book.{Book}
-use Rattle.storm_ids.specs.declared.ids.Ids.{Ghosts}
+use Rattle.event_worlds.specs.storm_ids.declared.ids.Ids.{Ghosts}
 use Rattle.task_queues.specs.declared.pass.Pass.{Pass}
-use Rattle.topology_plan.specs.Topology.{Topology}
-use Rattle.tree_model.specs.Lists.{root_of}
-use Rattle.tuple_account.specs.Histories.{Packet, Receipt, acker_of, joined, nothing}
-use Rattle.tuple_account.specs.Moves.{IsAlike, beside}
-use Rattle.tuple_account.specs.Parts.{weigh_entries}
-use Rattle.tuple_account.specs.Places.{spans}
-use Rattle.tuple_account.proofs.Moving.{drawn-both, moves-alike, moves-beside, taken-joined, well-nothing}
+use Rattle.event_worlds.specs.topology_plan.Topology.{Topology}
+use Rattle.event_worlds.specs.tree_model.Lists.{root_of}
+use Rattle.event_worlds.specs.tuple_account.Histories.{Packet, Receipt, acker_of, joined, nothing}
+use Rattle.event_worlds.specs.tuple_account.Moves.{IsAlike, beside}
+use Rattle.event_worlds.specs.tuple_account.Parts.{weigh_entries}
+use Rattle.event_worlds.specs.tuple_account.Places.{spans}
+use Rattle.event_worlds.proofs.tuple_account.Moving.{drawn-both, moves-alike, moves-beside, taken-joined, well-nothing}
 use Rattle.worker_pool.specs.Ackers.{Ages, CountsFew, HasYoung, acker_inbox, acker_station}
 use Rattle.worker_pool.specs.Crews.{AreGiven, AreNext, CrewDid, Gave, spans_from, sum_from}
 use Rattle.worker_pool.specs.declared.acker.AckerDesk.{AckerDesk}

@@ -5,17 +5,17 @@ use Rattle.std.specs.List.Sorted.{IsPermutation}
 use Rattle.std.specs.declared.alloc.Global.{Global}
 use Rattle.std.proofs.lemmas.List.{length-map}
 use Rattle.std.proofs.lemmas.List.Sorted.{All-permutation, IsPermutation-sym, IsPermutation-trans}
-use Rattle.bolt_ops.specs.RowOp.{Custom}
+use Rattle.event_worlds.specs.bolt_ops.RowOp.{Custom}
 use Rattle.box_rows.specs.AllRows.{AreAll, HasComeBack, HasJoined, HasSplit, Row, numbers_by, sent_by, taken_by}
 use Rattle.box_rows.specs.declared.mail.Mail.{Mail}
 use Rattle.box_rows.specs.FitRows.{AreWhole, IsFitRow}
 use Rattle.box_rows.specs.Rows.{ArePasses, IsSameRow, sent_in, taken_in}
 use Rattle.box_rows.proofs.Fitting.{covers}
 use Rattle.box_rows.proofs.Wholes.{still-all, whole-first, whole-fit, whole-last}
-use Rattle.counted_items.specs.Weights.{weigh}
-use Rattle.counted_items.proofs.Sums.{same-IsPermutation}
-use Rattle.counted_items.proofs.Weighing.{weigh-map}
-use Rattle.counted_items.proofs.Each.{each-append}
+use Rattle.event_worlds.specs.counted_items.Weights.{weigh}
+use Rattle.event_worlds.proofs.counted_items.Sums.{same-IsPermutation}
+use Rattle.event_worlds.proofs.counted_items.Weighing.{weigh-map}
+use Rattle.event_worlds.proofs.counted_items.Each.{each-append}
 use Rattle.pass_numbers.specs.declared.Number.{Number}
 use Rattle.pass_numbers.specs.Numbers.{over}
 use Rattle.pass_numbers.proofs.Numbering.{numbered_as}
@@ -24,12 +24,12 @@ use Rattle.pulse_board.specs.declared.rule.Book.{Book}
 use Rattle.pulse_board.specs.declared.seat.Board.{Board}
 use Rattle.pulse_board.specs.declared.seat.BoardSeat.{BoardSeat}
 use Rattle.pulse_board.specs.Seats.{book_of}
-use Rattle.storm_ids.specs.declared.ids.Ids.{Ghosts}
+use Rattle.event_worlds.specs.storm_ids.declared.ids.Ids.{Ghosts}
 use Rattle.task_queues.specs.declared.pass.Mailbox.{Mailbox}
 use Rattle.task_queues.specs.declared.pass.Pass.{Pass}
-use Rattle.topology_plan.specs.Topology.{Topology}
-use Rattle.tuple_account.specs.Parts.{weigh_entries}
-use Rattle.tuple_account.proofs.Moving.{moves-alike}
+use Rattle.event_worlds.specs.topology_plan.Topology.{Topology}
+use Rattle.event_worlds.specs.tuple_account.Parts.{weigh_entries}
+use Rattle.event_worlds.proofs.tuple_account.Moving.{moves-alike}
 use Rattle.worker_pool.specs.Ackers.{CountsFew, HasYoung, IsAcker, acker_inbox, acker_station}
 use Rattle.worker_pool.specs.declared.acker.AckerDesk.{AckerDesk}
 use Rattle.worker_pool.specs.declared.desk.TaskDesk.{TaskDesk}

@@ -11,9 +11,9 @@ use Rattle.pulse_board.specs.declared.rule.Book.{Book}
 use Rattle.pulse_board.specs.declared.seat.Board.{Board}
 use Rattle.pulse_board.specs.declared.seat.BoardSeat.{BoardSeat}
 use Rattle.pulse_board.specs.Seats.{IsSeatOf, book_of}
-use Rattle.storm_ids.specs.declared.ids.Ids.{Ghosts}
+use Rattle.event_worlds.specs.storm_ids.declared.ids.Ids.{Ghosts}
 use Rattle.task_queues.specs.declared.pass.Mailbox.{Mailbox}
-use Rattle.topology_plan.specs.Topology.{Topology}
+use Rattle.event_worlds.specs.topology_plan.Topology.{Topology}
 use Rattle.worker_pool.specs.Ackers.{IsAcker}
 use Rattle.worker_pool.specs.declared.acker.AckerDesk.{AckerDesk}
 use Rattle.worker_pool.specs.declared.desk.TaskDesk.{TaskDesk}

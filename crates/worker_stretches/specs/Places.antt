@@ -1,6 +1,6 @@
 -- Seats of an engine and the desks of workers that they become. This project's own.
 use Rattle.std.specs.Prelude.{◌≡◌, ℕ, suc, ◌+◌, List, [], ◌∷◌, length, map, Vec}
-use Rattle.acker_core.specs.Entries.{AreSilent}
+use Rattle.event_worlds.specs.acker_core.Entries.{AreSilent}
 use Rattle.std.specs.List.{AllByRecursion, range_with_len}
 use Rattle.std.specs.List.Sorted.{IsPermutation}
 use Rattle.std.specs.declared.alloc.Global.{Global}
@@ -8,9 +8,9 @@ use Rattle.event_engine.specs.declared.acker.AckerSeat.{AckerSeat}
 use Rattle.event_engine.specs.declared.task.TaskSeat.{TaskSeat}
 use Rattle.event_engine.specs.Seats.{AreSeats, HasBuckets, task_side}
 use Rattle.event_worlds.specs.Orderly.{AreTasksOrderly}
-use Rattle.storm_ids.specs.declared.ids.Ids.{Ghosts}
-use Rattle.topology_plan.specs.Topology.{Topology, tasks_in_all}
-use Rattle.tuple_account.specs.Histories.{Packet, weigh_parcels}
+use Rattle.event_worlds.specs.storm_ids.declared.ids.Ids.{Ghosts}
+use Rattle.event_worlds.specs.topology_plan.Topology.{Topology, tasks_in_all}
+use Rattle.event_worlds.specs.tuple_account.Histories.{Packet, weigh_parcels}
 use Rattle.worker_pool.specs.declared.acker.AckerDesk.{AckerDesk}
 use Rattle.worker_pool.specs.declared.desk.TaskDesk.{TaskDesk}
 use Rattle.worker_pool.specs.Desks.{desk_station, weigh_inbox}

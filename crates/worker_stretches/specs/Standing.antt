@@ -2,29 +2,29 @@
 -- boxes, and that nothing was lost. This project's own.
 use Rattle.std.specs.Prelude.{◌≡◌, ◌≤◌, ◌<◌, ◌^◌, ℕ, ◌+◌, ◌-◌, min, true, List, [], ◌∷◌, ◌++◌, All, length, Some, None, slice_get}
 use Rattle.std.specs.List.{AllByRecursion}
-use Rattle.attempt_fates.specs.declared.fates.Attempt.{Attempt}
-use Rattle.bolt_ops.specs.RowOp.{Custom, IsCustom}
+use Rattle.event_worlds.specs.attempt_fates.declared.fates.Attempt.{Attempt}
+use Rattle.event_worlds.specs.bolt_ops.RowOp.{Custom, IsCustom}
 use Rattle.box_account.specs.Hearing.{HeardBeforeFailing}
 use Rattle.box_account.specs.Inboxes.{GoesThrough}
 use Rattle.box_rows.specs.declared.mail.Mail.{Mail}
 use Rattle.box_rows.specs.FitRows.{held_in}
-use Rattle.commit_turns.specs.Outcomes.{IsOutcome}
+use Rattle.event_worlds.specs.commit_turns.Outcomes.{IsOutcome}
 use Rattle.event_engine.specs.declared.engine.Engine.{Engine}
 use Rattle.event_engine.specs.Engines.{Gives, HasOutcomes, has_ended, shape, sources}
 use Rattle.event_worlds.specs.Accounted.{IsInput}
 use Rattle.event_worlds.specs.Beside.{LedBeside}
 use Rattle.event_worlds.specs.Rounds.{CanFinish}
 use Rattle.event_worlds.specs.Worlds.{Known, World}
-use Rattle.output_collector.specs.Draws.{Draws}
+use Rattle.event_worlds.specs.output_collector.Draws.{Draws}
 use Rattle.pulse_board.specs.declared.rule.Book.{Book}
-use Rattle.state_parts.specs.declared.answer.CommitOutcome.{CommitOutcome}
-use Rattle.state_parts.specs.declared.answer.CommitOutcome.TheVariants.{Done}
-use Rattle.storm_ids.specs.declared.ids.Ids.{Ghosts}
+use Rattle.event_worlds.specs.state_parts.declared.answer.CommitOutcome.{CommitOutcome}
+use Rattle.event_worlds.specs.state_parts.declared.answer.CommitOutcome.TheVariants.{Done}
+use Rattle.event_worlds.specs.storm_ids.declared.ids.Ids.{Ghosts}
 use Rattle.task_queues.specs.declared.pass.Pass.{Pass}
-use Rattle.topology_plan.specs.Topology.{Topology}
-use Rattle.tree_model.specs.declared.messages.Parcel.{Parcel}
-use Rattle.trident_batches.specs.Batches.{Cut}
-use Rattle.tuple_account.specs.Histories.{History, weigh_parcels}
+use Rattle.event_worlds.specs.topology_plan.Topology.{Topology}
+use Rattle.event_worlds.specs.tree_model.declared.messages.Parcel.{Parcel}
+use Rattle.event_worlds.specs.trident_batches.Batches.{Cut}
+use Rattle.event_worlds.specs.tuple_account.Histories.{History, weigh_parcels}
 use Rattle.world_progress.specs.Doing.{done}
 use Rattle.world_progress.specs.Lasting.{AreSeats, IsFine}
 use Rattle.worker_stretches.specs.Teams.{Waiting}

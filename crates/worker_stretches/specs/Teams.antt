@@ -2,18 +2,18 @@
 use Rattle.std.specs.Prelude.{◌≡◌, ◌≤◌, ℕ, ◌+◌, false, List, length, map}
 use Rattle.std.specs.List.{AllByRecursion, range_with_len}
 use Rattle.std.specs.List.Sorted.{IsPermutation}
-use Rattle.bolt_ops.specs.RowOp.{Custom}
+use Rattle.event_worlds.specs.bolt_ops.RowOp.{Custom}
 use Rattle.box_rows.specs.declared.mail.Mail.{Mail}
 use Rattle.box_rows.specs.FitRows.{held_in}
 use Rattle.box_rows.specs.Rows.{sent_in, taken_in}
-use Rattle.counted_items.specs.Weights.{weigh}
+use Rattle.event_worlds.specs.counted_items.Weights.{weigh}
 use Rattle.pulse_board.specs.declared.rule.Book.{Book}
-use Rattle.storm_ids.specs.declared.ids.Ids.{Ghosts}
+use Rattle.event_worlds.specs.storm_ids.declared.ids.Ids.{Ghosts}
 use Rattle.task_queues.specs.declared.pass.Pass.{Pass}
-use Rattle.topology_plan.specs.Topology.{Topology}
-use Rattle.tuple_account.specs.Histories.{History, Packet, taken}
-use Rattle.tuple_account.specs.Moves.{HasDrawn, Moves, Station}
-use Rattle.tuple_account.specs.Places.{spans}
+use Rattle.event_worlds.specs.topology_plan.Topology.{Topology}
+use Rattle.event_worlds.specs.tuple_account.Histories.{History, Packet, taken}
+use Rattle.event_worlds.specs.tuple_account.Moves.{HasDrawn, Moves, Station}
+use Rattle.event_worlds.specs.tuple_account.Places.{spans}
 use Rattle.worker_pool.specs.Ackers.{Ages}
 use Rattle.worker_pool.specs.Crews.{AllLast, Gave, ackers_station, crew_left}
 use Rattle.worker_pool.specs.declared.acker.AckerDesk.{AckerDesk}

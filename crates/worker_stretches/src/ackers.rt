@@ -7,10 +7,10 @@ ghost use Rattle.worker_stretches.specs.Places.{IsAckerAt, IsSilent, ZipFrom, of
 
 use crate::hands::Numbered;
 use event_engine::AckerSeat;
+use event_worlds::storm_values::Memory;
+use event_worlds::topology_plan::Plan;
 use std::alloc::Global;
 use std::collections::VecDeque;
-use storm_values::Memory;
-use topology_plan::Plan;
 use worker_pool::AckerDesk;
 
 impl Numbered for AckerDesk {

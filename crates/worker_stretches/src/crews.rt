@@ -16,16 +16,16 @@ ghost use Rattle.worker_stretches.specs.Parts.{DrewNone, HasEnough, KnowsOf};
 ghost use Rattle.worker_stretches.specs.Parts.{ackers_in, desks_in, row_in};
 ghost use Rattle.worker_stretches.specs.Teams.{TakesMore, TeamDid, books_of, boxes_of};
 
-use bolt_ops::RowOp;
 use box_rows::{Posts, Row, join_row, look_row, split_rows};
+use event_worlds::bolt_ops::RowOp;
+use event_worlds::storm_ids::Ids;
+use event_worlds::storm_values::Memory;
 use pulse_board::{Board, BoardSeat};
 use std::alloc::{AllocError, Global};
 use std::collections::VecDeque;
 use std::sync::Wait;
 use std::thread::Threads;
 use storm_gates::Gate;
-use storm_ids::Ids;
-use storm_values::Memory;
 use worker_pool::{AckerDesk, Spares, TaskDesk, Worker, stretch_all};
 
 // A worker for each row, with a hand of desks and one of ackers, and a seat of its own.

@@ -3,18 +3,18 @@ ghost use Rattle.std.specs.Prelude.{◌≡◌, ◌<◌, length, map, IfOk};
 ghost use Rattle.std.specs.List.{AllByRecursion, range_with_len};
 ghost use Rattle.event_engine.specs.Seats.{AreSeats, IsSeatOf, task_side};
 ghost use Rattle.event_worlds.specs.Orderly.{AreTasksOrderly, IsTaskOrderly};
-ghost use Rattle.topology_plan.specs.Topology.{tasks_in_all};
+ghost use Rattle.event_worlds.specs.topology_plan.Topology.{tasks_in_all};
 ghost use Rattle.worker_pool.specs.Desks.{IsDesk};
 ghost use Rattle.worker_stretches.specs.Places.{IsTaskAt, ZipFrom, desk_number};
 
 use crate::hands::Numbered;
 use event_engine::TaskSeat;
+use event_worlds::storm_ids::Ids;
+use event_worlds::storm_values::Memory;
+use event_worlds::topology_plan::Plan;
+use event_worlds::tree_model::Parcels;
 use std::alloc::Global;
 use std::collections::VecDeque;
-use storm_ids::Ids;
-use storm_values::Memory;
-use topology_plan::Plan;
-use tree_model::Parcels;
 use worker_pool::{Outbox, Spares, TaskDesk};
 
 impl<'p, I: Ids> Numbered for TaskDesk<'p, I> {

@@ -4,9 +4,9 @@ ghost use Rattle.std.specs.List.{range_with_len};
 ghost use Rattle.std.specs.List.Sorted.{IsPermutation};
 ghost use Rattle.worker_stretches.specs.Hands.{AreInTurn, GivesAt, items_in};
 
+use event_worlds::storm_values::Memory;
 use std::alloc::Global;
 use std::collections::VecDeque;
-use storm_values::Memory;
 
 /// An item with a number.
 pub(crate) trait Numbered {

@@ -1,12 +1,12 @@
 -- Parcels that are handed over as runs, in their order.
 use Rattle.std.proofs.Common.{◌≡◌, ◌<◌, ℕ, ◌+◌, List, [], ◌∷◌, ◌++◌, length, append_assoc, sym, ap, subst, ◌∙◌}
 use Rattle.std.specs.List.{AllByRecursion}
-use Rattle.box_rows.specs.declared.mail.Mail.TheVariants as mail
-use Rattle.box_rows.specs.Mails.{IsRunFor, box_of, most_in_run}
-use Rattle.event_worlds.specs.Orderly.{FitsParcel}
-use Rattle.topology_plan.specs.Topology.{Topology}
-use Rattle.tree_model.specs.declared.messages.Parcel.{Parcel}
-use Rattle.worker_pool.proofs.Outboxing.{run_more, run_new}
+use Rattle.worker_stretches.specs.box_rows.declared.mail.Mail.TheVariants as mail
+use Rattle.worker_stretches.specs.box_rows.Mails.{IsRunFor, box_of, most_in_run}
+use Rattle.worker_stretches.specs.event_worlds.Orderly.{FitsParcel}
+use Rattle.worker_stretches.specs.topology_plan.Topology.{Topology}
+use Rattle.worker_stretches.specs.tree_model.declared.messages.Parcel.{Parcel}
+use Rattle.worker_stretches.proofs.worker_pool.Outboxing.{run_more, run_new}
 
 -- a run for a box was taken from the front, and the rest is left
 pub record RunsOn (t : Topology) (at : ℕ) (all run left : List Parcel) : Type 0 where

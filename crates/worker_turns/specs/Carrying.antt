@@ -1,29 +1,29 @@
 -- Packets that are carried to where they go, through boxes, while nobody works. This project's own.
 use Rattle.std.specs.Prelude.{◌≡◌, ◌≤◌, ℕ, ◌+◌, List, [], map}
 use Rattle.std.specs.List.{AllByRecursion}
-use Rattle.acker_core.specs.declared.verdict.Verdict.{Verdict}
-use Rattle.box_rows.specs.declared.mail.Mail.{Mail}
-use Rattle.box_rows.specs.declared.mail.Mail.TheVariants as mail
-use Rattle.box_rows.specs.FitRows.{held_in}
-use Rattle.box_rows.specs.Mails.{weigh_mail}
-use Rattle.box_rows.specs.Rows.{IsEmpty, IsViewAt, taken_in}
-use Rattle.commit_order.specs.Orders.{Stand}
-use Rattle.counted_items.specs.Weights.{weigh}
-use Rattle.event_engine.specs.declared.engine.Engine.{Engine}
-use Rattle.event_engine.specs.Engines.{IsStill, shape, sources}
-use Rattle.event_worlds.specs.Accounted.{weigh_ackers, weigh_tasks}
-use Rattle.event_worlds.specs.Orderly.{FitsParcel}
-use Rattle.event_worlds.specs.Worlds.{AckerSide, TaskSide, World}
-use Rattle.rotating_ledger.specs.Held.{Held}
-use Rattle.storm_ids.specs.declared.ids.Ids.{Ghosts}
-use Rattle.task_queues.specs.declared.pass.Pass.{Pass}
-use Rattle.task_queues.specs.declared.rule.View.{View}
-use Rattle.task_queues.specs.Passes.{view_of}
-use Rattle.topology_plan.specs.Topology.{Topology}
-use Rattle.tree_model.specs.declared.messages.AckMsg.{AckMsg}
-use Rattle.tree_model.specs.declared.messages.Parcel.{Parcel}
-use Rattle.tuple_account.specs.Histories.{Packet, of_verdict, weigh_parcels}
-use Rattle.box_account.specs.Inboxes.{weigh_inboxes}
+use Rattle.worker_stretches.specs.acker_core.declared.verdict.Verdict.{Verdict}
+use Rattle.worker_stretches.specs.box_rows.declared.mail.Mail.{Mail}
+use Rattle.worker_stretches.specs.box_rows.declared.mail.Mail.TheVariants as mail
+use Rattle.worker_stretches.specs.box_rows.FitRows.{held_in}
+use Rattle.worker_stretches.specs.box_rows.Mails.{weigh_mail}
+use Rattle.worker_stretches.specs.box_rows.Rows.{IsEmpty, IsViewAt, taken_in}
+use Rattle.worker_stretches.specs.commit_order.Orders.{Stand}
+use Rattle.worker_stretches.specs.counted_items.Weights.{weigh}
+use Rattle.worker_stretches.specs.event_engine.declared.engine.Engine.{Engine}
+use Rattle.worker_stretches.specs.event_engine.Engines.{IsStill, shape, sources}
+use Rattle.worker_stretches.specs.event_worlds.Accounted.{weigh_ackers, weigh_tasks}
+use Rattle.worker_stretches.specs.event_worlds.Orderly.{FitsParcel}
+use Rattle.worker_stretches.specs.event_worlds.Worlds.{AckerSide, TaskSide, World}
+use Rattle.worker_stretches.specs.rotating_ledger.Held.{Held}
+use Rattle.worker_stretches.specs.storm_ids.declared.ids.Ids.{Ghosts}
+use Rattle.worker_stretches.specs.task_queues.declared.pass.Pass.{Pass}
+use Rattle.worker_stretches.specs.task_queues.declared.rule.View.{View}
+use Rattle.worker_stretches.specs.task_queues.Passes.{view_of}
+use Rattle.worker_stretches.specs.topology_plan.Topology.{Topology}
+use Rattle.worker_stretches.specs.tree_model.declared.messages.AckMsg.{AckMsg}
+use Rattle.worker_stretches.specs.tree_model.declared.messages.Parcel.{Parcel}
+use Rattle.worker_stretches.specs.tuple_account.Histories.{Packet, of_verdict, weigh_parcels}
+use Rattle.worker_stretches.specs.box_account.Inboxes.{weigh_inboxes}
 use Rattle.worker_stretches.specs.Teams.{Waiting}
 
 -- ---- boxes

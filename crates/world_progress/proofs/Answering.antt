@@ -3,12 +3,12 @@ use Rattle.std.proofs.Common.{◌≡◌, ◌<◌, inl, inr, ℕ, suc, ◌-◌, L
 use Rattle.std.specs.Option.{option_to_list}
 use Rattle.std.proofs.lemmas.Bool.{cases_lt}
 use Rattle.std.proofs.lemmas.List.{append-nil, length-append, get_or_past, set_past}
-use Rattle.acker_core.specs.declared.verdict.Verdict.{Verdict}
+use Rattle.event_worlds.specs.acker_core.declared.verdict.Verdict.{Verdict}
 use Rattle.event_worlds.specs.Added.{acker_adds, acker_adds_past, meets_front, lost}
 use Rattle.event_worlds.specs.Worlds.{AckerSide, Answered, World, acker_at, acker_step, aged, answered_past, counted_up, meets, no_acker}
-use Rattle.topology_plan.specs.Topology.{Topology}
-use Rattle.tree_model.specs.declared.messages.AckMsg.{AckMsg}
-use Rattle.tuple_account.specs.Histories.{History, joined, nothing}
+use Rattle.event_worlds.specs.topology_plan.Topology.{Topology}
+use Rattle.event_worlds.specs.tree_model.declared.messages.AckMsg.{AckMsg}
+use Rattle.event_worlds.specs.tuple_account.Histories.{History, joined, nothing}
 use Rattle.world_progress.specs.Doing.{done, messages_in}
 use Rattle.world_progress.proofs.Doing.{Stepped, rose, kept}
 use Rattle.event_worlds.proofs.Waiting.{weigh-set}

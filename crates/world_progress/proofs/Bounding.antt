@@ -4,36 +4,36 @@ use Rattle.std.specs.List.{AllByRecursion, range_with_len}
 use Rattle.std.specs.Cmp.{nat_eq_equiv}
 use Rattle.std.proofs.Math.Nat.{mul-add, mul_assoc}
 use Rattle.std.proofs.lemmas.List.{length-map}
-use Rattle.attempt_fates.specs.declared.fates.Attempt.{Attempt}
-use Rattle.attempt_fates.specs.Fates.{committed, is_committed}
-use Rattle.bolt_ops.specs.RowOp.{Custom}
-use Rattle.commit_turns.specs.Account.{ended_of, rows_in}
-use Rattle.counted_items.specs.Weights.{weigh}
-use Rattle.counted_items.proofs.Weighing.{each-weighs, weigh-le, weigh-le_each, weigh-map, weigh-ones, weigh-same, weigh-swap, weigh-zero}
-use Rattle.acker_core.specs.declared.verdict.Verdict.{Verdict}
+use Rattle.event_worlds.specs.attempt_fates.declared.fates.Attempt.{Attempt}
+use Rattle.event_worlds.specs.attempt_fates.Fates.{committed, is_committed}
+use Rattle.event_worlds.specs.bolt_ops.RowOp.{Custom}
+use Rattle.event_worlds.specs.commit_turns.Account.{ended_of, rows_in}
+use Rattle.event_worlds.specs.counted_items.Weights.{weigh}
+use Rattle.event_worlds.proofs.counted_items.Weighing.{each-weighs, weigh-le, weigh-le_each, weigh-map, weigh-ones, weigh-same, weigh-swap, weigh-zero}
+use Rattle.event_worlds.specs.acker_core.declared.verdict.Verdict.{Verdict}
 use Rattle.event_worlds.specs.Accounted.{IsInput, LedTo, station_of, weigh_ackers, weigh_tasks}
 use Rattle.event_worlds.specs.Worlds.{AckerSide, Known, TaskSide}
-use Rattle.storm_values.specs.declared.value.Root.{Root}
-use Rattle.storm_values.specs.declared.value.Value.{Value}
-use Rattle.topology_plan.specs.Topology.{Topology}
-use Rattle.topology_plan.specs.Valid.{IsValid}
-use Rattle.tree_model.specs.declared.messages.AckMsg.{AckMsg}
-use Rattle.tree_model.specs.declared.messages.Tuple.{Tuple}
-use Rattle.tree_model.specs.Trees.{node_count}
-use Rattle.trident_batches.specs.Batches.{Cut, batch_count, batches_joined}
-use Rattle.tuple_account.specs.Ends.{Ended}
-use Rattle.tuple_account.specs.Histories.{Execution, History, Opening, Receipt, Told, on_tuple, opens}
-use Rattle.tuple_account.specs.Moves.{Reached, Station, account_of}
-use Rattle.tuple_account.specs.Sound.{tells}
-use Rattle.tuple_account.proofs.Reading.{few, messages_weight, notes_are, packets, tuples_weight}
-use Rattle.tuple_account.proofs.Sending.{issued_verdicts, on_message, on_verdict}
-use Rattle.tuple_account.proofs.Telling.{told_begun}
-use Rattle.tuple_account.specs.Accounts.{is_of, issued_notes}
-use Rattle.tuple_account.specs.Accounts as tuples
-use Rattle.tuple_account.specs.Issued.{Run, course_of_run, notes_by, notes_of}
-use Rattle.tuple_tickets.specs.Roots.{root_eq}
-use Rattle.tuple_tickets.specs.Trees.{Course, fails, goes, mute}
-use Rattle.tuple_tickets.proofs.Roots.{root_itself}
+use Rattle.event_worlds.specs.storm_values.declared.value.Root.{Root}
+use Rattle.event_worlds.specs.storm_values.declared.value.Value.{Value}
+use Rattle.event_worlds.specs.topology_plan.Topology.{Topology}
+use Rattle.event_worlds.specs.topology_plan.Valid.{IsValid}
+use Rattle.event_worlds.specs.tree_model.declared.messages.AckMsg.{AckMsg}
+use Rattle.event_worlds.specs.tree_model.declared.messages.Tuple.{Tuple}
+use Rattle.event_worlds.specs.tree_model.Trees.{node_count}
+use Rattle.event_worlds.specs.trident_batches.Batches.{Cut, batch_count, batches_joined}
+use Rattle.event_worlds.specs.tuple_account.Ends.{Ended}
+use Rattle.event_worlds.specs.tuple_account.Histories.{Execution, History, Opening, Receipt, Told, on_tuple, opens}
+use Rattle.event_worlds.specs.tuple_account.Moves.{Reached, Station, account_of}
+use Rattle.event_worlds.specs.tuple_account.Sound.{tells}
+use Rattle.event_worlds.proofs.tuple_account.Reading.{few, messages_weight, notes_are, packets, tuples_weight}
+use Rattle.event_worlds.proofs.tuple_account.Sending.{issued_verdicts, on_message, on_verdict}
+use Rattle.event_worlds.proofs.tuple_account.Telling.{told_begun}
+use Rattle.event_worlds.specs.tuple_account.Accounts.{is_of, issued_notes}
+use Rattle.event_worlds.specs.tuple_account.Accounts as tuples
+use Rattle.event_worlds.specs.tuple_account.Issued.{Run, course_of_run, notes_by, notes_of}
+use Rattle.event_worlds.specs.tuple_tickets.Roots.{root_eq}
+use Rattle.event_worlds.specs.tuple_tickets.Trees.{Course, fails, goes, mute}
+use Rattle.event_worlds.proofs.tuple_tickets.Roots.{root_itself}
 use Rattle.event_worlds.specs.Rounds.{rounds_needed}
 use Rattle.world_progress.specs.Doing.{done, in_boxes, messages_in, taken_from, tuples_in}
 use Rattle.world_progress.proofs.Resting.{no_nodes, runs_issued, was_begun}

@@ -7,33 +7,33 @@ use Rattle.std.specs.Option.{option_map_or}
 use Rattle.std.proofs.lemmas.Bool.{cases_lt}
 use Rattle.std.proofs.lemmas.List.Elements.{recursion_from_All}
 use Rattle.std.proofs.lemmas.Option.{slice_get-get_or, slice_get_past}
-use Rattle.attempt_fates.specs.declared.fates.Attempt.{Attempt}
-use Rattle.attempt_fates.specs.declared.fates.End.{End}
-use Rattle.attempt_fates.specs.declared.fates.End.TheVariants as end
-use Rattle.attempt_fates.specs.Fates.{IsOfBatch, attempt_numbers, committed, committed_txids, is_committed}
-use Rattle.bolt_ops.specs.Operations.{fails_at, is_mute_at, out}
-use Rattle.bolt_ops.specs.RowOp.{Custom}
-use Rattle.bolt_ops.specs.declared.operation.Outcome.TheVariants as outcome
-use Rattle.commit_turns.specs.Account.{desk_of, ended_of, ending_of, ends_of, rows_in}
-use Rattle.commit_turns.specs.Desks.{Desk}
-use Rattle.commit_turns.specs.Kept.{IsKept, is_failed_commit}
-use Rattle.commit_turns.specs.Turns.{is_finished}
-use Rattle.counted_items.proofs.Each.{each-both, each-map, each-to_map, each-weaker}
+use Rattle.event_worlds.specs.attempt_fates.declared.fates.Attempt.{Attempt}
+use Rattle.event_worlds.specs.attempt_fates.declared.fates.End.{End}
+use Rattle.event_worlds.specs.attempt_fates.declared.fates.End.TheVariants as end
+use Rattle.event_worlds.specs.attempt_fates.Fates.{IsOfBatch, attempt_numbers, committed, committed_txids, is_committed}
+use Rattle.event_worlds.specs.bolt_ops.Operations.{fails_at, is_mute_at, out}
+use Rattle.event_worlds.specs.bolt_ops.RowOp.{Custom}
+use Rattle.event_worlds.specs.bolt_ops.declared.operation.Outcome.TheVariants as outcome
+use Rattle.event_worlds.specs.commit_turns.Account.{desk_of, ended_of, ending_of, ends_of, rows_in}
+use Rattle.event_worlds.specs.commit_turns.Desks.{Desk}
+use Rattle.event_worlds.specs.commit_turns.Kept.{IsKept, is_failed_commit}
+use Rattle.event_worlds.specs.commit_turns.Turns.{is_finished}
+use Rattle.event_worlds.proofs.counted_items.Each.{each-both, each-map, each-to_map, each-weaker}
 use Rattle.event_worlds.specs.Accounted.{station_of}
 use Rattle.event_worlds.specs.Worlds.{Known, is_over}
-use Rattle.storm_values.specs.declared.value.Value.{Value}
-use Rattle.topology_plan.specs.declared.parts.Body.{Body}
-use Rattle.topology_plan.specs.declared.parts.Body.TheVariants.{Bolt, State}
-use Rattle.topology_plan.specs.declared.parts.Component.{Component}
-use Rattle.topology_plan.specs.Topology.{Topology}
-use Rattle.topology_plan.specs.Valid.{IsValid}
-use Rattle.tree_model.specs.Courses.{course_at, course_by, course_of}
-use Rattle.tree_model.specs.Trees.{Node}
-use Rattle.trident_batches.specs.Batches.{Cut, batch_count}
-use Rattle.tuple_account.specs.Ends.{CauseBy, HasCause}
-use Rattle.tuple_account.specs.Histories.{History}
-use Rattle.tuple_account.proofs.Ending as ending
-use Rattle.tuple_tickets.specs.Trees.{fails, goes, mute}
+use Rattle.event_worlds.specs.storm_values.declared.value.Value.{Value}
+use Rattle.event_worlds.specs.topology_plan.declared.parts.Body.{Body}
+use Rattle.event_worlds.specs.topology_plan.declared.parts.Body.TheVariants.{Bolt, State}
+use Rattle.event_worlds.specs.topology_plan.declared.parts.Component.{Component}
+use Rattle.event_worlds.specs.topology_plan.Topology.{Topology}
+use Rattle.event_worlds.specs.topology_plan.Valid.{IsValid}
+use Rattle.event_worlds.specs.tree_model.Courses.{course_at, course_by, course_of}
+use Rattle.event_worlds.specs.tree_model.Trees.{Node}
+use Rattle.event_worlds.specs.trident_batches.Batches.{Cut, batch_count}
+use Rattle.event_worlds.specs.tuple_account.Ends.{CauseBy, HasCause}
+use Rattle.event_worlds.specs.tuple_account.Histories.{History}
+use Rattle.event_worlds.proofs.tuple_account.Ending as ending
+use Rattle.event_worlds.specs.tuple_tickets.Trees.{fails, goes, mute}
 use Rattle.event_worlds.specs.Rounds.{CanFinish, DoesNotCoincide, EndsByBody}
 use Rattle.world_progress.specs.Lasting.{IsFine, Lasting}
 use Rattle.world_progress.proofs.Resting.{at_last}

@@ -3,29 +3,29 @@ use Rattle.std.proofs.Common.{◌≡◌, ◌<◌, ◌≤◌, inl, inr, ℕ, zero
 use Rattle.std.specs.List.{AllByRecursion}
 use Rattle.std.proofs.lemmas.Bool.{cases_lt}
 use Rattle.std.proofs.lemmas.List.{append-nil, get_or_past}
-use Rattle.acker_core.specs.declared.verdict.Verdict.{Verdict}
-use Rattle.bolt_ops.specs.RowOp.{Custom}
-use Rattle.commit_turns.specs.declared.wait.Wait.{Wait}
-use Rattle.commit_turns.specs.Kept.{is_failed_commit}
-use Rattle.commit_turns.specs.Turns.{decided_by, end_by, next_to_commit}
-use Rattle.counted_items.specs.Weights.{weigh}
-use Rattle.counted_items.proofs.Each.{each-append}
+use Rattle.event_worlds.specs.acker_core.declared.verdict.Verdict.{Verdict}
+use Rattle.event_worlds.specs.bolt_ops.RowOp.{Custom}
+use Rattle.event_worlds.specs.commit_turns.declared.wait.Wait.{Wait}
+use Rattle.event_worlds.specs.commit_turns.Kept.{is_failed_commit}
+use Rattle.event_worlds.specs.commit_turns.Turns.{decided_by, end_by, next_to_commit}
+use Rattle.event_worlds.specs.counted_items.Weights.{weigh}
+use Rattle.event_worlds.proofs.counted_items.Each.{each-append}
 use Rattle.event_worlds.specs.Accounted.{LedTo, station_of, weigh_ackers}
 use Rattle.event_worlds.specs.Added.{acker_adds, acker_adds_past, added, executes, lost, step_adds, task_adds, task_adds_past, turn_adds, turn_adds_past}
 use Rattle.event_worlds.specs.Worlds.{AckerSide, Known, Step, TaskSide, World, acker_at, acker_step, acted_past, aged, answered, answered_past, counted_up, delivered, executed, is_over, meets, next, next_outcome, next_words, no_acker, of_acker, of_outcome, of_task, of_tick, of_turn, outcome_step, sent, step, task_at, task_needs, task_step, tick_step, turn_needs, turn_past, turn_step, turned_in, with_progress, with_task}
-use Rattle.state_parts.specs.declared.answer.CommitOutcome.{CommitOutcome}
-use Rattle.state_parts.specs.declared.answer.CommitOutcome.TheVariants as outcome
-use Rattle.storm_values.specs.declared.value.Root.{Root}
-use Rattle.topology_plan.specs.Topology.{Topology, tasks_in_all}
-use Rattle.tree_model.specs.declared.messages.AckMsg.{AckMsg}
-use Rattle.tree_model.specs.declared.messages.Parcel.{Parcel}
-use Rattle.tree_model.specs.declared.messages.Parcel.TheVariants.{ToTask, ToAcker}
-use Rattle.tree_model.specs.declared.messages.Tuple.{Tuple}
-use Rattle.tree_model.specs.Lists.{root_of}
-use Rattle.trident_batches.specs.Batches.{Cut}
-use Rattle.tuple_account.specs.Histories.{History, Packet, acker_of, joined, nothing, of_parcel, taken}
-use Rattle.tuple_account.specs.Moves.{Reached}
-use Rattle.tuple_account.proofs.Routing as routing
+use Rattle.event_worlds.specs.state_parts.declared.answer.CommitOutcome.{CommitOutcome}
+use Rattle.event_worlds.specs.state_parts.declared.answer.CommitOutcome.TheVariants as outcome
+use Rattle.event_worlds.specs.storm_values.declared.value.Root.{Root}
+use Rattle.event_worlds.specs.topology_plan.Topology.{Topology, tasks_in_all}
+use Rattle.event_worlds.specs.tree_model.declared.messages.AckMsg.{AckMsg}
+use Rattle.event_worlds.specs.tree_model.declared.messages.Parcel.{Parcel}
+use Rattle.event_worlds.specs.tree_model.declared.messages.Parcel.TheVariants.{ToTask, ToAcker}
+use Rattle.event_worlds.specs.tree_model.declared.messages.Tuple.{Tuple}
+use Rattle.event_worlds.specs.tree_model.Lists.{root_of}
+use Rattle.event_worlds.specs.trident_batches.Batches.{Cut}
+use Rattle.event_worlds.specs.tuple_account.Histories.{History, Packet, acker_of, joined, nothing, of_parcel, taken}
+use Rattle.event_worlds.specs.tuple_account.Moves.{Reached}
+use Rattle.event_worlds.proofs.tuple_account.Routing as routing
 use Rattle.world_progress.proofs.Lists.{at-set}
 use Rattle.world_progress.specs.Lasting.{AreSeats, IsFine, IsSeat, Lasting}
 use Rattle.world_progress.specs.Young.{AreYoung}

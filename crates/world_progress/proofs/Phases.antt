@@ -6,23 +6,23 @@ use Rattle.std.specs.List.{AllByRecursion, find, flat_map, range_with_len}
 use Rattle.std.specs.Cmp.{nat_eq_equiv}
 use Rattle.std.proofs.lemmas.Bool.{cases_lt, eqb-false}
 use Rattle.std.proofs.lemmas.List.{append_assoc}
-use Rattle.acker_core.specs.declared.verdict.Verdict.{Verdict}
-use Rattle.attempt_fates.specs.declared.fates.Attempt.{Attempt}
-use Rattle.bolt_ops.specs.RowOp.{Custom}
-use Rattle.commit_turns.specs.declared.wait.Wait.{Wait}
-use Rattle.commit_turns.specs.Desks.{Desk, has_txid}
-use Rattle.commit_turns.specs.Kept.{HasLowest, IsKept}
-use Rattle.commit_turns.specs.Turns.{is_finished, next_to_commit, turned}
+use Rattle.event_worlds.specs.acker_core.declared.verdict.Verdict.{Verdict}
+use Rattle.event_worlds.specs.attempt_fates.declared.fates.Attempt.{Attempt}
+use Rattle.event_worlds.specs.bolt_ops.RowOp.{Custom}
+use Rattle.event_worlds.specs.commit_turns.declared.wait.Wait.{Wait}
+use Rattle.event_worlds.specs.commit_turns.Desks.{Desk, has_txid}
+use Rattle.event_worlds.specs.commit_turns.Kept.{HasLowest, IsKept}
+use Rattle.event_worlds.specs.commit_turns.Turns.{is_finished, next_to_commit, turned}
 use Rattle.event_worlds.specs.Added.{step_adds}
 use Rattle.event_worlds.specs.Worlds.{AckerSide, Known, Step, TaskSide, World, coordinator_steps, no_acker, no_task, next_words, of_acker, of_outcome, of_task, of_tick, of_turn, opened, outcome_step, outcomes_of, step, task_at, task_needs, turn_needs, turn_past, turn_step, turned_in}
-use Rattle.state_parts.specs.declared.answer.CommitOutcome.{CommitOutcome}
-use Rattle.state_parts.specs.declared.answer.CommitOutcome.TheVariants as outcome
-use Rattle.storm_values.specs.declared.value.Root.{Root}
-use Rattle.topology_plan.specs.Topology.{Topology, tasks_in_all}
-use Rattle.topology_plan.specs.Valid.{IsValid}
-use Rattle.tree_model.specs.declared.messages.Parcel.{Parcel}
-use Rattle.trident_batches.specs.Batches.{Cut, batch_count}
-use Rattle.tuple_account.specs.Histories.{History, joined, nothing, opening_parcels}
+use Rattle.event_worlds.specs.state_parts.declared.answer.CommitOutcome.{CommitOutcome}
+use Rattle.event_worlds.specs.state_parts.declared.answer.CommitOutcome.TheVariants as outcome
+use Rattle.event_worlds.specs.storm_values.declared.value.Root.{Root}
+use Rattle.event_worlds.specs.topology_plan.Topology.{Topology, tasks_in_all}
+use Rattle.event_worlds.specs.topology_plan.Valid.{IsValid}
+use Rattle.event_worlds.specs.tree_model.declared.messages.Parcel.{Parcel}
+use Rattle.event_worlds.specs.trident_batches.Batches.{Cut, batch_count}
+use Rattle.event_worlds.specs.tuple_account.Histories.{History, joined, nothing, opening_parcels}
 use Rattle.event_worlds.specs.Rounds.{round_with}
 use Rattle.world_progress.proofs.Answering.{IsIdleAcker, IsIdleSide, IsQuietAcker, acker_does}
 use Rattle.world_progress.specs.Doing.{done}

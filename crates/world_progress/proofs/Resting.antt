@@ -6,49 +6,49 @@ use Rattle.std.specs.Option.{option_map_or}
 use Rattle.std.proofs.lemmas.Bool.{and_parts, cases_eq, le-ltb, ltb-false, ltb-true}
 use Rattle.std.proofs.lemmas.List.Sums.{sum_by-cons}
 use Rattle.std.proofs.lemmas.Option.{slice_get-get_or}
-use Rattle.acker_core.specs.Entries.{tell}
-use Rattle.bolt_ops.specs.Operations.{fails_at, is_mute_at, out}
-use Rattle.bolt_ops.specs.RowOp.{Custom}
-use Rattle.bolt_ops.specs.declared.operation.Outcome.TheVariants as outcome
-use Rattle.commit_turns.specs.declared.wait.Wait.{Wait}
-use Rattle.commit_turns.specs.Account.{desk_of, ends_of, rows_in, waits_of}
-use Rattle.counted_items.specs.Weights.{weigh}
-use Rattle.counted_items.proofs.Each.{each-both, each-flat_map, each-map, each-weaker}
-use Rattle.counted_items.proofs.Weighing.{each-weighs, weigh-flat_map, weigh-map, weigh-le_each, weigh-zero}
+use Rattle.event_worlds.specs.acker_core.Entries.{tell}
+use Rattle.event_worlds.specs.bolt_ops.Operations.{fails_at, is_mute_at, out}
+use Rattle.event_worlds.specs.bolt_ops.RowOp.{Custom}
+use Rattle.event_worlds.specs.bolt_ops.declared.operation.Outcome.TheVariants as outcome
+use Rattle.event_worlds.specs.commit_turns.declared.wait.Wait.{Wait}
+use Rattle.event_worlds.specs.commit_turns.Account.{desk_of, ends_of, rows_in, waits_of}
+use Rattle.event_worlds.specs.counted_items.Weights.{weigh}
+use Rattle.event_worlds.proofs.counted_items.Each.{each-both, each-flat_map, each-map, each-weaker}
+use Rattle.event_worlds.proofs.counted_items.Weighing.{each-weighs, weigh-flat_map, weigh-map, weigh-le_each, weigh-zero}
 use Rattle.event_worlds.specs.Accounted.{station_of, weigh_ackers, weigh_tasks}
 use Rattle.event_worlds.specs.Worlds.{AckerSide, Known, TaskSide, no_acker, no_task}
-use Rattle.rotating_ledger.specs.Held.{Held}
-use Rattle.storm_values.specs.declared.value.Root.{Root}
-use Rattle.storm_values.specs.declared.value.Value.{Value}
-use Rattle.topology_plan.specs.declared.parts.Body.{Body}
-use Rattle.topology_plan.specs.declared.parts.Body.TheVariants.{Bolt, State}
-use Rattle.topology_plan.specs.declared.parts.Component.{Component}
-use Rattle.topology_plan.specs.declared.parts.Op.{Op}
-use Rattle.topology_plan.specs.declared.parts.Op.TheVariants as op
-use Rattle.topology_plan.specs.Topology.{Topology, component_from, component_of, tasks_in_all}
-use Rattle.topology_plan.specs.Valid.{IsValid}
-use Rattle.tree_model.specs.declared.messages.AckMsg.{AckMsg}
-use Rattle.tree_model.specs.declared.messages.Parcel.TheVariants.{ToTask, ToAcker}
-use Rattle.tree_model.specs.declared.messages.Tuple.{Tuple}
-use Rattle.tree_model.specs.Courses.{course_at, course_by, course_of}
-use Rattle.tree_model.specs.Trees.{node_count, nodes_of}
-use Rattle.trident_batches.specs.Batches.{Cut}
-use Rattle.tuple_account.specs.Ends.{Waits}
-use Rattle.tuple_account.specs.Fits.{is_tried}
-use Rattle.tuple_account.specs.Histories.{Execution, History, IsTaskOf, Opening, Packet, acker_of, of_parcel, of_verdict, on_tuple, opens, taken, weigh_parcels}
-use Rattle.tuple_account.specs.Histories as histories
-use Rattle.tuple_account.specs.Moves.{Reached, Station, account_of}
-use Rattle.tuple_account.specs.Sound.{IsRouted}
-use Rattle.tuple_account.specs.Stuck.{IsStuck, holds}
-use Rattle.tuple_account.proofs.Reading.{few, packets, rows_are_found, tuples_weight}
-use Rattle.tuple_account.proofs.Routing as routing
-use Rattle.tuple_account.proofs.Settling as settling
-use Rattle.tuple_account.specs.Accounts.{is_of}
-use Rattle.tuple_account.specs.Accounts as tuples
-use Rattle.tuple_account.specs.Issued.{course_of_run}
-use Rattle.tuple_tickets.specs.Roots.{root_eq}
-use Rattle.tuple_tickets.specs.Trees.{fails, goes, mute}
-use Rattle.tuple_tickets.proofs.Roots.{root_itself, same_root}
+use Rattle.event_worlds.specs.rotating_ledger.Held.{Held}
+use Rattle.event_worlds.specs.storm_values.declared.value.Root.{Root}
+use Rattle.event_worlds.specs.storm_values.declared.value.Value.{Value}
+use Rattle.event_worlds.specs.topology_plan.declared.parts.Body.{Body}
+use Rattle.event_worlds.specs.topology_plan.declared.parts.Body.TheVariants.{Bolt, State}
+use Rattle.event_worlds.specs.topology_plan.declared.parts.Component.{Component}
+use Rattle.event_worlds.specs.topology_plan.declared.parts.Op.{Op}
+use Rattle.event_worlds.specs.topology_plan.declared.parts.Op.TheVariants as op
+use Rattle.event_worlds.specs.topology_plan.Topology.{Topology, component_from, component_of, tasks_in_all}
+use Rattle.event_worlds.specs.topology_plan.Valid.{IsValid}
+use Rattle.event_worlds.specs.tree_model.declared.messages.AckMsg.{AckMsg}
+use Rattle.event_worlds.specs.tree_model.declared.messages.Parcel.TheVariants.{ToTask, ToAcker}
+use Rattle.event_worlds.specs.tree_model.declared.messages.Tuple.{Tuple}
+use Rattle.event_worlds.specs.tree_model.Courses.{course_at, course_by, course_of}
+use Rattle.event_worlds.specs.tree_model.Trees.{node_count, nodes_of}
+use Rattle.event_worlds.specs.trident_batches.Batches.{Cut}
+use Rattle.event_worlds.specs.tuple_account.Ends.{Waits}
+use Rattle.event_worlds.specs.tuple_account.Fits.{is_tried}
+use Rattle.event_worlds.specs.tuple_account.Histories.{Execution, History, IsTaskOf, Opening, Packet, acker_of, of_parcel, of_verdict, on_tuple, opens, taken, weigh_parcels}
+use Rattle.event_worlds.specs.tuple_account.Histories as histories
+use Rattle.event_worlds.specs.tuple_account.Moves.{Reached, Station, account_of}
+use Rattle.event_worlds.specs.tuple_account.Sound.{IsRouted}
+use Rattle.event_worlds.specs.tuple_account.Stuck.{IsStuck, holds}
+use Rattle.event_worlds.proofs.tuple_account.Reading.{few, packets, rows_are_found, tuples_weight}
+use Rattle.event_worlds.proofs.tuple_account.Routing as routing
+use Rattle.event_worlds.proofs.tuple_account.Settling as settling
+use Rattle.event_worlds.specs.tuple_account.Accounts.{is_of}
+use Rattle.event_worlds.specs.tuple_account.Accounts as tuples
+use Rattle.event_worlds.specs.tuple_account.Issued.{course_of_run}
+use Rattle.event_worlds.specs.tuple_tickets.Roots.{root_eq}
+use Rattle.event_worlds.specs.tuple_tickets.Trees.{fails, goes, mute}
+use Rattle.event_worlds.proofs.tuple_tickets.Roots.{root_itself, same_root}
 use Rattle.event_worlds.specs.Rounds.{CanFinish, EndsByBody, EndsByOp}
 use Rattle.world_progress.proofs.Answering.{IsIdleSide}
 use Rattle.world_progress.specs.Lasting.{Lasting}

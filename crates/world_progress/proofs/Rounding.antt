@@ -4,17 +4,17 @@ use Rattle.std.specs.Prelude.{All}
 use Rattle.std.specs.List.{range_with_len}
 use Rattle.std.proofs.lemmas.Bool.{cases_lt}
 use Rattle.std.proofs.lemmas.List.{get_or-replicate, get_or_past, length-replicate}
-use Rattle.bolt_ops.specs.RowOp.{Custom}
-use Rattle.commit_turns.specs.Outcomes.{IsOutcome}
-use Rattle.commit_turns.specs.Turns.{is_finished}
+use Rattle.event_worlds.specs.bolt_ops.RowOp.{Custom}
+use Rattle.event_worlds.specs.commit_turns.Outcomes.{IsOutcome}
+use Rattle.event_worlds.specs.commit_turns.Turns.{is_finished}
 use Rattle.event_worlds.specs.Accounted.{IsInput, LedTo}
 use Rattle.event_worlds.specs.Added.{added}
 use Rattle.event_worlds.specs.Worlds.{Known, Step, acker_at, coordinator_steps, first_known, is_over, next, no_acker, of_acker, of_task, of_tick, world_after}
-use Rattle.state_parts.specs.declared.answer.CommitOutcome.{CommitOutcome}
-use Rattle.state_parts.specs.declared.answer.CommitOutcome.TheVariants as outcome
-use Rattle.topology_plan.specs.Topology.{Topology, tasks_in_all}
-use Rattle.trident_batches.specs.Batches.{Cut}
-use Rattle.tuple_account.specs.Histories.{History, joined}
+use Rattle.event_worlds.specs.state_parts.declared.answer.CommitOutcome.{CommitOutcome}
+use Rattle.event_worlds.specs.state_parts.declared.answer.CommitOutcome.TheVariants as outcome
+use Rattle.event_worlds.specs.topology_plan.Topology.{Topology, tasks_in_all}
+use Rattle.event_worlds.specs.trident_batches.Batches.{Cut}
+use Rattle.event_worlds.specs.tuple_account.Histories.{History, joined}
 use Rattle.event_worlds.specs.Rounds.{CanFinish, DoesNotCoincide, HasRounds, round_with, rounds_needed, ticks_in}
 use Rattle.world_progress.specs.Running.{so_far}
 use Rattle.world_progress.proofs.Bounding.{BatchesAreAll, NodesAdd, bounded}

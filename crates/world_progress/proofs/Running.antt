@@ -3,18 +3,18 @@ use Rattle.std.proofs.Common.{◌≡◌, ◌<◌, ◌≤◌, inl, inr, ℕ, ◌+
 use Rattle.std.specs.Prelude.{All}
 use Rattle.std.proofs.lemmas.Bool.{cases_lt}
 use Rattle.std.proofs.lemmas.List.{get_or_past}
-use Rattle.bolt_ops.specs.RowOp.{Custom}
+use Rattle.event_worlds.specs.bolt_ops.RowOp.{Custom}
 use Rattle.event_worlds.specs.Accounted.{LedTo}
 use Rattle.event_worlds.specs.Added.{added, step_adds}
 use Rattle.event_worlds.specs.Worlds.{Known, Step, World, acted_past, delivered, is_over, next, next_outcome, next_words, of_acker, of_outcome, of_task, of_tick, of_turn, outcome_step, outcomes_of, run, sent, step, task_at, task_needs, turn_needs, turn_past, with_progress, with_task}
-use Rattle.commit_turns.specs.Turns.{decided}
-use Rattle.state_parts.specs.declared.answer.CommitOutcome.{CommitOutcome}
-use Rattle.state_parts.specs.declared.answer.CommitOutcome.TheVariants as outcome
-use Rattle.topology_plan.specs.Topology.{Topology, tasks_in_all}
-use Rattle.tree_model.specs.declared.messages.Parcel.{Parcel}
-use Rattle.tree_model.specs.declared.messages.Parcel.TheVariants.{ToTask, ToAcker}
-use Rattle.trident_batches.specs.Batches.{Cut}
-use Rattle.tuple_account.specs.Histories.{History, joined, nothing}
+use Rattle.event_worlds.specs.commit_turns.Turns.{decided}
+use Rattle.event_worlds.specs.state_parts.declared.answer.CommitOutcome.{CommitOutcome}
+use Rattle.event_worlds.specs.state_parts.declared.answer.CommitOutcome.TheVariants as outcome
+use Rattle.event_worlds.specs.topology_plan.Topology.{Topology, tasks_in_all}
+use Rattle.event_worlds.specs.tree_model.declared.messages.Parcel.{Parcel}
+use Rattle.event_worlds.specs.tree_model.declared.messages.Parcel.TheVariants.{ToTask, ToAcker}
+use Rattle.event_worlds.specs.trident_batches.Batches.{Cut}
+use Rattle.event_worlds.specs.tuple_account.Histories.{History, joined, nothing}
 use Rattle.event_worlds.specs.Rounds.{ticks_in}
 use Rattle.world_progress.proofs.Answering.{acker_does}
 use Rattle.world_progress.specs.Doing.{done}

@@ -3,21 +3,21 @@ use Rattle.std.proofs.Common.{◌≡◌, ◌<◌, ◌≤◌, ℕ, zero, suc, ◌
 use Rattle.std.specs.Prelude.{is_some}
 use Rattle.std.specs.List.{AllByRecursion}
 use Rattle.std.proofs.lemmas.Bool.{lt-ltb}
-use Rattle.acker_core.specs.Entries.{list_with, met, told_of}
-use Rattle.counted_items.specs.Weights.{weigh}
-use Rattle.counted_items.proofs.Each.{each-append, each-weaker}
-use Rattle.counted_items.proofs.Weighing.{weigh-append}
+use Rattle.event_worlds.specs.acker_core.Entries.{list_with, met, told_of}
+use Rattle.event_worlds.specs.counted_items.Weights.{weigh}
+use Rattle.event_worlds.proofs.counted_items.Each.{each-append, each-weaker}
+use Rattle.event_worlds.proofs.counted_items.Weighing.{weigh-append}
 use Rattle.event_worlds.specs.Added.{lost}
 use Rattle.event_worlds.specs.Worlds.{aged}
-use Rattle.rotating_ledger.specs.Held.{Held, dropped, entered, held_at, rotated, settled, value_of, with_value, without}
-use Rattle.storm_values.specs.declared.value.Root.{Root}
-use Rattle.topology_plan.specs.Topology.{Topology}
-use Rattle.tree_model.specs.declared.messages.AckMsg.{AckMsg}
-use Rattle.tree_model.specs.Lists.{root_of}
-use Rattle.tuple_account.specs.Histories.{acker_of}
-use Rattle.tuple_account.specs.Stuck.{holds}
-use Rattle.tuple_tickets.specs.Roots.{root_eq}
-use Rattle.tuple_tickets.proofs.Roots.{root_itself, same_root}
+use Rattle.event_worlds.specs.rotating_ledger.Held.{Held, dropped, entered, held_at, rotated, settled, value_of, with_value, without}
+use Rattle.event_worlds.specs.storm_values.declared.value.Root.{Root}
+use Rattle.event_worlds.specs.topology_plan.Topology.{Topology}
+use Rattle.event_worlds.specs.tree_model.declared.messages.AckMsg.{AckMsg}
+use Rattle.event_worlds.specs.tree_model.Lists.{root_of}
+use Rattle.event_worlds.specs.tuple_account.Histories.{acker_of}
+use Rattle.event_worlds.specs.tuple_account.Stuck.{holds}
+use Rattle.event_worlds.specs.tuple_tickets.Roots.{root_eq}
+use Rattle.event_worlds.proofs.tuple_tickets.Roots.{root_itself, same_root}
 use Rattle.world_progress.specs.Young.{AreYoung, IsYoung}
 
 module _ (t : Topology) (n : ℕ) where

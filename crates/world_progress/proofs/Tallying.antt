@@ -4,24 +4,24 @@ use Rattle.std.specs.List.{AllByRecursion, range_with_len}
 use Rattle.std.proofs.Math.Nat.{mul-add, mul-le-mul_left, mul_comm}
 use Rattle.std.proofs.lemmas.Bool.{and_from, and_parts, cases_eq, lt-ltb, ltb-true}
 use Rattle.std.proofs.lemmas.List.Elements.{recursion_from_All}
-use Rattle.attempt_fates.specs.declared.fates.Attempt.{Attempt}
-use Rattle.attempt_fates.specs.Fates.{IsOfBatch}
-use Rattle.commit_turns.specs.declared.wait.Wait.{Wait}
-use Rattle.commit_turns.specs.Account.{desk_of, ended_of, ends_of, rows_in, waits_of}
-use Rattle.commit_turns.specs.Desks.{Desk}
-use Rattle.commit_turns.specs.Kept.{IsKept}
-use Rattle.commit_turns.specs.Kept as kept
-use Rattle.counted_items.specs.Weights.{weigh}
-use Rattle.counted_items.proofs.Each.{each-weaker}
-use Rattle.counted_items.proofs.Weighing.{each-weighs, weigh-le, weigh-le_each, weigh-map, weigh-ones, weigh-same, weigh-swap, weigh-zero}
-use Rattle.storm_values.specs.declared.value.Root.{Root}
-use Rattle.topology_plan.specs.Topology.{Topology}
-use Rattle.trident_batches.specs.Batches.{Cut, batch_count}
-use Rattle.tuple_account.specs.Ends.{Ended, Waits}
-use Rattle.tuple_account.specs.Fits.{Fits}
-use Rattle.tuple_account.specs.Histories.{History, Opening, opens}
-use Rattle.tuple_tickets.specs.Roots.{root_eq}
-use Rattle.tuple_tickets.proofs.Roots.{root_itself}
+use Rattle.event_worlds.specs.attempt_fates.declared.fates.Attempt.{Attempt}
+use Rattle.event_worlds.specs.attempt_fates.Fates.{IsOfBatch}
+use Rattle.event_worlds.specs.commit_turns.declared.wait.Wait.{Wait}
+use Rattle.event_worlds.specs.commit_turns.Account.{desk_of, ended_of, ends_of, rows_in, waits_of}
+use Rattle.event_worlds.specs.commit_turns.Desks.{Desk}
+use Rattle.event_worlds.specs.commit_turns.Kept.{IsKept}
+use Rattle.event_worlds.specs.commit_turns.Kept as kept
+use Rattle.event_worlds.specs.counted_items.Weights.{weigh}
+use Rattle.event_worlds.proofs.counted_items.Each.{each-weaker}
+use Rattle.event_worlds.proofs.counted_items.Weighing.{each-weighs, weigh-le, weigh-le_each, weigh-map, weigh-ones, weigh-same, weigh-swap, weigh-zero}
+use Rattle.event_worlds.specs.storm_values.declared.value.Root.{Root}
+use Rattle.event_worlds.specs.topology_plan.Topology.{Topology}
+use Rattle.event_worlds.specs.trident_batches.Batches.{Cut, batch_count}
+use Rattle.event_worlds.specs.tuple_account.Ends.{Ended, Waits}
+use Rattle.event_worlds.specs.tuple_account.Fits.{Fits}
+use Rattle.event_worlds.specs.tuple_account.Histories.{History, Opening, opens}
+use Rattle.event_worlds.specs.tuple_tickets.Roots.{root_eq}
+use Rattle.event_worlds.proofs.tuple_tickets.Roots.{root_itself}
 use Rattle.world_progress.proofs.Resting.{begun_tried}
 
 -- ---- ranges

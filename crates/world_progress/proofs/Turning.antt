@@ -4,25 +4,25 @@ use Rattle.std.specs.Prelude.{is_some}
 use Rattle.std.specs.List.{AllByRecursion, find}
 use Rattle.std.specs.Option.{option_to_list}
 use Rattle.std.proofs.lemmas.Bool.{and_right}
-use Rattle.acker_core.specs.declared.verdict.Verdict.{Verdict}
-use Rattle.acker_core.specs.declared.verdict.Verdict.TheVariants.{Complete, Fails}
-use Rattle.attempt_fates.specs.declared.fates.Attempt.{Attempt}
-use Rattle.attempt_fates.specs.declared.fates.End.TheVariants as end
-use Rattle.commit_order.specs.Orders.{Stand}
-use Rattle.commit_turns.specs.declared.wait.Wait.{Wait}
-use Rattle.commit_turns.specs.Desks.{Desk, Progress, ended_at, is_late, still, timed_of}
-use Rattle.commit_turns.specs.Outcomes.{hears}
-use Rattle.commit_turns.specs.Turns.{Turned, and_then, begun, complete_timed, decided, decided_by, end_timed, fill_more, filled, has_no_tick, heard, is_closed, late_at, next_root, next_to_commit, one_tick, ordered, passed, ticked, turned, turned_by}
-use Rattle.counted_items.proofs.Each.{each-any, each-append, each-to_map}
+use Rattle.event_worlds.specs.acker_core.declared.verdict.Verdict.{Verdict}
+use Rattle.event_worlds.specs.acker_core.declared.verdict.Verdict.TheVariants.{Complete, Fails}
+use Rattle.event_worlds.specs.attempt_fates.declared.fates.Attempt.{Attempt}
+use Rattle.event_worlds.specs.attempt_fates.declared.fates.End.TheVariants as end
+use Rattle.event_worlds.specs.commit_order.Orders.{Stand}
+use Rattle.event_worlds.specs.commit_turns.declared.wait.Wait.{Wait}
+use Rattle.event_worlds.specs.commit_turns.Desks.{Desk, Progress, ended_at, is_late, still, timed_of}
+use Rattle.event_worlds.specs.commit_turns.Outcomes.{hears}
+use Rattle.event_worlds.specs.commit_turns.Turns.{Turned, and_then, begun, complete_timed, decided, decided_by, end_timed, fill_more, filled, has_no_tick, heard, is_closed, late_at, next_root, next_to_commit, one_tick, ordered, passed, ticked, turned, turned_by}
+use Rattle.event_worlds.proofs.counted_items.Each.{each-any, each-append, each-to_map}
 use Rattle.event_worlds.specs.Added.{placed, turn_adds, turn_adds_past}
 use Rattle.event_worlds.specs.Orderly.{FitsParcel, IsOrderly}
 use Rattle.event_worlds.specs.Worlds.{World, delivered, opened, outcome_step, turn_past, turn_step, turned_in, with_progress, with_turn}
-use Rattle.state_parts.specs.declared.answer.CommitOutcome.TheVariants as outcome
-use Rattle.storm_values.specs.declared.value.Root.{Root}
-use Rattle.topology_plan.specs.Topology.{Topology}
-use Rattle.tree_model.specs.declared.messages.Parcel.{Parcel}
-use Rattle.trident_batches.specs.Batches.{Cut}
-use Rattle.tuple_account.specs.Histories.{History, joined, nothing}
+use Rattle.event_worlds.specs.state_parts.declared.answer.CommitOutcome.TheVariants as outcome
+use Rattle.event_worlds.specs.storm_values.declared.value.Root.{Root}
+use Rattle.event_worlds.specs.topology_plan.Topology.{Topology}
+use Rattle.event_worlds.specs.tree_model.declared.messages.Parcel.{Parcel}
+use Rattle.event_worlds.specs.trident_batches.Batches.{Cut}
+use Rattle.event_worlds.specs.tuple_account.Histories.{History, joined, nothing}
 use Rattle.world_progress.specs.Doing.{done}
 use Rattle.world_progress.specs.Lasting.{IsFine}
 use Rattle.world_progress.proofs.Doing.{Stepped, rose, kept, in_boxes-delivered, committed-delivered, taken-joined, begun-joined}

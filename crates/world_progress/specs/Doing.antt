@@ -1,8 +1,8 @@
 -- How much was done: a number that never falls. This project's own.
 use Rattle.std.specs.Prelude.{ℕ, ◌+◌, List, length}
-use Rattle.counted_items.specs.Weights.{weigh}
+use Rattle.event_worlds.specs.counted_items.Weights.{weigh}
 use Rattle.event_worlds.specs.Worlds.{AckerSide, TaskSide, World}
-use Rattle.tuple_account.specs.Histories.{History}
+use Rattle.event_worlds.specs.tuple_account.Histories.{History}
 
 -- how many items stand in boxes, outboxes aside
 abbrev pub tuples_in : List TaskSide → ℕ

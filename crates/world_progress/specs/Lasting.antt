@@ -2,14 +2,14 @@
 -- This project's own.
 use Rattle.std.specs.Prelude.{◌≡◌, ◌≤◌, ℕ, false, []}
 use Rattle.std.specs.List.{AllByRecursion}
-use Rattle.attempt_fates.specs.declared.fates.Attempt.{Attempt}
-use Rattle.bolt_ops.specs.RowOp.{Custom}
-use Rattle.commit_turns.specs.Kept.{is_failed_commit}
+use Rattle.event_worlds.specs.attempt_fates.declared.fates.Attempt.{Attempt}
+use Rattle.event_worlds.specs.bolt_ops.RowOp.{Custom}
+use Rattle.event_worlds.specs.commit_turns.Kept.{is_failed_commit}
 use Rattle.event_worlds.specs.Accounted.{LedTo}
 use Rattle.event_worlds.specs.Worlds.{AckerSide, Known, World, acker_at}
-use Rattle.topology_plan.specs.Topology.{Topology}
-use Rattle.trident_batches.specs.Batches.{Cut}
-use Rattle.tuple_account.specs.Histories.{History}
+use Rattle.event_worlds.specs.topology_plan.Topology.{Topology}
+use Rattle.event_worlds.specs.trident_batches.Batches.{Cut}
+use Rattle.event_worlds.specs.tuple_account.Histories.{History}
 use Rattle.world_progress.specs.Young.{AreYoung}
 
 -- an acker has counted ticks that passed, and its entries are not older

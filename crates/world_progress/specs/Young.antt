@@ -2,13 +2,13 @@
 -- This project's own.
 use Rattle.std.specs.Prelude.{◌≡◌, ◌≤◌, ℕ, List}
 use Rattle.std.specs.List.{AllByRecursion}
-use Rattle.counted_items.specs.Weights.{weigh}
-use Rattle.rotating_ledger.specs.Held.{Held}
-use Rattle.storm_values.specs.declared.value.Root.{Root}
-use Rattle.topology_plan.specs.Topology.{Topology}
-use Rattle.tree_model.specs.declared.messages.AckMsg.{AckMsg}
-use Rattle.tuple_account.specs.Histories.{acker_of}
-use Rattle.tuple_account.specs.Stuck.{holds}
+use Rattle.event_worlds.specs.counted_items.Weights.{weigh}
+use Rattle.event_worlds.specs.rotating_ledger.Held.{Held}
+use Rattle.event_worlds.specs.storm_values.declared.value.Root.{Root}
+use Rattle.event_worlds.specs.topology_plan.Topology.{Topology}
+use Rattle.event_worlds.specs.tree_model.declared.messages.AckMsg.{AckMsg}
+use Rattle.event_worlds.specs.tuple_account.Histories.{acker_of}
+use Rattle.event_worlds.specs.tuple_account.Stuck.{holds}
 
 -- an entry is at the acker of its root, and has aged so much at most
 abbrev pub IsYoung : Topology → ℕ → ℕ → Held (List AckMsg) → Type 0

@@ -1,24 +1,24 @@
 ghost use Rattle.std.specs.Prelude.{◌≡◌, ◌<◌, ◌+◌, ℕ, List, All, true};
-ghost use Rattle.bolt_ops.specs.RowOp.{Custom, IsCustom};
-ghost use Rattle.commit_turns.specs.Turns.{is_finished};
+ghost use Rattle.event_worlds.specs.bolt_ops.RowOp.{Custom, IsCustom};
+ghost use Rattle.event_worlds.specs.commit_turns.Turns.{is_finished};
 ghost use Rattle.event_worlds.specs.Accounted.{IsInput};
 ghost use Rattle.event_worlds.specs.Added.{first_history};
 ghost use Rattle.event_worlds.specs.Worlds.{Known, Step, first_known, is_over, run, world_after};
-ghost use Rattle.state_parts.specs.declared.answer.CommitOutcome.{CommitOutcome};
-ghost use Rattle.state_parts.specs.declared.answer.CommitOutcome.TheVariants.{Done};
-ghost use Rattle.topology_plan.specs.Topology.{Topology};
-ghost use Rattle.trident_batches.specs.Batches.{Cut};
-ghost use Rattle.tuple_account.specs.Histories.{History};
+ghost use Rattle.event_worlds.specs.state_parts.declared.answer.CommitOutcome.{CommitOutcome};
+ghost use Rattle.event_worlds.specs.state_parts.declared.answer.CommitOutcome.TheVariants.{Done};
+ghost use Rattle.event_worlds.specs.topology_plan.Topology.{Topology};
+ghost use Rattle.event_worlds.specs.trident_batches.Batches.{Cut};
+ghost use Rattle.event_worlds.specs.tuple_account.Histories.{History};
 ghost use Rattle.event_worlds.specs.Rounds.{CanFinish, DoesNotCoincide, HasRounds, round_with, rounds_needed, ticks_in};
 ghost use Rattle.world_progress.specs.Doing.{done};
 ghost use Rattle.world_progress.specs.Lasting.{Lasting};
 ghost use Rattle.world_progress.specs.Rounding.{DoesMore, LastsOn};
 ghost use Rattle.world_progress.specs.Running.{so_far};
 
-use commit_turns::lowest_is_pending;
+use event_worlds::commit_turns::lowest_is_pending;
 use event_worlds::steps_add_to_histories;
-use tree_model::nodes_of_joined_rows;
-use trident_batches::batches_in_order_are_all_records;
+use event_worlds::tree_model::nodes_of_joined_rows;
+use event_worlds::trident_batches::batches_in_order_are_all_records;
 
 /// A law: nothing is lost in the first world, and nothing by steps where no commit fails and fewer
 /// ticks pass than there are buckets; what was done does not fall.

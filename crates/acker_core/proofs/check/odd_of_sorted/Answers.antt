@@ -1,7 +1,7 @@
 use Rattle.std.proofs.Common.{rules, ◌≡◌, [], ◌∷◌, List, subst, arith}
 use Rattle.std.proofs.lemmas.Grind.{common_steps}
 use Rattle.std.specs.Vec.Iter.{into_iter_items}
-use Rattle.tuple_tickets.specs.declared.edge.Edge.{Edge}
+use Rattle.tree_model.specs.tuple_tickets.declared.edge.Edge.{Edge}
 use Rattle.acker_core.specs.Edges.{put_on}
 use Rattle.acker_core.proofs.Stack.{Kept, kept-first, kept-more, kept-last}
 use Rattle.acker_core.proofs.check.odd_of_sorted.Goals as goal

@@ -1,9 +1,9 @@
 use Rattle.std.proofs.Common.{rules}
 use Rattle.std.specs.Ordering.{is_lt}
 use Rattle.std.proofs.lemmas.List.Sorted.{ranks_by, answers_always, sorted_far}
-use Rattle.tuple_tickets.specs.declared.edge.Edge.{Edge}
-use Rattle.tuple_tickets.specs.Edges.{edge_cmp}
-use Rattle.tuple_tickets.proofs.EdgeOrder.{edge_cmp-total}
+use Rattle.tree_model.specs.tuple_tickets.declared.edge.Edge.{Edge}
+use Rattle.tree_model.specs.tuple_tickets.Edges.{edge_cmp}
+use Rattle.tree_model.proofs.tuple_tickets.EdgeOrder.{edge_cmp-total}
 use Rattle.acker_core.proofs.Stack.{in-order}
 use Rattle.acker_core.proofs.check.sort_edges.Goals as goal
 

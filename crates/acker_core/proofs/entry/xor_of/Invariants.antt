@@ -1,5 +1,5 @@
 use Rattle.std.proofs.Common.{◌≡◌, drop, bit_xor}
-use Rattle.tuple_tickets.specs.Edges.{xor_ids}
+use Rattle.tree_model.specs.tuple_tickets.Edges.{xor_ids}
 use Rattle.acker_core.proofs.entry.xor_of.Given as goal
 
 abbrev pub invariant-loop-edge : goal.invariant-loop-edge

@@ -1,7 +1,7 @@
 use Rattle.std.proofs.Common.{◌≡◌, ◌↔◌, ℕ, Some, List, [], ◌∷◌, ◌++◌, refl, sym, ap, ◌∙◌}
-use Rattle.bolt_ops.specs.RowOp.{Custom}
-use Rattle.storm_values.specs.declared.value.Value.{Value}
-use Rattle.topology_plan.specs.Topology.{Topology}
+use Rattle.tree_model.specs.bolt_ops.RowOp.{Custom}
+use Rattle.tree_model.specs.storm_values.declared.value.Value.{Value}
+use Rattle.tree_model.specs.topology_plan.Topology.{Topology}
 use Rattle.tree_model.proofs.ListLaws.{complete_covers, none_coincides}
 use Rattle.tree_model.specs.declared.messages.AckMsg.{AckMsg}
 use Rattle.tree_model.specs.Lists.{root_of, AreTrueOf, IsSingle, IsSteady, Coincides, Covers}

@@ -2,7 +2,7 @@ use Rattle.std.proofs.Common.{rules}
 use Rattle.std.specs.Ordering.{is_lt}
 use Rattle.std.proofs.lemmas.Cmp.{nat_list_cmp_total}
 use Rattle.std.proofs.lemmas.List.Sorted.{ranks_by, answers_always, sorted_far}
-use Rattle.storm_values.specs.Order.{path_cmp}
+use Rattle.tree_model.specs.storm_values.Order.{path_cmp}
 use Rattle.acker_core.proofs.PathOrders.{in-order, path_beside}
 use Rattle.acker_core.proofs.sorted.sort_dones.Goals as goal
 

@@ -1,10 +1,10 @@
 use Rattle.std.proofs.Common.{arith}
 use Rattle.box_account.proofs.Hearing.{inboxes-wait}
 use Rattle.box_account.proofs.Verdicts.{ends_tell}
-use Rattle.commit_turns.specs.Account.{desk_of, rows_in}
+use Rattle.event_worlds.specs.commit_turns.Account.{desk_of, rows_in}
 use Rattle.event_worlds.specs.Accounted.{station_of}
 use Rattle.event_worlds.specs.Beside.{waits}
-use Rattle.tuple_account.specs.Moves.{beside}
+use Rattle.event_worlds.specs.tuple_account.Moves.{beside}
 use Rattle.box_account.proofs.laws.boxes_tell_of_ends.Goals as goal
 
 pub returns : goal.returns

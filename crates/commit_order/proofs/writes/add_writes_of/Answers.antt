@@ -1,7 +1,7 @@
 use Rattle.std.proofs.Common.{◌++◌, List, ap, sym, ◌∙◌}
 use Rattle.std.proofs.lemmas.List.{append-nil}
 use Rattle.std.proofs.lemmas.Result.{on_ok_weaker}
-use Rattle.tree_model.specs.declared.write.Write.{Write}
+use Rattle.tuple_account.specs.tree_model.declared.write.Write.{Write}
 use Rattle.commit_order.proofs.writes.add_writes_of.Goals as goal
 
 pub returns-in-Done : goal.returns-in-Done

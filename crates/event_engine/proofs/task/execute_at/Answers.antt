@@ -1,5 +1,5 @@
 use Rattle.std.proofs.Common.{None, rules}
-use Rattle.bolt_task.specs.Executing.{number_of, topology_at}
+use Rattle.event_worlds.specs.bolt_task.Executing.{number_of, topology_at}
 use Rattle.event_engine.proofs.SeatLemmas.{acts_at, acts_work, at-some}
 use Rattle.event_engine.proofs.task.execute_at.Goals as goal
 

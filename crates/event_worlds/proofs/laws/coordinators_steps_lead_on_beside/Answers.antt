@@ -1,6 +1,6 @@
 use Rattle.event_worlds.proofs.Led.{moves-on, next-led-on}
 use Rattle.event_worlds.specs.Beside.{waits}
-use Rattle.tuple_account.specs.Moves.{beside}
+use Rattle.commit_order.specs.tuple_account.Moves.{beside}
 use Rattle.event_worlds.proofs.laws.coordinators_steps_lead_on_beside.Goals as goal
 
 pub returns : goal.returns

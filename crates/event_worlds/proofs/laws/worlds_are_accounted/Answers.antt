@@ -1,6 +1,6 @@
 use Rattle.event_worlds.specs.Added.{added, first_history}
 use Rattle.event_worlds.proofs.Led.{run-accounted}
-use Rattle.tuple_account.specs.Histories.{joined}
+use Rattle.commit_order.specs.tuple_account.Histories.{joined}
 use Rattle.event_worlds.proofs.laws.worlds_are_accounted.Goals as goal
 
 pub returns-clause-first : goal.returns-clause-first

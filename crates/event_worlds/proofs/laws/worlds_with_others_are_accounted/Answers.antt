@@ -2,7 +2,7 @@ use Rattle.std.proofs.Common.{arith}
 use Rattle.event_worlds.proofs.Ending.{ends-caused, settled-whole}
 use Rattle.event_worlds.specs.Accounted.{station_of}
 use Rattle.event_worlds.specs.Beside.{waits}
-use Rattle.tuple_account.specs.Moves.{beside}
+use Rattle.commit_order.specs.tuple_account.Moves.{beside}
 use Rattle.event_worlds.proofs.laws.worlds_with_others_are_accounted.Goals as goal
 
 pub returns-clause-causes : goal.returns-clause-causes

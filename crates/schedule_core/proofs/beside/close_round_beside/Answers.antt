@@ -2,7 +2,7 @@ use Rattle.std.specs.Prelude.{replicate}
 use Rattle.event_engine.specs.Engines.{cut_in, topology_in}
 use Rattle.event_worlds.specs.Worlds.{coordinator_steps, of_tick}
 use Rattle.schedule_core.proofs.Resting.{breaks_on, drives_on, handed_on, wants_on}
-use Rattle.topology_plan.specs.Topology.{Topology}
+use Rattle.event_worlds.specs.topology_plan.Topology.{Topology}
 use Rattle.schedule_core.proofs.beside.close_round_beside.Goals as goal
 
 pub returns-in_err-coordinate_beside-clause-bad : goal.returns-in_err-coordinate_beside-clause-bad

@@ -2,7 +2,7 @@ use Rattle.std.proofs.Common.{Option, Ok, Err, ap, refl, subst}
 use Rattle.event_engine.specs.Engines.{Answers, cut_in, topology_in}
 use Rattle.schedule_core.proofs.Coordinating.{CommitComes, breaks-ordered, drives-ordered, drives-unordered, exit_is, wants-ordered, wants-turn, wants-undecided}
 use Rattle.schedule_core.proofs.Keeping.{kept-committed, kept-none}
-use Rattle.state_parts.specs.declared.answer.Commit.{Commit}
+use Rattle.event_worlds.specs.state_parts.declared.answer.Commit.{Commit}
 use Rattle.schedule_core.proofs.beside.coordinate_beside.Goals as goal
 
 pub returns-in_default-clause-drives : goal.returns-in_default-clause-drives

@@ -6,8 +6,8 @@ use Rattle.schedule_core.proofs.Resting.{handed_on, on_err}
 use Rattle.schedule_core.proofs.Keeping.{kept-then}
 use Rattle.schedule_core.proofs.Looping.{driven-breaks, driven-none, driven-over, driven-then, driven-wants, fits_there, once_there, parts_here, steps_begin, steps_more_as}
 use Rattle.schedule_reader.specs.declared.event.Event.TheVariants.{Task}
-use Rattle.state_parts.specs.declared.answer.CommitFault.TheVariants.{BadCell, Memory}
-use Rattle.topology_plan.specs.Topology.{Topology}
+use Rattle.event_worlds.specs.state_parts.declared.answer.CommitFault.TheVariants.{BadCell, Memory}
+use Rattle.event_worlds.specs.topology_plan.Topology.{Topology}
 use Rattle.schedule_core.proofs.drive.carry_out_all.Goals as goal
 
 pub loop-event-init : goal.loop-event-init

@@ -4,7 +4,7 @@ use Rattle.schedule_core.proofs.Drives.{wants-still}
 use Rattle.schedule_core.proofs.Keeping.{kept-none}
 use Rattle.schedule_core.proofs.Resting.{breaks_on, drives_on, handed_on, wants_on}
 use Rattle.schedule_core.specs.Rounding.{opening_steps}
-use Rattle.topology_plan.specs.Topology.{Topology}
+use Rattle.event_worlds.specs.topology_plan.Topology.{Topology}
 use Rattle.schedule_core.proofs.drive.round.Goals as goal
 
 pub returns-in_err-open_round-clause-kept : goal.returns-in_err-open_round-clause-kept

@@ -4,7 +4,7 @@ use Rattle.event_worlds.specs.Worlds.{Step, round_steps, rounds_steps}
 use Rattle.schedule_core.proofs.Resting.{handed_on, on_err}
 use Rattle.schedule_core.proofs.Keeping.{kept-then}
 use Rattle.schedule_core.proofs.Looping.{driven-breaks, driven-none, driven-over, driven-then, driven-wants, once_there, parts_here, rounds_begin, rounds_more}
-use Rattle.state_parts.specs.declared.answer.CommitFault.TheVariants.{BadCell, Memory}
+use Rattle.event_worlds.specs.state_parts.declared.answer.CommitFault.TheVariants.{BadCell, Memory}
 use Rattle.schedule_core.proofs.drive.rounds.Goals as goal
 
 pub loop-done-init : goal.loop-done-init

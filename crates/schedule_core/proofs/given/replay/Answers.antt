@@ -1,7 +1,7 @@
 use Rattle.event_worlds.specs.Rounds.{ticks_in}
 use Rattle.schedule_core.proofs.Ending.{at_rest, ends, fits_first, not_begun, ran-from, some_size}
 use Rattle.schedule_core.specs.Schedules.{all_steps}
-use Rattle.topology_plan.specs.Topology.{Topology}
+use Rattle.event_worlds.specs.topology_plan.Topology.{Topology}
 use Rattle.schedule_core.proofs.given.replay.Goals as goal
 
 pub carry_out_all-done-requires-clause-at_rest : goal.carry_out_all-done-requires-clause-at_rest

@@ -4,9 +4,9 @@ use Rattle.schedule_core.proofs.Boosting.{opens_behind}
 use Rattle.schedule_core.proofs.Keeping.{kept-then}
 use Rattle.schedule_core.proofs.Resting.{handed_on}
 use Rattle.schedule_core.proofs.RunByRounds.{turned-bad, turned-short, turning-none, turning-then}
-use Rattle.state_parts.specs.declared.answer.CommitFault.TheVariants as fault
-use Rattle.topology_plan.specs.Topology.{Topology}
-use Rattle.trident_batches.specs.Batches.{Cut}
+use Rattle.event_worlds.specs.state_parts.declared.answer.CommitFault.TheVariants as fault
+use Rattle.event_worlds.specs.topology_plan.Topology.{Topology}
+use Rattle.event_worlds.specs.trident_batches.Batches.{Cut}
 use Rattle.schedule_core.proofs.rounds.rounds_until_over.Goals as goal
 
 pub loop-init : goal.loop-init

@@ -1,7 +1,7 @@
 use Rattle.std.proofs.Common.{◌≡◌, ◌++◌, map, rules, sym, ap, subst, ◌∙◌, List, append-nil}
 use Rattle.std.specs.Prelude.{IsErrOf}
 use Rattle.std.specs.Map.Iter.{deref_pair}
-use Rattle.storm_values.specs.Counts.{raised}
+use Rattle.tree_model.specs.storm_values.Counts.{raised}
 use Rattle.storm_stores.specs.CellMaps.{cell_at}
 use Rattle.state_cells.specs.declared.fault.PartFault.TheVariants.{BadCell, Store}
 use Rattle.state_cells.specs.Groups.{Group, job_of}

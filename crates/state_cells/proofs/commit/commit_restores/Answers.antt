@@ -2,7 +2,7 @@ use Rattle.std.proofs.Common.{◌≤◌, rules, subst, ◌∙◌, ap, sym, take,
 use Rattle.std.proofs.lemmas.List.{take_all}
 use Rattle.std.proofs.lemmas.Option.{slice_get-get_or}
 use Rattle.std.specs.Prelude.{IsErrOf, ℕ, length}
-use Rattle.storm_values.specs.Counts.{raised}
+use Rattle.tree_model.specs.storm_values.Counts.{raised}
 use Rattle.storm_stores.specs.CellMaps.{cell_at}
 use Rattle.state_cells.specs.declared.fault.PartFault.TheVariants.{BadCell, Store}
 use Rattle.state_cells.specs.Groups.{restores_in}

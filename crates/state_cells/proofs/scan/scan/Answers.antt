@@ -1,7 +1,7 @@
 use Rattle.std.proofs.Common.{◌<◌, length, ◌∙◌, arith}
 use Rattle.state_cells.proofs.KnownLemmas.{known_of_scan}
 use Rattle.state_cells.proofs.ScanLemmas.{Scanned-more}
-use Rattle.topology_plan.specs.declared.parts.Kind.TheVariants.{Opaque}
+use Rattle.tree_model.specs.topology_plan.declared.parts.Kind.TheVariants.{Opaque}
 use Rattle.state_cells.proofs.scan.scan.Goals as goal
 
 pub loop-i-preserved : goal.loop-i-preserved

@@ -1,6 +1,6 @@
 use Rattle.std.proofs.Common.{◌≡◌, length}
 use Rattle.storm_stores.specs.CellMaps.{CellMap}
-use Rattle.topology_plan.specs.declared.parts.Kind.TheVariants.{Opaque}
+use Rattle.tree_model.specs.topology_plan.declared.parts.Kind.TheVariants.{Opaque}
 use Rattle.state_cells.proofs.ScanLemmas.{Scanned}
 use Rattle.state_cells.proofs.scan.scan.Given as goal
 

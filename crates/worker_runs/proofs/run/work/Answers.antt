@@ -1,9 +1,9 @@
-use Rattle.event_engine.specs.Engines.{cut_in}
+use Rattle.worker_rounds.specs.event_engine.Engines.{cut_in}
 use Rattle.std.proofs.Common.{[]}
 use Rattle.worker_runs.proofs.Going.{goes-on-then}
 use Rattle.worker_runs.proofs.Keeping.{gathered-again, ready-back, ready-own, same-tick, still-then}
 use Rattle.worker_runs.proofs.Rows.{keeps-room}
-use Rattle.worker_turns.proofs.Stands.{goes-carried}
+use Rattle.worker_rounds.proofs.worker_turns.Stands.{goes-carried}
 use Rattle.worker_runs.proofs.run.work.Goals as goal
 
 pub sweep-requires-clause-ready : goal.sweep-requires-clause-ready

@@ -1,4 +1,4 @@
-use Rattle.event_engine.specs.Engines.{cut_in}
+use Rattle.worker_rounds.specs.event_engine.Engines.{cut_in}
 use Rattle.worker_runs.proofs.Going.{goes-on-none}
 use Rattle.worker_runs.proofs.run.work_unless.Goals as goal
 

@@ -1,5 +1,5 @@
 use Rattle.std.proofs.Common.{◌≡◌, ◌+◌, length}
-use Rattle.topology_plan.specs.Topology.{tasks_in_all}
+use Rattle.event_worlds.specs.topology_plan.Topology.{tasks_in_all}
 use Rattle.worker_stretches.proofs.Seating.{Desking}
 use Rattle.worker_stretches.proofs.desks.desks_of.Given as goal
 

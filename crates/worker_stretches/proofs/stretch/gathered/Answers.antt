@@ -1,5 +1,5 @@
 use Rattle.std.proofs.lemmas.List.Sorted.{IsPermutation-sym}
-use Rattle.topology_plan.specs.Topology.{tasks_in_all}
+use Rattle.event_worlds.specs.topology_plan.Topology.{tasks_in_all}
 use Rattle.worker_pool.specs.Ackers.{IsAcker}
 use Rattle.worker_pool.specs.Desks.{IsDesk}
 use Rattle.worker_stretches.specs.Hands.{items_in}

@@ -1,5 +1,5 @@
 use Rattle.std.proofs.Common.{refl}
-use Rattle.event_engine.specs.Engines.{cut_in}
+use Rattle.worker_stretches.specs.event_engine.Engines.{cut_in}
 use Rattle.worker_turns.proofs.Sweeps.{carried, empty-again, engine-carried, full-never, others-sent, others-then, room-kept}
 use Rattle.worker_turns.proofs.sweeping.carry.Goals as goal
 

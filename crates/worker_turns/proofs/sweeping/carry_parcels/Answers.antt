@@ -1,6 +1,6 @@
 use Rattle.std.proofs.Common.{rules, ◌≡◌, ◌∷◌}
-use Rattle.box_rows.specs.declared.mail.Mail.TheVariants as mail
-use Rattle.event_engine.specs.Engines.{cut_in}
+use Rattle.worker_stretches.specs.box_rows.declared.mail.Mail.TheVariants as mail
+use Rattle.worker_stretches.specs.event_engine.Engines.{cut_in}
 use Rattle.worker_turns.specs.Carrying.{weigh_all}
 use Rattle.worker_turns.proofs.Sweeps.{carrying-more, run-less}
 use Rattle.worker_turns.proofs.sweeping.carry_parcels.Goals as goal

@@ -1,5 +1,5 @@
 use Rattle.std.proofs.Common.{length}
-use Rattle.event_engine.specs.Engines.{cut_in}
+use Rattle.worker_stretches.specs.event_engine.Engines.{cut_in}
 use Rattle.worker_turns.specs.Carrying.{weigh_verdicts}
 use Rattle.worker_turns.proofs.Sweeps.{Carrying}
 use Rattle.worker_turns.proofs.sweeping.carry_verdicts.Given as goal

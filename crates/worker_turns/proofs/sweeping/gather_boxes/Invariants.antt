@@ -1,4 +1,4 @@
-use Rattle.event_engine.specs.Engines.{cut_in}
+use Rattle.worker_stretches.specs.event_engine.Engines.{cut_in}
 use Rattle.worker_turns.proofs.Sweeps.{GatheringAll}
 use Rattle.worker_turns.proofs.sweeping.gather_boxes.Given as goal
 

@@ -1,4 +1,4 @@
-use Rattle.event_engine.specs.Engines.{shape, topology_in}
+use Rattle.worker_stretches.specs.event_engine.Engines.{shape, topology_in}
 use Rattle.worker_turns.proofs.Sweeps.{brings-run-mail, brings-verdict-mail}
 use Rattle.worker_turns.proofs.sweeping.put_in.Goals as goal
 

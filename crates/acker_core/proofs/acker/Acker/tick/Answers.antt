@@ -1,5 +1,5 @@
 use Rattle.std.proofs.Common.{◌≡◌, None, List}
-use Rattle.storm_values.specs.declared.value.Root.{Root}
+use Rattle.tree_model.specs.storm_values.declared.value.Root.{Root}
 use Rattle.rotating_ledger.proofs.HeldLemmas.{each-rotated}
 use Rattle.tree_model.specs.declared.messages.AckMsg.{AckMsg}
 use Rattle.acker_core.specs.Entries.{tell}

@@ -1,7 +1,7 @@
 use Rattle.std.proofs.Common.{◌≡◌, ◌∷◌, ◌++◌, List, ℕ, Less, rules, ap, sym, ◌∙◌}
-use Rattle.counted_items.specs.Weights.{Same}
-use Rattle.storm_values.specs.Order.{path_cmp}
-use Rattle.tuple_tickets.specs.declared.edge.Edge.{Edge}
+use Rattle.tree_model.specs.counted_items.Weights.{Same}
+use Rattle.tree_model.specs.storm_values.Order.{path_cmp}
+use Rattle.tree_model.specs.tuple_tickets.declared.edge.Edge.{Edge}
 use Rattle.acker_core.specs.Orders.{open_edges}
 use Rattle.acker_core.proofs.Walks.{taken_is, went}
 use Rattle.acker_core.proofs.follow.Walk.step.Goals as goal

@@ -1,8 +1,8 @@
 use Rattle.std.proofs.Common.{◌≡◌, ◌<◌, [], length, sym, ap, subst, ◌∙◌, arith}
 use Rattle.std.proofs.lemmas.Result.{IfOk-weaker}
-use Rattle.bolt_ops.specs.declared.operation.Outcome.TheVariants as outcome
-use Rattle.topology_plan.specs.declared.parts.Origin.TheVariants as origin
-use Rattle.tree_model.specs.Trees.{exec_at}
+use Rattle.tuple_account.specs.bolt_ops.declared.operation.Outcome.TheVariants as outcome
+use Rattle.tuple_account.specs.topology_plan.declared.parts.Origin.TheVariants as origin
+use Rattle.tuple_account.specs.tree_model.Trees.{exec_at}
 use Rattle.tuple_account.specs.Issued.{node_of}
 use Rattle.output_collector.proofs.Sending.{Draws-none}
 use Rattle.output_collector.specs.Draws.{given_after}

@@ -5,8 +5,8 @@ use Rattle.commit_order.proofs.Places.{first_of_two}
 use Rattle.commit_order.proofs.Steps.{office_by}
 use Rattle.commit_order.specs.Offices.{IsFoundAt, is_timed_of}
 use Rattle.commit_turns.specs.Desks.{is_timed}
-use Rattle.rotating_ledger.specs.Held.{root_eq}
-use Rattle.rotating_ledger.proofs.RootLemmas.{root_eq-same}
+use Rattle.tuple_account.specs.rotating_ledger.Held.{root_eq}
+use Rattle.tuple_account.proofs.rotating_ledger.RootLemmas.{root_eq-same}
 use Rattle.commit_order.proofs.office.Office.complete.Goals as goal
 
 pub returns-in_default-clause-ok : goal.returns-in_default-clause-ok

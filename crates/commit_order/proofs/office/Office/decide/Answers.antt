@@ -8,7 +8,7 @@ use Rattle.commit_order.specs.Offices.{Office, counted_by, is_settled_after}
 use Rattle.commit_turns.specs.Desks.{without}
 use Rattle.commit_turns.specs.Turns.{end_by}
 use Rattle.commit_turns.specs.declared.wait.Wait.{Wait}
-use Rattle.storm_values.specs.declared.value.Root.{Root}
+use Rattle.tuple_account.specs.storm_values.declared.value.Root.{Root}
 use Rattle.trident_batches.specs.Batches.{first_of, last_of}
 use Rattle.commit_order.proofs.office.Office.decide.Goals as goal
 

@@ -6,8 +6,8 @@ use Rattle.commit_order.proofs.Steps.{end_step, office_by}
 use Rattle.commit_order.specs.Offices.{is_timed_of}
 use Rattle.commit_turns.specs.Desks.{is_timed}
 use Rattle.commit_turns.specs.declared.wait.Wait.{Wait}
-use Rattle.rotating_ledger.specs.Held.{root_eq}
-use Rattle.rotating_ledger.proofs.RootLemmas.{root_eq-same}
+use Rattle.tuple_account.specs.rotating_ledger.Held.{root_eq}
+use Rattle.tuple_account.proofs.rotating_ledger.RootLemmas.{root_eq-same}
 use Rattle.commit_order.proofs.office.Office.end_timed.Goals as goal
 
 pub returns-in_default-clause-ok : goal.returns-in_default-clause-ok

@@ -1,6 +1,6 @@
 use Rattle.std.proofs.Common.{◌≡◌, drop, map}
 use Rattle.commit_order.specs.Offices.{try_of}
-use Rattle.storm_values.specs.Lines.{first_some}
+use Rattle.tuple_account.specs.storm_values.Lines.{first_some}
 use Rattle.commit_order.proofs.office.Office.first_last_try.Given as goal
 
 abbrev pub invariant-loop-root : goal.invariant-loop-root

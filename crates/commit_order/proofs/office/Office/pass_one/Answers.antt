@@ -1,5 +1,5 @@
 use Rattle.std.proofs.Common.{ap, ◌∙◌}
-use Rattle.storm_values.specs.Lines.{first_some}
+use Rattle.tuple_account.specs.storm_values.Lines.{first_some}
 use Rattle.commit_order.proofs.Ending.{on_ok}
 use Rattle.commit_order.proofs.TickLemmas.{tick_goes, tick_step, tick_tells}
 use Rattle.commit_order.proofs.office.Office.pass_one.Goals as goal

@@ -1,5 +1,5 @@
 use Rattle.std.specs.Prelude.{replicate}
-use Rattle.bolt_ops.specs.RowOp.{Custom}
+use Rattle.event_worlds.specs.bolt_ops.RowOp.{Custom}
 use Rattle.event_engine.specs.Engines.{Goes, IsReady, IsStill, cut_in, topology_in}
 use Rattle.event_worlds.specs.Worlds.{of_acker}
 use Rattle.event_engine.proofs.engine.Engine.acker_often.Given as goal

@@ -4,7 +4,7 @@ use Rattle.event_engine.specs.Engines.{cut_in, topology_in}
 use Rattle.event_engine.proofs.BoostLemmas.{goes_on_still, turn-more, up_to_there}
 use Rattle.event_engine.proofs.LoopLemmas.{ready_here, ready_there, still_then}
 use Rattle.event_worlds.specs.Worlds.{of_acker}
-use Rattle.topology_plan.specs.Topology.{Topology}
+use Rattle.event_worlds.specs.topology_plan.Topology.{Topology}
 use Rattle.event_engine.proofs.engine.Engine.ackers_often.Goals as goal
 
 pub loop-n-init : goal.loop-n-init

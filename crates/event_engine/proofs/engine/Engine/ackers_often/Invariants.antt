@@ -1,4 +1,4 @@
-use Rattle.bolt_ops.specs.RowOp.{Custom}
+use Rattle.event_worlds.specs.bolt_ops.RowOp.{Custom}
 use Rattle.event_engine.specs.Boosts.{AckerRests, GoesUpTo, InTurn}
 use Rattle.event_engine.specs.Engines.{IsReady, IsStill, cut_in, topology_in}
 use Rattle.event_worlds.specs.Worlds.{of_acker}

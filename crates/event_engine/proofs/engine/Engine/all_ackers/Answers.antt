@@ -7,7 +7,7 @@ use Rattle.event_engine.proofs.GoesLemmas.{goes-none, goes-then}
 use Rattle.event_engine.proofs.LoopLemmas.{goes_there, ready_here, ready_there, still_then}
 use Rattle.event_engine.proofs.TurnEvents.{once_still}
 use Rattle.event_worlds.specs.Worlds.{of_acker}
-use Rattle.topology_plan.specs.Topology.{Topology}
+use Rattle.event_worlds.specs.topology_plan.Topology.{Topology}
 use Rattle.event_engine.proofs.engine.Engine.all_ackers.Goals as goal
 
 pub loop-n-init : goal.loop-n-init

@@ -1,6 +1,6 @@
 use Rattle.std.proofs.Common.{map}
 use Rattle.std.specs.List.{range_with_len}
-use Rattle.bolt_ops.specs.RowOp.{Custom}
+use Rattle.event_worlds.specs.bolt_ops.RowOp.{Custom}
 use Rattle.event_engine.specs.Engines.{Goes, IsReady, IsStill, cut_in, topology_in}
 use Rattle.event_worlds.specs.Worlds.{of_acker}
 use Rattle.event_engine.proofs.engine.Engine.all_ackers.Given as goal

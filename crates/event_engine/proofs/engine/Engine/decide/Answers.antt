@@ -1,7 +1,7 @@
 use Rattle.std.proofs.Common.{refl, ap, ◌∙◌}
 use Rattle.std.specs.Prelude.{Err}
-use Rattle.commit_order.specs.Orders.{desk_of}
-use Rattle.commit_turns.specs.Turns.{decided}
+use Rattle.event_worlds.specs.commit_order.Orders.{desk_of}
+use Rattle.event_worlds.specs.commit_turns.Turns.{decided}
 use Rattle.event_engine.specs.Engines.{cut_in, topology_in}
 use Rattle.event_engine.proofs.FatesLemmas.{on_err, short_once}
 use Rattle.event_engine.proofs.TurnEvents.{Decides, decided_few_of, decided_goes, decided_idle, decided_ready, decided_told, has_stop_none, none_exhausted, size_some, stop_of_txid}

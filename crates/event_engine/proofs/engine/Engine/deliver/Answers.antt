@@ -1,9 +1,9 @@
 use Rattle.std.proofs.Common.{ap, refl, [], ◌∷◌, ◌++◌}
-use Rattle.commit_order.specs.Orders.{collector_of}
+use Rattle.event_worlds.specs.commit_order.Orders.{collector_of}
 use Rattle.event_engine.specs.Engines.{shape, topology_in}
 use Rattle.event_engine.proofs.EngineLemmas.{put_seats, put_sides, put_sources, seated_by}
 use Rattle.event_engine.proofs.SeatLemmas.{buckets_kept}
-use Rattle.output_collector.specs.Collectors.{ids_in}
+use Rattle.event_worlds.specs.output_collector.Collectors.{ids_in}
 use Rattle.event_engine.proofs.engine.Engine.deliver.Goals as goal
 
 pub returns-in_ok-put_tuple-in-ToTask-clause-done :

@@ -1,10 +1,10 @@
 use Rattle.std.proofs.Common.{ℕ, ap, refl, subst}
-use Rattle.commit_order.specs.Offices.{Office}
-use Rattle.commit_order.specs.Orders.{collector_of}
+use Rattle.event_worlds.specs.commit_order.Offices.{Office}
+use Rattle.event_worlds.specs.commit_order.Orders.{collector_of}
 use Rattle.event_engine.specs.declared.engine.Engine.{Engine}
 use Rattle.event_engine.proofs.StartLemmas.{IsMade, first_source, is_ready, is_started}
-use Rattle.topology_plan.specs.declared.parts.Origin.TheVariants as origin
-use Rattle.topology_plan.specs.Topology.{tasks_in_all}
+use Rattle.event_worlds.specs.topology_plan.declared.parts.Origin.TheVariants as origin
+use Rattle.event_worlds.specs.topology_plan.Topology.{tasks_in_all}
 use Rattle.event_engine.proofs.engine.Engine.start.Goals as goal
 
 pub returns-clause-ready : goal.returns-clause-ready

@@ -1,5 +1,5 @@
 use Rattle.std.proofs.Common.{refl, ap, ◌∙◌}
-use Rattle.commit_order.specs.Orders.{desk_of}
+use Rattle.event_worlds.specs.commit_order.Orders.{desk_of}
 use Rattle.event_engine.specs.Engines.{cut_in, topology_in}
 use Rattle.event_engine.proofs.FatesLemmas.{on_err}
 use Rattle.event_engine.proofs.TurnEvents.{front_heard, has_stop_none, none_exhausted, size_some, stop_of_txid, turn_short, turn_stopped, turn_taken}

@@ -5,7 +5,7 @@ use Rattle.event_engine.proofs.BoostLemmas.{task_again, task_here, task_of_its_o
 use Rattle.event_engine.proofs.GoesLemmas.{goes-none}
 use Rattle.event_engine.proofs.LoopLemmas.{ready_here, still_then}
 use Rattle.event_worlds.specs.Worlds.{of_task}
-use Rattle.topology_plan.specs.Topology.{Topology}
+use Rattle.event_worlds.specs.topology_plan.Topology.{Topology}
 use Rattle.event_engine.proofs.engine.Engine.task_often.Goals as goal
 
 pub loop-done-init : goal.loop-done-init

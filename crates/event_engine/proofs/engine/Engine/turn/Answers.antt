@@ -1,13 +1,13 @@
 use Rattle.std.proofs.Common.{[], ◌∷◌, None, refl, sym, ap, ◌∙◌, append-nil}
-use Rattle.commit_order.specs.Orders.{desk_of}
-use Rattle.commit_turns.specs.Turns.{turned}
+use Rattle.event_worlds.specs.commit_order.Orders.{desk_of}
+use Rattle.event_worlds.specs.commit_turns.Turns.{turned}
 use Rattle.event_engine.specs.Engines.{cut_in, shape, topology_in}
 use Rattle.event_engine.proofs.EngineLemmas.{seated_by}
 use Rattle.event_engine.proofs.FatesLemmas.{on_err}
 use Rattle.event_engine.proofs.GoesLemmas.{goes-over, goes-turn}
 use Rattle.event_engine.proofs.TurnEvents.{happens_alike, hands_order, idle_still, ready_alike, ready_handed, tasks_are}
 use Rattle.event_worlds.specs.Worlds.{of_turn, turn_needs, turn_step}
-use Rattle.topology_plan.specs.Topology.{tasks_in_all}
+use Rattle.event_worlds.specs.topology_plan.Topology.{tasks_in_all}
 use Rattle.event_engine.proofs.engine.Engine.turn.Goals as goal
 
 pub returns-then-is_over-clause-goes : goal.returns-then-is_over-clause-goes

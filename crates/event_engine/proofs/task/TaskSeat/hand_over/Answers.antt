@@ -1,5 +1,5 @@
 use Rattle.std.proofs.Common.{rules, refl}
-use Rattle.bolt_task.specs.Executing.{number_of, topology_at}
+use Rattle.event_worlds.specs.bolt_task.Executing.{number_of, topology_at}
 use Rattle.event_engine.proofs.SeatLemmas.{acts_front}
 use Rattle.event_engine.proofs.task.TaskSeat.hand_over.Goals as goal
 

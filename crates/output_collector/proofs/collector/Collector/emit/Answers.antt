@@ -1,7 +1,7 @@
 use Rattle.std.proofs.Common.{◌≡◌, [], ◌∷◌, ◌∙◌, arith}
 use Rattle.std.proofs.lemmas.Grind.{common_steps}
 use Rattle.std.specs.Vec.Iter.{into_iter_items}
-use Rattle.tree_model.specs.Trees.{kids}
+use Rattle.tuple_account.specs.tree_model.Trees.{kids}
 use Rattle.output_collector.specs.Outlets.{tasks_for}
 use Rattle.output_collector.specs.Sending.{sent}
 use Rattle.output_collector.proofs.Rows.{goes_row, sent_rows, after_more}

@@ -1,6 +1,6 @@
 use Rattle.std.proofs.Common.{◌≡◌, []}
 use Rattle.std.specs.Vec.Iter.{into_iter_items}
-use Rattle.tree_model.specs.Trees.{kids}
+use Rattle.tuple_account.specs.tree_model.Trees.{kids}
 use Rattle.output_collector.specs.Outlets.{IsSameSource, after_rows, tasks_for}
 use Rattle.output_collector.specs.Sending.{BeginsWith, sent}
 use Rattle.output_collector.proofs.Sending.{Goes}

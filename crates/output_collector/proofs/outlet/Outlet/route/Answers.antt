@@ -1,5 +1,5 @@
 use Rattle.std.proofs.Common.{◌≡◌, ◌<◌, length, Some, slice_get, ap, ◌∙◌, arith}
-use Rattle.topology_plan.specs.Topology.{subs_of}
+use Rattle.tuple_account.specs.topology_plan.Topology.{subs_of}
 use Rattle.output_collector.specs.Outlets.{Outlet}
 use Rattle.output_collector.proofs.Lanes.{length-subs, AreLanesOf-routed, few_targets, index_at}
 use Rattle.output_collector.proofs.outlet.Outlet.route.Goals as goal
