@@ -55,8 +55,8 @@ class Documents(unittest.TestCase):
         names = [f"a{it}" for it in range(16)]
         self.write("crates.txt", "# a line\n" + "".join(f"{it} may_wait=1: {' '.join(names[:at])} std\n" for at, it in enumerate(names)))
         faults = self.check.ways()
-        self.assertEqual([it.split(":")[1].split(" has ")[0].strip() for it in faults], ["a14", "a15"])
-        self.assertIn("16,384 ways down", faults[0])
+        self.assertEqual([it.split(":")[1].split(" has ")[0].strip() for it in faults], ["a15"])
+        self.assertIn("32,768 ways down", faults[0])
         self.write("crates.txt", "".join(f"{it}: {names[max(at - 1, 0)] if at else ''}\n" for at, it in enumerate(names)))
         self.assertEqual(self.check.ways(), [])
 

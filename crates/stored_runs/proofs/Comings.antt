@@ -2,24 +2,24 @@
 use Rattle.std.proofs.Common.{◌≡◌, ◌≤◌, ◌<◌, ◌+◌, ◌-◌, ◌^◌, inl, inr, ℕ, List, All, IfOk, OnErr, length, sum, Result, Ok, Err, refl, sym, ap, subst, ◌∙◌, arith}
 use Rattle.std.specs.List.{AllZip}
 use Rattle.std.proofs.lemmas.List.FromFn.{length-range_with_len}
-use Rattle.worker_runs.specs.attempt_fates.declared.fates.Attempt.{Attempt}
-use Rattle.worker_runs.specs.attempt_fates.Fates.{IsWhole}
-use Rattle.worker_runs.specs.batch_commits.Standing.{FailsAtOneOf, FailuresAreCounted, PartsStand, batches_in, failed_commits}
-use Rattle.worker_runs.specs.bolt_ops.RowOp.{Custom, IsCustom}
-use Rattle.worker_runs.specs.commit_order.declared.stop.Stop.{Stop}
-use Rattle.worker_runs.specs.commit_order.declared.stop.Stop.TheVariants as stop
-use Rattle.worker_runs.specs.event_worlds.Accounted.{AreCaused, IsInput}
-use Rattle.worker_runs.specs.event_worlds.Rounds.{HasRounds, rounds_needed, ticks_in}
-use Rattle.worker_runs.specs.event_worlds.Worlds.{Step}
-use Rattle.worker_runs.specs.schedule_core.declared.ended.Ended.{Ended}
-use Rattle.worker_runs.specs.schedule_core.declared.ended.Ended.TheVariants as ended
-use Rattle.worker_runs.specs.schedule_core.Runs.{Answers, HasRoundsOf, RoundsCome, RunTells, committed_count, ended as ended_of, first_answers}
-use Rattle.worker_runs.specs.schedule_core.Schedules.{HadMemory, IsAnswer, IsOfWorld}
-use Rattle.worker_runs.specs.state_parts.Commits.{SameCounts}
-use Rattle.worker_runs.specs.state_parts.declared.parts.StatePart.{StatePart}
-use Rattle.worker_runs.specs.state_parts.Makers.{RoseBySum, faults_of}
-use Rattle.worker_runs.specs.state_parts.PartPlans.{plans_of}
-use Rattle.worker_runs.specs.state_parts.PartTables.{IsTableOver}
+use Rattle.event_worlds.specs.attempt_fates.declared.fates.Attempt.{Attempt}
+use Rattle.event_worlds.specs.attempt_fates.Fates.{IsWhole}
+use Rattle.batch_commits.specs.Standing.{FailsAtOneOf, FailuresAreCounted, PartsStand, batches_in, failed_commits}
+use Rattle.event_worlds.specs.bolt_ops.RowOp.{Custom, IsCustom}
+use Rattle.event_worlds.specs.commit_order.declared.stop.Stop.{Stop}
+use Rattle.event_worlds.specs.commit_order.declared.stop.Stop.TheVariants as stop
+use Rattle.event_worlds.specs.Accounted.{AreCaused, IsInput}
+use Rattle.event_worlds.specs.Rounds.{HasRounds, rounds_needed, ticks_in}
+use Rattle.event_worlds.specs.Worlds.{Step}
+use Rattle.schedule_core.specs.declared.ended.Ended.{Ended}
+use Rattle.schedule_core.specs.declared.ended.Ended.TheVariants as ended
+use Rattle.schedule_core.specs.Runs.{Answers, HasRoundsOf, RoundsCome, RunTells, committed_count, ended as ended_of, first_answers}
+use Rattle.schedule_core.specs.Schedules.{HadMemory, IsAnswer, IsOfWorld}
+use Rattle.event_worlds.specs.state_parts.Commits.{SameCounts}
+use Rattle.event_worlds.specs.state_parts.declared.parts.StatePart.{StatePart}
+use Rattle.event_worlds.specs.state_parts.Makers.{RoseBySum, faults_of}
+use Rattle.event_worlds.specs.state_parts.PartPlans.{plans_of}
+use Rattle.event_worlds.specs.state_parts.PartTables.{IsTableOver}
 use Rattle.stored_runs.proofs.Faults.{counted_broken, counted_fault, counted_quiet, fail_at_parts}
 use Rattle.stored_runs.proofs.Finished.{given_all, not_raised, rounds_all}
 use Rattle.stored_runs.proofs.Lent.{Lent, are_empty, came_back, had_strange, maps_stand, not_strange}
@@ -29,12 +29,12 @@ use Rattle.stored_runs.specs.declared.ending.RunEnd.TheVariants as end
 use Rattle.stored_runs.specs.Laws.{PartLaws, WorldLaws}
 use Rattle.stored_runs.specs.Makers.{BeganEmpty, CameBack, FaultsAreCounted, FaultsBeforeBadCell, MapsStand, maker_use}
 use Rattle.stored_runs.specs.StoredRuns.{EndComes, FaultsCome, IsAll, IsEndOfWorld, IsRun, IsRunByRounds, IsRunOfWorld, NothingIsInTheWay, StandsWithoutMemory}
-use Rattle.worker_runs.specs.storm_stores.CellMaps.{CellMap}
-use Rattle.worker_runs.specs.topology_plan.Topology.{Topology}
-use Rattle.worker_runs.specs.tree_model.declared.write.Table.{Table}
-use Rattle.worker_runs.specs.tree_model.Tables.{AreTables, states_of}
-use Rattle.worker_runs.specs.tree_model.Trees.{writes}
-use Rattle.worker_runs.specs.trident_batches.Batches.{Cut}
+use Rattle.storm_stores.specs.CellMaps.{CellMap}
+use Rattle.event_worlds.specs.topology_plan.Topology.{Topology}
+use Rattle.event_worlds.specs.tree_model.declared.write.Table.{Table}
+use Rattle.event_worlds.specs.tree_model.Tables.{AreTables, states_of}
+use Rattle.event_worlds.specs.tree_model.Trees.{writes}
+use Rattle.event_worlds.specs.trident_batches.Batches.{Cut}
 use Rattle.worker_runs.specs.WorkerRuns.{NothingRanOut}
 
 -- batches of an input have a size

@@ -4,27 +4,27 @@ use Rattle.std.specs.List.{AllByRecursion, AllZip}
 use Rattle.std.proofs.lemmas.Bool.{cases_lt}
 use Rattle.std.proofs.lemmas.List.Elements.{All-from_recursion, recursion_from_All}
 use Rattle.std.proofs.lemmas.List.Sums.{sum_by-cons}
-use Rattle.worker_runs.specs.attempt_fates.declared.fates.Attempt.{Attempt}
-use Rattle.worker_runs.specs.attempt_fates.declared.fates.End.{End}
-use Rattle.worker_runs.specs.attempt_fates.declared.fates.End.TheVariants as end
-use Rattle.worker_runs.specs.batch_commits.Standing.{AllButLastAreCounted, CountsRun, FailsAtOneOf, FailuresAreCounted, failed_commits}
-use Rattle.worker_runs.specs.bolt_ops.RowOp.{Custom}
-use Rattle.worker_runs.specs.commit_turns.Account.{ended_of, ending_of, rows_in}
-use Rattle.worker_runs.proofs.counted_items.Each.{each-map}
-use Rattle.worker_runs.specs.event_worlds.Accounted.{AreCaused}
-use Rattle.worker_runs.specs.schedule_core.Driving.{StillTells}
-use Rattle.worker_runs.specs.state_parts.Commits.{FailedOnceAtMost, SameCounts}
-use Rattle.worker_runs.specs.state_parts.declared.parts.StatePart.{StatePart}
-use Rattle.worker_runs.specs.state_parts.Makers.{Began, CameBack as PartCameBack, HasNotFailed, RoseBySum, faults_of}
-use Rattle.worker_runs.specs.state_parts.PartPlans.{IsOneOf, PartPlan, plan_of, plans_of}
-use Rattle.worker_runs.specs.state_parts.PartTables.{IsRead, OneRaised}
+use Rattle.event_worlds.specs.attempt_fates.declared.fates.Attempt.{Attempt}
+use Rattle.event_worlds.specs.attempt_fates.declared.fates.End.{End}
+use Rattle.event_worlds.specs.attempt_fates.declared.fates.End.TheVariants as end
+use Rattle.batch_commits.specs.Standing.{AllButLastAreCounted, CountsRun, FailsAtOneOf, FailuresAreCounted, failed_commits}
+use Rattle.event_worlds.specs.bolt_ops.RowOp.{Custom}
+use Rattle.event_worlds.specs.commit_turns.Account.{ended_of, ending_of, rows_in}
+use Rattle.event_worlds.proofs.counted_items.Each.{each-map}
+use Rattle.event_worlds.specs.Accounted.{AreCaused}
+use Rattle.schedule_core.specs.Driving.{StillTells}
+use Rattle.event_worlds.specs.state_parts.Commits.{FailedOnceAtMost, SameCounts}
+use Rattle.event_worlds.specs.state_parts.declared.parts.StatePart.{StatePart}
+use Rattle.event_worlds.specs.state_parts.Makers.{Began, CameBack as PartCameBack, HasNotFailed, RoseBySum, faults_of}
+use Rattle.event_worlds.specs.state_parts.PartPlans.{IsOneOf, PartPlan, plan_of, plans_of}
+use Rattle.event_worlds.specs.state_parts.PartTables.{IsRead, OneRaised}
 use Rattle.stored_runs.proofs.Lent.{Lent, at_map}
 use Rattle.stored_runs.specs.Makers.{CountsOf, FaultsAreCounted, FaultsBeforeBadCell, ReadingFailed, StoreStood, maker_use}
-use Rattle.worker_runs.specs.storm_stores.CellMaps.{CellMap}
-use Rattle.worker_runs.specs.storm_values.Counts.{raised, raised_by}
-use Rattle.worker_runs.specs.topology_plan.Topology.{Topology}
-use Rattle.worker_runs.specs.trident_batches.Batches.{Cut}
-use Rattle.worker_runs.specs.tuple_account.Ends.{CauseBy, HasCause, IsPart}
+use Rattle.storm_stores.specs.CellMaps.{CellMap}
+use Rattle.event_worlds.specs.storm_values.Counts.{raised, raised_by}
+use Rattle.event_worlds.specs.topology_plan.Topology.{Topology}
+use Rattle.event_worlds.specs.trident_batches.Batches.{Cut}
+use Rattle.event_worlds.specs.tuple_account.Ends.{CauseBy, HasCause, IsPart}
 
 -- ---- each part
 

@@ -3,33 +3,33 @@ use Rattle.std.proofs.Common.{◌≡◌, ◌≤◌, ◌<◌, ◌-◌, ◌^◌, �
 use Rattle.std.specs.List.{AllByRecursion, cons_option}
 use Rattle.std.proofs.lemmas.Bool.{cases_lt}
 use Rattle.std.proofs.lemmas.List.Elements.{All-from_recursion, All-weaker, recursion_from_All}
-use Rattle.worker_runs.specs.attempt_fates.declared.fates.Attempt.{Attempt}
-use Rattle.worker_runs.specs.attempt_fates.declared.fates.End.{End}
-use Rattle.worker_runs.specs.attempt_fates.declared.fates.End.TheVariants as end
-use Rattle.worker_runs.specs.attempt_fates.Fates.{IsOfBatch, attempt_numbers}
-use Rattle.worker_runs.specs.batch_commits.Standing.{failed_commits}
-use Rattle.worker_runs.specs.bolt_ops.RowOp.{Custom, IsCustom}
-use Rattle.worker_runs.specs.commit_order.declared.stop.Stop.{Stop}
-use Rattle.worker_runs.specs.commit_turns.Desks.{Desk}
-use Rattle.worker_runs.specs.commit_turns.Kept.{IsKept, is_failed_commit}
-use Rattle.worker_runs.specs.commit_turns.Outcomes.{IsOutcome}
-use Rattle.worker_runs.specs.commit_turns.Turns.{is_finished}
-use Rattle.worker_runs.proofs.counted_items.Each.{each-front}
-use Rattle.worker_runs.specs.event_worlds.Accounted.{IsInput}
-use Rattle.worker_runs.specs.event_worlds.Rounds.{CanFinish, DoesNotCoincide, HasRounds, rounds_needed, ticks_in}
-use Rattle.worker_runs.specs.event_worlds.Worlds.{Known, Step, World, first_known, is_over, outcome_by, outcomes_of, run}
-use Rattle.worker_runs.specs.schedule_core.declared.ended.Ended.{Ended}
-use Rattle.worker_runs.specs.schedule_core.declared.ended.Ended.TheVariants as ended
-use Rattle.worker_runs.specs.schedule_core.Runs.{HasRoundsOf, ended as ended_of, first_answers}
-use Rattle.worker_runs.specs.schedule_core.Schedules.{IsOfWorld, answer_by, answer_of}
-use Rattle.worker_runs.specs.state_parts.declared.answer.CommitOutcome.{CommitOutcome}
-use Rattle.worker_runs.specs.state_parts.declared.answer.CommitOutcome.TheVariants.{Done}
-use Rattle.worker_runs.specs.state_parts.Makers.{RoseBySum}
-use Rattle.worker_runs.specs.storm_values.Counts.{Rose}
+use Rattle.event_worlds.specs.attempt_fates.declared.fates.Attempt.{Attempt}
+use Rattle.event_worlds.specs.attempt_fates.declared.fates.End.{End}
+use Rattle.event_worlds.specs.attempt_fates.declared.fates.End.TheVariants as end
+use Rattle.event_worlds.specs.attempt_fates.Fates.{IsOfBatch, attempt_numbers}
+use Rattle.batch_commits.specs.Standing.{failed_commits}
+use Rattle.event_worlds.specs.bolt_ops.RowOp.{Custom, IsCustom}
+use Rattle.event_worlds.specs.commit_order.declared.stop.Stop.{Stop}
+use Rattle.event_worlds.specs.commit_turns.Desks.{Desk}
+use Rattle.event_worlds.specs.commit_turns.Kept.{IsKept, is_failed_commit}
+use Rattle.event_worlds.specs.commit_turns.Outcomes.{IsOutcome}
+use Rattle.event_worlds.specs.commit_turns.Turns.{is_finished}
+use Rattle.event_worlds.proofs.counted_items.Each.{each-front}
+use Rattle.event_worlds.specs.Accounted.{IsInput}
+use Rattle.event_worlds.specs.Rounds.{CanFinish, DoesNotCoincide, HasRounds, rounds_needed, ticks_in}
+use Rattle.event_worlds.specs.Worlds.{Known, Step, World, first_known, is_over, outcome_by, outcomes_of, run}
+use Rattle.schedule_core.specs.declared.ended.Ended.{Ended}
+use Rattle.schedule_core.specs.declared.ended.Ended.TheVariants as ended
+use Rattle.schedule_core.specs.Runs.{HasRoundsOf, ended as ended_of, first_answers}
+use Rattle.schedule_core.specs.Schedules.{IsOfWorld, answer_by, answer_of}
+use Rattle.event_worlds.specs.state_parts.declared.answer.CommitOutcome.{CommitOutcome}
+use Rattle.event_worlds.specs.state_parts.declared.answer.CommitOutcome.TheVariants.{Done}
+use Rattle.event_worlds.specs.state_parts.Makers.{RoseBySum}
+use Rattle.event_worlds.specs.storm_values.Counts.{Rose}
 use Rattle.stored_runs.proofs.Prefixes.{Front, front_of, grows-run, over-finished, run-both, run-over, sum_of_first}
 use Rattle.stored_runs.specs.Laws.{WorldLaws}
-use Rattle.worker_runs.specs.topology_plan.Topology.{Topology}
-use Rattle.worker_runs.specs.trident_batches.Batches.{Cut, batch_count}
+use Rattle.event_worlds.specs.topology_plan.Topology.{Topology}
+use Rattle.event_worlds.specs.trident_batches.Batches.{Cut, batch_count}
 
 -- ---- no commit failed
 

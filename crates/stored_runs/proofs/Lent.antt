@@ -3,26 +3,26 @@ use Rattle.std.proofs.Common.{◌≡◌, ◌≤◌, ◌+◌, ◌⊎◌, inl, inr
 use Rattle.std.specs.List.{AllByRecursion, AllZip}
 use Rattle.std.proofs.lemmas.Bool.{cases_eq}
 use Rattle.std.proofs.lemmas.List.Elements.{All-from_recursion, All-weaker, recursion_from_All}
-use Rattle.worker_runs.specs.batch_commits.Standing.{HasStrangeAt, IsStrange, PartsStand, batches_in, writes_at, writes_to}
-use Rattle.worker_runs.specs.bolt_ops.RowOp.{Custom}
+use Rattle.batch_commits.specs.Standing.{HasStrangeAt, IsStrange, PartsStand, batches_in, writes_at, writes_to}
+use Rattle.event_worlds.specs.bolt_ops.RowOp.{Custom}
 use Rattle.cell_format.proofs.CommitLemmas.{Stands-none}
 use Rattle.cell_format.specs.Standing.{Stands}
-use Rattle.worker_runs.proofs.counted_items.Each.{each-map, each-to_map}
-use Rattle.worker_runs.specs.schedule_core.Driving.{AreKept, StillTells}
-use Rattle.worker_runs.specs.state_parts.Commits.{SameCounts}
-use Rattle.worker_runs.specs.state_parts.declared.parts.StatePart.{StatePart}
-use Rattle.worker_runs.specs.state_parts.Makers.{AreMade, Began, CameBack as PartCameBack, HasNotFailed, faults_of}
-use Rattle.worker_runs.specs.state_parts.PartPlans.{AreParts, IsOneOf, PartPlan, plan_of, planned_parts, plans_of}
-use Rattle.worker_runs.specs.state_parts.PartTables.{AreRead, IsRead}
-use Rattle.worker_runs.specs.state_parts.Standing.{IsEmpty, PartIsAt, PartStands}
+use Rattle.event_worlds.proofs.counted_items.Each.{each-map, each-to_map}
+use Rattle.schedule_core.specs.Driving.{AreKept, StillTells}
+use Rattle.event_worlds.specs.state_parts.Commits.{SameCounts}
+use Rattle.event_worlds.specs.state_parts.declared.parts.StatePart.{StatePart}
+use Rattle.event_worlds.specs.state_parts.Makers.{AreMade, Began, CameBack as PartCameBack, HasNotFailed, faults_of}
+use Rattle.event_worlds.specs.state_parts.PartPlans.{AreParts, IsOneOf, PartPlan, plan_of, planned_parts, plans_of}
+use Rattle.event_worlds.specs.state_parts.PartTables.{AreRead, IsRead}
+use Rattle.event_worlds.specs.state_parts.Standing.{IsEmpty, PartIsAt, PartStands}
 use Rattle.stored_runs.specs.Makers.{BeganEmpty, CameBack, HadStrangeAt, MapsStand, StandsAt, StillTold, maker_use, writes_of_part}
-use Rattle.worker_runs.specs.storm_stores.CellMaps.{CellMap, cell_at}
-use Rattle.worker_runs.specs.storm_values.Counts.{raised_by}
-use Rattle.worker_runs.specs.topology_plan.declared.parts.Kind.{Kind}
-use Rattle.worker_runs.specs.topology_plan.Topology.{Topology, tasks_of}
-use Rattle.worker_runs.specs.tree_model.declared.write.Write.{Write}
-use Rattle.worker_runs.specs.tree_model.Trees.{nodes_of}
-use Rattle.worker_runs.specs.trident_batches.Batches.{Cut}
+use Rattle.storm_stores.specs.CellMaps.{CellMap, cell_at}
+use Rattle.event_worlds.specs.storm_values.Counts.{raised_by}
+use Rattle.event_worlds.specs.topology_plan.declared.parts.Kind.{Kind}
+use Rattle.event_worlds.specs.topology_plan.Topology.{Topology, tasks_of}
+use Rattle.event_worlds.specs.tree_model.declared.write.Write.{Write}
+use Rattle.event_worlds.specs.tree_model.Trees.{nodes_of}
+use Rattle.event_worlds.specs.trident_batches.Batches.{Cut}
 
 -- What the calls of a body told of a maker and of the parts: it made the parts, a run went over
 -- them, they were read, and their stores went back.

@@ -5,18 +5,18 @@ use Rattle.std.specs.List.{range_with_len}
 use Rattle.std.proofs.lemmas.List.{length-append}
 use Rattle.std.proofs.lemmas.List.Elements.{filter-append}
 use Rattle.std.proofs.lemmas.List.Sums.{sum_by-cons}
-use Rattle.worker_runs.specs.attempt_fates.declared.fates.Attempt.{Attempt}
-use Rattle.worker_runs.specs.bolt_ops.RowOp.{Custom}
-use Rattle.worker_runs.specs.commit_turns.Desks.{Progress}
-use Rattle.worker_runs.specs.commit_turns.Turns.{decided, is_finished}
-use Rattle.worker_runs.specs.event_worlds.Rounds.{HasRounds, is_tick, round_with, ticks_in}
-use Rattle.worker_runs.specs.event_worlds.Worlds.{Acted, Known, Step, World, acted, coordinator_steps, delivered, is_over, next, next_outcome, next_words, of_acker, of_outcome, of_task, of_tick, of_turn, run, sent, step, task_at, task_needs, turn_needs, turn_past, with_progress, with_task}
-use Rattle.worker_runs.specs.schedule_core.Runs.{HasRoundsOf, first_answers}
-use Rattle.worker_runs.specs.state_parts.declared.answer.CommitOutcome.{CommitOutcome}
-use Rattle.worker_runs.specs.topology_plan.Topology.{Topology, tasks_in_all}
-use Rattle.worker_runs.specs.tree_model.declared.messages.Parcel.{Parcel}
-use Rattle.worker_runs.specs.tree_model.declared.messages.Parcel.TheVariants.{ToAcker, ToTask}
-use Rattle.worker_runs.specs.trident_batches.Batches.{Cut}
+use Rattle.event_worlds.specs.attempt_fates.declared.fates.Attempt.{Attempt}
+use Rattle.event_worlds.specs.bolt_ops.RowOp.{Custom}
+use Rattle.event_worlds.specs.commit_turns.Desks.{Progress}
+use Rattle.event_worlds.specs.commit_turns.Turns.{decided, is_finished}
+use Rattle.event_worlds.specs.Rounds.{HasRounds, is_tick, round_with, ticks_in}
+use Rattle.event_worlds.specs.Worlds.{Acted, Known, Step, World, acted, coordinator_steps, delivered, is_over, next, next_outcome, next_words, of_acker, of_outcome, of_task, of_tick, of_turn, run, sent, step, task_at, task_needs, turn_needs, turn_past, with_progress, with_task}
+use Rattle.schedule_core.specs.Runs.{HasRoundsOf, first_answers}
+use Rattle.event_worlds.specs.state_parts.declared.answer.CommitOutcome.{CommitOutcome}
+use Rattle.event_worlds.specs.topology_plan.Topology.{Topology, tasks_in_all}
+use Rattle.event_worlds.specs.tree_model.declared.messages.Parcel.{Parcel}
+use Rattle.event_worlds.specs.tree_model.declared.messages.Parcel.TheVariants.{ToAcker, ToTask}
+use Rattle.event_worlds.specs.trident_batches.Batches.{Cut}
 
 -- ---- ticks
 

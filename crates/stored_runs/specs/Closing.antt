@@ -1,17 +1,17 @@
 -- How the answer of a run over parts comes to its end. This project's own.
 use Rattle.std.specs.Prelude.{◌≡◌, ◌⊎◌, ℕ, List, Result, Ok, Err}
 use Rattle.std.specs.List.{AllZip}
-use Rattle.worker_runs.specs.commit_order.declared.stop.Stop.{Stop}
-use Rattle.worker_runs.specs.commit_order.declared.stop.Stop.TheVariants as stop
-use Rattle.worker_runs.specs.schedule_core.declared.ended.Ended.{Ended}
-use Rattle.worker_runs.specs.schedule_core.declared.ended.Ended.TheVariants as ended
-use Rattle.worker_runs.specs.state_parts.declared.parts.StatePart.{StatePart}
-use Rattle.worker_runs.specs.state_parts.PartTables.{IsBadRowAt, IsTableOver, OneRaised}
-use Rattle.worker_runs.specs.storm_stores.CellMaps.{CellMap}
+use Rattle.event_worlds.specs.commit_order.declared.stop.Stop.{Stop}
+use Rattle.event_worlds.specs.commit_order.declared.stop.Stop.TheVariants as stop
+use Rattle.schedule_core.specs.declared.ended.Ended.{Ended}
+use Rattle.schedule_core.specs.declared.ended.Ended.TheVariants as ended
+use Rattle.event_worlds.specs.state_parts.declared.parts.StatePart.{StatePart}
+use Rattle.event_worlds.specs.state_parts.PartTables.{IsBadRowAt, IsTableOver, OneRaised}
+use Rattle.storm_stores.specs.CellMaps.{CellMap}
 use Rattle.stored_runs.specs.declared.ending.RunEnd.{RunEnd}
 use Rattle.stored_runs.specs.declared.ending.RunEnd.TheVariants as end
-use Rattle.worker_runs.specs.topology_plan.Topology.{Topology}
-use Rattle.worker_runs.specs.tree_model.Tables.{states_of}
+use Rattle.event_worlds.specs.topology_plan.Topology.{Topology}
+use Rattle.event_worlds.specs.tree_model.Tables.{states_of}
 
 -- Where every batch was committed the parts were read: they have these tables, or a store failed,
 -- or one has a cell that no table takes. All other answers stand as they are.

@@ -1,29 +1,29 @@
 -- The laws that a run over the stores of a maker rests on. This project's own.
 use Rattle.std.specs.Prelude.{◌≡◌, ◌<◌, ℕ, true, List, All, length}
 use Rattle.std.specs.List.{AllZip}
-use Rattle.worker_runs.specs.attempt_fates.declared.fates.Attempt.{Attempt}
-use Rattle.worker_runs.specs.batch_commits.Standing.{AllButLastAreCounted, FailsAtOneOf, FailuresAreCounted, HasStrangeAt, PartsStand, RoseByFailures, batches_in, failed_commits}
-use Rattle.worker_runs.specs.bolt_ops.RowOp.{Custom, IsCustom}
-use Rattle.worker_runs.specs.commit_turns.Outcomes.{IsOutcome}
-use Rattle.worker_runs.specs.commit_turns.Turns.{is_finished}
-use Rattle.worker_runs.specs.event_worlds.Accounted.{Accounted, IsInput}
-use Rattle.worker_runs.specs.event_worlds.Rounds.{CanFinish, DoesNotCoincide, HasRounds, rounds_needed, ticks_in}
-use Rattle.worker_runs.specs.event_worlds.Worlds.{Known, Step, first_known, run, world_after}
-use Rattle.worker_runs.specs.state_parts.declared.answer.CommitOutcome.{CommitOutcome}
-use Rattle.worker_runs.specs.state_parts.declared.answer.CommitOutcome.TheVariants.{Done}
-use Rattle.worker_runs.specs.state_parts.declared.parts.StatePart.{StatePart}
-use Rattle.worker_runs.specs.state_parts.Commits.{IsBadAt}
-use Rattle.worker_runs.specs.state_parts.Makers.{RoseBySum, faults_of}
-use Rattle.worker_runs.specs.state_parts.PartPlans.{AreParts, IsOneOf, plans_of}
-use Rattle.worker_runs.specs.state_parts.PartTables.{IsBadRowAt, IsTableOver}
-use Rattle.worker_runs.specs.storm_stores.CellMaps.{CellMap}
-use Rattle.worker_runs.specs.topology_plan.Topology.{Topology}
-use Rattle.worker_runs.specs.topology_plan.Wired.{IsWired}
-use Rattle.worker_runs.specs.tree_model.declared.write.Table.{Table}
-use Rattle.worker_runs.specs.tree_model.Tables.{AreTables, states_of}
-use Rattle.worker_runs.specs.tree_model.Trees.{writes}
-use Rattle.worker_runs.specs.trident_batches.Batches.{Cut}
-use Rattle.worker_runs.specs.tuple_account.Ends.{IsPart}
+use Rattle.event_worlds.specs.attempt_fates.declared.fates.Attempt.{Attempt}
+use Rattle.batch_commits.specs.Standing.{AllButLastAreCounted, FailsAtOneOf, FailuresAreCounted, HasStrangeAt, PartsStand, RoseByFailures, batches_in, failed_commits}
+use Rattle.event_worlds.specs.bolt_ops.RowOp.{Custom, IsCustom}
+use Rattle.event_worlds.specs.commit_turns.Outcomes.{IsOutcome}
+use Rattle.event_worlds.specs.commit_turns.Turns.{is_finished}
+use Rattle.event_worlds.specs.Accounted.{Accounted, IsInput}
+use Rattle.event_worlds.specs.Rounds.{CanFinish, DoesNotCoincide, HasRounds, rounds_needed, ticks_in}
+use Rattle.event_worlds.specs.Worlds.{Known, Step, first_known, run, world_after}
+use Rattle.event_worlds.specs.state_parts.declared.answer.CommitOutcome.{CommitOutcome}
+use Rattle.event_worlds.specs.state_parts.declared.answer.CommitOutcome.TheVariants.{Done}
+use Rattle.event_worlds.specs.state_parts.declared.parts.StatePart.{StatePart}
+use Rattle.event_worlds.specs.state_parts.Commits.{IsBadAt}
+use Rattle.event_worlds.specs.state_parts.Makers.{RoseBySum, faults_of}
+use Rattle.event_worlds.specs.state_parts.PartPlans.{AreParts, IsOneOf, plans_of}
+use Rattle.event_worlds.specs.state_parts.PartTables.{IsBadRowAt, IsTableOver}
+use Rattle.storm_stores.specs.CellMaps.{CellMap}
+use Rattle.event_worlds.specs.topology_plan.Topology.{Topology}
+use Rattle.event_worlds.specs.topology_plan.Wired.{IsWired}
+use Rattle.event_worlds.specs.tree_model.declared.write.Table.{Table}
+use Rattle.event_worlds.specs.tree_model.Tables.{AreTables, states_of}
+use Rattle.event_worlds.specs.tree_model.Trees.{writes}
+use Rattle.event_worlds.specs.trident_batches.Batches.{Cut}
+use Rattle.event_worlds.specs.tuple_account.Ends.{IsPart}
 
 -- Worlds are accounted for, and enough rounds in which nothing is lost commit every batch.
 pub record WorldLaws (t : Topology) (custom : Custom) (cut : Cut) : Type 0 where

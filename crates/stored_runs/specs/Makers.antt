@@ -1,18 +1,18 @@
 -- A maker of stores before and after a run over its stores. This project's own.
 use Rattle.std.specs.Prelude.{◌≡◌, ◌≤◌, ◌+◌, ℕ, List, [], All, Some, slice_get, sum}
 use Rattle.std.specs.List.{AllZip}
-use Rattle.worker_runs.specs.attempt_fates.declared.fates.Attempt.{Attempt}
-use Rattle.worker_runs.specs.batch_commits.Standing.{CountsRun, IsStrange, batches_in, failed_commits, writes_at, writes_to}
-use Rattle.worker_runs.specs.bolt_ops.RowOp.{Custom}
+use Rattle.event_worlds.specs.attempt_fates.declared.fates.Attempt.{Attempt}
+use Rattle.batch_commits.specs.Standing.{CountsRun, IsStrange, batches_in, failed_commits, writes_at, writes_to}
+use Rattle.event_worlds.specs.bolt_ops.RowOp.{Custom}
 use Rattle.cell_format.specs.Standing.{IsWithin, Stands}
-use Rattle.worker_runs.specs.state_parts.Commits.{FailedOnceAtMost, is_for_part}
-use Rattle.worker_runs.specs.state_parts.Makers.{RoseBySum}
-use Rattle.worker_runs.specs.state_parts.PartPlans.{IsOneOf, PartPlan, planned_parts}
-use Rattle.worker_runs.specs.storm_stores.CellMaps.{CellMap, cell_at}
-use Rattle.worker_runs.specs.storm_values.Counts.{raised_by}
-use Rattle.worker_runs.specs.topology_plan.Topology.{Topology, tasks_of}
-use Rattle.worker_runs.specs.tree_model.declared.write.Write.{Write}
-use Rattle.worker_runs.specs.trident_batches.Batches.{Cut}
+use Rattle.event_worlds.specs.state_parts.Commits.{FailedOnceAtMost, is_for_part}
+use Rattle.event_worlds.specs.state_parts.Makers.{RoseBySum}
+use Rattle.event_worlds.specs.state_parts.PartPlans.{IsOneOf, PartPlan, planned_parts}
+use Rattle.storm_stores.specs.CellMaps.{CellMap, cell_at}
+use Rattle.event_worlds.specs.storm_values.Counts.{raised_by}
+use Rattle.event_worlds.specs.topology_plan.Topology.{Topology, tasks_of}
+use Rattle.event_worlds.specs.tree_model.declared.write.Write.{Write}
+use Rattle.event_worlds.specs.trident_batches.Batches.{Cut}
 use Rattle.std.specs.Prelude.{filter}
 
 -- A store, as it stood at some moment, told these cells and had failed so often. Only the calls of

@@ -1,26 +1,26 @@
 -- What a run over the stores of a maker comes to. This project's own.
 use Rattle.std.specs.Prelude.{◌≡◌, ◌<◌, ℕ, List, Ok, Err, All, fold, length}
-use Rattle.worker_runs.specs.attempt_fates.declared.fates.Attempt.{Attempt}
-use Rattle.worker_runs.specs.attempt_fates.Fates.{IsOnce, IsWhole}
-use Rattle.worker_runs.specs.batch_commits.Standing.{batches_in}
-use Rattle.worker_runs.specs.bolt_ops.RowOp.{Custom}
-use Rattle.worker_runs.specs.commit_order.declared.stop.Stop.TheVariants as stop
-use Rattle.worker_runs.specs.commit_turns.Kept.{FailsInTurn}
-use Rattle.worker_runs.specs.event_worlds.Accounted.{AreCaused}
-use Rattle.worker_runs.specs.event_worlds.Rounds.{CanFinish, DoesNotCoincide}
-use Rattle.worker_runs.specs.event_worlds.Worlds.{Step}
-use Rattle.worker_runs.specs.schedule_core.declared.ended.Ended.TheVariants as ended
-use Rattle.worker_runs.specs.schedule_core.Runs.{HasRoundsOf, HasRunOut, committed_count, first_answers}
-use Rattle.worker_runs.specs.schedule_core.Schedules.{IsOfWorld}
-use Rattle.worker_runs.specs.storm_values.Counts.{Rose}
-use Rattle.worker_runs.specs.storm_ticks.Ticking.{handed_on}
+use Rattle.event_worlds.specs.attempt_fates.declared.fates.Attempt.{Attempt}
+use Rattle.event_worlds.specs.attempt_fates.Fates.{IsOnce, IsWhole}
+use Rattle.batch_commits.specs.Standing.{batches_in}
+use Rattle.event_worlds.specs.bolt_ops.RowOp.{Custom}
+use Rattle.event_worlds.specs.commit_order.declared.stop.Stop.TheVariants as stop
+use Rattle.event_worlds.specs.commit_turns.Kept.{FailsInTurn}
+use Rattle.event_worlds.specs.Accounted.{AreCaused}
+use Rattle.event_worlds.specs.Rounds.{CanFinish, DoesNotCoincide}
+use Rattle.event_worlds.specs.Worlds.{Step}
+use Rattle.schedule_core.specs.declared.ended.Ended.TheVariants as ended
+use Rattle.schedule_core.specs.Runs.{HasRoundsOf, HasRunOut, committed_count, first_answers}
+use Rattle.schedule_core.specs.Schedules.{IsOfWorld}
+use Rattle.event_worlds.specs.storm_values.Counts.{Rose}
+use Rattle.storm_ticks.specs.Ticking.{handed_on}
 use Rattle.stored_runs.specs.declared.ending.RunEnd.{RunEnd}
 use Rattle.stored_runs.specs.declared.ending.RunEnd.TheVariants as end
 use Rattle.stored_runs.specs.Makers.{BeganEmpty, FaultsAreCounted, FaultsBeforeBadCell, HadStrangeAt, MakerUse, MapsStand, ReadingFailed}
-use Rattle.worker_runs.specs.topology_plan.Topology.{Topology}
-use Rattle.worker_runs.specs.tree_model.Tables.{AreTables}
-use Rattle.worker_runs.specs.tree_model.Trees.{writes}
-use Rattle.worker_runs.specs.trident_batches.Batches.{Cut}
+use Rattle.event_worlds.specs.topology_plan.Topology.{Topology}
+use Rattle.event_worlds.specs.tree_model.Tables.{AreTables}
+use Rattle.event_worlds.specs.tree_model.Trees.{writes}
+use Rattle.event_worlds.specs.trident_batches.Batches.{Cut}
 
 -- ---- each end
 

@@ -1,21 +1,21 @@
 //! How the answer of a run over parts comes to its end.
 ghost use Rattle.std.specs.Prelude.{◌≡◌, Ok};
-ghost use Rattle.worker_runs.specs.schedule_core.Runs.{ended};
-ghost use Rattle.worker_runs.specs.schedule_core.declared.ended.Ended.TheVariants as of_run;
-ghost use Rattle.worker_runs.specs.state_parts.Commits.{SameCounts};
-ghost use Rattle.worker_runs.specs.state_parts.PartPlans.{plans_of};
-ghost use Rattle.worker_runs.specs.state_parts.PartTables.{AreRead};
+ghost use Rattle.schedule_core.specs.Runs.{ended};
+ghost use Rattle.schedule_core.specs.declared.ended.Ended.TheVariants as of_run;
+ghost use Rattle.event_worlds.specs.state_parts.Commits.{SameCounts};
+ghost use Rattle.event_worlds.specs.state_parts.PartPlans.{plans_of};
+ghost use Rattle.event_worlds.specs.state_parts.PartTables.{AreRead};
 ghost use Rattle.stored_runs.specs.Closing.{Closes};
 
 use crate::ending::RunEnd;
+use event_worlds::commit_order::Stop;
+use event_worlds::state_parts::Parts;
+use event_worlds::storm_values::Memory;
+use event_worlds::topology_plan::Plan;
+use schedule_core::Ended;
 use state_cells::PartFault;
 use std::alloc::AllocError;
-use worker_runs::commit_order::Stop;
-use worker_runs::schedule_core::Ended;
-use worker_runs::state_parts::Parts;
-use worker_runs::storm_stores::CellStore;
-use worker_runs::storm_values::Memory;
-use worker_runs::topology_plan::Plan;
+use storm_stores::CellStore;
 
 /// The end of a run that came to this answer. Where every batch is committed the tables are read.
 pub(crate) fn close<C: CellStore>(

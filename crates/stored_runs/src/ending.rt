@@ -1,5 +1,5 @@
-use worker_runs::storm_values::Bytes;
-use worker_runs::tree_model::Tables;
+use event_worlds::storm_values::Bytes;
+use event_worlds::tree_model::Tables;
 
 /// How a run over the stores of a maker ended.
 #[derive(Debug, Drop)]

@@ -1,11 +1,11 @@
 //! A given schedule over the stores of a maker.
 ghost use Rattle.std.specs.Prelude.{◌≡◌, ◌<◌, [], IfOk, OnErr, length};
 ghost use Rattle.std.specs.List.{AllByRecursion};
-ghost use Rattle.worker_runs.specs.attempt_fates.Fates.{IsOnce};
-ghost use Rattle.worker_runs.specs.commit_turns.Turns.{last_tick};
-ghost use Rattle.worker_runs.specs.event_worlds.Accounted.{IsInput};
-ghost use Rattle.worker_runs.specs.event_worlds.Rounds.{HasRounds, rounds_needed, ticks_in};
-ghost use Rattle.worker_runs.specs.schedule_core.Schedules.{all_steps};
+ghost use Rattle.event_worlds.specs.attempt_fates.Fates.{IsOnce};
+ghost use Rattle.event_worlds.specs.commit_turns.Turns.{last_tick};
+ghost use Rattle.event_worlds.specs.Accounted.{IsInput};
+ghost use Rattle.event_worlds.specs.Rounds.{HasRounds, rounds_needed, ticks_in};
+ghost use Rattle.schedule_core.specs.Schedules.{all_steps};
 ghost use Rattle.schedule_reader.specs.Events.{FitsEvent};
 ghost use Rattle.stored_runs.specs.Makers.{CameBack, maker_use};
 ghost use Rattle.stored_runs.specs.StoredRuns.{IsAll, IsRun, IsRunOfWorld, NothingIsInTheWay, StandsWithoutMemory};
@@ -13,16 +13,16 @@ ghost use Rattle.stored_runs.specs.StoredRuns.{IsAll, IsRun, IsRunOfWorld, Nothi
 use crate::closing::close;
 use crate::ending::RunEnd;
 use crate::laws::laws_of_runs;
+use event_worlds::attempt_fates::Fates;
+use event_worlds::bolt_ops::RowOp;
+use event_worlds::state_parts::Parts;
+use event_worlds::storm_ids::IdMaker;
+use event_worlds::storm_values::Memory;
+use event_worlds::topology_plan::Plan;
+use event_worlds::trident_batches::Batches;
+use schedule_core::{Events, replay};
 use std::alloc::Global;
-use worker_runs::attempt_fates::Fates;
-use worker_runs::bolt_ops::RowOp;
-use worker_runs::schedule_core::{Events, replay};
-use worker_runs::state_parts::Parts;
-use worker_runs::storm_ids::IdMaker;
-use worker_runs::storm_stores::StoreMaker;
-use worker_runs::storm_values::Memory;
-use worker_runs::topology_plan::Plan;
-use worker_runs::trident_batches::Batches;
+use storm_stores::StoreMaker;
 
 /// Carries out a given schedule over stores that the maker makes, reads the tables where every
 /// batch is committed, and gives the stores back.

@@ -1,16 +1,16 @@
 //! The laws that runs over the stores of a maker rest on.
-ghost use Rattle.worker_runs.specs.bolt_ops.RowOp.{Custom};
+ghost use Rattle.event_worlds.specs.bolt_ops.RowOp.{Custom};
 ghost use Rattle.stored_runs.specs.Laws.{PartLaws, WorldLaws};
-ghost use Rattle.worker_runs.specs.topology_plan.Topology.{Topology};
-ghost use Rattle.worker_runs.specs.trident_batches.Batches.{Cut};
+ghost use Rattle.event_worlds.specs.topology_plan.Topology.{Topology};
+ghost use Rattle.event_worlds.specs.trident_batches.Batches.{Cut};
 
-use worker_runs::batch_commits::{
+use batch_commits::{
     counts_run_on, failures_of_commits_are_counted, parts_that_stand_have_the_tables,
     strange_cells_were_there,
 };
-use worker_runs::event_worlds::worlds_are_accounted;
-use worker_runs::storm_stores::CellStore;
-use worker_runs::world_progress::enough_rounds_finish;
+use event_worlds::worlds_are_accounted;
+use storm_stores::CellStore;
+use world_progress::enough_rounds_finish;
 
 /// Laws of worlds, and of parts.
 pub(crate) fn laws_of_runs<C: CellStore>()

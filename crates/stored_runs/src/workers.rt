@@ -1,30 +1,30 @@
 //! Runs by workers with the ticks of a source, over the stores of a maker.
 ghost use Rattle.std.specs.Prelude.{◌≡◌, ◌≤◌, ◌<◌, ℕ, List, [], IfOk, OnErr, length, sum};
-ghost use Rattle.worker_runs.specs.attempt_fates.Fates.{IsOnce};
-ghost use Rattle.worker_runs.specs.commit_turns.Turns.{last_tick};
-ghost use Rattle.worker_runs.specs.event_worlds.Accounted.{IsInput};
-ghost use Rattle.worker_runs.specs.event_worlds.Rounds.{rounds_needed};
-ghost use Rattle.worker_runs.specs.schedule_core.Runs.{first_answers, ticks_between};
+ghost use Rattle.event_worlds.specs.attempt_fates.Fates.{IsOnce};
+ghost use Rattle.event_worlds.specs.commit_turns.Turns.{last_tick};
+ghost use Rattle.event_worlds.specs.Accounted.{IsInput};
+ghost use Rattle.event_worlds.specs.Rounds.{rounds_needed};
+ghost use Rattle.schedule_core.specs.Runs.{first_answers, ticks_between};
 ghost use Rattle.stored_runs.specs.Makers.{CameBack, maker_use};
 ghost use Rattle.stored_runs.specs.StoredRuns.{IsAll, IsRun, NothingIsInTheWay, StandsWithoutMemory};
 
 use crate::closing::{as_ended, close};
 use crate::ending::RunEnd;
 use crate::laws::laws_of_runs;
+use event_worlds::attempt_fates::Fates;
+use event_worlds::bolt_ops::RowOp;
+use event_worlds::state_parts::Parts;
+use event_worlds::storm_ids::IdMaker;
+use event_worlds::storm_values::Memory;
+use event_worlds::topology_plan::Plan;
+use event_worlds::trident_batches::Batches;
 use std::alloc::Global;
 use std::sync::Wait;
 use std::thread::Threads;
-use worker_runs::attempt_fates::Fates;
-use worker_runs::bolt_ops::RowOp;
+use storm_gates::Gate;
+use storm_stores::StoreMaker;
+use storm_ticks::Ticks;
 use worker_runs::run_by_workers;
-use worker_runs::state_parts::Parts;
-use worker_runs::storm_gates::Gate;
-use worker_runs::storm_ids::IdMaker;
-use worker_runs::storm_stores::StoreMaker;
-use worker_runs::storm_ticks::Ticks;
-use worker_runs::storm_values::Memory;
-use worker_runs::topology_plan::Plan;
-use worker_runs::trident_batches::Batches;
 
 /// Runs a plan by so many workers over stores that the maker makes, until every batch is committed
 /// or all attempts of one ended without a commit. Then it reads the tables where every batch is

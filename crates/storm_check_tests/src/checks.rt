@@ -1,9 +1,9 @@
 // What a check of a topology prints.
+use sample_topologies::{COPIES_TO_ALL, LAST_VALUE, PAIRS, WORD_COUNT, one_bolt};
 use std::alloc::Global;
-use storm_test_kit::sample_topologies::{COPIES_TO_ALL, LAST_VALUE, PAIRS, WORD_COUNT, one_bolt};
 use storm_test_kit::storm_program::{Status, storm_check};
-use storm_test_kit::test_kit::{Mismatch, changed, compare};
 use storm_test_kit::{CALM, CHECK, Scene, check_refusal, run_of, shelf, sink, taken};
+use test_kit::{Mismatch, changed, compare};
 
 // A bolt of 64 tasks that each get a copy, and one of 4 tasks that each get one of those.
 const TOO_HEAVY: &str = r#"{"version":1,

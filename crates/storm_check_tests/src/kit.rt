@@ -1,12 +1,10 @@
 // A check of a call that answers otherwise fails.
-use storm_test_kit::sample_topologies::{
-    COUNTED_SENTENCES, SENTENCES, TABLES_OF_SENTENCES, WORD_COUNT,
-};
-use storm_test_kit::storm_stores::{CallKind, FailAt};
-use storm_test_kit::test_kit::Mismatch;
+use sample_topologies::{COUNTED_SENTENCES, SENTENCES, TABLES_OF_SENTENCES, WORD_COUNT};
+use storm_stores::{CallKind, FailAt};
 use storm_test_kit::{
     CALM, Outside, check_call, check_faults, check_refusal, check_tables, replay_of, run_over,
 };
+use test_kit::Mismatch;
 
 fn is_told(outcome: Result<(), Mismatch>) -> bool {
     matches!(outcome, Err(Mismatch::Told { .. }))

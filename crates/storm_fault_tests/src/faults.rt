@@ -1,17 +1,17 @@
 // What a call answers and writes where one call to the outside fails, or gives and takes little.
 ghost use Rattle.std.specs.Prelude.{◌<◌};
 
+use sample_topologies::{
+    COUNTED_SENTENCES, FAILS_ALWAYS, SENTENCES, TABLES_OF_SENTENCES, WORD_COUNT,
+};
 use std::alloc::Global;
 use std::sync::Wait;
 use std::thread::Threads;
-use storm_test_kit::sample_topologies::{
-    COUNTED_SENTENCES, FAILS_ALWAYS, SENTENCES, TABLES_OF_SENTENCES, WORD_COUNT,
-};
-use storm_test_kit::test_kit::{Mismatch, compare};
 use storm_test_kit::{
     CALM, CHECK, Outside, PLAIN, REPLAY, RUN, Scene, Told, call, check_call, check_refusal,
     plain_of, reads_of, replay_of, run_over,
 };
+use test_kit::{Mismatch, compare};
 
 // A record for calls that are made again for each byte that is written.
 const RECORD: &str = "[\"a\"]";

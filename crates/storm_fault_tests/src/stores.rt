@@ -1,12 +1,12 @@
 // What a run and a replay answer and write where one call of one store fails: the tables are the
 // plain ones, or the last reading failed.
+use sample_topologies::{STEADY, one_bolt};
 use std::alloc::Global;
 use std::sync::Wait;
 use std::thread::Threads;
-use storm_test_kit::sample_topologies::{STEADY, one_bolt};
-use storm_test_kit::storm_stores::{CallKind, FailAt};
-use storm_test_kit::test_kit::{Mismatch, compare, lines_without};
+use storm_stores::{CallKind, FailAt};
 use storm_test_kit::{CALM, Outside, Scene, Told, call, check_answer, replay_of, run_of};
+use test_kit::{Mismatch, compare, lines_without};
 
 // Two batches that write one key, and one that writes another. The state is the component
 // 1, and has one part.

@@ -1,11 +1,11 @@
 // What `plain` answers and writes.
-use storm_test_kit::bolt_ops::Reversed;
-use storm_test_kit::sample_topologies::{
+use bolt_ops::Reversed;
+use sample_topologies::{
     COPIES_TO_ALL, LAST_VALUE, PAIRS, SENTENCES, TABLES_OF_SENTENCES, TURNED, WORD_COUNT, one_bolt,
 };
 use storm_test_kit::storm_program::{Status, storm_plain};
-use storm_test_kit::test_kit::{Mismatch, compare};
 use storm_test_kit::{CALM, PLAIN, Scene, check_refusal, plain_of, shelf, sink, taken};
+use test_kit::{Mismatch, compare};
 
 const TABLES_OF_PAIRS: &str = r#"cell sums ["aa"] 8
 cell sums ["b"] -5

@@ -1,15 +1,15 @@
 -- Files that a shelf tells rule out every answer but the one that they call for.
 use Rattle.std.proofs.Common.{◌≡◌, ◌⊎◌, ℕ, List, length, Some, refl, sym, ap, subst, ◌∙◌, inl, inr}
 use Rattle.std.proofs.lemmas.Option.{none-some}
-use Rattle.stored_runs.specs.storm_values.declared.value.Value.{Value}
-use Rattle.stored_runs.specs.storm_values.Lines.{input_fault, records_of}
-use Rattle.stored_runs.specs.bolt_ops.RowOp.{Custom}
-use Rattle.stored_runs.specs.schedule_reader.declared.event.Event.{Event}
-use Rattle.stored_runs.specs.schedule_reader.Schedules.{events_of, schedule_fault}
-use Rattle.stored_runs.specs.topology_plan.Topology.{Topology}
+use Rattle.event_worlds.specs.storm_values.declared.value.Value.{Value}
+use Rattle.event_worlds.specs.storm_values.Lines.{input_fault, records_of}
+use Rattle.event_worlds.specs.bolt_ops.RowOp.{Custom}
+use Rattle.schedule_reader.specs.declared.event.Event.{Event}
+use Rattle.schedule_reader.specs.Schedules.{events_of, schedule_fault}
+use Rattle.event_worlds.specs.topology_plan.Topology.{Topology}
 use Rattle.topology_reader.proofs.FilePlans.{one_plan, plan_or_fault}
 use Rattle.topology_reader.specs.FirstFault.{first_fault, IsFilePlan}
-use Rattle.stored_runs.specs.attempt_fates.declared.fates.Attempt.{Attempt}
+use Rattle.event_worlds.specs.attempt_fates.declared.fates.Attempt.{Attempt}
 use Rattle.storm_program.specs.declared.status.Status.{Status}
 use Rattle.storm_program.specs.declared.status.Status.TheVariants as status
 use Rattle.storm_program.specs.Check.{CheckComes, CheckCalls}

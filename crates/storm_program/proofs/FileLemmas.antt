@@ -3,17 +3,17 @@ use Rattle.std.proofs.Common.{◌≡◌, ◌≢◌, ℕ, ◌+◌, ◌%◌, ◌^�
 use Rattle.std.proofs.Math.Nat.{mod-add-mod}
 use Rattle.std.proofs.lemmas.List.{take_all}
 use Rattle.std.specs.Prelude.{IfOk, IfSome}
-use Rattle.stored_runs.specs.storm_values.declared.value.Value.{Value}
-use Rattle.stored_runs.specs.storm_values.declared.lines.InputFault.{InputFault}
-use Rattle.stored_runs.specs.storm_values.declared.lines.InputFault.TheVariants as input_fault_is
-use Rattle.stored_runs.specs.storm_values.Lines.{input_fault, records_of}
-use Rattle.stored_runs.proofs.storm_values.InputLemmas.{input_fault-take, records_of-take}
-use Rattle.stored_runs.specs.storm_values.Counts.{Rose}
-use Rattle.stored_runs.specs.schedule_reader.declared.event.Event.{Event}
-use Rattle.stored_runs.specs.schedule_reader.declared.fault.ScheduleFault.{ScheduleFault}
-use Rattle.stored_runs.specs.schedule_reader.declared.fault.ScheduleFault.TheVariants as schedule_fault_is
-use Rattle.stored_runs.specs.schedule_reader.Schedules.{events_of, schedule_fault}
-use Rattle.stored_runs.specs.topology_plan.Topology.{Topology}
+use Rattle.event_worlds.specs.storm_values.declared.value.Value.{Value}
+use Rattle.event_worlds.specs.storm_values.declared.lines.InputFault.{InputFault}
+use Rattle.event_worlds.specs.storm_values.declared.lines.InputFault.TheVariants as input_fault_is
+use Rattle.event_worlds.specs.storm_values.Lines.{input_fault, records_of}
+use Rattle.event_worlds.proofs.storm_values.InputLemmas.{input_fault-take, records_of-take}
+use Rattle.event_worlds.specs.storm_values.Counts.{Rose}
+use Rattle.schedule_reader.specs.declared.event.Event.{Event}
+use Rattle.schedule_reader.specs.declared.fault.ScheduleFault.{ScheduleFault}
+use Rattle.schedule_reader.specs.declared.fault.ScheduleFault.TheVariants as schedule_fault_is
+use Rattle.schedule_reader.specs.Schedules.{events_of, schedule_fault}
+use Rattle.event_worlds.specs.topology_plan.Topology.{Topology}
 use Rattle.topology_reader.specs.TopoFault.{TopoFault}
 use Rattle.topology_reader.specs.TopoFault.TheVariants as topology_fault
 use Rattle.topology_reader.specs.FirstFault.{first_fault, IsFilePlan}

@@ -3,17 +3,17 @@ use Rattle.std.proofs.Common.{◌≡◌, ℕ, List, All, length, Result, Ok, Err
 use Rattle.std.specs.List.{AllByRecursion}
 use Rattle.std.proofs.lemmas.List.Elements.{All-from_recursion}
 use Rattle.std.proofs.lemmas.List.FromFn.{length-range_with_len}
-use Rattle.stored_runs.proofs.attempt_fates.RecordLemmas.{records_are_all}
-use Rattle.stored_runs.specs.attempt_fates.declared.fates.Attempt.{Attempt}
-use Rattle.stored_runs.specs.attempt_fates.declared.fates.End.{End}
-use Rattle.stored_runs.specs.attempt_fates.Fates.{IsOnce}
-use Rattle.stored_runs.specs.bolt_ops.RowOp.{Custom}
-use Rattle.stored_runs.specs.commit_turns.Account.{ended_of, ending_of, ends_of, rows_in}
-use Rattle.stored_runs.specs.commit_turns.Turns.{last_tick}
-use Rattle.stored_runs.proofs.counted_items.Each.{each-map, each-weaker}
-use Rattle.stored_runs.specs.schedule_core.Runs.{committed_count}
-use Rattle.stored_runs.specs.schedule_core.Schedules.{all_steps}
-use Rattle.stored_runs.specs.schedule_reader.declared.event.Event.{Event}
+use Rattle.event_worlds.proofs.attempt_fates.RecordLemmas.{records_are_all}
+use Rattle.event_worlds.specs.attempt_fates.declared.fates.Attempt.{Attempt}
+use Rattle.event_worlds.specs.attempt_fates.declared.fates.End.{End}
+use Rattle.event_worlds.specs.attempt_fates.Fates.{IsOnce}
+use Rattle.event_worlds.specs.bolt_ops.RowOp.{Custom}
+use Rattle.event_worlds.specs.commit_turns.Account.{ended_of, ending_of, ends_of, rows_in}
+use Rattle.event_worlds.specs.commit_turns.Turns.{last_tick}
+use Rattle.event_worlds.proofs.counted_items.Each.{each-map, each-weaker}
+use Rattle.schedule_core.specs.Runs.{committed_count}
+use Rattle.schedule_core.specs.Schedules.{all_steps}
+use Rattle.schedule_reader.specs.declared.event.Event.{Event}
 use Rattle.storm_program.specs.declared.status.Status.{Status}
 use Rattle.storm_program.specs.declared.stop.Stop.{Stop}
 use Rattle.storm_program.specs.declared.stop.Stop.TheVariants.{Memory, Told}
@@ -24,16 +24,16 @@ use Rattle.storm_program.specs.Reports.{EndsSo, IsEndText, IsReport, WasAcked, c
 use Rattle.storm_program.specs.Run.{IsShort}
 use Rattle.storm_program.specs.steps.Ended.{IsRoundsEnd, IsStopOfEnd, WorkStops, status_of}
 use Rattle.storm_program.specs.steps.Stops.{IsMemory, Stops}
-use Rattle.stored_runs.specs.storm_values.declared.value.Value.{Value}
+use Rattle.event_worlds.specs.storm_values.declared.value.Value.{Value}
 use Rattle.stored_runs.specs.declared.ending.RunEnd.{RunEnd}
 use Rattle.stored_runs.specs.declared.ending.RunEnd.TheVariants as end
 use Rattle.stored_runs.specs.Makers.{CameBack, MapsStand}
 use Rattle.stored_runs.specs.StoredRuns.{IsAll, IsRun, IsRunOfWorld, StandsWithoutMemory}
-use Rattle.stored_runs.specs.topology_plan.Topology.{Topology}
-use Rattle.stored_runs.specs.tree_model.Tables.{AreTables}
-use Rattle.stored_runs.specs.tree_model.Trees.{writes}
-use Rattle.stored_runs.specs.trident_batches.Batches.{Cut, batch_count}
-use Rattle.stored_runs.specs.tuple_account.Ends.{CauseBy, HasCause}
+use Rattle.event_worlds.specs.topology_plan.Topology.{Topology}
+use Rattle.event_worlds.specs.tree_model.Tables.{AreTables}
+use Rattle.event_worlds.specs.tree_model.Trees.{writes}
+use Rattle.event_worlds.specs.trident_batches.Batches.{Cut, batch_count}
+use Rattle.event_worlds.specs.tuple_account.Ends.{CauseBy, HasCause}
 
 module _ (custom : Custom) (plan : Topology) (records : List (List Value)) (base : RunUse) (ticks : ℕ) (fates : List Attempt) where
   -- a committed attempt's cause is that its tree was acked

@@ -1,11 +1,11 @@
 -- What a check, a `plain`, a run and a replay come to, from what their parts came to.
 use Rattle.std.proofs.Common.{◌≡◌, ◌⊎◌, ◌<◌, ℕ, List, Option, None, Result, Ok, Err, IfOk, String, string_bytes, inl, inr, refl, sym, subst, sum}
-use Rattle.stored_runs.specs.bolt_ops.RowOp.{Custom}
-use Rattle.stored_runs.specs.attempt_fates.declared.fates.Attempt.{Attempt}
-use Rattle.stored_runs.specs.event_worlds.Rounds.{HasRounds, rounds_needed}
-use Rattle.stored_runs.specs.schedule_core.Runs.{first_answers}
-use Rattle.stored_runs.specs.schedule_core.Schedules.{all_steps}
-use Rattle.stored_runs.specs.schedule_reader.declared.event.Event.{Event}
+use Rattle.event_worlds.specs.bolt_ops.RowOp.{Custom}
+use Rattle.event_worlds.specs.attempt_fates.declared.fates.Attempt.{Attempt}
+use Rattle.event_worlds.specs.Rounds.{HasRounds, rounds_needed}
+use Rattle.schedule_core.specs.Runs.{first_answers}
+use Rattle.schedule_core.specs.Schedules.{all_steps}
+use Rattle.schedule_reader.specs.declared.event.Event.{Event}
 use Rattle.storm_program.specs.declared.status.Status.{Status}
 use Rattle.storm_program.specs.declared.status.Status.TheVariants as status
 use Rattle.storm_program.specs.declared.stop.Stop.{Stop}
@@ -27,12 +27,12 @@ use Rattle.storm_program.specs.Words.{Command}
 use Rattle.storm_program.specs.steps.Stops.{IsMemory, IsWritten, Stops}
 use Rattle.storm_program.proofs.CauseLemmas.{never_bad, never_bad_schedule, never_refused, same_events, same_plan, same_records}
 use Rattle.storm_program.proofs.EndLemmas.{ends_written}
-use Rattle.stored_runs.specs.storm_values.declared.value.Value.{Value}
-use Rattle.stored_runs.specs.storm_values.Lines.{records_of}
+use Rattle.event_worlds.specs.storm_values.declared.value.Value.{Value}
+use Rattle.event_worlds.specs.storm_values.Lines.{records_of}
 use Rattle.stored_runs.specs.Makers.{IsUntouched, maker_use}
 use Rattle.stored_runs.specs.StoredRuns.{NothingIsInTheWay}
-use Rattle.stored_runs.specs.storm_stores.CellMaps.{CellMap}
-use Rattle.stored_runs.specs.topology_plan.Topology.{Topology}
+use Rattle.storm_stores.specs.CellMaps.{CellMap}
+use Rattle.event_worlds.specs.topology_plan.Topology.{Topology}
 
 -- what a topology comes to that is not accepted comes of a check
 pub check_of_topology : (shelf : ShelfUse) (topology : List ℕ) (s : Status) (text : List ℕ) → TopologyComes shelf topology s text → CheckComes shelf topology s text

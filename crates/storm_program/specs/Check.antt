@@ -1,7 +1,7 @@
 -- The command `check`.
 use Rattle.std.specs.Prelude.{◌≡◌, ℕ, List, []}
-use Rattle.stored_runs.specs.topology_plan.Topology.{Topology}
-use Rattle.stored_runs.specs.attempt_fates.declared.fates.Attempt.{Attempt}
+use Rattle.event_worlds.specs.topology_plan.Topology.{Topology}
+use Rattle.event_worlds.specs.attempt_fates.declared.fates.Attempt.{Attempt}
 use Rattle.storm_program.specs.declared.status.Status.{Status}
 use Rattle.storm_program.specs.declared.status.Status.TheVariants as status
 use Rattle.storm_program.specs.Ends.{Promise}

@@ -1,10 +1,10 @@
 -- What every command on a topology and an input does before its own work: it reads and refuses
 -- the two files, in order.
 use Rattle.std.specs.Prelude.{◌≡◌, ◌⊎◌, ℕ, List, length, Some, None}
-use Rattle.stored_runs.specs.storm_values.declared.value.Value.{Value}
-use Rattle.stored_runs.specs.storm_values.declared.lines.InputFault.{InputFault}
-use Rattle.stored_runs.specs.storm_values.Lines.{input_fault, records_of}
-use Rattle.stored_runs.specs.topology_plan.Topology.{Topology}
+use Rattle.event_worlds.specs.storm_values.declared.value.Value.{Value}
+use Rattle.event_worlds.specs.storm_values.declared.lines.InputFault.{InputFault}
+use Rattle.event_worlds.specs.storm_values.Lines.{input_fault, records_of}
+use Rattle.event_worlds.specs.topology_plan.Topology.{Topology}
 use Rattle.topology_reader.specs.TopoFault.{TopoFault}
 use Rattle.topology_reader.specs.FirstFault.{first_fault, IsFilePlan}
 use Rattle.storm_program.specs.declared.status.Status.{Status}

@@ -12,6 +12,4 @@ pub mod Storm
 pub mod Texts
 pub mod Words
 pub mod steps
-pub use Rattle.stored_runs.specs.event_worlds as event_worlds
-pub use Rattle.stored_runs.specs.storm_stores as storm_stores
 pub use Rattle.stored_runs.specs as stored_runs

@@ -1,6 +1,6 @@
 -- The outside before and after a call, one record for each object.
 use Rattle.std.specs.Prelude.{◌≡◌, ◌≤◌, ℕ, ◌+◌, ◌%◌, ◌^◌, List, ◌++◌, length, take, Option, Some, IfSome}
-use Rattle.stored_runs.specs.storm_values.Counts.{Rose}
+use Rattle.event_worlds.specs.storm_values.Counts.{Rose}
 use Rattle.stored_runs.specs.Makers.{MakerUse}
 
 -- ---- files

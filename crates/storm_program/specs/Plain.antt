@@ -1,13 +1,13 @@
 -- The command `plain`: the tables by definition, without batches, whatever fails or stays mute.
 use Rattle.std.specs.Prelude.{◌≡◌, ℕ, List, [], length}
-use Rattle.stored_runs.specs.storm_values.declared.value.Value.{Value}
-use Rattle.stored_runs.specs.bolt_ops.RowOp.{Custom}
-use Rattle.stored_runs.specs.topology_plan.Topology.{Topology}
-use Rattle.stored_runs.specs.tree_model.declared.write.Table.{Table}
-use Rattle.stored_runs.specs.tree_model.Trees.{writes}
-use Rattle.stored_runs.specs.tree_model.Tables.{AreTables}
-use Rattle.stored_runs.specs.trident_batches.Batches.{batch_count}
-use Rattle.stored_runs.specs.attempt_fates.declared.fates.Attempt.{Attempt}
+use Rattle.event_worlds.specs.storm_values.declared.value.Value.{Value}
+use Rattle.event_worlds.specs.bolt_ops.RowOp.{Custom}
+use Rattle.event_worlds.specs.topology_plan.Topology.{Topology}
+use Rattle.event_worlds.specs.tree_model.declared.write.Table.{Table}
+use Rattle.event_worlds.specs.tree_model.Trees.{writes}
+use Rattle.event_worlds.specs.tree_model.Tables.{AreTables}
+use Rattle.event_worlds.specs.trident_batches.Batches.{batch_count}
+use Rattle.event_worlds.specs.attempt_fates.declared.fates.Attempt.{Attempt}
 use Rattle.run_report.specs.Cells.{cells_of}
 use Rattle.run_report.specs.Report.{ok, report_text}
 use Rattle.storm_program.specs.declared.status.Status.{Status}

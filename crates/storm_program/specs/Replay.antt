@@ -1,10 +1,10 @@
 -- The command `replay`.
 use Rattle.std.specs.Prelude.{◌⊎◌, ◌<◌, ℕ, List, []}
-use Rattle.stored_runs.specs.attempt_fates.declared.fates.Attempt.{Attempt}
-use Rattle.stored_runs.specs.bolt_ops.RowOp.{Custom}
-use Rattle.stored_runs.specs.event_worlds.Rounds.{HasRounds, rounds_needed, ticks_in}
-use Rattle.stored_runs.specs.schedule_core.Schedules.{all_steps}
-use Rattle.stored_runs.specs.schedule_reader.declared.event.Event.{Event}
+use Rattle.event_worlds.specs.attempt_fates.declared.fates.Attempt.{Attempt}
+use Rattle.event_worlds.specs.bolt_ops.RowOp.{Custom}
+use Rattle.event_worlds.specs.Rounds.{HasRounds, rounds_needed, ticks_in}
+use Rattle.schedule_core.specs.Schedules.{all_steps}
+use Rattle.schedule_reader.specs.declared.event.Event.{Event}
 use Rattle.storm_program.specs.declared.status.Status.{Status}
 use Rattle.storm_program.specs.declared.status.Status.TheVariants as status
 use Rattle.storm_program.specs.Ends.{Promise}
@@ -13,12 +13,12 @@ use Rattle.storm_program.specs.Outside.{Fetched, RunUse, ShelfFailed, ShelfUse, 
 use Rattle.storm_program.specs.Reports.{EndsSo, IsReport, cut_by}
 use Rattle.storm_program.specs.Run.{IsNotBegun, IsShort}
 use Rattle.storm_program.specs.Schedules.{AllFilesCall, AllFilesCome, AreAllAccepted, TellsEvents}
-use Rattle.stored_runs.specs.storm_values.declared.value.Value.{Value}
-use Rattle.stored_runs.specs.storm_values.Lines.{records_of}
+use Rattle.event_worlds.specs.storm_values.declared.value.Value.{Value}
+use Rattle.event_worlds.specs.storm_values.Lines.{records_of}
 use Rattle.stored_runs.specs.declared.ending.RunEnd.{RunEnd}
 use Rattle.stored_runs.specs.declared.ending.RunEnd.TheVariants as run_end
 use Rattle.stored_runs.specs.StoredRuns.{IsRunOfWorld, NothingIsInTheWay}
-use Rattle.stored_runs.specs.topology_plan.Topology.{Topology}
+use Rattle.event_worlds.specs.topology_plan.Topology.{Topology}
 
 -- how many ticks a schedule hands out
 abbrev pub ticks_of_schedule : Topology → List Event → ℕ

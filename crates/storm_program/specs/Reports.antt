@@ -1,30 +1,30 @@
 -- What is written of a run, whatever ran it: its report, the lines of its attempts, or a line.
 -- This project's own.
 use Rattle.std.specs.Prelude.{◌≡◌, ℕ, List, [], All, length}
-use Rattle.stored_runs.specs.attempt_fates.declared.fates.Attempt.{Attempt}
-use Rattle.stored_runs.specs.attempt_fates.declared.fates.End.TheVariants as end
-use Rattle.stored_runs.specs.attempt_fates.Fates.{committed_records, IsWhole}
-use Rattle.stored_runs.specs.bolt_ops.RowOp.{Custom}
-use Rattle.stored_runs.specs.commit_turns.Account.{rows_in}
-use Rattle.stored_runs.specs.commit_turns.Kept.{FailsInTurn}
+use Rattle.event_worlds.specs.attempt_fates.declared.fates.Attempt.{Attempt}
+use Rattle.event_worlds.specs.attempt_fates.declared.fates.End.TheVariants as end
+use Rattle.event_worlds.specs.attempt_fates.Fates.{committed_records, IsWhole}
+use Rattle.event_worlds.specs.bolt_ops.RowOp.{Custom}
+use Rattle.event_worlds.specs.commit_turns.Account.{rows_in}
+use Rattle.event_worlds.specs.commit_turns.Kept.{FailsInTurn}
 use Rattle.run_report.specs.Cells.{cells_of}
 use Rattle.run_report.specs.Fated.{AreLinesOf}
 use Rattle.run_report.specs.Report.{AttemptText, CellText, TailText, exhausted, ok, report_text, unfinished}
 use Rattle.storm_program.specs.Outside.{RunUse}
 use Rattle.storm_program.specs.Texts.{bad_cell_line, store_fault_line}
-use Rattle.stored_runs.specs.storm_values.declared.value.Value.{Value}
+use Rattle.event_worlds.specs.storm_values.declared.value.Value.{Value}
 use Rattle.stored_runs.specs.declared.ending.RunEnd.{RunEnd}
 use Rattle.stored_runs.specs.declared.ending.RunEnd.TheVariants as run_end
 use Rattle.stored_runs.specs.Makers.{BeganEmpty, CameBack, FaultsAreCounted, MapsStand}
 use Rattle.stored_runs.specs.StoredRuns.{HaveCauses, IsRun}
-use Rattle.stored_runs.specs.topology_plan.Topology.{Topology}
-use Rattle.stored_runs.specs.tree_model.declared.messages.AckMsg.{AckMsg}
-use Rattle.stored_runs.specs.tree_model.declared.write.Table.{Table}
-use Rattle.stored_runs.specs.tree_model.Lists.{Covers, IsClosed}
-use Rattle.stored_runs.specs.tree_model.Tables.{AreTables}
-use Rattle.stored_runs.specs.tree_model.Trees.{writes}
-use Rattle.stored_runs.specs.trident_batches.Batches.{Cut, batch_count}
-use Rattle.stored_runs.specs.tuple_account.Sound.{IsSound}
+use Rattle.event_worlds.specs.topology_plan.Topology.{Topology}
+use Rattle.event_worlds.specs.tree_model.declared.messages.AckMsg.{AckMsg}
+use Rattle.event_worlds.specs.tree_model.declared.write.Table.{Table}
+use Rattle.event_worlds.specs.tree_model.Lists.{Covers, IsClosed}
+use Rattle.event_worlds.specs.tree_model.Tables.{AreTables}
+use Rattle.event_worlds.specs.tree_model.Trees.{writes}
+use Rattle.event_worlds.specs.trident_batches.Batches.{Cut, batch_count}
+use Rattle.event_worlds.specs.tuple_account.Sound.{IsSound}
 
 -- the records of an input, cut by a plan
 abbrev pub cut_by : Topology → List (List Value) → Cut

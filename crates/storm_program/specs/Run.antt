@@ -1,24 +1,24 @@
 -- The command `run`.
 use Rattle.std.specs.Prelude.{◌≡◌, ◌⊎◌, ◌<◌, ℕ, List, [], length, sum}
-use Rattle.stored_runs.specs.attempt_fates.declared.fates.Attempt.{Attempt}
-use Rattle.stored_runs.specs.attempt_fates.Fates.{IsOnce}
-use Rattle.stored_runs.specs.bolt_ops.RowOp.{Custom}
-use Rattle.stored_runs.specs.commit_turns.Turns.{last_tick}
-use Rattle.stored_runs.specs.event_worlds.Rounds.{rounds_needed}
-use Rattle.stored_runs.specs.schedule_core.Runs.{first_answers, ticks_between}
+use Rattle.event_worlds.specs.attempt_fates.declared.fates.Attempt.{Attempt}
+use Rattle.event_worlds.specs.attempt_fates.Fates.{IsOnce}
+use Rattle.event_worlds.specs.bolt_ops.RowOp.{Custom}
+use Rattle.event_worlds.specs.commit_turns.Turns.{last_tick}
+use Rattle.event_worlds.specs.Rounds.{rounds_needed}
+use Rattle.schedule_core.specs.Runs.{first_answers, ticks_between}
 use Rattle.storm_program.specs.declared.status.Status.{Status}
 use Rattle.storm_program.specs.declared.status.Status.TheVariants as status
 use Rattle.storm_program.specs.Ends.{Promise}
 use Rattle.storm_program.specs.Files.{AreAccepted, FilesCall, FilesCome, TellsInput, TellsPlan}
 use Rattle.storm_program.specs.Outside.{Fetched, RunUse, ShelfFailed, ShelfUse, SinkFailed, SinkUse, TicksUse}
 use Rattle.storm_program.specs.Reports.{EndsSo, IsReport, cut_by}
-use Rattle.stored_runs.specs.storm_values.declared.value.Value.{Value}
-use Rattle.stored_runs.specs.storm_values.Lines.{records_of}
+use Rattle.event_worlds.specs.storm_values.declared.value.Value.{Value}
+use Rattle.event_worlds.specs.storm_values.Lines.{records_of}
 use Rattle.stored_runs.specs.declared.ending.RunEnd.{RunEnd}
 use Rattle.stored_runs.specs.declared.ending.RunEnd.TheVariants as run_end
 use Rattle.stored_runs.specs.Makers.{CameBack, IsUntouched}
 use Rattle.stored_runs.specs.StoredRuns.{NothingIsInTheWay, StandsWithoutMemory}
-use Rattle.stored_runs.specs.topology_plan.Topology.{Topology}
+use Rattle.event_worlds.specs.topology_plan.Topology.{Topology}
 
 -- how many ticks were handed out in a run
 abbrev pub ticks_of_run : TicksUse → ℕ

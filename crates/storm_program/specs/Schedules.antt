@@ -1,10 +1,10 @@
 -- What a replay does with its third file: it reads and refuses the schedule, after the other two.
 use Rattle.std.specs.Prelude.{◌≡◌, ◌⊎◌, ℕ, List, Some, None}
-use Rattle.stored_runs.specs.storm_values.declared.value.Value.{Value}
-use Rattle.stored_runs.specs.schedule_reader.declared.event.Event.{Event}
-use Rattle.stored_runs.specs.schedule_reader.declared.fault.ScheduleFault.{ScheduleFault}
-use Rattle.stored_runs.specs.schedule_reader.Schedules.{events_of, schedule_fault}
-use Rattle.stored_runs.specs.topology_plan.Topology.{Topology}
+use Rattle.event_worlds.specs.storm_values.declared.value.Value.{Value}
+use Rattle.schedule_reader.specs.declared.event.Event.{Event}
+use Rattle.schedule_reader.specs.declared.fault.ScheduleFault.{ScheduleFault}
+use Rattle.schedule_reader.specs.Schedules.{events_of, schedule_fault}
+use Rattle.event_worlds.specs.topology_plan.Topology.{Topology}
 use Rattle.storm_program.specs.declared.status.Status.{Status}
 use Rattle.storm_program.specs.declared.status.Status.TheVariants as status
 use Rattle.storm_program.specs.Files.{AreAccepted, FilesCall, FilesCome, IsNotRead, TellsInput, TellsPlan}

@@ -1,10 +1,10 @@
 -- The lines that a command writes. This project's own.
 use Rattle.std.specs.Prelude.{ℕ, List, ◌++◌, length, codes, decimal}
-use Rattle.stored_runs.specs.storm_values.declared.lines.InputFault.{InputFault}
-use Rattle.stored_runs.specs.storm_values.Faults.{input_fault_text}
-use Rattle.stored_runs.specs.schedule_reader.declared.fault.ScheduleFault.{ScheduleFault}
-use Rattle.stored_runs.specs.schedule_reader.Faults.{schedule_fault_text}
-use Rattle.stored_runs.specs.topology_plan.Topology.{Topology, tasks_in_all, depth_of, weight_of}
+use Rattle.event_worlds.specs.storm_values.declared.lines.InputFault.{InputFault}
+use Rattle.event_worlds.specs.storm_values.Faults.{input_fault_text}
+use Rattle.schedule_reader.specs.declared.fault.ScheduleFault.{ScheduleFault}
+use Rattle.schedule_reader.specs.Faults.{schedule_fault_text}
+use Rattle.event_worlds.specs.topology_plan.Topology.{Topology, tasks_in_all, depth_of, weight_of}
 use Rattle.topology_reader.specs.TopoFault.{TopoFault}
 use Rattle.topology_reader.specs.Faults.{fault_text}
 

@@ -3,7 +3,7 @@ use Rattle.std.specs.Prelude.{ℕ, ◌+◌, ◌*◌, ◌-◌, List, [], ◌∷�
 use Rattle.std.specs.List.{list_all}
 use Rattle.std.specs.Str.{bytes_eq}
 use Rattle.std.specs.Char.{is_ascii_digit}
-use Rattle.stored_runs.specs.storm_values.Limits.{most_workers}
+use Rattle.event_worlds.specs.storm_values.Limits.{most_workers}
 
 -- the five commands, with their files and numbers
 pub data Command : Type 0 where

@@ -7,10 +7,10 @@ ghost use Rattle.storm_program.specs.steps.Stops.{Stops};
 
 use crate::files::read_plan;
 use crate::stop::Stop;
+use event_worlds::storm_values::Memory;
+use event_worlds::topology_plan::Plan;
 use std::alloc::Global;
 use std::fmt::Write;
-use stored_runs::storm_values::Memory;
-use stored_runs::topology_plan::Plan;
 use storm_outside::Shelf;
 
 /// Reads a topology, and tells the size of its plan.

@@ -1,6 +1,6 @@
 ghost use Rattle.std.specs.Prelude.{◌≡◌, ◌≤◌, ◌<◌, ◌+◌, ◌-◌, ◌%◌, ◌^◌, ℕ, List, length, All, IfOk, IfErr, OnOk, IsErrOf};
-ghost use Rattle.stored_runs.specs.storm_values.Rows.{IsRow};
-ghost use Rattle.stored_runs.specs.storm_values.Counts.{Rose};
+ghost use Rattle.event_worlds.specs.storm_values.Rows.{IsRow};
+ghost use Rattle.event_worlds.specs.storm_values.Counts.{Rose};
 ghost use Rattle.storm_program.specs.Files.{IsAccepted, AreRecords, AreAccepted, FilesCome};
 ghost use Rattle.storm_program.specs.Outside.{shelf_use, Fetched};
 ghost use Rattle.storm_program.specs.steps.Reading.{TopologyComes, WasRead, NotReadComes, InputComes};
@@ -8,9 +8,9 @@ ghost use Rattle.storm_program.specs.steps.Stops.{Stops};
 
 use crate::status::Status;
 use crate::stop::{Stop, refused_input, refused_topology, told};
+use event_worlds::storm_values::{Bytes, MOST_INPUT_BYTES, MOST_TOPOLOGY_BYTES, Rows, read_input};
+use event_worlds::topology_plan::Plan;
 use std::alloc::Global;
-use stored_runs::storm_values::{Bytes, MOST_INPUT_BYTES, MOST_TOPOLOGY_BYTES, Rows, read_input};
-use stored_runs::topology_plan::Plan;
 use storm_outside::{InFault, Shelf, read_all};
 use topology_reader::read_topology;
 

@@ -1,5 +1,5 @@
 ghost use Rattle.std.specs.Prelude.{◌≡◌, ◌≤◌, length, All, IfOk, IfErr, string_bytes};
-ghost use Rattle.stored_runs.specs.storm_values.Rows.{IsRow};
+ghost use Rattle.event_worlds.specs.storm_values.Rows.{IsRow};
 ghost use Rattle.storm_program.specs.declared.status.Status.{Status};
 ghost use Rattle.storm_program.specs.Outside.{shelf_use};
 ghost use Rattle.storm_program.specs.Plain.{IsPlainReport, PlainComes};
@@ -7,12 +7,12 @@ ghost use Rattle.storm_program.specs.steps.Stops.{Stops};
 
 use crate::files::{Accepted, read_files};
 use crate::stop::Stop;
+use event_worlds::bolt_ops::RowOp;
+use event_worlds::storm_values::Memory;
+use event_worlds::tree_model::plain_tables;
+use event_worlds::trident_batches::Batches;
 use run_report::{Tail, report_text};
 use std::alloc::Global;
-use stored_runs::bolt_ops::RowOp;
-use stored_runs::storm_values::Memory;
-use stored_runs::tree_model::plain_tables;
-use stored_runs::trident_batches::Batches;
 use storm_outside::Shelf;
 
 /// Reads a topology and an input, and makes the tables by definition.

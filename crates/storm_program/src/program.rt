@@ -1,5 +1,5 @@
 ghost use Rattle.std.specs.Prelude.{◌≡◌, ◌≤◌, [], map, string_bytes};
-ghost use Rattle.stored_runs.specs.storm_values.Limits.{most_workers};
+ghost use Rattle.event_worlds.specs.storm_values.Limits.{most_workers};
 ghost use Rattle.storm_program.specs.Check.{CheckComes, CheckCalls};
 ghost use Rattle.storm_program.specs.Ends.{Ends, IsAnswered, Counts, FilesCounts, IsDoneOrShort};
 ghost use Rattle.storm_program.specs.Outside.{run_use, shelf_use, sink_use, ticks_use};
@@ -17,16 +17,16 @@ use crate::replay::replay_files;
 use crate::run::run_files;
 use crate::status::Status;
 use crate::words::{Command, USAGE, read_words};
+use event_worlds::attempt_fates::Fates;
+use event_worlds::bolt_ops::RowOp;
+use event_worlds::storm_ids::IdMaker;
 use std::alloc::Global;
 use std::sync::Wait;
 use std::thread::Threads;
-use stored_runs::attempt_fates::Fates;
-use stored_runs::bolt_ops::RowOp;
-use stored_runs::storm_gates::Gate;
-use stored_runs::storm_ids::IdMaker;
-use stored_runs::storm_stores::StoreMaker;
-use stored_runs::storm_ticks::Ticks;
+use storm_gates::Gate;
 use storm_outside::{Shelf, Sink};
+use storm_stores::StoreMaker;
+use storm_ticks::Ticks;
 
 /// Carries out the command that the words after the program's name give.
 ///

@@ -1,8 +1,8 @@
 ghost use Rattle.std.specs.Prelude.{◌≡◌, ◌≤◌, ◌<◌, [], length, All, IfOk, IfErr, string_bytes};
 ghost use Rattle.std.specs.List.{AllByRecursion};
-ghost use Rattle.stored_runs.specs.event_worlds.Rounds.{HasRounds, rounds_needed};
-ghost use Rattle.stored_runs.specs.schedule_core.Schedules.{all_steps};
-ghost use Rattle.stored_runs.specs.schedule_reader.Events.{FitsEvent};
+ghost use Rattle.event_worlds.specs.Rounds.{HasRounds, rounds_needed};
+ghost use Rattle.schedule_core.specs.Schedules.{all_steps};
+ghost use Rattle.schedule_reader.specs.Events.{FitsEvent};
 ghost use Rattle.storm_program.specs.declared.status.Status.{Status};
 ghost use Rattle.storm_program.specs.Outside.{run_use, shelf_use};
 ghost use Rattle.storm_program.specs.Replay.{IsReplayReport, ReplayComes, ReplayEndsSo, ReplayMustCommitAll, ticks_of_schedule};
@@ -10,7 +10,7 @@ ghost use Rattle.storm_program.specs.Reports.{cut_by};
 ghost use Rattle.storm_program.specs.Run.{IsShort};
 ghost use Rattle.storm_program.specs.steps.Ended.{WorkStops};
 ghost use Rattle.storm_program.specs.steps.Stops.{IsMemory, Stops};
-ghost use Rattle.stored_runs.specs.storm_values.Rows.{IsRow};
+ghost use Rattle.event_worlds.specs.storm_values.Rows.{IsRow};
 ghost use Rattle.stored_runs.specs.Makers.{maker_use};
 ghost use Rattle.stored_runs.specs.StoredRuns.{NothingIsInTheWay};
 
@@ -18,14 +18,14 @@ use crate::files::{Accepted, read_files};
 use crate::report::{batches_of, counted_in, text_of_end};
 use crate::schedule::read_events;
 use crate::stop::Stop;
+use event_worlds::attempt_fates::Fates;
+use event_worlds::bolt_ops::RowOp;
+use event_worlds::storm_ids::IdMaker;
+use schedule_reader::Events;
 use std::alloc::Global;
-use stored_runs::attempt_fates::Fates;
-use stored_runs::bolt_ops::RowOp;
 use stored_runs::replay_over;
-use stored_runs::schedule_reader::Events;
-use stored_runs::storm_ids::IdMaker;
-use stored_runs::storm_stores::StoreMaker;
 use storm_outside::Shelf;
+use storm_stores::StoreMaker;
 
 /// Reads a topology, an input and a schedule, and carries the schedule out.
 pub fn replay_files<H: Shelf, M: StoreMaker, N: IdMaker, O: RowOp>(

@@ -1,20 +1,20 @@
 ghost use Rattle.std.specs.Prelude.{◌≡◌, All, IfOk, IfErr, length, string_bytes};
-ghost use Rattle.stored_runs.specs.event_worlds.Accounted.{IsInput};
+ghost use Rattle.event_worlds.specs.Accounted.{IsInput};
 ghost use Rattle.storm_program.specs.Reports.{IsEndText, cut_by};
 ghost use Rattle.storm_program.specs.steps.Ended.{IsStopOfEnd};
-ghost use Rattle.stored_runs.specs.storm_values.Rows.{IsRow};
+ghost use Rattle.event_worlds.specs.storm_values.Rows.{IsRow};
 ghost use Rattle.stored_runs.specs.StoredRuns.{IsAll};
-ghost use Rattle.stored_runs.specs.trident_batches.Batches.{batch_count};
+ghost use Rattle.event_worlds.specs.trident_batches.Batches.{batch_count};
 
 use crate::status::Status;
 use crate::stop::{Stop, told};
+use event_worlds::attempt_fates::Fates;
+use event_worlds::storm_values::Rows;
+use event_worlds::topology_plan::Plan;
+use event_worlds::trident_batches::Batches;
 use run_report::{Tail, report_text};
 use std::alloc::Global;
 use stored_runs::RunEnd;
-use stored_runs::attempt_fates::Fates;
-use stored_runs::storm_values::Rows;
-use stored_runs::topology_plan::Plan;
-use stored_runs::trident_batches::Batches;
 
 /// How many records and batches an input has.
 #[derive(Clone, Copy)]

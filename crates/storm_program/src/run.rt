@@ -1,32 +1,32 @@
 ghost use Rattle.std.specs.Prelude.{◌≡◌, ◌≤◌, ◌<◌, ℕ, List, [], length, All, IfOk, IfErr, string_bytes, sum};
-ghost use Rattle.stored_runs.specs.event_worlds.Accounted.{IsInput};
-ghost use Rattle.stored_runs.specs.event_worlds.Rounds.{rounds_needed};
-ghost use Rattle.stored_runs.specs.schedule_core.Runs.{first_answers};
+ghost use Rattle.event_worlds.specs.Accounted.{IsInput};
+ghost use Rattle.event_worlds.specs.Rounds.{rounds_needed};
+ghost use Rattle.schedule_core.specs.Runs.{first_answers};
 ghost use Rattle.storm_program.specs.declared.status.Status.{Status};
 ghost use Rattle.storm_program.specs.Outside.{run_use, shelf_use, ticks_use};
 ghost use Rattle.storm_program.specs.Reports.{EndsSo, IsReport, cut_by};
 ghost use Rattle.storm_program.specs.Run.{IsShort, MustCommitAll, RunComes, ticks_of_run};
 ghost use Rattle.storm_program.specs.steps.Ended.{IsRoundsEnd, WorkStops};
 ghost use Rattle.storm_program.specs.steps.Stops.{IsMemory, Stops};
-ghost use Rattle.stored_runs.specs.storm_values.Limits.{most_workers};
-ghost use Rattle.stored_runs.specs.storm_values.Rows.{IsRow};
+ghost use Rattle.event_worlds.specs.storm_values.Limits.{most_workers};
+ghost use Rattle.event_worlds.specs.storm_values.Rows.{IsRow};
 ghost use Rattle.stored_runs.specs.Makers.{maker_use};
 ghost use Rattle.stored_runs.specs.StoredRuns.{NothingIsInTheWay};
 
 use crate::files::{Accepted, read_files};
 use crate::report::{batches_of, counted_in, text_of_end};
 use crate::stop::Stop;
+use event_worlds::attempt_fates::Fates;
+use event_worlds::bolt_ops::RowOp;
+use event_worlds::storm_ids::IdMaker;
 use std::alloc::Global;
 use std::sync::Wait;
 use std::thread::Threads;
-use stored_runs::attempt_fates::Fates;
-use stored_runs::bolt_ops::RowOp;
 use stored_runs::run_over;
-use stored_runs::storm_gates::Gate;
-use stored_runs::storm_ids::IdMaker;
-use stored_runs::storm_stores::StoreMaker;
-use stored_runs::storm_ticks::Ticks;
+use storm_gates::Gate;
 use storm_outside::Shelf;
+use storm_stores::StoreMaker;
+use storm_ticks::Ticks;
 
 /// Reads a topology and an input, and runs the one over the other.
 pub fn run_files<

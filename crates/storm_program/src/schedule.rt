@@ -1,6 +1,6 @@
 ghost use Rattle.std.specs.Prelude.{◌≡◌, ◌≤◌, ◌+◌, ◌%◌, ◌^◌, IfOk, IfErr};
 ghost use Rattle.std.specs.List.{AllByRecursion};
-ghost use Rattle.stored_runs.specs.schedule_reader.Events.{FitsEvent};
+ghost use Rattle.schedule_reader.specs.Events.{FitsEvent};
 ghost use Rattle.storm_program.specs.Outside.{shelf_use};
 ghost use Rattle.storm_program.specs.Schedules.{AreEvents};
 ghost use Rattle.storm_program.specs.steps.Reading.{ScheduleComes};
@@ -8,11 +8,11 @@ ghost use Rattle.storm_program.specs.steps.Stops.{Stops};
 
 use crate::files::read_file;
 use crate::stop::{Stop, refused_schedule};
-use std::alloc::Global;
-use stored_runs::schedule_reader::{
+use event_worlds::topology_plan::Plan;
+use schedule_reader::{
     Events, MOST_SCHEDULE_BYTES, one_byte_past_the_limit_suffices, read_schedule,
 };
-use stored_runs::topology_plan::Plan;
+use std::alloc::Global;
 use storm_outside::Shelf;
 
 /// The most bytes of a schedule.

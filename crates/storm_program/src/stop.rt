@@ -3,9 +3,9 @@ ghost use Rattle.storm_program.specs.Texts.{topology_line, input_line, schedule_
 ghost use Rattle.storm_program.specs.steps.Stops.{IfTold};
 
 use crate::status::Status;
+use event_worlds::storm_values::{InputFault, Memory};
+use schedule_reader::ScheduleFault;
 use std::alloc::Global;
-use stored_runs::schedule_reader::ScheduleFault;
-use stored_runs::storm_values::{InputFault, Memory};
 use topology_reader::TopoFault;
 
 /// Why a command ends before its work is done.

@@ -4,7 +4,7 @@ ghost use Rattle.std.specs.Char.{is_ascii_digit};
 ghost use Rattle.storm_program.specs.steps.Commands.{command_of_words, HasWorkers};
 ghost use Rattle.storm_program.specs.Words.{is_word, digits_value, number_word, built};
 
-use stored_runs::storm_values::MOST_WORKERS;
+use event_worlds::storm_values::MOST_WORKERS;
 
 /// The line that refuses words.
 pub const USAGE: &str =

@@ -1,19 +1,18 @@
 // The key of a bad cell, which no text shows: the end of a run has it.
 ghost use Rattle.std.specs.Prelude.{◌≡◌, IfOk};
-ghost use Rattle.storm_test_kit.specs.event_worlds.Accounted.{IsInput};
+ghost use Rattle.event_worlds.specs.Accounted.{IsInput};
 
+use bolt_ops::Reversed;
+use sample_topologies::STEADY;
+use schedule_core::read_schedule;
 use std::alloc::Global;
-use storm_test_kit::bolt_ops::Reversed;
-use storm_test_kit::sample_topologies::STEADY;
-use storm_test_kit::schedule_core::read_schedule;
-use storm_test_kit::stored_runs::{RunEnd, replay_over};
-use storm_test_kit::storm_ids::ChaChaMaker;
-use storm_test_kit::storm_program::Fates;
-use storm_test_kit::storm_values::read_input;
-use storm_test_kit::test_kit::Mismatch;
-use storm_test_kit::topology_reader::{Plan, read_topology};
-use storm_test_kit::trident_batches::Batches;
+use storm_ids::ChaChaMaker;
+use storm_test_kit::storm_program::{Fates, RunEnd, replay_over};
 use storm_test_kit::{CALM, Cell, Outside, stores};
+use storm_values::read_input;
+use test_kit::Mismatch;
+use topology_reader::{Plan, read_topology};
+use trident_batches::Batches;
 
 const RECORD: &str = "[\"a\"]";
 

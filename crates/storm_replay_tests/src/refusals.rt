@@ -1,8 +1,8 @@
 // What a replay refuses, and in which order.
+use sample_topologies::{SENTENCES, WORD_COUNT};
 use std::alloc::Global;
-use storm_test_kit::sample_topologies::{SENTENCES, WORD_COUNT};
-use storm_test_kit::test_kit::Mismatch;
 use storm_test_kit::{CALM, Outside, REPLAY, Scene, check_call, check_refusal, replay_of};
+use test_kit::Mismatch;
 
 // Schedules over the word count, which has four tasks and two ackers, and the lines that refuse
 // them.

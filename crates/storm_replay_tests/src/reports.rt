@@ -1,19 +1,19 @@
 // Reports of given schedules where nothing outside fails.
-use std::alloc::Global;
-use std::sync::Wait;
-use std::thread::Threads;
-use storm_test_kit::bolt_ops::Reversed;
-use storm_test_kit::sample_topologies::{
+use bolt_ops::Reversed;
+use sample_topologies::{
     COPIES_TO_ALL, COUNTED_SENTENCES, FAILS_ALWAYS, FAILS_TWICE, LAST_VALUE, MUTE_ALWAYS,
     MUTE_ONCE, SENTENCES, SIDE_BY_SIDE, SMALL_WORD_COUNT, STEADY, TURNED, WORD_COUNT,
 };
-use storm_test_kit::storm_ids::ChaChaMaker;
+use std::alloc::Global;
+use std::sync::Wait;
+use std::thread::Threads;
+use storm_ids::ChaChaMaker;
+use storm_stores::MemMaker;
 use storm_test_kit::storm_program::{Fates, Status, storm_replay};
-use storm_test_kit::storm_stores::MemMaker;
-use storm_test_kit::test_kit::{Mismatch, compare};
 use storm_test_kit::{
     CALM, Outside, Script, call, check_call, check_tables, plain_of, replay_of, shelf, sink, taken,
 };
+use test_kit::{Mismatch, compare};
 
 const RECORD: &str = "[\"a\"]";
 

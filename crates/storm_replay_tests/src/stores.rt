@@ -1,9 +1,9 @@
 // Replays over stores with calls that fail, and with a bad cell. The state is the component 1, and
 // has one part.
-use storm_test_kit::sample_topologies::STEADY;
-use storm_test_kit::storm_stores::{CallKind, FailAt};
-use storm_test_kit::test_kit::Mismatch;
+use sample_topologies::STEADY;
+use storm_stores::{CallKind, FailAt};
 use storm_test_kit::{CALM, Cell, Outside, check_faults, check_refusal, replay_of};
+use test_kit::Mismatch;
 
 const RECORD: &str = "[\"a\"]";
 

@@ -1,11 +1,11 @@
 // What a call answers and writes where nothing outside fails.
-use std::alloc::Global;
-use storm_test_kit::sample_topologies::{
+use sample_topologies::{
     COPIES_TO_ALL, COUNTED_SENTENCES, LAST_VALUE, PAIRS, SENTENCES, TURNED, WORD_COUNT,
 };
-use storm_test_kit::storm_values::Root;
-use storm_test_kit::test_kit::Mismatch;
+use std::alloc::Global;
 use storm_test_kit::{CALM, Fate, RUN, Scene, call, check_call, check_refusal, run_of, run_over};
+use storm_values::Root;
+use test_kit::Mismatch;
 
 // Inputs, and their reports in batches of two.
 const REPORTS: [(&str, &str); 9] = [

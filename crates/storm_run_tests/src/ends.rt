@@ -1,12 +1,12 @@
 // Runs whose attempts fail, time out or coincide, by the texts of their reports.
-use storm_test_kit::sample_topologies::{
+use sample_topologies::{
     FAILS_ALWAYS, FAILS_TWICE, LAST_VALUE, MUTE_ALWAYS, MUTE_ONCE, SMALL_WORD_COUNT, STEADY,
     one_bolt,
 };
-use storm_test_kit::test_kit::Mismatch;
 use storm_test_kit::{
     CALM, Outside, Script, check_call, check_refusal, run_alone, run_of, ticks_every,
 };
+use test_kit::Mismatch;
 
 const RECORD: &str = "[\"a\"]";
 

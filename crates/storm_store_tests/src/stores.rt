@@ -1,16 +1,16 @@
 // Runs over stores with calls that fail, and with cells. The state is the component 1, and has one
 // part.
-use storm_test_kit::bolt_ops::Reversed;
-use storm_test_kit::sample_topologies::{STEADY, one_bolt};
-use storm_test_kit::storm_gates::OpenGate;
-use storm_test_kit::storm_ids::ChaChaMaker;
+use bolt_ops::Reversed;
+use sample_topologies::{STEADY, one_bolt};
+use storm_gates::OpenGate;
+use storm_ids::ChaChaMaker;
+use storm_stores::{CallKind, CellStore, FailAt, MemMaker, StoreFault, StoreMaker};
 use storm_test_kit::storm_program::{Fates, Status, storm_run};
-use storm_test_kit::storm_stores::{CallKind, CellStore, FailAt, MemMaker, StoreFault, StoreMaker};
-use storm_test_kit::storm_values::Bytes;
-use storm_test_kit::test_kit::Mismatch;
 use storm_test_kit::{
     CALM, Cell, Outside, check_call, check_faults, run_of, scripted_ticks, shelf, sink,
 };
+use storm_values::Bytes;
+use test_kit::Mismatch;
 
 const RECORD: &str = "[\"a\"]";
 

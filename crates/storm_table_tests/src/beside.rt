@@ -1,17 +1,17 @@
 // A larger run beside the plain tables of the same records.
+use bolt_ops::Reversed;
+use sample_topologies::WORD_COUNT;
 use std::alloc::Global;
 use std::fmt::Write;
 use std::test::Fail;
-use storm_test_kit::bolt_ops::Reversed;
-use storm_test_kit::sample_topologies::WORD_COUNT;
-use storm_test_kit::storm_gates::OpenGate;
-use storm_test_kit::storm_ids::ChaChaMaker;
+use storm_gates::OpenGate;
+use storm_ids::ChaChaMaker;
+use storm_stores::MemMaker;
 use storm_test_kit::storm_program::{Fates, Status, storm_run};
-use storm_test_kit::storm_stores::MemMaker;
-use storm_test_kit::storm_values::{Memory, read_input};
-use storm_test_kit::topology_reader::read_topology;
-use storm_test_kit::tree_model::{Table, Tables, plain_tables};
 use storm_test_kit::{CALM, Outside, run_of, scripted_ticks, shelf, sink};
+use storm_values::{Memory, read_input};
+use topology_reader::read_topology;
+use tree_model::{Table, Tables, plain_tables};
 
 const LINES: u32 = 300;
 

@@ -1,13 +1,13 @@
 // Each grouping and each operation at several scales, and several bolts: `run`, `replay` and
 // `plain` print the same tables.
+use sample_topologies::{
+    Example, GROUPINGS, LONG_SCHEDULE, NEVER, OPERATIONS, SCALES, SEVERAL, Scale, scaled,
+};
 use std::alloc::Global;
 use std::sync::Wait;
 use std::thread::Threads;
-use storm_test_kit::sample_topologies::{
-    Example, GROUPINGS, LONG_SCHEDULE, NEVER, OPERATIONS, SCALES, SEVERAL, Scale, scaled,
-};
-use storm_test_kit::test_kit::Mismatch;
 use storm_test_kit::{CALM, Outside, call, check_tables, plain_of, replay_of, run_of, ticks_every};
+use test_kit::Mismatch;
 
 // Runs and replays an example at a scale, and compares their tables with the plain ones.
 fn check_scaled<R: Threads + Wait + Sync>(

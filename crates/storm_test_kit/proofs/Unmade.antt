@@ -2,9 +2,9 @@
 use Rattle.std.proofs.Common.{◌≡◌, ◌⊎◌, inl, inr, ℕ, List, sym, ◌∙◌}
 use Rattle.std.proofs.lemmas.Bool.{cases_eq}
 use Rattle.std.specs.Prelude.{Result, Ok, Err, OnOk, OnErr}
-use Rattle.storm_program.specs.storm_stores.declared.memory_maker.Slot.{Slot}
-use Rattle.storm_program.specs.storm_stores.MemoryMaker.{ChangesPart, HasMade, MakerState, SameParts, made_at}
-use Rattle.storm_program.specs.storm_stores.MemoryStore.{StoreState}
+use Rattle.storm_stores.specs.declared.memory_maker.Slot.{Slot}
+use Rattle.storm_stores.specs.MemoryMaker.{ChangesPart, HasMade, MakerState, SameParts, made_at}
+use Rattle.storm_stores.specs.MemoryStore.{StoreState}
 
 -- where one part stays made or not, all do
 made_stays : (old new : List Slot) (component part : ℕ) (store : StoreState) → ChangesPart old new component part store (made_at old component part) → (c p : ℕ) → made_at new c p ≡ made_at old c p

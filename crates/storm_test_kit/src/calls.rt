@@ -1,14 +1,14 @@
 // Calls of `storm` over what is outside in memory.
 use crate::outside::{Outside, scripted_ids, scripted_ticks, shelf, sink, stores, taken};
 use crate::scenes::{Scene, owned};
+use bolt_ops::Reversed;
 use std::alloc::Global;
 use std::sync::Wait;
 use std::thread::Threads;
-use storm_program::bolt_ops::Reversed;
-use storm_program::storm_gates::{Gate, OpenGate};
-use storm_program::storm_ids::{ChaChaMaker, IdMaker};
-use storm_program::storm_values::{Memory, Root, Seq};
+use storm_gates::{Gate, OpenGate};
+use storm_ids::{ChaChaMaker, IdMaker};
 use storm_program::{Attempt, End, Fates, Status, storm};
+use storm_values::{Memory, Root, Seq};
 use test_kit::{Mismatch, compare, lines_without};
 
 /// An attempt of a call's fates, without what was told of its tuples.

@@ -1,8 +1,7 @@
 //! What the tests of whole calls share: files, an output, ticks, stores and ids in memory, calls of
 //! `storm`, and what they answer.
 //!
-//! It passes on the crates that it stands on: a crate above names them through this one, and
-//! lists this one alone.
+//! It passes on `storm_program`.
 #![tactic(auto)]
 
 mod calls;
@@ -17,14 +16,8 @@ pub use outside::{
     CALM, Cell, Failing, Outside, Script, scripted_ids, scripted_ticks, shelf, sink, stores, taken,
     ticks_every,
 };
-pub use sample_topologies;
 pub use scenes::{
     CHECK, PLAIN, REPLAY, RUN, RUN_ALONE, Scene, owned, plain_of, reads_of, replay_of, run_alone,
     run_of, run_over,
 };
 pub use storm_program;
-pub use storm_program::{
-    bolt_ops, schedule_core, stored_runs, storm_gates, storm_ids, storm_stores, storm_values,
-    topology_reader, tree_model, trident_batches,
-};
-pub use test_kit;

@@ -1,14 +1,14 @@
 // Files, an output, ticks, stores and ids in memory.
 ghost use Rattle.std.specs.Prelude.{ℕ};
-ghost use Rattle.storm_program.specs.storm_stores.MemoryMaker.{HasMade};
+ghost use Rattle.storm_stores.specs.MemoryMaker.{HasMade};
 
 use crate::scenes::Scene;
 use std::alloc::Global;
-use storm_program::storm_ids::{ScriptIds, Words};
-use storm_program::storm_outside::{MemShelf, MemSink};
-use storm_program::storm_stores::{FailAt, MemMaker};
-use storm_program::storm_ticks::ScriptTicks;
-use storm_program::storm_values::{Bytes, Indexes, Memory, Txt};
+use storm_ids::{ScriptIds, Words};
+use storm_outside::{MemShelf, MemSink};
+use storm_stores::{FailAt, MemMaker};
+use storm_ticks::ScriptTicks;
+use storm_values::{Bytes, Indexes, Memory, Txt};
 use test_kit::Mismatch;
 
 /// The component and the part of a store, and a call of it that fails.

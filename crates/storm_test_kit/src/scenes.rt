@@ -4,7 +4,7 @@ ghost use Rattle.std.specs.Int.{div_ceil};
 
 use sample_topologies::WORD_COUNT;
 use std::alloc::Global;
-use storm_program::storm_values::Memory;
+use storm_values::Memory;
 
 /// The words of a run that names no number of workers. It has several, each on a thread.
 pub const RUN: [&str; 3] = ["run", "t", "i"];

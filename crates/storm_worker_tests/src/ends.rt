@@ -1,17 +1,15 @@
 // Attempts that fail, time out or are not committed, beside each other: they end as with one
 // worker.
 use crate::numbers::EACH_NUMBER;
+use sample_topologies::{MUTE_ALWAYS, MUTE_ONCE, SENTENCES, TABLES_OF_SENTENCES, WORD_COUNT};
 use std::alloc::Global;
 use std::sync::Wait;
 use std::thread::Threads;
-use storm_test_kit::sample_topologies::{
-    MUTE_ALWAYS, MUTE_ONCE, SENTENCES, TABLES_OF_SENTENCES, WORD_COUNT,
-};
-use storm_test_kit::storm_stores::{CallKind, FailAt};
-use storm_test_kit::test_kit::{Mismatch, compare, lines_without};
+use storm_stores::{CallKind, FailAt};
 use storm_test_kit::{
     CALM, Outside, Scene, call, check_call, check_faults, plain_of, run_alone, run_of,
 };
+use test_kit::{Mismatch, compare, lines_without};
 
 const RECORD: &str = "[\"a\"]";
 

@@ -1,13 +1,13 @@
 // Runs behind gates.
+use sample_topologies::{COUNTED_SENTENCES, SENTENCES, SIDE_BY_SIDE};
 use std::alloc::Global;
 use std::sync::Wait;
 use std::sync::atomic::{AtomicU64, Ordering};
 use std::thread::Threads;
-use storm_test_kit::sample_topologies::{COUNTED_SENTENCES, SENTENCES, SIDE_BY_SIDE};
-use storm_test_kit::storm_gates::{Gate, HoldUntil};
-use storm_test_kit::storm_values::{Path, Root};
-use storm_test_kit::test_kit::Mismatch;
+use storm_gates::{Gate, HoldUntil};
 use storm_test_kit::{CALM, RUN_ALONE, Scene, call_behind, check_answer, run_of, run_over};
+use storm_values::{Path, Root};
+use test_kit::Mismatch;
 
 // How often an execution looks for the other at most.
 const TURNS: u64 = 100_000_000;

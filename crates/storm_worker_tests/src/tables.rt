@@ -1,15 +1,15 @@
 // Reports of a few dozen records, which are those of one worker, with the plain tables.
 use crate::numbers::EACH_NUMBER;
+use sample_topologies::WORD_COUNT;
 use std::alloc::Global;
 use std::fmt::Write;
 use std::sync::Wait;
 use std::thread::Threads;
-use storm_test_kit::sample_topologies::WORD_COUNT;
-use storm_test_kit::storm_values::Memory;
-use storm_test_kit::test_kit::Mismatch;
 use storm_test_kit::{
     CALM, Scene, Told, call, check_call, check_tables, plain_of, run_alone, run_of,
 };
+use storm_values::Memory;
+use test_kit::Mismatch;
 
 const LINES: u32 = 36;
 

@@ -3,25 +3,25 @@ use Rattle.std.proofs.Common.{◌≡◌, ◌≤◌, ◌<◌, ℕ, ◌+◌, ◌-�
 use Rattle.std.specs.Prelude.{Err, Ok, OnErr, Result, min, nat_le}
 use Rattle.std.specs.List.{AllZip, range_with_len}
 use Rattle.std.specs.Result.{IsErrAnd}
-use Rattle.worker_turns.specs.attempt_fates.declared.fates.Attempt.{Attempt}
-use Rattle.worker_turns.specs.attempt_fates.Fates.{IsOnce}
-use Rattle.worker_turns.specs.bolt_ops.RowOp.{Custom}
-use Rattle.worker_turns.specs.commit_turns.Turns.{last_tick}
-use Rattle.worker_turns.proofs.event_engine.GoesLemmas.{goes-then}
-use Rattle.worker_turns.proofs.event_engine.LoopLemmas.{ready_here}
-use Rattle.worker_turns.specs.event_engine.declared.engine.Engine.{Engine}
-use Rattle.worker_turns.specs.event_engine.Engines.{Goes, IsIdle, IsReady, IsStill, cut_in, topology_in}
-use Rattle.worker_turns.specs.event_worlds.Worlds.{of_acker, of_task}
-use Rattle.worker_turns.specs.pulse_board.Books.{Tells, drew, marked, ticked}
-use Rattle.worker_turns.specs.pulse_board.declared.rule.Book.{Book}
+use Rattle.event_worlds.specs.attempt_fates.declared.fates.Attempt.{Attempt}
+use Rattle.event_worlds.specs.attempt_fates.Fates.{IsOnce}
+use Rattle.event_worlds.specs.bolt_ops.RowOp.{Custom}
+use Rattle.event_worlds.specs.commit_turns.Turns.{last_tick}
+use Rattle.worker_stretches.proofs.event_engine.GoesLemmas.{goes-then}
+use Rattle.worker_stretches.proofs.event_engine.LoopLemmas.{ready_here}
+use Rattle.worker_stretches.specs.event_engine.declared.engine.Engine.{Engine}
+use Rattle.worker_stretches.specs.event_engine.Engines.{Goes, IsIdle, IsReady, IsStill, cut_in, topology_in}
+use Rattle.event_worlds.specs.Worlds.{of_acker, of_task}
+use Rattle.pulse_board.specs.Books.{Tells, drew, marked, ticked}
+use Rattle.pulse_board.specs.declared.rule.Book.{Book}
 use Rattle.schedule_core.specs.Driving.{AreKept, IsAtRest, IsOfSameRun, StillTells}
 use Rattle.schedule_core.specs.Rounding.{opening_steps}
-use Rattle.worker_turns.specs.state_parts.declared.parts.StatePart.{StatePart}
-use Rattle.worker_turns.specs.state_parts.PartPlans.{AreParts}
-use Rattle.worker_turns.specs.storm_ids.declared.ids.Ids.{Ghosts}
+use Rattle.event_worlds.specs.state_parts.declared.parts.StatePart.{StatePart}
+use Rattle.event_worlds.specs.state_parts.PartPlans.{AreParts}
+use Rattle.event_worlds.specs.storm_ids.declared.ids.Ids.{Ghosts}
 use Rattle.storm_stores.specs.CellMaps.{CellMap}
-use Rattle.worker_turns.specs.topology_plan.Topology.{Topology, tasks_in_all}
-use Rattle.worker_turns.specs.trident_batches.Batches.{Cut}
+use Rattle.event_worlds.specs.topology_plan.Topology.{Topology, tasks_in_all}
+use Rattle.event_worlds.specs.trident_batches.Batches.{Cut}
 use Rattle.worker_turns.proofs.Stands.{idle-still}
 
 -- ---- errors that are handed on

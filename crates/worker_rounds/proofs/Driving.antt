@@ -1,29 +1,29 @@
 -- A round of the caller over the parts of all states: it is opened, and closed with a commit.
 use Rattle.std.proofs.Common.{◌≡◌, ℕ, List, [], ◌++◌, All, length, refl, sym, ap, subst, ◌∙◌, append_assoc, append-nil}
 use Rattle.std.specs.Prelude.{replicate}
-use Rattle.worker_turns.specs.attempt_fates.declared.fates.Attempt.{Attempt}
-use Rattle.worker_turns.specs.attempt_fates.Fates.{committed_txids}
+use Rattle.event_worlds.specs.attempt_fates.declared.fates.Attempt.{Attempt}
+use Rattle.event_worlds.specs.attempt_fates.Fates.{committed_txids}
 use Rattle.batch_commits.specs.Standing.{FailuresAreCounted, PartsStand}
-use Rattle.worker_turns.specs.bolt_ops.RowOp.{Custom}
-use Rattle.worker_turns.specs.box_rows.declared.mail.Mail.{Mail}
-use Rattle.worker_turns.specs.commit_order.Orders.{desk_of}
-use Rattle.worker_turns.specs.commit_turns.Desks.{Desk}
-use Rattle.worker_turns.specs.commit_turns.Outcomes.{IsOutcome}
-use Rattle.worker_turns.proofs.event_engine.GoesLemmas.{gives-both, goes-none, goes-then, then-more}
-use Rattle.worker_turns.specs.event_engine.declared.engine.Engine.{Engine}
-use Rattle.worker_turns.specs.event_engine.Engines.{Goes, IsReady, IsStill, cut_in, shape, topology_in}
-use Rattle.worker_turns.specs.event_worlds.Accounted.{Accounted}
-use Rattle.worker_turns.specs.event_worlds.Rounds.{round_with}
-use Rattle.worker_turns.specs.event_worlds.Worlds.{Known, Step, World, coordinator_steps, of_tick, outcomes_of, run}
+use Rattle.event_worlds.specs.bolt_ops.RowOp.{Custom}
+use Rattle.worker_stretches.specs.box_rows.declared.mail.Mail.{Mail}
+use Rattle.event_worlds.specs.commit_order.Orders.{desk_of}
+use Rattle.event_worlds.specs.commit_turns.Desks.{Desk}
+use Rattle.event_worlds.specs.commit_turns.Outcomes.{IsOutcome}
+use Rattle.worker_stretches.proofs.event_engine.GoesLemmas.{gives-both, goes-none, goes-then, then-more}
+use Rattle.worker_stretches.specs.event_engine.declared.engine.Engine.{Engine}
+use Rattle.worker_stretches.specs.event_engine.Engines.{Goes, IsReady, IsStill, cut_in, shape, topology_in}
+use Rattle.event_worlds.specs.Accounted.{Accounted}
+use Rattle.event_worlds.specs.Rounds.{round_with}
+use Rattle.event_worlds.specs.Worlds.{Known, Step, World, coordinator_steps, of_tick, outcomes_of, run}
 use Rattle.schedule_core.specs.Driving.{Breaks, Drives, Leaves, WantsMemory}
 use Rattle.schedule_core.specs.Laws.{Laws}
 use Rattle.schedule_core.specs.Rounding.{closing_steps, opening_steps}
-use Rattle.worker_turns.specs.state_parts.declared.parts.StatePart.{StatePart}
-use Rattle.worker_turns.specs.storm_ids.declared.ids.Ids.{Ghosts}
+use Rattle.event_worlds.specs.state_parts.declared.parts.StatePart.{StatePart}
+use Rattle.event_worlds.specs.storm_ids.declared.ids.Ids.{Ghosts}
 use Rattle.storm_stores.specs.CellMaps.{CellMap}
-use Rattle.worker_turns.specs.task_queues.declared.pass.Pass.{Pass}
-use Rattle.worker_turns.specs.topology_plan.Topology.{Topology}
-use Rattle.worker_turns.specs.trident_batches.Batches.{Cut}
+use Rattle.task_queues.specs.declared.pass.Pass.{Pass}
+use Rattle.event_worlds.specs.topology_plan.Topology.{Topology}
+use Rattle.event_worlds.specs.trident_batches.Batches.{Cut}
 use Rattle.worker_rounds.proofs.Going.{none-added}
 use Rattle.worker_rounds.proofs.Rounds.{reaches-part}
 use Rattle.worker_rounds.specs.Laws.{RoundLaws}

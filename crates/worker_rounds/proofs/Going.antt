@@ -1,27 +1,27 @@
 -- An engine that goes on beside boxes, by one thing after another.
 use Rattle.std.proofs.Common.{◌≡◌, ℕ, ◌+◌, List, [], ◌∷◌, ◌++◌, All, length, map, append_assoc, length-append, sym, refl, ap, subst, ◌∙◌, arith}
 use Rattle.std.specs.List.{range_with_len}
-use Rattle.worker_turns.specs.attempt_fates.declared.fates.Attempt.{Attempt}
+use Rattle.event_worlds.specs.attempt_fates.declared.fates.Attempt.{Attempt}
 use Rattle.batch_commits.specs.Standing.{FailuresAreCounted, PartsStand}
-use Rattle.worker_turns.specs.bolt_ops.RowOp.{Custom}
-use Rattle.worker_turns.specs.box_rows.declared.mail.Mail.{Mail}
-use Rattle.worker_turns.specs.commit_order.Orders.{desk_of}
-use Rattle.worker_turns.specs.commit_turns.Outcomes.{IsOutcome}
-use Rattle.worker_turns.specs.event_engine.declared.engine.Engine.{Engine}
-use Rattle.worker_turns.specs.event_engine.Engines.{HasOutcomes, IsStill}
-use Rattle.worker_turns.proofs.event_engine.GoesLemmas.{draws-then, gives-parts, outcomes-append}
-use Rattle.worker_turns.specs.event_worlds.Worlds.{outcomes_of}
+use Rattle.event_worlds.specs.bolt_ops.RowOp.{Custom}
+use Rattle.worker_stretches.specs.box_rows.declared.mail.Mail.{Mail}
+use Rattle.event_worlds.specs.commit_order.Orders.{desk_of}
+use Rattle.event_worlds.specs.commit_turns.Outcomes.{IsOutcome}
+use Rattle.worker_stretches.specs.event_engine.declared.engine.Engine.{Engine}
+use Rattle.worker_stretches.specs.event_engine.Engines.{HasOutcomes, IsStill}
+use Rattle.worker_stretches.proofs.event_engine.GoesLemmas.{draws-then, gives-parts, outcomes-append}
+use Rattle.event_worlds.specs.Worlds.{outcomes_of}
 use Rattle.schedule_core.specs.Laws.{Laws}
-use Rattle.worker_turns.specs.state_parts.declared.answer.CommitOutcome.{CommitOutcome}
-use Rattle.worker_turns.specs.state_parts.declared.parts.StatePart.{StatePart}
-use Rattle.worker_turns.specs.storm_ids.declared.ids.Ids.{Ghosts}
+use Rattle.event_worlds.specs.state_parts.declared.answer.CommitOutcome.{CommitOutcome}
+use Rattle.event_worlds.specs.state_parts.declared.parts.StatePart.{StatePart}
+use Rattle.event_worlds.specs.storm_ids.declared.ids.Ids.{Ghosts}
 use Rattle.storm_stores.specs.CellMaps.{CellMap}
-use Rattle.worker_turns.specs.task_queues.declared.pass.Pass.{Pass}
-use Rattle.worker_turns.specs.topology_plan.Topology.{Topology}
-use Rattle.worker_turns.specs.tree_model.declared.messages.Parcel.{Parcel}
-use Rattle.worker_turns.specs.trident_batches.Batches.{Cut}
+use Rattle.task_queues.specs.declared.pass.Pass.{Pass}
+use Rattle.event_worlds.specs.topology_plan.Topology.{Topology}
+use Rattle.event_worlds.specs.tree_model.declared.messages.Parcel.{Parcel}
+use Rattle.event_worlds.specs.trident_batches.Batches.{Cut}
 use Rattle.worker_rounds.specs.Running.{RunsOn}
-use Rattle.worker_turns.specs.worker_stretches.Standing.{GoesOn}
+use Rattle.worker_stretches.specs.Standing.{GoesOn}
 
 -- outcomes that begin with those of more fates begin with those of the first
 first-outcomes : (outcomes : List CommitOutcome) (fates more all : List Attempt) → all ≡ fates ++ more → HasOutcomes outcomes all → HasOutcomes outcomes fates

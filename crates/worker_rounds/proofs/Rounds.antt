@@ -3,39 +3,39 @@ use Rattle.std.proofs.Common.{◌≡◌, ◌≤◌, ◌<◌, inl, inr, ℕ, zero
 use Rattle.std.specs.Prelude.{min, replicate}
 use Rattle.std.specs.List.{range_with_len}
 use Rattle.std.proofs.lemmas.List.FromFn.{fill_by_all}
-use Rattle.worker_turns.specs.bolt_ops.RowOp.{Custom, IsCustom}
-use Rattle.worker_turns.specs.box_rows.declared.mail.Mail.{Mail}
-use Rattle.worker_turns.specs.box_rows.Mails.{weigh_mail}
-use Rattle.worker_turns.specs.box_rows.Rows.{sent_in, taken_in}
-use Rattle.worker_turns.specs.commit_turns.Outcomes.{IsOutcome}
-use Rattle.worker_turns.specs.event_engine.declared.engine.Engine.{Engine}
-use Rattle.worker_turns.specs.event_engine.Engines.{Gives, Goes, HasOutcomes, IsReady, cut_in, has_ended, shape}
-use Rattle.worker_turns.specs.event_worlds.Accounted.{IsInput, LedAt, LedTo, station_of}
-use Rattle.worker_turns.specs.event_worlds.Beside.{LedBeside, waits}
-use Rattle.worker_turns.specs.event_worlds.Rounds.{CanFinish, round_with, ticks_in}
-use Rattle.worker_turns.specs.event_worlds.Worlds.{AckerSide, Known, Step, TaskSide, World, coordinator_steps, is_over, no_acker, no_task, of_acker, of_task, of_tick, outcomes_of, run}
-use Rattle.worker_turns.specs.event_worlds.Orderly.{IsOrderly}
-use Rattle.worker_turns.proofs.event_worlds.Waiting.{each-at}
-use Rattle.worker_turns.specs.state_parts.declared.answer.CommitOutcome.{CommitOutcome}
-use Rattle.worker_turns.specs.state_parts.declared.answer.CommitOutcome.TheVariants.{Done}
+use Rattle.event_worlds.specs.bolt_ops.RowOp.{Custom, IsCustom}
+use Rattle.worker_stretches.specs.box_rows.declared.mail.Mail.{Mail}
+use Rattle.worker_stretches.specs.box_rows.Mails.{weigh_mail}
+use Rattle.worker_stretches.specs.box_rows.Rows.{sent_in, taken_in}
+use Rattle.event_worlds.specs.commit_turns.Outcomes.{IsOutcome}
+use Rattle.worker_stretches.specs.event_engine.declared.engine.Engine.{Engine}
+use Rattle.worker_stretches.specs.event_engine.Engines.{Gives, Goes, HasOutcomes, IsReady, cut_in, has_ended, shape}
+use Rattle.event_worlds.specs.Accounted.{IsInput, LedAt, LedTo, station_of}
+use Rattle.event_worlds.specs.Beside.{LedBeside, waits}
+use Rattle.event_worlds.specs.Rounds.{CanFinish, round_with, ticks_in}
+use Rattle.event_worlds.specs.Worlds.{AckerSide, Known, Step, TaskSide, World, coordinator_steps, is_over, no_acker, no_task, of_acker, of_task, of_tick, outcomes_of, run}
+use Rattle.event_worlds.specs.Orderly.{IsOrderly}
+use Rattle.event_worlds.proofs.Waiting.{each-at}
+use Rattle.event_worlds.specs.state_parts.declared.answer.CommitOutcome.{CommitOutcome}
+use Rattle.event_worlds.specs.state_parts.declared.answer.CommitOutcome.TheVariants.{Done}
 use Rattle.schedule_core.specs.Driving.{Drives}
-use Rattle.worker_turns.specs.state_parts.declared.parts.StatePart.{StatePart}
-use Rattle.worker_turns.specs.storm_ids.declared.ids.Ids.{Ghosts}
+use Rattle.event_worlds.specs.state_parts.declared.parts.StatePart.{StatePart}
+use Rattle.event_worlds.specs.storm_ids.declared.ids.Ids.{Ghosts}
 use Rattle.storm_stores.specs.CellMaps.{CellMap}
-use Rattle.worker_turns.specs.task_queues.declared.pass.Pass.{Pass}
-use Rattle.worker_turns.specs.task_queues.declared.rule.Stamped.{Stamped}
-use Rattle.worker_turns.specs.topology_plan.Topology.{Topology, tasks_in_all}
-use Rattle.worker_turns.specs.trident_batches.Batches.{Cut}
-use Rattle.worker_turns.specs.tuple_account.Histories.{History, Packet}
-use Rattle.worker_turns.specs.tuple_account.Moves.{Station, beside}
-use Rattle.worker_turns.specs.world_progress.Doing.{done}
-use Rattle.worker_turns.specs.world_progress.Lasting.{Lasting}
-use Rattle.worker_turns.specs.world_progress.Running.{so_far}
+use Rattle.task_queues.specs.declared.pass.Pass.{Pass}
+use Rattle.task_queues.specs.declared.rule.Stamped.{Stamped}
+use Rattle.event_worlds.specs.topology_plan.Topology.{Topology, tasks_in_all}
+use Rattle.event_worlds.specs.trident_batches.Batches.{Cut}
+use Rattle.event_worlds.specs.tuple_account.Histories.{History, Packet}
+use Rattle.event_worlds.specs.tuple_account.Moves.{Station, beside}
+use Rattle.worker_stretches.specs.world_progress.Doing.{done}
+use Rattle.worker_stretches.specs.world_progress.Lasting.{Lasting}
+use Rattle.worker_stretches.specs.world_progress.Running.{so_far}
 use Rattle.worker_rounds.specs.Laws.{RoundLaws}
 use Rattle.worker_rounds.specs.Running.{Reaches, RunsOn}
 use Rattle.worker_rounds.proofs.Through.{IsFree, IsRising, heard-run, led-run, parts-of-round, rising-first, rising-round, uses-run}
 use Rattle.worker_rounds.proofs.Ticking.{tick-round}
-use Rattle.worker_turns.specs.worker_stretches.Standing.{GoesOn, Stands, beside_it}
+use Rattle.worker_stretches.specs.Standing.{GoesOn, Stands, beside_it}
 use Rattle.worker_turns.specs.Carrying.{AreEmpty, IsSwept}
 
 -- ---- boxes that are empty

@@ -4,28 +4,28 @@ use Rattle.std.specs.Prelude.{replicate}
 use Rattle.std.specs.List.{range_with_len}
 use Rattle.std.specs.Option.{option_to_list}
 use Rattle.std.proofs.lemmas.List.{get_or-set_other}
-use Rattle.worker_turns.specs.acker_core.declared.verdict.Verdict.{Verdict}
-use Rattle.worker_turns.specs.bolt_ops.RowOp.{Custom}
-use Rattle.worker_turns.specs.box_account.Hearing.{HeardBeforeFailing}
-use Rattle.worker_turns.specs.box_account.Inboxes.{weigh_acker_inboxes, weigh_inboxes, weigh_task_inboxes}
-use Rattle.worker_turns.specs.counted_items.Weights.{weigh}
-use Rattle.worker_turns.proofs.counted_items.Weighing.{weigh-append}
-use Rattle.worker_turns.specs.event_worlds.Accounted.{LedTo}
-use Rattle.worker_turns.specs.event_worlds.Added.{acker_adds, acker_adds_past, added, executes, meets_front, lost, step_adds, task_adds, task_adds_past, turn_adds, turn_adds_past}
-use Rattle.worker_turns.specs.event_worlds.Rounds.{round_with}
-use Rattle.worker_turns.specs.event_worlds.Worlds.{AckerSide, Known, Step, TaskSide, World, acker_at, acker_step, acted_past, aged, answered_past, coordinator_steps, counted_up, executed, is_over, meets, next, next_outcome, next_words, no_acker, no_task, of_acker, of_outcome, of_task, of_tick, of_turn, outcome_step, run, sent, step, task_at, task_needs, task_step, turn_needs, turn_past, turn_step, with_progress, with_task}
-use Rattle.worker_turns.proofs.event_worlds.Waiting.{weigh-front}
-use Rattle.worker_turns.specs.commit_turns.Turns.{decided}
-use Rattle.worker_turns.specs.state_parts.declared.answer.CommitOutcome.{CommitOutcome}
-use Rattle.worker_turns.specs.topology_plan.Topology.{Topology, tasks_in_all}
-use Rattle.worker_turns.specs.tree_model.declared.messages.AckMsg.{AckMsg}
-use Rattle.worker_turns.specs.tree_model.declared.messages.Parcel.{Parcel}
-use Rattle.worker_turns.specs.tree_model.declared.messages.Parcel.TheVariants.{ToTask, ToAcker}
-use Rattle.worker_turns.specs.tree_model.declared.messages.Tuple.{Tuple}
-use Rattle.worker_turns.specs.trident_batches.Batches.{Cut}
-use Rattle.worker_turns.specs.tuple_account.Histories.{History, Packet, joined, nothing, of_parcel, of_verdict, taken}
-use Rattle.worker_turns.proofs.tuple_account.Moving.{taken-joined}
-use Rattle.worker_turns.specs.world_progress.Running as specs
+use Rattle.event_worlds.specs.acker_core.declared.verdict.Verdict.{Verdict}
+use Rattle.event_worlds.specs.bolt_ops.RowOp.{Custom}
+use Rattle.worker_stretches.specs.box_account.Hearing.{HeardBeforeFailing}
+use Rattle.worker_stretches.specs.box_account.Inboxes.{weigh_acker_inboxes, weigh_inboxes, weigh_task_inboxes}
+use Rattle.event_worlds.specs.counted_items.Weights.{weigh}
+use Rattle.event_worlds.proofs.counted_items.Weighing.{weigh-append}
+use Rattle.event_worlds.specs.Accounted.{LedTo}
+use Rattle.event_worlds.specs.Added.{acker_adds, acker_adds_past, added, executes, meets_front, lost, step_adds, task_adds, task_adds_past, turn_adds, turn_adds_past}
+use Rattle.event_worlds.specs.Rounds.{round_with}
+use Rattle.event_worlds.specs.Worlds.{AckerSide, Known, Step, TaskSide, World, acker_at, acker_step, acted_past, aged, answered_past, coordinator_steps, counted_up, executed, is_over, meets, next, next_outcome, next_words, no_acker, no_task, of_acker, of_outcome, of_task, of_tick, of_turn, outcome_step, run, sent, step, task_at, task_needs, task_step, turn_needs, turn_past, turn_step, with_progress, with_task}
+use Rattle.event_worlds.proofs.Waiting.{weigh-front}
+use Rattle.event_worlds.specs.commit_turns.Turns.{decided}
+use Rattle.event_worlds.specs.state_parts.declared.answer.CommitOutcome.{CommitOutcome}
+use Rattle.event_worlds.specs.topology_plan.Topology.{Topology, tasks_in_all}
+use Rattle.event_worlds.specs.tree_model.declared.messages.AckMsg.{AckMsg}
+use Rattle.event_worlds.specs.tree_model.declared.messages.Parcel.{Parcel}
+use Rattle.event_worlds.specs.tree_model.declared.messages.Parcel.TheVariants.{ToTask, ToAcker}
+use Rattle.event_worlds.specs.tree_model.declared.messages.Tuple.{Tuple}
+use Rattle.event_worlds.specs.trident_batches.Batches.{Cut}
+use Rattle.event_worlds.specs.tuple_account.Histories.{History, Packet, joined, nothing, of_parcel, of_verdict, taken}
+use Rattle.event_worlds.proofs.tuple_account.Moving.{taken-joined}
+use Rattle.worker_stretches.specs.world_progress.Running as specs
 
 -- ---- inboxes with one changed
 

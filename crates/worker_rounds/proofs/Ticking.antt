@@ -2,16 +2,16 @@
 use Rattle.std.proofs.Common.{◌≡◌, ◌≤◌, ℕ, zero, suc, ◌+◌, ◌-◌, ◌^◌, Bool, true, false, cond, List, [], ◌∷◌, ◌++◌, map, Option, None, Some, refl, ap, ◌∙◌, arith}
 use Rattle.std.specs.Prelude.{min, replicate}
 use Rattle.std.specs.List.{range_with_len}
-use Rattle.worker_turns.specs.bolt_ops.RowOp.{Custom}
-use Rattle.worker_turns.specs.commit_turns.Desks.{Desk}
-use Rattle.worker_turns.specs.commit_turns.Turns.{decided}
-use Rattle.worker_turns.specs.event_worlds.Rounds.{round_with}
-use Rattle.worker_turns.specs.event_worlds.Worlds.{Known, Step, World, acted_past, coordinator_steps, delivered, is_over, next, next_outcome, next_words, of_acker, of_outcome, of_task, of_tick, of_turn, run, sent, step, task_at, task_needs, turn_needs, turn_past, with_progress, with_task}
-use Rattle.worker_turns.specs.state_parts.declared.answer.CommitOutcome.{CommitOutcome}
-use Rattle.worker_turns.specs.topology_plan.Topology.{Topology, tasks_in_all}
-use Rattle.worker_turns.specs.tree_model.declared.messages.Parcel.{Parcel}
-use Rattle.worker_turns.specs.tree_model.declared.messages.Parcel.TheVariants.{ToTask, ToAcker}
-use Rattle.worker_turns.specs.trident_batches.Batches.{Cut}
+use Rattle.event_worlds.specs.bolt_ops.RowOp.{Custom}
+use Rattle.event_worlds.specs.commit_turns.Desks.{Desk}
+use Rattle.event_worlds.specs.commit_turns.Turns.{decided}
+use Rattle.event_worlds.specs.Rounds.{round_with}
+use Rattle.event_worlds.specs.Worlds.{Known, Step, World, acted_past, coordinator_steps, delivered, is_over, next, next_outcome, next_words, of_acker, of_outcome, of_task, of_tick, of_turn, run, sent, step, task_at, task_needs, turn_needs, turn_past, with_progress, with_task}
+use Rattle.event_worlds.specs.state_parts.declared.answer.CommitOutcome.{CommitOutcome}
+use Rattle.event_worlds.specs.topology_plan.Topology.{Topology, tasks_in_all}
+use Rattle.event_worlds.specs.tree_model.declared.messages.Parcel.{Parcel}
+use Rattle.event_worlds.specs.tree_model.declared.messages.Parcel.TheVariants.{ToTask, ToAcker}
+use Rattle.event_worlds.specs.trident_batches.Batches.{Cut}
 use Rattle.worker_rounds.proofs.Through.{parts-of-round}
 
 -- a tick's number and the coordinator's desk stay as they are

@@ -1,20 +1,20 @@
 -- The laws of worlds that rounds between stretches rest on. This project's own.
 use Rattle.std.specs.Prelude.{◌≡◌, ◌<◌, ◌+◌, ℕ, List, All}
-use Rattle.worker_turns.specs.bolt_ops.RowOp.{Custom, IsCustom}
-use Rattle.worker_turns.specs.box_account.Hearing.{HeardBeforeFailing}
-use Rattle.worker_turns.specs.commit_turns.Outcomes.{IsOutcome}
-use Rattle.worker_turns.specs.event_worlds.Accounted.{IsInput, LedTo}
-use Rattle.worker_turns.specs.event_worlds.Added.{added}
-use Rattle.worker_turns.specs.event_worlds.Rounds.{CanFinish, round_with, ticks_in}
-use Rattle.worker_turns.specs.event_worlds.Worlds.{Known, Step, next, run}
-use Rattle.worker_turns.specs.state_parts.declared.answer.CommitOutcome.{CommitOutcome}
-use Rattle.worker_turns.specs.state_parts.declared.answer.CommitOutcome.TheVariants.{Done}
-use Rattle.worker_turns.specs.topology_plan.Topology.{Topology}
-use Rattle.worker_turns.specs.trident_batches.Batches.{Cut}
-use Rattle.worker_turns.specs.tuple_account.Histories.{History, joined}
-use Rattle.worker_turns.specs.world_progress.Lasting.{Lasting}
-use Rattle.worker_turns.specs.world_progress.Rounding.{DoesMore, LastsOn}
-use Rattle.worker_turns.specs.world_progress.Running.{so_far}
+use Rattle.event_worlds.specs.bolt_ops.RowOp.{Custom, IsCustom}
+use Rattle.worker_stretches.specs.box_account.Hearing.{HeardBeforeFailing}
+use Rattle.event_worlds.specs.commit_turns.Outcomes.{IsOutcome}
+use Rattle.event_worlds.specs.Accounted.{IsInput, LedTo}
+use Rattle.event_worlds.specs.Added.{added}
+use Rattle.event_worlds.specs.Rounds.{CanFinish, round_with, ticks_in}
+use Rattle.event_worlds.specs.Worlds.{Known, Step, next, run}
+use Rattle.event_worlds.specs.state_parts.declared.answer.CommitOutcome.{CommitOutcome}
+use Rattle.event_worlds.specs.state_parts.declared.answer.CommitOutcome.TheVariants.{Done}
+use Rattle.event_worlds.specs.topology_plan.Topology.{Topology}
+use Rattle.event_worlds.specs.trident_batches.Batches.{Cut}
+use Rattle.event_worlds.specs.tuple_account.Histories.{History, joined}
+use Rattle.worker_stretches.specs.world_progress.Lasting.{Lasting}
+use Rattle.worker_stretches.specs.world_progress.Rounding.{DoesMore, LastsOn}
+use Rattle.worker_stretches.specs.world_progress.Running.{so_far}
 
 -- What rounds rest on: each step leads on, and a verdict is heard before a commit fails; nothing is
 -- lost by steps, and a round does something.

@@ -2,35 +2,35 @@
 -- project's own.
 use Rattle.std.specs.Prelude.{◌≡◌, ℕ, List, [], All}
 use Rattle.batch_commits.specs.Standing.{FailuresAreCounted, HasStrangeAt, PartsStand}
-use Rattle.worker_turns.specs.bolt_ops.RowOp.{Custom, IsCustom}
-use Rattle.worker_turns.specs.box_account.Hearing.{HeardBeforeFailing}
-use Rattle.worker_turns.specs.box_account.Inboxes.{GoesThrough}
-use Rattle.worker_turns.specs.box_rows.declared.mail.Mail.{Mail}
-use Rattle.worker_turns.specs.box_rows.FitRows.{IsFitRow}
-use Rattle.worker_turns.specs.commit_turns.Outcomes.{IsOutcome}
-use Rattle.worker_turns.specs.event_engine.declared.engine.Engine.{Engine}
-use Rattle.worker_turns.specs.event_engine.Engines.{Gives, HasOutcomes, IsIdle, IsReady, shape}
-use Rattle.worker_turns.specs.event_worlds.Accounted.{IsInput}
-use Rattle.worker_turns.specs.event_worlds.Beside.{LedBeside}
-use Rattle.worker_turns.specs.event_worlds.Rounds.{round_with}
-use Rattle.worker_turns.specs.event_worlds.Worlds.{World, outcomes_of}
-use Rattle.worker_turns.specs.pulse_board.declared.seat.Board.{Board}
-use Rattle.worker_turns.specs.pulse_board.declared.seat.BoardSeat.{BoardSeat}
-use Rattle.worker_turns.specs.pulse_board.Seats.{book_of}
+use Rattle.event_worlds.specs.bolt_ops.RowOp.{Custom, IsCustom}
+use Rattle.worker_stretches.specs.box_account.Hearing.{HeardBeforeFailing}
+use Rattle.worker_stretches.specs.box_account.Inboxes.{GoesThrough}
+use Rattle.worker_stretches.specs.box_rows.declared.mail.Mail.{Mail}
+use Rattle.worker_stretches.specs.box_rows.FitRows.{IsFitRow}
+use Rattle.event_worlds.specs.commit_turns.Outcomes.{IsOutcome}
+use Rattle.worker_stretches.specs.event_engine.declared.engine.Engine.{Engine}
+use Rattle.worker_stretches.specs.event_engine.Engines.{Gives, HasOutcomes, IsIdle, IsReady, shape}
+use Rattle.event_worlds.specs.Accounted.{IsInput}
+use Rattle.event_worlds.specs.Beside.{LedBeside}
+use Rattle.event_worlds.specs.Rounds.{round_with}
+use Rattle.event_worlds.specs.Worlds.{World, outcomes_of}
+use Rattle.pulse_board.specs.declared.seat.Board.{Board}
+use Rattle.pulse_board.specs.declared.seat.BoardSeat.{BoardSeat}
+use Rattle.pulse_board.specs.Seats.{book_of}
 use Rattle.schedule_core.specs.Driving.{Breaks, committed_by}
-use Rattle.worker_turns.specs.state_parts.Commits.{IsBadAt}
-use Rattle.worker_turns.specs.state_parts.declared.answer.CommitOutcome.{CommitOutcome}
-use Rattle.worker_turns.specs.state_parts.declared.parts.StatePart.{StatePart}
-use Rattle.worker_turns.specs.state_parts.PartPlans.{AreParts, plans_of}
-use Rattle.worker_turns.specs.storm_ids.declared.ids.Ids.{Ghosts}
+use Rattle.event_worlds.specs.state_parts.Commits.{IsBadAt}
+use Rattle.event_worlds.specs.state_parts.declared.answer.CommitOutcome.{CommitOutcome}
+use Rattle.event_worlds.specs.state_parts.declared.parts.StatePart.{StatePart}
+use Rattle.event_worlds.specs.state_parts.PartPlans.{AreParts, plans_of}
+use Rattle.event_worlds.specs.storm_ids.declared.ids.Ids.{Ghosts}
 use Rattle.storm_stores.specs.CellMaps.{CellMap}
-use Rattle.worker_turns.specs.task_queues.declared.pass.Mailbox.{Mailbox}
-use Rattle.worker_turns.specs.task_queues.declared.pass.Pass.{Pass}
-use Rattle.worker_turns.specs.topology_plan.Topology.{Topology}
-use Rattle.worker_turns.specs.trident_batches.Batches.{Cut}
-use Rattle.worker_turns.specs.tuple_account.Histories.{History}
-use Rattle.worker_turns.specs.worker_stretches.Parts.{IsWholeSeat}
-use Rattle.worker_turns.specs.worker_stretches.Standing.{GoesOn, IsInTime, Stands, beside_it}
+use Rattle.task_queues.specs.declared.pass.Mailbox.{Mailbox}
+use Rattle.task_queues.specs.declared.pass.Pass.{Pass}
+use Rattle.event_worlds.specs.topology_plan.Topology.{Topology}
+use Rattle.event_worlds.specs.trident_batches.Batches.{Cut}
+use Rattle.event_worlds.specs.tuple_account.Histories.{History}
+use Rattle.worker_stretches.specs.Parts.{IsWholeSeat}
+use Rattle.worker_stretches.specs.Standing.{GoesOn, IsInTime, Stands, beside_it}
 use Rattle.worker_turns.specs.Carrying.{AreEmpty, HaveRoom, IsSwept}
 
 -- Some history led to a world, beside which boxes hold what they hold; all that was taken from them

@@ -1,12 +1,12 @@
 //! The laws of other crates that rounds rest on, put together.
-ghost use Rattle.worker_turns.specs.bolt_ops.RowOp.{Custom};
-ghost use Rattle.worker_turns.specs.topology_plan.Topology.{Topology};
-ghost use Rattle.worker_turns.specs.trident_batches.Batches.{Cut};
+ghost use Rattle.event_worlds.specs.bolt_ops.RowOp.{Custom};
+ghost use Rattle.event_worlds.specs.topology_plan.Topology.{Topology};
+ghost use Rattle.event_worlds.specs.trident_batches.Batches.{Cut};
 ghost use Rattle.worker_rounds.specs.Laws.{RoundLaws};
 
-use worker_turns::box_account::complete_verdicts_are_heard;
-use worker_turns::event_worlds::steps_add_to_histories;
-use worker_turns::world_progress::{lasting_worlds_go_on, rounds_do_something};
+use event_worlds::steps_add_to_histories;
+use worker_stretches::box_account::complete_verdicts_are_heard;
+use worker_stretches::world_progress::{lasting_worlds_go_on, rounds_do_something};
 
 /// A law: what steps and rounds come to where nothing waits beside a world.
 pub(crate) fn laws_of_rounds()

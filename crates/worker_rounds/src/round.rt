@@ -2,35 +2,35 @@
 //! ticks come, and the coordinator has its step with the commit that it orders.
 ghost use Rattle.std.specs.Prelude.{◌≡◌, ◌<◌, ◌+◌, ◌-◌, ◌^◌, ◌∷◌, [], List, ℕ, false, Err, OnOk, OnErr, length, map, min};
 ghost use Rattle.std.specs.List.{range_with_len};
-ghost use Rattle.worker_turns.specs.attempt_fates.Fates.{IsOnce};
-ghost use Rattle.worker_turns.specs.commit_turns.Turns.{last_tick};
-ghost use Rattle.worker_turns.specs.event_engine.Engines.{Goes, IsReady, IsStill, cut_in, has_ended, topology_in};
-ghost use Rattle.worker_turns.specs.event_worlds.Worlds.{of_task};
-ghost use Rattle.worker_turns.specs.pulse_board.Seats.{book_of};
+ghost use Rattle.event_worlds.specs.attempt_fates.Fates.{IsOnce};
+ghost use Rattle.event_worlds.specs.commit_turns.Turns.{last_tick};
+ghost use Rattle.worker_stretches.specs.event_engine.Engines.{Goes, IsReady, IsStill, cut_in, has_ended, topology_in};
+ghost use Rattle.event_worlds.specs.Worlds.{of_task};
+ghost use Rattle.pulse_board.specs.Seats.{book_of};
 ghost use Rattle.schedule_core.specs.Driving.{AreKept, WantsMemory};
 ghost use Rattle.schedule_core.specs.Rounding.{opening_steps};
-ghost use Rattle.worker_turns.specs.state_parts.declared.answer.CommitFault.TheVariants as fault;
-ghost use Rattle.worker_turns.specs.state_parts.PartPlans.{AreParts};
-ghost use Rattle.worker_turns.specs.topology_plan.Topology.{tasks_in_all};
+ghost use Rattle.event_worlds.specs.state_parts.declared.answer.CommitFault.TheVariants as fault;
+ghost use Rattle.event_worlds.specs.state_parts.PartPlans.{AreParts};
+ghost use Rattle.event_worlds.specs.topology_plan.Topology.{tasks_in_all};
 ghost use Rattle.worker_rounds.specs.Running.{Broken, IsGathered, RunsOn};
-ghost use Rattle.worker_turns.specs.worker_stretches.Parts.{IsWholeSeat};
+ghost use Rattle.worker_stretches.specs.Parts.{IsWholeSeat};
 
 use crate::laws::laws_of_rounds;
+use event_worlds::bolt_ops::RowOp;
+use event_worlds::state_parts::{CommitFault, Parts};
+use event_worlds::storm_ids::Ids;
+use event_worlds::storm_values::Memory;
+use event_worlds::topology_plan::Plan;
+use pulse_board::{Board, BoardSeat};
 use schedule_core::{close_round_beside, laws_of_steps};
 use std::alloc::Global;
 use std::sync::Wait;
 use std::thread::Threads;
+use storm_gates::Gate;
 use storm_stores::CellStore;
-use worker_turns::bolt_ops::RowOp;
-use worker_turns::box_rows::{Posts, Row};
-use worker_turns::event_engine::Engine;
-use worker_turns::pulse_board::{Board, BoardSeat};
-use worker_turns::state_parts::{CommitFault, Parts};
-use worker_turns::storm_gates::Gate;
-use worker_turns::storm_ids::Ids;
-use worker_turns::storm_values::Memory;
+use worker_stretches::box_rows::{Posts, Row};
+use worker_stretches::event_engine::Engine;
 use worker_turns::sweep;
-use worker_turns::topology_plan::Plan;
 
 // A task's event. Where it executes a tuple it passes the gate first.
 fn pass_and_act<R: Wait, I: Ids, O: RowOp, G: Gate>(

@@ -1,23 +1,23 @@
 -- Where a run of workers begins: an engine that was started, beside the boxes and at the board that were made.
 use Rattle.std.proofs.Common.{◌≡◌, ◌<◌, ◌-◌, ◌^◌, ℕ, List, length, min, Result, sym, ap, subst, ◌∙◌, arith}
-use Rattle.worker_rounds.specs.bolt_ops.RowOp.{Custom}
-use Rattle.worker_rounds.specs.box_rows.declared.boxes.Boxes.{Boxes}
-use Rattle.worker_rounds.specs.box_rows.declared.mail.Mail.{Mail}
-use Rattle.worker_rounds.specs.event_engine.declared.engine.Engine.{Engine}
-use Rattle.worker_rounds.specs.event_engine.Engines.{IsIdle, IsReady, cut_in}
-use Rattle.worker_rounds.specs.event_engine.Starts.{IsStarted}
-use Rattle.worker_rounds.specs.event_worlds.Accounted.{IsInput}
-use Rattle.worker_rounds.specs.pulse_board.declared.rule.Book.{Book}
-use Rattle.worker_rounds.specs.pulse_board.declared.seat.Board.{Board}
-use Rattle.worker_rounds.specs.pulse_board.declared.seat.BoardSeat.{BoardSeat}
-use Rattle.worker_rounds.specs.state_parts.declared.answer.CommitFault.{CommitFault}
-use Rattle.worker_rounds.specs.state_parts.declared.parts.StatePart.{StatePart}
-use Rattle.worker_rounds.specs.storm_ids.declared.ids.Ids.{Ghosts}
-use Rattle.worker_rounds.specs.storm_stores.CellMaps.{CellMap}
-use Rattle.worker_rounds.specs.task_queues.declared.pass.Mailbox.{Mailbox}
-use Rattle.worker_rounds.specs.task_queues.declared.pass.Pass.{Pass}
-use Rattle.worker_rounds.specs.topology_plan.Topology.{Topology}
-use Rattle.worker_rounds.specs.trident_batches.Batches.{Cut}
+use Rattle.event_worlds.specs.bolt_ops.RowOp.{Custom}
+use Rattle.worker_stretches.specs.box_rows.declared.boxes.Boxes.{Boxes}
+use Rattle.worker_stretches.specs.box_rows.declared.mail.Mail.{Mail}
+use Rattle.worker_stretches.specs.event_engine.declared.engine.Engine.{Engine}
+use Rattle.worker_stretches.specs.event_engine.Engines.{IsIdle, IsReady, cut_in}
+use Rattle.worker_stretches.specs.event_engine.Starts.{IsStarted}
+use Rattle.event_worlds.specs.Accounted.{IsInput}
+use Rattle.pulse_board.specs.declared.rule.Book.{Book}
+use Rattle.pulse_board.specs.declared.seat.Board.{Board}
+use Rattle.pulse_board.specs.declared.seat.BoardSeat.{BoardSeat}
+use Rattle.event_worlds.specs.state_parts.declared.answer.CommitFault.{CommitFault}
+use Rattle.event_worlds.specs.state_parts.declared.parts.StatePart.{StatePart}
+use Rattle.event_worlds.specs.storm_ids.declared.ids.Ids.{Ghosts}
+use Rattle.storm_stores.specs.CellMaps.{CellMap}
+use Rattle.task_queues.specs.declared.pass.Mailbox.{Mailbox}
+use Rattle.task_queues.specs.declared.pass.Pass.{Pass}
+use Rattle.event_worlds.specs.topology_plan.Topology.{Topology}
+use Rattle.event_worlds.specs.trident_batches.Batches.{Cut}
 use Rattle.worker_rounds.specs.Running.{IsGathered}
 use Rattle.worker_runs.proofs.Ending.{RunEnded}
 use Rattle.worker_runs.proofs.Rows.{first-empty, first-rooms}

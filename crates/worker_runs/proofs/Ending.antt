@@ -5,34 +5,34 @@ use Rattle.std.specs.List.{AllByRecursion, cons_option, range_with_len}
 use Rattle.std.specs.Result.{IsErrAnd}
 use Rattle.std.proofs.lemmas.List.Elements.{All-from_recursion, recursion_from_All}
 use Rattle.std.proofs.Math.Nat.{min-le_left}
-use Rattle.worker_rounds.specs.attempt_fates.declared.fates.Attempt.{Attempt}
-use Rattle.worker_rounds.specs.attempt_fates.declared.fates.End.{End}
-use Rattle.worker_rounds.specs.attempt_fates.declared.fates.End.TheVariants as end
-use Rattle.worker_rounds.specs.attempt_fates.Fates.{IsOfBatch, IsOnce, attempt_numbers}
+use Rattle.event_worlds.specs.attempt_fates.declared.fates.Attempt.{Attempt}
+use Rattle.event_worlds.specs.attempt_fates.declared.fates.End.{End}
+use Rattle.event_worlds.specs.attempt_fates.declared.fates.End.TheVariants as end
+use Rattle.event_worlds.specs.attempt_fates.Fates.{IsOfBatch, IsOnce, attempt_numbers}
 use Rattle.worker_rounds.specs.batch_commits.Standing.{failed_commits}
-use Rattle.worker_rounds.specs.bolt_ops.RowOp.{Custom, IsCustom}
-use Rattle.worker_rounds.specs.box_account.Taken.{TookTrue}
-use Rattle.worker_rounds.specs.box_account.Telling.{BoxesTell}
-use Rattle.worker_rounds.specs.box_rows.declared.mail.Mail.{Mail}
-use Rattle.worker_rounds.specs.box_rows.FirstRow.{first_views}
-use Rattle.worker_rounds.specs.box_rows.FitRows.{IsFitRow}
-use Rattle.worker_rounds.specs.commit_order.declared.stop.Stop.{Stop}
-use Rattle.worker_rounds.specs.commit_order.declared.stop.Stop.TheVariants as stop
-use Rattle.worker_rounds.specs.commit_turns.Desks.{Desk}
-use Rattle.worker_rounds.specs.commit_turns.Kept.{IsKept, is_failed_commit}
-use Rattle.worker_rounds.specs.commit_turns.Turns.{is_finished, last_tick}
-use Rattle.worker_rounds.proofs.event_engine.GoesLemmas.{gives-parts}
-use Rattle.worker_rounds.proofs.event_engine.WorldLemmas.{words_begin}
-use Rattle.worker_rounds.specs.event_engine.declared.engine.Engine.{Engine}
-use Rattle.worker_rounds.specs.event_engine.Engines.{HasOutcomes, IsReady, cut_in, has_ended, shape, topology_in}
-use Rattle.worker_rounds.specs.event_engine.Starts.{IsStarted}
-use Rattle.worker_rounds.specs.event_worlds.Accounted.{AreCaused, IsInput}
-use Rattle.worker_rounds.specs.event_worlds.Added.{first_history}
-use Rattle.worker_rounds.specs.event_worlds.Rounds.{CanFinish, DoesNotCoincide, round_with, rounds_needed, ticks_in}
-use Rattle.worker_rounds.specs.event_worlds.Worlds.{Known, Step, coordinator_steps, first_counts, is_over, of_acker, of_task, of_tick, outcome_by, outcomes_of}
-use Rattle.worker_rounds.specs.pulse_board.declared.seat.Board.{Board}
-use Rattle.worker_rounds.specs.pulse_board.declared.seat.BoardSeat.{BoardSeat}
-use Rattle.worker_rounds.specs.pulse_board.Seats.{book_of}
+use Rattle.event_worlds.specs.bolt_ops.RowOp.{Custom, IsCustom}
+use Rattle.worker_stretches.specs.box_account.Taken.{TookTrue}
+use Rattle.worker_stretches.specs.box_account.Telling.{BoxesTell}
+use Rattle.worker_stretches.specs.box_rows.declared.mail.Mail.{Mail}
+use Rattle.worker_stretches.specs.box_rows.FirstRow.{first_views}
+use Rattle.worker_stretches.specs.box_rows.FitRows.{IsFitRow}
+use Rattle.event_worlds.specs.commit_order.declared.stop.Stop.{Stop}
+use Rattle.event_worlds.specs.commit_order.declared.stop.Stop.TheVariants as stop
+use Rattle.event_worlds.specs.commit_turns.Desks.{Desk}
+use Rattle.event_worlds.specs.commit_turns.Kept.{IsKept, is_failed_commit}
+use Rattle.event_worlds.specs.commit_turns.Turns.{is_finished, last_tick}
+use Rattle.worker_stretches.proofs.event_engine.GoesLemmas.{gives-parts}
+use Rattle.worker_stretches.proofs.event_engine.WorldLemmas.{words_begin}
+use Rattle.worker_stretches.specs.event_engine.declared.engine.Engine.{Engine}
+use Rattle.worker_stretches.specs.event_engine.Engines.{HasOutcomes, IsReady, cut_in, has_ended, shape, topology_in}
+use Rattle.worker_stretches.specs.event_engine.Starts.{IsStarted}
+use Rattle.event_worlds.specs.Accounted.{AreCaused, IsInput}
+use Rattle.event_worlds.specs.Added.{first_history}
+use Rattle.event_worlds.specs.Rounds.{CanFinish, DoesNotCoincide, round_with, rounds_needed, ticks_in}
+use Rattle.event_worlds.specs.Worlds.{Known, Step, coordinator_steps, first_counts, is_over, of_acker, of_task, of_tick, outcome_by, outcomes_of}
+use Rattle.pulse_board.specs.declared.seat.Board.{Board}
+use Rattle.pulse_board.specs.declared.seat.BoardSeat.{BoardSeat}
+use Rattle.pulse_board.specs.Seats.{book_of}
 use Rattle.worker_rounds.proofs.schedule_core.Going.{leads-drives}
 use Rattle.worker_rounds.proofs.schedule_core.Rounding.{ticks-gone}
 use Rattle.worker_rounds.proofs.schedule_core.Telling.{broken_come, come_caused, come_low, come_tells, short_come, tells_not_begun}
@@ -44,20 +44,20 @@ use Rattle.worker_rounds.specs.schedule_core.Laws.{Laws, WorldLaws}
 use Rattle.worker_rounds.specs.schedule_core.Rounding.{end_by}
 use Rattle.worker_rounds.specs.schedule_core.Runs.{RunTells, ended, first_answers, ticks_between}
 use Rattle.worker_rounds.specs.schedule_core.Schedules.{HadMemory, answer_by, answer_of}
-use Rattle.worker_rounds.specs.state_parts.declared.answer.CommitFault.{CommitFault}
-use Rattle.worker_rounds.specs.state_parts.declared.answer.CommitFault.TheVariants as fault
-use Rattle.worker_rounds.specs.state_parts.declared.answer.CommitOutcome.{CommitOutcome}
-use Rattle.worker_rounds.specs.state_parts.declared.answer.CommitOutcome.TheVariants.{Done}
-use Rattle.worker_rounds.specs.state_parts.declared.parts.StatePart.{StatePart}
-use Rattle.worker_rounds.specs.state_parts.PartPlans.{AreParts}
-use Rattle.worker_rounds.specs.storm_ids.declared.ids.Ids.{Ghosts}
-use Rattle.worker_rounds.specs.storm_stores.CellMaps.{CellMap}
+use Rattle.event_worlds.specs.state_parts.declared.answer.CommitFault.{CommitFault}
+use Rattle.event_worlds.specs.state_parts.declared.answer.CommitFault.TheVariants as fault
+use Rattle.event_worlds.specs.state_parts.declared.answer.CommitOutcome.{CommitOutcome}
+use Rattle.event_worlds.specs.state_parts.declared.answer.CommitOutcome.TheVariants.{Done}
+use Rattle.event_worlds.specs.state_parts.declared.parts.StatePart.{StatePart}
+use Rattle.event_worlds.specs.state_parts.PartPlans.{AreParts}
+use Rattle.event_worlds.specs.storm_ids.declared.ids.Ids.{Ghosts}
+use Rattle.storm_stores.specs.CellMaps.{CellMap}
 use Rattle.storm_ticks.specs.Ticking.{handed_on}
-use Rattle.worker_rounds.specs.task_queues.declared.pass.Mailbox.{Mailbox}
-use Rattle.worker_rounds.specs.task_queues.declared.pass.Pass.{Pass}
-use Rattle.worker_rounds.specs.task_queues.Passes.{view_of}
-use Rattle.worker_rounds.specs.topology_plan.Topology.{Topology, tasks_in_all}
-use Rattle.worker_rounds.specs.trident_batches.Batches.{Cut, batch_count}
+use Rattle.task_queues.specs.declared.pass.Mailbox.{Mailbox}
+use Rattle.task_queues.specs.declared.pass.Pass.{Pass}
+use Rattle.task_queues.specs.Passes.{view_of}
+use Rattle.event_worlds.specs.topology_plan.Topology.{Topology, tasks_in_all}
+use Rattle.event_worlds.specs.trident_batches.Batches.{Cut, batch_count}
 use Rattle.worker_rounds.specs.Running.{IsGathered, RunsOn}
 use Rattle.worker_runs.proofs.Few.{lasts-here}
 use Rattle.worker_runs.proofs.Going.{first-outcomes, gives-next}
@@ -66,8 +66,8 @@ use Rattle.worker_runs.proofs.Starting.{CameBy, came-runs, came-some, came-then,
 use Rattle.worker_runs.specs.Going.{IsAllBack, RanOn}
 use Rattle.worker_runs.specs.Laws.{RunLaws}
 use Rattle.worker_runs.specs.WorkerRuns.{DrewEach, NothingRanOut, WorkersCome}
-use Rattle.worker_rounds.specs.worker_stretches.Parts.{IsWholeSeat}
-use Rattle.worker_rounds.specs.worker_stretches.Standing.{beside_it}
+use Rattle.worker_stretches.specs.Parts.{IsWholeSeat}
+use Rattle.worker_stretches.specs.Standing.{beside_it}
 use Rattle.worker_rounds.specs.worker_turns.Carrying.{AreEmpty}
 
 -- ---- ticks of a round

@@ -1,26 +1,26 @@
 -- Where nothing is lost there are no more rounds than are needed.
 use Rattle.std.proofs.Common.{◌≡◌, ◌<◌, ℕ, List, [], All, sym, ◌∙◌, true≢false, true, false, arith}
-use Rattle.worker_rounds.specs.bolt_ops.RowOp.{Custom}
-use Rattle.worker_rounds.specs.box_rows.declared.mail.Mail.{Mail}
-use Rattle.worker_rounds.specs.event_engine.declared.engine.Engine.{Engine}
-use Rattle.worker_rounds.specs.event_engine.Engines.{has_ended, shape}
-use Rattle.worker_rounds.specs.event_worlds.Accounted.{IsInput, LedTo}
-use Rattle.worker_rounds.specs.event_worlds.Rounds.{CanFinish, rounds_needed}
-use Rattle.worker_rounds.specs.event_worlds.Worlds.{Known}
+use Rattle.event_worlds.specs.bolt_ops.RowOp.{Custom}
+use Rattle.worker_stretches.specs.box_rows.declared.mail.Mail.{Mail}
+use Rattle.worker_stretches.specs.event_engine.declared.engine.Engine.{Engine}
+use Rattle.worker_stretches.specs.event_engine.Engines.{has_ended, shape}
+use Rattle.event_worlds.specs.Accounted.{IsInput, LedTo}
+use Rattle.event_worlds.specs.Rounds.{CanFinish, rounds_needed}
+use Rattle.event_worlds.specs.Worlds.{Known}
 use Rattle.worker_rounds.proofs.schedule_core.Going.{led-alone}
-use Rattle.worker_rounds.specs.state_parts.declared.answer.CommitOutcome.{CommitOutcome}
-use Rattle.worker_rounds.specs.state_parts.declared.answer.CommitOutcome.TheVariants.{Done}
-use Rattle.worker_rounds.specs.storm_ids.declared.ids.Ids.{Ghosts}
-use Rattle.worker_rounds.specs.task_queues.declared.pass.Pass.{Pass}
-use Rattle.worker_rounds.specs.topology_plan.Topology.{Topology}
-use Rattle.worker_rounds.specs.trident_batches.Batches.{Cut}
-use Rattle.worker_rounds.specs.tuple_account.Histories.{History}
+use Rattle.event_worlds.specs.state_parts.declared.answer.CommitOutcome.{CommitOutcome}
+use Rattle.event_worlds.specs.state_parts.declared.answer.CommitOutcome.TheVariants.{Done}
+use Rattle.event_worlds.specs.storm_ids.declared.ids.Ids.{Ghosts}
+use Rattle.task_queues.specs.declared.pass.Pass.{Pass}
+use Rattle.event_worlds.specs.topology_plan.Topology.{Topology}
+use Rattle.event_worlds.specs.trident_batches.Batches.{Cut}
+use Rattle.event_worlds.specs.tuple_account.Histories.{History}
 use Rattle.worker_runs.proofs.Rows.{none-held}
 use Rattle.worker_runs.specs.Going.{StoodAt}
-use Rattle.worker_rounds.specs.worker_stretches.Standing.{GoesOn, Later, Stands, beside_it}
+use Rattle.worker_stretches.specs.Standing.{GoesOn, Later, Stands, beside_it}
 use Rattle.worker_rounds.specs.worker_turns.Carrying.{AreEmpty}
-use Rattle.worker_rounds.specs.world_progress.Doing.{done}
-use Rattle.worker_rounds.specs.world_progress.Lasting.{Lasting}
+use Rattle.worker_stretches.specs.world_progress.Doing.{done}
+use Rattle.worker_stretches.specs.world_progress.Lasting.{Lasting}
 
 -- ---- a world beside empty boxes
 

@@ -1,28 +1,28 @@
 -- Engines that go on beside boxes, one piece after another.
 use Rattle.std.proofs.Common.{◌≡◌, ℕ, ◌+◌, List, [], ◌∷◌, ◌++◌, All, length, map, sym, refl, ap, subst, ◌∙◌, append-nil, append_assoc, length-append, arith}
 use Rattle.std.specs.List.{range_with_len}
-use Rattle.worker_rounds.specs.attempt_fates.declared.fates.Attempt.{Attempt}
+use Rattle.event_worlds.specs.attempt_fates.declared.fates.Attempt.{Attempt}
 use Rattle.worker_rounds.specs.batch_commits.Standing.{FailuresAreCounted, PartsStand}
-use Rattle.worker_rounds.specs.bolt_ops.RowOp.{Custom}
-use Rattle.worker_rounds.specs.box_rows.declared.mail.Mail.{Mail}
-use Rattle.worker_rounds.specs.commit_order.Orders.{desk_of}
-use Rattle.worker_rounds.specs.commit_turns.Outcomes.{IsOutcome}
-use Rattle.worker_rounds.proofs.event_engine.GoesLemmas.{draws-then, gives-parts, outcomes-append}
-use Rattle.worker_rounds.specs.event_engine.declared.engine.Engine.{Engine}
-use Rattle.worker_rounds.specs.event_engine.Engines.{Gives, HasOutcomes, IsStill}
-use Rattle.worker_rounds.specs.event_worlds.Worlds.{outcomes_of}
-use Rattle.worker_rounds.proofs.output_collector.Sending.{Draws-none}
+use Rattle.event_worlds.specs.bolt_ops.RowOp.{Custom}
+use Rattle.worker_stretches.specs.box_rows.declared.mail.Mail.{Mail}
+use Rattle.event_worlds.specs.commit_order.Orders.{desk_of}
+use Rattle.event_worlds.specs.commit_turns.Outcomes.{IsOutcome}
+use Rattle.worker_stretches.proofs.event_engine.GoesLemmas.{draws-then, gives-parts, outcomes-append}
+use Rattle.worker_stretches.specs.event_engine.declared.engine.Engine.{Engine}
+use Rattle.worker_stretches.specs.event_engine.Engines.{Gives, HasOutcomes, IsStill}
+use Rattle.event_worlds.specs.Worlds.{outcomes_of}
+use Rattle.event_worlds.proofs.output_collector.Sending.{Draws-none}
 use Rattle.worker_rounds.specs.schedule_core.Laws.{Laws}
-use Rattle.worker_rounds.specs.state_parts.declared.answer.CommitOutcome.{CommitOutcome}
-use Rattle.worker_rounds.specs.state_parts.declared.parts.StatePart.{StatePart}
-use Rattle.worker_rounds.specs.storm_ids.declared.ids.Ids.{Ghosts}
-use Rattle.worker_rounds.specs.storm_stores.CellMaps.{CellMap}
-use Rattle.worker_rounds.specs.task_queues.declared.pass.Pass.{Pass}
-use Rattle.worker_rounds.specs.topology_plan.Topology.{Topology}
-use Rattle.worker_rounds.specs.trident_batches.Batches.{Cut}
+use Rattle.event_worlds.specs.state_parts.declared.answer.CommitOutcome.{CommitOutcome}
+use Rattle.event_worlds.specs.state_parts.declared.parts.StatePart.{StatePart}
+use Rattle.event_worlds.specs.storm_ids.declared.ids.Ids.{Ghosts}
+use Rattle.storm_stores.specs.CellMaps.{CellMap}
+use Rattle.task_queues.specs.declared.pass.Pass.{Pass}
+use Rattle.event_worlds.specs.topology_plan.Topology.{Topology}
+use Rattle.event_worlds.specs.trident_batches.Batches.{Cut}
 use Rattle.worker_rounds.specs.Running.{RunsOn}
 use Rattle.worker_runs.specs.Going.{StoodAt}
-use Rattle.worker_rounds.specs.worker_stretches.Standing.{GoesOn}
+use Rattle.worker_stretches.specs.Standing.{GoesOn}
 
 -- what is added to a list that stays as it is
 none_added : {X : Type 0} (xs ys : List X) → xs ≡ xs ++ ys → ys ≡ []

@@ -5,8 +5,8 @@ use Rattle.std.specs.List.{range_with_len}
 use Rattle.std.proofs.lemmas.Bool.{leb-false}
 use Rattle.std.proofs.lemmas.List.Sums.{sum_by-append, sum_by-cons}
 use Rattle.std.proofs.Math.Nat.{min-le_left}
-use Rattle.worker_rounds.specs.commit_turns.Turns.{last_tick}
-use Rattle.worker_rounds.proofs.event_engine.GoesLemmas.{words-append}
+use Rattle.event_worlds.specs.commit_turns.Turns.{last_tick}
+use Rattle.worker_stretches.proofs.event_engine.GoesLemmas.{words-append}
 use Rattle.worker_rounds.specs.schedule_core.Runs.{first_answers, ticks_between}
 use Rattle.storm_ticks.specs.Ticking.{handed_on}
 

@@ -1,28 +1,28 @@
 -- What stays as it was, or is so still, from one piece of a run to the next.
 use Rattle.std.proofs.Common.{◌≡◌, ◌≤◌, ◌-◌, ◌^◌, ℕ, List, [], ◌∷◌, length, min, refl, sym, ap, subst, ◌∙◌, arith}
 use Rattle.std.specs.List.{AllZip}
-use Rattle.worker_rounds.specs.attempt_fates.Fates.{IsOnce}
-use Rattle.worker_rounds.specs.attempt_fates.declared.fates.Attempt.{Attempt}
-use Rattle.worker_rounds.specs.box_rows.declared.mail.Mail.{Mail}
-use Rattle.worker_rounds.specs.box_rows.FitRows.{IsFitRow}
-use Rattle.worker_rounds.specs.commit_order.Orders.{desk_of}
-use Rattle.worker_rounds.specs.commit_turns.Turns.{last_tick}
-use Rattle.worker_rounds.specs.event_engine.declared.engine.Engine.{Engine}
-use Rattle.worker_rounds.specs.event_engine.Engines.{IsReady, IsStill, cut_in, shape}
-use Rattle.worker_rounds.specs.pulse_board.declared.seat.Board.{Board}
-use Rattle.worker_rounds.specs.pulse_board.declared.seat.BoardSeat.{BoardSeat}
-use Rattle.worker_rounds.specs.pulse_board.Seats.{book_of}
+use Rattle.event_worlds.specs.attempt_fates.Fates.{IsOnce}
+use Rattle.event_worlds.specs.attempt_fates.declared.fates.Attempt.{Attempt}
+use Rattle.worker_stretches.specs.box_rows.declared.mail.Mail.{Mail}
+use Rattle.worker_stretches.specs.box_rows.FitRows.{IsFitRow}
+use Rattle.event_worlds.specs.commit_order.Orders.{desk_of}
+use Rattle.event_worlds.specs.commit_turns.Turns.{last_tick}
+use Rattle.worker_stretches.specs.event_engine.declared.engine.Engine.{Engine}
+use Rattle.worker_stretches.specs.event_engine.Engines.{IsReady, IsStill, cut_in, shape}
+use Rattle.pulse_board.specs.declared.seat.Board.{Board}
+use Rattle.pulse_board.specs.declared.seat.BoardSeat.{BoardSeat}
+use Rattle.pulse_board.specs.Seats.{book_of}
 use Rattle.worker_rounds.specs.schedule_core.Driving.{AreKept, StillTells}
-use Rattle.worker_rounds.specs.state_parts.declared.parts.StatePart.{StatePart}
-use Rattle.worker_rounds.specs.storm_ids.declared.ids.Ids.{Ghosts}
-use Rattle.worker_rounds.specs.storm_stores.CellMaps.{CellMap}
-use Rattle.worker_rounds.specs.task_queues.declared.pass.Mailbox.{Mailbox}
-use Rattle.worker_rounds.specs.task_queues.declared.pass.Pass.{Pass}
-use Rattle.worker_rounds.specs.topology_plan.Topology.{Topology}
-use Rattle.worker_rounds.specs.trident_batches.Batches.{Cut}
+use Rattle.event_worlds.specs.state_parts.declared.parts.StatePart.{StatePart}
+use Rattle.event_worlds.specs.storm_ids.declared.ids.Ids.{Ghosts}
+use Rattle.storm_stores.specs.CellMaps.{CellMap}
+use Rattle.task_queues.specs.declared.pass.Mailbox.{Mailbox}
+use Rattle.task_queues.specs.declared.pass.Pass.{Pass}
+use Rattle.event_worlds.specs.topology_plan.Topology.{Topology}
+use Rattle.event_worlds.specs.trident_batches.Batches.{Cut}
 use Rattle.worker_rounds.specs.Running.{IsGathered}
-use Rattle.worker_rounds.specs.worker_stretches.Parts.{IsWholeSeat}
-use Rattle.worker_rounds.specs.worker_stretches.Standing.{IsInTime}
+use Rattle.worker_stretches.specs.Parts.{IsWholeSeat}
+use Rattle.worker_stretches.specs.Standing.{IsInTime}
 use Rattle.worker_rounds.proofs.worker_turns.Stands.{ended-same}
 use Rattle.worker_rounds.specs.worker_turns.Carrying.{AreEmpty, EngineCarries, HaveRoom, IsSwept, nothing_left}
 

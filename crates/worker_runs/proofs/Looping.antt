@@ -2,31 +2,31 @@
 use Rattle.std.proofs.Common.{◌≡◌, ◌<◌, ℕ, ◌+◌, ◌-◌, ◌^◌, false, List, [], ◌∷◌, ◌++◌, length, length-append, drop, min, sum, Result, Ok, Err, refl, sym, ap, subst, ◌∙◌, arith}
 use Rattle.std.specs.Prelude.{OnErr, OnOk}
 use Rattle.std.specs.Result.{IsErrAnd}
-use Rattle.worker_rounds.specs.bolt_ops.RowOp.{Custom}
-use Rattle.worker_rounds.specs.box_rows.declared.mail.Mail.{Mail}
-use Rattle.worker_rounds.specs.event_engine.declared.engine.Engine.{Engine}
-use Rattle.worker_rounds.specs.event_engine.Engines.{IsStill, cut_in, has_ended}
-use Rattle.worker_rounds.specs.event_worlds.Rounds.{rounds_needed}
-use Rattle.worker_rounds.specs.pulse_board.declared.seat.Board.{Board}
-use Rattle.worker_rounds.specs.pulse_board.declared.seat.BoardSeat.{BoardSeat}
-use Rattle.worker_rounds.specs.pulse_board.Seats.{book_of}
+use Rattle.event_worlds.specs.bolt_ops.RowOp.{Custom}
+use Rattle.worker_stretches.specs.box_rows.declared.mail.Mail.{Mail}
+use Rattle.worker_stretches.specs.event_engine.declared.engine.Engine.{Engine}
+use Rattle.worker_stretches.specs.event_engine.Engines.{IsStill, cut_in, has_ended}
+use Rattle.event_worlds.specs.Rounds.{rounds_needed}
+use Rattle.pulse_board.specs.declared.seat.Board.{Board}
+use Rattle.pulse_board.specs.declared.seat.BoardSeat.{BoardSeat}
+use Rattle.pulse_board.specs.Seats.{book_of}
 use Rattle.worker_rounds.proofs.schedule_core.Going.{leads-drives, leads-none, leads-short}
 use Rattle.worker_rounds.proofs.schedule_core.Rounding.{asked-more, asked-none}
 use Rattle.worker_rounds.specs.schedule_core.Driving.{AreKept, WantsMemory}
 use Rattle.worker_rounds.specs.schedule_core.Laws.{Laws}
 use Rattle.worker_rounds.specs.schedule_core.Rounding.{Asked}
 use Rattle.worker_rounds.specs.schedule_core.Runs.{ticks_between}
-use Rattle.worker_rounds.specs.state_parts.declared.answer.CommitFault.{CommitFault}
-use Rattle.worker_rounds.specs.state_parts.declared.answer.CommitFault.TheVariants as fault
-use Rattle.worker_rounds.specs.state_parts.declared.parts.StatePart.{StatePart}
-use Rattle.worker_rounds.specs.state_parts.PartPlans.{AreParts}
-use Rattle.worker_rounds.specs.storm_ids.declared.ids.Ids.{Ghosts}
-use Rattle.worker_rounds.specs.storm_stores.CellMaps.{CellMap}
+use Rattle.event_worlds.specs.state_parts.declared.answer.CommitFault.{CommitFault}
+use Rattle.event_worlds.specs.state_parts.declared.answer.CommitFault.TheVariants as fault
+use Rattle.event_worlds.specs.state_parts.declared.parts.StatePart.{StatePart}
+use Rattle.event_worlds.specs.state_parts.PartPlans.{AreParts}
+use Rattle.event_worlds.specs.storm_ids.declared.ids.Ids.{Ghosts}
+use Rattle.storm_stores.specs.CellMaps.{CellMap}
 use Rattle.storm_ticks.specs.Ticking.{first_answer, handed_on}
-use Rattle.worker_rounds.specs.task_queues.declared.pass.Mailbox.{Mailbox}
-use Rattle.worker_rounds.specs.task_queues.declared.pass.Pass.{Pass}
-use Rattle.worker_rounds.specs.topology_plan.Topology.{Topology}
-use Rattle.worker_rounds.specs.trident_batches.Batches.{Cut}
+use Rattle.task_queues.specs.declared.pass.Mailbox.{Mailbox}
+use Rattle.task_queues.specs.declared.pass.Pass.{Pass}
+use Rattle.event_worlds.specs.topology_plan.Topology.{Topology}
+use Rattle.event_worlds.specs.trident_batches.Batches.{Cut}
 use Rattle.worker_rounds.specs.Running.{Broken, IsGathered, RunsOn}
 use Rattle.worker_runs.proofs.Few.{IsBounded, rounds-left}
 use Rattle.worker_runs.proofs.Going.{runs-none, runs-still, runs-then, stood-runs}
@@ -34,7 +34,7 @@ use Rattle.worker_runs.proofs.Handed.{answered-all, sum-more, ticks-below}
 use Rattle.worker_runs.proofs.Keeping.{gathered-back, kept-none, kept-then}
 use Rattle.worker_runs.specs.Going.{RanOn, Went}
 use Rattle.worker_runs.specs.WorkerRuns.{DrewEach}
-use Rattle.worker_rounds.specs.worker_stretches.Standing.{GoesOn}
+use Rattle.worker_stretches.specs.Standing.{GoesOn}
 use Rattle.worker_rounds.specs.worker_turns.Carrying.{AreEmpty}
 
 -- so many more were drawn, of a count that has not come to its end

@@ -1,21 +1,21 @@
 -- Rows of passes whose boxes are empty, and whose boxes have room.
 use Rattle.std.proofs.Common.{◌≡◌, ◌≤◌, ℕ, zero, suc, ◌+◌, List, [], ◌∷◌, length, map, Some, slice_get, sym, refl, ap, subst, ◌∙◌, arith}
 use Rattle.std.specs.List.{AllByRecursion, range_with_len}
-use Rattle.worker_rounds.specs.box_rows.declared.mail.Mail.{Mail}
-use Rattle.worker_rounds.specs.box_rows.FirstRow.{box_capacity, first_views}
-use Rattle.worker_rounds.specs.box_rows.FitRows.{held_in}
-use Rattle.worker_rounds.specs.box_rows.Mails.{weigh_mail}
-use Rattle.worker_rounds.specs.box_rows.Rows.{ArePasses, IsEmpty, sent_in, taken_in, weigh_sent, weigh_taken}
-use Rattle.worker_rounds.proofs.counted_items.Weighing.{weigh-map}
-use Rattle.worker_rounds.specs.counted_items.Weights.{weigh}
-use Rattle.worker_rounds.specs.task_queues.Books.{first_view}
-use Rattle.worker_rounds.specs.task_queues.declared.pass.Mailbox.{Mailbox}
-use Rattle.worker_rounds.specs.task_queues.declared.pass.Pass.{Pass}
-use Rattle.worker_rounds.specs.task_queues.declared.rule.Stamped.{Stamped}
-use Rattle.worker_rounds.specs.task_queues.declared.rule.View.{View}
-use Rattle.worker_rounds.specs.task_queues.Passes.{view_of}
-use Rattle.worker_rounds.specs.topology_plan.Topology.{Topology}
-use Rattle.worker_rounds.specs.tuple_account.Histories.{Packet}
+use Rattle.worker_stretches.specs.box_rows.declared.mail.Mail.{Mail}
+use Rattle.worker_stretches.specs.box_rows.FirstRow.{box_capacity, first_views}
+use Rattle.worker_stretches.specs.box_rows.FitRows.{held_in}
+use Rattle.worker_stretches.specs.box_rows.Mails.{weigh_mail}
+use Rattle.worker_stretches.specs.box_rows.Rows.{ArePasses, IsEmpty, sent_in, taken_in, weigh_sent, weigh_taken}
+use Rattle.event_worlds.proofs.counted_items.Weighing.{weigh-map}
+use Rattle.event_worlds.specs.counted_items.Weights.{weigh}
+use Rattle.task_queues.specs.Books.{first_view}
+use Rattle.task_queues.specs.declared.pass.Mailbox.{Mailbox}
+use Rattle.task_queues.specs.declared.pass.Pass.{Pass}
+use Rattle.task_queues.specs.declared.rule.Stamped.{Stamped}
+use Rattle.task_queues.specs.declared.rule.View.{View}
+use Rattle.task_queues.specs.Passes.{view_of}
+use Rattle.event_worlds.specs.topology_plan.Topology.{Topology}
+use Rattle.event_worlds.specs.tuple_account.Histories.{Packet}
 use Rattle.worker_rounds.specs.worker_turns.Carrying.{AreEmpty, HaveRoom}
 
 -- ---- what boxes hold

@@ -3,42 +3,42 @@ use Rattle.std.proofs.Common.{◌≡◌, ◌<◌, ℕ, zero, suc, ◌+◌, List,
 use Rattle.std.proofs.lemmas.List.Elements.{All-nil}
 use Rattle.std.specs.Prelude.{replicate}
 use Rattle.std.specs.List.{AllByRecursion, range_with_len}
-use Rattle.worker_rounds.specs.attempt_fates.declared.fates.Attempt.{Attempt}
+use Rattle.event_worlds.specs.attempt_fates.declared.fates.Attempt.{Attempt}
 use Rattle.worker_rounds.specs.batch_commits.Standing.{FailuresAreCounted, PartsStand}
-use Rattle.worker_rounds.specs.bolt_ops.RowOp.{Custom, IsCustom}
-use Rattle.worker_rounds.specs.box_account.Inboxes.{weigh_acker_inboxes, weigh_inboxes, weigh_task_inboxes}
-use Rattle.worker_rounds.specs.box_rows.declared.mail.Mail.{Mail}
-use Rattle.worker_rounds.specs.box_rows.FirstRow.{first_views}
-use Rattle.worker_rounds.specs.commit_turns.Outcomes.{IsOutcome}
-use Rattle.worker_rounds.proofs.event_engine.GoesLemmas.{draws-then, gives-parts}
-use Rattle.worker_rounds.proofs.event_engine.WorldLemmas.{told_gives, words_begin}
-use Rattle.worker_rounds.specs.event_engine.declared.engine.Engine.{Engine}
-use Rattle.worker_rounds.specs.event_engine.Engines.{Gives, HasOutcomes, shape, sources}
-use Rattle.worker_rounds.specs.event_engine.Starts.{IsStarted}
-use Rattle.worker_rounds.specs.event_worlds.Accounted.{IsInput}
-use Rattle.worker_rounds.specs.event_worlds.Added.{first_history}
-use Rattle.worker_rounds.specs.event_worlds.Worlds.{AckerSide, Known, TaskSide, World, first_counts, first_known, first_task, first_world, no_acker, outcomes_of}
-use Rattle.worker_rounds.specs.output_collector.Draws.{Draws}
+use Rattle.event_worlds.specs.bolt_ops.RowOp.{Custom, IsCustom}
+use Rattle.worker_stretches.specs.box_account.Inboxes.{weigh_acker_inboxes, weigh_inboxes, weigh_task_inboxes}
+use Rattle.worker_stretches.specs.box_rows.declared.mail.Mail.{Mail}
+use Rattle.worker_stretches.specs.box_rows.FirstRow.{first_views}
+use Rattle.event_worlds.specs.commit_turns.Outcomes.{IsOutcome}
+use Rattle.worker_stretches.proofs.event_engine.GoesLemmas.{draws-then, gives-parts}
+use Rattle.worker_stretches.proofs.event_engine.WorldLemmas.{told_gives, words_begin}
+use Rattle.worker_stretches.specs.event_engine.declared.engine.Engine.{Engine}
+use Rattle.worker_stretches.specs.event_engine.Engines.{Gives, HasOutcomes, shape, sources}
+use Rattle.worker_stretches.specs.event_engine.Starts.{IsStarted}
+use Rattle.event_worlds.specs.Accounted.{IsInput}
+use Rattle.event_worlds.specs.Added.{first_history}
+use Rattle.event_worlds.specs.Worlds.{AckerSide, Known, TaskSide, World, first_counts, first_known, first_task, first_world, no_acker, outcomes_of}
+use Rattle.event_worlds.specs.output_collector.Draws.{Draws}
 use Rattle.worker_rounds.proofs.schedule_core.Going.{led-beside}
 use Rattle.worker_rounds.specs.schedule_core.Driving.{HasCome, LeadsOn}
 use Rattle.worker_rounds.specs.schedule_core.Laws.{Laws, WorldLaws}
-use Rattle.worker_rounds.specs.state_parts.declared.answer.CommitOutcome.{CommitOutcome}
-use Rattle.worker_rounds.specs.state_parts.declared.parts.StatePart.{StatePart}
-use Rattle.worker_rounds.specs.state_parts.PartPlans.{AreParts}
-use Rattle.worker_rounds.specs.storm_ids.declared.ids.Ids.{Ghosts}
-use Rattle.worker_rounds.specs.storm_stores.CellMaps.{CellMap}
-use Rattle.worker_rounds.specs.task_queues.declared.pass.Pass.{Pass}
-use Rattle.worker_rounds.specs.task_queues.Passes.{view_of}
-use Rattle.worker_rounds.specs.topology_plan.Topology.{Topology, tasks_in_all}
-use Rattle.worker_rounds.specs.trident_batches.Batches.{Cut}
-use Rattle.worker_rounds.specs.tuple_account.Histories.{Packet}
+use Rattle.event_worlds.specs.state_parts.declared.answer.CommitOutcome.{CommitOutcome}
+use Rattle.event_worlds.specs.state_parts.declared.parts.StatePart.{StatePart}
+use Rattle.event_worlds.specs.state_parts.PartPlans.{AreParts}
+use Rattle.event_worlds.specs.storm_ids.declared.ids.Ids.{Ghosts}
+use Rattle.storm_stores.specs.CellMaps.{CellMap}
+use Rattle.task_queues.specs.declared.pass.Pass.{Pass}
+use Rattle.task_queues.specs.Passes.{view_of}
+use Rattle.event_worlds.specs.topology_plan.Topology.{Topology, tasks_in_all}
+use Rattle.event_worlds.specs.trident_batches.Batches.{Cut}
+use Rattle.event_worlds.specs.tuple_account.Histories.{Packet}
 use Rattle.worker_rounds.specs.Running.{RunsOn}
 use Rattle.worker_runs.proofs.Few.{led-here}
 use Rattle.worker_runs.proofs.Going.{gives-next}
 use Rattle.worker_runs.proofs.Rows.{first-empty, none-held, none-taken}
 use Rattle.worker_runs.specs.Going.{StoodAt}
 use Rattle.worker_runs.specs.Laws.{RunLaws}
-use Rattle.worker_rounds.specs.worker_stretches.Standing.{Stands, beside_it}
+use Rattle.worker_stretches.specs.Standing.{Stands, beside_it}
 use Rattle.worker_rounds.specs.worker_turns.Carrying.{AreEmpty, IsSwept}
 
 -- ---- the first world

@@ -1,34 +1,34 @@
 -- A run of workers while it goes on. This project's own.
 use Rattle.std.specs.Prelude.{◌≡◌, ◌≤◌, ◌<◌, ◌-◌, ◌^◌, ◌++◌, ◌∷◌, ℕ, List, [], Result, Err, OnOk, All, length, min, sum}
-use Rattle.worker_rounds.specs.bolt_ops.RowOp.{Custom, IsCustom}
-use Rattle.worker_rounds.specs.box_rows.declared.mail.Mail.{Mail}
-use Rattle.worker_rounds.specs.box_rows.FitRows.{IsFitRow}
-use Rattle.worker_rounds.specs.commit_turns.Outcomes.{IsOutcome}
-use Rattle.worker_rounds.specs.event_engine.declared.engine.Engine.{Engine}
-use Rattle.worker_rounds.specs.event_engine.Engines.{Gives, HasOutcomes, shape}
-use Rattle.worker_rounds.specs.event_worlds.Accounted.{IsInput}
-use Rattle.worker_rounds.specs.event_worlds.Rounds.{CanFinish, rounds_needed}
-use Rattle.worker_rounds.specs.pulse_board.declared.seat.Board.{Board}
-use Rattle.worker_rounds.specs.pulse_board.declared.seat.BoardSeat.{BoardSeat}
+use Rattle.event_worlds.specs.bolt_ops.RowOp.{Custom, IsCustom}
+use Rattle.worker_stretches.specs.box_rows.declared.mail.Mail.{Mail}
+use Rattle.worker_stretches.specs.box_rows.FitRows.{IsFitRow}
+use Rattle.event_worlds.specs.commit_turns.Outcomes.{IsOutcome}
+use Rattle.worker_stretches.specs.event_engine.declared.engine.Engine.{Engine}
+use Rattle.worker_stretches.specs.event_engine.Engines.{Gives, HasOutcomes, shape}
+use Rattle.event_worlds.specs.Accounted.{IsInput}
+use Rattle.event_worlds.specs.Rounds.{CanFinish, rounds_needed}
+use Rattle.pulse_board.specs.declared.seat.Board.{Board}
+use Rattle.pulse_board.specs.declared.seat.BoardSeat.{BoardSeat}
 use Rattle.worker_rounds.specs.schedule_core.Driving.{RunsOut}
 use Rattle.worker_rounds.specs.schedule_core.Rounding.{Asked}
 use Rattle.worker_rounds.specs.schedule_core.Runs.{first_answers}
-use Rattle.worker_rounds.specs.state_parts.declared.answer.CommitFault.{CommitFault}
-use Rattle.worker_rounds.specs.state_parts.declared.answer.CommitFault.TheVariants as fault
-use Rattle.worker_rounds.specs.state_parts.declared.answer.CommitOutcome.{CommitOutcome}
-use Rattle.worker_rounds.specs.state_parts.declared.answer.CommitOutcome.TheVariants.{Done}
-use Rattle.worker_rounds.specs.state_parts.declared.parts.StatePart.{StatePart}
-use Rattle.worker_rounds.specs.storm_ids.declared.ids.Ids.{Ghosts}
-use Rattle.worker_rounds.specs.storm_stores.CellMaps.{CellMap}
-use Rattle.worker_rounds.specs.task_queues.declared.pass.Mailbox.{Mailbox}
-use Rattle.worker_rounds.specs.task_queues.declared.pass.Pass.{Pass}
-use Rattle.worker_rounds.specs.topology_plan.Topology.{Topology}
-use Rattle.worker_rounds.specs.trident_batches.Batches.{Cut}
-use Rattle.worker_rounds.specs.tuple_account.Histories.{History}
+use Rattle.event_worlds.specs.state_parts.declared.answer.CommitFault.{CommitFault}
+use Rattle.event_worlds.specs.state_parts.declared.answer.CommitFault.TheVariants as fault
+use Rattle.event_worlds.specs.state_parts.declared.answer.CommitOutcome.{CommitOutcome}
+use Rattle.event_worlds.specs.state_parts.declared.answer.CommitOutcome.TheVariants.{Done}
+use Rattle.event_worlds.specs.state_parts.declared.parts.StatePart.{StatePart}
+use Rattle.event_worlds.specs.storm_ids.declared.ids.Ids.{Ghosts}
+use Rattle.storm_stores.specs.CellMaps.{CellMap}
+use Rattle.task_queues.specs.declared.pass.Mailbox.{Mailbox}
+use Rattle.task_queues.specs.declared.pass.Pass.{Pass}
+use Rattle.event_worlds.specs.topology_plan.Topology.{Topology}
+use Rattle.event_worlds.specs.trident_batches.Batches.{Cut}
+use Rattle.event_worlds.specs.tuple_account.Histories.{History}
 use Rattle.worker_rounds.specs.Running.{Broken, RunsOn}
 use Rattle.worker_runs.specs.WorkerRuns.{DrewEach}
-use Rattle.worker_rounds.specs.worker_stretches.Parts.{IsWholeSeat}
-use Rattle.worker_rounds.specs.worker_stretches.Standing.{GoesOn, Stands}
+use Rattle.worker_stretches.specs.Parts.{IsWholeSeat}
+use Rattle.worker_stretches.specs.Standing.{GoesOn, Stands}
 use Rattle.worker_rounds.specs.worker_turns.Carrying.{AreEmpty}
 
 -- A row of these boxes and a seat at this board have all numbers, and the seat drew a number for each

@@ -1,24 +1,24 @@
 -- The laws of worlds and of boxes that a run of workers rests on. This project's own.
 use Rattle.std.specs.Prelude.{◌≡◌, ◌<◌, ℕ, List, All, true}
-use Rattle.worker_rounds.specs.bolt_ops.RowOp.{Custom}
-use Rattle.worker_rounds.specs.box_account.Hearing.{HeardBeforeFailing}
-use Rattle.worker_rounds.specs.box_account.Inboxes.{GoesThrough}
-use Rattle.worker_rounds.specs.box_account.Taken.{TookTrue}
-use Rattle.worker_rounds.specs.box_account.Telling.{BoxesTell}
-use Rattle.worker_rounds.specs.box_rows.declared.mail.Mail.{Mail}
-use Rattle.worker_rounds.specs.box_rows.FitRows.{IsFitRow}
-use Rattle.worker_rounds.specs.commit_turns.Turns.{is_finished}
-use Rattle.worker_rounds.specs.event_worlds.Accounted.{IsInput}
-use Rattle.worker_rounds.specs.event_worlds.Added.{first_history}
-use Rattle.worker_rounds.specs.event_worlds.Beside.{LedBeside}
-use Rattle.worker_rounds.specs.event_worlds.Rounds.{CanFinish, DoesNotCoincide}
-use Rattle.worker_rounds.specs.event_worlds.Worlds.{Known, first_known, first_world, is_over}
-use Rattle.worker_rounds.specs.task_queues.declared.pass.Mailbox.{Mailbox}
-use Rattle.worker_rounds.specs.task_queues.declared.pass.Pass.{Pass}
-use Rattle.worker_rounds.specs.topology_plan.Topology.{Topology}
-use Rattle.worker_rounds.specs.trident_batches.Batches.{Cut}
-use Rattle.worker_rounds.specs.tuple_account.Histories.{History, Packet}
-use Rattle.worker_rounds.specs.world_progress.Lasting.{Lasting}
+use Rattle.event_worlds.specs.bolt_ops.RowOp.{Custom}
+use Rattle.worker_stretches.specs.box_account.Hearing.{HeardBeforeFailing}
+use Rattle.worker_stretches.specs.box_account.Inboxes.{GoesThrough}
+use Rattle.worker_stretches.specs.box_account.Taken.{TookTrue}
+use Rattle.worker_stretches.specs.box_account.Telling.{BoxesTell}
+use Rattle.worker_stretches.specs.box_rows.declared.mail.Mail.{Mail}
+use Rattle.worker_stretches.specs.box_rows.FitRows.{IsFitRow}
+use Rattle.event_worlds.specs.commit_turns.Turns.{is_finished}
+use Rattle.event_worlds.specs.Accounted.{IsInput}
+use Rattle.event_worlds.specs.Added.{first_history}
+use Rattle.event_worlds.specs.Beside.{LedBeside}
+use Rattle.event_worlds.specs.Rounds.{CanFinish, DoesNotCoincide}
+use Rattle.event_worlds.specs.Worlds.{Known, first_known, first_world, is_over}
+use Rattle.task_queues.specs.declared.pass.Mailbox.{Mailbox}
+use Rattle.task_queues.specs.declared.pass.Pass.{Pass}
+use Rattle.event_worlds.specs.topology_plan.Topology.{Topology}
+use Rattle.event_worlds.specs.trident_batches.Batches.{Cut}
+use Rattle.event_worlds.specs.tuple_account.Histories.{History, Packet}
+use Rattle.worker_stretches.specs.world_progress.Lasting.{Lasting}
 
 -- how a run of workers begins, what is finished, and what boxes tell at its end
 pub record RunLaws (t : Topology) (custom : Custom) (cut : Cut) : Type 0 where

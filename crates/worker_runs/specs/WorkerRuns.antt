@@ -1,26 +1,26 @@
 -- What a run of workers over boxes and a board comes to. This project's own.
 use Rattle.std.specs.Prelude.{◌≡◌, ◌<◌, ◌-◌, ◌^◌, ℕ, List, Result, Ok, Err, fold, length, map}
-use Rattle.worker_rounds.specs.attempt_fates.declared.fates.Attempt.{Attempt}
-use Rattle.worker_rounds.specs.bolt_ops.RowOp.{Custom}
-use Rattle.worker_rounds.specs.box_rows.declared.boxes.Boxes.{Boxes}
-use Rattle.worker_rounds.specs.box_rows.FirstRow.{first_views}
-use Rattle.worker_rounds.specs.box_rows.FitRows.{IsFitRow}
-use Rattle.worker_rounds.specs.commit_order.declared.stop.Stop.{Stop}
-use Rattle.worker_rounds.specs.commit_order.declared.stop.Stop.TheVariants as stop
-use Rattle.worker_rounds.specs.event_worlds.Accounted.{AreCaused}
-use Rattle.worker_rounds.specs.pulse_board.Books.{first_book}
-use Rattle.worker_rounds.specs.pulse_board.declared.seat.Board.{Board}
-use Rattle.worker_rounds.specs.pulse_board.declared.seat.BoardSeat.{BoardSeat}
-use Rattle.worker_rounds.specs.pulse_board.Seats.{book_of}
+use Rattle.event_worlds.specs.attempt_fates.declared.fates.Attempt.{Attempt}
+use Rattle.event_worlds.specs.bolt_ops.RowOp.{Custom}
+use Rattle.worker_stretches.specs.box_rows.declared.boxes.Boxes.{Boxes}
+use Rattle.worker_stretches.specs.box_rows.FirstRow.{first_views}
+use Rattle.worker_stretches.specs.box_rows.FitRows.{IsFitRow}
+use Rattle.event_worlds.specs.commit_order.declared.stop.Stop.{Stop}
+use Rattle.event_worlds.specs.commit_order.declared.stop.Stop.TheVariants as stop
+use Rattle.event_worlds.specs.Accounted.{AreCaused}
+use Rattle.pulse_board.specs.Books.{first_book}
+use Rattle.pulse_board.specs.declared.seat.Board.{Board}
+use Rattle.pulse_board.specs.declared.seat.BoardSeat.{BoardSeat}
+use Rattle.pulse_board.specs.Seats.{book_of}
 use Rattle.worker_rounds.specs.schedule_core.Runs.{RunTells, ended, first_answers, ticks_between}
 use Rattle.worker_rounds.specs.schedule_core.Schedules.{HadMemory}
-use Rattle.worker_rounds.specs.state_parts.declared.parts.StatePart.{StatePart}
-use Rattle.worker_rounds.specs.storm_stores.CellMaps.{CellMap}
+use Rattle.event_worlds.specs.state_parts.declared.parts.StatePart.{StatePart}
+use Rattle.storm_stores.specs.CellMaps.{CellMap}
 use Rattle.storm_ticks.specs.Ticking.{handed_on}
-use Rattle.worker_rounds.specs.task_queues.Passes.{view_of}
-use Rattle.worker_rounds.specs.topology_plan.Topology.{Topology}
-use Rattle.worker_rounds.specs.trident_batches.Batches.{Cut}
-use Rattle.worker_rounds.specs.worker_stretches.Parts.{IsWholeSeat}
+use Rattle.task_queues.specs.Passes.{view_of}
+use Rattle.event_worlds.specs.topology_plan.Topology.{Topology}
+use Rattle.event_worlds.specs.trident_batches.Batches.{Cut}
+use Rattle.worker_stretches.specs.Parts.{IsWholeSeat}
 
 -- ---- what a run begins with
 

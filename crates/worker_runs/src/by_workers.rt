@@ -1,29 +1,29 @@
 //! A run of workers over boxes and a board that are made for it.
 ghost use Rattle.std.specs.Prelude.{◌≡◌, ◌≤◌, ◌<◌, ℕ, List, [], All, sum};
 ghost use Rattle.worker_rounds.specs.batch_commits.Standing.{failed_commits};
-ghost use Rattle.worker_rounds.specs.event_worlds.Accounted.{IsInput};
-ghost use Rattle.worker_rounds.specs.event_worlds.Rounds.{CanFinish, DoesNotCoincide, rounds_needed};
+ghost use Rattle.event_worlds.specs.Accounted.{IsInput};
+ghost use Rattle.event_worlds.specs.Rounds.{CanFinish, DoesNotCoincide, rounds_needed};
 ghost use Rattle.worker_rounds.specs.schedule_core.Runs.{first_answers};
-ghost use Rattle.worker_rounds.specs.state_parts.PartPlans.{AreParts};
+ghost use Rattle.event_worlds.specs.state_parts.PartPlans.{AreParts};
 ghost use Rattle.worker_runs.specs.WorkerRuns.{NothingRanOut, WorkersCome};
 
 use crate::run::run_workers;
+use event_worlds::attempt_fates::Fates;
+use event_worlds::bolt_ops::RowOp;
+use event_worlds::commit_order::Stop;
+use event_worlds::state_parts::Parts;
+use event_worlds::storm_ids::IdMaker;
+use event_worlds::topology_plan::Plan;
+use event_worlds::trident_batches::Batches;
+use pulse_board::Board;
 use std::alloc::Global;
 use std::sync::Wait;
 use std::thread::Threads;
+use storm_gates::Gate;
+use storm_stores::CellStore;
 use storm_ticks::Ticks;
-use worker_rounds::attempt_fates::Fates;
-use worker_rounds::bolt_ops::RowOp;
-use worker_rounds::box_rows::Boxes;
-use worker_rounds::commit_order::Stop;
-use worker_rounds::pulse_board::Board;
 use worker_rounds::schedule_core::laws_of_runs;
-use worker_rounds::state_parts::Parts;
-use worker_rounds::storm_gates::Gate;
-use worker_rounds::storm_ids::IdMaker;
-use worker_rounds::storm_stores::CellStore;
-use worker_rounds::topology_plan::Plan;
-use worker_rounds::trident_batches::Batches;
+use worker_stretches::box_rows::Boxes;
 
 /// Makes the boxes of a plan and a board, and runs the plan over them as `run_workers` does.
 pub fn run_by_workers<

@@ -1,11 +1,13 @@
 //! The laws of other crates that a run of workers rests on, put together.
-ghost use Rattle.worker_rounds.specs.bolt_ops.RowOp.{Custom};
-ghost use Rattle.worker_rounds.specs.topology_plan.Topology.{Topology};
-ghost use Rattle.worker_rounds.specs.trident_batches.Batches.{Cut};
+ghost use Rattle.event_worlds.specs.bolt_ops.RowOp.{Custom};
+ghost use Rattle.event_worlds.specs.topology_plan.Topology.{Topology};
+ghost use Rattle.event_worlds.specs.trident_batches.Batches.{Cut};
 ghost use Rattle.worker_runs.specs.Laws.{RunLaws};
 
-use worker_rounds::box_account::{boxes_tell_of_ends, complete_verdicts_are_heard, rows_took_true};
-use worker_rounds::world_progress::{lasting_worlds_go_on, what_is_over_is_finished};
+use worker_stretches::box_account::{
+    boxes_tell_of_ends, complete_verdicts_are_heard, rows_took_true,
+};
+use worker_stretches::world_progress::{lasting_worlds_go_on, what_is_over_is_finished};
 
 /// A law: how a run of workers begins, what is finished, and what boxes tell at its end.
 pub(crate) fn laws_of_workers()

@@ -5,20 +5,20 @@ use Rattle.worker_stretches.specs.box_rows.declared.mail.Mail.{Mail}
 use Rattle.worker_stretches.specs.box_rows.FitRows.{HoldsMore}
 use Rattle.worker_stretches.specs.box_rows.Mails.{weigh_mail}
 use Rattle.worker_stretches.specs.box_rows.Rows.{HasSent, HasTaken}
-use Rattle.worker_stretches.specs.counted_items.Weights.{weigh}
-use Rattle.worker_stretches.proofs.counted_items.Weighing.{weigh-append}
+use Rattle.event_worlds.specs.counted_items.Weights.{weigh}
+use Rattle.event_worlds.proofs.counted_items.Weighing.{weigh-append}
 use Rattle.worker_stretches.specs.event_engine.Exchanges.{delivered_all}
-use Rattle.worker_stretches.specs.event_worlds.Orderly.{FitsParcel, IsOrderly}
-use Rattle.worker_stretches.specs.event_worlds.Worlds.{AckerSide, TaskSide, World, acker_at, delivered, gets_message, gets_tuple, no_acker, no_task, task_at}
-use Rattle.worker_stretches.proofs.event_worlds.Orderly.{orderly-delivered}
-use Rattle.worker_stretches.proofs.event_worlds.Waiting.{ackers-set, tasks-set}
-use Rattle.worker_stretches.specs.task_queues.declared.pass.Pass.{Pass}
-use Rattle.worker_stretches.specs.topology_plan.Topology.{Topology}
-use Rattle.worker_stretches.specs.tree_model.declared.messages.AckMsg.{AckMsg}
-use Rattle.worker_stretches.specs.tree_model.declared.messages.Parcel.{Parcel}
-use Rattle.worker_stretches.specs.tree_model.declared.messages.Parcel.TheVariants.{ToTask, ToAcker}
-use Rattle.worker_stretches.specs.tree_model.declared.messages.Tuple.{Tuple}
-use Rattle.worker_stretches.specs.tuple_account.Histories.{Packet, of_parcel, weigh_parcels}
+use Rattle.event_worlds.specs.Orderly.{FitsParcel, IsOrderly}
+use Rattle.event_worlds.specs.Worlds.{AckerSide, TaskSide, World, acker_at, delivered, gets_message, gets_tuple, no_acker, no_task, task_at}
+use Rattle.event_worlds.proofs.Orderly.{orderly-delivered}
+use Rattle.event_worlds.proofs.Waiting.{ackers-set, tasks-set}
+use Rattle.task_queues.specs.declared.pass.Pass.{Pass}
+use Rattle.event_worlds.specs.topology_plan.Topology.{Topology}
+use Rattle.event_worlds.specs.tree_model.declared.messages.AckMsg.{AckMsg}
+use Rattle.event_worlds.specs.tree_model.declared.messages.Parcel.{Parcel}
+use Rattle.event_worlds.specs.tree_model.declared.messages.Parcel.TheVariants.{ToTask, ToAcker}
+use Rattle.event_worlds.specs.tree_model.declared.messages.Tuple.{Tuple}
+use Rattle.event_worlds.specs.tuple_account.Histories.{Packet, of_parcel, weigh_parcels}
 use Rattle.worker_stretches.specs.box_account.Inboxes.{weigh_acker_inboxes, weigh_inboxes, weigh_task_inboxes}
 use Rattle.worker_stretches.specs.Teams.{Waiting}
 use Rattle.worker_turns.specs.Carrying.{Carries, IsRearranged, counted_in, entries_in, stand_in, waits_in}

@@ -3,9 +3,9 @@ use Rattle.std.proofs.Common.{◌≡◌, ◌<◌, ℕ, ◌+◌, List, [], ◌∷
 use Rattle.std.specs.List.{AllByRecursion}
 use Rattle.worker_stretches.specs.box_rows.declared.mail.Mail.TheVariants as mail
 use Rattle.worker_stretches.specs.box_rows.Mails.{IsRunFor, box_of, most_in_run}
-use Rattle.worker_stretches.specs.event_worlds.Orderly.{FitsParcel}
-use Rattle.worker_stretches.specs.topology_plan.Topology.{Topology}
-use Rattle.worker_stretches.specs.tree_model.declared.messages.Parcel.{Parcel}
+use Rattle.event_worlds.specs.Orderly.{FitsParcel}
+use Rattle.event_worlds.specs.topology_plan.Topology.{Topology}
+use Rattle.event_worlds.specs.tree_model.declared.messages.Parcel.{Parcel}
 use Rattle.worker_stretches.proofs.worker_pool.Outboxing.{run_more, run_new}
 
 -- a run for a box was taken from the front, and the rest is left

@@ -2,37 +2,37 @@
 use Rattle.std.proofs.Common.{◌≡◌, ◌≤◌, ℕ, zero, suc, ◌+◌, List, [], ◌∷◌, length, map, get_or, append-nil, sym, refl, ap, subst, ◌∙◌, arith}
 use Rattle.std.specs.Prelude.{slice_get}
 use Rattle.std.specs.List.{AllByRecursion}
-use Rattle.worker_stretches.specs.acker_core.Entries.{AreSilent}
-use Rattle.worker_stretches.specs.attempt_fates.declared.fates.Attempt.{Attempt}
-use Rattle.worker_stretches.specs.bolt_ops.RowOp.{Custom}
+use Rattle.event_worlds.specs.acker_core.Entries.{AreSilent}
+use Rattle.event_worlds.specs.attempt_fates.declared.fates.Attempt.{Attempt}
+use Rattle.event_worlds.specs.bolt_ops.RowOp.{Custom}
 use Rattle.worker_stretches.specs.box_rows.declared.mail.Mail.{Mail}
-use Rattle.worker_stretches.specs.commit_order.declared.coordinator.Coordinator.{Coordinator}
-use Rattle.worker_stretches.specs.commit_order.Orders.{Stand, cut_of, desk_of, plan_of}
-use Rattle.worker_stretches.specs.commit_turns.Account as account
-use Rattle.worker_stretches.specs.commit_turns.Desks.{Desk}
-use Rattle.worker_stretches.specs.commit_turns.Kept.{IsKept}
-use Rattle.worker_stretches.specs.counted_items.Weights.{weigh}
-use Rattle.worker_stretches.proofs.counted_items.Each.{each-map, each-to_map}
-use Rattle.worker_stretches.proofs.counted_items.Weighing.{weigh-map, weigh-ones}
+use Rattle.event_worlds.specs.commit_order.declared.coordinator.Coordinator.{Coordinator}
+use Rattle.event_worlds.specs.commit_order.Orders.{Stand, cut_of, desk_of, plan_of}
+use Rattle.event_worlds.specs.commit_turns.Account as account
+use Rattle.event_worlds.specs.commit_turns.Desks.{Desk}
+use Rattle.event_worlds.specs.commit_turns.Kept.{IsKept}
+use Rattle.event_worlds.specs.counted_items.Weights.{weigh}
+use Rattle.event_worlds.proofs.counted_items.Each.{each-map, each-to_map}
+use Rattle.event_worlds.proofs.counted_items.Weighing.{weigh-map, weigh-ones}
 use Rattle.worker_stretches.specs.event_engine.declared.engine.Engine.{Engine}
 use Rattle.worker_stretches.specs.event_engine.Engines.{IsIdle, IsStill, has_ended, shape}
-use Rattle.worker_stretches.specs.event_worlds.Accounted.{station_of}
-use Rattle.worker_stretches.specs.event_worlds.Beside.{LedBeside, waits}
-use Rattle.worker_stretches.specs.event_worlds.Orderly.{IsOrderly}
-use Rattle.worker_stretches.specs.event_worlds.Worlds.{AckerSide, Known, TaskSide, World, acker_at, is_over, no_acker, no_task}
-use Rattle.worker_stretches.proofs.event_worlds.Leading.{reached-alike}
-use Rattle.worker_stretches.proofs.output_collector.Sending.{Draws-none}
-use Rattle.worker_stretches.specs.state_parts.declared.answer.CommitOutcome.{CommitOutcome}
-use Rattle.worker_stretches.specs.storm_ids.declared.ids.Ids.{Ghosts}
-use Rattle.worker_stretches.specs.storm_values.declared.value.Root.{Root}
-use Rattle.worker_stretches.specs.task_queues.declared.pass.Pass.{Pass}
-use Rattle.worker_stretches.specs.topology_plan.Topology.{Topology}
-use Rattle.worker_stretches.specs.tree_model.declared.messages.AckMsg.{AckMsg}
-use Rattle.worker_stretches.specs.trident_batches.Batches.{Cut}
-use Rattle.worker_stretches.specs.tuple_account.Fits.{Fits}
-use Rattle.worker_stretches.specs.tuple_account.Histories.{History, Packet}
-use Rattle.worker_stretches.specs.tuple_account.Moves.{beside}
-use Rattle.worker_stretches.specs.tuple_account.Parts.{weigh_entries}
+use Rattle.event_worlds.specs.Accounted.{station_of}
+use Rattle.event_worlds.specs.Beside.{LedBeside, waits}
+use Rattle.event_worlds.specs.Orderly.{IsOrderly}
+use Rattle.event_worlds.specs.Worlds.{AckerSide, Known, TaskSide, World, acker_at, is_over, no_acker, no_task}
+use Rattle.event_worlds.proofs.Leading.{reached-alike}
+use Rattle.event_worlds.proofs.output_collector.Sending.{Draws-none}
+use Rattle.event_worlds.specs.state_parts.declared.answer.CommitOutcome.{CommitOutcome}
+use Rattle.event_worlds.specs.storm_ids.declared.ids.Ids.{Ghosts}
+use Rattle.event_worlds.specs.storm_values.declared.value.Root.{Root}
+use Rattle.task_queues.specs.declared.pass.Pass.{Pass}
+use Rattle.event_worlds.specs.topology_plan.Topology.{Topology}
+use Rattle.event_worlds.specs.tree_model.declared.messages.AckMsg.{AckMsg}
+use Rattle.event_worlds.specs.trident_batches.Batches.{Cut}
+use Rattle.event_worlds.specs.tuple_account.Fits.{Fits}
+use Rattle.event_worlds.specs.tuple_account.Histories.{History, Packet}
+use Rattle.event_worlds.specs.tuple_account.Moves.{beside}
+use Rattle.event_worlds.specs.tuple_account.Parts.{weigh_entries}
 use Rattle.worker_stretches.specs.world_progress.Doing.{done, in_boxes, messages_in, tuples_in}
 use Rattle.worker_stretches.specs.world_progress.Lasting.{AreSeats, IsFine}
 use Rattle.worker_stretches.specs.world_progress.Young.{AreYoung}

@@ -4,33 +4,33 @@ use Rattle.std.proofs.lemmas.Bool.{cases_eq}
 use Rattle.std.specs.Prelude.{slice_get, Some, None}
 use Rattle.std.proofs.lemmas.List.{length-map}
 use Rattle.std.specs.List.{AllByRecursion}
-use Rattle.worker_stretches.specs.acker_core.declared.verdict.Verdict.{Verdict}
+use Rattle.event_worlds.specs.acker_core.declared.verdict.Verdict.{Verdict}
 use Rattle.worker_stretches.specs.box_rows.declared.mail.Mail.{Mail}
 use Rattle.worker_stretches.specs.box_rows.declared.mail.Mail.TheVariants as mail
 use Rattle.worker_stretches.specs.box_rows.FitRows.{HoldsMore, IsFitRow, held_in}
 use Rattle.worker_stretches.specs.box_rows.Mails.{IsTrueMail, IsTrueParcel, weigh_mail}
 use Rattle.worker_stretches.specs.box_rows.Rows.{ArePasses, HasSent, HasTaken, IsEmpty, IsFull, IsSameRow, IsViewAt}
-use Rattle.worker_stretches.proofs.counted_items.Each.{each-append, each-weaker}
-use Rattle.worker_stretches.proofs.counted_items.Weighing.{weigh-append, weigh-ones}
+use Rattle.event_worlds.proofs.counted_items.Each.{each-append, each-weaker}
+use Rattle.event_worlds.proofs.counted_items.Weighing.{weigh-append, weigh-ones}
 use Rattle.worker_stretches.specs.event_engine.declared.engine.Engine.{Engine}
 use Rattle.worker_stretches.specs.event_engine.Engines.{IsReady, IsStill, cut_in, shape, sources}
 use Rattle.worker_stretches.specs.event_engine.Exchanges.{delivered_all, parcels_out, verdicts_out, without_parcels, without_verdicts}
-use Rattle.worker_stretches.specs.event_worlds.Accounted.{weigh_ackers, weigh_tasks}
-use Rattle.worker_stretches.specs.event_worlds.Orderly.{AreTasksOrderly, FitsParcel, IsOrderly}
-use Rattle.worker_stretches.specs.event_worlds.Worlds.{AckerSide, TaskSide, World, acker_at, delivered, gets_message, gets_tuple, no_acker, no_task, task_at}
-use Rattle.worker_stretches.proofs.event_worlds.Waiting.{each-at, each-set}
-use Rattle.worker_stretches.specs.storm_ids.declared.ids.Ids.{Ghosts}
-use Rattle.worker_stretches.specs.task_queues.Books.{sent_of, taken_of}
-use Rattle.worker_stretches.specs.task_queues.declared.pass.Mailbox.{Mailbox}
-use Rattle.worker_stretches.specs.task_queues.declared.pass.Pass.{Pass}
-use Rattle.worker_stretches.specs.task_queues.declared.rule.Stamped.{Stamped}
-use Rattle.worker_stretches.specs.task_queues.declared.rule.View.{View}
-use Rattle.worker_stretches.specs.task_queues.Passes.{view_of}
-use Rattle.worker_stretches.specs.topology_plan.Topology.{Topology}
-use Rattle.worker_stretches.specs.tree_model.declared.messages.Parcel.{Parcel}
-use Rattle.worker_stretches.specs.tree_model.declared.messages.Parcel.TheVariants.{ToTask, ToAcker}
-use Rattle.worker_stretches.specs.trident_batches.Batches.{Cut}
-use Rattle.worker_stretches.specs.tuple_account.Histories.{Packet, of_parcel, of_verdict, weigh_parcels}
+use Rattle.event_worlds.specs.Accounted.{weigh_ackers, weigh_tasks}
+use Rattle.event_worlds.specs.Orderly.{AreTasksOrderly, FitsParcel, IsOrderly}
+use Rattle.event_worlds.specs.Worlds.{AckerSide, TaskSide, World, acker_at, delivered, gets_message, gets_tuple, no_acker, no_task, task_at}
+use Rattle.event_worlds.proofs.Waiting.{each-at, each-set}
+use Rattle.event_worlds.specs.storm_ids.declared.ids.Ids.{Ghosts}
+use Rattle.task_queues.specs.Books.{sent_of, taken_of}
+use Rattle.task_queues.specs.declared.pass.Mailbox.{Mailbox}
+use Rattle.task_queues.specs.declared.pass.Pass.{Pass}
+use Rattle.task_queues.specs.declared.rule.Stamped.{Stamped}
+use Rattle.task_queues.specs.declared.rule.View.{View}
+use Rattle.task_queues.specs.Passes.{view_of}
+use Rattle.event_worlds.specs.topology_plan.Topology.{Topology}
+use Rattle.event_worlds.specs.tree_model.declared.messages.Parcel.{Parcel}
+use Rattle.event_worlds.specs.tree_model.declared.messages.Parcel.TheVariants.{ToTask, ToAcker}
+use Rattle.event_worlds.specs.trident_batches.Batches.{Cut}
+use Rattle.event_worlds.specs.tuple_account.Histories.{Packet, of_parcel, of_verdict, weigh_parcels}
 use Rattle.worker_stretches.specs.box_account.Inboxes.{weigh_acker_inboxes, weigh_task_inboxes}
 use Rattle.worker_stretches.specs.Teams.{Waiting}
 use Rattle.worker_turns.specs.Carrying.{AreEmpty, Brings, Carries, EngineCarries, FitsMail, HaveRoom, IsEmptyAt, KeepsOthers, StaysSwept, counted_in, entries_in, nothing_left, stand_in, weigh_all, weigh_verdicts}

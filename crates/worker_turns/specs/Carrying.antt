@@ -1,28 +1,28 @@
 -- Packets that are carried to where they go, through boxes, while nobody works. This project's own.
 use Rattle.std.specs.Prelude.{◌≡◌, ◌≤◌, ℕ, ◌+◌, List, [], map}
 use Rattle.std.specs.List.{AllByRecursion}
-use Rattle.worker_stretches.specs.acker_core.declared.verdict.Verdict.{Verdict}
+use Rattle.event_worlds.specs.acker_core.declared.verdict.Verdict.{Verdict}
 use Rattle.worker_stretches.specs.box_rows.declared.mail.Mail.{Mail}
 use Rattle.worker_stretches.specs.box_rows.declared.mail.Mail.TheVariants as mail
 use Rattle.worker_stretches.specs.box_rows.FitRows.{held_in}
 use Rattle.worker_stretches.specs.box_rows.Mails.{weigh_mail}
 use Rattle.worker_stretches.specs.box_rows.Rows.{IsEmpty, IsViewAt, taken_in}
-use Rattle.worker_stretches.specs.commit_order.Orders.{Stand}
-use Rattle.worker_stretches.specs.counted_items.Weights.{weigh}
+use Rattle.event_worlds.specs.commit_order.Orders.{Stand}
+use Rattle.event_worlds.specs.counted_items.Weights.{weigh}
 use Rattle.worker_stretches.specs.event_engine.declared.engine.Engine.{Engine}
 use Rattle.worker_stretches.specs.event_engine.Engines.{IsStill, shape, sources}
-use Rattle.worker_stretches.specs.event_worlds.Accounted.{weigh_ackers, weigh_tasks}
-use Rattle.worker_stretches.specs.event_worlds.Orderly.{FitsParcel}
-use Rattle.worker_stretches.specs.event_worlds.Worlds.{AckerSide, TaskSide, World}
-use Rattle.worker_stretches.specs.rotating_ledger.Held.{Held}
-use Rattle.worker_stretches.specs.storm_ids.declared.ids.Ids.{Ghosts}
-use Rattle.worker_stretches.specs.task_queues.declared.pass.Pass.{Pass}
-use Rattle.worker_stretches.specs.task_queues.declared.rule.View.{View}
-use Rattle.worker_stretches.specs.task_queues.Passes.{view_of}
-use Rattle.worker_stretches.specs.topology_plan.Topology.{Topology}
-use Rattle.worker_stretches.specs.tree_model.declared.messages.AckMsg.{AckMsg}
-use Rattle.worker_stretches.specs.tree_model.declared.messages.Parcel.{Parcel}
-use Rattle.worker_stretches.specs.tuple_account.Histories.{Packet, of_verdict, weigh_parcels}
+use Rattle.event_worlds.specs.Accounted.{weigh_ackers, weigh_tasks}
+use Rattle.event_worlds.specs.Orderly.{FitsParcel}
+use Rattle.event_worlds.specs.Worlds.{AckerSide, TaskSide, World}
+use Rattle.event_worlds.specs.rotating_ledger.Held.{Held}
+use Rattle.event_worlds.specs.storm_ids.declared.ids.Ids.{Ghosts}
+use Rattle.task_queues.specs.declared.pass.Pass.{Pass}
+use Rattle.task_queues.specs.declared.rule.View.{View}
+use Rattle.task_queues.specs.Passes.{view_of}
+use Rattle.event_worlds.specs.topology_plan.Topology.{Topology}
+use Rattle.event_worlds.specs.tree_model.declared.messages.AckMsg.{AckMsg}
+use Rattle.event_worlds.specs.tree_model.declared.messages.Parcel.{Parcel}
+use Rattle.event_worlds.specs.tuple_account.Histories.{Packet, of_verdict, weigh_parcels}
 use Rattle.worker_stretches.specs.box_account.Inboxes.{weigh_inboxes}
 use Rattle.worker_stretches.specs.Teams.{Waiting}
 

@@ -3,14 +3,14 @@ ghost use Rattle.std.specs.Prelude.{◌≡◌, ◌∷◌, ◌++◌, [], IfOk, If
 ghost use Rattle.std.specs.List.{AllByRecursion};
 ghost use Rattle.std.specs.Option.{IfNone};
 ghost use Rattle.worker_stretches.specs.box_rows.Mails.{IsRunFor, box_of};
-ghost use Rattle.worker_stretches.specs.event_worlds.Orderly.{FitsParcel};
+ghost use Rattle.event_worlds.specs.Orderly.{FitsParcel};
 ghost use Rattle.worker_turns.specs.Orders.{IsForBox};
 
+use event_worlds::storm_values::Memory;
+use event_worlds::topology_plan::Plan;
+use event_worlds::tree_model::{Parcel, Parcels};
 use std::alloc::Global;
 use std::collections::VecDeque;
-use worker_stretches::storm_values::Memory;
-use worker_stretches::topology_plan::Plan;
-use worker_stretches::tree_model::{Parcel, Parcels};
 
 // How many parcels a run has at most.
 const MOST_IN_RUN: usize = 64;

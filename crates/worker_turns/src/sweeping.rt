@@ -4,21 +4,21 @@ ghost use Rattle.std.specs.List.{AllByRecursion};
 ghost use Rattle.worker_stretches.specs.box_rows.FitRows.{IsFitRow};
 ghost use Rattle.worker_stretches.specs.box_rows.Mails.{IsTrueMail, weigh_mail};
 ghost use Rattle.worker_stretches.specs.event_engine.Engines.{IsReady, IsStill, cut_in, shape, sources, topology_in};
-ghost use Rattle.worker_stretches.specs.event_worlds.Orderly.{FitsParcel};
-ghost use Rattle.worker_stretches.specs.tuple_account.Histories.{Packet};
+ghost use Rattle.event_worlds.specs.Orderly.{FitsParcel};
+ghost use Rattle.event_worlds.specs.tuple_account.Histories.{Packet};
 ghost use Rattle.worker_stretches.specs.Teams.{Waiting};
 ghost use Rattle.worker_turns.specs.Carrying.{AreEmpty, Brings, EngineCarries, FitsMail, HaveRoom, IsEmptyAt, IsSwept, KeepsOthers, StaysSwept, nothing_left, weigh_all, weigh_verdicts};
 
 use crate::runs::{box_number, run_from};
+use event_worlds::acker_core::Verdict;
+use event_worlds::storm_ids::Ids;
+use event_worlds::storm_values::Memory;
+use event_worlds::tree_model::Parcel;
 use std::alloc::Global;
 use std::collections::VecDeque;
 use std::sync::Wait;
-use worker_stretches::acker_core::Verdict;
 use worker_stretches::box_rows::{Mail, Posts, Row, send_fit, take_fit};
 use worker_stretches::event_engine::Engine;
-use worker_stretches::storm_ids::Ids;
-use worker_stretches::storm_values::Memory;
-use worker_stretches::tree_model::Parcel;
 
 // What mail brings comes to the inboxes that it names.
 fn put_in<I: Ids>(engine: &mut Engine<'_, I>, mail: Mail) -> Result<(), Memory>

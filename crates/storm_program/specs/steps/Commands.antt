@@ -1,6 +1,6 @@
 -- The command that the program has read, in the definitions' words.
 use Rattle.std.specs.Prelude.{◌≤◌}
-use Rattle.stored_runs.specs.storm_values.Limits.{most_workers}
+use Rattle.event_worlds.specs.storm_values.Limits.{most_workers}
 use Rattle.storm_program.specs.declared.words.Command.{Command}
 use Rattle.storm_program.specs.declared.words.Command.TheVariants as read
 use Rattle.storm_program.specs.Words.{Command as Said, check, plain, replay, run}

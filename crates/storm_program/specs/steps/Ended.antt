@@ -1,6 +1,6 @@
 -- What is written of a run that ended.
 use Rattle.std.specs.Prelude.{◌≡◌, ℕ, List}
-use Rattle.stored_runs.specs.attempt_fates.declared.fates.Attempt.{Attempt}
+use Rattle.event_worlds.specs.attempt_fates.declared.fates.Attempt.{Attempt}
 use Rattle.storm_program.specs.declared.status.Status.{Status}
 use Rattle.storm_program.specs.declared.status.Status.TheVariants as status
 use Rattle.storm_program.specs.declared.stop.Stop.{Stop}
@@ -9,7 +9,7 @@ use Rattle.storm_program.specs.steps.Stops.{IfTold}
 use Rattle.stored_runs.specs.declared.ending.RunEnd.{RunEnd}
 use Rattle.stored_runs.specs.declared.ending.RunEnd.TheVariants as end
 use Rattle.stored_runs.specs.StoredRuns.{IsAll}
-use Rattle.stored_runs.specs.topology_plan.Topology.{Topology}
+use Rattle.event_worlds.specs.topology_plan.Topology.{Topology}
 
 -- the status of a run that ended so
 abbrev pub status_of : RunEnd → Status

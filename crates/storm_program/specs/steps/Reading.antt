@@ -6,7 +6,7 @@ use Rattle.storm_program.specs.Files.{IsNotRead, IsTopologyLine, IsInputLine}
 use Rattle.storm_program.specs.Outside.{ShelfUse, Fetched, AreBytesOf}
 use Rattle.storm_program.specs.Schedules.{IsScheduleLine}
 use Rattle.storm_program.specs.Texts.{topology_not_read, input_not_read, schedule_not_read}
-use Rattle.stored_runs.specs.topology_plan.Topology.{Topology}
+use Rattle.event_worlds.specs.topology_plan.Topology.{Topology}
 
 -- at most so many bytes of the file of that name were read
 pub record WasRead (holds : List ℕ → List ℕ → Type 0) (name : List ℕ) (most : ℕ)

@@ -1,8 +1,8 @@
 use Rattle.std.proofs.Common.{List, subst, sym}
-use Rattle.worker_runs.specs.attempt_fates.declared.fates.Attempt.{Attempt}
-use Rattle.worker_runs.specs.event_worlds.Rounds.{ticks_in}
-use Rattle.worker_runs.specs.schedule_core.Runs.{committed_count}
-use Rattle.worker_runs.specs.schedule_core.Schedules.{all_steps}
+use Rattle.event_worlds.specs.attempt_fates.declared.fates.Attempt.{Attempt}
+use Rattle.event_worlds.specs.Rounds.{ticks_in}
+use Rattle.schedule_core.specs.Runs.{committed_count}
+use Rattle.schedule_core.specs.Schedules.{all_steps}
 use Rattle.stored_runs.proofs.Comings.{OfWorld, Ran, all_back, given_finishes, run_is, short_is, world_is}
 use Rattle.stored_runs.proofs.Lent.{Lent, idle_stand, on_err, still_made}
 use Rattle.stored_runs.specs.Makers.{MapsStand, maker_use}

@@ -1,8 +1,8 @@
 use Rattle.std.proofs.Common.{List, Result, refl, subst, sym}
-use Rattle.worker_runs.specs.attempt_fates.declared.fates.Attempt.{Attempt}
-use Rattle.worker_runs.specs.commit_order.declared.stop.Stop.{Stop}
-use Rattle.worker_runs.specs.schedule_core.declared.ended.Ended.{Ended}
-use Rattle.worker_runs.specs.schedule_core.Runs.{committed_count, ended, ticks_between}
+use Rattle.event_worlds.specs.attempt_fates.declared.fates.Attempt.{Attempt}
+use Rattle.event_worlds.specs.commit_order.declared.stop.Stop.{Stop}
+use Rattle.schedule_core.specs.declared.ended.Ended.{Ended}
+use Rattle.schedule_core.specs.Runs.{committed_count, ended, ticks_between}
 use Rattle.stored_runs.proofs.Comings.{Ran, all_back, none_left, none_out_finishes, run_is, short_is}
 use Rattle.stored_runs.proofs.Lent.{Lent, idle_stand, on_err, still_made}
 use Rattle.stored_runs.specs.Makers.{MapsStand, maker_use}

@@ -1,16 +1,16 @@
 use Rattle.std.proofs.Common.{List, sym, subst}
-use Rattle.stored_runs.specs.event_worlds.Rounds.{HasRounds, rounds_needed}
-use Rattle.stored_runs.specs.schedule_core.Schedules.{all_steps}
+use Rattle.event_worlds.specs.Rounds.{HasRounds, rounds_needed}
+use Rattle.schedule_core.specs.Schedules.{all_steps}
 use Rattle.storm_program.proofs.EndLemmas.{IfErr-exit}
 use Rattle.storm_program.proofs.ReportLemmas.{ends_so, replay_report_if, short_of, work_finishes, work_stops}
-use Rattle.stored_runs.specs.attempt_fates.declared.fates.Attempt.{Attempt}
+use Rattle.event_worlds.specs.attempt_fates.declared.fates.Attempt.{Attempt}
 use Rattle.storm_program.specs.Outside.{RunUse, run_use}
 use Rattle.storm_program.specs.Replay.{ReplayEndsSo, ticks_of_schedule}
 use Rattle.storm_program.specs.declared.stop.Stop.TheVariants.{Memory}
 use Rattle.storm_program.specs.Run.{IsShort}
 use Rattle.stored_runs.specs.Makers.{maker_use}
 use Rattle.stored_runs.specs.StoredRuns.{IsRunOfWorld}
-use Rattle.stored_runs.specs.trident_batches.Batches.{Cut}
+use Rattle.event_worlds.specs.trident_batches.Batches.{Cut}
 use Rattle.storm_program.proofs.replay.replay_accepted.Goals as goal
 
 pub returns-clause-report : goal.returns-clause-report

@@ -1,9 +1,9 @@
 use Rattle.std.proofs.Common.{ℕ, ◌<◌, List, sym, subst, sum}
-use Rattle.stored_runs.specs.event_worlds.Rounds.{rounds_needed}
-use Rattle.stored_runs.specs.schedule_core.Runs.{first_answers}
+use Rattle.event_worlds.specs.Rounds.{rounds_needed}
+use Rattle.schedule_core.specs.Runs.{first_answers}
 use Rattle.storm_program.proofs.EndLemmas.{IfErr-exit}
 use Rattle.storm_program.proofs.ReportLemmas.{ends_so, report_if, rounds_end, short_of, work_finishes, work_stops}
-use Rattle.stored_runs.specs.attempt_fates.declared.fates.Attempt.{Attempt}
+use Rattle.event_worlds.specs.attempt_fates.declared.fates.Attempt.{Attempt}
 use Rattle.storm_program.specs.Outside.{RunUse, run_use, ticks_use}
 use Rattle.storm_program.specs.Reports.{EndsSo}
 use Rattle.storm_program.specs.Run.{IsShort, ticks_of_run}
@@ -11,7 +11,7 @@ use Rattle.storm_program.specs.declared.stop.Stop.TheVariants.{Memory}
 use Rattle.storm_program.specs.steps.Ended.{IsRoundsEnd}
 use Rattle.stored_runs.specs.declared.ending.RunEnd.{RunEnd}
 use Rattle.stored_runs.specs.Makers.{maker_use}
-use Rattle.stored_runs.specs.trident_batches.Batches.{Cut}
+use Rattle.event_worlds.specs.trident_batches.Batches.{Cut}
 use Rattle.storm_program.proofs.run.run_accepted.Goals as goal
 
 pub returns-clause-report : goal.returns-clause-report

@@ -1,5 +1,5 @@
 use Rattle.std.proofs.Common.{ℕ}
-use Rattle.storm_program.specs.storm_stores.MemoryMaker.{HasMade}
+use Rattle.storm_stores.specs.MemoryMaker.{HasMade}
 use Rattle.storm_test_kit.proofs.outside.stores.Given as goal
 
 abbrev pub invariant-loop-held : goal.invariant-loop-held

@@ -1,4 +1,4 @@
-use Rattle.worker_turns.specs.event_worlds.Accounted.{station_of}
+use Rattle.event_worlds.specs.Accounted.{station_of}
 use Rattle.worker_rounds.proofs.laws.laws_of_rounds.Goals as goal
 
 pub returns : goal.returns

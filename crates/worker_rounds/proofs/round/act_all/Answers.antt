@@ -1,10 +1,10 @@
 use Rattle.std.proofs.Common.{[], ◌∷◌, refl, map, arith, rules}
 use Rattle.std.specs.List.{range_with_len}
 use Rattle.std.proofs.lemmas.List.FromFn.{map-range_with_len_more}
-use Rattle.worker_turns.proofs.event_engine.GoesLemmas.{goes-none, goes-then}
-use Rattle.worker_turns.proofs.event_engine.LoopLemmas.{goes_there, ready_here, ready_there, still_then}
-use Rattle.worker_turns.specs.event_engine.Engines.{cut_in}
-use Rattle.worker_turns.specs.event_worlds.Worlds.{of_task}
+use Rattle.worker_stretches.proofs.event_engine.GoesLemmas.{goes-none, goes-then}
+use Rattle.worker_stretches.proofs.event_engine.LoopLemmas.{goes_there, ready_here, ready_there, still_then}
+use Rattle.worker_stretches.specs.event_engine.Engines.{cut_in}
+use Rattle.event_worlds.specs.Worlds.{of_task}
 use Rattle.worker_rounds.proofs.Calling.{task-there}
 use Rattle.worker_rounds.proofs.round.act_all.Goals as goal
 

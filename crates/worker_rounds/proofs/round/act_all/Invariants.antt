@@ -1,7 +1,7 @@
 use Rattle.std.proofs.Common.{map}
 use Rattle.std.specs.List.{range_with_len}
-use Rattle.worker_turns.specs.event_engine.Engines.{Goes, IsReady, IsStill, cut_in}
-use Rattle.worker_turns.specs.event_worlds.Worlds.{of_task}
+use Rattle.worker_stretches.specs.event_engine.Engines.{Goes, IsReady, IsStill, cut_in}
+use Rattle.event_worlds.specs.Worlds.{of_task}
 use Rattle.worker_rounds.proofs.round.act_all.Given as goal
 
 abbrev pub invariant-loop-n : goal.invariant-loop-n

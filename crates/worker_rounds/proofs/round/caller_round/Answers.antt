@@ -1,11 +1,11 @@
 use Rattle.std.proofs.Common.{length, subst, ◌∙◌, arith}
-use Rattle.worker_turns.specs.attempt_fates.Fates.{IsOnce}
-use Rattle.worker_turns.specs.commit_turns.Turns.{last_tick}
-use Rattle.worker_turns.specs.event_engine.Engines.{cut_in}
-use Rattle.worker_turns.specs.pulse_board.Seats.{book_of}
-use Rattle.worker_turns.specs.state_parts.declared.answer.CommitFault.TheVariants as fault
-use Rattle.worker_turns.specs.trident_batches.Batches.{Cut}
-use Rattle.worker_turns.specs.event_worlds.Rounds.{round_with}
+use Rattle.event_worlds.specs.attempt_fates.Fates.{IsOnce}
+use Rattle.event_worlds.specs.commit_turns.Turns.{last_tick}
+use Rattle.worker_stretches.specs.event_engine.Engines.{cut_in}
+use Rattle.pulse_board.specs.Seats.{book_of}
+use Rattle.event_worlds.specs.state_parts.declared.answer.CommitFault.TheVariants as fault
+use Rattle.event_worlds.specs.trident_batches.Batches.{Cut}
+use Rattle.event_worlds.specs.Rounds.{round_with}
 use Rattle.worker_rounds.proofs.Calling.{handed-on, in-time, kept-none, on-err, once-still, parts-there, ready-after, ready-closed, ready-own, rests-opened}
 use Rattle.worker_rounds.proofs.Driving.{breaks-round, broken-round, drives-round, wants-closed, wants-still, wants-swept}
 use Rattle.worker_rounds.proofs.Going.{runs-quiet, runs-then}

@@ -1,5 +1,5 @@
-use Rattle.worker_turns.proofs.event_engine.LoopLemmas.{ready_here, ready_there}
-use Rattle.worker_turns.specs.event_engine.Engines.{cut_in}
+use Rattle.worker_stretches.proofs.event_engine.LoopLemmas.{ready_here, ready_there}
+use Rattle.worker_stretches.specs.event_engine.Engines.{cut_in}
 use Rattle.worker_rounds.proofs.Calling.{goes-opened}
 use Rattle.worker_rounds.proofs.round.open_round.Goals as goal
 

@@ -1,9 +1,9 @@
 use Rattle.std.proofs.Common.{◌≡◌, ℕ, length, sym, ap, subst, ◌∙◌, arith}
 use Rattle.std.specs.Prelude.{◌+◌, ◌-◌, ◌^◌, min}
-use Rattle.worker_turns.specs.pass_numbers.Numbers.{IsWhole}
-use Rattle.worker_turns.specs.pulse_board.Books.{Tells, ticked}
-use Rattle.worker_turns.specs.pulse_board.declared.rule.Book.{Book}
-use Rattle.worker_turns.specs.pulse_board.Seats.{book_of}
+use Rattle.pass_numbers.specs.Numbers.{IsWhole}
+use Rattle.pulse_board.specs.Books.{Tells, ticked}
+use Rattle.pulse_board.specs.declared.rule.Book.{Book}
+use Rattle.pulse_board.specs.Seats.{book_of}
 use Rattle.worker_rounds.proofs.Calling.{ticks-more, ticks-once}
 use Rattle.worker_rounds.proofs.round.tick_board.Goals as goal
 

@@ -1,7 +1,7 @@
 use Rattle.std.specs.Prelude.{◌≡◌, ◌+◌, ◌-◌, ◌^◌, length, min}
-use Rattle.worker_turns.specs.pulse_board.Seats.{book_of}
+use Rattle.pulse_board.specs.Seats.{book_of}
 use Rattle.worker_rounds.proofs.round.tick_board.Given as goal
-use Rattle.worker_turns.specs.worker_stretches.Parts.{IsWholeSeat}
+use Rattle.worker_stretches.specs.Parts.{IsWholeSeat}
 
 abbrev pub invariant-loop-counted : goal.invariant-loop-counted
 invariant-loop-counted l = record {

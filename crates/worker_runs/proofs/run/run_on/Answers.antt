@@ -1,8 +1,8 @@
 use Rattle.std.proofs.Common.{◌≡◌, ◌∙◌, false, ap, refl, subst, sym}
-use Rattle.worker_rounds.specs.box_rows.AllRows.{Row}
-use Rattle.worker_rounds.specs.box_rows.FitRows.{IsFitRow}
-use Rattle.worker_rounds.specs.event_engine.Engines.{cut_in, has_ended}
-use Rattle.worker_rounds.specs.state_parts.declared.answer.CommitFault.TheVariants as fault
+use Rattle.worker_stretches.specs.box_rows.AllRows.{Row}
+use Rattle.worker_stretches.specs.box_rows.FitRows.{IsFitRow}
+use Rattle.worker_stretches.specs.event_engine.Engines.{cut_in, has_ended}
+use Rattle.event_worlds.specs.state_parts.declared.answer.CommitFault.TheVariants as fault
 use Rattle.worker_runs.proofs.Keeping.{gathered-own, kept-then, once-back, ready-back, ready-once}
 use Rattle.worker_runs.proofs.Looping.{err-told, handed-on, no-key, no-key-ok, on-err, parts-now, turned-bad, turned-drew, turned-over, turned-short, turning-none, turning-round, turning-still}
 use Rattle.worker_runs.proofs.run.run_on.Goals as goal

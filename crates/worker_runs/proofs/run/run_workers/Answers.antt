@@ -1,5 +1,5 @@
 use Rattle.std.proofs.Common.{Ok}
-use Rattle.worker_rounds.specs.event_engine.Engines.{cut_in}
+use Rattle.worker_stretches.specs.event_engine.Engines.{cut_in}
 use Rattle.worker_runs.proofs.Beginning.{ended-here, gathered-first, some-size}
 use Rattle.worker_runs.proofs.Ending.{comes-not-begun, ends, stopped-end, whole-end}
 use Rattle.worker_runs.proofs.Starting.{no-tick}

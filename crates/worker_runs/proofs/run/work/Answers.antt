@@ -1,4 +1,4 @@
-use Rattle.worker_rounds.specs.event_engine.Engines.{cut_in}
+use Rattle.worker_stretches.specs.event_engine.Engines.{cut_in}
 use Rattle.std.proofs.Common.{[]}
 use Rattle.worker_runs.proofs.Going.{goes-on-then}
 use Rattle.worker_runs.proofs.Keeping.{gathered-again, ready-back, ready-own, same-tick, still-then}

@@ -1,4 +1,4 @@
-use Rattle.worker_rounds.specs.event_engine.Engines.{cut_in}
+use Rattle.worker_stretches.specs.event_engine.Engines.{cut_in}
 use Rattle.worker_runs.proofs.Going.{goes-on-none}
 use Rattle.worker_runs.proofs.run.work_unless.Goals as goal
 

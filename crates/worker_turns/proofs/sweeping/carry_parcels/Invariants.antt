@@ -1,7 +1,7 @@
 use Rattle.std.proofs.Common.{length}
 use Rattle.std.specs.List.{AllByRecursion}
 use Rattle.worker_stretches.specs.event_engine.Engines.{cut_in}
-use Rattle.worker_stretches.specs.event_worlds.Orderly.{FitsParcel}
+use Rattle.event_worlds.specs.Orderly.{FitsParcel}
 use Rattle.worker_turns.specs.Carrying.{weigh_all}
 use Rattle.worker_turns.proofs.Sweeps.{Carrying}
 use Rattle.worker_turns.proofs.sweeping.carry_parcels.Given as goal

@@ -1,7 +1,7 @@
 use Rattle.std.proofs.Common.{sym, subst}
 use Rattle.worker_stretches.proofs.event_engine.LoopLemmas.{ready_there}
 use Rattle.worker_stretches.specs.event_engine.Engines.{cut_in}
-use Rattle.worker_stretches.specs.topology_plan.Topology.{Topology}
+use Rattle.event_worlds.specs.topology_plan.Topology.{Topology}
 use Rattle.worker_turns.specs.Carrying.{FitsMail}
 use Rattle.worker_turns.proofs.Sweeps.{engine-carries, fits-true, gathering-end, gathering-more, held-less, others-taken, others-then}
 use Rattle.worker_turns.proofs.sweeping.gather_box.Goals as goal

@@ -1,6 +1,6 @@
 use Rattle.worker_stretches.specs.box_rows.FitRows.{held_in}
 use Rattle.worker_stretches.specs.event_engine.Engines.{cut_in}
-use Rattle.worker_stretches.specs.tuple_account.Histories.{Packet}
+use Rattle.event_worlds.specs.tuple_account.Histories.{Packet}
 use Rattle.worker_turns.proofs.Sweeps.{Gathering}
 use Rattle.worker_turns.proofs.sweeping.gather_box.Given as goal
 

@@ -1,11 +1,11 @@
 use Rattle.std.proofs.Common.{◌≡◌, List, [], ap, subst, sym, ◌∙◌}
 use Rattle.std.specs.List.{AllByRecursion}
-use Rattle.worker_stretches.specs.acker_core.declared.verdict.Verdict.{Verdict}
+use Rattle.event_worlds.specs.acker_core.declared.verdict.Verdict.{Verdict}
 use Rattle.worker_stretches.specs.event_engine.Engines.{shape}
 use Rattle.worker_stretches.specs.event_engine.Exchanges.{parcels_out, verdicts_out}
-use Rattle.worker_stretches.specs.event_worlds.Orderly.{FitsParcel}
-use Rattle.worker_stretches.specs.event_worlds.Worlds.{AckerSide, TaskSide, World}
-use Rattle.worker_stretches.specs.tree_model.declared.messages.Parcel.{Parcel}
+use Rattle.event_worlds.specs.Orderly.{FitsParcel}
+use Rattle.event_worlds.specs.Worlds.{AckerSide, TaskSide, World}
+use Rattle.event_worlds.specs.tree_model.declared.messages.Parcel.{Parcel}
 use Rattle.worker_turns.specs.Carrying.{nothing_left, weigh_all, weigh_verdicts}
 use Rattle.worker_turns.proofs.Sweeps.{engine-then, given-and-carried, gives-orders, gives-parcels, gives-verdicts, none-told, none-without, outs-fit, room-kept}
 use Rattle.worker_turns.proofs.sweeping.sweep.Goals as goal

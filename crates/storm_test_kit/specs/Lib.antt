@@ -1,1 +1,0 @@
-pub use Rattle.storm_program.specs.event_worlds as event_worlds
