@@ -18,11 +18,12 @@ use Rattle.storm_program.specs.declared.status.Status.{Status}
 use Rattle.storm_program.specs.declared.stop.Stop.{Stop}
 use Rattle.storm_program.specs.declared.stop.Stop.TheVariants.{Memory, Told}
 use Rattle.storm_program.specs.Ends.{HasText}
+use Rattle.storm_program.specs.Load.{IsLoadLine, line_of}
 use Rattle.storm_program.specs.Outside.{RunUse}
 use Rattle.storm_program.specs.Replay.{IsReplayReport, ticks_of_schedule}
 use Rattle.storm_program.specs.Reports.{EndsSo, IsEndText, IsReport, WasAcked, cut_by}
 use Rattle.storm_program.specs.Run.{IsShort}
-use Rattle.storm_program.specs.steps.Ended.{IsRoundsEnd, IsStopOfEnd, WorkStops, status_of}
+use Rattle.storm_program.specs.steps.Ended.{IsLineOfEnd, IsRoundsEnd, IsStopOfEnd, WorkStops, status_of}
 use Rattle.storm_program.specs.steps.Stops.{IsMemory, Stops}
 use Rattle.event_worlds.specs.storm_values.declared.value.Value.{Value}
 use Rattle.stored_runs.specs.declared.ending.RunEnd.{RunEnd}
@@ -117,6 +118,26 @@ module _ (custom : Custom) (plan : Topology) (records : List (List Value)) (base
   replay_report_if (end.Unfinished k) (Ok text) all printed run back world = absurd all
   replay_report_if end.StoreFault (Ok text) all printed run back world = absurd all
   replay_report_if (end.BadCell key) (Ok text) all printed run back world = absurd all
+
+  -- the line of a load in place of the report
+  pub load_line_if : (ending : RunEnd) (report text : List ℕ) → IsAll ending → IsEndText plan r b fates ending report → IsLineOfEnd r b ending text → IsRun base.words plan custom cut (ticks_of_schedule plan events) base.stores fates ending → CameBack plan base.stores
+      → IsRunOfWorld base.words plan custom cut (all_steps plan events) fates ending → IsLoadLine custom plan records events base fates text
+  unfolding report_of
+  load_line_if (end.All tables) report text all printed line run back world =
+      let r_of : r ≡ length records = r_is ∙ ap (λ (k : Cut). length k.records) cut_is in
+      let b_of : b ≡ batch_count (length records) plan.batch = b_is ∙ ap (λ (k : Cut). batch_count (length k.records) k.size) cut_is in
+      record {
+        report = report;
+        replayed = record {
+          report = report_of custom plan records base (ticks_of_schedule plan events) fates r b r_of b_of (end.All tables) report tt printed (subst (λ (k : Cut). IsRun base.words plan custom k (ticks_of_schedule plan events) base.stores fates (end.All tables)) cut_is run) back;
+          of_world = subst (λ (k : Cut). IsRunOfWorld base.words plan custom k (all_steps plan events) fates (end.All tables)) cut_is world;
+        };
+        printed = line ∙ (ap (λ (n : ℕ). line_of n b tables) r_of ∙ ap (λ (n : ℕ). line_of (length records) n tables) b_of);
+      }
+  load_line_if (end.Exhausted txid) report text all printed line run back world = absurd all
+  load_line_if (end.Unfinished k) report text all printed line run back world = absurd all
+  load_line_if end.StoreFault report text all printed line run back world = absurd all
+  load_line_if (end.BadCell key) report text all printed line run back world = absurd all
 
 -- a run by rounds does not end unfinished
 pub rounds_end : {E : Type 0} (r : Result RunEnd E) (ending : RunEnd) → r ≡ Ok ending → ((k : ℕ) → r ≡ Ok (end.Unfinished k) → ⊥) → IsRoundsEnd ending

@@ -5,49 +5,44 @@ use Rattle.std.specs.List.{list_all}
 use Rattle.std.proofs.lemmas.Bool.{cases_Bool, and_parts, eqb-true, false≢true}
 use Rattle.std.proofs.lemmas.Bool.Decides.{nat_tests}
 use Rattle.std.proofs.lemmas.Option.{none-some}
-use Rattle.storm_program.specs.Words.{Command, check, plain, replay, run, load, is_word, number_word, digits_value, command_of, command, if_built, built}
+use Rattle.storm_program.specs.Words.{Command, check, plain, replay, run, load, is_word, number_word, digits_value, command_of, command}
 
 -- a choice of two commands that are none
-neither : (b : Bool) (x y : Option Command) → if_built x ≡ None → if_built y ≡ None → if_built (cond b x y) ≡ None
+neither : (b : Bool) (x y : Option Command) → x ≡ None → y ≡ None → (cond b x y) ≡ None
 neither true x y p q = p
 neither false x y p q = q
 
-load_is_out : (m s : Option ℕ) → if_built (option_and_then (λ n. option_and_then (λ seed. Some (load n seed)) s) m) ≡ None
-load_is_out None s = refl
-load_is_out (Some n) None = refl
-load_is_out (Some n) (Some seed) = refl
-
 -- ---- two words
 
-pub check_other : (verb t : List ℕ) → bytes_eq verb (codes "check") ≡ false → built (verb ∷ t ∷ []) ≡ None
-unfolding built command
+pub check_other : (verb t : List ℕ) → bytes_eq verb (codes "check") ≡ false → command (verb ∷ t ∷ []) ≡ None
+unfolding command
 check_other verb t e =
-    let out : if_built (command_of (verb ∷ t ∷ [])) ≡ None = rw e refl in
+    let out : (command_of (verb ∷ t ∷ [])) ≡ None = rw e refl in
     neither (list_all is_word (verb ∷ t ∷ [])) (command_of (verb ∷ t ∷ [])) None out refl
 
-pub check_good : (verb t : List ℕ) → verb ≡ codes "check" → built (verb ∷ t ∷ []) ≡ cond (is_word t) (Some (check t)) None
-unfolding built command
+pub check_good : (verb t : List ℕ) → verb ≡ codes "check" → command (verb ∷ t ∷ []) ≡ cond (is_word t) (Some (check t)) None
+unfolding command
 check_good verb t e = rw e (by_word (is_word t))
   where
-    by_word : (x : Bool) → if_built (cond (x && true) (command_of (codes "check" ∷ t ∷ [])) None) ≡ cond x (Some (check t)) None
+    by_word : (x : Bool) → (cond (x && true) (command_of (codes "check" ∷ t ∷ [])) None) ≡ cond x (Some (check t)) None
     by_word true = refl
     by_word false = refl
 
 -- ---- three words
 
 -- what is asked for is none where a test fails
-unless : (b c : Bool) (x : Option Command) → c ≡ false → if_built (cond (b && c) x None) ≡ None
+unless : (b c : Bool) (x : Option Command) → c ≡ false → (cond (b && c) x None) ≡ None
 unless true true x bad = absurd (false≢true (sym bad))
 unless true false x bad = refl
 unless false c x bad = refl
 
 -- a word that is none
-pub files_bad_first : (verb t i : List ℕ) → is_word t ≡ false → built (verb ∷ t ∷ i ∷ []) ≡ None
-unfolding built command
+pub files_bad_first : (verb t i : List ℕ) → is_word t ≡ false → command (verb ∷ t ∷ i ∷ []) ≡ None
+unfolding command
 files_bad_first verb t i bad = unless (is_word verb) (is_word t && (is_word i && true)) _ (rw bad refl)
 
-pub files_bad_second : (verb t i : List ℕ) → is_word i ≡ false → built (verb ∷ t ∷ i ∷ []) ≡ None
-unfolding built command
+pub files_bad_second : (verb t i : List ℕ) → is_word i ≡ false → command (verb ∷ t ∷ i ∷ []) ≡ None
+unfolding command
 files_bad_second verb t i bad =
     unless (is_word verb) (is_word t && (is_word i && true)) _ (rw bad (last (is_word t)))
   where
@@ -55,19 +50,25 @@ files_bad_second verb t i bad =
     last true = refl
     last false = refl
 
-pub plain_good : (verb t i : List ℕ) → verb ≡ codes "plain" → is_word t ≡ true → is_word i ≡ true → built (verb ∷ t ∷ i ∷ []) ≡ Some (plain t i)
-unfolding built command
+pub plain_good : (verb t i : List ℕ) → verb ≡ codes "plain" → is_word t ≡ true → is_word i ≡ true → command (verb ∷ t ∷ i ∷ []) ≡ Some (plain t i)
+unfolding command
 plain_good verb t i e first second = rw (e, first, second) refl
 
-pub run_good : (verb t i : List ℕ) → verb ≡ codes "run" → is_word t ≡ true → is_word i ≡ true → built (verb ∷ t ∷ i ∷ []) ≡ Some (run t i 4)
-unfolding built command
+pub run_good : (verb t i : List ℕ) → verb ≡ codes "run" → is_word t ≡ true → is_word i ≡ true → command (verb ∷ t ∷ i ∷ []) ≡ Some (run t i 4)
+unfolding command
 run_good verb t i e first second = rw (e, first, second) refl
 
-pub files_other : (verb t i : List ℕ) → bytes_eq verb (codes "plain") ≡ false → bytes_eq verb (codes "run") ≡ false → built (verb ∷ t ∷ i ∷ []) ≡ None
-unfolding built command
-files_other verb t i no_plain no_run =
-    let out : if_built (command_of (verb ∷ t ∷ i ∷ [])) ≡ None = rw (no_plain, no_run) (neither (bytes_eq verb (codes "load")) _ _ (load_is_out _ _) refl) in
+pub files_other : (verb t i : List ℕ) → bytes_eq verb (codes "plain") ≡ false → bytes_eq verb (codes "run") ≡ false → bytes_eq verb (codes "load") ≡ false → command (verb ∷ t ∷ i ∷ []) ≡ None
+unfolding command
+files_other verb t i no_plain no_run no_load =
+    let out : command_of (verb ∷ t ∷ i ∷ []) ≡ None = rw (no_plain, no_run, no_load) refl in
     neither (list_all is_word (verb ∷ t ∷ i ∷ [])) (command_of (verb ∷ t ∷ i ∷ [])) None out refl
+
+pub load_words : (n s : List ℕ) → is_word n ≡ true → is_word s ≡ true
+    → command (codes "load" ∷ n ∷ s ∷ [])
+    ≡ option_and_then (λ count. option_and_then (λ seed. Some (load count seed)) (number_word 0 65535 s)) (number_word 1 10000 n)
+unfolding command
+load_words n s first second = rw (first, second) refl
 
 -- ---- numbers
 
@@ -98,39 +99,39 @@ number_is_word least most word n is =
 -- ---- four words
 
 -- one of the words is none
-pub four_bad_first : (verb t i w : List ℕ) → is_word t ≡ false → built (verb ∷ t ∷ i ∷ w ∷ []) ≡ None
-unfolding built command
+pub four_bad_first : (verb t i w : List ℕ) → is_word t ≡ false → command (verb ∷ t ∷ i ∷ w ∷ []) ≡ None
+unfolding command
 four_bad_first verb t i w bad = unless (is_word verb) (is_word t && (is_word i && (is_word w && true))) _ (rw bad refl)
 
 and_false : (b : Bool) → b && false ≡ false
 and_false true = refl
 and_false false = refl
 
-pub four_bad_second : (verb t i w : List ℕ) → is_word i ≡ false → built (verb ∷ t ∷ i ∷ w ∷ []) ≡ None
-unfolding built command
+pub four_bad_second : (verb t i w : List ℕ) → is_word i ≡ false → command (verb ∷ t ∷ i ∷ w ∷ []) ≡ None
+unfolding command
 four_bad_second verb t i w bad = unless (is_word verb) (is_word t && (is_word i && (is_word w && true))) _ (rw bad (and_false (is_word t)))
 
-pub four_other : (verb t i w : List ℕ) → bytes_eq verb (codes "replay") ≡ false → bytes_eq verb (codes "run") ≡ false → built (verb ∷ t ∷ i ∷ w ∷ []) ≡ None
-unfolding built command
+pub four_other : (verb t i w : List ℕ) → bytes_eq verb (codes "replay") ≡ false → bytes_eq verb (codes "run") ≡ false → command (verb ∷ t ∷ i ∷ w ∷ []) ≡ None
+unfolding command
 four_other verb t i w no_replay no_run =
-    let out : if_built (command_of (verb ∷ t ∷ i ∷ w ∷ [])) ≡ None = rw (no_replay, no_run) refl in
+    let out : (command_of (verb ∷ t ∷ i ∷ w ∷ [])) ≡ None = rw (no_replay, no_run) refl in
     neither (list_all is_word (verb ∷ t ∷ i ∷ w ∷ [])) (command_of (verb ∷ t ∷ i ∷ w ∷ [])) None out refl
 
-pub replay_bad : (t i s : List ℕ) → is_word s ≡ false → built (codes "replay" ∷ t ∷ i ∷ s ∷ []) ≡ None
-unfolding built command
+pub replay_bad : (t i s : List ℕ) → is_word s ≡ false → command (codes "replay" ∷ t ∷ i ∷ s ∷ []) ≡ None
+unfolding command
 replay_bad t i s bad =
     let none : is_word t && (is_word i && (is_word s && true)) ≡ false = rw (bad, and_false (is_word i)) (and_false (is_word t)) in
     unless true (is_word t && (is_word i && (is_word s && true))) _ none
 
-pub replay_good : (t i s : List ℕ) → is_word t ≡ true → is_word i ≡ true → is_word s ≡ true → built (codes "replay" ∷ t ∷ i ∷ s ∷ []) ≡ Some (replay t i s)
-unfolding built command
+pub replay_good : (t i s : List ℕ) → is_word t ≡ true → is_word i ≡ true → is_word s ≡ true → command (codes "replay" ∷ t ∷ i ∷ s ∷ []) ≡ Some (replay t i s)
+unfolding command
 replay_good t i s first second third = rw (first, second, third) refl
 
-pub workers_good : (verb t i w : List ℕ) → verb ≡ codes "run" → built (verb ∷ t ∷ i ∷ w ∷ []) ≡ cond (is_word t && is_word i) (option_map (run t i) (number_word 1 64 w)) None
-unfolding built command
+pub workers_good : (verb t i w : List ℕ) → verb ≡ codes "run" → command (verb ∷ t ∷ i ∷ w ∷ []) ≡ cond (is_word t && is_word i) (option_map (run t i) (number_word 1 64 w)) None
+unfolding command
 workers_good verb t i w e = rw e (by_words (is_word t) (is_word i) (is_word w) (number_word 1 64 w) (number_is_word 1 64 w))
   where
-    by_words : (x y z : Bool) (number : Option ℕ) → ((n : ℕ) → number ≡ Some n → z ≡ true) → if_built (cond (x && (y && (z && true))) (option_and_then (λ n. Some (run t i n)) number) None) ≡ cond (x && y) (option_map (run t i) number) None
+    by_words : (x y z : Bool) (number : Option ℕ) → ((n : ℕ) → number ≡ Some n → z ≡ true) → (cond (x && (y && (z && true))) (option_and_then (λ n. Some (run t i n)) number) None) ≡ cond (x && y) (option_map (run t i) number) None
     by_words true true true None word = refl
     by_words true true true (Some n) word = refl
     by_words true true false None word = refl
@@ -140,25 +141,25 @@ workers_good verb t i w e = rw e (by_words (is_word t) (is_word i) (is_word w) (
 
 -- ---- how many words
 
-built_none : built [] ≡ None
-unfolding built command
-built_none = refl
+command_none : command [] ≡ None
+unfolding command
+command_none = refl
 
-built_one : (a : List ℕ) → built (a ∷ []) ≡ None
-unfolding built command
-built_one a = neither (list_all is_word (a ∷ [])) (command_of (a ∷ [])) None refl refl
+command_one : (a : List ℕ) → command (a ∷ []) ≡ None
+unfolding command
+command_one a = neither (list_all is_word (a ∷ [])) (command_of (a ∷ [])) None refl refl
 
-built_more : (a b c d e : List ℕ) (more : List (List ℕ)) → built (a ∷ b ∷ c ∷ d ∷ e ∷ more) ≡ None
-unfolding built command
-built_more a b c d e more = neither (list_all is_word (a ∷ b ∷ c ∷ d ∷ e ∷ more)) (command_of (a ∷ b ∷ c ∷ d ∷ e ∷ more)) None refl refl
+command_more : (a b c d e : List ℕ) (more : List (List ℕ)) → command (a ∷ b ∷ c ∷ d ∷ e ∷ more) ≡ None
+unfolding command
+command_more a b c d e more = neither (list_all is_word (a ∷ b ∷ c ∷ d ∷ e ∷ more)) (command_of (a ∷ b ∷ c ∷ d ∷ e ∷ more)) None refl refl
 
-pub built_length : (words : List (List ℕ)) → length words ≢ 2 → length words ≢ 3 → length words ≢ 4 → built words ≡ None
-built_length [] two three four = built_none
-built_length (a ∷ []) two three four = built_one a
-built_length (a ∷ (b ∷ [])) two three four = absurd (two refl)
-built_length (a ∷ (b ∷ (c ∷ []))) two three four = absurd (three refl)
-built_length (a ∷ (b ∷ (c ∷ (d ∷ [])))) two three four = absurd (four refl)
-built_length (a ∷ (b ∷ (c ∷ (d ∷ (e ∷ more))))) two three four = built_more a b c d e more
+pub command_length : (words : List (List ℕ)) → length words ≢ 2 → length words ≢ 3 → length words ≢ 4 → command words ≡ None
+command_length [] two three four = command_none
+command_length (a ∷ []) two three four = command_one a
+command_length (a ∷ (b ∷ [])) two three four = absurd (two refl)
+command_length (a ∷ (b ∷ (c ∷ []))) two three four = absurd (three refl)
+command_length (a ∷ (b ∷ (c ∷ (d ∷ [])))) two three four = absurd (four refl)
+command_length (a ∷ (b ∷ (c ∷ (d ∷ (e ∷ more))))) two three four = command_more a b c d e more
 
 -- ---- digits
 

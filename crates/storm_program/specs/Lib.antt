@@ -1,6 +1,7 @@
 pub mod Check
 pub mod Ends
 pub mod Files
+pub mod Load
 pub mod Outside
 pub mod Plain
 pub mod Replay

@@ -1,18 +1,19 @@
 -- What a call of the program promises, by the command that its words give.
-use Rattle.std.specs.Prelude.{◌≡◌, ℕ, List, Option, Some}
+use Rattle.std.specs.Prelude.{◌≡◌, ℕ, List, Option, Some, None}
 use Rattle.event_worlds.specs.bolt_ops.RowOp.{Custom}
 use Rattle.event_worlds.specs.attempt_fates.declared.fates.Attempt.{Attempt}
 use Rattle.storm_program.specs.declared.status.Status.{Status}
 use Rattle.storm_program.specs.declared.status.Status.TheVariants as status
 use Rattle.storm_program.specs.Check.{check_promise}
 use Rattle.storm_program.specs.Ends.{Promise, Ends, IsAnswered, Counts, IsDoneOrShort}
+use Rattle.storm_program.specs.Load.{load_promise}
 use Rattle.storm_program.specs.Outside.{RunUse, ShelfUse, SinkUse, TicksUse}
 use Rattle.storm_program.specs.Plain.{plain_promise}
 use Rattle.storm_program.specs.Replay.{replay_promise}
 use Rattle.storm_program.specs.Run.{IsNotBegun, run_promise}
 use Rattle.storm_program.specs.Statuses.{code_of}
 use Rattle.storm_program.specs.Texts.{usage}
-use Rattle.storm_program.specs.Words.{Command, check, plain, replay, run, built}
+use Rattle.storm_program.specs.Words.{Command, check, plain, replay, run, load, command}
 
 -- Words that are no command come to the usage line: no file is fetched, and nothing is run.
 abbrev pub WordsCome : ShelfUse → RunUse → List Attempt → Status → List ℕ → Type 0
@@ -28,7 +29,7 @@ words_promise shelf base fates = record {
   must_finish = ⊥;
 }
 
--- One line a command. The command that the program does not have yet is none.
+-- One line a command.
 abbrev pub promise : Custom → ShelfUse → SinkUse → RunUse → TicksUse → List Attempt
     → Option Command → Promise
 promise custom shelf sink base ticks fates (Some (check topology)) =
@@ -39,16 +40,18 @@ promise custom shelf sink base ticks fates (Some (replay topology input schedule
     replay_promise custom shelf sink base fates topology input schedule
 promise custom shelf sink base ticks fates (Some (run topology input workers)) =
     run_promise custom shelf sink base ticks fates topology input
-promise custom shelf sink base ticks fates _ = words_promise shelf base fates
+promise custom shelf sink base ticks fates (Some (load count seed)) =
+    load_promise custom shelf sink base fates count seed
+promise custom shelf sink base ticks fates None = words_promise shelf base fates
 
 -- A call with an operation that was handed in, over a shelf, a sink, stores, ids and ticks, ended
 -- with a status, and left these fates.
 pub record Calls (custom : Custom) (words : List (List ℕ)) (shelf : ShelfUse) (sink : SinkUse)
     (base : RunUse) (ticks : TicksUse) (fates : List Attempt) (ending : Status) : Type 0 where
-  pub ends : Ends (promise custom shelf sink base ticks fates (built words)).comes sink ending
-  pub answered : IsAnswered (promise custom shelf sink base ticks fates (built words)).calls shelf sink
+  pub ends : Ends (promise custom shelf sink base ticks fates (command words)).comes sink ending
+  pub answered : IsAnswered (promise custom shelf sink base ticks fates (command words)).calls shelf sink
       ending
-  pub finishes : (promise custom shelf sink base ticks fates (built words)).must_finish
+  pub finishes : (promise custom shelf sink base ticks fates (command words)).must_finish
       → IsDoneOrShort ending
   pub counts : Counts shelf sink base.stores
 

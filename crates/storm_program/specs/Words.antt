@@ -49,16 +49,3 @@ command_of _ = None
 -- the command that some words give
 unfoldable pub command : List (List ℕ) → Option Command
 command words = if list_all is_word words then command_of words else None
-
--- the commands that the program has so far
-abbrev pub if_built : Option Command → Option Command
-if_built None = None
-if_built (Some (check t)) = Some (check t)
-if_built (Some (plain t i)) = Some (plain t i)
-if_built (Some (replay t i s)) = Some (replay t i s)
-if_built (Some (run t i w)) = Some (run t i w)
-if_built (Some (load n seed)) = None
-
--- the command of some words, where the program has it
-unfoldable pub built : List (List ℕ) → Option Command
-built words = if_built (command words)

@@ -3,6 +3,7 @@
 
 mod check;
 mod files;
+mod load;
 mod output;
 mod plain;
 mod program;
@@ -17,6 +18,6 @@ mod words;
 pub use event_worlds::attempt_fates::{
     Attempt, End, Fates, committed_records_are_all, each_record_is_committed_once,
 };
-pub use program::{storm, storm_check, storm_plain, storm_replay, storm_run};
+pub use program::{storm, storm_check, storm_load, storm_plain, storm_replay, storm_run};
 pub use status::Status;
 pub use stored_runs::{RunEnd, replay_over};

@@ -1,16 +1,18 @@
-ghost use Rattle.std.specs.Prelude.{◌≡◌, ◌≤◌, [], map, string_bytes};
+ghost use Rattle.std.specs.Prelude.{◌≡◌, ◌≤◌, ◌<◌, [], map, string_bytes};
 ghost use Rattle.event_worlds.specs.storm_values.Limits.{most_workers};
 ghost use Rattle.storm_program.specs.Check.{CheckComes, CheckCalls};
 ghost use Rattle.storm_program.specs.Ends.{Ends, IsAnswered, Counts, FilesCounts, IsDoneOrShort};
+ghost use Rattle.storm_program.specs.Load.{LoadCalls, LoadComes, LoadMustFinish};
 ghost use Rattle.storm_program.specs.Outside.{run_use, shelf_use, sink_use, ticks_use};
 ghost use Rattle.storm_program.specs.Plain.{PlainComes, PlainCalls};
 ghost use Rattle.storm_program.specs.Replay.{ReplayComes, ReplayCalls, ReplayMustFinish};
 ghost use Rattle.storm_program.specs.Run.{RunComes, RunCalls, MustFinish};
 ghost use Rattle.storm_program.specs.Storm.{promise};
-ghost use Rattle.storm_program.specs.Words.{built};
+ghost use Rattle.storm_program.specs.Words.{command};
 ghost use Rattle.stored_runs.specs.Makers.{maker_use};
 
 use crate::check::check_file;
+use crate::load::load_records_of;
 use crate::output::{write_answer, write_text};
 use crate::plain::plain_files;
 use crate::replay::replay_files;
@@ -30,7 +32,7 @@ use storm_ticks::Ticks;
 
 /// Carries out the command that the words after the program's name give.
 ///
-/// The words are those of `check`, `plain`, `replay` and `run` so far; all others get the usage
+/// The words are those of `check`, `plain`, `replay`, `run` and `load`; all others get the usage
 /// line. Bolts with the operation `custom` do what is handed in. Stores are made by `stores` and
 /// given back, ids come of sources that `ids` makes, and ticks of `ticks`. A run of two workers or
 /// more passes `gate` before each execution.
@@ -70,7 +72,7 @@ where
         (maker_use M.C.tells M.C.fault_count M.holds M.has_made M.fault_count
         stores.old stores.new) (N.tells ids.old))
         (ticks_use T.handed_out T.tells ticks.old ticks.new) fates.new
-        (built (map string_bytes words.now))).comes
+        (command (map string_bytes words.now))).comes
         (sink_use K.taken K.faults out.old out.new) result }
 
     // What the words and the told files call for is answered, or something takes its place.
@@ -82,7 +84,7 @@ where
         (maker_use M.C.tells M.C.fault_count M.holds M.has_made M.fault_count
         stores.old stores.new) (N.tells ids.old))
         (ticks_use T.handed_out T.tells ticks.old ticks.new) fates.new
-        (built (map string_bytes words.now))).calls
+        (command (map string_bytes words.now))).calls
         (shelf_use H.holds H.ready H.fetches H.faults shelf.old shelf.new)
         (sink_use K.taken K.faults out.old out.new) result }
 
@@ -94,7 +96,7 @@ where
         (maker_use M.C.tells M.C.fault_count M.holds M.has_made M.fault_count
         stores.old stores.new) (N.tells ids.old))
         (ticks_use T.handed_out T.tells ticks.old ticks.new) fates.new
-        (built (map string_bytes words.now))).must_finish
+        (command (map string_bytes words.now))).must_finish
         → IsDoneOrShort result }
 
     ensures counts { Counts
@@ -127,6 +129,9 @@ where
             rt, alloc, topology, input, workers, shelf, out, ticks, stores, ids, custom, gate,
             fates,
         ),
+        Some(Command::Load { records, seed }) => {
+            storm_load(alloc, records, seed, out, stores, ids, custom, fates)
+        }
         None => write_text(Status::Words, USAGE.as_bytes(), out),
     }
 }
@@ -318,5 +323,47 @@ where
     let came = run_files(
         rt, alloc, topology, input, workers, shelf, ticks, stores, ids, custom, gate, fates,
     );
+    write_answer(came, out)
+}
+
+/// Makes so many records of a seed, carries them through the topology of `load` by rounds enough, and
+/// writes one line with what was counted.
+///
+/// It runs on one thread and reads no file. Each record is a text of six words, in 100 records a
+/// batch. Time and memory are proportional to the number of records.
+pub fn storm_load<K: Sink, M: StoreMaker, N: IdMaker, O: RowOp>(
+    alloc: Global,
+    records: u32,
+    seed: u32,
+    out: &mut K,
+    stores: &mut M,
+    ids: &mut N,
+    custom: &O,
+    fates: &mut Fates,
+) -> Status
+    requires seed { seed < 65537 }
+    requires no_fates { fates.old ≡ [] }
+
+    // With status 0 the output took exactly the line, in place of the report that a replay of these
+    // records writes.
+    ensures ends { Ends
+        (LoadComes (O.meaning custom.now)
+        (run_use
+        (maker_use M.C.tells M.C.fault_count M.holds M.has_made M.fault_count
+        stores.old stores.new) (N.tells ids.old))
+        records seed fates.new)
+        (sink_use K.taken K.faults out.old out.new) result }
+
+    // Where nothing is in the way it is done.
+    ensures finishes { LoadMustFinish
+        (sink_use K.taken K.faults out.old out.new)
+        (run_use
+        (maker_use M.C.tells M.C.fault_count M.holds M.has_made M.fault_count
+        stores.old stores.new) (N.tells ids.old))
+        fates.new → IsDoneOrShort result }
+    ensures sink_faults { K.faults out.old ≤ K.faults out.new }
+    ensures store_faults { M.fault_count stores.old ≤ M.fault_count stores.new }
+{
+    let came = load_records_of(alloc, records, seed, stores, ids, custom, fates);
     write_answer(came, out)
 }

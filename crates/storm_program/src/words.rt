@@ -1,8 +1,8 @@
 ghost use Rattle.std.specs.Prelude.{◌≡◌, ◌≤◌, map, codes, string_bytes, option_map, [], ◌∷◌, length, true, IfSome};
 ghost use Rattle.std.specs.List.{list_all};
 ghost use Rattle.std.specs.Char.{is_ascii_digit};
-ghost use Rattle.storm_program.specs.steps.Commands.{command_of_words, HasWorkers};
-ghost use Rattle.storm_program.specs.Words.{is_word, digits_value, number_word, built};
+ghost use Rattle.storm_program.specs.steps.Commands.{command_of_words, IsWithin};
+ghost use Rattle.storm_program.specs.Words.{is_word, digits_value, number_word, command};
 
 use event_worlds::storm_values::MOST_WORKERS;
 
@@ -13,7 +13,12 @@ pub const USAGE: &str =
 /// How many workers run a topology where the words do not say it.
 const WORKERS: u32 = 4;
 
-/// A command that the program has, with the names of its files.
+/// The most records of a load, and its greatest seed.
+const MOST_LOAD: u32 = 10_000;
+
+const MOST_SEED: u32 = 65_535;
+
+/// A command, with the names of its files and its numbers.
 #[derive(Drop)]
 pub enum Command<'a> {
     Check {
@@ -33,12 +38,16 @@ pub enum Command<'a> {
         input: &'a str,
         workers: u32,
     },
+    Load {
+        records: u32,
+        seed: u32,
+    },
 }
 
-/// The command of some words, where the program has it.
+/// The command of some words, or none.
 pub fn read_words(words: &[String]) -> Option<Command<'_>>
-    ensures command { option_map command_of_words result ≡ built (map string_bytes words.now) }
-    ensures workers { IfSome result HasWorkers }
+    ensures command { option_map command_of_words result ≡ command (map string_bytes words.now) }
+    ensures range { IfSome result IsWithin }
 {
     match words.len() {
         2 => check_of(words[0].as_str(), words[1].as_str()),
@@ -54,8 +63,8 @@ pub fn read_words(words: &[String]) -> Option<Command<'_>>
 }
 
 fn check_of<'a>(verb: &str, topology: &'a str) -> Option<Command<'a>>
-    ensures command { option_map command_of_words result ≡ built (verb.now ∷ topology.now ∷ []) }
-    ensures workers { IfSome result HasWorkers }
+    ensures command { option_map command_of_words result ≡ command (verb.now ∷ topology.now ∷ []) }
+    ensures range { IfSome result IsWithin }
 {
     if verb != "check" {
         return None;
@@ -66,11 +75,11 @@ fn check_of<'a>(verb: &str, topology: &'a str) -> Option<Command<'a>>
     Some(Command::Check { topology })
 }
 
-/// A command on a topology and an input.
+/// A command on a topology and an input, or on two numbers.
 fn over_files<'a>(verb: &str, topology: &'a str, input: &'a str) -> Option<Command<'a>>
     ensures command { option_map command_of_words result
-        ≡ built (verb.now ∷ topology.now ∷ input.now ∷ []) }
-    ensures workers { IfSome result HasWorkers }
+        ≡ command (verb.now ∷ topology.now ∷ input.now ∷ []) }
+    ensures range { IfSome result IsWithin }
 {
     if !is_word(topology) {
         return None;
@@ -81,21 +90,41 @@ fn over_files<'a>(verb: &str, topology: &'a str, input: &'a str) -> Option<Comma
     if verb == "plain" {
         return Some(Command::Plain { topology, input });
     }
-    if verb != "run" {
+    if verb == "run" {
+        return Some(Command::Run {
+            topology,
+            input,
+            workers: WORKERS,
+        });
+    }
+    if verb != "load" {
         return None;
     }
-    Some(Command::Run {
-        topology,
-        input,
-        workers: WORKERS,
-    })
+    load_of(topology, input)
+}
+
+/// A load of two numbers.
+fn load_of<'a>(records: &'a str, seed: &'a str) -> Option<Command<'a>>
+    requires records { is_word records.now ≡ true }
+    requires seed { is_word seed.now ≡ true }
+    ensures command { option_map command_of_words result
+        ≡ command (codes "load" ∷ records.now ∷ seed.now ∷ []) }
+    ensures range { IfSome result IsWithin }
+{
+    let Some(records) = number_word(records, 1, MOST_LOAD) else {
+        return None;
+    };
+    let Some(seed) = number_word(seed, 0, MOST_SEED) else {
+        return None;
+    };
+    Some(Command::Load { records, seed })
 }
 
 /// A replay, or a run with a number of workers.
 fn of_four<'a>(verb: &str, topology: &'a str, input: &'a str, last: &'a str) -> Option<Command<'a>>
     ensures command { option_map command_of_words result
-        ≡ built (verb.now ∷ topology.now ∷ input.now ∷ last.now ∷ []) }
-    ensures workers { IfSome result HasWorkers }
+        ≡ command (verb.now ∷ topology.now ∷ input.now ∷ last.now ∷ []) }
+    ensures range { IfSome result IsWithin }
 {
     if !is_word(topology) {
         return None;
@@ -117,8 +146,8 @@ fn replay_of<'a>(topology: &'a str, input: &'a str, schedule: &'a str) -> Option
     requires topology { is_word topology.now ≡ true }
     requires input { is_word input.now ≡ true }
     ensures command { option_map command_of_words result
-        ≡ built (codes "replay" ∷ topology.now ∷ input.now ∷ schedule.now ∷ []) }
-    ensures workers { IfSome result HasWorkers }
+        ≡ command (codes "replay" ∷ topology.now ∷ input.now ∷ schedule.now ∷ []) }
+    ensures range { IfSome result IsWithin }
 {
     if !is_word(schedule) {
         return None;
@@ -135,8 +164,8 @@ fn run_with<'a>(topology: &'a str, input: &'a str, workers: &str) -> Option<Comm
     requires topology { is_word topology.now ≡ true }
     requires input { is_word input.now ≡ true }
     ensures command { option_map command_of_words result
-        ≡ built (codes "run" ∷ topology.now ∷ input.now ∷ workers.now ∷ []) }
-    ensures workers { IfSome result HasWorkers }
+        ≡ command (codes "run" ∷ topology.now ∷ input.now ∷ workers.now ∷ []) }
+    ensures range { IfSome result IsWithin }
 {
     match number_word(workers, 1, MOST_WORKERS) {
         Some(workers) => Some(Command::Run {

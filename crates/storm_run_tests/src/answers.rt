@@ -116,7 +116,7 @@ const REFUSED_INPUTS: [(&str, &str); 7] = [
 const USAGE: &str = "usage: storm check T | plain T I | replay T I S | run T I [W] | load N SEED\n";
 
 // Words that are no command.
-const NO_COMMANDS: [&[&str]; 39] = [
+const NO_COMMANDS: [&[&str]; 47] = [
     &[],
     &["run"],
     &["run", "t"],
@@ -154,8 +154,15 @@ const NO_COMMANDS: [&[&str]; 39] = [
     &["--version"],
     &["help"],
     &["--", "check", "t"],
-    // a command that is not there yet
-    &["load", "1", "1"],
+    &["load"],
+    &["load", "1"],
+    &["load", "1", "1", "1"],
+    &["load", "0", "1"],
+    &["load", "10001", "1"],
+    &["load", "1", "65536"],
+    &["load", "-1", "1"],
+    &["load", "1", "one"],
+    &["Load", "1", "1"],
     &["t", "i"],
 ];
 

@@ -4,6 +4,7 @@ use Rattle.event_worlds.specs.attempt_fates.declared.fates.Attempt.{Attempt}
 use Rattle.storm_program.specs.declared.status.Status.{Status}
 use Rattle.storm_program.specs.declared.status.Status.TheVariants as status
 use Rattle.storm_program.specs.declared.stop.Stop.{Stop}
+use Rattle.storm_program.specs.Load.{line_of}
 use Rattle.storm_program.specs.Reports.{IsEndText}
 use Rattle.storm_program.specs.steps.Stops.{IfTold}
 use Rattle.stored_runs.specs.declared.ending.RunEnd.{RunEnd}
@@ -36,6 +37,11 @@ WorkStops Ends Short status.Unfinished text = (k : ℕ) × Ends (end.Unfinished 
 WorkStops Ends Short status.StoreFault text = Ends end.StoreFault text
 WorkStops Ends Short status.BadCell text = (key : List ℕ) × Ends (end.BadCell key) text
 WorkStops Ends Short _ text = ⊥
+
+-- the text is the line of a load that ended so
+abbrev pub IsLineOfEnd : ℕ → ℕ → RunEnd → List ℕ → Type 0
+IsLineOfEnd records batches (end.All tables) text = text ≡ line_of records batches tables
+IsLineOfEnd records batches _ text = ⊥
 
 -- an end of a run by rounds
 abbrev pub IsRoundsEnd : RunEnd → Type 0

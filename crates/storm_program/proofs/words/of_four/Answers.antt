@@ -1,5 +1,5 @@
 use Rattle.std.proofs.Common.{◌≡◌, [], ◌∷◌, codes, false, bytes_eq, sym, ap, ◌∙◌, rules}
-use Rattle.storm_program.specs.Words.{built, is_word}
+use Rattle.storm_program.specs.Words.{command, is_word}
 use Rattle.storm_program.proofs.WordLemmas.{four_bad_first, four_bad_second, four_other}
 use Rattle.storm_program.proofs.words.of_four.Goals as goal
 
@@ -16,7 +16,7 @@ returns-then-not-is_word-2-clause-command c =
 pub returns-then-eq-clause-command : goal.returns-then-eq-clause-command
 returns-then-eq-clause-command c =
     let verb : c.args.verb.now ≡ codes "replay" = search rules in
-    c.replay_of.ensures.command ∙ ap (λ v. built (v ∷ c.args.topology.now ∷ c.args.input.now ∷ c.args.last.now ∷ [])) (sym verb)
+    c.replay_of.ensures.command ∙ ap (λ v. command (v ∷ c.args.topology.now ∷ c.args.input.now ∷ c.args.last.now ∷ [])) (sym verb)
 
 pub returns-then-ne-clause-command : goal.returns-then-ne-clause-command
 returns-then-ne-clause-command c =
@@ -27,4 +27,4 @@ returns-then-ne-clause-command c =
 pub returns-clause-command : goal.returns-clause-command
 returns-clause-command c =
     let verb : c.args.verb.now ≡ codes "run" = search rules in
-    c.run_with.ensures.command ∙ ap (λ v. built (v ∷ c.args.topology.now ∷ c.args.input.now ∷ c.args.last.now ∷ [])) (sym verb)
+    c.run_with.ensures.command ∙ ap (λ v. command (v ∷ c.args.topology.now ∷ c.args.input.now ∷ c.args.last.now ∷ [])) (sym verb)

@@ -1,5 +1,5 @@
-use Rattle.std.proofs.Common.{◌≡◌, codes, false, true, bytes_eq, sym, rules}
-use Rattle.storm_program.specs.Words.{is_word}
+use Rattle.std.proofs.Common.{◌≡◌, ◌∙◌, ◌∷◌, [], ap, codes, false, true, bytes_eq, sym, rules}
+use Rattle.storm_program.specs.Words.{command, is_word}
 use Rattle.storm_program.proofs.WordLemmas.{files_bad_first, files_bad_second, plain_good, run_good, files_other}
 use Rattle.storm_program.proofs.words.over_files.Goals as goal
 
@@ -20,15 +20,21 @@ returns-then-eq-clause-command c =
     let fine : is_word c.args.input.now ≡ true = search rules in
     sym (plain_good _ c.args.topology.now c.args.input.now plain good fine)
 
-pub returns-then-ne-clause-command : goal.returns-then-ne-clause-command
-returns-then-ne-clause-command c =
-    let no_plain : bytes_eq c.args.verb.now (codes "plain") ≡ false = search rules in
-    let no_run : bytes_eq c.args.verb.now (codes "run") ≡ false = search rules in
-    sym (files_other _ c.args.topology.now c.args.input.now no_plain no_run)
-
-pub returns-clause-command : goal.returns-clause-command
-returns-clause-command c =
+pub returns-then-eq-2-clause-command : goal.returns-then-eq-2-clause-command
+returns-then-eq-2-clause-command c =
     let run : c.args.verb.now ≡ codes "run" = search rules in
     let good : is_word c.args.topology.now ≡ true = search rules in
     let fine : is_word c.args.input.now ≡ true = search rules in
     sym (run_good _ c.args.topology.now c.args.input.now run good fine)
+
+pub returns-then-ne-clause-command : goal.returns-then-ne-clause-command
+returns-then-ne-clause-command c =
+    let no_plain : bytes_eq c.args.verb.now (codes "plain") ≡ false = search rules in
+    let no_run : bytes_eq c.args.verb.now (codes "run") ≡ false = search rules in
+    let no_load : bytes_eq c.args.verb.now (codes "load") ≡ false = search rules in
+    sym (files_other _ c.args.topology.now c.args.input.now no_plain no_run no_load)
+
+pub returns-clause-command : goal.returns-clause-command
+returns-clause-command c =
+    let verb : c.args.verb.now ≡ codes "load" = search rules in
+    c.load_of.ensures.command ∙ ap (λ v. command (v ∷ c.args.topology.now ∷ c.args.input.now ∷ [])) (sym verb)

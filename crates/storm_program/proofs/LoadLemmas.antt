@@ -1,0 +1,149 @@
+-- What a load comes to, from what its parts came to.
+use Rattle.std.proofs.Common.{◌≡◌, ◌⊎◌, ◌<◌, ℕ, ◌+◌, ◌*◌, List, [], ◌∷◌, ◌++◌, length, map, flat_map, Option, Some, inl, inr, refl, sym, ap, ◌∙◌, subst, append_assoc, arith}
+use Rattle.std.specs.List.{range_with_len}
+use Rattle.std.proofs.lemmas.List.{append-nil}
+use Rattle.std.proofs.lemmas.List.FromFn.{length-range_with_len}
+use Rattle.load_source.specs.File.{load_text}
+use Rattle.load_source.specs.Records.{records_after}
+use Rattle.storm_program.specs.declared.status.Status.{Status}
+use Rattle.storm_program.specs.declared.status.Status.TheVariants as status
+use Rattle.storm_program.specs.Ends.{AnswersCall, Ends, HasText, IsAnswered, IsDoneOrShort, TakesThePlace}
+use Rattle.storm_program.specs.Load.{LoadCalls, LoadComes, LoadMustFinish, load_events, load_promise}
+use Rattle.storm_program.specs.Outside.{RunUse, ShelfUse, SinkUse, TicksUse}
+use Rattle.storm_program.specs.Replay.{ReplayEndsSo, ticks_of_schedule}
+use Rattle.storm_program.specs.Run.{IsNotBegun, IsShort}
+use Rattle.storm_program.specs.Storm.{promise}
+use Rattle.storm_program.specs.Words.{Command, load}
+use Rattle.storm_program.specs.steps.Ended.{WorkStops}
+use Rattle.storm_program.proofs.EndLemmas.{Ends-weaker, answered_by_ends}
+use Rattle.schedule_core.proofs.TicksOfRuns.{ticks-of-rounds}
+use Rattle.event_worlds.specs.attempt_fates.declared.fates.Attempt.{Attempt}
+use Rattle.event_worlds.specs.bolt_ops.RowOp.{Custom}
+use Rattle.event_worlds.specs.Rounds.{HasRounds, round_with, rounds_needed, ticks_in}
+use Rattle.event_worlds.specs.Worlds.{Step, coordinator_steps, of_acker, of_task, round_steps, rounds_steps}
+use Rattle.schedule_core.specs.Schedules.{all_steps}
+use Rattle.schedule_reader.specs.declared.event.Event.{Event}
+use Rattle.schedule_reader.specs.declared.event.Event.TheVariants.{Rounds}
+use Rattle.event_worlds.specs.storm_values.declared.value.Value.{Value}
+use Rattle.event_worlds.specs.tree_model.Trees.{node_count}
+use Rattle.event_worlds.specs.trident_batches.Batches.{Cut, batch_count}
+use Rattle.storm_program.specs.Reports.{cut_by}
+use Rattle.event_worlds.specs.topology_plan.Topology.{Topology, tasks_in_all}
+use Rattle.topology_reader.specs.FirstFault.{IsFilePlan}
+
+-- ---- its schedule
+
+round_is : (t : Topology) → round_steps t ≡ round_with t 0
+round_is t =
+    ap (λ (steps : List Step). steps ++ coordinator_steps)
+    (sym (append-nil (map of_task (range_with_len 0 (tasks_in_all t)) ++ map of_acker (range_with_len 0 t.ackers))))
+
+rounds_over : (t : Topology) (ks : List ℕ) (rest : List Step)
+    → HasRounds t (length ks) (flat_map (λ k. round_steps t) ks ++ rest)
+rounds_over t [] rest = tt
+rounds_over t (k ∷ ks) rest =
+    let more : List Step = flat_map (λ k. round_steps t) ks in
+    ([], more ++ rest, 0, append_assoc (round_steps t) more rest ∙ ap (λ (steps : List Step). steps ++ (more ++ rest)) (round_is t), rounds_over t ks rest)
+
+-- so many rounds are so many
+pub rounds_of_load : (t : Topology) (n : ℕ) → HasRounds t n (all_steps t (Rounds n ∷ []))
+rounds_of_load t n =
+    subst (λ m. HasRounds t m (rounds_steps t n ++ [])) (length-range_with_len 0 n)
+    (rounds_over t (range_with_len 0 n) [])
+
+task_ticks : (ns : List ℕ) → ticks_in (map of_task ns) ≡ 0
+task_ticks [] = refl
+task_ticks (n ∷ ns) = task_ticks ns
+
+acker_ticks : (ns : List ℕ) → ticks_in (map of_acker ns) ≡ 0
+acker_ticks [] = refl
+acker_ticks (n ∷ ns) = acker_ticks ns
+
+none-of : (a b c d e : ℕ) → a ≡ d + e → d ≡ b + c → b ≡ 0 → c ≡ 0 → e ≡ 0 → a ≡ 0
+none-of a b c d e first second no_b no_c no_e = omega arith
+
+round_ticks : (t : Topology) → ticks_in (round_steps t) ≡ 0
+round_ticks t =
+    let tasks : List Step = map of_task (range_with_len 0 (tasks_in_all t)) in
+    let ackers : List Step = map of_acker (range_with_len 0 t.ackers) in
+    none-of _ (ticks_in tasks) (ticks_in ackers) (ticks_in (tasks ++ ackers)) (ticks_in coordinator_steps)
+    (ticks-of-rounds (tasks ++ ackers) coordinator_steps) (ticks-of-rounds tasks ackers)
+    (task_ticks (range_with_len 0 (tasks_in_all t))) (acker_ticks (range_with_len 0 t.ackers)) refl
+
+none-more : (a b c : ℕ) → a ≡ b + c → b ≡ 0 → c ≡ 0 → a ≡ 0
+none-more a b c is no_b no_c = omega arith
+
+over_ticks : (t : Topology) (ks : List ℕ) → ticks_in (flat_map (λ k. round_steps t) ks) ≡ 0
+over_ticks t [] = refl
+over_ticks t (k ∷ ks) =
+    let more : List Step = flat_map (λ k. round_steps t) ks in
+    none-more _ _ _ (ticks-of-rounds (round_steps t) more) (round_ticks t) (over_ticks t ks)
+
+-- and hand out no tick
+pub no_ticks_of_load : (t : Topology) (n : ℕ) → ticks_of_schedule t (Rounds n ∷ []) ≡ 0
+no_ticks_of_load t n =
+    none-more _ _ _ (ticks-of-rounds (rounds_steps t n) []) (over_ticks t (range_with_len 0 n)) refl
+
+module _ (plan : Topology) (custom : Custom) (cut : Cut) (b : ℕ) (b_is : b ≡ batch_count (length cut.records) cut.size) (events : List Event) (is : events ≡ Rounds (64 * (node_count plan custom cut.records + b + 1)) ∷ []) where
+  -- the one event is that of a load
+  pub events_are : (records : List (List Value)) → cut ≡ cut_by plan records → events ≡ load_events plan custom records
+  events_are records cut_is =
+      is ∙ (ap (λ (n : ℕ). Rounds (64 * (node_count plan custom cut.records + n + 1)) ∷ []) b_is
+      ∙ ap (λ (k : Cut). Rounds (64 * (node_count plan custom k.records + batch_count (length k.records) k.size + 1)) ∷ []) cut_is)
+
+  -- and its rounds are enough
+  pub rounds_serve : plan.attempts ≡ 4 → HasRounds plan (rounds_needed plan custom cut) (all_steps plan events)
+  rounds_serve four =
+      let count : ℕ = 64 * (node_count plan custom cut.records + b + 1) in
+      let enough : count ≡ rounds_needed plan custom cut =
+      ap (λ (n : ℕ). 64 * (node_count plan custom cut.records + n + 1)) b_is
+      ∙ ap (λ (k : ℕ). 16 * k * (node_count plan custom cut.records + batch_count (length cut.records) cut.size + 1)) (sym four)
+      in
+      subst (λ (es : List Event). HasRounds plan (rounds_needed plan custom cut) (all_steps plan es)) (sym is)
+      (subst (λ (n : ℕ). HasRounds plan n (all_steps plan (Rounds count ∷ []))) enough (rounds_of_load plan count))
+
+  pub few_ticks : plan.buckets ≡ 3 → ticks_of_schedule plan events < plan.buckets
+  few_ticks three =
+      let none : ticks_of_schedule plan events ≡ 0 =
+      ap (ticks_of_schedule plan) is ∙ no_ticks_of_load plan (64 * (node_count plan custom cut.records + b + 1))
+      in omega arith
+
+-- ---- what it comes to
+
+module _ (custom : Custom) (base : RunUse) (count seed : ℕ) (fates : List Attempt) where
+  pub load_of_work : (plan : Topology) → IsFilePlan load_text plan → (s : Status) (text : List ℕ)
+      → WorkStops (ReplayEndsSo custom plan (records_after count seed) (load_events plan custom (records_after count seed)) base fates) (IsNotBegun base fates ⊎ IsShort custom plan (records_after count seed) base fates) s text
+      → LoadComes custom base count seed fates s text
+  load_of_work plan file status.Memory text (inl idle) = inl idle
+  load_of_work plan file status.Memory text (inr short) = inr (record { plan = plan; is_plan = file; comes = short })
+  load_of_work plan file status.Exhausted text comes = (comes.0, record { plan = plan; is_plan = file; comes = comes.1 })
+  load_of_work plan file status.Unfinished text comes = (comes.0, record { plan = plan; is_plan = file; comes = comes.1 })
+  load_of_work plan file status.StoreFault text comes = record { plan = plan; is_plan = file; comes = comes }
+  load_of_work plan file status.BadCell text comes = (comes.0, record { plan = plan; is_plan = file; comes = comes.1 })
+  load_of_work plan file _ text comes = absurd comes
+
+  work_answers : (shelf : ShelfUse) (sink : SinkUse) (s : Status) (text : List ℕ) → HasText s → LoadComes custom base count seed fates s text → AnswersCall status.Done s ⊎ TakesThePlace shelf sink s
+  work_answers shelf sink status.Done text has comes = inl tt
+  work_answers shelf sink status.Memory text has comes = absurd has
+  work_answers shelf sink status.Exhausted text has comes = inl tt
+  work_answers shelf sink status.Unfinished text has comes = inl tt
+  work_answers shelf sink status.StoreFault text has comes = inl tt
+  work_answers shelf sink status.BadCell text has comes = inl tt
+  work_answers shelf sink _ text has comes = absurd comes
+
+-- ---- a load among the commands
+
+module _ (custom : Custom) (shelf : ShelfUse) (sink : SinkUse) (base : RunUse) (ticks : TicksUse) (fates : List Attempt) (given : Option Command) (count seed : ℕ) (is : given ≡ Some (load count seed)) (still : shelf.fetches_after ≡ shelf.fetches_before) (answer : Status) (ends : Ends (LoadComes custom base count seed fates) sink answer) where
+  pub ends_load : Ends (promise custom shelf sink base ticks fates given).comes sink answer
+  ends_load =
+      subst (λ c. Ends (promise custom shelf sink base ticks fates c).comes sink answer) (sym is)
+      (Ends-weaker (LoadComes custom base count seed fates) (load_promise custom shelf sink base fates count seed).comes sink answer (λ s text comes. (still, comes)) ends)
+
+  pub answered_load : IsAnswered (promise custom shelf sink base ticks fates given).calls shelf sink answer
+  answered_load =
+      subst (λ c. IsAnswered (promise custom shelf sink base ticks fates c).calls shelf sink answer) (sym is)
+      (answered_by_ends (LoadComes custom base count seed fates) LoadCalls shelf sink answer
+      (λ s called text has comes calls. subst (λ c. AnswersCall c s ⊎ TakesThePlace shelf sink s) (sym calls) (work_answers custom base count seed fates shelf sink s text has comes)) ends)
+
+  pub finishes_load : (LoadMustFinish sink base fates → IsDoneOrShort answer) → (promise custom shelf sink base ticks fates given).must_finish → IsDoneOrShort answer
+  finishes_load done = subst (λ c. (promise custom shelf sink base ticks fates c).must_finish → IsDoneOrShort answer) (sym is) done
