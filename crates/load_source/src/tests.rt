@@ -22,6 +22,6 @@ fn two_records_of_the_seed_one(rt: HostRuntime) -> Result<(), Fail> {
 fn the_plan_is_a_word_count(rt: HostRuntime) -> Result<(), Fail> {
     let plan = load_plan(rt.alloc())?;
     assert!(rt; plan.batch() == 100);
-    assert!(rt; plan.components().len() == 2);
+    assert!(rt; plan.components() == 2);
     Ok(())
 }
