@@ -9,7 +9,14 @@ use topology_reader::read_topology;
 
 /// The topology file of `load`: a word count of 100 records a batch.
 const LOAD_TOPOLOGY: &str =
-    "{\"version\":1,\"spout\":{\"name\":\"lines\",\"kind\":\"transactional\",\"fields\":[\"sentence\"],\"batch\":100},\"bolts\":[{\"name\":\"split\",\"tasks\":2,\"op\":{\"do\":\"split\",\"field\":\"sentence\",\"as\":\"word\"},\"inputs\":[{\"from\":\"lines\",\"grouping\":\"shuffle\"}]}],\"states\":[{\"name\":\"counts\",\"kind\":\"transactional\",\"parts\":2,\"key\":[\"word\"],\"fold\":\"count\",\"inputs\":[\"split\"]}],\"ackers\":2,\"pending\":4,\"buckets\":3,\"attempts\":4}";
+    "{\"version\":1,\"spout\":{\"name\":\"lines\",\"kind\":\"transactional\"\
+     ,\"fields\":[\"sentence\"],\"batch\":100}\
+     ,\"bolts\":[{\"name\":\"split\",\"tasks\":2\
+     ,\"op\":{\"do\":\"split\",\"field\":\"sentence\",\"as\":\"word\"}\
+     ,\"inputs\":[{\"from\":\"lines\",\"grouping\":\"shuffle\"}]}]\
+     ,\"states\":[{\"name\":\"counts\",\"kind\":\"transactional\",\"parts\":2\
+     ,\"key\":[\"word\"],\"fold\":\"count\",\"inputs\":[\"split\"]}]\
+     ,\"ackers\":2,\"pending\":4,\"buckets\":3,\"attempts\":4}";
 
 /// The plan of the file. It has no fault, so only want of memory keeps the plan back.
 pub fn load_plan(alloc: Global) -> Result<Plan, Memory>

@@ -156,8 +156,8 @@ impl<C: CellStore> Parts<C> {
 
 impl<C: CellStore + Send> Parts<C> {
     /// Commits a batch as `commit_all` does, with runs of the parts side by side, in so many
-    /// threads at most, of which the caller's is one. With few writes, or no two threads, the parts are
-    /// tried one after another. The answer is by the order of the parts, whichever ends first.
+    /// threads at most, of which the caller's is one. With few writes, or no two threads, the parts
+    /// are tried one after another. The answer is by the order of the parts, whichever ends first.
     pub fn commit_beside<R: Threads + Sync>(
         &mut self,
         rt: &R,

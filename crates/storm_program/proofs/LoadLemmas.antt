@@ -1,5 +1,5 @@
 -- What a load comes to, from what its parts came to.
-use Rattle.std.proofs.Common.{◌≡◌, ◌⊎◌, ◌<◌, ℕ, ◌+◌, ◌*◌, List, [], ◌∷◌, ◌++◌, length, map, flat_map, Option, Some, inl, inr, refl, sym, ap, ◌∙◌, subst, append_assoc, arith}
+use Rattle.std.proofs.Common.{◌≡◌, ◌⊎◌, ◌<◌, ℕ, ◌+◌, ◌*◌, List, [], ◌∷◌, ◌++◌, length, map, flat_map, inl, inr, refl, sym, ap, ◌∙◌, subst, append_assoc, arith}
 use Rattle.std.specs.List.{range_with_len}
 use Rattle.std.proofs.lemmas.List.{append-nil}
 use Rattle.std.proofs.lemmas.List.FromFn.{length-range_with_len}
@@ -7,15 +7,11 @@ use Rattle.load_source.specs.File.{load_text}
 use Rattle.load_source.specs.Records.{records_after}
 use Rattle.storm_program.specs.declared.status.Status.{Status}
 use Rattle.storm_program.specs.declared.status.Status.TheVariants as status
-use Rattle.storm_program.specs.Ends.{AnswersCall, Ends, HasText, IsAnswered, IsDoneOrShort, TakesThePlace}
-use Rattle.storm_program.specs.Load.{LoadCalls, LoadComes, LoadMustFinish, load_events, load_promise}
-use Rattle.storm_program.specs.Outside.{RunUse, ShelfUse, SinkUse, TicksUse}
+use Rattle.storm_program.specs.Load.{LoadComes, load_events}
+use Rattle.storm_program.specs.Outside.{RunUse}
 use Rattle.storm_program.specs.Replay.{ReplayEndsSo, ticks_of_schedule}
 use Rattle.storm_program.specs.Run.{IsNotBegun, IsShort}
-use Rattle.storm_program.specs.Storm.{promise}
-use Rattle.storm_program.specs.Words.{Command, load}
 use Rattle.storm_program.specs.steps.Ended.{WorkStops}
-use Rattle.storm_program.proofs.EndLemmas.{Ends-weaker, answered_by_ends}
 use Rattle.schedule_core.proofs.TicksOfRuns.{ticks-of-rounds}
 use Rattle.event_worlds.specs.attempt_fates.declared.fates.Attempt.{Attempt}
 use Rattle.event_worlds.specs.bolt_ops.RowOp.{Custom}
@@ -121,29 +117,3 @@ module _ (custom : Custom) (base : RunUse) (count seed : ℕ) (fates : List Atte
   load_of_work plan file status.StoreFault text comes = record { plan = plan; is_plan = file; comes = comes }
   load_of_work plan file status.BadCell text comes = (comes.0, record { plan = plan; is_plan = file; comes = comes.1 })
   load_of_work plan file _ text comes = absurd comes
-
-  work_answers : (shelf : ShelfUse) (sink : SinkUse) (s : Status) (text : List ℕ) → HasText s → LoadComes custom base count seed fates s text → AnswersCall status.Done s ⊎ TakesThePlace shelf sink s
-  work_answers shelf sink status.Done text has comes = inl tt
-  work_answers shelf sink status.Memory text has comes = absurd has
-  work_answers shelf sink status.Exhausted text has comes = inl tt
-  work_answers shelf sink status.Unfinished text has comes = inl tt
-  work_answers shelf sink status.StoreFault text has comes = inl tt
-  work_answers shelf sink status.BadCell text has comes = inl tt
-  work_answers shelf sink _ text has comes = absurd comes
-
--- ---- a load among the commands
-
-module _ (custom : Custom) (shelf : ShelfUse) (sink : SinkUse) (base : RunUse) (ticks : TicksUse) (fates : List Attempt) (given : Option Command) (count seed : ℕ) (is : given ≡ Some (load count seed)) (still : shelf.fetches_after ≡ shelf.fetches_before) (answer : Status) (ends : Ends (LoadComes custom base count seed fates) sink answer) where
-  pub ends_load : Ends (promise custom shelf sink base ticks fates given).comes sink answer
-  ends_load =
-      subst (λ c. Ends (promise custom shelf sink base ticks fates c).comes sink answer) (sym is)
-      (Ends-weaker (LoadComes custom base count seed fates) (load_promise custom shelf sink base fates count seed).comes sink answer (λ s text comes. (still, comes)) ends)
-
-  pub answered_load : IsAnswered (promise custom shelf sink base ticks fates given).calls shelf sink answer
-  answered_load =
-      subst (λ c. IsAnswered (promise custom shelf sink base ticks fates c).calls shelf sink answer) (sym is)
-      (answered_by_ends (LoadComes custom base count seed fates) LoadCalls shelf sink answer
-      (λ s called text has comes calls. subst (λ c. AnswersCall c s ⊎ TakesThePlace shelf sink s) (sym calls) (work_answers custom base count seed fates shelf sink s text has comes)) ends)
-
-  pub finishes_load : (LoadMustFinish sink base fates → IsDoneOrShort answer) → (promise custom shelf sink base ticks fates given).must_finish → IsDoneOrShort answer
-  finishes_load done = subst (λ c. (promise custom shelf sink base ticks fates c).must_finish → IsDoneOrShort answer) (sym is) done

@@ -31,7 +31,8 @@ use std::fmt::Write;
 use stored_runs::{RunEnd, replay_over};
 use storm_stores::StoreMaker;
 
-/// Makes so many records of a seed, carries them through the topology of `load`, and makes its line.
+/// Makes so many records of a seed, carries them through the topology of `load`, and makes its
+/// line.
 pub fn load_records_of<M: StoreMaker, N: IdMaker, O: RowOp>(
     alloc: Global,
     count: u32,

@@ -326,8 +326,8 @@ where
     write_answer(came, out)
 }
 
-/// Makes so many records of a seed, carries them through the topology of `load` by rounds enough, and
-/// writes one line with what was counted.
+/// Makes so many records of a seed, carries them through the topology of `load` by rounds enough,
+/// and writes one line with what was counted.
 ///
 /// It runs on one thread and reads no file. Each record is a text of six words, in 100 records a
 /// batch. Time and memory are proportional to the number of records.

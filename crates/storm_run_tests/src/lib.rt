@@ -1,4 +1,5 @@
-//! Tests of runs and loads: their reports, each end of an attempt and of a run, and what is refused.
+//! Tests of runs and loads: their reports, each end of an attempt and of a run, and what is
+//! refused.
 #![tactic(auto)]
 
 #[cfg(test)]
