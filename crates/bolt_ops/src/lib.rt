@@ -3,9 +3,11 @@
 
 mod custom;
 mod operation;
+mod reverse;
+mod stored;
 
-pub use custom::{Reversed, RowOp};
+pub use custom::RowOp;
 pub use operation::{Outcome, exec, output_rows};
+pub use reverse::{Reverse, reversed_row};
+pub use stored::{RowFn, RowLaw, StoredOp};
 
-#[cfg(test)]
-mod tests;

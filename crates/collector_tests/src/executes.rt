@@ -7,7 +7,7 @@ use bolt_task::BoltTask;
 use std::alloc::Global;
 use storm_ids::ScriptSource;
 use test_kit::Mismatch;
-use tree_model::bolt_ops::Reversed;
+use sample_operations::Backwards;
 use tree_model::storm_values::{Path, Root};
 use tree_model::topology_plan::{Origin, Plan};
 use tree_model::{AckMsg, Done, Draw, Edge, FailNote, Parcel, Parcels, Tuple, Write};
@@ -92,7 +92,7 @@ fn execute_in(
         component,
         row: row_of(alloc, LINE, plan.spout_fields())?,
     };
-    Ok(bolt.execute(tuple, &Reversed, left_behind(alloc)?)?)
+    Ok(bolt.execute(tuple, &Backwards, left_behind(alloc)?)?)
 }
 
 // What comes of a tuple at a task whose source of ids has these words.

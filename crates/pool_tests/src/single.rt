@@ -14,7 +14,7 @@ use crate::team::{
 };
 use crate::verdicts::Verdicts;
 use box_rows::{Boxes, Mail, Posts, Row, send_at, split_row, take_at};
-use event_worlds::bolt_ops::Reversed;
+use sample_operations::Backwards;
 use pulse_board::Board;
 use std::alloc::Global;
 use std::sync::Wait;
@@ -43,7 +43,7 @@ fn task_steps<'p, R: Wait>(
     let mut at_work = desk;
     let mut spares = Spares::new(alloc);
     for count in 0..1000 {
-        let did = at_work.step(rt, posts, row, &mut spares, &Reversed, &OpenGate {})?;
+        let did = at_work.step(rt, posts, row, &mut spares, &Backwards, &OpenGate {})?;
         if !did {
             return Ok(count);
         }
@@ -96,7 +96,7 @@ fn rounds_of<'p, R: Wait>(
 {
     let mut at_work = worker;
     for count in 0..1000 {
-        let did = at_work.round(rt, posts, board, &Reversed, &OpenGate {})?;
+        let did = at_work.round(rt, posts, board, &Backwards, &OpenGate {})?;
         if !did {
             return Ok(count);
         }

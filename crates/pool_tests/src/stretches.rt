@@ -14,7 +14,7 @@ use crate::rounds::send_firsts;
 use crate::team::{Hiring, TestWorker, hire, last_worker, stretch, with_row};
 use crate::verdicts::Verdicts;
 use box_rows::{Boxes, Posts, Row, send_fit, split_row, take_at, take_fit};
-use event_worlds::bolt_ops::Reversed;
+use sample_operations::Backwards;
 use event_worlds::storm_values::Path;
 use pulse_board::Board;
 use std::alloc::Global;
@@ -38,7 +38,7 @@ fn one_stretch<'p, R: Wait>(
 )
     requires { IsReady posts.now.plan.now posts.now.boxes.items board.now worker }
 {
-    worker.stretch(rt, posts, board, &Reversed, gate);
+    worker.stretch(rt, posts, board, &Backwards, gate);
 }
 
 // A worker makes a halt as soon as an execution of another one has come, which goes on only then.

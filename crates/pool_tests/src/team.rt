@@ -15,7 +15,7 @@ ghost use Rattle.worker_pool.specs.Workers.{IsReady};
 use crate::plans::wrong;
 use box_rows::{Posts, Row, join_rows, look_row, split_rows};
 use event_worlds::acker_core::Acker;
-use event_worlds::bolt_ops::Reversed;
+use sample_operations::Backwards;
 use event_worlds::bolt_task::BoltTask;
 use event_worlds::storm_ids::{ChaChaIds, ChaChaMaker, IdMaker};
 use event_worlds::storm_values::Memory;
@@ -359,7 +359,7 @@ fn stretched<'p, R: Threads + Wait + Sync, G: Gate>(
         board,
         team.as_mut_slice(),
         threads,
-        &Reversed,
+        &Backwards,
         gate,
     );
     team

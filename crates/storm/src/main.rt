@@ -14,7 +14,7 @@ ghost use Rattle.storm_program.specs.stored_runs.Makers.{maker_use};
 mod arguments;
 
 use crate::arguments::words;
-use bolt_ops::Reversed;
+use bolt_ops::{Reverse, StoredOp, reversed_row};
 use std::alloc::Global;
 use std::process::ExitCode;
 use std::sync::Wait;
@@ -25,6 +25,7 @@ use storm_outside::{FileShelf, OutSink, Shelf, Sink};
 use storm_program::{Fates, Status, storm};
 use storm_stores::{MemMaker, StoreMaker};
 use storm_ticks::{ClockTicks, Ticks};
+use storm_values::Row;
 
 /// In bytes. The C library's allocator learns from pieces of up to 32 MiB.
 const LARGE: usize = 24 << 20;
@@ -53,9 +54,10 @@ where
         (ticks_use T.handed_out T.tells ticks.old ticks.new) result }
 {
     let mut fates = Fates::new(alloc);
+    let turn = StoredOp::<Reverse, _>::new(|alloc: Global, row: &Row| reversed_row(alloc, row));
     let gate = OpenGate {};
     let status = storm(
-        rt, alloc, words, shelf, out, ticks, stores, ids, &Reversed, &gate, &mut fates,
+        rt, alloc, words, shelf, out, ticks, stores, ids, &turn, &gate, &mut fates,
     );
     status.code()
 }

@@ -8,7 +8,7 @@
 
 ghost use Rattle.std.specs.Prelude.{[]};
 
-use bolt_ops::Reversed;
+use sample_operations::Backwards;
 use std::alloc::Global;
 use std::process::ExitCode;
 use std::sync::Wait;
@@ -185,7 +185,7 @@ where
         &mut ticks,
         &mut stores,
         ids,
-        &Reversed,
+        &Backwards,
         &OpenGate {},
         &mut fates,
     );

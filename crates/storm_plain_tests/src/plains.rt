@@ -1,5 +1,5 @@
 // What `plain` answers and writes.
-use bolt_ops::Reversed;
+use sample_operations::Backwards;
 use sample_topologies::{
     COPIES_TO_ALL, LAST_VALUE, PAIRS, SENTENCES, TABLES_OF_SENTENCES, TURNED, WORD_COUNT, one_bolt,
 };
@@ -132,7 +132,7 @@ fn a_plain_without_words(rt: HostRuntime) -> Result<(), Mismatch> {
     let alloc = rt.alloc();
     let mut shelf = shelf(alloc, plain_of(TURNED, "[7,\"x\"]\n[8,\"x\"]"), CALM)?;
     let mut sink = sink(alloc, CALM)?;
-    let status = storm_plain(alloc, "t", "i", &mut shelf, &mut sink, &Reversed);
+    let status = storm_plain(alloc, "t", "i", &mut shelf, &mut sink, &Backwards);
     assert!(rt; status == Status::Done);
     let text = taken(alloc, &sink)?;
     let want = "cell last [\"x\"] 8\nok 2 records 2 batches\n";

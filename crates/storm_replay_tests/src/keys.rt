@@ -2,7 +2,7 @@
 ghost use Rattle.std.specs.Prelude.{◌≡◌, IfOk};
 ghost use Rattle.event_worlds.specs.Accounted.{IsInput};
 
-use bolt_ops::Reversed;
+use sample_operations::Backwards;
 use sample_topologies::STEADY;
 use schedule_core::read_schedule;
 use std::alloc::Global;
@@ -53,7 +53,7 @@ fn end_over(alloc: Global, plan: &Plan, cell: Cell) -> Result<RunEnd, Mismatch> 
         &events,
         &mut ids,
         &mut stores,
-        &Reversed,
+        &Backwards,
         &mut fates,
     );
     Ok(ended?)

@@ -1,5 +1,5 @@
 // Reports of given schedules where nothing outside fails.
-use bolt_ops::Reversed;
+use sample_operations::Backwards;
 use sample_topologies::{
     COPIES_TO_ALL, COUNTED_SENTENCES, FAILS_ALWAYS, FAILS_TWICE, LAST_VALUE, MUTE_ALWAYS,
     MUTE_ONCE, SENTENCES, SIDE_BY_SIDE, SMALL_WORD_COUNT, STEADY, TURNED, WORD_COUNT,
@@ -398,7 +398,7 @@ fn a_replay_without_words(rt: HostRuntime) -> Result<(), Mismatch> {
         &mut sink,
         &mut stores,
         &mut ChaChaMaker { key: [0; 32] },
-        &Reversed,
+        &Backwards,
         &mut fates,
     );
     assert!(rt; status == Status::Done);

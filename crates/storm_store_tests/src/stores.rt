@@ -1,6 +1,6 @@
 // Runs over stores with calls that fail, and with cells. The state is the component 1, and has one
 // part.
-use bolt_ops::Reversed;
+use sample_operations::Backwards;
 use sample_topologies::{STEADY, one_bolt};
 use storm_gates::OpenGate;
 use storm_ids::ChaChaMaker;
@@ -201,7 +201,7 @@ fn a_store_comes_back_with_its_cell(rt: HostRuntime) -> Result<(), Mismatch> {
         &mut ticks,
         &mut stores,
         &mut ChaChaMaker { key: [0; 32] },
-        &Reversed,
+        &Backwards,
         &OpenGate {},
         &mut fates,
     );

@@ -1,5 +1,5 @@
 // A larger run beside the plain tables of the same records.
-use bolt_ops::Reversed;
+use sample_operations::Backwards;
 use sample_topologies::WORD_COUNT;
 use std::alloc::Global;
 use std::fmt::Write;
@@ -35,7 +35,7 @@ fn sentences(alloc: Global) -> Result<String, Memory> {
 fn tables(alloc: Global, topology: &str, input: &str) -> Result<Tables, Fail> {
     let plan = read_topology(alloc, topology.as_bytes())?;
     let rows = read_input(alloc, input.as_bytes(), plan.spout_fields())?;
-    Ok(plain_tables(alloc, &plan, &rows, &Reversed)?)
+    Ok(plain_tables(alloc, &plan, &rows, &Backwards)?)
 }
 
 fn report(alloc: Global, tables: &[Table]) -> Result<String, Memory> {
@@ -85,7 +85,7 @@ fn the_tables_of_three_hundred_lines(rt: HostRuntime) -> Result<(), Fail> {
         &mut ticks,
         &mut stores,
         &mut ids,
-        &Reversed,
+        &Backwards,
         &OpenGate {},
         &mut fates,
     );

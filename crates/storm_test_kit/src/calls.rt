@@ -1,7 +1,7 @@
 // Calls of `storm` over what is outside in memory.
 use crate::outside::{Outside, scripted_ids, scripted_ticks, shelf, sink, stores, taken};
 use crate::scenes::{Scene, owned};
-use bolt_ops::Reversed;
+use sample_operations::Backwards;
 use std::alloc::Global;
 use std::sync::Wait;
 use std::thread::Threads;
@@ -88,7 +88,7 @@ where
         &mut ticks,
         &mut stores,
         ids,
-        &Reversed,
+        &Backwards,
         gate,
         &mut fates,
     );

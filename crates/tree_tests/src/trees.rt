@@ -1,7 +1,7 @@
 // What the tuple trees of a word count write, and the tables by definition.
 use std::test::Fail;
 use topology_reader::read_topology;
-use tree_model::bolt_ops::Reversed;
+use sample_operations::Backwards;
 use tree_model::storm_values::read_input;
 use tree_model::{count_nodes, plain_tables, writes_of};
 
@@ -15,7 +15,7 @@ fn writes_words_in_path_order(rt: HostRuntime) -> Result<(), Fail> {
     let plan = read_topology(alloc, WORD_COUNT.as_bytes())?;
     let input = b"[\"the cat\"]\n[\"the dog the\"]\n";
     let rows = read_input(alloc, input, plan.spout_fields())?;
-    let writes = writes_of(alloc, &plan, rows.as_slice(), &Reversed)?;
+    let writes = writes_of(alloc, &plan, rows.as_slice(), &Backwards)?;
     let expected = [
         ("[\"the\"]", 0),
         ("[\"cat\"]", 1),
@@ -38,7 +38,7 @@ fn counts_nodes(rt: HostRuntime) -> Result<(), Fail> {
     let alloc = rt.alloc();
     let plan = read_topology(alloc, WORD_COUNT.as_bytes())?;
     let rows = read_input(alloc, THREE, plan.spout_fields())?;
-    assert!(rt; count_nodes(alloc, &plan, &rows, &Reversed)? == 8);
+    assert!(rt; count_nodes(alloc, &plan, &rows, &Backwards)? == 8);
     Ok(())
 }
 
@@ -47,7 +47,7 @@ fn counts_words(rt: HostRuntime) -> Result<(), Fail> {
     let alloc = rt.alloc();
     let plan = read_topology(alloc, WORD_COUNT.as_bytes())?;
     let rows = read_input(alloc, THREE, plan.spout_fields())?;
-    let tables = plain_tables(alloc, &plan, &rows, &Reversed)?;
+    let tables = plain_tables(alloc, &plan, &rows, &Backwards)?;
     assert!(rt; tables.len() == 1);
     let table = tables.at(0);
     assert!(rt; table.name.as_str() == "counts");

@@ -2,7 +2,8 @@ ghost use Rattle.std.specs.Prelude.{◌≡◌, ◌≤◌, length, IfOk};
 ghost use Rattle.storm_values.specs.Rows.{IsRow};
 ghost use Rattle.topology_plan.specs.Wired.{IsWithin};
 
-use crate::{Outcome, Reversed, RowOp, exec, output_rows};
+use bolt_ops::{Outcome, RowOp, exec, output_rows};
+use sample_operations::Backwards;
 use std::alloc::Global;
 use std::test::Fail;
 use storm_values::{Indexes, Memory, Row, Rows, Txt, Value};
@@ -48,7 +49,7 @@ fn splits_into_words(rt: HostRuntime) -> Result<(), Fail> {
     let alloc = rt.alloc();
     for (given, expected) in [("", ""), ("the cow  jumped ", "the,;cow,;jumped,;")] {
         let row = row_of(alloc, given)?;
-        let rows = output_rows(alloc, &Op::Split { field: 1 }, &row, &Reversed)?;
+        let rows = output_rows(alloc, &Op::Split { field: 1 }, &row, &Backwards)?;
         assert_eq!(rt; shown(alloc, &rows)?.as_str(), expected);
     }
     Ok(())
@@ -58,7 +59,7 @@ fn splits_into_words(rt: HostRuntime) -> Result<(), Fail> {
 fn made(alloc: Global, op: &Op) -> Result<String, Memory>
     requires { IsWithin op.now 2 }
 {
-    let rows = output_rows(alloc, op, &row_of(alloc, "cow")?, &Reversed)?;
+    let rows = output_rows(alloc, op, &row_of(alloc, "cow")?, &Backwards)?;
     shown(alloc, &rows)
 }
 
@@ -121,17 +122,17 @@ fn fails_below(rt: HostRuntime) -> Result<(), Fail> {
     let row = row_of(alloc, "cow")?;
     let flaky = Op::Flaky { below: 3 };
     let mute = Op::Mute { below: 3 };
-    assert!(rt; matches!(exec(alloc, &flaky, &row, 2, &Reversed)?, Outcome::Fail));
-    assert!(rt; matches!(exec(alloc, &flaky, &row, 3, &Reversed)?, Outcome::Rows(_)));
-    assert!(rt; matches!(exec(alloc, &mute, &row, 2, &Reversed)?, Outcome::Mute));
-    assert!(rt; matches!(exec(alloc, &mute, &row, 3, &Reversed)?, Outcome::Rows(_)));
+    assert!(rt; matches!(exec(alloc, &flaky, &row, 2, &Backwards)?, Outcome::Fail));
+    assert!(rt; matches!(exec(alloc, &flaky, &row, 3, &Backwards)?, Outcome::Rows(_)));
+    assert!(rt; matches!(exec(alloc, &mute, &row, 2, &Backwards)?, Outcome::Mute));
+    assert!(rt; matches!(exec(alloc, &mute, &row, 3, &Backwards)?, Outcome::Rows(_)));
     Ok(())
 }
 
 #[test]
 fn reverses(rt: HostRuntime) -> Result<(), Fail> {
     let alloc = rt.alloc();
-    let rows = Reversed.rows(alloc, &row_of(alloc, "cow")?)?;
+    let rows = Backwards.rows(alloc, &row_of(alloc, "cow")?)?;
     assert_eq!(rt; shown(alloc, &rows)?.as_str(), "cow,7,;");
     Ok(())
 }

@@ -1,0 +1,7 @@
+//! Tests of what operations make of a row: those of the table, and stored closures.
+#![tactic(auto)]
+
+#[cfg(test)]
+mod stored;
+#[cfg(test)]
+mod table;
