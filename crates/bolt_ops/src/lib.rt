@@ -10,4 +10,3 @@ pub use custom::RowOp;
 pub use operation::{Outcome, exec, output_rows};
 pub use reverse::{Reverse, reversed_row};
 pub use stored::{RowFn, RowLaw, StoredOp};
-

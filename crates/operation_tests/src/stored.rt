@@ -1,8 +1,9 @@
 ghost use Rattle.std.specs.Prelude.{◌≡◌, ◌∷◌, [], All, IfOk, reverse, replicate};
 ghost use Rattle.storm_values.specs.Rows.{IsShort};
+ghost use Rattle.bolt_ops.specs.Stored.{Keeps};
 ghost use Rattle.bolt_ops.specs.declared.operation.Outcome.{Outcome};
 
-use bolt_ops::{Outcome, Reverse, StoredOp, exec, reversed_row};
+use bolt_ops::{Outcome, Reverse, RowFn, RowLaw, StoredOp, exec, reversed_row};
 use sample_operations::{Nothing, Sixteen, copies};
 use std::alloc::Global;
 use std::test::Fail;
@@ -18,38 +19,49 @@ fn pair(alloc: Global) -> Result<Row, Memory>
     Ok(row)
 }
 
-fn sixteen(alloc: Global, row: &Row) -> Result<Outcome, Memory>
-    requires { All IsShort row.now }
-    ensures { IfOk result (λ outcome. outcome ≡ Outcome.Rows (replicate 16 row.now)) }
+/// What a bolt of the operation `custom` makes by a closure that is stored with its law.
+fn made_by<L: RowLaw + Sync, F: RowFn + Sync + Drop>(
+    alloc: Global,
+    row: &Row,
+    make: F,
+) -> Result<Outcome, Memory>
+    requires short { All IsShort row.now }
+    requires keeps { Keeps L.law (F.may_make make) (F.makes make) }
+    ensures { IfOk result (λ outcome. outcome ≡ Outcome.Rows (L.law.rows row.now)) }
 {
-    let op = StoredOp::<Sixteen, _>::new(|alloc: Global, row: &Row| copies(alloc, row, 16));
+    let op = StoredOp::<L, F>::new(make);
     exec(alloc, &Op::Custom, row, 1, &op)
 }
 
-// What a closure makes that has caught a number.
-fn so_many(alloc: Global, row: &Row, count: usize) -> Result<Outcome, Memory>
+// The closure catches a number.
+fn sixteen(alloc: Global, row: &Row, count: usize) -> Result<Outcome, Memory>
     requires same { count ≡ 16 }
     requires short { All IsShort row.now }
     ensures { IfOk result (λ outcome. outcome ≡ Outcome.Rows (replicate 16 row.now)) }
 {
-    let op = StoredOp::<Sixteen, _>::new(|alloc: Global, row: &Row| copies(alloc, row, count));
-    exec(alloc, &Op::Custom, row, 1, &op)
+    made_by::<Sixteen, _>(
+        alloc,
+        row,
+        |alloc: Global, row: &Row| copies(alloc, row, count),
+    )
 }
 
 fn none(alloc: Global, row: &Row) -> Result<Outcome, Memory>
     requires { All IsShort row.now }
     ensures { IfOk result (λ outcome. outcome ≡ Outcome.Rows []) }
 {
-    let op = StoredOp::<Nothing, _>::new(|alloc: Global, _: &Row| Ok(Rows::new(alloc)));
-    exec(alloc, &Op::Custom, row, 1, &op)
+    made_by::<Nothing, _>(alloc, row, |alloc: Global, _: &Row| Ok(Rows::new(alloc)))
 }
 
 fn turned(alloc: Global, row: &Row) -> Result<Outcome, Memory>
     requires { All IsShort row.now }
     ensures { IfOk result (λ outcome. outcome ≡ Outcome.Rows (reverse row.now ∷ [])) }
 {
-    let op = StoredOp::<Reverse, _>::new(|alloc: Global, row: &Row| reversed_row(alloc, row));
-    exec(alloc, &Op::Custom, row, 1, &op)
+    made_by::<Reverse, _>(
+        alloc,
+        row,
+        |alloc: Global, row: &Row| reversed_row(alloc, row),
+    )
 }
 
 /// The integers of the rows, row by row.
@@ -71,14 +83,12 @@ fn integers(alloc: Global, outcome: &Outcome) -> Result<Vec<i64>, Memory> {
 fn stored_closures_answer_their_laws(rt: HostRuntime) -> Result<(), Fail> {
     let alloc = rt.alloc();
     let row = pair(alloc)?;
-    assert!(rt; integers(alloc, &turned(alloc, &row)?)?.as_slice() == [8, 7]);
+    assert!(rt; integers(alloc, &turned(alloc, &row)?)?.as_slice() == [8, 7].as_slice());
     assert!(rt; matches!(none(alloc, &row)?, Outcome::Rows(rows) if rows.len() == 0));
-    for outcome in [sixteen(alloc, &row)?, so_many(alloc, &row, 16)?] {
-        let found = integers(alloc, &outcome)?;
-        assert_eq!(rt; found.len(), 32);
-        for (k, number) in found.iter().enumerate() {
-            assert!(rt; *number == if k % 2 == 0 { 7 } else { 8 });
-        }
+    let found = integers(alloc, &sixteen(alloc, &row, 16)?)?;
+    assert_eq!(rt; found.len(), 32);
+    for (k, number) in found.iter().enumerate() {
+        assert!(rt; *number == if k % 2 == 0 { 7 } else { 8 });
     }
     Ok(())
 }

@@ -7,6 +7,7 @@
 
 ghost use Rattle.std.specs.Prelude.{◌≡◌, map, replicate, string_bytes};
 ghost use Rattle.bolt_ops.specs.RowOp.{reversed};
+ghost use Rattle.bolt_ops.specs.Stored.{Keeps};
 ghost use Rattle.storm_program.specs.Outside.{run_use, shelf_use, sink_use, ticks_use};
 ghost use Rattle.storm_program.specs.Storm.{Exits};
 ghost use Rattle.storm_program.specs.stored_runs.Makers.{maker_use};
@@ -14,7 +15,7 @@ ghost use Rattle.storm_program.specs.stored_runs.Makers.{maker_use};
 mod arguments;
 
 use crate::arguments::words;
-use bolt_ops::{Reverse, StoredOp, reversed_row};
+use bolt_ops::{Reverse, RowFn, StoredOp, reversed_row};
 use std::alloc::Global;
 use std::process::ExitCode;
 use std::sync::Wait;
@@ -53,11 +54,47 @@ where
         (N.tells ids.old))
         (ticks_use T.handed_out T.tells ticks.old ticks.new) result }
 {
+    let turn = |alloc: Global, row: &Row| reversed_row(alloc, row);
+    status_over(rt, alloc, words, shelf, out, ticks, stores, ids, turn)
+}
+
+// As `exit_status`, by a closure for `custom` bolts.
+fn status_over<
+    R: Threads + Wait + Sync,
+    H: Shelf,
+    K: Sink,
+    T: Ticks,
+    M: StoreMaker,
+    N: IdMaker,
+    F: RowFn + Sync + Drop,
+>(
+    rt: &R,
+    alloc: Global,
+    words: &[String],
+    shelf: &mut H,
+    out: &mut K,
+    ticks: &mut T,
+    stores: &mut M,
+    ids: &mut N,
+    turn: F,
+) -> u8
+where
+    N::I: Send,
+    M::C: Send,
+    requires { Keeps reversed (F.may_make turn) (F.makes turn) }
+    ensures { Exits reversed (map string_bytes words.now)
+        (shelf_use H.holds H.ready H.fetches H.faults shelf.old shelf.new)
+        (sink_use K.taken K.faults out.old out.new)
+        (run_use (maker_use M.C.tells M.C.fault_count M.holds M.has_made M.fault_count
+        stores.old stores.new)
+        (N.tells ids.old))
+        (ticks_use T.handed_out T.tells ticks.old ticks.new) result }
+{
     let mut fates = Fates::new(alloc);
-    let turn = StoredOp::<Reverse, _>::new(|alloc: Global, row: &Row| reversed_row(alloc, row));
+    let op = StoredOp::<Reverse, F>::new(turn);
     let gate = OpenGate {};
     let status = storm(
-        rt, alloc, words, shelf, out, ticks, stores, ids, &turn, &gate, &mut fates,
+        rt, alloc, words, shelf, out, ticks, stores, ids, &op, &gate, &mut fates,
     );
     status.code()
 }
