@@ -14,8 +14,8 @@ use crate::team::{
 };
 use crate::verdicts::Verdicts;
 use box_rows::{Boxes, Mail, Posts, Row, send_at, split_row, take_at};
-use sample_operations::Backwards;
 use pulse_board::Board;
+use sample_operations::Backwards;
 use std::alloc::Global;
 use std::sync::Wait;
 use storm_gates::OpenGate;
