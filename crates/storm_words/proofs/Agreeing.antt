@@ -19,6 +19,7 @@ use Rattle.storm_words.specs.steps.Parser.{storm_app}
 use Rattle.storm_words.proofs.Walks.{ending, strays}
 use Rattle.storm_words.proofs.Verbs.{Agrees, accepted, app, check_agrees, is_none, load_agrees, plain_agrees, refused, replay_agrees, run_agrees}
 
+-- texts that differ do so either way round
 turned : (x y : Text) → bytes_eq x y ≡ false → bytes_eq y x ≡ false
 turned x y apart = elim (cases_Bool (bytes_eq y x)) [
   | inl same ↦ absurd (true≢false (sym ((bytes_eq-Decides x y).1 (sym ((bytes_eq-Decides y x).0 same))) ∙ apart))
@@ -33,6 +34,7 @@ record IsOther (verb : Text) : Type 0 where
   pub run : bytes_eq verb (codes "run") ≡ false
   pub load : bytes_eq verb (codes "load") ≡ false
 
+-- so no subcommand answers to it, and it begins no command
 found_none : (verb : Text) → IsOther verb → find (answers_to verb) (names_of app) ≡ None
 found_none verb o =
     let c = turned verb (codes "check") o.check in
@@ -49,6 +51,7 @@ none_of verb (a ∷ b ∷ []) o = let p = o.plain in let r = o.run in let l = o.
 none_of verb (a ∷ b ∷ c ∷ []) o = let p = o.replay in let r = o.run in rw (p, r) refl
 none_of verb (a ∷ b ∷ c ∷ d ∷ rest) o = refl
 
+-- its parse has a fault there
 other_agrees : (verb : Text) (rest : List Text) → is_word verb ≡ true → IsOther verb → Agrees (verb ∷ rest)
 unfolding defaults_fault
 other_agrees verb rest g o =
@@ -60,6 +63,7 @@ no_words : Agrees []
 unfolding walk_fault defaults_fault
 no_words = accepted [] refl refl
 
+-- the word is that name
 named : (verb name : Text) (rest : List Text) → bytes_eq verb name ≡ true → Agrees (name ∷ rest) → Agrees (verb ∷ rest)
 named verb name rest same = subst (λ (v : Text). Agrees (v ∷ rest)) (sym ((bytes_eq-Decides verb name).0 same))
 

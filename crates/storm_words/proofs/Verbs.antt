@@ -17,11 +17,12 @@ abbrev pub is_none : Kinds → Bool
 is_none [] = true
 is_none (k ∷ ks) = false
 
--- words and what they are to come to
+-- words whose parse has no fault exactly where they are a command, and reads that one
 pub record Agrees (words : List Text) : Type 0 where
   pub taken : fault_of storm_app words ≡ [] → read_of (subcommand_of storm_app words) ≡ command_of words
   pub given : (k : Command) → command_of words ≡ Some k → fault_of storm_app words ≡ []
 
+-- words that are no command, and whose parse has a fault
 pub refused : (words : List Text) → is_none (fault_of storm_app words) ≡ false → command_of words ≡ None → Agrees words
 refused words bad none =
     record {
@@ -29,6 +30,7 @@ refused words bad none =
       given = λ k h. absurd (none-some k (sym none ∙ h));
     }
 
+-- words whose parse has no fault, and reads what they are
 pub accepted : (words : List Text) → fault_of storm_app words ≡ [] → read_of (subcommand_of storm_app words) ≡ command_of words → Agrees words
 accepted words fine reads = record { taken = λ _. reads; given = λ k h. fine }
 
@@ -45,6 +47,7 @@ abbrev Enters : Shape → Text → Type 0
 Enters s name = (rest : List Text) → (fault_of storm_app (name ∷ rest) ≡ or_else (level_fault s [] nothing_held rest false []) [])
     × (subcommand_of storm_app (name ∷ rest) ≡ Some (rows_at s rest))
 
+-- as many words after a subcommand's name as it takes
 good : (s : Shape) (name : Text) (rest : List Text) → Enters s name → (w : Walk) → walk s.rules [] nothing_held rest ≡ w → walk_fault s [] start rest ≡ [] → leaf_ending s w [] ≡ []
     → read_of (Some (s.name, finished s.rules w.held)) ≡ command_of (name ∷ rest) → Agrees (name ∷ rest)
 good s name rest enter w ended fine done reads =
@@ -53,12 +56,14 @@ good s name rest enter w ended fine done reads =
     accepted (name ∷ rest) (e.0 ∙ ap (λ (f : Kinds). or_else f []) fault)
     (ap read_of (e.1 ∙ ap (λ (v : Walk). Some (s.name, finished s.rules v.held)) ended) ∙ reads)
 
+-- too few of them: the fault comes at the end
 short : (s : Shape) (name : Text) (rest : List Text) → Enters s name → (w : Walk) → walk s.rules [] nothing_held rest ≡ w → walk_fault s [] start rest ≡ []
     → is_none (or_else (leaf_ending s w []) []) ≡ false → command_of (name ∷ rest) ≡ None → Agrees (name ∷ rest)
 short s name rest enter w ended fine bad none =
     let fault : level_fault s [] nothing_held rest false [] ≡ leaf_ending s w [] = ap₂ (leaf_ending s) ended fine in
     refused (name ∷ rest) (ap is_none ((enter rest).0 ∙ ap (λ (f : Kinds). or_else f []) fault) ∙ bad) none
 
+-- too many of them: the fault comes at the first that has no place
 long : (s : Shape) (name : Text) (rest : List Text) → Enters s name → (k : _) (ks : Kinds) → walk_fault s [] start rest ≡ k ∷ ks → command_of (name ∷ rest) ≡ None → Agrees (name ∷ rest)
 long s name rest enter k ks bad none =
     refused (name ∷ rest) (ap is_none ((enter rest).0 ∙ ap (λ (f : Kinds). or_else (leaf_ending s (walk s.rules [] nothing_held rest) f) []) bad)) none

@@ -12,17 +12,18 @@ use Rattle.storm_words.specs.Words.{is_word}
 
 -- ---- a plain word at a command with no subcommand
 
-other : (b : Bool) → not b ≡ true → b ≡ false
-other true g = sym g
-other false g = refl
+off : (b : Bool) → not b ≡ true → b ≡ false
+off true g = sym g
+off false g = refl
 
+-- it is a value, and no fault
 met : (c : List Rule) (p : ℕ) (h : Held) (w : Text) → is_word w ≡ true → word_met c [] false idle p w h ≡ (h, value)
 met c p h [] g = absurd (false≢true g)
-met c p h (b ∷ bs) g = let no : (b == 45) ≡ false = other (b == 45) g in rw (no, no) refl
+met c p h (b ∷ bs) g = let no : (b == 45) ≡ false = off (b == 45) g in rw (no, no) refl
 
 no_fault : (s : Shape) (h : Held) (w : Text) → is_word w ≡ true → word_fault s [] false idle w h ≡ []
 no_fault s h [] g = absurd (false≢true g)
-no_fault s h (b ∷ bs) g = let no : (b == 45) ≡ false = other (b == 45) g in rw (no, no) refl
+no_fault s h (b ∷ bs) g = let no : (b == 45) ≡ false = off (b == 45) g in rw (no, no) refl
 
 -- a walk that stands before a positional
 abbrev pub before : Held → ℕ → Walk
@@ -31,6 +32,7 @@ before h p = record { held = h; waiting = idle; position = p; is_trailing = fals
 abbrev pub moved : List Rule → ℕ → Text → Held → Walk
 moved c p word h = to_positional c (arg_by_index c p) word (before h p) h
 
+-- so the walk goes on to the next word
 pub step : (c : List Rule) (h : Held) (p : ℕ) (word : Text) (rest : List Text) → is_word word ≡ true
     → fold (walked c []) (before h p) (word ∷ rest) ≡ fold (walked c []) (moved c p word h) rest
 unfolding walked
@@ -55,6 +57,7 @@ stopped_at h p name words = record {
   stopped = Some (name, words);
 }
 
+-- a walk that has stopped takes all other words, without a fault
 stays_stopped : (c : List Rule) (names : Names) (h : Held) (p : ℕ) (name : Text) (front words : List Text)
     → fold (walked c names) (stopped_at h p name front) words ≡ stopped_at h p name (front ++ words)
 unfolding walked
@@ -173,6 +176,7 @@ leaf_ending s w faults =
 
 -- ---- a plain word that names no subcommand
 
+-- it is a value there too, and no fault
 met_above : (c : List Rule) (names : Names) (p : ℕ) (h : Held) (w : Text) → is_word w ≡ true → find (answers_to w) names ≡ None
     → word_met c names false idle p w h ≡ (h, value)
 met_above c names p h w g none =
@@ -183,6 +187,7 @@ no_fault_above : (s : Shape) (names : Names) (h : Held) (w : Text) → is_word w
 no_fault_above s names h w g none =
     ap (λ (f : Option (Text × List Text)). other_fault s (option_map (λ s. s.0) f) w h) none ∙ no_fault s h w g
 
+-- so a fault comes of it only where there is no place for a value
 pub strays : (s : Shape) (names : Names) (w : Text) (rest : List Text) → is_word w ≡ true → find (answers_to w) names ≡ None
     → walk_fault s names start (w ∷ rest) ≡ or_else (step_fault s 1 nothing_held value) (walk_fault s names (moved s.rules 1 w nothing_held) rest)
 unfolding walked walk_fault

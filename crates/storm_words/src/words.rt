@@ -52,8 +52,7 @@ pub enum Command<'a> {
 
 /// The command of some words, or none.
 ///
-/// It makes a parser anew, which costs some dozens of allocations, and time proportional to the
-/// words.
+/// A parser is made anew for each call. Time is proportional to the words.
 pub fn read_words(alloc: Global, words: &[String]) -> Result<Option<Command<'_>>, Memory>
     ensures command { IfOk result
         (λ found. option_map command_of_words found ≡ command (map string_bytes words.now)) }
