@@ -1,17 +1,17 @@
-// A part over a store with given cells, of which a call may fail: what it commits, and the cells
-// that this is to make.
+//! A part over a store with given cells, of which a call may fail: what it commits, and the cells
+//! that this is to make.
 use cell_format::{Cell, encode_cell};
 use state_cells::{GroupedWrites, Part, PartFault};
 use std::alloc::Global;
-use storm_stores::{CellStore, FailAt, MemStore, StoreFault};
+use storm_stores::{CallKind, CellStore, FailAt, MemStore, StoreFault};
 use tree_model::storm_values::{Bytes, Memory, Txt};
 use tree_model::topology_plan::{Fold, Kind};
 use tree_model::{Write, Writes};
 
-// A key with the transaction, the value and the value before of its cell.
+/// A key with the transaction, the value and the value before of its cell.
 pub type Line = (&'static [u8], u64, Option<i128>, Option<i128>);
 
-// A commit of a transaction with these writes, and how it ends.
+/// A commit of a transaction with these writes, and how it ends.
 pub type Step = (u64, &'static [(&'static str, i64)], End);
 
 #[derive(Clone, Copy, PartialEq, Eq)]
@@ -30,16 +30,18 @@ pub struct Scene {
     pub want: &'static [Line],
 }
 
-// Why a test fails.
+/// Why a test fails.
 #[derive(Debug, Drop)]
 pub enum Trouble {
     Part(PartFault),
-    // The commit of this transaction came to another end.
+    /// The commit of this transaction came to another end.
     Commit(u64),
     Faults(u64),
-    // The key has another cell.
+    /// The key has another cell.
     Cell(&'static [u8]),
     Count(u64),
+    /// The table has other rows, or another fault.
+    Rows,
 }
 
 impl From<PartFault> for Trouble {
@@ -60,7 +62,7 @@ impl From<Memory> for Trouble {
     }
 }
 
-pub fn bytes(alloc: Global, text: &[u8]) -> Result<Bytes, Memory> {
+fn bytes(alloc: Global, text: &[u8]) -> Result<Bytes, Memory> {
     Ok(Bytes::from_vec(text.to_vec(alloc)?))
 }
 
@@ -105,7 +107,7 @@ pub fn writes_of(alloc: Global, list: &[(&str, i64)]) -> Result<Writes, Memory> 
     Ok(writes)
 }
 
-// Commits writes, which are brought together first.
+/// Commits writes, which are brought together first.
 pub fn commit(
     alloc: Global,
     part: &mut Part<MemStore>,
@@ -182,15 +184,42 @@ fn check_over(alloc: Global, scene: &Scene, store: MemStore) -> Result<(), Troub
     }
 }
 
-// Whether the steps make of the cells what they are to make.
+/// Whether the steps make of the cells what they are to make.
 pub fn check(alloc: Global, scene: &Scene) -> Result<(), Trouble> {
     let store = store_of(alloc, scene.kind, scene.from)?;
     check_over(alloc, scene, store)
 }
 
-// The same over a store of which a call fails.
+/// The same over a store of which a call fails.
 pub fn check_failing(alloc: Global, scene: &Scene, at: FailAt) -> Result<(), Trouble> {
     let mut store = store_of(alloc, scene.kind, scene.from)?;
     store.fail(at)?;
     check_over(alloc, scene, store)
+}
+
+/// The same for each of these calls.
+pub fn check_calls(alloc: Global, scene: &Scene, calls: &[FailAt]) -> Result<(), Trouble> {
+    for at in calls {
+        check_failing(alloc, scene, *at)?;
+    }
+    Ok(())
+}
+
+/// The same for each call of a kind, up to a number.
+pub fn check_each(
+    alloc: Global,
+    scene: &Scene,
+    kind: CallKind,
+    happened: bool,
+    calls: u64,
+) -> Result<(), Trouble> {
+    for i in 0..calls {
+        let at = FailAt {
+            kind,
+            number: i + 1,
+            happened,
+        };
+        check_failing(alloc, scene, at)?;
+    }
+    Ok(())
 }
