@@ -1,0 +1,334 @@
+// Two calls to the outside fail.
+use crate::commands::{Command, KINDS, SCHEDULE, commands};
+use sample_topologies::{SENTENCES, WORD_COUNT};
+use std::alloc::Global;
+use std::sync::Wait;
+use std::thread::Threads;
+use storm_stores::{CallKind, FailAt};
+use storm_test_kit::{
+    CALM, Failing, Outside, REPLAY, Scene, Told, call, check_answer, check_refusal, replay_of,
+    run_alone, run_of,
+};
+use test_kit::{Mismatch, compare, lines_without};
+
+fn bad_case(alloc: Global, case: &str) -> Result<(), Mismatch> {
+    Err(Mismatch::Case(String::from_str(alloc, case)?))
+}
+
+// ---- two calls of stores
+
+// The key `a` goes to the part 0, and `b`, which both batches write, to the part 1.
+const RECORDS: &str = "[\"a b\"]\n[\"a\"]\n[\"b\"]\n";
+
+const TABLES: &str = "cell counts [\"a\"] 2
+cell counts [\"b\"] 2
+ok 3 records 2 batches
+";
+
+// Of a load the keys are `w44`, `w33` and `w19`, and in the part 1 `w49` and `w5`.
+const LOAD: Scene<'static> = Scene {
+    words: &["load", "1", "1"],
+    topology: None,
+    input: None,
+    schedule: None,
+};
+
+const LOADED: &str = "load 1 records 1 batches 5 keys 6 words\n";
+
+// Commands, what they write but for lines of attempts, and how many batches they commit.
+fn small_commands() -> [(Scene<'static>, &'static str, usize); 4] {
+    [
+        (run_alone(WORD_COUNT, RECORDS), TABLES, 2),
+        (run_of(WORD_COUNT, RECORDS), TABLES, 2),
+        (replay_of(WORD_COUNT, RECORDS, SCHEDULE), TABLES, 2),
+        (LOAD, LOADED, 1),
+    ]
+}
+
+// Calls by their numbers, and some that are made only where an attempt is made again, or not at all.
+const CALLS: [(CallKind, u64, bool); 13] = [
+    (CallKind::Get, 1, false),
+    (CallKind::Get, 2, false),
+    (CallKind::Get, 3, false),
+    (CallKind::Get, 4, false),
+    (CallKind::Put, 1, false),
+    (CallKind::Put, 1, true),
+    (CallKind::Put, 2, false),
+    (CallKind::Put, 2, true),
+    (CallKind::Put, 3, false),
+    (CallKind::Put, 3, true),
+    (CallKind::Count, 1, false),
+    (CallKind::KeyAt, 1, false),
+    (CallKind::KeyAt, 2, false),
+];
+
+fn failing(part: u32, index: usize) -> Option<Failing> {
+    let (kind, number, happened) = *CALLS.get(index)?;
+    let at = FailAt {
+        kind,
+        number,
+        happened,
+    };
+    Some((1, part, at))
+}
+
+// The first count and the first look at a key are made in the last reading of each part.
+fn is_of_reading(failing: Failing) -> bool {
+    let (_, _, at) = failing;
+    (at.kind == CallKind::Count || at.kind == CallKind::KeyAt) && at.number == 1
+}
+
+fn is_put(failing: Failing) -> bool {
+    let (_, _, at) = failing;
+    at.kind == CallKind::Put
+}
+
+fn is_first(failing: Failing) -> bool {
+    let (_, _, at) = failing;
+    at.number == 1
+}
+
+fn committed(told: &Told) -> usize {
+    told.fates
+        .as_slice()
+        .iter()
+        .filter(|fate| fate.committed)
+        .count()
+}
+
+fn lines_of_failures(text: &str) -> usize {
+    text.lines()
+        .filter(|line| line.contains(" commit failed counts "))
+        .count()
+}
+
+// So many attempts failed by so many faults of stores, of one or of both parts each.
+fn are_shown(failed: usize, faults: u64) -> bool {
+    let failed = failed as u64;
+    failed <= faults && faults <= failed.saturating_mul(2)
+}
+
+// Every batch is committed, and each fault is shown by an attempt, or one by the last reading.
+fn check_causes(alloc: Global, told: &Told, tables: &str, batches: usize) -> Result<(), Mismatch> {
+    let failed = told.fates.as_slice().len().saturating_sub(committed(told));
+    if committed(told) != batches || told.store_faults > 2 {
+        return bad_case(alloc, "other commits, or more faults");
+    }
+    if told.status.code() == 10 {
+        check_answer(alloc, told, 10, "store fault\n")?;
+        if told.store_faults >= 1 && are_shown(failed, told.store_faults - 1) {
+            return Ok(());
+        }
+        return bad_case(alloc, "no fault of the last reading");
+    }
+    let lines = lines_without(alloc, told.text.as_str(), "attempt ")?;
+    compare(alloc, "tables", lines.as_str(), tables)?;
+    let has_lines = told.text.starts_with("attempt ");
+    if has_lines && lines_of_failures(told.text.as_str()) != failed {
+        return bad_case(alloc, "other lines");
+    }
+    if told.status.code() == 0 && are_shown(failed, told.store_faults) {
+        return Ok(());
+    }
+    bad_case(alloc, "another status, or faults that no attempt shows")
+}
+
+// Where the last reading is sure to fail, or sure not to.
+fn check_status(
+    alloc: Global,
+    told: &Told,
+    first: Failing,
+    second: Failing,
+) -> Result<(), Mismatch> {
+    let code = told.status.code();
+    if (is_of_reading(first) || is_of_reading(second)) && code != 10 {
+        return bad_case(alloc, "no store fault");
+    }
+    if is_put(first) && is_put(second) && code != 0 {
+        return bad_case(alloc, "no end");
+    }
+    if (is_first(first) || is_first(second)) && told.store_faults == 0 {
+        return bad_case(alloc, "no fault");
+    }
+    Ok(())
+}
+
+fn fail_two<R: Threads + Wait + Sync>(
+    rt: &R,
+    alloc: Global,
+    first: Failing,
+    second: Failing,
+) -> Result<(), Mismatch> {
+    let outside = Outside {
+        failing: &[first, second],
+        ..CALM
+    };
+    for (scene, tables, batches) in small_commands() {
+        let told = call(rt, alloc, scene, outside)?;
+        check_causes(alloc, &told, tables, batches)?;
+        check_status(alloc, &told, first, second)?;
+    }
+    Ok(())
+}
+
+// Lets a call fail beside those of a part with this index and greater ones.
+fn fail_beside<R: Threads + Wait + Sync>(
+    rt: &R,
+    alloc: Global,
+    first: Failing,
+    part: u32,
+    least: usize,
+) -> Result<(), Mismatch> {
+    for index in least..CALLS.len() {
+        if let Some(second) = failing(part, index) {
+            fail_two(rt, alloc, first, second)?;
+        }
+    }
+    Ok(())
+}
+
+#[test]
+fn two_calls_of_the_first_store_fail(rt: HostRuntime) -> Result<(), Mismatch> {
+    for index in 0..CALLS.len() {
+        if let Some(first) = failing(0, index) {
+            fail_beside(&rt, rt.alloc(), first, 0, index)?;
+        }
+    }
+    Ok(())
+}
+
+#[test]
+fn two_calls_of_the_second_store_fail(rt: HostRuntime) -> Result<(), Mismatch> {
+    for index in 0..CALLS.len() {
+        if let Some(first) = failing(1, index) {
+            fail_beside(&rt, rt.alloc(), first, 1, index)?;
+        }
+    }
+    Ok(())
+}
+
+#[test]
+fn a_call_of_each_store_fails(rt: HostRuntime) -> Result<(), Mismatch> {
+    for index in 0..CALLS.len() {
+        if let Some(first) = failing(0, index) {
+            fail_beside(&rt, rt.alloc(), first, 1, 0)?;
+        }
+    }
+    Ok(())
+}
+
+// ---- a call of a store and a write
+
+// Each write of fifty bytes fails in turn. All else is as where the store alone fails.
+fn fail_writes<R: Threads + Wait + Sync>(
+    rt: &R,
+    alloc: Global,
+    scene: Scene<'_>,
+    outside: Outside<'_>,
+) -> Result<(), Mismatch> {
+    let whole = call(rt, alloc, scene, outside)?;
+    for before in 0..whole.text.len().div_ceil(50) {
+        let cut = Outside {
+            write: 50,
+            failing_write: (before as u64).saturating_add(1),
+            ..outside
+        };
+        let told = call(rt, alloc, scene, cut)?;
+        let front = whole.text.as_str().get(..before.saturating_mul(50));
+        check_answer(alloc, &told, 6, front.unwrap_or(""))?;
+        let same = told.fates.as_slice() == whole.fates.as_slice();
+        if !same || told.store_faults != whole.store_faults {
+            return bad_case(alloc, "other fates, or other faults");
+        }
+    }
+    Ok(())
+}
+
+#[test]
+fn a_call_of_a_store_and_a_write_fail(rt: HostRuntime) -> Result<(), Mismatch> {
+    for command in commands() {
+        for kind in KINDS {
+            let at = FailAt {
+                kind,
+                number: 2,
+                happened: true,
+            };
+            let outside = Outside {
+                failing: &[(1, 1, at)],
+                ..CALM
+            };
+            fail_writes(&rt, rt.alloc(), command.scene, outside)?;
+        }
+    }
+    Ok(())
+}
+
+// ---- a fetch and a read
+
+// The lines of the files in the order of the fetches. A file has one read that gives its bytes, and
+// one that gives none.
+const UNREAD: [&str; 3] = [
+    "read fault topology\n",
+    "read fault input\n",
+    "read fault schedule\n",
+];
+
+// Whatever of a store fails besides, no store is made.
+const FIRST_PUT: Failing = (
+    1,
+    0,
+    FailAt {
+        kind: CallKind::Put,
+        number: 1,
+        happened: true,
+    },
+);
+
+fn replayed() -> Scene<'static> {
+    Scene {
+        words: &REPLAY,
+        schedule: Some(SCHEDULE),
+        ..run_of(WORD_COUNT, SENTENCES)
+    }
+}
+
+#[test]
+fn a_fetch_and_a_read_fail(rt: HostRuntime) -> Result<(), Mismatch> {
+    for fetched in 0..3_usize {
+        for read in 0..6_usize {
+            let outside = Outside {
+                failing_fetch: fetched as u64 + 1,
+                failing_read: read as u64 + 1,
+                failing: &[FIRST_PUT],
+                ..CALM
+            };
+            let line = UNREAD.get(fetched.min(read / 2)).unwrap_or(&"");
+            check_refusal(&rt, rt.alloc(), replayed(), outside, 5, line)?;
+        }
+    }
+    Ok(())
+}
+
+// Which of the files is not fetched or not read, and how many bytes of its line are written.
+#[test]
+fn a_fetch_or_a_read_and_a_write_fail(rt: HostRuntime) -> Result<(), Mismatch> {
+    let alloc = rt.alloc();
+    for (file, line) in UNREAD.iter().enumerate() {
+        for taken in 0..line.len() {
+            for (fetches, reads) in [(1, 0), (0, 1), (0, 2)] {
+                let number = file.min(3) as u64;
+                let outside = Outside {
+                    write: 1,
+                    failing_fetch: if fetches == 1 { number + 1 } else { 0 },
+                    failing_read: if reads > 0 { 2 * number + reads } else { 0 },
+                    failing_write: (taken as u64).saturating_add(1),
+                    failing: &[FIRST_PUT],
+                    ..CALM
+                };
+                let front = line.get(..taken).unwrap_or("");
+                check_refusal(&rt, alloc, replayed(), outside, 6, front)?;
+            }
+        }
+    }
+    Ok(())
+}
