@@ -13,7 +13,6 @@ program="$("$here/program.sh")"
 mkdir -p "$here/out"
 work="$(mktemp -d "$here/out/killed.XXXXXX")"
 trap 'rm -rf "$work"' EXIT
-exec 3<&0
 python3 -B - "$program" "$here" "$work" "${1:-200}" "${2:-1}" <<'END'
 import os, random, resource, signal, subprocess, sys, time
 

@@ -73,17 +73,11 @@ pub const LOADED: &str = "load 2 records 1 batches 11 keys 12 words\n";
 /// Rounds enough for the sentences.
 pub const SCHEDULE: &str = "rounds 1000";
 
-/// A run by one worker and by several, and every other command.
-pub fn commands() -> [Command; 6] {
+/// A run by one worker, and every other command.
+pub fn commands() -> [Command; 5] {
     [
         Command {
             scene: run_alone(WORD_COUNT, SENTENCES),
-            text: COUNTED_SENTENCES,
-            tells: true,
-            parts: SENTENCE_KEYS,
-        },
-        Command {
-            scene: run_of(WORD_COUNT, SENTENCES),
             text: COUNTED_SENTENCES,
             tells: true,
             parts: SENTENCE_KEYS,
@@ -116,6 +110,16 @@ pub fn commands() -> [Command; 6] {
             parts: NO_KEYS,
         },
     ]
+}
+
+/// A run by several workers.
+pub fn by_workers() -> Command {
+    Command {
+        scene: run_of(WORD_COUNT, SENTENCES),
+        text: COUNTED_SENTENCES,
+        tells: true,
+        parts: SENTENCE_KEYS,
+    }
 }
 
 /// The kinds of calls of a store.

@@ -35,14 +35,21 @@ const LOAD: Scene<'static> = Scene {
 
 const LOADED: &str = "load 1 records 1 batches 5 keys 6 words\n";
 
-// Commands, what they write but for lines of attempts, and how many batches they commit.
-fn small_commands() -> [(Scene<'static>, &'static str, usize); 4] {
+/// A command, what it writes but for lines of attempts, and how many batches it commits.
+type Small = (Scene<'static>, &'static str, usize);
+
+// The commands on one thread.
+fn small_commands() -> [Small; 3] {
     [
         (run_alone(WORD_COUNT, RECORDS), TABLES, 2),
-        (run_of(WORD_COUNT, RECORDS), TABLES, 2),
         (replay_of(WORD_COUNT, RECORDS, SCHEDULE), TABLES, 2),
         (LOAD, LOADED, 1),
     ]
+}
+
+// A run by several workers.
+fn by_workers() -> [Small; 1] {
+    [(run_of(WORD_COUNT, RECORDS), TABLES, 2)]
 }
 
 // Calls by their numbers, and some that are made only where an attempt is made again, or not at all.
@@ -156,6 +163,7 @@ fn check_status(
 fn fail_two<R: Threads + Wait + Sync>(
     rt: &R,
     alloc: Global,
+    commands: &[Small],
     first: Failing,
     second: Failing,
 ) -> Result<(), Mismatch> {
@@ -163,9 +171,9 @@ fn fail_two<R: Threads + Wait + Sync>(
         failing: &[first, second],
         ..CALM
     };
-    for (scene, tables, batches) in small_commands() {
-        let told = call(rt, alloc, scene, outside)?;
-        check_causes(alloc, &told, tables, batches)?;
+    for (scene, tables, batches) in commands {
+        let told = call(rt, alloc, *scene, outside)?;
+        check_causes(alloc, &told, tables, *batches)?;
         check_status(alloc, &told, first, second)?;
     }
     Ok(())
@@ -179,9 +187,10 @@ fn fail_beside<R: Threads + Wait + Sync>(
     part: u32,
     least: usize,
 ) -> Result<(), Mismatch> {
+    let commands = small_commands();
     for index in least..CALLS.len() {
         if let Some(second) = failing(part, index) {
-            fail_two(rt, alloc, first, second)?;
+            fail_two(rt, alloc, &commands, first, second)?;
         }
     }
     Ok(())
@@ -207,11 +216,42 @@ fn two_calls_of_the_second_store_fail(rt: HostRuntime) -> Result<(), Mismatch> {
     Ok(())
 }
 
+// Two gets, two puts, the count and the first look at a key.
+const FEW: [usize; 6] = [0, 1, 5, 6, 10, 11];
+
 #[test]
 fn a_call_of_each_store_fails(rt: HostRuntime) -> Result<(), Mismatch> {
-    for index in 0..CALLS.len() {
+    for index in FEW {
         if let Some(first) = failing(0, index) {
             fail_beside(&rt, rt.alloc(), first, 1, 0)?;
+        }
+    }
+    Ok(())
+}
+
+// Lets a call fail beside each of a part.
+fn fail_few<R: Threads + Wait + Sync>(
+    rt: &R,
+    alloc: Global,
+    first: Failing,
+    part: u32,
+) -> Result<(), Mismatch> {
+    let commands = by_workers();
+    for index in FEW {
+        if let Some(second) = failing(part, index) {
+            fail_two(rt, alloc, &commands, first, second)?;
+        }
+    }
+    Ok(())
+}
+
+#[test]
+fn two_calls_of_stores_fail_by_workers(rt: HostRuntime) -> Result<(), Mismatch> {
+    for index in FEW {
+        for (part, other) in [(0, 0), (0, 1), (1, 1)] {
+            if let Some(first) = failing(part, index) {
+                fail_few(&rt, rt.alloc(), first, other)?;
+            }
         }
     }
     Ok(())
