@@ -1,7 +1,7 @@
 #!/usr/bin/env bash
-# bench/killed.sh [COUNT] [SEED]: kills COUNT runs of a word count into a file with signal 9, 200 if left out, at random moments of
-# SEED: half of them at any moment of the run, and half within its last tenth. What the file holds has to be a prefix of
-# the report of a run that is let go on.
+# bench/killed.sh [COUNT] [SEED]: kills COUNT runs of a word count into a file with signal 9, 300 if left out, at random moments of
+# SEED: a third at any moment of the run, a third within its last tenth, and a third as soon as the file has so many bytes. What the
+# file holds has to be a prefix of the report of a run that is let go on.
 # Then it gives the program twenty sizes of address space (`ulimit -v`), from what it takes to start to what a run needs: each run has
 # to end with status 0 and the whole report, or with status 1 and nothing written.
 # Prints how many files held nothing, a part and the whole report, and how the twenty ended. The status is 1 where one ended otherwise.
@@ -13,7 +13,7 @@ program="$("$here/program.sh")"
 mkdir -p "$here/out"
 work="$(mktemp -d "$here/out/killed.XXXXXX")"
 trap 'rm -rf "$work"' EXIT
-python3 -B - "$program" "$here" "$work" "${1:-200}" "${2:-1}" <<'END'
+python3 -B - "$program" "$here" "$work" "${1:-300}" "${2:-1}" <<'END'
 import os, random, resource, signal, subprocess, sys, time
 
 program, here, work, count, seed = sys.argv[1:4] + [int(it) for it in sys.argv[4:6]]
@@ -21,7 +21,7 @@ draw = random.Random(seed)
 topology, records, out = f"{here}/word_count.json", f"{work}/input.jsonl", f"{work}/out"
 # Many keys make a long report.
 with open(records, "w") as it:
-    for line in range(4000):
+    for line in range(1000):
         words = " ".join(f"w{draw.randrange(10**6):06}-{'x' * draw.randrange(40)}" for _ in range(10))
         it.write(f'["{words}"]\n')
 
@@ -56,17 +56,19 @@ print(f"a run of {len(whole)} bytes of report takes {seconds:.2f} seconds")
 wrong, found = 0, {"nothing": 0, "a part": 0, "the whole": 0}
 ended = 0
 for number in range(count):
-    moment = seconds * (draw.uniform(0, 1.05) if number % 2 else draw.uniform(0.9, 1.05))
+    moment = seconds * draw.uniform(*[(0, 1.05), (0.9, 1.1), (20, 20)][number % 3])
+    bytes_ = draw.randrange(1, len(whole)) if number % 3 == 2 else len(whole) + 1
     began = time.monotonic()
     it = run()
-    while it.poll() is None and time.monotonic() - began < moment:
-        time.sleep(min(0.0005, max(0.0, moment - (time.monotonic() - began))))
+    while it.poll() is None and time.monotonic() - began < moment and os.path.getsize(out) < bytes_:
+        if number % 3 != 2:
+            time.sleep(min(0.0005, max(0.0, moment - (time.monotonic() - began))))
     it.send_signal(signal.SIGKILL)
     status, text = it.wait(), held()
     ended += status == 0
     if not whole.startswith(text) or (status == 0 and text != whole):
         wrong += 1
-        print(f"killed: after {moment:.4f} seconds: {len(text)} bytes, no prefix of the report")
+        print(f"killed: run {number}: {len(text)} bytes, no prefix of the report")
     found["nothing" if not text else "the whole" if text == whole else "a part"] += 1
 print(f"killed: {count} runs, {ended} of which had ended: {found['nothing']} files held nothing, {found['a part']} a part, {found['the whole']} the whole report")
 
@@ -77,9 +79,12 @@ def is_ready(size):
     return it.returncode == 2
 
 
+STEP = 64 << 10
+
+
 def least(low, high, holds):
-    while high - low > 4096:
-        middle = (low + high) // 2 // 4096 * 4096
+    while high - low > STEP:
+        middle = (low + high) // 2 // STEP * STEP
         low, high = (low, middle) if holds(middle) else (middle, high)
     return high
 
@@ -90,8 +95,8 @@ def suffices(size):
 
 if not is_ready(2**32):
     sys.exit("killed: the program does not start within 4 GiB: has it checks at run time?")
-first = least(4096, 2**32, is_ready)
-last = least(first, 2**33, suffices)
+first = least(0, 2**32, is_ready)
+last = least(first, 2**31, suffices)
 ends = {}
 for number in range(20):
     size = first + (last - first) * number // 19 // 4096 * 4096

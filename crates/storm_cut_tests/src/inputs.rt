@@ -4,8 +4,11 @@ use sample_topologies::{SENTENCES, WORD_COUNT};
 use std::alloc::Global;
 use std::sync::Wait;
 use std::thread::Threads;
-use storm_test_kit::{CALM, PLAIN, REPLAY, RUN, RUN_ALONE, Scene, call, check_refusal, replay_of};
+use storm_test_kit::{CALM, PLAIN, RUN, RUN_ALONE, Scene, call, check_refusal, replay_of};
 use test_kit::Mismatch;
+
+// The words of the other commands that read an input.
+const READERS: [&[&str]; 3] = [&PLAIN, &RUN_ALONE, &RUN];
 
 // A schedule is refused after the input.
 const NO_STEP: &str = "schedule: line 1: not a step\n";
@@ -35,7 +38,7 @@ fn check_each<R: Threads + Wait + Sync>(
     let code = if fault.is_empty() { 9 } else { 4 };
     let line = if fault.is_empty() { NO_STEP } else { fault };
     check_refusal(rt, alloc, replay, CALM, code, line)?;
-    for words in [&PLAIN as &[&str], &RUN_ALONE, &RUN] {
+    for words in READERS {
         let scene = Scene { words, ..replay };
         if fault.is_empty() {
             check_read(rt, alloc, scene, end)?;
