@@ -1,12 +1,14 @@
 #!/usr/bin/env bash
-# bench/killed.sh [COUNT] [SEED]: kills COUNT runs of a word count into a file with signal 9, 300 if left out, at random moments of
-# SEED: a third at any moment of the run, a third within its last tenth, and a third as soon as the file has so many bytes. What the
-# file holds has to be a prefix of the report of a run that is let go on.
-# Then it gives the program twenty sizes of address space (`ulimit -v`), from what it takes to start to what a run needs: each run has
-# to end with status 0 and the whole report, or with status 1 and nothing written.
-# Prints how many files held nothing, a part and the whole report, and how the twenty ended. The status is 1 where one ended otherwise.
-# Needs python3. The program has to live within a small address space: a proved one does, and the one that ./storm builds without proof
-# does not. It takes the program of STORM, see bench/program.sh.
+# bench/killed.sh [COUNT] [SEED]: kills COUNT runs of a word count into a file with signal 9, 300 if left
+# out, at random moments of SEED: a third at any moment of the run, a third within its last tenth, and a
+# third as soon as the file has so many bytes. What the file holds has to be a prefix of the report of a
+# run that is let go on.
+# Then it gives the program twenty sizes of address space (`ulimit -v`), from what it takes to start to one
+# and a half times what a run needs: each run has to end with status 0 and the whole report, or with status 1 and nothing written.
+# Prints how many files held nothing, a part and the whole report, and how the twenty ended. The status is 1
+# where one ended otherwise.
+# Needs python3. The program has to live within a small address space: a proved one does, and the one that
+# ./storm builds without proof does not. It takes the program of STORM, see bench/program.sh.
 set -euo pipefail
 here="$(cd "$(dirname "${BASH_SOURCE[0]}")" && pwd)"
 program="$("$here/program.sh")"
@@ -32,7 +34,8 @@ def run(limit=None):
             resource.setrlimit(resource.RLIMIT_AS, (limit, limit))
 
     with open(out, "wb") as it:
-        return subprocess.Popen(["storm", "run", topology, records], executable=program, stdout=it, stderr=subprocess.DEVNULL, preexec_fn=less)
+        how = {"stdout": it, "stderr": subprocess.DEVNULL, "preexec_fn": less}
+        return subprocess.Popen(["storm", "run", topology, records], executable=program, **how)
 
 
 def held():
@@ -51,7 +54,7 @@ for _ in range(3):
     seconds = min(seconds, time.monotonic() - began)
     if held() != whole:
         sys.exit("killed: two runs have two reports: did a tick pass?")
-print(f"a run of {len(whole)} bytes of report takes {seconds:.2f} seconds")
+print(f"a run of {len(whole)} bytes of report takes {seconds:.2f} seconds", flush=True)
 
 wrong, found = 0, {"nothing": 0, "a part": 0, "the whole": 0}
 ended = 0
@@ -70,13 +73,17 @@ for number in range(count):
         wrong += 1
         print(f"killed: run {number}: {len(text)} bytes, no prefix of the report")
     found["nothing" if not text else "the whole" if text == whole else "a part"] += 1
-print(f"killed: {count} runs, {ended} of which had ended: {found['nothing']} files held nothing, {found['a part']} a part, {found['the whole']} the whole report")
+told = ", ".join(f"{number} {it}" for it, number in found.items())
+print(f"killed: {count} runs, {ended} of which had ended; files held: {told}", flush=True)
 
 
 def is_ready(size):
     # A program that has not enough to start is not begun: the loader or the kernel ends it.
-    it = subprocess.run(["storm"], executable=program, stdout=subprocess.PIPE, stderr=subprocess.DEVNULL, preexec_fn=lambda: resource.setrlimit(resource.RLIMIT_AS, (size, size)))
-    return it.returncode == 2
+    def less():
+        resource.setrlimit(resource.RLIMIT_AS, (size, size))
+
+    how = {"stdout": subprocess.DEVNULL, "stderr": subprocess.DEVNULL, "preexec_fn": less}
+    return subprocess.run(["storm"], executable=program, **how).returncode == 2
 
 
 STEP = 64 << 10
@@ -96,7 +103,7 @@ def suffices(size):
 if not is_ready(2**32):
     sys.exit("killed: the program does not start within 4 GiB: has it checks at run time?")
 first = least(0, 2**32, is_ready)
-last = least(first, 2**31, suffices)
+last = least(first, 2**31, suffices) * 3 // 2
 ends = {}
 for number in range(20):
     size = first + (last - first) * number // 19 // 4096 * 4096

@@ -1,6 +1,6 @@
 #!/usr/bin/env bash
-# bench/program.sh: prints the path of the program to try: that of STORM, or the one that ./storm runs, proved or not, which it
-# builds first where it is not there.
+# bench/program.sh: prints the path of the program to try: that of STORM, or the one that ./storm runs, proved
+# or not, which it builds first where it is not there.
 set -euo pipefail
 top="$(cd "$(dirname "${BASH_SOURCE[0]}")/.." && pwd)"
 if [ -n "${STORM:-}" ]; then

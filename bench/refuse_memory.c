@@ -1,9 +1,9 @@
 // Refuses allocations and threads of a program: preloaded by bench/refuse_memory.sh.
 //
-// The program's own calls of malloc, calloc, realloc, posix_memalign and aligned_alloc are counted, and those of pthread_create;
-// the calls that the C library makes for itself are not. By the environment the call of a number is refused (REFUSE_ALLOC,
-// REFUSE_THREAD), or all from a number on (REFUSE_FROM). REFUSE_COUNTS names a file of three words: allocations, threads, and
-// how many of both were refused.
+// The program's own calls of malloc, calloc, realloc, posix_memalign and aligned_alloc are counted, and those
+// of pthread_create; the calls that the C library makes for itself are not. By the environment the call of a
+// number is refused (REFUSE_ALLOC, REFUSE_THREAD), or all allocations from a number on (REFUSE_FROM).
+// REFUSE_COUNTS names a file of three words: allocations, threads, and how many of both were refused.
 #define _GNU_SOURCE
 #include <dlfcn.h>
 #include <errno.h>
@@ -49,7 +49,7 @@ __attribute__((constructor)) static void begin(void) {
   alloc_number = number_of("REFUSE_ALLOC");
   thread_number = number_of("REFUSE_THREAD");
   first_number = number_of("REFUSE_FROM");
-  start_thread = (int (*)(pthread_t *, const pthread_attr_t *, void *(*)(void *), void *))dlsym(RTLD_NEXT, "pthread_create");
+  *(void **)&start_thread = dlsym(RTLD_NEXT, "pthread_create");
   const char *path = getenv("REFUSE_COUNTS");
   int file = path ? open(path, O_RDWR) : -1;
   if (file >= 0) {

@@ -1,13 +1,14 @@
 #!/usr/bin/env bash
-# bench/refuse_memory.sh: refuses each allocation of three calls in turn: of `run` of the word count with 1 and with 4 workers,
-# and of `replay` of a batch that fails once and is committed at its second attempt. Then all allocations from one on, for each
-# one; and each thread that is started.
-# Each call has to end with status 1 and nothing written, or as without the refusal: where the refused memory was a thread's and
-# its work ran on the caller's thread, and where a thread was not started.
-# Prints for each call how many allocations and threads it has, how many were refused in turn, and how these calls ended. The
-# status is 1 where one ended otherwise; it is named, and its output is kept in a folder.
-# Needs a C compiler. The program has to have its allocations from the C library: a proved one has, and the one that ./storm builds
-# without proof has not. It takes the program of STORM, see bench/program.sh.
+# bench/refuse_memory.sh: refuses each allocation of three calls in turn: of `run` of the word count with 1
+# and with 4 workers, and of `replay` of a batch that fails once and is committed at its second attempt. Then
+# all allocations from one on, for each one; and each thread that is started.
+# Each call has to end with status 1 and nothing written, or as without the refusal. That is so where the
+# refused memory was a thread's and its work ran on the caller's thread, where a thread was not started, and
+# where more was asked for than is needed and less was then given, as when a vector grows.
+# Prints for each call how many allocations and threads it has, how many were refused in turn, and how these
+# calls ended. The status is 1 where one ended otherwise; it is named, and its output is kept in a folder.
+# Needs a C compiler. The program has to have its memory from the C library: a proved one has, and the one
+# that ./storm builds without proof has not. It takes the program of STORM, see bench/program.sh.
 set -euo pipefail
 here="$(cd "$(dirname "${BASH_SOURCE[0]}")" && pwd)"
 program="$("$here/program.sh")"
@@ -32,15 +33,16 @@ echo '["a"]' >"$work/fails_once.jsonl"
 echo 'rounds 200' >"$work/rounds.txt"
 cd "$work"
 
-# Runs the program with a refusal: tries NAME=NUMBER WORDS.. Leaves the status, the output in `out`, and what was counted in
-# allocations, threads and refused.
+# Runs the program with a refusal: tries NAME=NUMBER WORDS.. Leaves the status, the output in `out`, and what
+# was counted in allocations, threads and refused.
 status=0 allocations=0 threads=0 refused=0
 tries() {
   local how="$1"
   shift
   head -c 24 /dev/zero >"$counts"
   status=0
-  env "$how" REFUSE_COUNTS="$counts" LD_PRELOAD="$shim" timeout -k 5 60 "$program" "$@" >out 2>err </dev/null || status=$?
+  env "$how" REFUSE_COUNTS="$counts" LD_PRELOAD="$shim" timeout -k 5 60 "$program" "$@" \
+    >out 2>err </dev/null || status=$?
   read -r allocations threads refused < <(od -An -v -tu8 -w24 "$counts")
 }
 
@@ -49,7 +51,8 @@ wrong=0
 refuses() {
   local kind="$1" variable="$2" most="$3" number=0 made=0 ones=0 whole=0 missed=0
   shift 3
-  # Which thread comes first is a matter of order, and so is how many allocations a run has: on until ten in a row are not reached.
+  # Which thread comes first is a matter of order, and so is how many allocations a run has: on until ten in
+  # a row are not reached.
   while [ "$missed" -lt 10 ] && [ "$number" -lt "$((2 * most + 100))" ]; do
     number=$((number + 1))
     tries "$variable=$number" "$@"
@@ -66,7 +69,8 @@ refuses() {
       wrong=$((wrong + 1))
       mkdir -p "$work/wrong"
       cp out "$work/wrong/$*.$variable.$number"
-      echo "refuse_memory: $*: $variable=$number: status $status, $(wc -c <out) bytes, $(head -c 200 err); see $work/wrong"
+      echo "refuse_memory: $*: $variable=$number: status $status, $(wc -c <out) bytes, $(head -c 200 err)"
+      echo "  see $work/wrong"
     fi
   done
   echo "  $kind: $made refused, $ones ended with status 1 and nothing written, $whole as without"
@@ -78,7 +82,7 @@ for words in "run word_count.json word_count.jsonl 1" "run word_count.json word_
   set -- $words
   tries REFUSE_ALLOC=0 "$@"
   if [ "$status" != 0 ] || [ "$allocations" = 0 ]; then
-    echo "refuse_memory: no allocation of $* was counted, or it failed: has the program checks at run time?" >&2
+    echo "refuse_memory: of $* no allocation was counted, or it failed: has the program checks at run time?" >&2
     exit 2
   fi
   cp out whole
