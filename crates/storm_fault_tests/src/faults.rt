@@ -8,8 +8,8 @@ use std::alloc::Global;
 use std::sync::Wait;
 use std::thread::Threads;
 use storm_test_kit::{
-    CALM, CHECK, Outside, PLAIN, REPLAY, RUN, Scene, Told, call, check_call, check_refusal,
-    plain_of, reads_of, replay_of, run_over,
+    CALM, CHECK, Outside, PLAIN, REPLAY, RUN, RUN_ALONE, Scene, Told, call, check_call,
+    check_refusal, plain_of, reads_of, replay_of, run_alone, run_over,
 };
 use test_kit::{Mismatch, compare};
 
@@ -20,7 +20,14 @@ const RECORD: &str = "[\"a\"]";
 const SCHEDULE: &str = "rounds 20\nrounds 1000\n";
 
 // Reports, each refusal, and the lines of read faults.
-const SCENES: [Scene<'static>; 16] = [
+const SCENES: [Scene<'static>; 18] = [
+    LOADED,
+    Scene {
+        words: &RUN_ALONE,
+        topology: Some(WORD_COUNT),
+        input: Some(RECORD),
+        schedule: None,
+    },
     Scene {
         words: &RUN,
         topology: Some(WORD_COUNT),
@@ -99,12 +106,7 @@ const SCENES: [Scene<'static>; 16] = [
         input: None,
         schedule: None,
     },
-    Scene {
-        words: &CHECK,
-        topology: Some(WORD_COUNT),
-        input: None,
-        schedule: None,
-    },
+    CHECKED,
     Scene {
         words: &CHECK,
         topology: Some("{}"),
@@ -153,20 +155,38 @@ const FILES: [(&str, &str); 3] = [
     (SCHEDULE, "read fault schedule\n"),
 ];
 
-/// A command that counts the words of the sentences, the number of its files, and its text.
+/// A command that counts the words of the sentences or of records of its own, or checks the count, the
+/// number of its files, and its text.
 type Count = (Scene<'static>, usize, &'static str);
 
-fn counts() -> [Count; 3] {
+fn counts() -> [Count; 6] {
     [
         (run_over(SENTENCES), 2, COUNTED_SENTENCES),
+        (run_alone(WORD_COUNT, SENTENCES), 2, COUNTED_SENTENCES),
         (
             replay_of(WORD_COUNT, SENTENCES, SCHEDULE),
             3,
             COUNTED_SENTENCES,
         ),
         (plain_of(WORD_COUNT, SENTENCES), 2, TABLES_OF_SENTENCES),
+        (CHECKED, 1, "valid components 2 tasks 4 weight 2 depth 2\n"),
+        (LOADED, 0, "load 2 records 1 batches 11 keys 12 words\n"),
     ]
 }
+
+const CHECKED: Scene<'static> = Scene {
+    words: &CHECK,
+    topology: Some(WORD_COUNT),
+    input: None,
+    schedule: None,
+};
+
+const LOADED: Scene<'static> = Scene {
+    words: &["load", "2", "1"],
+    topology: None,
+    input: None,
+    schedule: None,
+};
 
 // Which of so many files a read is of, in the line of its fault, where there is one.
 fn unread(files: usize, longest: usize, number: u64) -> Option<&'static str>
@@ -262,36 +282,6 @@ fn each_fetch_fails(rt: HostRuntime) -> Result<(), Mismatch> {
         for before in 0..4 {
             fail_fetch(&rt, rt.alloc(), count, before)?;
         }
-    }
-    Ok(())
-}
-
-const VALID: &str = "valid components 2 tasks 4 weight 2 depth 2\n";
-
-// Of a check the fetch and the read that fail, the status, and the text.
-const CHECKS: [(u64, u64, u8, &str); 5] = [
-    (1, 0, 5, "read fault topology\n"),
-    (2, 0, 0, VALID),
-    (0, 1, 5, "read fault topology\n"),
-    (0, 2, 5, "read fault topology\n"),
-    (0, 3, 0, VALID),
-];
-
-#[test]
-fn a_check_fetches_and_reads_once(rt: HostRuntime) -> Result<(), Mismatch> {
-    let scene = Scene {
-        words: &CHECK,
-        topology: Some(WORD_COUNT),
-        input: None,
-        schedule: None,
-    };
-    for (failing_fetch, failing_read, code, text) in CHECKS {
-        let outside = Outside {
-            failing_fetch,
-            failing_read,
-            ..CALM
-        };
-        check_refusal(&rt, rt.alloc(), scene, outside, code, text)?;
     }
     Ok(())
 }

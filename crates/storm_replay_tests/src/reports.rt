@@ -192,7 +192,7 @@ rounds 20
 tick
 tick
 tick
-rounds 40
+rounds 20
 ";
 
 // Topologies, schedules, and what a replay over the record ends with and writes.
@@ -288,10 +288,13 @@ attempt 1.4 records 1-1 ticks 0-0 coincided 0:0000000000000000
 exhausted 1
 ";
 
-// Topologies, ids, schedules, and what a replay over two words ends with and writes.
-const COINCIDENCES: [(&str, Script, &str, u8, &str); 4] = [
+const TWO_WORDS: &str = "[\"x y\"]";
+
+// Topologies, inputs, ids, schedules, and what a replay ends with and writes.
+const COINCIDENCES: [(&str, &str, Script, &str, u8, &str); 4] = [
     (
         SMALL_WORD_COUNT,
+        TWO_WORDS,
         TWO_OF_ONE_ID,
         ROOT_FIRST,
         0,
@@ -300,23 +303,31 @@ const COINCIDENCES: [(&str, Script, &str, u8, &str); 4] = [
     // by rounds the acker meets a child's `Done` before the root's
     (
         SMALL_WORD_COUNT,
+        TWO_WORDS,
         TWO_OF_ONE_ID,
         "rounds 200",
         0,
         NOT_COINCIDED,
     ),
-    (SMALL_WORD_COUNT, ALL_ZERO, "rounds 400", 7, ALL_COINCIDE),
-    (STEADY, ALL_ZERO, "rounds 400", 7, ALL_COINCIDE),
+    (
+        SMALL_WORD_COUNT,
+        TWO_WORDS,
+        ALL_ZERO,
+        "rounds 400",
+        7,
+        ALL_COINCIDE,
+    ),
+    (STEADY, RECORD, ALL_ZERO, "rounds 400", 7, ALL_COINCIDE),
 ];
 
 #[test]
 fn ids_coincide(rt: HostRuntime) -> Result<(), Mismatch> {
-    for (topology, script, schedule, code, want) in COINCIDENCES {
+    for (topology, input, script, schedule, code, want) in COINCIDENCES {
         let outside = Outside {
             words: Some(&script),
             ..CALM
         };
-        let scene = replay_of(topology, "[\"x y\"]", schedule);
+        let scene = replay_of(topology, input, schedule);
         check_call(&rt, rt.alloc(), scene, outside, code, want)?;
     }
     Ok(())
