@@ -79,7 +79,7 @@ class Storm(unittest.TestCase):
         self.assertEqual(len(ran.stderr.splitlines()), int(kind == "unproved"))
 
     def test_explains_itself(self):
-        with open(f"{TOP}/crates/storm_program/src/words.rt", encoding="utf-8") as file:
+        with open(f"{TOP}/crates/storm_words/src/words.rt", encoding="utf-8") as file:
             usage = file.read().split('USAGE: &str =')[1].split('"')[1].removesuffix("\\n")
         for words in [(), ("-h",), ("--help",), ("help",)]:
             ran, calls = self.call(*words)

@@ -4,10 +4,10 @@ ghost use Rattle.tree_model.specs.topology_plan.Wired.{width_to};
 
 use crate::calls::{Sent, case_of, check_sent, ids_of, plan_of, row_of};
 use bolt_task::BoltTask;
+use sample_operations::Backwards;
 use std::alloc::Global;
 use storm_ids::ScriptSource;
 use test_kit::Mismatch;
-use sample_operations::Backwards;
 use tree_model::storm_values::{Path, Root};
 use tree_model::topology_plan::{Origin, Plan};
 use tree_model::{AckMsg, Done, Draw, Edge, FailNote, Parcel, Parcels, Tuple, Write};

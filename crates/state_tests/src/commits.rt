@@ -1,6 +1,6 @@
 // What commits make of cells, where no call fails.
-use crate::scene::End::Done;
-use crate::scene::{Line, Scene, Trouble, check};
+use state_test_kit::End::Done;
+use state_test_kit::{Line, Scene, Trouble, check};
 use tree_model::topology_plan::{Fold, Kind};
 
 const ANIMALS: [Line; 3] = [

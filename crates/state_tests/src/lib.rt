@@ -8,6 +8,4 @@ mod commits;
 #[cfg(test)]
 mod refusals;
 #[cfg(test)]
-mod scene;
-#[cfg(test)]
 mod tables;

@@ -1,7 +1,6 @@
 // Commits over a store of which a call fails.
-use crate::scene::End::{Done, Refused};
-use crate::scene::{Line, Scene, Trouble, check_failing};
-use std::alloc::Global;
+use state_test_kit::End::{Done, Refused};
+use state_test_kit::{Line, Scene, Trouble, check_calls, check_each, check_failing};
 use storm_stores::{CallKind, FailAt};
 use tree_model::topology_plan::{Fold, Kind};
 
@@ -67,24 +66,6 @@ const TWICE: Scene = Scene {
 };
 
 // Each call of the first commit: of each kind so many calls.
-fn check_each(
-    alloc: Global,
-    scene: &Scene,
-    kind: CallKind,
-    happened: bool,
-    calls: u64,
-) -> Result<(), Trouble> {
-    for i in 0..calls {
-        let at = FailAt {
-            kind,
-            number: i + 1,
-            happened,
-        };
-        check_failing(alloc, scene, at)?;
-    }
-    Ok(())
-}
-
 #[test]
 fn a_failed_count_is_made_good(rt: HostRuntime) -> Result<(), Trouble> {
     check_each(rt.alloc(), &TWICE, CallKind::Count, false, 1)
@@ -177,10 +158,7 @@ const UNHARMED: Scene = Scene {
 
 #[test]
 fn a_transactional_commit_gets_and_puts_a_key_once(rt: HostRuntime) -> Result<(), Trouble> {
-    for at in NOT_MADE {
-        check_failing(rt.alloc(), &UNHARMED, at)?;
-    }
-    Ok(())
+    check_calls(rt.alloc(), &UNHARMED, &NOT_MADE)
 }
 
 // Calls that an opaque part does not make: it looks at each key at its first commit alone, and gets
@@ -229,8 +207,5 @@ const LATER_COMMITS: Scene = Scene {
 
 #[test]
 fn an_opaque_part_looks_at_each_key_once(rt: HostRuntime) -> Result<(), Trouble> {
-    for at in LATER_CALLS {
-        check_failing(rt.alloc(), &LATER_COMMITS, at)?;
-    }
-    Ok(())
+    check_calls(rt.alloc(), &LATER_COMMITS, &LATER_CALLS)
 }

@@ -39,7 +39,7 @@ module _ (Comes : Status → List ℕ → Type 0) (sink : SinkUse) where
   ends_cut : IsCut Comes sink → Ends Comes sink status.WriteFault
   ends_cut is_cut = record { whole = λ has. absurd has; cut = λ _. is_cut; memory = λ is. absurd cc }
 
-  ends_memory : Comes status.Memory [] → sink.taken_after ≡ sink.taken_before → Ends Comes sink status.Memory
+  pub ends_memory : Comes status.Memory [] → sink.taken_after ≡ sink.taken_before → Ends Comes sink status.Memory
   ends_memory comes nothing = record { whole = λ has. absurd has; cut = λ is. absurd cc; memory = λ _. (comes, nothing) }
 
   -- a text of a status was written

@@ -4,4 +4,3 @@ mod FileLemmas
 mod LoadLemmas
 mod ReportLemmas
 mod RunLemmas
-mod WordLemmas

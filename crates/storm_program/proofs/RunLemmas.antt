@@ -1,5 +1,5 @@
 -- What a check, a `plain`, a run and a replay come to, from what their parts came to.
-use Rattle.std.proofs.Common.{◌≡◌, ◌⊎◌, ◌<◌, ℕ, List, Option, None, Result, Ok, Err, IfOk, String, string_bytes, inl, inr, refl, sym, subst, sum}
+use Rattle.std.proofs.Common.{◌≡◌, ◌⊎◌, ◌<◌, ℕ, List, [], Option, Some, None, Result, Ok, Err, IfOk, String, string_bytes, inl, inr, refl, sym, subst, sum}
 use Rattle.event_worlds.specs.bolt_ops.RowOp.{Custom}
 use Rattle.event_worlds.specs.attempt_fates.declared.fates.Attempt.{Attempt}
 use Rattle.event_worlds.specs.Rounds.{HasRounds, rounds_needed}
@@ -10,23 +10,24 @@ use Rattle.storm_program.specs.declared.status.Status.{Status}
 use Rattle.storm_program.specs.declared.status.Status.TheVariants as status
 use Rattle.storm_program.specs.declared.stop.Stop.{Stop}
 use Rattle.storm_program.specs.declared.stop.Stop.TheVariants.{Memory, Told}
-use Rattle.storm_program.specs.Check.{CheckComes}
+use Rattle.storm_program.specs.Check.{CheckComes, check_promise}
 use Rattle.storm_program.specs.Files.{AreAccepted, FilesCome, IsReadFaultLine, TellsInput, TellsPlan, of_input, of_topology}
 use Rattle.storm_program.specs.steps.Ended.{IsRoundsEnd, WorkStops}
 use Rattle.storm_program.specs.steps.Reading.{TopologyComes}
 use Rattle.storm_program.specs.Ends.{Ends, HasText}
+use Rattle.storm_program.specs.Load.{LoadComes, load_promise}
 use Rattle.storm_program.specs.Outside.{Fetched, RunUse, ShelfFailed, ShelfUse, SinkUse, TicksUse}
-use Rattle.storm_program.specs.Plain.{PlainComes}
+use Rattle.storm_program.specs.Plain.{PlainComes, plain_promise}
 use Rattle.storm_program.specs.Replay.{IsReplayReport, ReplayComes, ReplayEndsSo, ReplayMustCommitAll, ticks_of_schedule}
 use Rattle.storm_program.specs.Reports.{EndsSo, IsReport, cut_by}
 use Rattle.storm_program.specs.Run.{IsNotBegun, IsShort, MustCommitAll, RunComes, ticks_of_run}
 use Rattle.storm_program.specs.Schedules.{AllFilesCome, AreAllAccepted, TellsEvents}
-use Rattle.storm_program.specs.Storm.{WordsCome, promise}
+use Rattle.storm_program.specs.Storm.{ComesOfWords, IsNotStarted, WordsCome, command_promise, promise}
 use Rattle.storm_program.specs.Texts.{usage}
-use Rattle.storm_program.specs.Words.{Command}
+use Rattle.storm_words.specs.Words.{Command, check, plain, load}
 use Rattle.storm_program.specs.steps.Stops.{IsMemory, IsWritten, Stops}
 use Rattle.storm_program.proofs.CauseLemmas.{never_bad, never_bad_schedule, never_refused, same_events, same_plan, same_records}
-use Rattle.storm_program.proofs.EndLemmas.{ends_written}
+use Rattle.storm_program.proofs.EndLemmas.{Ends-weaker, ends_memory, ends_written}
 use Rattle.event_worlds.specs.storm_values.declared.value.Value.{Value}
 use Rattle.event_worlds.specs.storm_values.Lines.{records_of}
 use Rattle.stored_runs.specs.Makers.{IsUntouched, maker_use}
@@ -181,9 +182,42 @@ module _ (custom : Custom) (shelf : ShelfUse) (base : RunUse) (topology input sc
             (subst (λ (es : List Event). ticks_of_schedule must.plan es < must.plan.buckets) (sym of_events) must.few_ticks);
       }
 
--- words that are no command come to the usage line
-pub ends_words : (custom : Custom) (shelf : ShelfUse) (sink : SinkUse) (base : RunUse) (ticks : TicksUse) (fates : List Attempt) (command : Option Command) (text : List ℕ) (answer : Status) → command ≡ None → IsNotBegun base fates → shelf.fetches_after ≡ shelf.fetches_before → text ≡ usage → IsWritten status.Words text sink answer
-    → Ends (promise custom shelf sink base ticks fates command).comes sink answer
-ends_words custom shelf sink base ticks fates command text answer none idle still line written =
-    let ends : Ends (WordsCome shelf base fates) sink answer = ends_written (WordsCome shelf base fates) sink status.Words answer text tt (still, line, idle) written in
-    subst (λ c. Ends (promise custom shelf sink base ticks fates c).comes sink answer) (sym none) ends
+-- ---- the call by words
+
+-- what a command comes to of its own, the call comes to
+of_own : (shelf : ShelfUse) (base : RunUse) (fates : List Attempt) (Comes : Status → List ℕ → Type 0) (s : Status) (text : List ℕ) → Comes s text → ComesOfWords shelf base fates Comes s text
+of_own shelf base fates Comes status.Memory text comes = inl comes
+of_own shelf base fates Comes _ text comes = comes
+
+module _ (custom : Custom) (shelf : ShelfUse) (sink : SinkUse) (base : RunUse) (ticks : TicksUse) (fates : List Attempt) (said : Option Command) (answer : Status) where
+  -- an end of the command that the words give is one of the call
+  pub ends_own : (given : Option Command) → said ≡ given → Ends (command_promise custom shelf sink base ticks fates given).comes sink answer → Ends (promise custom shelf sink base ticks fates said).comes sink answer
+  ends_own given is ends =
+      let Own : Status → List ℕ → Type 0 = (command_promise custom shelf sink base ticks fates given).comes in
+      subst (λ c. Ends (promise custom shelf sink base ticks fates c).comes sink answer) (sym is)
+      (Ends-weaker Own (ComesOfWords shelf base fates Own) sink answer (of_own shelf base fates Own) ends)
+
+  pub ends_check : (topology : List ℕ) → said ≡ Some (check topology) → fates ≡ [] → IsUntouched base.stores → Ends (CheckComes shelf topology) sink answer → Ends (promise custom shelf sink base ticks fates said).comes sink answer
+  ends_check topology is none idle ends =
+      ends_own (Some (check topology)) is
+      (Ends-weaker (CheckComes shelf topology) (check_promise shelf base.stores fates topology).comes sink answer (λ s text comes. (comes, none, idle)) ends)
+
+  pub ends_plain : (topology input : List ℕ) → said ≡ Some (plain topology input) → fates ≡ [] → IsUntouched base.stores → Ends (PlainComes custom shelf topology input) sink answer → Ends (promise custom shelf sink base ticks fates said).comes sink answer
+  ends_plain topology input is none idle ends =
+      ends_own (Some (plain topology input)) is
+      (Ends-weaker (PlainComes custom shelf topology input) (plain_promise custom shelf base.stores fates topology input).comes sink answer (λ s text comes. (comes, none, idle)) ends)
+
+  pub ends_load : (count seed : ℕ) → said ≡ Some (load count seed) → shelf.fetches_after ≡ shelf.fetches_before → Ends (LoadComes custom base count seed fates) sink answer → Ends (promise custom shelf sink base ticks fates said).comes sink answer
+  ends_load count seed is still ends =
+      ends_own (Some (load count seed)) is
+      (Ends-weaker (LoadComes custom base count seed fates) (load_promise custom shelf sink base fates count seed).comes sink answer (λ s text comes. (still, comes)) ends)
+
+  -- words that are no command come to the usage line
+  pub ends_words : (text : List ℕ) → said ≡ None → IsNotBegun base fates → shelf.fetches_after ≡ shelf.fetches_before → text ≡ usage → IsWritten status.Words text sink answer → Ends (promise custom shelf sink base ticks fates said).comes sink answer
+  ends_words text none idle still line written =
+      ends_own None none (ends_written (WordsCome shelf base fates) sink status.Words answer text tt (still, line, idle) written)
+
+-- want of memory for the words comes before all else
+pub ends_short : (custom : Custom) (shelf : ShelfUse) (sink : SinkUse) (base : RunUse) (ticks : TicksUse) (fates : List Attempt) (said : Option Command) → IsNotStarted shelf base fates → sink.taken_after ≡ sink.taken_before → Ends (promise custom shelf sink base ticks fates said).comes sink status.Memory
+ends_short custom shelf sink base ticks fates said idle nothing =
+    ends_memory (promise custom shelf sink base ticks fates said).comes sink (inr idle) nothing

@@ -11,6 +11,5 @@ pub mod Schedules
 pub mod Statuses
 pub mod Storm
 pub mod Texts
-pub mod Words
 pub mod steps
 pub use Rattle.stored_runs.specs as stored_runs

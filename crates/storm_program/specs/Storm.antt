@@ -1,5 +1,5 @@
 -- What a call of the program promises, by the command that its words give.
-use Rattle.std.specs.Prelude.{◌≡◌, ℕ, List, Option, Some, None}
+use Rattle.std.specs.Prelude.{◌≡◌, ◌⊎◌, ℕ, List, Option, Some, None}
 use Rattle.event_worlds.specs.bolt_ops.RowOp.{Custom}
 use Rattle.event_worlds.specs.attempt_fates.declared.fates.Attempt.{Attempt}
 use Rattle.storm_program.specs.declared.status.Status.{Status}
@@ -13,7 +13,7 @@ use Rattle.storm_program.specs.Replay.{replay_promise}
 use Rattle.storm_program.specs.Run.{IsNotBegun, run_promise}
 use Rattle.storm_program.specs.Statuses.{code_of}
 use Rattle.storm_program.specs.Texts.{usage}
-use Rattle.storm_program.specs.Words.{Command, check, plain, replay, run, load, command}
+use Rattle.storm_words.specs.Words.{Command, check, plain, replay, run, load, command}
 
 -- Words that are no command come to the usage line: no file is fetched, and nothing is run.
 abbrev pub WordsCome : ShelfUse → RunUse → List Attempt → Status → List ℕ → Type 0
@@ -29,20 +29,39 @@ words_promise shelf base fates = record {
   must_finish = ⊥;
 }
 
--- One line a command.
+-- What each command promises of its own. One line a command.
+abbrev pub command_promise : Custom → ShelfUse → SinkUse → RunUse → TicksUse → List Attempt
+    → Option Command → Promise
+command_promise custom shelf sink base ticks fates (Some (check topology)) =
+    check_promise shelf base.stores fates topology
+command_promise custom shelf sink base ticks fates (Some (plain topology input)) =
+    plain_promise custom shelf base.stores fates topology input
+command_promise custom shelf sink base ticks fates (Some (replay topology input schedule)) =
+    replay_promise custom shelf sink base fates topology input schedule
+command_promise custom shelf sink base ticks fates (Some (run topology input workers)) =
+    run_promise custom shelf sink base ticks fates topology input
+command_promise custom shelf sink base ticks fates (Some (load count seed)) =
+    load_promise custom shelf sink base fates count seed
+command_promise custom shelf sink base ticks fates None = words_promise shelf base fates
+
+-- no file is fetched, and nothing is run
+abbrev pub IsNotStarted : ShelfUse → RunUse → List Attempt → Type 0
+IsNotStarted shelf base fates =
+    (shelf.fetches_after ≡ shelf.fetches_before) × IsNotBegun base fates
+
+-- What a command comes to, where memory may be wanted for the words already.
+abbrev pub ComesOfWords : ShelfUse → RunUse → List Attempt → (Status → List ℕ → Type 0) → Status
+    → List ℕ → Type 0
+ComesOfWords shelf base fates Comes status.Memory text =
+    Comes status.Memory text ⊎ IsNotStarted shelf base fates
+ComesOfWords shelf base fates Comes ending text = Comes ending text
+
+-- What a call promises, by the command that its words give.
 abbrev pub promise : Custom → ShelfUse → SinkUse → RunUse → TicksUse → List Attempt
     → Option Command → Promise
-promise custom shelf sink base ticks fates (Some (check topology)) =
-    check_promise shelf base.stores fates topology
-promise custom shelf sink base ticks fates (Some (plain topology input)) =
-    plain_promise custom shelf base.stores fates topology input
-promise custom shelf sink base ticks fates (Some (replay topology input schedule)) =
-    replay_promise custom shelf sink base fates topology input schedule
-promise custom shelf sink base ticks fates (Some (run topology input workers)) =
-    run_promise custom shelf sink base ticks fates topology input
-promise custom shelf sink base ticks fates (Some (load count seed)) =
-    load_promise custom shelf sink base fates count seed
-promise custom shelf sink base ticks fates None = words_promise shelf base fates
+promise custom shelf sink base ticks fates said =
+    let own = command_promise custom shelf sink base ticks fates said in
+    record own { comes = ComesOfWords shelf base fates own.comes }
 
 -- A call with an operation that was handed in, over a shelf, a sink, stores, ids and ticks, ended
 -- with a status, and left these fates.

@@ -13,7 +13,6 @@ mod run;
 mod schedule;
 mod status;
 mod stop;
-mod words;
 
 pub use event_worlds::attempt_fates::{
     Attempt, End, Fates, committed_records_are_all, each_record_is_committed_once,

@@ -8,7 +8,7 @@ ghost use Rattle.storm_program.specs.Plain.{PlainComes, PlainCalls};
 ghost use Rattle.storm_program.specs.Replay.{ReplayComes, ReplayCalls, ReplayMustFinish};
 ghost use Rattle.storm_program.specs.Run.{RunComes, RunCalls, MustFinish};
 ghost use Rattle.storm_program.specs.Storm.{promise};
-ghost use Rattle.storm_program.specs.Words.{command};
+ghost use Rattle.storm_words.specs.Words.{command};
 ghost use Rattle.stored_runs.specs.Makers.{maker_use};
 
 use crate::check::check_file;
@@ -18,7 +18,6 @@ use crate::plain::plain_files;
 use crate::replay::replay_files;
 use crate::run::run_files;
 use crate::status::Status;
-use crate::words::{Command, USAGE, read_words};
 use event_worlds::attempt_fates::Fates;
 use event_worlds::bolt_ops::RowOp;
 use event_worlds::storm_ids::IdMaker;
@@ -29,6 +28,7 @@ use storm_gates::Gate;
 use storm_outside::{Shelf, Sink};
 use storm_stores::StoreMaker;
 use storm_ticks::Ticks;
+use storm_words::{Command, USAGE, read_words};
 
 /// Carries out the command that the words after the program's name give.
 ///
@@ -105,34 +105,34 @@ where
         (maker_use M.C.tells M.C.fault_count M.holds M.has_made M.fault_count
         stores.old stores.new) }
 {
-    match read_words(words) {
-        Some(Command::Check { topology }) => storm_check(alloc, topology, shelf, out),
-        Some(Command::Plain { topology, input }) => {
+    let command = match read_words(alloc, words) {
+        Ok(Some(command)) => command,
+        Ok(None) => return write_text(Status::Words, USAGE.as_bytes(), out),
+        Err(_) => return Status::Memory,
+    };
+    match command {
+        Command::Check { topology } => storm_check(alloc, topology, shelf, out),
+        Command::Plain { topology, input } => {
             storm_plain(alloc, topology, input, shelf, out, custom)
         }
-        Some(
-            Command::Replay {
-                topology,
-                input,
-                schedule,
-            },
-        ) => storm_replay(
+        Command::Replay {
+            topology,
+            input,
+            schedule,
+        } => storm_replay(
             alloc, topology, input, schedule, shelf, out, stores, ids, custom, fates,
         ),
-        Some(
-            Command::Run {
-                topology,
-                input,
-                workers,
-            },
-        ) => storm_run(
+        Command::Run {
+            topology,
+            input,
+            workers,
+        } => storm_run(
             rt, alloc, topology, input, workers, shelf, out, ticks, stores, ids, custom, gate,
             fates,
         ),
-        Some(Command::Load { records, seed }) => {
+        Command::Load { records, seed } => {
             storm_load(alloc, records, seed, out, stores, ids, custom, fates)
         }
-        None => write_text(Status::Words, USAGE.as_bytes(), out),
     }
 }
 

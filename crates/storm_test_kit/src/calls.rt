@@ -1,6 +1,7 @@
 // Calls of `storm` over what is outside in memory.
 use crate::outside::{Outside, scripted_ids, scripted_ticks, shelf, sink, stores, taken};
 use crate::scenes::{Scene, owned};
+use bolt_ops::RowOp;
 use sample_operations::Backwards;
 use std::alloc::Global;
 use std::sync::Wait;
@@ -53,21 +54,34 @@ pub fn call_behind<R: Threads + Wait + Sync, G: Gate>(
     match outside.words {
         Some(script) => {
             let mut ids = scripted_ids(alloc, script)?;
-            call_with(rt, alloc, scene, outside, &mut ids, gate)
+            call_with(rt, alloc, scene, outside, &mut ids, &Backwards, gate)
         }
         None => {
             let mut ids = ChaChaMaker { key: [0; 32] };
-            call_with(rt, alloc, scene, outside, &mut ids, gate)
+            call_with(rt, alloc, scene, outside, &mut ids, &Backwards, gate)
         }
     }
 }
 
-fn call_with<R: Threads + Wait + Sync, N: IdMaker, G: Gate>(
+/// Calls `storm` with an operation for `custom` bolts, and the ids of the program.
+pub fn call_custom<R: Threads + Wait + Sync, O: RowOp>(
+    rt: &R,
+    alloc: Global,
+    scene: Scene<'_>,
+    outside: Outside<'_>,
+    custom: &O,
+) -> Result<Told, Mismatch> {
+    let mut ids = ChaChaMaker { key: [0; 32] };
+    call_with(rt, alloc, scene, outside, &mut ids, custom, &OpenGate {})
+}
+
+fn call_with<R: Threads + Wait + Sync, N: IdMaker, O: RowOp, G: Gate>(
     rt: &R,
     alloc: Global,
     scene: Scene<'_>,
     outside: Outside<'_>,
     ids: &mut N,
+    custom: &O,
     gate: &G,
 ) -> Result<Told, Mismatch>
 where
@@ -88,7 +102,7 @@ where
         &mut ticks,
         &mut stores,
         ids,
-        &Backwards,
+        custom,
         gate,
         &mut fates,
     );

@@ -9,8 +9,8 @@ mod outside;
 mod scenes;
 
 pub use calls::{
-    Fate, Told, call, call_behind, check_answer, check_call, check_faults, check_refusal,
-    check_tables,
+    Fate, Told, call, call_behind, call_custom, check_answer, check_call, check_faults,
+    check_refusal, check_tables,
 };
 pub use outside::{
     CALM, Cell, Failing, Outside, Script, scripted_ids, scripted_ticks, shelf, sink, stores, taken,

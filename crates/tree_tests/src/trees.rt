@@ -1,7 +1,7 @@
 // What the tuple trees of a word count write, and the tables by definition.
+use sample_operations::Backwards;
 use std::test::Fail;
 use topology_reader::read_topology;
-use sample_operations::Backwards;
 use tree_model::storm_values::read_input;
 use tree_model::{count_nodes, plain_tables, writes_of};
 

@@ -1,5 +1,0 @@
-use Rattle.box_rows.specs.Rows.{ArePasses}
-use Rattle.pool_tests.proofs.stretches.count_left.Given as goal
-
-abbrev pub invariant-loop-count : goal.invariant-loop-count
-invariant-loop-count g l = ArePasses l.posts.plan.now l.posts.boxes.items l.row.items

@@ -1,0 +1,3 @@
+-- What the steps of the bodies have done. No contract of a public call cites these.
+pub mod Parser
+pub mod Reading
