@@ -1,8 +1,7 @@
 """The refusals of docs/FORMATS.md, written from that page alone and without a look at the program.
 
 topology_of(bytes) answers the text of the first fault, or the numbers of a valid topology; input_fault and
-schedule_fault answer a text or None. Unsure is raised where the page does not decide: a JSON number that is too
-great for a float.
+schedule_fault answer a text or None.
 """
 
 import json
@@ -11,11 +10,8 @@ import re
 MOST = 2**64 - 1
 MOST_BYTES, MOST_INPUT, MOST_SCHEDULE = 65_536, 67_108_864, 1_048_576
 MOST_LINE, MOST_LINES, MOST_ROUNDS = 4_096, 100_000, 10_000_000
+MOST_DEEP = 127
 MOST_TASKS, MOST_WEIGHT, MOST_FIELDS, MOST_TEXT, MOST_NAME = 256, 256, 8, 256, 32
-
-
-class Unsure(Exception):
-    """The page does not say."""
 
 
 class Refused(Exception):
@@ -37,15 +33,9 @@ def no_constant(text):
     raise ValueError(text)
 
 
-def fraction(text):
+def number(text):
     if float(text) in (float("inf"), float("-inf")):
-        raise Unsure(text)
-    return Number(text)
-
-
-def whole(text):
-    if len(text) > 300:
-        raise Unsure(text)
+        raise ValueError("too great for a float")
     return Number(text)
 
 
@@ -72,15 +62,15 @@ def json_of(data):
     text = data.decode("utf-8")
     if text.startswith("\ufeff"):
         raise ValueError("a byte order mark")
-    if depth_of(text) > 100:
-        raise Unsure("deep brackets")
+    if depth_of(text) > MOST_DEEP:
+        raise ValueError("deep brackets")
     parsed = []
 
     def pairs(found):
         parsed.extend(found)
         return dict(found)
 
-    value = json.loads(text, parse_int=whole, parse_float=fraction, parse_constant=no_constant, object_pairs_hook=pairs)
+    value = json.loads(text, parse_int=number, parse_float=number, parse_constant=no_constant, object_pairs_hook=pairs)
     if not is_whole_text(value) or not all(is_whole_text(list(it)) for it in parsed):
         raise ValueError("half of a pair")
     return value

@@ -113,7 +113,11 @@ class Topologies(Pictures):
     def test_refuses(self):
         word_count = json.loads(text_of(f"{TOP}/examples/word_count/topology.json"))
         word_count["bolts"][0]["inputs"][0]["from"] = "split"
-        for text in ["", "[]", "{}", "null", json.dumps(word_count)]:
+        named = json.loads(text_of(f"{TOP}/examples/word_count/topology.json"))
+        named["states"][0]["name"] = 10
+        done = json.loads(text_of(f"{TOP}/examples/word_count/topology.json"))
+        done["bolts"][0]["op"]["do"] = 3
+        for text in ["", "[]", "{}", "null", json.dumps(word_count), json.dumps(named), json.dumps(done)]:
             with self.subTest(text), self.assertRaises(picture.Unreadable):
                 picture.topology_picture(text)
 

@@ -1,5 +1,5 @@
 // Two calls to the outside fail.
-use crate::commands::{Command, KINDS, SCHEDULE, commands};
+use crate::commands::{KINDS, SCHEDULE, commands};
 use sample_topologies::{SENTENCES, WORD_COUNT};
 use std::alloc::Global;
 use std::sync::Wait;
