@@ -15,6 +15,7 @@ with_texts app (id ∷ ids) = with_texts (with_rule app (positional id true)) id
 abbrev pub app_with : Text → List Text → App
 app_with name ids = with_texts (new_app name) ids
 
+-- the names of the texts
 abbrev pub topology : Text
 topology = codes "topology"
 
@@ -33,6 +34,7 @@ records = codes "records"
 abbrev pub seed : Text
 seed = codes "seed"
 
+-- the subcommands
 abbrev pub check_app : App
 check_app = app_with (codes "check") (topology ∷ [])
 
@@ -59,6 +61,8 @@ top_shape = record (new_shape (codes "storm")) {
 abbrev pub top_app : App
 top_app = record { top = top_shape; subs = [] }
 
+-- the whole parser
 abbrev pub storm_app : App
-storm_app = with_subcommand (with_subcommand (with_subcommand (with_subcommand (with_subcommand top_app
-    check_app.top) plain_app.top) replay_app.top) run_app.top) load_app.top
+storm_app =
+    with_subcommand (with_subcommand (with_subcommand (with_subcommand (with_subcommand
+    top_app check_app.top) plain_app.top) replay_app.top) run_app.top) load_app.top

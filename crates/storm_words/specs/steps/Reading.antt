@@ -15,15 +15,18 @@ abbrev pub workers_of : Option Text → Option ℕ
 workers_of None = Some 4
 workers_of (Some word) = number_word 1 most_workers word
 
+-- the command of a subcommand's name and what its arguments were given
 abbrev pub read_of : Option (Text × List Row) → Option Command
 read_of None = None
 read_of (Some (name, rows)) =
     if bytes_eq name (codes "check") then Some (check (text_of topology rows))
-    else (if bytes_eq name (codes "plain") then Some (plain (text_of topology rows) (text_of input rows))
+    else (if bytes_eq name (codes "plain")
+    then Some (plain (text_of topology rows) (text_of input rows))
     else (if bytes_eq name (codes "replay")
     then Some (replay (text_of topology rows) (text_of input rows) (text_of schedule rows))
     else (if bytes_eq name (codes "run")
     then option_and_then (λ w. Some (run (text_of topology rows) (text_of input rows) w))
     (workers_of (first_of workers rows))
-    else option_and_then (λ n. option_and_then (λ s. Some (load n s)) (number_word 0 65535 (text_of seed rows)))
+    else option_and_then
+    (λ n. option_and_then (λ s. Some (load n s)) (number_word 0 65535 (text_of seed rows)))
     (number_word 1 10000 (text_of records rows)))))
