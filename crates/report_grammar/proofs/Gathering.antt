@@ -271,9 +271,9 @@ pub gathered_more : (old new : Gathered) (text : List ℕ) (lines later : List (
 gathered_more old new text lines later follows is all =
     let grown_ = line_added old new follows.line follows.added in
     let texts : texts_so_far new ≡ texts_so_far old ++ text ∷ [] =
-        ap (map line_text) grown_.0 ∙ (map-append line_text (lines_so_far old) (follows.line ∷ []) ∙ ap (λ t. texts_so_far old ++ t ∷ []) (sym follows.says.is_text)) in
+    ap (map line_text) grown_.0 ∙ (map-append line_text (lines_so_far old) (follows.line ∷ []) ∙ ap (λ t. texts_so_far old ++ t ∷ []) (sym follows.says.is_text)) in
     let count : length (lines_so_far new) ≡ suc (length (lines_so_far old)) =
-        ap length grown_.0 ∙ (length-append (lines_so_far old) (follows.line ∷ []) ∙ omega arith) in
+    ap length grown_.0 ∙ (length-append (lines_so_far old) (follows.line ∷ []) ∙ omega arith) in
     (ap (λ ts. ts ++ later) texts ∙ (append_assoc (texts_so_far old) (text ∷ []) later ∙ all), grown_.1 follows.says.is_line is, count)
 
 -- a line that may not follow, and any other line of this text
@@ -313,7 +313,7 @@ all_read g t bytes is ended all = go g.end ended is.end (sym (append-nil (texts_
         let one : u ≡ t = same_Some u t there in
         let r : ReportText = record { attempts = g.attempts; cells = g.cells; tail = u } in
         let text : bytes ≡ report_text r =
-            sym (lines_joined bytes) ∙ (ap (flat_map (λ line. line)) (sym same) ∙ (flat_map-map (λ line. line) line_text (lines_of r) ∙ text_joined r)) in
+        sym (lines_joined bytes) ∙ (ap (flat_map (λ line. line)) (sym same) ∙ (flat_map-map (λ line. line) line_text (lines_of r) ∙ text_joined r)) in
         subst (λ (v : TailText). IsWellFormed (record { attempts = g.attempts; cells = g.cells; tail = v }) × (bytes ≡ report_text (record { attempts = g.attempts; cells = g.cells; tail = v }))) one
         (record { attempts = is.attempts; cells = is.cells; tail = so_far.0; fit = so_far.1 }, text)
 

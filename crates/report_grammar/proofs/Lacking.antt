@@ -89,8 +89,8 @@ lacks_places byte (x ∷ xs) at =
 pub decimal_lacks : (byte n : ℕ) → n < 10 ^ 64 → (48 ≤ byte → byte ≤ 57 → ⊥) → Lacks byte (decimal n)
 decimal_lacks byte n small other =
     lacks_places byte (decimal n) (λ k below same.
-      let at = decimal_range n small k below in
-      other (omega (arith, at.0)) (omega (arith, at.1)))
+    let at = decimal_range n small k below in
+    other (omega (arith, at.0)) (omega (arith, at.1)))
 
 pub signed_high : (z : ℤ) → FitsSigned w128 z → High (signed_decimal z)
 signed_high (pos n) fits = decimal_high n (omega arith)

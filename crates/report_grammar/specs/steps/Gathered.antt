@@ -14,11 +14,12 @@ nothing = record { attempts = []; cells = []; end = None }
 
 -- an attempt's line comes before all cells
 abbrev pub attempt_added : Gathered → AttemptText → List CellText → Option Gathered
-attempt_added g a [] = Some (record { attempts = g.attempts ++ a ∷ []; cells = []; end = None })
+attempt_added g a [] =
+    Some (record { attempts = g.attempts ++ a ∷ []; cells = []; end = g.end })
 attempt_added g a (c ∷ cs) = None
 
 abbrev pub cell_added : Gathered → CellText → Gathered
-cell_added g c = record { attempts = g.attempts; cells = g.cells ++ c ∷ []; end = None }
+cell_added g c = record { attempts = g.attempts; cells = g.cells ++ c ∷ []; end = g.end }
 
 -- the last line, before which cells stand only where all was committed
 abbrev pub ended : Gathered → TailText → Gathered

@@ -102,8 +102,8 @@ unfoldable pub commit_failed_in : List ℕ → Option EndText
 commit_failed_in text =
     option_and_then
     (λ digits. option_and_then
-      (λ part. option_map (λ state. commit_failed state part) (text_in (front_of 32 text)))
-      (number_of most_u32 digits))
+    (λ part. option_map (λ state. commit_failed state part) (text_in (front_of 32 text)))
+    (number_of most_u32 digits))
     (rest_of 32 text)
 
 -- what a function finds behind a word, or else something else
@@ -115,7 +115,7 @@ unfoldable pub listed_in : List ℕ → Option EndText
 listed_in text =
     behind_or (after_word (codes "failed ") text) failed_in
     (behind_or (after_word (codes "coincided ") text) coincided_in
-      (behind_or (after_word (codes "commit failed ") text) commit_failed_in None))
+    (behind_or (after_word (codes "commit failed ") text) commit_failed_in None))
 
 -- how an attempt ended
 unfoldable pub end_in : List ℕ → Option EndText
@@ -159,10 +159,10 @@ unfoldable pub cell_in : List ℕ → Option Cell
 cell_in text =
     option_and_then
     (λ rest. option_map
-      (λ others. record {
-        state = front_of 32 rest;
-        key = before_space others;
-        digits = behind_space others;
-      })
-      (rest_of 32 rest))
+    (λ others. record {
+      state = front_of 32 rest;
+      key = before_space others;
+      digits = behind_space others;
+    })
+    (rest_of 32 rest))
     (after_word (codes "cell ") text)
