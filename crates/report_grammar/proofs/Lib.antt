@@ -1,0 +1,10 @@
+pub mod Fronts
+pub mod Gathering
+pub mod Hex
+pub mod Lacking
+pub mod LinesBack
+pub mod LinesRead
+pub mod Lists
+pub mod NumbersRead
+pub mod Pieces
+pub mod Splitting

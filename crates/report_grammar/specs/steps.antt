@@ -1,0 +1,4 @@
+pub mod Gathered
+pub mod Lists
+pub mod Parsed
+pub mod Reading

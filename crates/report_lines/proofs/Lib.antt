@@ -1,0 +1,6 @@
+mod CellLemmas
+mod GatheredLemmas
+mod Joined
+mod NumberLemmas
+mod Pieces
+mod ReadingLemmas

@@ -1,0 +1,4 @@
+pub mod Cells
+pub mod Gathered
+pub mod Headings
+pub mod Printed

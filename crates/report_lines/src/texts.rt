@@ -1,0 +1,56 @@
+// Texts of paths and of edges.
+ghost use Rattle.std.specs.Prelude.{◌≡◌, ◌++◌, map, IfOk, OnOk, string_bytes};
+ghost use Rattle.report_grammar.specs.Report.{edge_text, edges_text, hex_text, path_text};
+ghost use Rattle.report_lines.specs.Told.{edge_told};
+
+use std::alloc::Global;
+use std::fmt::Write;
+use storm_values::{Memory, Path};
+use tuple_tickets::Edge;
+
+/// Adds the numbers of a path, joined by full stops.
+pub fn push_path(text: &mut String, path: &Path) -> Result<(), Memory>
+    ensures { OnOk result (string_bytes text.new ≡ string_bytes text.old ++ path_text path.now) }
+{
+    let Some((first, others)) = path.as_slice().split_first() else {
+        return Ok(());
+    };
+    write!(text, "{first}")?;
+    for number in others {
+        write!(text, ".{number}")?;
+    }
+    Ok(())
+}
+
+/// Adds edges, joined by spaces.
+pub fn push_edges(alloc: Global, text: &mut String, edges: &[Edge]) -> Result<(), Memory>
+    ensures { OnOk result (string_bytes text.new
+        ≡ string_bytes text.old ++ edges_text (map edge_told edges.now)) }
+{
+    let Some((first, others)) = edges.split_first() else {
+        return Ok(());
+    };
+    push_edge(alloc, text, first)?;
+    for edge in others {
+        text.push_str(" ")?;
+        push_edge(alloc, text, edge)?;
+    }
+    Ok(())
+}
+
+fn push_edge(alloc: Global, text: &mut String, edge: &Edge) -> Result<(), Memory>
+    ensures { OnOk result (string_bytes text.new
+        ≡ string_bytes text.old ++ edge_text (edge_told edge.now)) }
+{
+    push_path(text, &edge.path)?;
+    let id = hex_of(alloc, edge.id)?;
+    write!(text, ":{id}")?;
+    Ok(())
+}
+
+/// The sixteen digits of an id.
+fn hex_of(alloc: Global, id: u64) -> Result<String, Memory>
+    ensures { IfOk result (λ text. string_bytes text ≡ hex_text 16 id) }
+{
+    hex::encode(alloc, id.to_be_bytes())
+}

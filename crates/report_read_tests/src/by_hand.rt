@@ -1,0 +1,74 @@
+// A report that is put together, printed, and read back.
+use crate::read::check_reports;
+use report_lines::{
+    AttemptLine, AttemptLines, CellLine, CellLines, EndLine, Report, Tail, print_report,
+};
+use std::alloc::Global;
+use storm_values::{Memory, Path, Root, Txt};
+use test_kit::{Mismatch, compare};
+use tuple_tickets::{Edge, Edges};
+
+const TEXT: &str = "attempt 7.1 records 3-4 ticks 0-1 failed 0.2
+attempt 7.2 records 3-4 ticks 1-2 coincided 5:00000000000000ff
+attempt 7.3 records 3-4 ticks 2-2 commit failed sold 1
+attempt 7.4 records 3-4 ticks 2-9 timed out
+attempt 7.5 records 3-4 ticks 9-9 committed
+cell sold [\"glass\"] -3
+ok 4 records 2 batches
+";
+
+fn line_of(attempt: u32, start: u64, finish: u64, end: EndLine) -> AttemptLine {
+    AttemptLine {
+        root: Root { txid: 7, attempt },
+        first: 3,
+        last: 4,
+        start,
+        finish,
+        end,
+    }
+}
+
+fn edges_of(alloc: Global) -> Result<Edges, Memory> {
+    let mut edges = Edges::new(alloc);
+    let path = Path::from_slice(alloc, &[5])?;
+    edges.push(Edge { path, id: 255 })?;
+    Ok(edges)
+}
+
+fn lines_of(alloc: Global) -> Result<AttemptLines, Memory> {
+    let mut lines = AttemptLines::new(alloc);
+    let path = Path::from_slice(alloc, &[0, 2])?;
+    lines.push(line_of(1, 0, 1, EndLine::Failed(path)))?;
+    lines.push(line_of(2, 1, 2, EndLine::Coincided(edges_of(alloc)?)))?;
+    let state = Txt::from_str(alloc, "sold")?;
+    lines.push(line_of(3, 2, 2, EndLine::CommitFailed(state, 1)))?;
+    lines.push(line_of(4, 2, 9, EndLine::TimedOut))?;
+    lines.push(line_of(5, 9, 9, EndLine::Committed))?;
+    Ok(lines)
+}
+
+fn cells_of(alloc: Global) -> Result<CellLines, Memory> {
+    let mut cells = CellLines::new(alloc);
+    cells.push(CellLine {
+        state: Txt::from_str(alloc, "sold")?,
+        key: Txt::from_str(alloc, "[\"glass\"]")?,
+        value: -3,
+    })?;
+    Ok(cells)
+}
+
+#[test]
+fn a_report_that_is_put_together(rt: HostRuntime) -> Result<(), Mismatch> {
+    let alloc = rt.alloc();
+    let report = Report {
+        lines: lines_of(alloc)?,
+        cells: cells_of(alloc)?,
+        tail: Tail::Ok {
+            records: 4,
+            batches: 2,
+        },
+    };
+    let text = print_report(alloc, &report)?;
+    compare(alloc, "a report", text.as_str(), TEXT)?;
+    check_reports(alloc, &[TEXT])
+}

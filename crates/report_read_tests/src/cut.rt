@@ -1,0 +1,42 @@
+// A report with lines of every kind, cut off.
+use crate::read::{check_reports, is_refused_at};
+use std::alloc::Global;
+use test_kit::Mismatch;
+
+const EVERY_LINE: &str = "attempt 1.1 records 1-2 ticks 0-0 failed 0
+attempt 1.2 records 1-2 ticks 0-1 failed 0.12.3
+attempt 1.3 records 1-2 ticks 1-4 timed out
+attempt 1.4 records 1-2 ticks 4-5 coincided 0.0:0000000000000009 0.1:fedcba9876543210
+attempt 1.5 records 1-2 ticks 5-6 commit failed counts 0
+attempt 1.6 records 1-2 ticks 6-8 committed
+cell counts [\"cow\"] 2
+cell counts [\"moon\",-7] -7
+ok 2 records 1 batches
+";
+
+#[test]
+fn lines_of_every_kind(rt: HostRuntime) -> Result<(), Mismatch> {
+    check_reports(rt.alloc(), &[EVERY_LINE])
+}
+
+fn check_cut(alloc: Global, bytes: &[u8], lines: u64) -> Result<(), Mismatch> {
+    if is_refused_at(alloc, bytes, lines + 1) {
+        Ok(())
+    } else {
+        Err(Mismatch::Case(format!(in alloc; "{lines} whole lines")?))
+    }
+}
+
+// Refused is the line that was cut, or the one that is missing behind the last.
+#[test]
+fn a_report_that_is_cut_at_any_byte(rt: HostRuntime) -> Result<(), Mismatch> {
+    let bytes = EVERY_LINE.as_bytes();
+    let mut lines = 0;
+    for (length, byte) in bytes.iter().enumerate() {
+        check_cut(rt.alloc(), &bytes[..length], lines)?;
+        if *byte == b'\n' && lines < 1000 {
+            lines += 1;
+        }
+    }
+    Ok(())
+}
