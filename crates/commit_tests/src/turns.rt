@@ -44,17 +44,6 @@ const ROOT_3_1: Root = Root {
     attempt: 1,
 };
 
-// A turn that orders no commit, ends nothing and does not stop.
-fn begins(told: Told, begun: &'static [Root]) -> Step {
-    Step {
-        call: Call::Turn(told, 0),
-        begun,
-        commit: None,
-        ended: &[],
-        stop: None,
-    }
-}
-
 // The first turn of two that may be pending.
 const FIRST: Step = Step {
     call: Call::Turn(Told::Nothing, 0),
@@ -65,240 +54,290 @@ const FIRST: Step = Step {
 };
 
 // The second batch completes first. Commits come in the order of transactions, one a turn.
+const IN_ORDER: [Step; 6] = [
+    FIRST,
+    Step {
+        call: Call::Turn(Told::Closed(ROOT_2_1), 0),
+        begun: &[],
+        commit: None,
+        ended: &[],
+        stop: None,
+    },
+    Step {
+        call: Call::Turn(Told::Closed(ROOT_1_1), 0),
+        begun: &[],
+        commit: Some(ROOT_1_1),
+        ended: &[],
+        stop: None,
+    },
+    Step {
+        call: Call::Done,
+        begun: &[],
+        commit: None,
+        ended: &[Ended {
+            root: ROOT_1_1,
+            start: 0,
+            finish: 0,
+            how: How::Committed,
+        }],
+        stop: None,
+    },
+    Step {
+        call: Call::Turn(Told::Nothing, 0),
+        begun: &[ROOT_3_1],
+        commit: Some(ROOT_2_1),
+        ended: &[],
+        stop: None,
+    },
+    Step {
+        call: Call::Done,
+        begun: &[],
+        commit: None,
+        ended: &[Ended {
+            root: ROOT_2_1,
+            start: 0,
+            finish: 0,
+            how: How::Committed,
+        }],
+        stop: None,
+    },
+];
+
 #[test]
 fn commits_come_in_order_one_a_turn(rt: HostRuntime) -> Result<(), Mismatch> {
-    let steps = [
-        FIRST,
-        begins(Told::Closed(ROOT_2_1), &[]),
-        Step {
-            call: Call::Turn(Told::Closed(ROOT_1_1), 0),
-            begun: &[],
-            commit: Some(ROOT_1_1),
-            ended: &[],
-            stop: None,
-        },
-        Step {
-            call: Call::Done,
-            begun: &[],
-            commit: None,
-            ended: &[Ended {
-                root: ROOT_1_1,
-                start: 0,
-                finish: 0,
-                how: How::Committed,
-            }],
-            stop: None,
-        },
-        Step {
-            call: Call::Turn(Told::Nothing, 0),
-            begun: &[ROOT_3_1],
-            commit: Some(ROOT_2_1),
-            ended: &[],
-            stop: None,
-        },
-        Step {
-            call: Call::Done,
-            begun: &[],
-            commit: None,
-            ended: &[Ended {
-                root: ROOT_2_1,
-                start: 0,
-                finish: 0,
-                how: How::Committed,
-            }],
-            stop: None,
-        },
-    ];
-    check_steps(rt.alloc(), TWO_PENDING, 3, &steps, 2)
+    check_steps(rt.alloc(), TWO_PENDING, 3, &IN_ORDER, 2)
 }
 
 // A failed attempt ends, and the next one begins in the same turn. A later complete verdict of the
 // one that ended changes nothing.
+const FAILED_ATTEMPT: [Step; 3] = [
+    FIRST,
+    Step {
+        call: Call::Turn(Told::Fails(ROOT_1_1), 0),
+        begun: &[ROOT_1_2],
+        commit: None,
+        ended: &[Ended {
+            root: ROOT_1_1,
+            start: 0,
+            finish: 0,
+            how: How::Failed,
+        }],
+        stop: None,
+    },
+    Step {
+        call: Call::Turn(Told::Closed(ROOT_1_1), 0),
+        begun: &[],
+        commit: None,
+        ended: &[],
+        stop: None,
+    },
+];
+
 #[test]
 fn a_failed_attempt_begins_again(rt: HostRuntime) -> Result<(), Mismatch> {
-    let steps = [
-        FIRST,
-        Step {
-            call: Call::Turn(Told::Fails(ROOT_1_1), 0),
-            begun: &[ROOT_1_2],
-            commit: None,
-            ended: &[Ended {
-                root: ROOT_1_1,
-                start: 0,
-                finish: 0,
-                how: How::Failed,
-            }],
-            stop: None,
-        },
-        begins(Told::Closed(ROOT_1_1), &[]),
-    ];
-    check_steps(rt.alloc(), TWO_PENDING, 2, &steps, 0)
+    check_steps(rt.alloc(), TWO_PENDING, 2, &FAILED_ATTEMPT, 0)
 }
 
 // A list that leaves an edge open ends the attempt, and the next one begins in the same turn.
+const COINCIDED_ATTEMPT: [Step; 2] = [
+    FIRST,
+    Step {
+        call: Call::Turn(Told::Open(ROOT_2_1), 0),
+        begun: &[ROOT_2_2],
+        commit: None,
+        ended: &[Ended {
+            root: ROOT_2_1,
+            start: 0,
+            finish: 0,
+            how: How::Coincided,
+        }],
+        stop: None,
+    },
+];
+
 #[test]
 fn a_coincided_attempt_begins_again_in_the_same_turn(rt: HostRuntime) -> Result<(), Mismatch> {
-    let steps = [
-        FIRST,
-        Step {
-            call: Call::Turn(Told::Open(ROOT_2_1), 0),
-            begun: &[ROOT_2_2],
-            commit: None,
-            ended: &[Ended {
-                root: ROOT_2_1,
-                start: 0,
-                finish: 0,
-                how: How::Coincided,
-            }],
-            stop: None,
-        },
-    ];
-    check_steps(rt.alloc(), TWO_PENDING, 2, &steps, 0)
+    check_steps(rt.alloc(), TWO_PENDING, 2, &COINCIDED_ATTEMPT, 0)
 }
 
 // After a commit that failed the next attempt begins in the next turn.
+const FAILED_COMMIT: [Step; 4] = [
+    FIRST,
+    Step {
+        call: Call::Turn(Told::Closed(ROOT_1_1), 0),
+        begun: &[],
+        commit: Some(ROOT_1_1),
+        ended: &[],
+        stop: None,
+    },
+    Step {
+        call: Call::CommitFails,
+        begun: &[],
+        commit: None,
+        ended: &[Ended {
+            root: ROOT_1_1,
+            start: 0,
+            finish: 0,
+            how: How::CommitFailed,
+        }],
+        stop: None,
+    },
+    Step {
+        call: Call::Turn(Told::Nothing, 0),
+        begun: &[ROOT_1_2],
+        commit: None,
+        ended: &[],
+        stop: None,
+    },
+];
+
 #[test]
 fn a_failed_commit_begins_again_in_the_next_turn(rt: HostRuntime) -> Result<(), Mismatch> {
-    let steps = [
-        FIRST,
-        Step {
-            call: Call::Turn(Told::Closed(ROOT_1_1), 0),
-            begun: &[],
-            commit: Some(ROOT_1_1),
-            ended: &[],
-            stop: None,
-        },
-        Step {
-            call: Call::CommitFails,
-            begun: &[],
-            commit: None,
-            ended: &[Ended {
-                root: ROOT_1_1,
-                start: 0,
-                finish: 0,
-                how: How::CommitFailed,
-            }],
-            stop: None,
-        },
-        begins(Told::Nothing, &[ROOT_1_2]),
-    ];
-    check_steps(rt.alloc(), TWO_PENDING, 2, &steps, 0)
+    check_steps(rt.alloc(), TWO_PENDING, 2, &FAILED_COMMIT, 0)
 }
 
 // Attempts end at the third tick after their begin; a settled one is not timed.
+const TIMED_OUT: [Step; 3] = [
+    FIRST,
+    Step {
+        call: Call::Turn(Told::Closed(ROOT_2_1), 2),
+        begun: &[],
+        commit: None,
+        ended: &[],
+        stop: None,
+    },
+    Step {
+        call: Call::Turn(Told::Nothing, 1),
+        begun: &[ROOT_1_2],
+        commit: None,
+        ended: &[Ended {
+            root: ROOT_1_1,
+            start: 0,
+            finish: 3,
+            how: How::TimedOut,
+        }],
+        stop: None,
+    },
+];
+
 #[test]
 fn attempts_time_out_at_their_last_tick(rt: HostRuntime) -> Result<(), Mismatch> {
-    let steps = [
-        FIRST,
-        Step {
-            call: Call::Turn(Told::Closed(ROOT_2_1), 2),
-            begun: &[],
-            commit: None,
-            ended: &[],
-            stop: None,
-        },
-        Step {
-            call: Call::Turn(Told::Nothing, 1),
-            begun: &[ROOT_1_2],
-            commit: None,
-            ended: &[Ended {
-                root: ROOT_1_1,
-                start: 0,
-                finish: 3,
-                how: How::TimedOut,
-            }],
-            stop: None,
-        },
-    ];
-    check_steps(rt.alloc(), TWO_PENDING, 2, &steps, 0)
+    check_steps(rt.alloc(), TWO_PENDING, 2, &TIMED_OUT, 0)
 }
 
 // The attempts run out at a verdict, and the same stop is answered again.
+const OUT_AT_A_VERDICT: [Step; 3] = [
+    Step {
+        call: Call::Turn(Told::Nothing, 0),
+        begun: &[ROOT_1_1],
+        commit: None,
+        ended: &[],
+        stop: None,
+    },
+    Step {
+        call: Call::Turn(Told::Fails(ROOT_1_1), 5),
+        begun: &[],
+        commit: None,
+        ended: &[Ended {
+            root: ROOT_1_1,
+            start: 0,
+            finish: 0,
+            how: How::Failed,
+        }],
+        stop: Some(1),
+    },
+    Step {
+        call: Call::Turn(Told::Nothing, 5),
+        begun: &[],
+        commit: None,
+        ended: &[],
+        stop: Some(1),
+    },
+];
+
 #[test]
 fn attempts_run_out_at_a_verdict(rt: HostRuntime) -> Result<(), Mismatch> {
-    let steps = [
-        begins(Told::Nothing, &[ROOT_1_1]),
-        Step {
-            call: Call::Turn(Told::Fails(ROOT_1_1), 5),
-            begun: &[],
-            commit: None,
-            ended: &[Ended {
-                root: ROOT_1_1,
-                start: 0,
-                finish: 0,
-                how: How::Failed,
-            }],
-            stop: Some(1),
-        },
-        Step {
-            call: Call::Turn(Told::Nothing, 5),
-            begun: &[],
-            commit: None,
-            ended: &[],
-            stop: Some(1),
-        },
-    ];
-    check_steps(rt.alloc(), ONE_PENDING, 2, &steps, 0)
+    check_steps(rt.alloc(), ONE_PENDING, 2, &OUT_AT_A_VERDICT, 0)
 }
 
 // Two roots end at one tick, and the attempts of both have run out. Both ends are told, the stop is
 // of the first, and no further tick passes.
+const OUT_AT_A_TICK: [Step; 3] = [
+    FIRST,
+    Step {
+        call: Call::Turn(Told::Nothing, 3),
+        begun: &[ROOT_1_2, ROOT_2_2],
+        commit: None,
+        ended: &[
+            Ended {
+                root: ROOT_1_1,
+                start: 0,
+                finish: 3,
+                how: How::TimedOut,
+            },
+            Ended {
+                root: ROOT_2_1,
+                start: 0,
+                finish: 3,
+                how: How::TimedOut,
+            },
+        ],
+        stop: None,
+    },
+    Step {
+        call: Call::Turn(Told::Nothing, 9),
+        begun: &[],
+        commit: None,
+        ended: &[
+            Ended {
+                root: ROOT_1_2,
+                start: 3,
+                finish: 6,
+                how: How::TimedOut,
+            },
+            Ended {
+                root: ROOT_2_2,
+                start: 3,
+                finish: 6,
+                how: How::TimedOut,
+            },
+        ],
+        stop: Some(1),
+    },
+];
+
 #[test]
 fn attempts_run_out_at_a_tick(rt: HostRuntime) -> Result<(), Mismatch> {
-    let steps = [
-        FIRST,
-        Step {
-            call: Call::Turn(Told::Nothing, 3),
-            begun: &[ROOT_1_2, ROOT_2_2],
-            commit: None,
-            ended: &[
-                Ended {
-                    root: ROOT_1_1,
-                    start: 0,
-                    finish: 3,
-                    how: How::TimedOut,
-                },
-                Ended {
-                    root: ROOT_2_1,
-                    start: 0,
-                    finish: 3,
-                    how: How::TimedOut,
-                },
-            ],
-            stop: None,
-        },
-        Step {
-            call: Call::Turn(Told::Nothing, 9),
-            begun: &[],
-            commit: None,
-            ended: &[
-                Ended {
-                    root: ROOT_1_2,
-                    start: 3,
-                    finish: 6,
-                    how: How::TimedOut,
-                },
-                Ended {
-                    root: ROOT_2_2,
-                    start: 3,
-                    finish: 6,
-                    how: How::TimedOut,
-                },
-            ],
-            stop: Some(1),
-        },
-    ];
-    check_steps(rt.alloc(), TWO_PENDING, 2, &steps, 0)
+    check_steps(rt.alloc(), TWO_PENDING, 2, &OUT_AT_A_TICK, 0)
 }
 
 // A verdict of a root that never began, and a second one of a root that is settled, change nothing.
+const OTHER_ROOTS: [Step; 4] = [
+    FIRST,
+    Step {
+        call: Call::Turn(Told::Closed(ROOT_2_1), 0),
+        begun: &[],
+        commit: None,
+        ended: &[],
+        stop: None,
+    },
+    Step {
+        call: Call::Turn(Told::Fails(ROOT_2_1), 0),
+        begun: &[],
+        commit: None,
+        ended: &[],
+        stop: None,
+    },
+    Step {
+        call: Call::Turn(Told::Fails(ROOT_3_1), 0),
+        begun: &[],
+        commit: None,
+        ended: &[],
+        stop: None,
+    },
+];
+
 #[test]
 fn verdicts_of_other_roots_change_nothing(rt: HostRuntime) -> Result<(), Mismatch> {
-    let steps = [
-        FIRST,
-        begins(Told::Closed(ROOT_2_1), &[]),
-        begins(Told::Fails(ROOT_2_1), &[]),
-        begins(Told::Fails(ROOT_3_1), &[]),
-    ];
-    check_steps(rt.alloc(), TWO_PENDING, 3, &steps, 0)
+    check_steps(rt.alloc(), TWO_PENDING, 3, &OTHER_ROOTS, 0)
 }

@@ -85,12 +85,29 @@ fn cell_bytes(kind: Kind, line: &Line) -> [u8; 42] {
     }
 }
 
+// Each exit of what owns a store or a part drops all of it, which is dear to prove. So what may fail
+// in several places has a reference.
+fn set_line(alloc: Global, store: &mut MemStore, kind: Kind, line: &Line) -> Result<(), Memory> {
+    let key = bytes(alloc, line.0)?;
+    let cell = bytes(alloc, &cell_bytes(kind, line))?;
+    store.set(key, cell)
+}
+
+fn set_lines(
+    alloc: Global,
+    store: &mut MemStore,
+    kind: Kind,
+    lines: &[Line],
+) -> Result<(), Memory> {
+    for line in lines {
+        set_line(alloc, store, kind, line)?;
+    }
+    Ok(())
+}
+
 pub fn store_of(alloc: Global, kind: Kind, lines: &[Line]) -> Result<MemStore, Memory> {
     let mut store = MemStore::new(alloc);
-    for line in lines {
-        let cell = bytes(alloc, &cell_bytes(kind, line))?;
-        store.set(bytes(alloc, line.0)?, cell)?;
-    }
+    set_lines(alloc, &mut store, kind, lines)?;
     Ok(store)
 }
 
@@ -107,6 +124,13 @@ pub fn writes_of(alloc: Global, list: &[(&str, i64)]) -> Result<Writes, Memory> 
     Ok(writes)
 }
 
+fn group<'w>(grouped: &mut GroupedWrites<'w>, writes: &'w Writes) -> Result<(), Memory> {
+    for write in writes.as_slice() {
+        grouped.add(write.key.as_bytes(), write.amount)?;
+    }
+    Ok(())
+}
+
 /// Commits writes, which are brought together first.
 pub fn commit(
     alloc: Global,
@@ -115,9 +139,7 @@ pub fn commit(
     writes: &Writes,
 ) -> Result<(), PartFault> {
     let mut grouped = GroupedWrites::with_capacity(alloc, 1)?;
-    for write in writes.as_slice() {
-        grouped.add(write.key.as_bytes(), write.amount)?;
-    }
+    group(&mut grouped, writes)?;
     part.commit(txid, &grouped)
 }
 
@@ -129,15 +151,21 @@ fn take_step(alloc: Global, part: &mut Part<MemStore>, step: &Step) -> Result<()
     }
 }
 
+fn take_steps(alloc: Global, part: &mut Part<MemStore>, scene: &Scene) -> Result<(), Trouble> {
+    for step in scene.steps {
+        take_step(alloc, part, step)?;
+    }
+    if part.faults() == scene.faults {
+        Ok(())
+    } else {
+        Err(Trouble::Faults(part.faults()))
+    }
+}
+
 // The store after the steps.
 fn play(alloc: Global, scene: &Scene, store: MemStore) -> Result<MemStore, Trouble> {
     let mut part = Part::new(alloc, store, scene.kind, scene.by);
-    for step in scene.steps {
-        take_step(alloc, &mut part, step)?;
-    }
-    if part.faults() != scene.faults {
-        return Err(Trouble::Faults(part.faults()));
-    }
+    take_steps(alloc, &mut part, scene)?;
     Ok(part.into_store())
 }
 
@@ -173,15 +201,19 @@ fn count(store: &mut MemStore) -> Result<u64, StoreFault> {
     }
 }
 
-fn check_over(alloc: Global, scene: &Scene, store: MemStore) -> Result<(), Trouble> {
-    let mut store = play(alloc, scene, store)?;
-    compare(&mut store, scene.kind, scene.want)?;
-    let count = count(&mut store)?;
+fn compare_all(store: &mut MemStore, scene: &Scene) -> Result<(), Trouble> {
+    compare(store, scene.kind, scene.want)?;
+    let count = count(store)?;
     if count == scene.want.len() as u64 {
         Ok(())
     } else {
         Err(Trouble::Count(count))
     }
+}
+
+fn check_over(alloc: Global, scene: &Scene, store: MemStore) -> Result<(), Trouble> {
+    let mut store = play(alloc, scene, store)?;
+    compare_all(&mut store, scene)
 }
 
 /// Whether the steps make of the cells what they are to make.
