@@ -1,4 +1,2 @@
-mod Hex
-mod Joined
 mod Left
 mod Lines

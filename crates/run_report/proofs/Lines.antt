@@ -14,10 +14,11 @@ use Rattle.acker_core.specs.Edges.{AreLeft}
 use Rattle.attempt_fates.specs.declared.fates.Attempt.{Attempt}
 use Rattle.attempt_fates.specs.declared.fates.End.{End}
 use Rattle.attempt_fates.specs.declared.fates.End.TheVariants as ends
-use Rattle.run_report.specs.declared.report.Tail.{Tail}
+use Rattle.report_lines.specs.declared.report.Tail.{Tail}
+use Rattle.report_lines.specs.Told.{edge_told, tail_told}
 use Rattle.run_report.specs.Cells.{cells_of}
-use Rattle.run_report.specs.Fated.{edge_line, name_at, AreOpenOf, IsEndOf, line_with, IsLineOf, AreLinesOf, tail_of, IsReportText}
-use Rattle.run_report.specs.Report.{EdgeText, EndText, failed, coincided, commit_failed, end_text, AttemptText, attempt_text, cell_text, tail_text, report_text}
+use Rattle.run_report.specs.Fated.{name_at, AreOpenOf, IsEndOf, line_with, IsLineOf, AreLinesOf, IsReportText}
+use Rattle.report_grammar.specs.Report.{EdgeText, EndText, failed, coincided, commit_failed, end_text, AttemptText, attempt_text, cell_text, tail_text, report_text}
 use Rattle.run_report.specs.Steps.{heading_of, AddsOpen, AddsCoincided, AddsEnd, AddsLine, AddsLines}
 use Rattle.run_report.proofs.Left.{left_is_one}
 
@@ -25,7 +26,7 @@ use Rattle.run_report.proofs.Left.{left_is_one}
 
 open_are_one : (list : List AckMsg) (told other : List EdgeText) → AreOpenOf list told → AreOpenOf list other → told ≡ other
 open_are_one list told other first second =
-    first.are_told ∙ (ap (map edge_line) (left_is_one (occurrences list) first.edges second.edges first.are_left second.are_left) ∙ sym second.are_told)
+    first.are_told ∙ (ap (map edge_told) (left_is_one (occurrences list) first.edges second.edges first.are_left second.are_left) ∙ sym second.are_told)
 
 end_is_one : (plan : Topology) (end : End) (told other : EndText) → IsEndOf plan end told → IsEndOf plan end other → told ≡ other
 end_is_one plan (ends.Committed list) told other first second = first ∙ sym second
@@ -107,11 +108,11 @@ adds_line plan a old headed ended new headed_is adds new_is = record {
 
 -- ---- a report
 
-pub report_made : (plan : Topology) (fates : List Attempt) (tables : List Table) (tail : Tail) (none lined celled text : List ℕ) → none ≡ [] → AddsLines plan fates none lined → celled ≡ lined ++ flat_map cell_text (cells_of tables) → text ≡ celled ++ tail_text (tail_of tail) → IsReportText plan fates tables tail text
+pub report_made : (plan : Topology) (fates : List Attempt) (tables : List Table) (tail : Tail) (none lined celled text : List ℕ) → none ≡ [] → AddsLines plan fates none lined → celled ≡ lined ++ flat_map cell_text (cells_of tables) → text ≡ celled ++ tail_text (tail_told tail) → IsReportText plan fates tables tail text
 unfolding report_text
 report_made plan fates tables tail none lined celled text empty adds cells tailed = record {
   lines = adds.lines;
   are_lines = adds.are_lines;
   printed =
-      tailed ∙ ap (λ t. t ++ tail_text (tail_of tail)) (cells ∙ ap (λ t. t ++ flat_map cell_text (cells_of tables)) (adds.added ∙ ap (λ t. t ++ flat_map attempt_text adds.lines) empty));
+      tailed ∙ ap (λ t. t ++ tail_text (tail_told tail)) (cells ∙ ap (λ t. t ++ flat_map cell_text (cells_of tables)) (adds.added ∙ ap (λ t. t ++ flat_map attempt_text adds.lines) empty));
 }

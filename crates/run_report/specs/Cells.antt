@@ -3,7 +3,7 @@ use Rattle.std.specs.Prelude.{ℕ, List, map}
 use Rattle.std.specs.List.{flat_map}
 use Rattle.tree_model.specs.declared.write.Pair.{Pair}
 use Rattle.tree_model.specs.declared.write.Table.{Table}
-use Rattle.run_report.specs.Report.{CellText}
+use Rattle.report_grammar.specs.Report.{CellText}
 
 abbrev pub cell_of : List ℕ → Pair → CellText
 cell_of name pair = record { state = name; key = pair.key; value = pair.value }

@@ -11,13 +11,10 @@ use Rattle.acker_core.specs.Edges.{AreLeft}
 use Rattle.attempt_fates.specs.declared.fates.Attempt.{Attempt}
 use Rattle.attempt_fates.specs.declared.fates.End.{End}
 use Rattle.attempt_fates.specs.declared.fates.End.TheVariants as ends
-use Rattle.run_report.specs.declared.report.Tail.{Tail}
-use Rattle.run_report.specs.declared.report.Tail.TheVariants as tails
+use Rattle.report_lines.specs.declared.report.Tail.{Tail}
+use Rattle.report_lines.specs.Told.{edge_told, tail_told}
 use Rattle.run_report.specs.Cells.{cells_of}
-use Rattle.run_report.specs.Report.{EdgeText, EndText, committed, failed, timed_out, coincided, commit_failed, AttemptText, TailText, ok, exhausted, unfinished, report_text}
-
-abbrev pub edge_line : Edge → EdgeText
-edge_line edge = record { path = edge.path; id = edge.id }
+use Rattle.report_grammar.specs.Report.{EdgeText, EndText, committed, failed, timed_out, coincided, commit_failed, AttemptText, report_text}
 
 abbrev pub name_of : Option Component → List ℕ
 name_of None = []
@@ -31,7 +28,7 @@ name_at plan component = name_of (slice_get plan.components component)
 pub record AreOpenOf (list : List AckMsg) (told : List EdgeText) : Type 0 where
   pub edges : List Edge
   pub are_left : AreLeft (occurrences list) edges
-  pub are_told : told ≡ map edge_line edges
+  pub are_told : told ≡ map edge_told edges
 
 -- how an end is told
 abbrev pub IsEndOf : Topology → End → EndText → Type 0
@@ -65,11 +62,6 @@ pub record IsLineOf (plan : Topology) (a : Attempt) (line : AttemptText) : Type 
 abbrev pub AreLinesOf : Topology → List Attempt → List AttemptText → Type 0
 AreLinesOf plan fates lines = AllZip (IsLineOf plan) fates lines
 
-abbrev pub tail_of : Tail → TailText
-tail_of (tails.Ok records batches) = ok records batches
-tail_of (tails.Exhausted txid) = exhausted txid
-tail_of (tails.Unfinished committed_count) = unfinished committed_count
-
 -- the text of a report of a plan, of these fates, tables and tail
 pub record IsReportText (plan : Topology) (fates : List Attempt) (tables : List Table) (tail : Tail)
     (text : List ℕ) : Type 0 where
@@ -78,5 +70,5 @@ pub record IsReportText (plan : Topology) (fates : List Attempt) (tables : List 
   pub printed : text ≡ report_text (record {
     attempts = lines;
     cells = cells_of tables;
-    tail = tail_of tail;
+    tail = tail_told tail;
   })

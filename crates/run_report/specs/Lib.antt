@@ -1,4 +1,4 @@
 pub mod Cells
 pub mod Fated
-pub mod Report
 pub mod Steps
+pub use Rattle.report_grammar.specs.Report

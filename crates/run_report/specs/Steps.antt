@@ -6,7 +6,7 @@ use Rattle.tree_model.specs.declared.messages.AckMsg.{AckMsg}
 use Rattle.attempt_fates.specs.declared.fates.Attempt.{Attempt}
 use Rattle.attempt_fates.specs.declared.fates.End.{End}
 use Rattle.run_report.specs.Fated.{AreOpenOf, IsEndOf, IsLineOf, AreLinesOf}
-use Rattle.run_report.specs.Report.{EdgeText, edges_text, EndText, coincided, end_text, AttemptText, attempt_text}
+use Rattle.report_grammar.specs.Report.{EdgeText, edges_text, EndText, coincided, end_text, AttemptText, attempt_text}
 
 -- an attempt's line up to how it ended
 unfoldable pub heading_of : Attempt → List ℕ

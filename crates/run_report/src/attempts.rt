@@ -1,11 +1,12 @@
 // The lines of attempts.
 ghost use Rattle.std.specs.Prelude.{◌≡◌, ◌++◌, OnOk, string_bytes};
 ghost use Rattle.run_report.specs.Fated.{name_at};
-ghost use Rattle.run_report.specs.Report.{commit_failed, end_text, failed};
+ghost use Rattle.report_grammar.specs.Report.{commit_failed, end_text, failed};
 ghost use Rattle.run_report.specs.Steps.{heading_of, AddsCoincided, AddsEnd, AddsLine, AddsLines};
 
-use crate::edges::{push_open, push_path};
+use crate::edges::push_open;
 use attempt_fates::{Attempt, End};
+use report_lines::push_path;
 use std::alloc::Global;
 use std::fmt::Write;
 use tree_model::Notes;

@@ -1,29 +1,12 @@
-// Paths, edges and the list of an attempt that coincided.
-ghost use Rattle.std.specs.Prelude.{◌≡◌, ◌++◌, map, IfOk, OnOk, string_bytes};
-ghost use Rattle.run_report.specs.Fated.{edge_line};
-ghost use Rattle.run_report.specs.Report.{edge_text, edges_text, hex_text, path_text};
+// The list of an attempt that coincided.
+ghost use Rattle.std.specs.Prelude.{OnOk, string_bytes};
 ghost use Rattle.run_report.specs.Steps.{AddsOpen};
 
 use acker_core::{Check, check_list};
+use report_lines::push_edges;
 use std::alloc::Global;
-use std::fmt::Write;
 use tree_model::Notes;
-use tree_model::storm_values::{Memory, Path};
-use tree_model::tuple_tickets::Edge;
-
-/// Adds the numbers of a path, joined by full stops.
-pub fn push_path(text: &mut String, path: &Path) -> Result<(), Memory>
-    ensures { OnOk result (string_bytes text.new ≡ string_bytes text.old ++ path_text path.now) }
-{
-    let Some((first, others)) = path.as_slice().split_first() else {
-        return Ok(());
-    };
-    write!(text, "{first}")?;
-    for number in others {
-        write!(text, ".{number}")?;
-    }
-    Ok(())
-}
+use tree_model::storm_values::Memory;
 
 /// Adds the edges that a list leaves open.
 pub fn push_open(alloc: Global, text: &mut String, list: &Notes) -> Result<(), Memory>
@@ -33,37 +16,4 @@ pub fn push_open(alloc: Global, text: &mut String, list: &Notes) -> Result<(), M
         Check::Closed(_) => Ok(()),
         Check::Left(edges) => push_edges(alloc, text, edges.as_slice()),
     }
-}
-
-// Adds edges, joined by spaces.
-fn push_edges(alloc: Global, text: &mut String, edges: &[Edge]) -> Result<(), Memory>
-    ensures { OnOk result (string_bytes text.new
-        ≡ string_bytes text.old ++ edges_text (map edge_line edges.now)) }
-{
-    let Some((first, others)) = edges.split_first() else {
-        return Ok(());
-    };
-    push_edge(alloc, text, first)?;
-    for edge in others {
-        text.push_str(" ")?;
-        push_edge(alloc, text, edge)?;
-    }
-    Ok(())
-}
-
-fn push_edge(alloc: Global, text: &mut String, edge: &Edge) -> Result<(), Memory>
-    ensures { OnOk result (string_bytes text.new
-        ≡ string_bytes text.old ++ edge_text (edge_line edge.now)) }
-{
-    push_path(text, &edge.path)?;
-    let id = hex_of(alloc, edge.id)?;
-    write!(text, ":{id}")?;
-    Ok(())
-}
-
-// The sixteen digits of an id.
-fn hex_of(alloc: Global, id: u64) -> Result<String, Memory>
-    ensures { IfOk result (λ text. string_bytes text ≡ hex_text 16 id) }
-{
-    hex::encode(alloc, id.to_be_bytes())
 }

@@ -1,27 +1,18 @@
 ghost use Rattle.std.specs.Prelude.{◌≡◌, ◌++◌, IfOk, OnOk, map, string_bytes};
 ghost use Rattle.std.specs.List.{flat_map};
 ghost use Rattle.run_report.specs.Cells.{cell_of, cells_of};
-ghost use Rattle.run_report.specs.Fated.{IsReportText, tail_of};
-ghost use Rattle.run_report.specs.Report.{cell_text, tail_text};
+ghost use Rattle.report_grammar.specs.Report.{cell_text, tail_text};
+ghost use Rattle.report_lines.specs.Told.{tail_told};
+ghost use Rattle.run_report.specs.Fated.{IsReportText};
 
 use crate::attempts::push_attempts;
 use attempt_fates::Attempt;
+use report_lines::Tail;
 use std::alloc::Global;
 use std::fmt::Write;
 use tree_model::storm_values::Memory;
 use tree_model::topology_plan::Plan;
 use tree_model::{Pair, Table};
-
-/// How a run ended.
-#[derive(Clone, Copy, Debug, PartialEq, Eq)]
-pub enum Tail {
-    /// All records were committed, in so many batches.
-    Ok { records: u64, batches: u64 },
-    /// No attempt is left of this transaction.
-    Exhausted(u64),
-    /// It was broken off after so many commits.
-    Unfinished(u64),
-}
 
 /// The text of a report. It takes time in proportion to its length, and besides to n log n for
 /// the n edges of each attempt that coincided.
@@ -66,7 +57,7 @@ fn push_table(text: &mut String, name: &str, pairs: &[Pair]) -> Result<(), Memor
 
 fn push_tail(text: &mut String, tail: Tail) -> Result<(), Memory>
     ensures { OnOk result
-        (string_bytes text.new ≡ string_bytes text.old ++ tail_text (tail_of tail)) }
+        (string_bytes text.new ≡ string_bytes text.old ++ tail_text (tail_told tail)) }
 {
     match tail {
         Tail::Ok { records, batches } => {

@@ -1,6 +1,6 @@
 use Rattle.std.proofs.Common.{◌≡◌, ◌++◌, take, string_bytes}
 use Rattle.std.specs.List.{flat_map}
-use Rattle.run_report.specs.Report.{cell_text}
+use Rattle.report_grammar.specs.Report.{cell_text}
 use Rattle.run_report.specs.Cells.{cells_of}
 use Rattle.run_report.proofs.report.push_cells.Given as goal
 

@@ -1,8 +1,0 @@
-use Rattle.std.proofs.Common.{◌≡◌, ◌++◌, take, string_bytes}
-use Rattle.std.specs.List.{flat_map}
-use Rattle.run_report.proofs.Joined.{later_edge}
-use Rattle.run_report.proofs.edges.push_edges.Given as goal
-
-abbrev pub invariant-loop-edge : goal.invariant-loop-edge
-invariant-loop-edge l =
-    string_bytes l.text ≡ string_bytes l.initial.text ++ flat_map later_edge (take l.edge-index l.others)

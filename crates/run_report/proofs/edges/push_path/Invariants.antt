@@ -1,8 +1,0 @@
-use Rattle.std.proofs.Common.{◌≡◌, ◌++◌, take, string_bytes}
-use Rattle.std.specs.List.{flat_map}
-use Rattle.run_report.proofs.Joined.{later_number}
-use Rattle.run_report.proofs.edges.push_path.Given as goal
-
-abbrev pub invariant-loop-number : goal.invariant-loop-number
-invariant-loop-number l =
-    string_bytes l.text ≡ string_bytes l.initial.text ++ flat_map later_number (take l.number-index l.others)
