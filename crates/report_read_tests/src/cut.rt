@@ -1,4 +1,5 @@
 // A report with lines of every kind, cut off.
+use crate::examples::REPORTS;
 use crate::read::{check_reports, is_refused_at};
 use std::alloc::Global;
 use test_kit::Mismatch;
@@ -28,15 +29,27 @@ fn check_cut(alloc: Global, bytes: &[u8], lines: u64) -> Result<(), Mismatch> {
 }
 
 // Refused is the line that was cut, or the one that is missing behind the last.
-#[test]
-fn a_report_that_is_cut_at_any_byte(rt: HostRuntime) -> Result<(), Mismatch> {
-    let bytes = EVERY_LINE.as_bytes();
+fn check_cuts(alloc: Global, text: &str) -> Result<(), Mismatch> {
+    let bytes = text.as_bytes();
     let mut lines = 0;
     for (length, byte) in bytes.iter().enumerate() {
-        check_cut(rt.alloc(), &bytes[..length], lines)?;
+        check_cut(alloc, &bytes[..length], lines)?;
         if *byte == b'\n' && lines < 1000 {
             lines += 1;
         }
+    }
+    Ok(())
+}
+
+#[test]
+fn a_report_that_is_cut_at_any_byte(rt: HostRuntime) -> Result<(), Mismatch> {
+    check_cuts(rt.alloc(), EVERY_LINE)
+}
+
+#[test]
+fn reports_of_the_examples_that_are_cut(rt: HostRuntime) -> Result<(), Mismatch> {
+    for text in REPORTS {
+        check_cuts(rt.alloc(), text)?;
     }
     Ok(())
 }

@@ -71,7 +71,7 @@ cell sold [\"wood\"] 15
 ok 6 records 6 batches
 ";
 
-const REPORTS: [&str; 9] = [
+pub const REPORTS: [&str; 9] = [
     END_COINCIDED,
     END_COMMIT_FAILED,
     END_COMMITTED,
