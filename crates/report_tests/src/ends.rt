@@ -1,6 +1,6 @@
 // Attempts with every end, and tables.
 use attempt_fates::{Attempt, End, Fates};
-use run_report::{Tail, report_text};
+use run_report::{Tail, print_report, report_of, report_text};
 use std::alloc::Global;
 use test_kit::{Mismatch, compare};
 use topology_reader::read_topology;
@@ -130,5 +130,27 @@ pub fn check_report(
     let fates = fates_of(alloc, attempts)?;
     let tables = tables_of(alloc, cells)?;
     let text = report_text(alloc, &plan, fates.as_slice(), tables.as_slice(), tail)?;
-    compare(alloc, "a report", text.as_str(), want)
+    compare(alloc, "a report", text.as_str(), want)?;
+    check_value(
+        alloc,
+        &plan,
+        fates.as_slice(),
+        tables.as_slice(),
+        tail,
+        want,
+    )
+}
+
+// The same report as a value, printed.
+fn check_value(
+    alloc: Global,
+    plan: &Plan,
+    fates: &[Attempt],
+    tables: &[Table],
+    tail: Tail,
+    want: &str,
+) -> Result<(), Mismatch> {
+    let report = report_of(alloc, plan, fates, tables, tail)?;
+    let text = print_report(alloc, &report)?;
+    compare(alloc, "a report as a value", text.as_str(), want)
 }

@@ -1,5 +1,6 @@
 -- The lines of fates.
 use Rattle.std.proofs.Common.{◌≡◌, ◌<◌, ℕ, zero, suc, ◌+◌, ◌%◌, List, [], ◌∷◌, ◌++◌, take, length, get_or, map, codes, refl, sym, ap, ap₂, ◌∙◌, append_assoc, append-nil, subst, arith, Result, OnOk}
+use Rattle.std.proofs.lemmas.List.{map-append}
 use Rattle.std.proofs.lemmas.Result.{on_ok_weaker}
 use Rattle.std.specs.List.{flat_map}
 use Rattle.std.specs.List.Sorted.{IsStrictlySortedBy}
@@ -14,8 +15,8 @@ use Rattle.acker_core.specs.Edges.{AreLeft}
 use Rattle.attempt_fates.specs.declared.fates.Attempt.{Attempt}
 use Rattle.attempt_fates.specs.declared.fates.End.{End}
 use Rattle.attempt_fates.specs.declared.fates.End.TheVariants as ends
-use Rattle.report_lines.specs.declared.report.Tail.{Tail}
-use Rattle.report_lines.specs.Told.{edge_told, tail_told}
+use Rattle.report_lines.specs.declared.report.{AttemptLine.AttemptLine, Report.Report, Tail.Tail}
+use Rattle.report_lines.specs.Told.{attempt_told, cell_told, edge_told, tail_told, told}
 use Rattle.run_report.specs.Cells.{cells_of}
 use Rattle.run_report.specs.Fated.{name_at, AreOpenOf, IsEndOf, line_with, IsLineOf, AreLinesOf, IsReportText}
 use Rattle.report_grammar.specs.Report.{EdgeText, EndText, failed, coincided, commit_failed, end_text, AttemptText, attempt_text, cell_text, tail_text, report_text}
@@ -54,6 +55,9 @@ lines_one plan (a ∷ as_) (l ∷ ls) (o ∷ os) first second =
 pub nothing_left : (all : List Edge) → ((e : Edge) → times e all % 2 ≡ 0) → AreLeft all []
 unfolding IsStrictlySortedBy
 nothing_left all closed = record { odd = λ e. sym (closed e); ordered = tt }
+
+pub none_open : (list : List AckMsg) (told : List EdgeText) → told ≡ [] → IsClosed list → AreOpenOf list told
+none_open list told is closed = record { edges = []; are_left = nothing_left (occurrences list) closed; are_told = is }
 
 pub adds_nothing : (list : List AckMsg) (text : List ℕ) → IsClosed list → AddsOpen list text text
 adds_nothing list text closed = record {
@@ -97,6 +101,11 @@ adds_more plan fates i a old mid new there is adds more = record {
       ∙ ap (λ text. old ++ text) (sym (flat_map-append attempt_text adds.lines (more.line ∷ []) ∙ ap (λ text. flat_map attempt_text adds.lines ++ text) (append-nil (attempt_text more.line))))));
 }
 
+-- the line of a value more
+pub told_more : (plan : Topology) (fates : List Attempt) (i : ℕ) (a : Attempt) (old new : List AttemptLine) (line : AttemptLine) → i < length fates → a ≡ get_or fates i a → AreLinesOf plan (take i fates) (map attempt_told old) → IsLineOf plan a (attempt_told line) → new ≡ old ++ line ∷ [] → AreLinesOf plan (take (i + 1) fates) (map attempt_told new)
+told_more plan fates i a old new line there is are more all =
+    subst (λ lines. AreLinesOf plan (take (i + 1) fates) lines) (sym (ap (map attempt_told) all ∙ map-append attempt_told old (line ∷ []))) (zip_more plan fates i a (map attempt_told old) (attempt_told line) there is are more)
+
 -- a heading, an end and a line end are a line
 pub adds_line : (plan : Topology) (a : Attempt) (old headed ended new : List ℕ) → headed ≡ old ++ heading_of a → AddsEnd plan a.end headed ended → new ≡ ended ++ codes "\n" → AddsLine plan a old new
 unfolding heading_of
@@ -115,4 +124,11 @@ report_made plan fates tables tail none lined celled text empty adds cells taile
   are_lines = adds.are_lines;
   printed =
       tailed ∙ ap (λ t. t ++ tail_text (tail_told tail)) (cells ∙ ap (λ t. t ++ flat_map cell_text (cells_of tables)) (adds.added ∙ ap (λ t. t ++ flat_map attempt_text adds.lines) empty));
+}
+
+pub value_made : (plan : Topology) (fates : List Attempt) (tables : List Table) (tail : Tail) (report : Report) → AreLinesOf plan fates (map attempt_told report.lines) → map cell_told report.cells ≡ cells_of tables → report.tail ≡ tail → IsReportText plan fates tables tail (report_text (told report))
+value_made plan fates tables tail report are cells ends = record {
+  lines = map attempt_told report.lines;
+  are_lines = are;
+  printed = λ i. report_text (record { attempts = map attempt_told report.lines; cells = cells i; tail = tail_told (ends i) });
 }

@@ -98,7 +98,7 @@ fn push_commit_failed(text: &mut String, state: &str, part: u32) -> Result<(), M
 }
 
 /// The name of the component of a number, empty where there is none.
-fn name_of(plan: &Plan, component: u32) -> &str
+pub fn name_of(plan: &Plan, component: u32) -> &str
     ensures { result.now ≡ name_at plan.now component }
 {
     if component < plan.components() {

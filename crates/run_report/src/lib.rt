@@ -6,6 +6,7 @@ mod attempts;
 mod edges;
 mod laws;
 mod report;
+mod values;
 
 pub use laws::lines_are_one;
 pub use report::report_text;
@@ -13,3 +14,4 @@ pub use report_lines::{
     AttemptLine, AttemptLines, CellLine, CellLines, EndLine, Report, ReportFault, Tail,
     print_report, read_report,
 };
+pub use values::report_of;
