@@ -1,10 +1,12 @@
+mod Below
+mod Failing
+pub mod OwnEntries
 pub mod PathOrders
 pub mod Places
 pub mod Stack
 pub mod StateLemmas
-pub mod TellLemmas
 pub mod StepLemmas
-pub mod OwnEntries
+pub mod TellLemmas
 pub mod Traces
 pub mod Undisturbed
 pub mod Walks

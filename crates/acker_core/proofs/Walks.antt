@@ -1,5 +1,5 @@
 -- A walk over a tuple tree that comes to each message of a list shows that the list is closed, and its dones' path order.
-use Rattle.std.proofs.Common.{Bor, IfSome, ◌≡◌, ℕ, ◌+◌, false, List, [], ◌∷◌, ◌++◌, Option, None, Some, Ordering, Less, Equal, Greater, is_gt, length, flat_map, IsPermutation, refl, sym, ap, subst, ◌∙◌, arith}
+use Rattle.std.proofs.Common.{IfSome, ◌≡◌, ℕ, ◌+◌, false, List, [], ◌∷◌, ◌++◌, Option, None, Some, Ordering, Less, Equal, Greater, is_gt, length, flat_map, IsPermutation, refl, sym, ap, subst, ◌∙◌, arith}
 use Rattle.std.specs.Prelude.{slice_get}
 use Rattle.std.specs.List.{AllByRecursion}
 use Rattle.std.specs.Ordering.{ordering_reverse}
@@ -16,25 +16,26 @@ use Rattle.tree_model.specs.declared.messages.AckMsg.TheVariants as msg
 use Rattle.tree_model.specs.declared.messages.Done.{Done}
 use Rattle.tree_model.specs.Lists.{IsClosed, occurrences, occurrences_in}
 use Rattle.commit_writes.specs.Writes.{AreInPathOrder, HasDoneAt, IsPathOrderOf, done_of, dones_at, dones_in}
+use Rattle.acker_core.specs.declared.follow.LentEdge.{LentEdge}
 use Rattle.acker_core.specs.declared.follow.Open.{Open}
-use Rattle.acker_core.specs.Orders.{FollowsOn, HasInit, StandsAt, edges_in, open_edges}
+use Rattle.acker_core.specs.Orders.{FollowsOn, HasInit, StandsAt, all_open, edge_of, edges_in}
 use Rattle.acker_core.proofs.Places.{AreApart, HasAt, whole_at}
 
 -- ---- open edges
 
 pub taken : (before rest after : List Open) (top : Open) (e : Edge) (others : List Edge) → before ≡ rest ++ top ∷ [] → edges_in top ≡ e ∷ others
-    → open_edges after ≡ open_edges rest ++ others → Same (open_edges before) (e ∷ open_edges after)
+    → all_open after ≡ all_open rest ++ others → Same (all_open before) (e ∷ all_open after)
 taken before rest after top e others popped parts put f =
-    let all = ap (λ (os : List Open). weigh f (open_edges os)) popped in
+    let all = ap (λ (os : List Open). weigh f (all_open os)) popped in
     let each = weigh-flat_map f edges_in (rest ++ top ∷ []) in
     let one = weigh-push (λ (o : Open). weigh f (edges_in o)) rest top in
     let front = weigh-flat_map f edges_in rest in
     let first : weigh f (edges_in top) ≡ f e + weigh f others = ap (weigh f) parts in
-    let last = ap (weigh f) put ∙ weigh-append f (open_edges rest) others in omega arith
+    let last = ap (weigh f) put ∙ weigh-append f (all_open rest) others in omega arith
 
-pub taken_is : (o : Option (Bor Edge × ℕ)) (edge : Bor Edge) (slot : ℕ) (before after : List Edge) → IfSome o (λ t. Same before (t.0.now ∷ after))
-    → o ≡ Some (edge, slot) → Same before (edge.now ∷ after)
-taken_is o edge slot before after is found = subst (λ (o : Option (Bor Edge × ℕ)). IfSome o (λ t. Same before (t.0.now ∷ after))) found is
+pub taken_is : (o : Option (LentEdge × ℕ)) (edge : LentEdge) (slot : ℕ) (before after : List Edge) → IfSome o (λ t. Same before (edge_of t.0 ∷ after))
+    → o ≡ Some (edge, slot) → Same before (edge_of edge ∷ after)
+taken_is o edge slot before after is found = subst (λ (o : Option (LentEdge × ℕ)). IfSome o (λ t. Same before (edge_of t.0 ∷ after))) found is
 
 -- one is taken, and those of the done come
 pub went : (before left after made : List Edge) (e used : Edge) → Same before (e ∷ left) → after ≡ left ++ made → used ≡ e → Same (before ++ made) (used ∷ after)
@@ -44,7 +45,7 @@ went before left after made e used moved put same f =
     let b = ap (weigh f) put ∙ weigh-append f left made in
     let c = ap f same in omega arith
 
-pub none_open : (os : List Open) → length os ≡ 0 → open_edges os ≡ []
+pub none_open : (os : List Open) → length os ≡ 0 → all_open os ≡ []
 none_open [] empty = refl
 none_open (o ∷ os) empty = absurd (omega arith)
 
@@ -73,14 +74,14 @@ pub record IsWalked (list : List AckMsg) (firsts : List Edge) (order : List ℕ)
   pub balanced : (f : Edge → ℕ) → weigh f firsts + weigh (λ (k : ℕ). weigh f (made (slice_get list k))) order ≡ weigh (λ (k : ℕ). weigh f (used (slice_get list k))) order + weigh f left
 
 pub walked-none : (list : List AckMsg) (firsts : List Edge) (order last : List ℕ) (before after : List Open) → order ≡ [] → last ≡ [] → before ≡ []
-    → open_edges after ≡ open_edges before ++ firsts → IsWalked list firsts order last (open_edges after)
+    → all_open after ≡ all_open before ++ firsts → IsWalked list firsts order last (all_open after)
 walked-none list firsts order last before after none at_root empty put = record {
   rises = subst (λ (ks : List ℕ). Rises list [] ks last) (sym none) (sym at_root);
   balanced = λ f.
       let a = ap (weigh (λ (k : ℕ). weigh f (made (slice_get list k)))) none in
       let b = ap (weigh (λ (k : ℕ). weigh f (used (slice_get list k)))) none in
-      let c = ap (λ (os : List Open). weigh f (open_edges os)) empty in
-      let d = ap (weigh f) put ∙ weigh-append f (open_edges before) firsts in omega arith;
+      let c = ap (λ (os : List Open). weigh f (all_open os)) empty in
+      let d = ap (weigh f) put ∙ weigh-append f (all_open before) firsts in omega arith;
 }
 
 module _ (list : List AckMsg) where

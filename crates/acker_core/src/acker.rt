@@ -7,6 +7,7 @@ ghost use Rattle.acker_core.specs.States.{state_of};
 
 use crate::entry::{Entry, root_in};
 use crate::verdict::Verdict;
+use message_lists::Room;
 use rotating_ledger::{Rotating, Told};
 use std::alloc::{AllocError, Global};
 use std::marker::Model;
@@ -20,8 +21,8 @@ use tree_model::storm_values::{Memory, Root};
 pub struct Acker {
     alloc: Global,
     entries: Rotating<Entry>,
-    // room for so many messages is taken at once for a list that begins: lists are of like lengths
-    room: usize,
+    // taken at once for a list that begins: lists are of like lengths
+    room: Room,
 }
 
 impl Model for Acker {
@@ -47,7 +48,7 @@ impl Acker {
         Ok(Acker {
             alloc,
             entries: Rotating::new(alloc, buckets)?,
-            room: 0,
+            room: Room::none(),
         })
     }
 
@@ -96,9 +97,9 @@ impl Acker {
 }
 
 // The room for the next list: that of a complete one and an eighth more.
-fn room_after(verdict: &Option<Verdict>, before: usize) -> usize {
+fn room_after(verdict: &Option<Verdict>, before: Room) -> Room {
     match verdict {
-        Some(Verdict::Complete { list, .. }) => list.len().saturating_add(list.len() / 8),
+        Some(Verdict::Complete { list, .. }) => list.room(),
         _ => before,
     }
 }
@@ -106,7 +107,7 @@ fn room_after(verdict: &Option<Verdict>, before: usize) -> usize {
 // Adds a message to a root's entry, which begins with it where there is none.
 fn add_message(
     alloc: Global,
-    room: usize,
+    room: Room,
     entries: &mut Rotating<Entry>,
     root: Root,
     message: AckMsg,

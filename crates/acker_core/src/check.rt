@@ -6,10 +6,11 @@ ghost use Rattle.acker_core.specs.Check.{IsCheckOf};
 
 use crate::follow::followed_order;
 use crate::sorted::sorted_order;
+use message_lists::Notes;
 use std::alloc::Global;
+use tree_model::AckMsg;
 use tree_model::storm_values::{Duplicate, Memory, Seq};
 use tree_model::tuple_tickets::{Edge, Edges};
-use tree_model::{AckMsg, Notes};
 
 /// What a check of a list comes to.
 #[derive(Debug, Drop)]
@@ -30,6 +31,13 @@ pub fn check_list(alloc: Global, list: &Notes) -> Result<Check, Memory>
     if let Some(order) = followed_order(alloc, list)? {
         return Ok(Check::Closed(order));
     }
+    check_messages(alloc, list.to_messages(alloc)?.as_slice())
+}
+
+// The check of a list by sorting.
+fn check_messages(alloc: Global, list: &[AckMsg]) -> Result<Check, Memory>
+    ensures { IfOk result (IsCheckOf list.now) }
+{
     let edges = edges_of(alloc, list)?;
     let left = odd_edges(alloc, edges)?;
     if left.is_empty() {
@@ -40,11 +48,11 @@ pub fn check_list(alloc: Global, list: &Notes) -> Result<Check, Memory>
 }
 
 // The edges of a list, in the order of its messages.
-fn edges_of(alloc: Global, list: &Notes) -> Result<Vec<Edge>, Memory>
+fn edges_of(alloc: Global, list: &[AckMsg]) -> Result<Vec<Edge>, Memory>
     ensures { IfOk result (λ edges. edges.items ≡ occurrences list.now) }
 {
     let mut edges = Vec::new(alloc);
-    for note in list.as_slice() {
+    for note in list {
         add_edges_in(&mut edges, note)?;
     }
     Ok(edges)

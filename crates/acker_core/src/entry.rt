@@ -2,16 +2,19 @@ ghost use Rattle.std.specs.Prelude.{◌≡◌, ◌∷◌, ◌++◌, [], bit_xor,
 ghost use Rattle.rotating_ledger.specs.Told.{told};
 ghost use Rattle.tree_model.specs.tuple_tickets.Edges.{xor_ids};
 ghost use Rattle.tree_model.specs.Lists.{root_of};
+ghost use Rattle.message_lists.specs.Packed.{note_lent};
 ghost use Rattle.acker_core.specs.Entries.{first_failed, tell};
+ghost use Rattle.acker_core.specs.Failures.{IsFirstFailure, fails};
 ghost use Rattle.acker_core.specs.States.{state_of, state_in};
 
 use crate::verdict::Verdict;
+use message_lists::{LentNote, Notes, Room};
 use rotating_ledger::{AckState, Told};
 use std::alloc::Global;
 use std::marker::Model;
+use tree_model::AckMsg;
 use tree_model::storm_values::{Memory, Path, Root};
 use tree_model::tuple_tickets::Edges;
-use tree_model::{AckMsg, Notes};
 
 /// The messages of a root since its entry began, with what they come to.
 #[derive(Debug, Drop)]
@@ -73,25 +76,41 @@ fn trimmed(list: Notes) -> Notes
     list
 }
 
-// The path of the first failure.
-fn first_path(list: Notes) -> Option<Path>
-    ensures { result ≡ first_failed list }
+// The place of the first failure.
+#[tactic(auto, using(crate::proofs::Failing::not_there, crate::proofs::Failing::is_there, crate::proofs::Failing::none_behind))]
+fn first_failure(list: &Notes) -> Option<usize>
+    ensures { IsFirstFailure list.now result }
 {
-    for message in list.into_vec() {
-        if let AckMsg::Failed(note) = message {
-            return Some(note.path);
+    for at in 0..list.len() {
+        if is_failure(&list.get(at)) {
+            return Some(at);
         }
     }
     None
 }
 
+fn is_failure(note: &LentNote<'_>) -> bool
+    ensures { result ≡ fails (note_lent note.now) }
+{
+    matches!(note, LentNote::Whole(AckMsg::Failed(_)))
+}
+
+// The path of the first failure.
+fn first_path(list: Notes) -> Option<Path>
+    ensures { result ≡ first_failed list }
+{
+    let at = first_failure(&list)?;
+    let note = list.into_failure(at)?;
+    Some(note.path)
+}
+
 impl Entry {
-    /// An entry of one message, whose list has room for so many.
-    pub fn new(alloc: Global, room: usize, message: AckMsg) -> Result<Self, Memory>
+    /// An entry of one message, whose list has this room.
+    pub fn new(alloc: Global, room: Room, message: AckMsg) -> Result<Self, Memory>
         ensures { IfOk result (λ entry. entry ≡ message ∷ []) }
     {
         let state = message_state(&message);
-        let mut list = Notes::from_vec(Vec::with_capacity(alloc, room)?);
+        let mut list = Notes::with_room(alloc, room)?;
         list.push(message)?;
         Ok(Entry { state, list })
     }

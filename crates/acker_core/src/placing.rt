@@ -2,8 +2,8 @@
 // looks at each place again.
 ghost use Rattle.std.specs.Prelude.{◌<◌, IfSome, length};
 
+use message_lists::{LentDone, LentNote, Notes};
 use std::alloc::Global;
-use tree_model::AckMsg;
 use tree_model::storm_values::Memory;
 
 // In place of a number that no message or slot has.
@@ -24,7 +24,7 @@ pub struct Slot {
 /// A slot for each of the first edges, and for each edge that a done produced which was found at
 /// its path from there. The dones of a list mostly stand behind their parents'; then one pass
 /// finds all of them. It takes time in proportion to n for n messages.
-pub fn placed_slots(alloc: Global, list: &[AckMsg], firsts: usize) -> Result<Vec<Slot>, Memory> {
+pub fn placed_slots(alloc: Global, list: &Notes, firsts: usize) -> Result<Vec<Slot>, Memory> {
     let mut slots = Vec::with_capacity(alloc, list.len())?;
     add_empty(&mut slots, firsts)?;
     let mut waiting = place_in_turn(alloc, &mut slots, list)?;
@@ -38,14 +38,10 @@ pub fn placed_slots(alloc: Global, list: &[AckMsg], firsts: usize) -> Result<Vec
 }
 
 // The places of the dones whose path has no slot yet.
-fn place_in_turn(
-    alloc: Global,
-    slots: &mut Vec<Slot>,
-    list: &[AckMsg],
-) -> Result<Vec<usize>, Memory> {
+fn place_in_turn(alloc: Global, slots: &mut Vec<Slot>, list: &Notes) -> Result<Vec<usize>, Memory> {
     let mut waiting = Vec::new(alloc);
-    for (place, note) in list.iter().enumerate() {
-        if !place_note(slots, place, note)? {
+    for place in 0..list.len() {
+        if !place_note(slots, place, list.get(place))? {
             waiting.push(place)?;
         }
     }
@@ -55,14 +51,12 @@ fn place_in_turn(
 fn place_again(
     alloc: Global,
     slots: &mut Vec<Slot>,
-    list: &[AckMsg],
+    list: &Notes,
     places: &[usize],
 ) -> Result<Vec<usize>, Memory> {
     let mut waiting = Vec::new(alloc);
     for place in places {
-        if let Some(note) = list.get(*place)
-            && !place_note(slots, *place, note)?
-        {
+        if *place < list.len() && !place_note(slots, *place, list.get(*place))? {
             waiting.push(*place)?;
         }
     }
@@ -70,11 +64,11 @@ fn place_again(
 }
 
 // A done takes the slot at its path and opens slots for what it produced. Whether it need not wait.
-fn place_note(slots: &mut Vec<Slot>, place: usize, note: &AckMsg) -> Result<bool, Memory> {
-    let AckMsg::Done(done) = note else {
+fn place_note(slots: &mut Vec<Slot>, place: usize, note: LentNote<'_>) -> Result<bool, Memory> {
+    let LentNote::Done(done) = note else {
         return Ok(true);
     };
-    let Some(slot) = slot_at(slots, done.consumed.path.as_slice()) else {
+    let Some(slot) = slot_of(slots, &done) else {
         return Ok(false);
     };
     let first = slots.len();
@@ -99,16 +93,15 @@ fn add_empty(slots: &mut Vec<Slot>, count: usize) -> Result<(), Memory> {
     Ok(())
 }
 
-// The slot at a path.
-fn slot_at(slots: &[Slot], path: &[u32]) -> Option<usize>
+// The slot at the path of a done.
+fn slot_of(slots: &[Slot], done: &LentDone<'_>) -> Option<usize>
     ensures { IfSome result (λ slot. slot < length slots.now) }
 {
-    let (last, before) = path.split_last()?;
     let mut first: u32 = 0;
-    for number in before {
+    for number in done.parent {
         let slot = slots.get(first as usize + *number as usize)?;
         first = slot.first;
     }
-    let slot = first as usize + *last as usize;
+    let slot = first as usize + done.number as usize;
     if slot < slots.len() { Some(slot) } else { None }
 }

@@ -7,14 +7,14 @@ ghost use Rattle.acker_core.specs.Orders.{StandsIn, done_beside, place_of};
 
 use std::alloc::Global;
 use tree_model::storm_values::{Memory, Seq};
-use tree_model::{AckMsg, Done, Notes};
+use tree_model::{AckMsg, Done};
 
 /// The places of a list's dones in the order of the paths that they consume, in time in proportion
 /// to n log n for n messages.
-pub fn sorted_order(alloc: Global, list: &Notes) -> Result<Seq<usize>, Memory>
+pub fn sorted_order(alloc: Global, list: &[AckMsg]) -> Result<Seq<usize>, Memory>
     ensures { IfOk result (IsPathOrderOf list.now) }
 {
-    let mut dones = dones_of(alloc, list.as_slice())?;
+    let mut dones = dones_of(alloc, list)?;
     sort_dones(&mut dones);
     let places = places_of(alloc, &dones)?;
     Ok(places)

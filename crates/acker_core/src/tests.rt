@@ -1,10 +1,11 @@
 use crate::follow::followed_order;
 use crate::{Acker, Check, Verdict, check_list};
+use message_lists::Notes;
 use std::alloc::Global;
 use std::test::Fail;
 use tree_model::storm_values::{Few, Memory, Path, Root};
 use tree_model::tuple_tickets::{Edge, Edges};
-use tree_model::{AckMsg, Done, Draw, FailNote, Init, Notes};
+use tree_model::{AckMsg, Done, Draw, FailNote, Init};
 
 const ROOT: Root = Root {
     txid: 1,

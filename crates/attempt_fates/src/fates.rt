@@ -1,4 +1,4 @@
-use tree_model::Notes;
+use message_lists::Notes;
 use tree_model::storm_values::{Path, Root, Seq};
 
 /// How an attempt of a batch ended.

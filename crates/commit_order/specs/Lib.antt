@@ -5,6 +5,7 @@ pub use Rattle.attempt_fates.specs as attempt_fates
 pub use Rattle.tuple_account.specs.bolt_ops as bolt_ops
 pub use Rattle.commit_turns.specs as commit_turns
 pub use Rattle.tuple_account.specs.counted_items as counted_items
+pub use Rattle.tuple_account.specs.message_lists as message_lists
 pub use Rattle.output_collector.specs as output_collector
 pub use Rattle.tuple_account.specs.rotating_ledger as rotating_ledger
 pub use Rattle.state_parts.specs as state_parts

@@ -10,8 +10,8 @@ use attempt_fates::{Attempt, End, Fates};
 use commit_turns::Wait;
 use state_parts::{Commit, CommitOutcome};
 use std::alloc::Global;
+use tuple_account::message_lists::Notes;
 use tuple_account::storm_values::{Memory, Root};
-use tuple_account::tree_model::Notes;
 
 impl<'p> Office<'p> {
     /// The commit of the lowest transaction that was not committed is ordered, where its attempt is

@@ -10,8 +10,8 @@ use crate::office::Office;
 use crate::waits::{remove, timed_place};
 use attempt_fates::{Attempt, End, Fates};
 use tuple_account::acker_core::{Check, Verdict, check_list};
+use tuple_account::message_lists::Notes;
 use tuple_account::storm_values::{Memory, Root, Seq};
-use tuple_account::tree_model::Notes;
 
 impl<'p> Office<'p> {
     /// A verdict is heard.

@@ -29,6 +29,6 @@ pub use storm_ids;
 pub use trident_batches;
 pub use tuple_account;
 pub use tuple_account::{
-    acker_core, bolt_ops, counted_items, rotating_ledger, storm_values, topology_plan, tree_model,
-    tuple_tickets,
+    acker_core, bolt_ops, counted_items, message_lists, rotating_ledger, storm_values,
+    topology_plan, tree_model, tuple_tickets,
 };

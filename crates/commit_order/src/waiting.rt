@@ -5,8 +5,9 @@ use crate::writes::writes_in_path_order;
 use commit_turns::Wait;
 use std::alloc::Global;
 use std::marker::Model;
+use tuple_account::message_lists::Notes;
 use tuple_account::storm_values::{Memory, Root, Seq};
-use tuple_account::tree_model::{Notes, PackedWrites};
+use tuple_account::tree_model::PackedWrites;
 
 /// The list that an attempt was settled with, beside the places of its dones in the order of the
 /// paths that they consume. Contracts see the list.

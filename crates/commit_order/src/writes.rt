@@ -1,9 +1,11 @@
-ghost use Rattle.std.specs.Prelude.{◌≡◌, ◌++◌, IfOk, OnOk, option_copied, slice_get};
+ghost use Rattle.std.specs.Prelude.{◌≡◌, ◌<◌, ◌++◌, length, IfOk, OnOk, slice_get};
+ghost use Rattle.tuple_account.specs.message_lists.Packed.{HasText, note_lent};
 ghost use Rattle.commit_writes.specs.Writes.{AreWritesOf, IsPathOrderOf, done_in, done_of, writes_in};
 
 use std::alloc::Global;
+use tuple_account::message_lists::{LentNote, Notes};
 use tuple_account::storm_values::{Memory, Seq};
-use tuple_account::tree_model::{AckMsg, Notes, PackedWrites, Write};
+use tuple_account::tree_model::{AckMsg, PackedWrites, Write};
 
 /// The writes of a list's dones, in the order of the paths that they consume, by the places of the
 /// dones in this order: one pass over these.
@@ -17,36 +19,34 @@ pub(crate) fn writes_in_path_order(
 {
     let mut writes = PackedWrites::with_capacity(alloc, order.len())?;
     for place in order.as_slice() {
-        add_writes_at(&mut writes, list.as_slice(), *place)?;
+        add_writes_at(&mut writes, list, *place)?;
     }
     Ok(writes)
 }
 
 // Adds copies of the writes of the done at a place.
-fn add_writes_at(into: &mut PackedWrites, list: &[AckMsg], place: usize) -> Result<(), Memory>
+fn add_writes_at(into: &mut PackedWrites, list: &Notes, place: usize) -> Result<(), Memory>
     ensures { OnOk result
         (into.new ≡ into.old ++ writes_in (done_of (slice_get list.now place))) }
 {
-    match note_at(list, place) {
-        Some(note) => add_writes_of(into, note),
-        None => Ok(()),
+    if place < list.len() {
+        add_writes_of(into, list.get(place))?;
     }
-}
-
-// The message at a place, if there is one.
-fn note_at(list: &[AckMsg], place: usize) -> Option<&AckMsg>
-    ensures { option_copied result ≡ slice_get list.now place }
-{
-    list.get(place)
+    Ok(())
 }
 
 // Adds copies of the writes of a message.
-fn add_writes_of(into: &mut PackedWrites, note: &AckMsg) -> Result<(), Memory>
-    ensures { OnOk result (into.new ≡ into.old ++ writes_in (done_in note.now)) }
+fn add_writes_of(into: &mut PackedWrites, note: LentNote<'_>) -> Result<(), Memory>
+    requires text { HasText note.entry }
+    ensures { OnOk result (into.new ≡ into.old ++ writes_in (done_in (note_lent note.entry))) }
 {
     match note {
-        AckMsg::Done(done) => add_copies(into, done.writes.as_slice()),
-        AckMsg::Init(_) | AckMsg::Failed(_) => Ok(()),
+        LentNote::Whole(AckMsg::Done(done)) => add_copies(into, done.writes.as_slice()),
+        LentNote::Whole(_) => Ok(()),
+        LentNote::Done(done) => match done.write {
+            Some(write) => into.push_lent(write),
+            None => Ok(()),
+        },
     }
 }
 

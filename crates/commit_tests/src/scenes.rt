@@ -4,11 +4,12 @@ ghost use Rattle.std.specs.Prelude.{IfOk, All};
 ghost use Rattle.commit_order.specs.storm_values.Rows.{IsRow};
 
 use commit_order::acker_core::Verdict;
+use commit_order::message_lists::Notes;
 use commit_order::state_parts::CommitOutcome;
 use commit_order::storm_ids::{IdMaker, ScriptIds, ScriptSource};
 use commit_order::storm_values::{Few, Path, Root, Rows, Seq, row_from_line};
 use commit_order::topology_plan::Plan;
-use commit_order::tree_model::{AckMsg, Done, Draw, Init, Notes, Parcel, Parcels};
+use commit_order::tree_model::{AckMsg, Done, Draw, Init, Parcel, Parcels};
 use commit_order::trident_batches::Batches;
 use commit_order::tuple_tickets::{Edge, Edges};
 use commit_order::{Attempt, Coordinator, End, Fates, Orders, Stop};

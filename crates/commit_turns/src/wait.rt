@@ -1,5 +1,5 @@
+use tuple_account::message_lists::Notes;
 use tuple_account::storm_values::Root;
-use tuple_account::tree_model::Notes;
 
 /// A pending attempt, with the number of the tick of its begin and, once it is settled, the list
 /// that it was settled with.

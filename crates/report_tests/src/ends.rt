@@ -1,5 +1,6 @@
 // Attempts with every end, and tables.
 use attempt_fates::{Attempt, End, Fates};
+use message_lists::Notes;
 use run_report::{Tail, print_report, report_of, report_text};
 use std::alloc::Global;
 use test_kit::{Mismatch, compare};
@@ -7,7 +8,7 @@ use topology_reader::read_topology;
 use tree_model::storm_values::{Path, Root, Txt};
 use tree_model::topology_plan::Plan;
 use tree_model::tuple_tickets::{Edge, Edges};
-use tree_model::{AckMsg, Done, Draw, Init, Notes, Pair, Pairs, Table, Tables, Writes};
+use tree_model::{AckMsg, Done, Draw, Init, Pair, Pairs, Table, Tables, Writes};
 
 /// The end of an attempt, in short: of a list that coincided the edges of its init.
 #[derive(Clone, Copy)]

@@ -6,10 +6,10 @@ ghost use Rattle.run_report.specs.Steps.{heading_of, AddsCoincided, AddsEnd, Add
 
 use crate::edges::push_open;
 use attempt_fates::{Attempt, End};
+use message_lists::Notes;
 use report_lines::push_path;
 use std::alloc::Global;
 use std::fmt::Write;
-use tree_model::Notes;
 use tree_model::storm_values::{Memory, Path};
 use tree_model::topology_plan::Plan;
 

@@ -3,9 +3,9 @@ ghost use Rattle.std.specs.Prelude.{OnOk, string_bytes};
 ghost use Rattle.run_report.specs.Steps.{AddsOpen};
 
 use acker_core::{Check, check_list};
+use message_lists::Notes;
 use report_lines::push_edges;
 use std::alloc::Global;
-use tree_model::Notes;
 use tree_model::storm_values::Memory;
 
 /// Adds the edges that a list leaves open.

@@ -8,12 +8,13 @@ ghost use Rattle.run_report.specs.Fated.{AreLinesOf, AreOpenOf, IsEndOf, IsLineO
 use crate::attempts::name_of;
 use acker_core::{Check, check_list};
 use attempt_fates::{Attempt, End};
+use message_lists::Notes;
 use report_lines::{AttemptLine, AttemptLines, CellLine, CellLines, EndLine, Report, Tail};
 use std::alloc::Global;
 use tree_model::storm_values::{Duplicate, Memory, Txt};
 use tree_model::topology_plan::Plan;
 use tree_model::tuple_tickets::Edges;
-use tree_model::{Notes, Pair, Table};
+use tree_model::{Pair, Table};
 
 /// The report whose text `report_text` makes. It copies the names and keys of all lines, and takes
 /// time in proportion to them, and besides to n log n for the n edges of each attempt that

@@ -24,7 +24,7 @@ pub use list_laws::{
     closed_lists_cover, complete_lists_cover, covering_lists_are_closed,
     what_does_not_cancel_does_not_coincide, words_are_of_open_edges,
 };
-pub use messages::{AckMsg, Done, Draw, FailNote, Init, Notes, Parcel, Parcels, Tuple};
+pub use messages::{AckMsg, Done, Draw, FailNote, Init, Parcel, Parcels, Tuple};
 pub use packed::{LentWrite, PackedWrites};
 pub use plain::{count_nodes, plain_tables};
 pub use running::RunningTables;

@@ -54,9 +54,6 @@ pub enum AckMsg {
     Failed(FailNote),
 }
 
-/// Messages of ackers, mostly of one root.
-pub type Notes = Seq<AckMsg>;
-
 /// What goes from a task or the coordinator to a task or an acker, by its number.
 #[derive(Debug, Drop)]
 pub enum Parcel {

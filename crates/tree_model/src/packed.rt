@@ -1,6 +1,7 @@
 //! Writes whose keys lie one behind another in one buffer.
 ghost use Rattle.std.specs.Prelude.{◌≡◌, ◌<◌, ◌≤◌, ◌-◌, take, drop, ◌++◌, ◌∷◌, [], true, All, Some, length};
 ghost use Rattle.std.specs.Prelude.{slice_get, IfOk, OnOk};
+ghost use Rattle.std.specs.Str.{IsUtf8};
 ghost use Rattle.tree_model.specs.Packs.{HasText, IsOfText, begin_at, end_behind, packed_from, write_in};
 
 use crate::write::Write;
@@ -64,9 +65,22 @@ impl PackedWrites {
     pub fn push(&mut self, write: &Write) -> Result<(), Memory>
         ensures { OnOk result (self.new ≡ self.old ++ write.now ∷ []) }
     {
-        let key = write.key.as_str();
+        let lent = LentWrite {
+            state: write.state,
+            part: write.part,
+            key: write.key.as_str().as_bytes(),
+            amount: write.amount,
+        };
+        self.push_lent(lent)
+    }
+
+    /// Adds a write whose key is lent, with the key at the end of the buffer.
+    pub fn push_lent(&mut self, write: LentWrite<'_>) -> Result<(), Memory>
+        requires text { IsUtf8 write.key.now }
+        ensures { OnOk result (self.new ≡ self.old ++ write_in write.entry ∷ []) }
+    {
         self.heads.reserve(1)?;
-        self.keys.extend_from_slice(key.as_bytes())?;
+        self.keys.extend_from_slice(write.key)?;
         let end = self.keys.len();
         self.heads.push_reserved(Head {
             state: write.state,

@@ -14,6 +14,7 @@ pub mod Stuck
 pub use Rattle.acker_core.specs as acker_core
 pub use Rattle.tree_model.specs.bolt_ops as bolt_ops
 pub use Rattle.tree_model.specs.counted_items as counted_items
+pub use Rattle.message_lists.specs as message_lists
 pub use Rattle.rotating_ledger.specs as rotating_ledger
 pub use Rattle.tree_model.specs.storm_values as storm_values
 pub use Rattle.tree_model.specs.topology_plan as topology_plan

@@ -26,6 +26,7 @@ pub use laws::{
     each_root_has_one_verdict, ids_are_drawn_once, lists_are_sound, packets_are_routed,
     stuck_roots_were_told, tuples_are_issued_once, verdicts_have_causes, words_given_are_few,
 };
+pub use message_lists;
 pub use moves::{moves_add_up, reached_goes_on, work_moves};
 pub use rotating_ledger;
 pub use stretches::{

@@ -1,0 +1,4 @@
+mod Children
+mod Growing
+mod Kept
+mod Texts
