@@ -37,7 +37,7 @@ fn add_writes_at(into: &mut PackedWrites, list: &Notes, place: usize) -> Result<
 
 // Adds copies of the writes of a message.
 fn add_writes_of(into: &mut PackedWrites, note: LentNote<'_>) -> Result<(), Memory>
-    requires text { HasText note.entry }
+    requires text { HasText note }
     ensures { OnOk result (into.new ≡ into.old ++ writes_in (done_in (note_lent note.entry))) }
 {
     match note {

@@ -1,10 +1,10 @@
-use Rattle.std.proofs.Common.{ap, sym, ◌∙◌}
-use Rattle.std.specs.Option.{option_copied}
+use Rattle.std.proofs.Common.{rules, ◌≤◌, ◌++◌, length, ap, sym, ◌∙◌}
 use Rattle.std.proofs.lemmas.List.{append-nil}
+use Rattle.std.proofs.lemmas.Option.{slice_get_past}
+use Rattle.commit_writes.specs.Writes.{done_of, writes_in}
 use Rattle.commit_order.proofs.writes.add_writes_at.Goals as goal
 
-pub returns-in-Some : goal.returns-in-Some
-returns-in-Some c = rw (sym c.note_at.ensures ∙ ap option_copied c.in-Some.is) c.add_writes_of.ensures
-
-pub returns-in-None : goal.returns-in-None
-returns-in-None c = rw (sym c.note_at.ensures ∙ ap option_copied c.in-None.is) (sym (append-nil c.args.into.now))
+pub returns-else-place-len : goal.returns-else-place-len
+returns-else-place-len c =
+    let past : length c.args.list.now ≤ c.args.place = search rules in
+    sym (ap (λ o. c.args.into.now ++ writes_in (done_of o)) (slice_get_past c.args.list.now c.args.place past) ∙ append-nil c.args.into.now)
