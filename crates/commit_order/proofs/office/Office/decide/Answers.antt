@@ -1,12 +1,13 @@
-use Rattle.std.proofs.Common.{◌≡◌, refl, sym, ap, ap₂, ◌∙◌, Some, false, length}
+use Rattle.std.proofs.Common.{◌≡◌, [], refl, sym, ap, ap₂, ◌∙◌, Some, false, length}
 use Rattle.std.proofs.lemmas.List.{append-nil}
 use Rattle.std.proofs.lemmas.Option.{get_or_from_slice_get}
+use Rattle.std.proofs.lemmas.Result.{on_err_weaker}
 use Rattle.commit_order.proofs.Ending.{counted_tick, decided_goes, found_by, item_is, next_txid, none_by, on_ok, second_is_some}
 use Rattle.commit_order.proofs.Places.{some_same}
 use Rattle.commit_order.proofs.Steps.{office_by}
 use Rattle.commit_order.specs.Offices.{Office, counted_by, is_settled_after}
 use Rattle.commit_turns.specs.Desks.{without}
-use Rattle.commit_turns.specs.Turns.{end_by}
+use Rattle.commit_turns.specs.Turns.{decided, end_by}
 use Rattle.commit_turns.specs.declared.wait.Wait.{Wait}
 use Rattle.tuple_account.specs.storm_values.declared.value.Root.{Root}
 use Rattle.trident_batches.specs.Batches.{first_of, last_of}
@@ -72,3 +73,15 @@ returns-clause-ok c =
     (c.records-first.ensures.first ∙ ap (first_of f.batches.size) txid)
     (c.records-first.ensures.last ∙ ap (last_of (length f.batches.records) f.batches.size) txid) tick end)))
     c.push.ensures.ok)
+
+pub returns-clause-err : goal.returns-clause-err
+returns-clause-err c =
+    let o = c.args.self.now in
+    on_err_weaker c.push.result
+    (λ (same : c.push.new.self ≡ c.args.fates.now). record {
+      done = [];
+      rest = (decided o.topology o.cut c.args.how o.desk).ended;
+      are_first = refl;
+      added = same ∙ sym (append-nil c.args.fates.now);
+    })
+    c.push.ensures.err
