@@ -117,7 +117,9 @@ class Topologies(Pictures):
         named["states"][0]["name"] = 10
         done = json.loads(text_of(f"{TOP}/examples/word_count/topology.json"))
         done["bolts"][0]["op"]["do"] = 3
-        for text in ["", "[]", "{}", "null", json.dumps(word_count), json.dumps(named), json.dumps(done)]:
+        half = json.loads(text_of(f"{TOP}/examples/word_count/topology.json"))
+        half["spout"]["fields"].append("\ud800")
+        for text in ["", "[]", "{}", "null", *map(json.dumps, [word_count, named, done, half])]:
             with self.subTest(text), self.assertRaises(picture.Unreadable):
                 picture.topology_picture(text)
 
