@@ -77,6 +77,11 @@ def values_of(draws):
     return values
 
 
+def within_limit(value):
+    """The value, or its first 256 bytes: a topology takes no longer text."""
+    return value.encode()[:256].decode(errors="ignore") if isinstance(value, str) else value
+
+
 def words_in(values):
     return max([1, *(len(it.split(" ")) for it in values if isinstance(it, str))])
 
@@ -164,10 +169,10 @@ class Topology:
             name = self.fresh()
             return {"do": do, "field": fields[at], "as": name}, [*fields, name], [*words, 1], 1
         if do == "filter":
-            test, value = draws.one(["eq", "ne", "ne", "lt", "lt"]), draws.one(self.values)
+            test, value = draws.one(["eq", "ne", "ne", "lt", "lt"]), within_limit(draws.one(self.values))
             return {"do": do, "field": fields[at], "test": test, "value": value}, fields, words, 1
         if do == "set":
-            value = draws.one(self.values)
+            value = within_limit(draws.one(self.values))
             return {"do": do, "field": fields[at], "value": value}, fields, [*words[:at], words_in([value]), *words[at + 1 :]], 1
         if do == "route":
             return {"do": do, "field": fields[at]}, fields, words, 1
