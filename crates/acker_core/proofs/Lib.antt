@@ -1,4 +1,5 @@
 mod Below
+mod ChildIds
 mod Failing
 pub mod OwnEntries
 pub mod PathOrders

@@ -2,12 +2,14 @@ ghost use Rattle.std.specs.Prelude.{◌≡◌, ◌≤◌, [], None, IfOk, IsSome
 ghost use Rattle.rotating_ledger.specs.Held.{AreHeldOnce, AreYoung, value_of, without, entered, rotated};
 ghost use Rattle.rotating_ledger.specs.Told.{told};
 ghost use Rattle.tree_model.specs.Lists.{root_of};
+ghost use Rattle.tree_model.specs.declared.messages.AckMsg.TheVariants as msg;
+ghost use Rattle.message_lists.specs.Packed.{HasKeyText, done_lent};
 ghost use Rattle.acker_core.specs.Entries.{AreSilent, appended, met, tell, told_of};
 ghost use Rattle.acker_core.specs.States.{state_of};
 
 use crate::entry::{Entry, root_in};
 use crate::verdict::Verdict;
-use message_lists::Room;
+use message_lists::{LentDone, LentNote, Room};
 use rotating_ledger::{Rotating, Told};
 use std::alloc::{AllocError, Global};
 use std::marker::Model;
@@ -73,6 +75,25 @@ impl Acker {
         Ok(None)
     }
 
+    /// Meets a done that is lent in parts, of which a message is made only where its root's entry
+    /// begins with it. What it comes to is told as by `step`.
+    pub fn step_done(&mut self, done: &LentDone<'_>) -> Result<Option<Verdict>, Memory>
+        requires text { HasKeyText done.now.write }
+        ensures told { IfOk result
+            (λ told. told ≡ told_of (msg.Done (done_lent done.now)) self.old.held) }
+        ensures met { OnOk result (self.new
+            ≡ record self.old { held = met (msg.Done (done_lent done.now)) self.old.held }) }
+        ensures err { OnErr result (self.new ≡ self.old) }
+    {
+        let told = add_done(self.alloc, self.room, &mut self.entries, done)?;
+        if told.tells() {
+            let verdict = take_verdict(&mut self.entries, done.root);
+            self.room = room_after(&verdict, self.room);
+            return Ok(verdict);
+        }
+        Ok(None)
+    }
+
     /// Drops the entries of the oldest bucket. It takes no memory.
     pub fn tick(&mut self)
         ensures { self.new ≡ record self.old { held = rotated self.old.buckets self.old.held } }
@@ -132,6 +153,35 @@ fn add_message(
                 Ok(()) => Ok(told),
                 Err(_) => Err(AllocError),
             }
+        }
+    }
+}
+
+// Adds a done that is lent to its root's entry, which begins with it where there is none.
+fn add_done(
+    alloc: Global,
+    room: Room,
+    entries: &mut Rotating<Entry>,
+    done: &LentDone<'_>,
+) -> Result<Told, Memory>
+    requires text { HasKeyText done.now.write }
+    ensures told { IfOk result (λ told_is. told_is ≡ told (state_of
+        (appended (value_of done.now.root entries.old.held) (msg.Done (done_lent done.now))))) }
+    ensures entered { OnOk result (let before = value_of done.now.root entries.old.held in
+        let m = msg.Done (done_lent done.now) in
+        entries.new
+        ≡ record entries.old
+        { held = entered done.now.root before (appended before m) entries.old.held }) }
+    ensures err { OnErr result (entries.new ≡ entries.old) }
+{
+    match entries.get(done.root) {
+        Some(entry) => {
+            entry.add_done(alloc, done)?;
+            Ok(entry.told())
+        }
+        None => {
+            let message = LentNote::Done(*done).to_message(alloc)?;
+            add_message(alloc, room, entries, done.root, message)
         }
     }
 }

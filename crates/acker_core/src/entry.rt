@@ -1,14 +1,15 @@
-ghost use Rattle.std.specs.Prelude.{◌≡◌, ◌∷◌, ◌++◌, [], bit_xor, IfOk, OnOk, OnErr};
+ghost use Rattle.std.specs.Prelude.{◌≡◌, ◌∷◌, ◌++◌, [], bit_xor, ℕ, List, IfOk, OnOk, OnErr};
 ghost use Rattle.rotating_ledger.specs.Told.{told};
 ghost use Rattle.tree_model.specs.tuple_tickets.Edges.{xor_ids};
 ghost use Rattle.tree_model.specs.Lists.{root_of};
-ghost use Rattle.message_lists.specs.Packed.{note_lent};
+ghost use Rattle.tree_model.specs.declared.messages.AckMsg.TheVariants as msg;
+ghost use Rattle.message_lists.specs.Packed.{HasKeyText, children_from, done_lent, note_lent};
 ghost use Rattle.acker_core.specs.Entries.{first_failed, tell};
 ghost use Rattle.acker_core.specs.Failures.{IsFirstFailure, fails};
 ghost use Rattle.acker_core.specs.States.{state_of, state_in};
 
 use crate::verdict::Verdict;
-use message_lists::{LentNote, Notes, Room};
+use message_lists::{LentDone, LentNote, Notes, Room};
 use rotating_ledger::{AckState, Told};
 use std::alloc::Global;
 use std::marker::Model;
@@ -67,6 +68,23 @@ fn message_state(message: &AckMsg) -> AckState
     }
 }
 
+// The XOR of the ids of a path's children, from any number on.
+fn xor_of_ids(ids: &[u64]) -> u64
+    ensures { (path : List ℕ) (k : ℕ) → result ≡ xor_ids (children_from path k ids.now) }
+{
+    let mut word = 0;
+    for id in ids {
+        word ^= id;
+    }
+    word
+}
+
+fn done_state(done: &LentDone<'_>) -> AckState
+    ensures { result ≡ state_in (msg.Done (done_lent done.now)) }
+{
+    AckState::ack(done.id ^ xor_of_ids(done.produced))
+}
+
 // The list with no room for more, since it is kept as long as the fates.
 fn trimmed(list: Notes) -> Notes
     ensures { result ≡ list }
@@ -122,6 +140,18 @@ impl Entry {
     {
         let state = message_state(&message);
         self.list.push(message)?;
+        self.state.merge(state);
+        Ok(())
+    }
+
+    /// Adds a done that is lent in parts at the end.
+    pub fn add_done(&mut self, alloc: Global, done: &LentDone<'_>) -> Result<(), Memory>
+        requires text { HasKeyText done.now.write }
+        ensures ok { OnOk result (self.new ≡ self.old ++ msg.Done (done_lent done.now) ∷ []) }
+        ensures err { OnErr result (self.new ≡ self.old) }
+    {
+        let state = done_state(done);
+        self.list.push_done(alloc, done)?;
         self.state.merge(state);
         Ok(())
     }

@@ -48,7 +48,7 @@ impl LentNote<'_> {
 
 impl LentDone<'_> {
     // The done by itself.
-    fn to_done(&self, alloc: Global) -> Result<Done, Memory>
+    pub(crate) fn to_done(&self, alloc: Global) -> Result<Done, Memory>
         requires text { HasKeyText self.now.write }
         ensures { IfOk result (λ made. made ≡ done_lent self.now) }
     {

@@ -1,7 +1,8 @@
-ghost use Rattle.std.specs.Prelude.{◌≡◌, ◌<◌, ◌≤◌, ◌+◌, ◌∷◌, ◌++◌, [], ℕ, List, IsTrue, length, slice_get, Some, IfOk, IfSome, OnOk, OnErr};
+ghost use Rattle.std.specs.Prelude.{◌≡◌, ◌<◌, ◌≤◌, ◌+◌, ◌∷◌, ◌++◌, [], ℕ, List, IsTrue, length, slice_get, None, Some, IfOk, IfSome, OnOk, OnErr};
+ghost use Rattle.std.specs.Str.{IsUtf8};
 ghost use Rattle.tree_model.specs.declared.messages.AckMsg.{AckMsg};
 ghost use Rattle.tree_model.specs.declared.messages.AckMsg.TheVariants as msg;
-ghost use Rattle.message_lists.specs.Packed.{AreThere, Grows, IsGrown, IsHead, IsNoteOf, IsPiece, IsWholeHead, HasText, children_from, failure_at, failure_of, ids_in, notes_of, note_lent, piece};
+ghost use Rattle.message_lists.specs.Packed.{AreThere, Grows, IsGrown, IsHead, IsNoteOf, IsPiece, IsWholeHead, HasKeyText, HasText, children_from, done_lent, failure_at, failure_of, ids_in, notes_of, note_lent, piece};
 
 use crate::lent::{LentDone, LentNote};
 use std::alloc::{AllocError, Global};
@@ -31,6 +32,14 @@ pub struct Head {
     kind: Kind,
 }
 
+// What siblings share beside their parent's path.
+#[derive(Clone, Copy)]
+struct Shared {
+    root: Root,
+    draw: Draw,
+    kind: Kind,
+}
+
 /// What is a message's own: the number of its head, the number of its tuple among its siblings,
 /// the tuple's id, and a piece of the ids or of the key bytes, or the place of the whole message.
 #[derive(Clone, Copy, Debug)]
@@ -44,7 +53,7 @@ pub struct Short {
 }
 
 /// Messages in order. A done of a state takes 32 bytes and those of its key, one of a bolt 32 bytes
-/// and 8 for each tuple that it produced, and siblings one after another share 64 bytes. Each other
+/// and 8 for each tuple that it produced, and siblings one after another share 56 bytes. Each other
 /// message is kept as it came.
 #[derive(Debug, Drop)]
 pub struct Notes {
@@ -166,6 +175,18 @@ impl Notes {
         ensures err { OnErr result (self.new ≡ self.old) }
     {
         let short = short_for(&mut self.stock, message)?;
+        self.shorts.push(short)?;
+        Ok(())
+    }
+
+    /// Adds a done that is lent in parts. No message is made of it, unless it both produced and
+    /// wrote.
+    pub fn push_done(&mut self, alloc: Global, done: &LentDone<'_>) -> Result<(), Memory>
+        requires text { HasKeyText done.now.write }
+        ensures ok { OnOk result (self.new ≡ self.old ++ msg.Done (done_lent done.now) ∷ []) }
+        ensures err { OnErr result (self.new ≡ self.old) }
+    {
+        let short = lent_short(alloc, &mut self.stock, done)?;
         self.shorts.push(short)?;
         Ok(())
     }
@@ -302,13 +323,12 @@ fn bolt_short(
     if !are_children(done.consumed.path.as_slice(), done.produced.as_slice()) {
         return Ok(None);
     }
-    let head = head_for(
-        &mut stock.heads,
-        &mut stock.numbers,
-        done,
-        parent,
-        Kind::Bolt,
-    )?;
+    let shared = Shared {
+        root: done.root,
+        draw: done.draw,
+        kind: Kind::Bolt,
+    };
+    let head = head_for(&mut stock.heads, &mut stock.numbers, shared, parent)?;
     let (at, len) = add_ids(&mut stock.ids, done.produced.as_slice())?;
     Ok(Some(Short {
         head,
@@ -336,11 +356,15 @@ fn state_short(
     if !done.produced.is_empty() {
         return Ok(None);
     }
-    let kind = Kind::State {
-        state: write.state,
-        part: write.part,
+    let shared = Shared {
+        root: done.root,
+        draw: done.draw,
+        kind: Kind::State {
+            state: write.state,
+            part: write.part,
+        },
     };
-    let head = head_for(&mut stock.heads, &mut stock.numbers, done, parent, kind)?;
+    let head = head_for(&mut stock.heads, &mut stock.numbers, shared, parent)?;
     let (at, len) = add_piece(&mut stock.keys, write.key.as_str().as_bytes())?;
     Ok(Some(Short {
         head,
@@ -350,6 +374,79 @@ fn state_short(
         len,
         amount: write.amount,
     }))
+}
+
+// What is kept of a done that is lent.
+fn lent_short(alloc: Global, stock: &mut Stock, done: &LentDone<'_>) -> Result<Short, Memory>
+    requires text { HasKeyText done.now.write }
+    ensures grows { IsGrown stock.old stock.new }
+    ensures note { IfOk result (IsNoteOf stock.new (msg.Done (done_lent done.now))) }
+{
+    match &done.write {
+        None => lent_bolt(stock, done),
+        Some(write) => {
+            if done.produced.is_empty() {
+                lent_state(stock, done, write)
+            } else {
+                whole_short(stock, AckMsg::Done(done.to_done(alloc)?))
+            }
+        }
+    }
+}
+
+// What is kept of a done that is lent and that wrote nothing.
+fn lent_bolt(stock: &mut Stock, done: &LentDone<'_>) -> Result<Short, Memory>
+    requires none { done.now.write ≡ None }
+    ensures grows { IsGrown stock.old stock.new }
+    ensures note { IfOk result (IsNoteOf stock.new (msg.Done (done_lent done.now))) }
+{
+    let shared = Shared {
+        root: done.root,
+        draw: done.draw,
+        kind: Kind::Bolt,
+    };
+    let head = head_for(&mut stock.heads, &mut stock.numbers, shared, done.parent)?;
+    let (at, len) = add_piece(&mut stock.ids, done.produced)?;
+    Ok(Short {
+        head,
+        number: done.number,
+        id: done.id,
+        at,
+        len,
+        amount: 0,
+    })
+}
+
+// What is kept of a done that is lent, with one write, that produced nothing.
+fn lent_state(
+    stock: &mut Stock,
+    done: &LentDone<'_>,
+    write: &LentWrite<'_>,
+) -> Result<Short, Memory>
+    requires write { done.now.write ≡ Some write.now }
+    requires text { IsUtf8 write.now.key.now }
+    requires produced { done.now.produced.now ≡ [] }
+    ensures grows { IsGrown stock.old stock.new }
+    ensures note { IfOk result (IsNoteOf stock.new (msg.Done (done_lent done.now))) }
+{
+    let shared = Shared {
+        root: done.root,
+        draw: done.draw,
+        kind: Kind::State {
+            state: write.state,
+            part: write.part,
+        },
+    };
+    let head = head_for(&mut stock.heads, &mut stock.numbers, shared, done.parent)?;
+    let (at, len) = add_piece(&mut stock.keys, write.key)?;
+    Ok(Short {
+        head,
+        number: done.number,
+        id: done.id,
+        at,
+        len,
+        amount: write.amount,
+    })
 }
 
 // What is kept of a message as it came.
@@ -374,27 +471,26 @@ fn whole_short(stock: &mut Stock, message: AckMsg) -> Result<Short, Memory>
 fn head_for(
     heads: &mut Vec<Head>,
     numbers: &mut Vec<u32>,
-    done: &Done,
+    shared: Shared,
     parent: &[u32],
-    kind: Kind,
 ) -> Result<u32, Memory>
     ensures heads { Grows heads.old.items heads.new.items }
     ensures numbers { Grows numbers.old.items numbers.new.items }
-    ensures there { IfOk result (λ k. IsHead numbers.new.items heads.new.items k done.now.root
-        done.now.draw parent.now kind) }
+    ensures there { IfOk result (λ k. IsHead numbers.new.items heads.new.items k shared.root
+        shared.draw parent.now shared.kind) }
 {
     let count = heads.len();
-    if count > 0 && is_head_of(&heads[count - 1], numbers, done, parent, kind) {
+    if count > 0 && is_head_of(&heads[count - 1], numbers, shared, parent) {
         return number_of(count - 1);
     }
     let number = number_of(count)?;
     let (at, len) = add_piece(numbers, parent)?;
     heads.push(Head {
-        root: done.root,
-        draw: done.draw,
+        root: shared.root,
+        draw: shared.draw,
         at,
         len,
-        kind,
+        kind: shared.kind,
     })?;
     Ok(number)
 }
@@ -461,15 +557,15 @@ fn add_ids(into: &mut Vec<u64>, edges: &[Edge]) -> Result<(u32, u32), Memory>
 }
 
 // Whether a head has these parts.
-fn is_head_of(head: &Head, numbers: &[u32], done: &Done, parent: &[u32], kind: Kind) -> bool
-    ensures root { IsTrue result → head.now.root ≡ done.now.root }
-    ensures draw { IsTrue result → head.now.draw ≡ done.now.draw }
-    ensures kind { IsTrue result → head.now.kind ≡ kind }
+fn is_head_of(head: &Head, numbers: &[u32], shared: Shared, parent: &[u32]) -> bool
+    ensures root { IsTrue result → head.now.root ≡ shared.root }
+    ensures draw { IsTrue result → head.now.draw ≡ shared.draw }
+    ensures kind { IsTrue result → head.now.kind ≡ shared.kind }
     ensures path { IsTrue result → IsPiece numbers.now head.now.at head.now.len parent.now }
 {
-    head.root == done.root
-        && head.draw == done.draw
-        && head.kind == kind
+    head.root == shared.root
+        && head.draw == shared.draw
+        && head.kind == shared.kind
         && is_piece(numbers, head.at, head.len, parent)
 }
 
