@@ -1,5 +1,6 @@
 -- What a task sends for a tuple is what the tuple's execution makes.
-use Rattle.std.proofs.Common.{◌≡◌, ◌<◌, ℕ, List, [], ◌∷◌, ◌++◌, length, map, All, sym, ap, subst, ◌∙◌}
+use Rattle.std.proofs.Common.{◌≡◌, ◌<◌, ℕ, List, [], ◌∷◌, ◌++◌, length, map, All, Option, None, Some, refl, sym, ap, subst, ◌∙◌}
+use Rattle.std.specs.Prelude.{option_and_then, slice_get}
 use Rattle.std.specs.Option.{option_map_or, option_to_list}
 use Rattle.tuple_account.specs.bolt_ops.declared.operation.Outcome.TheVariants as outcome
 use Rattle.tuple_account.specs.bolt_ops.RowOp.{Custom}
@@ -19,7 +20,8 @@ use Rattle.tuple_account.specs.tree_model.Courses.{course_of, course_by, course_
 use Rattle.tuple_account.specs.tree_model.declared.messages.AckMsg.TheVariants.{Done, Failed}
 use Rattle.tuple_account.specs.tree_model.declared.messages.Parcel.{Parcel}
 use Rattle.tuple_account.specs.tree_model.declared.messages.Tuple.{Tuple}
-use Rattle.tuple_account.specs.tree_model.Trees.{Node, exec_by, exec_at, kids, kids_of, rows_by, write_of}
+use Rattle.tuple_account.specs.tree_model.declared.write.Write.{Write}
+use Rattle.tuple_account.specs.tree_model.Trees.{Node, exec_by, exec_at, kids, kids_of, rows_by, write_by, write_of}
 use Rattle.tuple_account.specs.Issued.{Run, children_of, course_of_run, draw_from, edges_of, node_of, notes_by, tuples_from}
 use Rattle.tuple_account.specs.Histories.{Execution, GoTo, IsExecution, execution_parcels, to_acker, to_tasks}
 use Rattle.output_collector.specs.Outlets.{HasItsLanes, Outlet, tasks_for, tuples_for}
@@ -100,3 +102,18 @@ module _ (o : Outlet) (t : Topology) (custom : Custom) (tuple : Tuple) (task at 
           sent = subst (λ c. GoTo t (made_by c made) (tasks_for o.lanes (rows_of t custom tuple))) course tt;
         };
       }
+
+-- ---- a write that the acker meets at once
+
+-- who writes is a part of a state, which makes no rows
+pub writers_make_none : (t : Topology) (custom : Custom) (attempt : ℕ) (node : Node) (write : Write) → write_of t node ≡ Some write → exec_at t custom attempt node ≡ outcome.Rows []
+writers_make_none t custom attempt node write is = by (slice_get t.components node.component) is
+  where
+    by : (at : Option Component) → option_and_then (λ (c : Component). write_by node.component c.tasks c.body node.row) at ≡ Some write
+        → option_map_or (λ (c : Component). exec_by custom c.body node.row attempt) at (outcome.Rows []) ≡ outcome.Rows []
+    by None same = refl
+    by (Some c) same = body c.body same
+      where
+        body : (b : Body) → write_by node.component c.tasks b node.row ≡ Some write → exec_by custom b node.row attempt ≡ outcome.Rows []
+        body (Bolt op) same = absurd (let e : None ≡ Some write = same in cc)
+        body (State spec) same = refl

@@ -1,17 +1,22 @@
 -- What a task makes of a tuple. This project's own.
-use Rattle.std.specs.Prelude.{◌≡◌, ℕ, List, [], ◌∷◌, ◌++◌, length}
+use Rattle.std.specs.Prelude.{◌≡◌, ℕ, List, [], ◌∷◌, ◌++◌, Option, length}
+use Rattle.tuple_account.specs.acker_core.declared.verdict.Verdict.{Verdict}
+use Rattle.tuple_account.specs.acker_core.Entries.{met, told_of}
 use Rattle.tuple_account.specs.bolt_ops.declared.operation.Outcome.{Outcome}
 use Rattle.tuple_account.specs.bolt_ops.declared.operation.Outcome.TheVariants.{Rows, Fail, Mute}
 use Rattle.tuple_account.specs.bolt_ops.RowOp.{Custom}
 use Rattle.storm_ids.specs.declared.ids.Ids.{Ghosts}
+use Rattle.tuple_account.specs.rotating_ledger.Held.{Rotation}
 use Rattle.tuple_account.specs.storm_values.declared.value.Value.{Value}
 use Rattle.tuple_account.specs.storm_values.Rows.{IsRow}
 use Rattle.tuple_account.specs.topology_plan.Topology.{Topology}
 use Rattle.tuple_account.specs.topology_plan.Wired.{width_to}
+use Rattle.tuple_account.specs.tree_model.declared.messages.AckMsg.{AckMsg}
 use Rattle.tuple_account.specs.tree_model.declared.messages.AckMsg.TheVariants.{Done}
 use Rattle.tuple_account.specs.tree_model.declared.messages.Parcel.{Parcel}
 use Rattle.tuple_account.specs.tree_model.declared.messages.Tuple.{Tuple}
 use Rattle.tuple_account.specs.tree_model.declared.write.Write.{Write}
+use Rattle.tuple_account.specs.tree_model.Lists.{root_of}
 use Rattle.tuple_account.specs.tree_model.Trees.{exec_at, kids}
 use Rattle.tuple_account.specs.Issued.{draw_from, edges_of, node_of}
 use Rattle.tuple_account.specs.Histories.{Execution, IsExecution, execution_parcels, to_acker}
@@ -19,6 +24,8 @@ use Rattle.output_collector.specs.declared.collector.Collector.{Collector}
 use Rattle.output_collector.specs.Collectors.{outlet_of, ids_in, given_by}
 use Rattle.output_collector.specs.Draws.{Draws, given_after}
 use Rattle.output_collector.specs.Outlets.{Outlet, after_rows, parcels_for, tasks_for, tuples_for}
+use Rattle.bolt_task.specs.declared.task.AtOnce.{AtOnce}
+use Rattle.bolt_task.specs.declared.task.AtOnce.TheVariants.{No, Met}
 use Rattle.bolt_task.specs.declared.task.BoltTask.{BoltTask}
 
 -- the rows that an attempt answers
@@ -94,6 +101,28 @@ module _ {I : Type 0} {g : Ghosts I} where
     pub given : given_by (collector_in new) ≡ given_after (given_by (collector_in old)) (length ids)
     pub outlet : outlet_of (collector_in new)
         ≡ after_rows (rows_of (topology_at old) custom tuple) (outlet_of (collector_in old))
+
+-- a tuple was executed, and its acker met the one message that it was told, and tells this
+pub record MeetsAtOnce {I : Type 0} {g : Ghosts I} (tuple : Tuple) (old new : BoltTask I g)
+    (before after : Rotation (List AckMsg)) (told : Option Verdict) : Type 0 where
+  pub message : AckMsg
+  pub of_root : root_of message ≡ tuple.root
+  pub sent : (custom : Custom) → to_acker (topology_at old) message ∷ []
+      ≡ execution_parcels (topology_at old) custom (execution_at custom old tuple [])
+  pub well : (custom : Custom)
+      → IsExecution (topology_at old) custom (execution_at custom old tuple [])
+  pub makes_none : (custom : Custom) → rows_of (topology_at old) custom tuple ≡ []
+  pub same_collector : collector_in new ≡ collector_in old
+  pub same_count : given_after (given_by (collector_in old)) 0 ≡ given_by (collector_in old)
+  pub tells_it : told ≡ told_of message before.held
+  pub meets : after ≡ record before { held = met message before.held }
+
+-- what comes of a tuple whose acker may meet at once what it is told: that of its execution, or
+-- nothing was done
+abbrev pub WritesAtOnce : {I : Type 0} {g : Ghosts I} → Tuple → BoltTask I g → BoltTask I g
+    → Rotation (List AckMsg) → Rotation (List AckMsg) → AtOnce → Type 0
+WritesAtOnce tuple old new before after No = (new ≡ old) × (after ≡ before)
+WritesAtOnce tuple old new before after (Met told) = MeetsAtOnce tuple old new before after told
 
 -- rows were emitted, and the acker was told
 pub record GoesOn {I : Type 0} (tells : I → (ℕ → ℕ) → ℕ → Type 0) (tuple : Tuple)

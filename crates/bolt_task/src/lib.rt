@@ -3,4 +3,4 @@
 
 mod task;
 
-pub use task::BoltTask;
+pub use task::{AtOnce, BoltTask};

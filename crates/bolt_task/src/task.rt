@@ -1,4 +1,4 @@
-ghost use Rattle.std.specs.Prelude.{◌≡◌, ◌<◌, [], ◌∷◌, All, IfOk};
+ghost use Rattle.std.specs.Prelude.{◌≡◌, ◌<◌, [], ◌∷◌, ◌++◌, None, All, IfOk};
 ghost use Rattle.std.specs.Option.{option_to_list};
 ghost use Rattle.groupings.specs.Allowed.{IsLane};
 ghost use Rattle.tuple_account.specs.topology_plan.Topology.{component_of, tasks_in_all};
@@ -8,6 +8,7 @@ ghost use Rattle.tuple_account.specs.tree_model.declared.messages.AckMsg.TheVari
 ghost use Rattle.tuple_account.specs.tree_model.Trees.{exec_at, write_of};
 ghost use Rattle.tuple_account.specs.Issued.{node_of};
 ghost use Rattle.tuple_account.specs.Histories.{acker_of, to_acker};
+ghost use Rattle.tuple_account.specs.message_lists.Packed.{HasKeyText, done_lent};
 ghost use Rattle.output_collector.specs.Collectors.{IsStarted, outlet_of};
 ghost use Rattle.output_collector.specs.Outlets.{HasItsLanes};
 ghost use Rattle.bolt_task.specs.Places.{IsPlaced};
@@ -15,10 +16,23 @@ ghost use Rattle.bolt_task.specs.Places.{IsPlaced};
 use output_collector::{Collector, Emitted};
 use std::alloc::Global;
 use storm_ids::Ids;
+use tuple_account::acker_core::{Acker, Verdict};
 use tuple_account::bolt_ops::{Outcome, RowOp, exec};
+use tuple_account::message_lists::LentDone;
 use tuple_account::storm_values::{Few, Memory, Root, Rows};
 use tuple_account::topology_plan::{Body, Origin, Plan};
-use tuple_account::tree_model::{AckMsg, Done, FailNote, Parcel, Parcels, Tuple, Write, write_at};
+use tuple_account::tree_model::{
+    AckMsg, Done, Draw, FailNote, LentWrite, Parcel, Parcels, Tuple, Write, write_at,
+};
+
+/// What comes of a tuple whose acker may meet at once what it is told.
+#[derive(Debug, Drop)]
+pub enum AtOnce {
+    /// Nothing was done.
+    No,
+    /// The acker met it, and tells this.
+    Met(Option<Verdict>),
+}
 
 /// One task of a bolt, or one part of a state.
 #[derive(Drop)]
@@ -34,7 +48,7 @@ pub struct BoltTask<'p, I: Ids> {
 }
 
 impl<'p, I: Ids> BoltTask<'p, I> {
-    ghost use Rattle.bolt_task.specs.Executing.{Executes, GoesOn, IsFor, IsSameTask, collector_in, component_at, number_of, topology_at};
+    ghost use Rattle.bolt_task.specs.Executing.{Executes, GoesOn, IsFor, IsSameTask, WritesAtOnce, collector_in, component_at, number_of, topology_at};
 
     /// The task of a number, whose source of ids has the same number. It draws the start words of
     /// its component's subscriptions.
@@ -83,6 +97,27 @@ impl<'p, I: Ids> BoltTask<'p, I> {
             Outcome::Fail => self.fail(tuple, room),
             Outcome::Mute => Ok(Parcels::from_vec(room)),
         }
+    }
+
+    /// Executes a tuple at a part of a state, and has its acker meet at once what it is told: no
+    /// message is made of it, and none is handed over. A bolt's task does nothing.
+    pub fn write_at_once(&mut self, tuple: &Tuple, acker: &mut Acker) -> Result<AtOnce, Memory>
+        requires { IsFor self.old tuple.now }
+        ensures wrote { IfOk result
+            (WritesAtOnce tuple.now self.old self.new acker.old acker.new) }
+        ensures same_task { IsSameTask self.new self.old }
+    {
+        self.collector.facts();
+        let Some((number, parent)) = tuple.edge.path.as_slice().split_last() else {
+            return Ok(AtOnce::No);
+        };
+        let Some(write) = self.write(tuple)? else {
+            return Ok(AtOnce::No);
+        };
+        let draw = self.collector.next_draw();
+        let done = done_of(tuple, parent, *number, draw, &write);
+        let told = acker.step_done(&done)?;
+        Ok(AtOnce::Met(told))
     }
 
     /// What every task keeps. It does nothing.
@@ -159,9 +194,24 @@ impl<'p, I: Ids> BoltTask<'p, I> {
         ensures collector { self.new.collector ≡ self.old.collector }
         ensures same_task { IsSameTask self.new self.old }
     {
+        match self.write(tuple)? {
+            Some(write) => Ok(Few::one(self.alloc, write)),
+            None => Ok(Few::new(self.alloc)),
+        }
+    }
+
+    /// The write of a tuple, if the task is a part of a state.
+    fn write(&mut self, tuple: &Tuple) -> Result<Option<Write>, Memory>
+        requires { IsFor self.old tuple.now }
+        ensures write { IfOk result
+            (λ write. write ≡ write_of self.old.plan.now (node_of tuple.now)) }
+        ensures none { IfOk result (λ write. write ≡ None → self.new ≡ self.old) }
+        ensures collector { self.new.collector ≡ self.old.collector }
+        ensures same_task { IsSameTask self.new self.old }
+    {
         let component = self.plan.component(self.component);
         let Body::State(spec) = &component.body else {
-            return Ok(Few::new(self.alloc));
+            return Ok(None);
         };
         let write = write_at(
             self.alloc,
@@ -171,14 +221,48 @@ impl<'p, I: Ids> BoltTask<'p, I> {
             spec,
             &tuple.row,
         )?;
-        Ok(Few::one(self.alloc, write))
+        Ok(Some(write))
     }
 
     /// The acker of a root.
-    fn acker_of(&self, root: Root) -> u32
-        ensures { result ≡ acker_of self.now.plan.now root }
+    pub fn acker_of(&self, root: Root) -> u32
+        ensures { result ≡ acker_of (topology_at self.now) root }
     {
         self.plan.facts();
         (root.txid % u64::from(self.plan.ackers())) as u32
+    }
+}
+
+// The done of a tuple of a part of a state, lent, where its path has these parts.
+fn done_of<'n>(
+    tuple: &'n Tuple,
+    parent: &'n [u32],
+    number: u32,
+    draw: Draw,
+    write: &'n Write,
+) -> LentDone<'n>
+    requires { tuple.now.edge.path ≡ parent.now ++ number ∷ [] }
+    ensures is { done_lent result ≡ record {
+      root = tuple.now.root;
+      consumed = tuple.now.edge;
+      produced = [];
+      draw = draw;
+      writes = write.now ∷ [];
+    } }
+    ensures text { HasKeyText result.write }
+{
+    LentDone {
+        root: tuple.root,
+        parent,
+        number,
+        id: tuple.edge.id,
+        produced: &[],
+        draw,
+        write: Some(LentWrite {
+            state: write.state,
+            part: write.part,
+            key: write.key.as_str().as_bytes(),
+            amount: write.amount,
+        }),
     }
 }

@@ -1,9 +1,10 @@
 -- Many events in one call. This project's own.
-use Rattle.std.specs.Prelude.{◌≡◌, ◌<◌, ◌≤◌, ℕ, zero, suc, false, [], replicate}
+use Rattle.std.specs.Prelude.{◌≡◌, ◌<◌, ◌≤◌, ℕ, zero, suc, false, List, [], ◌∷◌, replicate}
+use Rattle.std.specs.List.{AllByRecursion}
 use Rattle.event_worlds.specs.bolt_ops.RowOp.{Custom}
 use Rattle.event_engine.specs.Engines.{Goes, shape}
 use Rattle.event_engine.specs.declared.engine.Engine.{Engine}
-use Rattle.event_worlds.specs.Worlds.{Step, World, acker_at, is_over, of_acker, of_task, task_at}
+use Rattle.event_worlds.specs.Worlds.{Step, World, acker_at, is_over, of_acker, of_outcome, of_task, of_tick, of_turn, task_at}
 use Rattle.event_worlds.specs.storm_ids.declared.ids.Ids.{Ghosts}
 use Rattle.event_worlds.specs.topology_plan.Topology.{Topology, tasks_in_all}
 use Rattle.event_worlds.specs.trident_batches.Batches.{Cut}
@@ -21,6 +22,23 @@ TaskRests t n w = ((task_at t n w).inbox ≡ []) × ((task_at t n w).outbox ≡ 
 abbrev pub AckerRests : ℕ → World → Type 0
 AckerRests n w = ((acker_at n w).inbox ≡ []) × ((acker_at n w).outbox ≡ [])
 
+-- a step is a task's own, or an acker's
+abbrev pub IsBeside : ℕ → Step → Type 0
+IsBeside n (of_task m) = m ≡ n
+IsBeside n (of_acker a) = Unit {0}
+IsBeside n of_turn = ⊥
+IsBeside n of_outcome = ⊥
+IsBeside n of_tick = ⊥
+
+-- how many steps are tasks'
+abbrev pub task_steps : List Step → ℕ
+task_steps [] = 0
+task_steps (of_task m ∷ steps) = suc (task_steps steps)
+task_steps (of_acker a ∷ steps) = task_steps steps
+task_steps (of_turn ∷ steps) = task_steps steps
+task_steps (of_outcome ∷ steps) = task_steps steps
+task_steps (of_tick ∷ steps) = task_steps steps
+
 module _ {I : Type 0} {g : Ghosts I} (tells : I → (ℕ → ℕ) → ℕ → Type 0) (t : Topology)
     (custom : Custom) (cut : Cut) where
   -- An engine goes through a step again and again, so many times at most, and fewer times only
@@ -32,6 +50,17 @@ module _ {I : Type 0} {g : Ghosts I} (tells : I → (ℕ → ℕ) → ℕ → Ty
     pub goes : Goes tells t custom cut (replicate count step) old new
     pub rests : count < most → is_over t cut (shape new) ≡ false → Rests (shape new)
 
+  -- An engine goes through steps of a task, so many at most, and of ackers among them.
+  pub record GoesBeside (most n : ℕ) (old new : Engine I g) : Type 0 where
+    pub steps : List Step
+    pub only : AllByRecursion (IsBeside n) steps
+    pub few : task_steps steps ≤ most
+    pub goes : Goes tells t custom cut steps old new
+
+  -- the tasks write what they may, in the order of their numbers
+  abbrev pub TasksWrite : ℕ → Engine I g → Engine I g → Type 0
+  TasksWrite most old new = InTurn (GoesBeside most) (tasks_in_all t) old new
+
   -- the tasks have up to so many events each, in the order of their numbers
   abbrev pub TasksBoost : ℕ → Engine I g → Engine I g → Type 0
   TasksBoost most old new =
@@ -42,8 +71,10 @@ module _ {I : Type 0} {g : Ghosts I} (tells : I → (ℕ → ℕ) → ℕ → Ty
   AckersBoost most old new =
       InTurn (λ n was is. GoesUpTo most (of_acker n) (AckerRests n) was is) t.ackers old new
 
-  -- first the tasks, and then the ackers
+  -- first the tasks write, then all tasks have events, and then the ackers
   pub record Boosts (most : ℕ) (old new : Engine I g) : Type 0 where
+    pub written : Engine I g
     pub between : Engine I g
-    pub tasks : TasksBoost most old between
+    pub writes : TasksWrite most old written
+    pub tasks : TasksBoost most written between
     pub ackers : AckersBoost most between new

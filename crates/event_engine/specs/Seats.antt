@@ -1,10 +1,10 @@
 -- Seats of the engine, and the sides of the world that they are. This project's own.
-use Rattle.std.specs.Prelude.{◌≡◌, ◌<◌, ℕ, suc, List, [], ◌∷◌, ◌++◌, length, map, Option, Some, slice_get, slice_index_or, slice_set}
+use Rattle.std.specs.Prelude.{◌≡◌, ◌<◌, ℕ, suc, Bool, true, false, List, [], ◌∷◌, ◌++◌, length, map, Option, Some, slice_get, slice_index_or, slice_set}
 use Rattle.std.specs.List.{AllByRecursion}
 use Rattle.std.specs.Option.{option_to_list}
 use Rattle.event_worlds.specs.acker_core.declared.verdict.Verdict.{Verdict}
 use Rattle.event_worlds.specs.bolt_ops.RowOp.{Custom}
-use Rattle.event_worlds.specs.bolt_task.Executing.{IsFor, IsSameTask, collector_in, component_at, number_of, topology_at}
+use Rattle.event_worlds.specs.bolt_task.Executing.{IsFor, IsSameTask, MeetsAtOnce, collector_in, component_at, number_of, topology_at}
 use Rattle.event_worlds.specs.commit_order.Orders.{stand_of}
 use Rattle.event_engine.specs.declared.acker.AckerSeat.{AckerSeat}
 use Rattle.event_engine.specs.declared.task.TaskSeat.{TaskSeat}
@@ -13,6 +13,7 @@ use Rattle.event_worlds.specs.output_collector.Collectors.{ids_in}
 use Rattle.event_worlds.specs.output_collector.Draws.{Draws}
 use Rattle.event_worlds.specs.storm_ids.declared.ids.Ids.{Ghosts}
 use Rattle.event_worlds.specs.topology_plan.Topology.{Topology, component_of}
+use Rattle.event_worlds.specs.tuple_account.Histories.{acker_of}
 use Rattle.event_worlds.specs.tree_model.declared.messages.AckMsg.{AckMsg}
 use Rattle.event_worlds.specs.tree_model.declared.messages.Parcel.{Parcel}
 use Rattle.event_worlds.specs.tree_model.declared.messages.Tuple.{Tuple}
@@ -54,6 +55,12 @@ pub record AnswersAt (buckets tick n : ℕ) (verdict : Option Verdict) (old new 
   pub sent : verdict
       ≡ (answered buckets tick (slice_index_or (map acker_side old) n no_acker)).verdict
   pub same_buckets : map buckets_in new ≡ map buckets_in old
+
+-- an acker has nothing in its box and nothing to hand over, and has counted all ticks
+pub record IsIdleAt (tick : ℕ) (side : AckerSide) : Type 0 where
+  pub inbox : side.inbox ≡ []
+  pub outbox : side.outbox ≡ []
+  pub counted : side.counted ≡ tick
 
 -- ---- tasks
 
@@ -135,3 +142,50 @@ module _ {I : Type 0} {g : Ghosts I} where
     pub outbox : after.outbox ≡ before.outbox
     pub task : after.task ≡ before.task
     pub others : new ≡ slice_set old n after
+
+-- ---- a part of a state and its acker
+
+module _ {I : Type 0} {g : Ghosts I} where
+  -- a task has handed over all, and tells this acker of its front tuple
+  pub record TellsNext (a : ℕ) (s : TaskSeat I g) : Type 0 where
+    pub tuple : Tuple
+    pub rest : List Tuple
+    pub front : s.inbox.items ≡ tuple ∷ rest
+    pub handed : s.outbox.items ≡ []
+    pub acker : a ≡ acker_of (topology_at s.task) tuple.root
+
+  abbrev pub TellsNextAt : ℕ → ℕ → List (TaskSeat I g) → Type 0
+  TellsNextAt n a seats = (s : TaskSeat I g) → slice_get seats n ≡ Some s → TellsNext a s
+
+  -- a task executed its front tuple, and the acker met what it was told of it
+  pub record Wrote (old new : TaskSeat I g) (before after : AckerSeat) : Type 0 where
+    pub tuple : Tuple
+    pub told : Option Verdict
+    pub front : old.inbox.items ≡ tuple ∷ new.inbox.items
+    pub outbox : new.outbox ≡ old.outbox
+    pub meets : MeetsAtOnce tuple old.task new.task before.acker after.acker told
+    pub same_task : IsSameTask new.task old.task
+    pub acker : after ≡ record before { acker = after.acker; outbox = told }
+
+  -- that, or nothing
+  abbrev pub Writes : TaskSeat I g → TaskSeat I g → AckerSeat → AckerSeat → Bool → Type 0
+  Writes old new before after true = Wrote old new before after
+  Writes old new before after false = (new ≡ old) × (after ≡ before)
+
+  -- the task of a seat among seats wrote, and one acker among ackers met it
+  pub record WroteAt (n a : ℕ) (tasks left : List (TaskSeat I g)) (ackers others : List AckerSeat)
+      : Type 0 where
+    pub old : TaskSeat I g
+    pub new : TaskSeat I g
+    pub before : AckerSeat
+    pub after : AckerSeat
+    pub at : slice_get tasks n ≡ Some old
+    pub there : slice_get ackers a ≡ Some before
+    pub wrote : Wrote old new before after
+    pub tasks_are : left ≡ slice_set tasks n new
+    pub ackers_are : others ≡ slice_set ackers a after
+
+  abbrev pub WritesAt : ℕ → ℕ → List (TaskSeat I g) → List (TaskSeat I g) → List AckerSeat
+      → List AckerSeat → Bool → Type 0
+  WritesAt n a tasks left ackers others true = WroteAt n a tasks left ackers others
+  WritesAt n a tasks left ackers others false = (left ≡ tasks) × (others ≡ ackers)

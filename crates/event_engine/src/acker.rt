@@ -1,7 +1,7 @@
-ghost use Rattle.std.specs.Prelude.{◌≡◌, ◌≤◌, ◌<◌, ◌++◌, true, [], None, length, IfOk, OnOk};
+ghost use Rattle.std.specs.Prelude.{◌≡◌, ◌≤◌, ◌<◌, ◌++◌, true, [], None, length, map, slice_index_or, IfOk, OnOk};
 ghost use Rattle.std.specs.List.{AllByRecursion};
 ghost use Rattle.event_engine.specs.Exchanges.{GivesAllVerdicts, GivesVerdictAt, without_verdicts};
-ghost use Rattle.event_engine.specs.Seats.{AnswersAt, HasBuckets, PutsMessage, acker_side, buckets_in};
+ghost use Rattle.event_engine.specs.Seats.{AnswersAt, HasBuckets, IsIdleAt, PutsMessage, acker_side, buckets_in};
 ghost use Rattle.event_worlds.specs.Worlds.{answered, counted_up, gets_message, meets, no_acker};
 
 use event_worlds::acker_core::{Acker, Verdict};
@@ -43,6 +43,15 @@ impl AckerSeat {
         let has_handed_over = self.outbox.is_none();
         let has_no_message = self.inbox.is_empty();
         has_handed_over & has_no_message
+    }
+
+    /// Whether a message that came now would be met at the next event, with nothing before it: it
+    /// rests, and no tick is still to be counted.
+    pub fn is_idle(&self, tick: u64) -> bool
+        ensures { result ≡ true → IsIdleAt tick (acker_side self.now) }
+    {
+        let has_counted = self.counted == tick;
+        self.rests() & has_counted
     }
 
     /// Puts a message at the back of the box.
@@ -129,6 +138,15 @@ pub fn put_message(ackers: &mut Vec<AckerSeat>, n: usize, message: AckMsg) -> Re
 {
     ackers[n].put(message)?;
     Ok(())
+}
+
+/// Whether an acker would meet a message that came now at its next event.
+pub fn is_idle_at(ackers: &Vec<AckerSeat>, n: u32, tick: u64) -> bool
+    requires { n < length ackers.now.items }
+    ensures { result ≡ true
+        → IsIdleAt tick (slice_index_or (map acker_side ackers.now.items) n no_acker) }
+{
+    ackers[n as usize].is_idle(tick)
 }
 
 /// An acker hands over its verdict, or else rotates and meets its front message.

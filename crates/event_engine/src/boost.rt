@@ -2,12 +2,14 @@
 ghost use Rattle.std.specs.Prelude.{◌≡◌, ◌<◌, ◌-◌, ◌^◌, true, false, length, OnOk, OnErr};
 ghost use Rattle.event_worlds.specs.attempt_fates.Fates.{IsOnce};
 ghost use Rattle.event_worlds.specs.bolt_ops.RowOp.{Custom};
-ghost use Rattle.event_engine.specs.Boosts.{AckerRests, AckersBoost, Boosts, GoesUpTo, TaskRests, TasksBoost};
+ghost use Rattle.event_engine.specs.Boosts.{AckerRests, AckersBoost, Boosts, GoesBeside, GoesUpTo, TaskRests, TasksBoost, TasksWrite};
 ghost use Rattle.event_engine.specs.Engines.{IsReady, IsStill, cut_in, has_ended, shape, topology_in};
 ghost use Rattle.event_worlds.specs.Worlds.{of_acker, of_task};
 ghost use Rattle.event_worlds.specs.topology_plan.Topology.{tasks_in_all};
 
+use crate::acker::is_idle_at;
 use crate::engine::Engine;
+use crate::task::{acker_at, write_at};
 use event_worlds::bolt_ops::RowOp;
 use event_worlds::storm_ids::Ids;
 use event_worlds::storm_values::Memory;
@@ -28,8 +30,25 @@ impl<'p, I: Ids> Engine<'p, I> {
         if self.is_over() {
             return Ok(());
         }
+        self.tasks_write(most)?;
         self.tasks_often(most, custom)?;
         self.ackers_often(most)?;
+        Ok(())
+    }
+
+    // Each task that is a part of a state writes what its ackers can meet at once.
+    fn tasks_write(&mut self, most: u32) -> Result<(), Memory>
+        requires ready { IsReady (topology_in self.old) (cut_in self.old) self.old }
+        requires goes_on { has_ended self.old ≡ false }
+        ensures ready { OnOk result
+            (IsReady (topology_in self.old) (cut_in self.old) self.new) }
+        ensures writes { (custom : Custom) → OnOk result (TasksWrite I.tells
+            (topology_in self.old) custom (cut_in self.old) most self.old self.new) }
+        ensures still { IsStill self.old self.new }
+    {
+        for n in 0..self.plan.tasks() {
+            self.write_often(n, most)?;
+        }
         Ok(())
     }
 
@@ -84,6 +103,66 @@ impl<'p, I: Ids> Engine<'p, I> {
             self.task_event(n, custom)?;
         }
         Ok(())
+    }
+
+    // Task n executes its front tuples and hands over what their ackers are told of them, and these
+    // meet it at once, as long as it is a part of a state and they can.
+    fn write_often(&mut self, n: u32, most: u32) -> Result<(), Memory>
+        requires there { n < tasks_in_all (topology_in self.old) }
+        requires ready { IsReady (topology_in self.old) (cut_in self.old) self.old }
+        requires goes_on { has_ended self.old ≡ false }
+        ensures ready { OnOk result
+            (IsReady (topology_in self.old) (cut_in self.old) self.new) }
+        ensures goes { (custom : Custom) → OnOk result (GoesBeside I.tells (topology_in self.old)
+            custom (cut_in self.old) most n self.old self.new) }
+        ensures still { IsStill self.old self.new }
+    {
+        for _ in 0..most / 2 {
+            if !self.write_event(n, most)? {
+                return Ok(());
+            }
+        }
+        Ok(())
+    }
+
+    // The same for the front tuple alone. Whether it wrote.
+    fn write_event(&mut self, n: u32, most: u32) -> Result<bool, Memory>
+        requires there { n < tasks_in_all (topology_in self.old) }
+        requires ready { IsReady (topology_in self.old) (cut_in self.old) self.old }
+        requires goes_on { has_ended self.old ≡ false }
+        ensures ready { OnOk result
+            (IsReady (topology_in self.old) (cut_in self.old) self.new) }
+        ensures goes { (custom : Custom) → OnOk result (GoesBeside I.tells (topology_in self.old)
+            custom (cut_in self.old) 2 n self.old self.new) }
+        ensures still { IsStill self.old self.new }
+    {
+        if self.write_to(n)? {
+            return Ok(true);
+        }
+        let Some(a) = acker_at(&self.tasks, n) else {
+            return Ok(false);
+        };
+        self.acker_often(a, most)?;
+        self.write_to(n)
+    }
+
+    // The same where the acker is idle.
+    fn write_to(&mut self, n: u32) -> Result<bool, Memory>
+        requires there { n < tasks_in_all (topology_in self.old) }
+        requires ready { IsReady (topology_in self.old) (cut_in self.old) self.old }
+        requires goes_on { has_ended self.old ≡ false }
+        ensures ready { OnOk result
+            (IsReady (topology_in self.old) (cut_in self.old) self.new) }
+        ensures wrote { IfOk result (λ wrote. WritesTo n self.old self.new wrote) }
+        ensures still { IsStill self.old self.new }
+    {
+        let Some(a) = acker_at(&self.tasks, n) else {
+            return Ok(false);
+        };
+        if !is_idle_at(&self.ackers, a, self.tick) {
+            return Ok(false);
+        }
+        write_at(&mut self.tasks, n, &mut self.ackers, a)
     }
 
     // Acker n has its events, until nothing is left for it to do.

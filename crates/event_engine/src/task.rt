@@ -1,12 +1,13 @@
-ghost use Rattle.std.specs.Prelude.{◌≡◌, ◌<◌, ◌++◌, true, false, None, Some, [], length, IfOk, OnOk};
+ghost use Rattle.std.specs.Prelude.{◌≡◌, ◌<◌, ◌++◌, true, false, None, Some, [], length, IfOk, IfSome, OnOk};
 ghost use Rattle.std.specs.Option.{option_copied};
 ghost use Rattle.event_worlds.specs.bolt_ops.RowOp.{Custom};
 ghost use Rattle.event_worlds.specs.bolt_task.Executing.{number_of, topology_at};
 ghost use Rattle.event_engine.specs.Exchanges.{GivesAllParcels, GivesParcelsAt, next_past};
-ghost use Rattle.event_engine.specs.Seats.{Acts, ActsAt, HandedOverAt, HasParcelAt, Puts, Takes, TakesAt, Works};
+ghost use Rattle.event_engine.specs.Seats.{Acts, ActsAt, HandedOverAt, HasParcelAt, Puts, Takes, TakesAt, TellsNext, TellsNextAt, Works, Writes, WritesAt};
 
+use crate::acker::AckerSeat;
 use event_worlds::bolt_ops::RowOp;
-use event_worlds::bolt_task::BoltTask;
+use event_worlds::bolt_task::{AtOnce, BoltTask};
 use event_worlds::storm_ids::Ids;
 use event_worlds::storm_values::Memory;
 use event_worlds::tree_model::{Parcel, Tuple};
@@ -60,6 +61,36 @@ impl<'p, I: Ids> TaskSeat<'p, I> {
         self.outbox.pop_front().unwrap()
     }
 
+    /// The acker of the front tuple, where nothing is to be handed over and a tuple is there.
+    pub fn next_acker(&self) -> Option<u32>
+        ensures { IfSome result (λ a. TellsNext a self.now) }
+    {
+        if self.has_parcel() {
+            return None;
+        }
+        let tuple = self.inbox.front()?;
+        Some(self.task.acker_of(tuple.root))
+    }
+
+    /// Executes the front tuple of a part of a state, and has its acker, meet at once what it is
+    /// told. A bolt's task does nothing.
+    pub fn write_at_once(&mut self, at: &mut AckerSeat) -> Result<bool, Memory>
+        requires takes { Takes self.old }
+        ensures { IfOk result (Writes self.old self.new at.old at.new) }
+    {
+        let Some(tuple) = self.inbox.front() else {
+            return Ok(false);
+        };
+        match self.task.write_at_once(tuple, &mut at.acker)? {
+            AtOnce::No => Ok(false),
+            AtOnce::Met(told) => {
+                at.outbox = told;
+                let _ = self.inbox.pop_front();
+                Ok(true)
+            }
+        }
+    }
+
     /// Takes the front tuple, if there is one, and executes it. What comes of it is put into the
     /// memory of the empty outbox.
     pub fn execute<O: RowOp>(&mut self, custom: &O) -> Result<(), Memory>
@@ -78,6 +109,31 @@ impl<'p, I: Ids> TaskSeat<'p, I> {
             None => Ok(()),
         }
     }
+}
+
+/// The acker of the front tuple of a task that has handed over all, if a tuple is there.
+pub fn acker_at<'p, I: Ids>(tasks: &Vec<TaskSeat<'p, I>>, n: u32) -> Option<u32>
+    requires { n < length tasks.now.items }
+    ensures { IfSome result (λ a. TellsNextAt n a tasks.now.items) }
+{
+    tasks[n as usize].next_acker()
+}
+
+/// A part of a state executes its front tuple, and its acker meets at once what it is told.
+pub fn write_at<'p, I: Ids>(
+    tasks: &mut Vec<TaskSeat<'p, I>>,
+    n: u32,
+    ackers: &mut Vec<AckerSeat>,
+    a: u32,
+) -> Result<bool, Memory>
+    requires within { n < length tasks.old.items }
+    requires there { a < length ackers.old.items }
+    requires takes { TakesAt n tasks.old.items }
+    requires tells { TellsNextAt n a tasks.old.items }
+    ensures { IfOk result (WritesAt n a tasks.old.items tasks.new.items
+        ackers.old.items ackers.new.items) }
+{
+    tasks[n as usize].write_at_once(&mut ackers[a as usize])
 }
 
 /// Puts a tuple at the back of a task's box.

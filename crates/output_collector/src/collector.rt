@@ -284,6 +284,13 @@ impl<'p, I: Ids> Collector<'p, I> {
         self.ids.next()
     }
 
+    /// Where the ids of the next call's tuples come from.
+    pub fn next_draw(&self) -> Draw
+        ensures { result ≡ draw_from (source_of self.now) (given_by self.now) }
+    {
+        draw_from(self.source, self.given)
+    }
+
     /// What every collector keeps. It does nothing.
     pub fn facts(&self)
         ensures valid { IsValid (outlet_of self.now).topology }
