@@ -3,12 +3,13 @@ use Rattle.std.proofs.Common.{◌≡◌, ◌<◌, ◌≤◌, ℕ, zero, suc, ◌
 use Rattle.std.specs.Prelude.{replicate}
 use Rattle.std.proofs.lemmas.List.{length-map, replicate-append-replicate}
 use Rattle.event_worlds.specs.bolt_ops.RowOp.{Custom, IsCustom}
-use Rattle.event_engine.specs.Boosts.{AckerRests, AckersBoost, Boosts, GoesUpTo, InTurn, TaskRests, TasksBoost}
+use Rattle.event_engine.specs.Boosts.{AckerRests, AckersBoost, Boosts, GoesUpTo, InTurn, TaskBoost, TaskRests, TasksBoost}
 use Rattle.event_engine.specs.Engines.{Goes, Happens, IsReady, IsSeated, IsStill, cut_in, has_ended, shape, sources, topology_in}
 use Rattle.event_engine.specs.Seats.{acker_side, task_side}
 use Rattle.event_engine.specs.declared.engine.Engine.{Engine}
 use Rattle.event_engine.proofs.EngineLemmas.{acker_ready, task_ready}
 use Rattle.event_engine.proofs.GoesLemmas.{goes-acker, goes-none, goes-task, goes-then}
+use Rattle.event_engine.proofs.WriteLemmas.{beside-none}
 use Rattle.event_engine.proofs.LoopLemmas.{goes_there, ready_here, ready_there}
 use Rattle.event_worlds.specs.Worlds.{Step, World, acker_step, is_over, of_acker, of_task, task_at, task_needs, task_step}
 use Rattle.event_worlds.specs.storm_ids.declared.ids.Ids.{Ghosts}
@@ -47,7 +48,7 @@ module _ {I : Type 0} {g : Ghosts I} (tells : I → (ℕ → ℕ) → ℕ → Ty
   pub boosts_over : (most : ℕ) (e : Engine I g) → is_over t cut (shape e) ≡ true → Boosts tells t custom cut most e e
   boosts_over most e over = record {
     between = e;
-    tasks = each (λ n was is. GoesUpTo tells t custom cut most (of_task n) (TaskRests t n) was is) (λ n. up_to_over most (of_task n) (TaskRests t n) e over) (tasks_in_all t);
+    tasks = each (λ n was is. TaskBoost tells t custom cut most n was is) (λ n. record { written = e; writes = beside-none tells t custom cut n most e; events = up_to_over most (of_task n) (TaskRests t n) e over }) (tasks_in_all t);
     ackers = each (λ n was is. GoesUpTo tells t custom cut most (of_acker n) (AckerRests n) was is) (λ n. up_to_over most (of_acker n) (AckerRests n) e over) t.ackers;
   }
     where

@@ -113,7 +113,7 @@ module _ (t : Topology) (custom : Custom) (cut : Cut) (words : ℕ → ℕ → �
 -- ---- the laws of the steps
 
 module _ (t : Topology) (custom : Custom) (cut : Cut) where
-  task_law : (n : ℕ) (words : ℕ → ℕ → ℕ) (outcomes : List CommitOutcome) (k : Known)
+  pub task_law : (n : ℕ) (words : ℕ → ℕ → ℕ) (outcomes : List CommitOutcome) (k : Known)
       → step t custom cut words outcomes (of_task n) k ≡ record { world = task_step t custom n (next_words words k.counts n (task_needs t custom (task_at t n k.world))) k.world; counts = drew n (task_needs t custom (task_at t n k.world)) k.counts }
   unfolding step
   task_law n words outcomes k = refl
@@ -123,7 +123,7 @@ module _ (t : Topology) (custom : Custom) (cut : Cut) where
   unfolding step
   turn_law words outcomes k = refl
 
-  acker_law : (n : ℕ) (words : ℕ → ℕ → ℕ) (outcomes : List CommitOutcome) (k : Known) → step t custom cut words outcomes (of_acker n) k ≡ record { world = acker_step t n k.world; counts = k.counts }
+  pub acker_law : (n : ℕ) (words : ℕ → ℕ → ℕ) (outcomes : List CommitOutcome) (k : Known) → step t custom cut words outcomes (of_acker n) k ≡ record { world = acker_step t n k.world; counts = k.counts }
   unfolding step
   acker_law n words outcomes k = refl
 

@@ -1,4 +1,5 @@
 mod AgedLemmas
+mod AtOnce
 mod SeatLemmas
 pub mod GoesLemmas
 mod EngineLemmas
@@ -11,3 +12,4 @@ pub mod WorldLemmas
 pub mod FatesLemmas
 pub mod BoostLemmas
 mod ExchangeLemmas
+mod WriteLemmas

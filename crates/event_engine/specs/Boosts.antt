@@ -1,10 +1,10 @@
 -- Many events in one call. This project's own.
-use Rattle.std.specs.Prelude.{◌≡◌, ◌<◌, ◌≤◌, ℕ, zero, suc, false, List, [], ◌∷◌, replicate}
+use Rattle.std.specs.Prelude.{◌≡◌, ◌<◌, ◌≤◌, ℕ, zero, suc, Bool, true, false, List, [], ◌∷◌, replicate}
 use Rattle.std.specs.List.{AllByRecursion}
 use Rattle.event_worlds.specs.bolt_ops.RowOp.{Custom}
-use Rattle.event_engine.specs.Engines.{Goes, shape}
+use Rattle.event_engine.specs.Engines.{Goes, shape, sources, topology_in}
 use Rattle.event_engine.specs.declared.engine.Engine.{Engine}
-use Rattle.event_worlds.specs.Worlds.{Step, World, acker_at, is_over, of_acker, of_outcome, of_task, of_tick, of_turn, task_at}
+use Rattle.event_worlds.specs.Worlds.{Step, World, acker_at, acker_step, is_over, of_acker, of_outcome, of_task, of_tick, of_turn, task_at, task_needs, task_step}
 use Rattle.event_worlds.specs.storm_ids.declared.ids.Ids.{Ghosts}
 use Rattle.event_worlds.specs.topology_plan.Topology.{Topology, tasks_in_all}
 use Rattle.event_worlds.specs.trident_batches.Batches.{Cut}
@@ -57,24 +57,44 @@ module _ {I : Type 0} {g : Ghosts I} (tells : I → (ℕ → ℕ) → ℕ → Ty
     pub few : task_steps steps ≤ most
     pub goes : Goes tells t custom cut steps old new
 
-  -- the tasks write what they may, in the order of their numbers
-  abbrev pub TasksWrite : ℕ → Engine I g → Engine I g → Type 0
-  TasksWrite most old new = InTurn (GoesBeside most) (tasks_in_all t) old new
+  -- A task writes what its ackers can meet at once, and then has its events.
+  pub record TaskBoost (most n : ℕ) (old new : Engine I g) : Type 0 where
+    pub written : Engine I g
+    pub writes : GoesBeside most n old written
+    pub events : GoesUpTo most (of_task n) (TaskRests t n) written new
 
   -- the tasks have up to so many events each, in the order of their numbers
   abbrev pub TasksBoost : ℕ → Engine I g → Engine I g → Type 0
-  TasksBoost most old new =
-      InTurn (λ n was is. GoesUpTo most (of_task n) (TaskRests t n) was is) (tasks_in_all t) old new
+  TasksBoost most old new = InTurn (TaskBoost most) (tasks_in_all t) old new
 
   -- and so do the ackers
   abbrev pub AckersBoost : ℕ → Engine I g → Engine I g → Type 0
   AckersBoost most old new =
       InTurn (λ n was is. GoesUpTo most (of_acker n) (AckerRests n) was is) t.ackers old new
 
-  -- first the tasks write, then all tasks have events, and then the ackers
+  -- first the tasks, and then the ackers
   pub record Boosts (most : ℕ) (old new : Engine I g) : Type 0 where
-    pub written : Engine I g
     pub between : Engine I g
-    pub writes : TasksWrite most old written
-    pub tasks : TasksBoost most written between
+    pub tasks : TasksBoost most old between
     pub ackers : AckersBoost most between new
+
+-- ---- one write
+
+module _ {I : Type 0} {g : Ghosts I} where
+  -- Task n executed its front tuple and handed over what an acker was told of it, and the acker met
+  -- it: three steps, for which no source gave a word.
+  pub record WroteTo (n : ℕ) (old new : Engine I g) : Type 0 where
+    pub acker : ℕ
+    pub steps : (custom : Custom) → shape new
+        ≡ acker_step (topology_in old) acker (task_step (topology_in old) custom n []
+        (task_step (topology_in old) custom n [] (shape old)))
+    pub none : (custom : Custom) → task_needs (topology_in old) custom
+        (task_at (topology_in old) n (shape old)) ≡ 0
+    pub none_then : (custom : Custom) → task_needs (topology_in old) custom
+        (task_at (topology_in old) n (task_step (topology_in old) custom n [] (shape old))) ≡ 0
+    pub same_sources : sources new ≡ sources old
+
+  -- that, or nothing
+  abbrev pub WritesTo : ℕ → Engine I g → Engine I g → Bool → Type 0
+  WritesTo n old new true = WroteTo n old new
+  WritesTo n old new false = (shape new ≡ shape old) × (sources new ≡ sources old)

@@ -1,8 +1,8 @@
 //! Many events of a task or of an acker in one call.
-ghost use Rattle.std.specs.Prelude.{◌≡◌, ◌<◌, ◌-◌, ◌^◌, true, false, length, OnOk, OnErr};
+ghost use Rattle.std.specs.Prelude.{◌≡◌, ◌<◌, ◌-◌, ◌^◌, true, false, length, IfOk, OnOk, OnErr};
 ghost use Rattle.event_worlds.specs.attempt_fates.Fates.{IsOnce};
 ghost use Rattle.event_worlds.specs.bolt_ops.RowOp.{Custom};
-ghost use Rattle.event_engine.specs.Boosts.{AckerRests, AckersBoost, Boosts, GoesBeside, GoesUpTo, TaskRests, TasksBoost, TasksWrite};
+ghost use Rattle.event_engine.specs.Boosts.{AckerRests, AckersBoost, Boosts, GoesBeside, GoesUpTo, TaskRests, TasksBoost, WritesTo};
 ghost use Rattle.event_engine.specs.Engines.{IsReady, IsStill, cut_in, has_ended, shape, topology_in};
 ghost use Rattle.event_worlds.specs.Worlds.{of_acker, of_task};
 ghost use Rattle.event_worlds.specs.topology_plan.Topology.{tasks_in_all};
@@ -30,29 +30,13 @@ impl<'p, I: Ids> Engine<'p, I> {
         if self.is_over() {
             return Ok(());
         }
-        self.tasks_write(most)?;
         self.tasks_often(most, custom)?;
         self.ackers_often(most)?;
         Ok(())
     }
 
-    // Each task that is a part of a state writes what its ackers can meet at once.
-    fn tasks_write(&mut self, most: u32) -> Result<(), Memory>
-        requires ready { IsReady (topology_in self.old) (cut_in self.old) self.old }
-        requires goes_on { has_ended self.old ≡ false }
-        ensures ready { OnOk result
-            (IsReady (topology_in self.old) (cut_in self.old) self.new) }
-        ensures writes { (custom : Custom) → OnOk result (TasksWrite I.tells
-            (topology_in self.old) custom (cut_in self.old) most self.old self.new) }
-        ensures still { IsStill self.old self.new }
-    {
-        for n in 0..self.plan.tasks() {
-            self.write_often(n, most)?;
-        }
-        Ok(())
-    }
-
-    // Each task has its events, so many at most.
+    // Each task has its events, so many at most. A part of a state writes first what its ackers can
+    // meet at once.
     fn tasks_often<O: RowOp>(&mut self, most: u32, custom: &O) -> Result<(), Memory>
         requires ready { IsReady (topology_in self.old) (cut_in self.old) self.old }
         requires goes_on { has_ended self.old ≡ false }
@@ -63,6 +47,7 @@ impl<'p, I: Ids> Engine<'p, I> {
         ensures still { IsStill self.old self.new }
     {
         for n in 0..self.plan.tasks() {
+            self.write_often(n, most)?;
             self.task_often(n, most, custom)?;
         }
         Ok(())
@@ -125,7 +110,7 @@ impl<'p, I: Ids> Engine<'p, I> {
         Ok(())
     }
 
-    // The same for the front tuple alone. Whether it wrote.
+    // The same for the front tuple alone, after the events that its acker still has. Whether it wrote.
     fn write_event(&mut self, n: u32, most: u32) -> Result<bool, Memory>
         requires there { n < tasks_in_all (topology_in self.old) }
         requires ready { IsReady (topology_in self.old) (cut_in self.old) self.old }
@@ -136,14 +121,12 @@ impl<'p, I: Ids> Engine<'p, I> {
             custom (cut_in self.old) 2 n self.old self.new) }
         ensures still { IsStill self.old self.new }
     {
-        if self.write_to(n)? {
-            return Ok(true);
-        }
         let Some(a) = acker_at(&self.tasks, n) else {
             return Ok(false);
         };
         self.acker_often(a, most)?;
-        self.write_to(n)
+        let wrote = self.write_to(n)?;
+        Ok(wrote)
     }
 
     // The same where the acker is idle.
@@ -162,7 +145,8 @@ impl<'p, I: Ids> Engine<'p, I> {
         if !is_idle_at(&self.ackers, a, self.tick) {
             return Ok(false);
         }
-        write_at(&mut self.tasks, n, &mut self.ackers, a)
+        let wrote = write_at(&mut self.tasks, n, &mut self.ackers, a)?;
+        Ok(wrote)
     }
 
     // Acker n has its events, until nothing is left for it to do.

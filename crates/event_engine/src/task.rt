@@ -65,7 +65,7 @@ impl<'p, I: Ids> TaskSeat<'p, I> {
     pub fn next_acker(&self) -> Option<u32>
         ensures { IfSome result (λ a. TellsNext a self.now) }
     {
-        if self.has_parcel() {
+        if !self.outbox.is_empty() {
             return None;
         }
         let tuple = self.inbox.front()?;

@@ -1,9 +1,10 @@
 -- The steps of a boost, which have no ticks.
 use Rattle.std.proofs.Common.{◌≡◌, ℕ, zero, suc, ◌+◌, Bool, false, cond, List, [], ◌∷◌, ◌++◌, length, refl, sym, ap, subst, ◌∙◌}
 use Rattle.std.specs.Prelude.{replicate}
+use Rattle.std.specs.List.{AllByRecursion}
 use Rattle.event_worlds.specs.bolt_ops.RowOp.{Custom}
 use Rattle.event_engine.proofs.GoesLemmas.{goes-none, goes-then}
-use Rattle.event_engine.specs.Boosts.{AckerRests, Boosts, GoesUpTo, InTurn, TaskRests}
+use Rattle.event_engine.specs.Boosts.{AckerRests, Boosts, GoesUpTo, InTurn, IsBeside, TaskBoost, TaskRests}
 use Rattle.event_engine.specs.declared.engine.Engine.{Engine}
 use Rattle.event_engine.specs.Engines.{Goes}
 use Rattle.event_worlds.specs.Rounds.{is_tick, ticks_in}
@@ -20,6 +21,12 @@ none-again step (suc k) is = ticks-of-rounds (step ∷ []) (replicate k step) �
   where
     one : ticks_in (step ∷ []) ≡ 0
     one = ap (λ (b : Bool). length (cond b (step ∷ []) [])) is
+
+-- steps of a task and of ackers have no ticks
+none-beside : (n : ℕ) (steps : List Step) → AllByRecursion (IsBeside n) steps → ticks_in steps ≡ 0
+none-beside n [] only = refl
+none-beside n (of_task m ∷ steps) only = none-beside n steps only.1
+none-beside n (of_acker a ∷ steps) only = none-beside n steps only.1
 
 module _ {I : Type 0} {g : Ghosts I} (tells : I → (ℕ → ℕ) → ℕ → Type 0) (t : Topology) (custom : Custom) (cut : Cut) where
   -- an engine goes through steps that have no ticks
@@ -48,7 +55,9 @@ module _ {I : Type 0} {g : Ghosts I} (tells : I → (ℕ → ℕ) → ℕ → Ty
   quietly-boosted : (most : ℕ) (old new : Engine I g) → Boosts tells t custom cut most old new → GoesQuietly old new
   quietly-boosted most old new boosts =
       quietly-then old boosts.between new
-      (quietly-in_turn (λ n was is. GoesUpTo tells t custom cut most (of_task n) (TaskRests t n) was is) (λ n a b up. quietly-up_to most (of_task n) (TaskRests t n) a b refl up) (tasks_in_all t) old boosts.between boosts.tasks)
+      (quietly-in_turn (λ n was is. TaskBoost tells t custom cut most n was is)
+      (λ n a b task. quietly-then a task.written b (record { steps = task.writes.steps; none = none-beside n task.writes.steps task.writes.only; goes = task.writes.goes }) (quietly-up_to most (of_task n) (TaskRests t n) task.written b refl task.events))
+      (tasks_in_all t) old boosts.between boosts.tasks)
       (quietly-in_turn (λ n was is. GoesUpTo tells t custom cut most (of_acker n) (AckerRests n) was is) (λ n a b up. quietly-up_to most (of_acker n) (AckerRests n) a b refl up) t.ackers boosts.between new boosts.ackers)
 
   -- a boost, and then a round up to the coordinator's step
