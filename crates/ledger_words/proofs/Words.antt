@@ -1,4 +1,4 @@
--- The word of a list of messages, by calls.
+-- The calls that stand for messages have their word, and as many inits and fails.
 use Rattle.std.proofs.Common.{◌≡◌, ℕ, ◌+◌, ◌==◌, Bool, true, false, cond, eq-eqb, bit_xor, List, [], ◌∷◌, ◌++◌, filter, sym, refl, ap, ◌∙◌, arith}
 use Rattle.std.specs.Int.Bits.{xor_assoc, xor_zero_l}
 use Rattle.tree_model.specs.counted_items.Weights.{weigh}
@@ -27,17 +27,20 @@ words_filter root [] = refl
 words_filter root (c ∷ calls) = by_case (c.root == root) refl (words_filter root calls)
   where
     by_case : (t : Bool) → (c.root == root) ≡ t → xor_by (word_at root) calls ≡ xor_by (word_at root) (calls_on root calls)
-        → bit_xor (cond t (toggles c.kind c.word) 0) (xor_by (word_at root) calls) ≡ xor_by (word_at root) (cond t (c ∷ filter (λ (c : Call). c.root == root) calls) (calls_on root calls))
+        → bit_xor (cond t (toggles c.kind c.word) 0) (xor_by (word_at root) calls) ≡ xor_by (word_at root) (cond t (c ∷ calls_on root calls) (calls_on root calls))
     by_case true is later = ap (bit_xor (toggles c.kind c.word)) later ∙ ap (λ (b : Bool). bit_xor (cond b (toggles c.kind c.word) 0) (xor_by (word_at root) (calls_on root calls))) (sym is)
     by_case false is later = xor_zero_l (xor_by (word_at root) calls) ∙ later
 
--- a weight that is 0 of calls of other roots
-filter_weight : (root : ℕ) (g : Call → ℕ) (calls : List Call) → weigh (λ (c : Call). cond (c.root == root) (g c) 0) calls ≡ weigh (λ (c : Call). cond (c.root == root) (g c) 0) (calls_on root calls)
+-- a weight that calls on other roots do not have
+abbrev weight_on : ℕ → (Call → ℕ) → Call → ℕ
+weight_on root g c = cond (c.root == root) (g c) 0
+
+filter_weight : (root : ℕ) (g : Call → ℕ) (calls : List Call) → weigh (weight_on root g) calls ≡ weigh (weight_on root g) (calls_on root calls)
 filter_weight root g [] = refl
 filter_weight root g (c ∷ calls) = by_case (c.root == root) refl (filter_weight root g calls)
   where
-    by_case : (t : Bool) → (c.root == root) ≡ t → weigh (λ (c : Call). cond (c.root == root) (g c) 0) calls ≡ weigh (λ (c : Call). cond (c.root == root) (g c) 0) (calls_on root calls)
-        → cond t (g c) 0 + weigh (λ (c : Call). cond (c.root == root) (g c) 0) calls ≡ weigh (λ (c : Call). cond (c.root == root) (g c) 0) (cond t (c ∷ filter (λ (c : Call). c.root == root) calls) (calls_on root calls))
+    by_case : (t : Bool) → (c.root == root) ≡ t → weigh (weight_on root g) calls ≡ weigh (weight_on root g) (calls_on root calls)
+        → cond t (g c) 0 + weigh (weight_on root g) calls ≡ weigh (weight_on root g) (cond t (c ∷ calls_on root calls) (calls_on root calls))
     by_case true is later = let e : cond (c.root == root) (g c) 0 ≡ g c = rw is refl in omega arith
     by_case false is later = omega arith
 

@@ -23,9 +23,9 @@ pub fn words_of_notes()
         → HoldsNotes number book list → inits_of number book ≡ weigh is_init list }
 {}
 
-/// A law: where a book holds a true, single, steady list with an init and without a coincidence, and
-/// its word for the root is 0, the list covers the tree. It is so, with no fail, exactly where the
-/// list covers the tree.
+/// A law: where a book holds a true, single, steady list with an init and without a coincidence,
+/// and its word for the root is 0, the list covers the tree. Such a list covers the tree exactly
+/// where the book has an init and no fail of the root, and the word 0.
 pub fn zero_words_cover()
     ensures covers { (t : Topology) (custom : Custom) (rows : List (List Value)) (root : Root)
         (number : ℕ) (book : Book) (list : List AckMsg) → HoldsNotes number book list

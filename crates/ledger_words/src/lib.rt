@@ -1,5 +1,5 @@
-//! What the words of a shared ledger say of tuple trees, where a book has the calls that stand for an
-//! acker's messages.
+//! What the words of a shared ledger say of tuple trees, where a book has the calls that stand for
+//! an acker's messages.
 #![tactic(auto)]
 
 mod laws;

@@ -28,9 +28,9 @@ all_inits root books = weigh (inits_of root) books
 abbrev pub SawInits : List Book → Book → Type 0
 SawInits books b = (root : ℕ) → has_seen root b ≡ true → 1 ≤ all_inits root books
 
--- Root r has the words 2 * r and 2 * r + 1. The first is the XOR of the words that all books have
--- for it, the second is 1 exactly where some book has a fail of it; the seats have all numbers, each
--- once; and they have seen no init that no book has.
+-- Root r has the words 2 * r and 2 * r + 1. The first is the XOR of the words that all books
+-- have for it, the second is 1 exactly where some book has a fail of it; the seats have all
+-- numbers, each once; and they have seen no init that no book has.
 pub record Kept (roots : ℕ) (words : List ℕ) (books : List Book) : Type 0 where
   pub wide : length words ≡ 2 * roots
   pub numbered : Numbered numbers_in books
