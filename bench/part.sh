@@ -1,5 +1,5 @@
 #!/usr/bin/env bash
-# bench/part.sh queues|opaque_commits|acker|workers [FOLDER]: times a part by itself.
+# bench/part.sh queues|ledger|opaque_commits|acker|workers [FOLDER]: times a part by itself.
 # The program is a crate that the gate does not know: it is put beside copies of the crates that it
 # stands on, proved and built there, and run. That takes as long as these crates' proofs; a folder
 # as the second word keeps the copies, so that a later run there begins with what is proved.
@@ -8,7 +8,7 @@ here="$(cd "$(dirname "${BASH_SOURCE[0]}")" && pwd)"
 top="$here/.."
 part="${1:-}"
 program="$here/parts/$part.rattle"
-[ -f "$program" ] || { echo "usage: bench/part.sh queues|opaque_commits|acker|workers [FOLDER]" >&2; exit 2; }
+[ -f "$program" ] || { echo "usage: bench/part.sh queues|ledger|opaque_commits|acker|workers [FOLDER]" >&2; exit 2; }
 if [ $# -gt 1 ]; then
   work="$2"
   mkdir -p "$work"

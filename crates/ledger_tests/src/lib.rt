@@ -1,0 +1,13 @@
+//! Two threads that ack a root beside one another, and tests of a shared ledger: calls as tables,
+//! and workers with a seat each.
+#![tactic(auto)]
+
+mod both;
+#[cfg(test)]
+mod steps;
+#[cfg(test)]
+mod tables;
+#[cfg(test)]
+mod workers;
+
+pub use both::{ack_both, word_after_both};

@@ -1,0 +1,7 @@
+pub mod Xored
+mod Marked
+mod Seen
+mod Keeping
+mod Whole
+mod Steps
+mod Splitting

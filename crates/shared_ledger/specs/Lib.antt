@@ -1,0 +1,6 @@
+pub mod Xors
+pub mod Marking
+pub mod Books
+pub mod Rule
+pub mod Seats
+pub mod Steps
