@@ -9,3 +9,5 @@ mod offers;
 mod spans;
 #[cfg(test)]
 mod starts;
+#[cfg(test)]
+mod steps;
