@@ -21,4 +21,6 @@ Keeps x views = (all : List Commit) × (x.log.items ≡ changes_of all) × AllFi
 -- What is seen afterwards is the commits of the store y. They begin with what was seen before, and
 -- with what was told.
 abbrev pub Shows : View → Store → Store → View → Type 0
-Shows v x y w = Begins v.seen w.seen × Begins v.told w.seen × (w.told ≡ v.told) × (y.log.items ≡ changes_of w.seen)
+Shows v x y w =
+    Begins v.seen w.seen × Begins v.told w.seen × (w.told ≡ v.told)
+    × (y.log.items ≡ changes_of w.seen)

@@ -56,9 +56,9 @@ impl Readers {
 
 impl Reader {
     /// After how many commits this is, and the value of a key of a state then. A component number
-    /// that is no state's has no value. It waits while the publisher changes what is shown, and for
-    /// ever where the publisher was ended, or where another publisher's commits were learned. The
-    /// first call after a `learn` takes time in the number of all writes.
+    /// that is no state's has no value. It does not return where the publisher was ended, or where
+    /// another publisher's commits were learned. The first call after a `learn` takes time in the
+    /// number of all writes.
     pub fn get<R: Wait>(&mut self, rt: &R, state: u32, key: &str) -> Seen
         ensures book { Begins (book_of self.old) (book_of self.new) }
         ensures learned { Begins (learned_by self.old) (book_of self.new) }

@@ -7,7 +7,8 @@ use crossbeam_utils::rule::{Outcome, Protocol};
 use left_right::reader::Reader;
 use left_right::writer::Writer;
 
-/// What is shown holds the changes of some commits, which begin with what each has seen or was told.
+/// What is shown has the changes of some commits, and what each has seen or was told of is a prefix
+/// of these.
 pub struct Published;
 
 impl Protocol<Store, View> for Published {
