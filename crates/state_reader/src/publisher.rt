@@ -67,6 +67,7 @@ impl Publisher {
         ensures live { OnOk result (IsLive self.new) }
         ensures over { OnErr result (IsOver self.new) }
         ensures stays_over { IsOver self.old → IsErr result }
+        ensures kept_over { IsOver self.old → lists_of self.new ≡ lists_of self.old }
         ensures folds { answering_folds self.new ≡ answering_folds self.old }
     {
         if self.failed {
