@@ -1,0 +1,7 @@
+mod Commits
+mod FoldLaws
+mod Folding
+mod Keeping
+mod ListLaws
+mod Places
+mod Several

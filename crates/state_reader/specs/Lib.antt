@@ -1,0 +1,12 @@
+pub mod Totals
+pub mod Kept
+pub mod Commits
+pub mod Prefix
+pub mod Views
+pub mod Rule
+pub mod Calls
+pub mod Folds
+pub mod Pairs
+pub mod Lists
+pub mod Readers
+pub mod Publishers
