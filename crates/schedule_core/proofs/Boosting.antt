@@ -8,7 +8,7 @@ use Rattle.event_engine.specs.Boosts.{AckerRests, Boosts, GoesUpTo, InTurn, IsBe
 use Rattle.event_engine.specs.declared.engine.Engine.{Engine}
 use Rattle.event_engine.specs.Engines.{Goes}
 use Rattle.event_worlds.specs.Rounds.{is_tick, ticks_in}
-use Rattle.event_worlds.specs.Worlds.{Step, World, of_acker, of_task}
+use Rattle.event_worlds.specs.Worlds.{Step, World, of_acker, of_outcome, of_task, of_tick, of_turn}
 use Rattle.schedule_core.proofs.TicksOfRuns.{ticks-of-rounds}
 use Rattle.schedule_core.specs.Rounding.{OpensBoosted, most_before, opening_steps}
 use Rattle.event_worlds.specs.storm_ids.declared.ids.Ids.{Ghosts}
@@ -27,6 +27,9 @@ none-beside : (n : ℕ) (steps : List Step) → AllByRecursion (IsBeside n) step
 none-beside n [] only = refl
 none-beside n (of_task m ∷ steps) only = none-beside n steps only.1
 none-beside n (of_acker a ∷ steps) only = none-beside n steps only.1
+none-beside n (of_turn ∷ steps) only = absurd only.0
+none-beside n (of_outcome ∷ steps) only = absurd only.0
+none-beside n (of_tick ∷ steps) only = absurd only.0
 
 module _ {I : Type 0} {g : Ghosts I} (tells : I → (ℕ → ℕ) → ℕ → Type 0) (t : Topology) (custom : Custom) (cut : Cut) where
   -- an engine goes through steps that have no ticks
