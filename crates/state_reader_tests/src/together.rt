@@ -1,7 +1,4 @@
 // Readers in threads beside the publisher's.
-ghost use Rattle.std.specs.Prelude.{◌≡◌, []};
-ghost use Rattle.state_reader.specs.Publishers.{list_of};
-
 use crate::commits::{SHORT, SUMS, none, one, plan, seen};
 use state_reader::{Publisher, Reader, Seen};
 use std::alloc::Global;
@@ -10,14 +7,15 @@ use std::test::Fail;
 use std::thread::{Threads, join_mut};
 
 // How many commits there are.
-const COUNT: u64 = 3000;
+const COUNT: i64 = 3000;
 
 // Publishes a commit of each amount from 1. It gives up where one fails.
-fn publish_all<R: Wait>(rt: &R, alloc: Global, publisher: &mut Publisher)
-    requires { list_of publisher.old ≡ [] }
-{
-    for txid in 1..=COUNT {
-        let Ok(writes) = one(alloc, SUMS, SHORT, txid as i64) else {
+fn publish_all<R: Wait>(rt: &R, alloc: Global, publisher: &mut Publisher) {
+    for amount in 1..=COUNT {
+        let Some(txid) = publisher.latest(SUMS, SHORT).commits.checked_add(1) else {
+            break;
+        };
+        let Ok(writes) = one(alloc, SUMS, SHORT, amount) else {
             break;
         };
         if publisher.publish(rt, txid, &writes).is_err() {
