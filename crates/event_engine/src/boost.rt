@@ -110,7 +110,8 @@ impl<'p, I: Ids> Engine<'p, I> {
         Ok(())
     }
 
-    // The same for the front tuple alone, after the events that its acker still has. Whether it wrote.
+    // The same for the front tuple alone, after the events that its acker still has. It answers
+    // whether it wrote.
     fn write_event(&mut self, n: u32, most: u32) -> Result<bool, Memory>
         requires there { n < tasks_in_all (topology_in self.old) }
         requires ready { IsReady (topology_in self.old) (cut_in self.old) self.old }

@@ -17,7 +17,8 @@ pub trait Log: Drop {
 
     /// All its bytes, from the first on.
     fn read(&mut self, alloc: Global) -> Result<Bytes, InFault>
-        ensures bytes { IfOk result (λ bytes. (held : List ℕ) → holds self.old held → bytes ≡ held) }
+        ensures bytes { IfOk result (λ bytes. (held : List ℕ) →
+            holds self.old held → bytes ≡ held) }
         ensures same { (held : List ℕ) → holds self.old held → holds self.new held }
         ensures told_before { (held : List ℕ) → holds self.new held → holds self.old held }
         ensures failed { IsErrOf result InFault.Failed →

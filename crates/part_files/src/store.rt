@@ -18,8 +18,8 @@ use storm_outside::InFault;
 use storm_stores::{CellStore, StoreFault};
 use storm_values::{Bytes, Memory};
 
-/// Cells in a log: each put appends a line. All cells are kept in memory too, which every other call
-/// reads. After an append that failed every call fails, as nobody knows what came of the line.
+/// Cells in a log: each put appends a line. All cells are kept in memory too, which every other
+/// call reads. After an append that failed every call fails, as nobody knows what came of the line.
 #[derive(Drop)]
 pub struct PartStore<L: Log> {
     log: L,
