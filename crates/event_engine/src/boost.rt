@@ -16,7 +16,8 @@ use event_worlds::storm_values::Memory;
 
 impl<'p, I: Ids> Engine<'p, I> {
     /// Each task has its events, and then each acker: so many at most, and fewer only where nothing
-    /// is left for it to do. It gives no ticks, and the coordinator has no turn.
+    /// is left for it to do. A part of a state has up to as many more before these, whose messages
+    /// its ackers meet at once. It gives no ticks, and the coordinator has no turn.
     pub fn boost<O: RowOp>(&mut self, most: u32, custom: &O) -> Result<(), Memory>
         requires { IsReady (topology_in self.old) (cut_in self.old) self.old }
         ensures ready { OnOk result

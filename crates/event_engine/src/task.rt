@@ -72,8 +72,8 @@ impl<'p, I: Ids> TaskSeat<'p, I> {
         Some(self.task.acker_of(tuple.root))
     }
 
-    /// Executes the front tuple of a part of a state, and has its acker, meet at once what it is
-    /// told. A bolt's task does nothing.
+    /// Executes the front tuple of a part of a state, and has its acker meet at once what it is
+    /// told. It answers whether it did: a bolt's task does nothing.
     pub fn write_at_once(&mut self, at: &mut AckerSeat) -> Result<bool, Memory>
         requires takes { Takes self.old }
         ensures { IfOk result (Writes self.old self.new at.old at.new) }
