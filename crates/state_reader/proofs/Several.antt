@@ -32,9 +32,6 @@ append-nil (x ∷ xs) = ap (λ r. x ∷ r) (append-nil xs)
 pub starts_same : (list : List Commit) → StartsWith list list
 starts_same list = ap (take (length list)) (sym (append-nil list)) ∙ take_self list []
 
-pub starts_with_more : (list : List Commit) (commit : Commit) → StartsWith (with_commit commit list) list
-starts_with_more list commit = take_self list (commit ∷ [])
-
 pub length-mapped : {X Z : Type 0} (f : X → Z) (xs : List X) → length (map f xs) ≡ length xs
 length-mapped f [] = refl
 length-mapped f (x ∷ xs) = ap suc (length-mapped f xs)
