@@ -5,8 +5,8 @@ use Rattle.std.proofs.Math.Nat.{pow-suc, div-div-eq-div-mul}
 use Rattle.std.proofs.lemmas.Int.{of_z-to_z}
 use Rattle.std.proofs.lemmas.List.{drop-drop, take_all, take-append-drop}
 use Rattle.cell_format.specs.declared.cell.Cell.{Cell}
-use Rattle.cell_format.specs.Layout.{bytes_of, flags_of, has_flag, number_bytes, number_if, number_of, read_of, txid_bytes}
-use Rattle.cell_format.proofs.LayoutLemmas.{byte_is, pieces, length-txid_bytes, length-number_bytes}
+use Rattle.cell_format.specs.Layout.{attempt_bytes, bytes_by, bytes_with, flags_of, has_flag, length_if, number_bytes, number_if, number_of, read_by, txid_bytes, value_place, version_if}
+use Rattle.cell_format.proofs.LayoutLemmas.{byte_is, pieces, length-txid_bytes, length-attempt_bytes, length-number_bytes}
 
 -- ---- the bytes of a number that was read
 
@@ -55,6 +55,10 @@ written_back (byte ∷ bytes) before are =
 written_as : (n : ℕ) (bytes : List ℕ) → length bytes ≡ n → AreBytes bytes → bytes_high_first n (number_of bytes) ≡ bytes
 written_as n bytes long are = subst (λ m. bytes_high_first m (number_of bytes) ≡ bytes) long (written_back bytes 0 are)
 
+pub attempt_back : (bytes : List ℕ) → length bytes ≡ 4 → AreBytes bytes → attempt_bytes (number_of bytes) ≡ bytes
+unfolding attempt_bytes
+attempt_back bytes long are = written_as 4 bytes long are
+
 pub txid_back : (bytes : List ℕ) → length bytes ≡ 8 → AreBytes bytes → txid_bytes (number_of bytes) ≡ bytes
 unfolding txid_bytes
 txid_back bytes long are = written_as 8 bytes long are
@@ -87,13 +91,11 @@ by_itself : (flag : Bool) (bytes : List ℕ) (number : Option ℤ) → number �
 by_itself true bytes number is = subst (λ o. o ≡ number_if (is_some o) bytes) (sym is) refl
 by_itself false bytes number is = subst (λ o. o ≡ number_if (is_some o) bytes) (sym is) refl
 
-pub value_told : (bytes : List ℕ) (cell : Cell) → cell ≡ read_of bytes → cell.value ≡ number_if (is_some cell.value) (take 16 (drop 10 bytes))
-unfolding read_of
-value_told bytes cell is = by_itself (has_flag (get_or bytes 1 0) 1) (take 16 (drop 10 bytes)) cell.value (ap (λ (c : Cell). c.value) is)
+pub value_told : (b : Bool) (bytes : List ℕ) (cell : Cell) → cell ≡ read_by b bytes → cell.value ≡ number_if (is_some cell.value) (take 16 (drop (value_place b) bytes))
+value_told b bytes cell is = by_itself (has_flag (get_or bytes 1 0) 1) (take 16 (drop (value_place b) bytes)) cell.value (ap (λ (c : Cell). c.value) is)
 
-pub prev_told : (bytes : List ℕ) (cell : Cell) → cell ≡ read_of bytes → cell.prev ≡ number_if (is_some cell.prev) (take 16 (drop 26 bytes))
-unfolding read_of
-prev_told bytes cell is = by_itself (has_flag (get_or bytes 1 0) 2) (take 16 (drop 26 bytes)) cell.prev (ap (λ (c : Cell). c.prev) is)
+pub prev_told : (b : Bool) (bytes : List ℕ) (cell : Cell) → cell ≡ read_by b bytes → cell.prev ≡ number_if (is_some cell.prev) (take 16 (drop (value_place b + 16) bytes))
+prev_told b bytes cell is = by_itself (has_flag (get_or bytes 1 0) 2) (take 16 (drop (value_place b + 16) bytes)) cell.prev (ap (λ (c : Cell). c.prev) is)
 
 -- ---- the bytes of a cell that was read
 
@@ -105,23 +107,46 @@ three rest long =
     ∙ ap (λ xs. take 8 rest ++ (take 16 (drop 8 rest) ++ xs)) (sym (drop-drop 16 8 rest))
     ∙ ap (λ xs. take 8 rest ++ xs) (take-append-drop 16 (drop 8 rest)) ∙ take-append-drop 8 rest)
 
+-- 44 bytes fall into four pieces
+four : (rest : List ℕ) → length rest ≡ 44 → rest ≡ take 8 rest ++ (take 4 (drop 8 rest) ++ (take 16 (drop 12 rest) ++ take 16 (drop 28 rest)))
+four rest long =
+    let left : length (drop 28 rest) ≡ 16 = omega (arith, length-drop 28 rest) in
+    sym (ap (λ xs. take 8 rest ++ (take 4 (drop 8 rest) ++ (take 16 (drop 12 rest) ++ xs))) (take_all 16 (drop 28 rest) (omega (arith, left)))
+    ∙ ap (λ xs. take 8 rest ++ (take 4 (drop 8 rest) ++ (take 16 (drop 12 rest) ++ xs))) (sym (drop-drop 16 12 rest))
+    ∙ ap (λ xs. take 8 rest ++ (take 4 (drop 8 rest) ++ xs)) (take-append-drop 16 (drop 12 rest))
+    ∙ ap (λ xs. take 8 rest ++ (take 4 (drop 8 rest) ++ xs)) (sym (drop-drop 4 8 rest))
+    ∙ ap (λ xs. take 8 rest ++ xs) (take-append-drop 4 (drop 8 rest)) ∙ take-append-drop 8 rest)
+
 -- the flags and the pieces decide whether bytes are a cell's
-pub bytes_read : (bytes : List ℕ) (cell : Cell) → length bytes ≡ 42 → get_or bytes 0 0 ≡ 1 → AreBytes bytes → cell ≡ read_of bytes
-    → get_or bytes 1 0 ≡ flags_of cell → take 16 (drop 10 bytes) ≡ number_bytes cell.value → take 16 (drop 26 bytes) ≡ number_bytes cell.prev → bytes ≡ bytes_of cell
-unfolding bytes_of read_of
-bytes_read (version ∷ flags ∷ rest) cell long first are is same_flags value prev =
+pub bytes_read : (b : Bool) (bytes : List ℕ) (cell : Cell) → length bytes ≡ length_if b → get_or bytes 0 0 ≡ version_if b → AreBytes bytes → cell ≡ read_by b bytes
+    → get_or bytes 1 0 ≡ flags_of cell → take 16 (drop (value_place b) bytes) ≡ number_bytes cell.value → take 16 (drop (value_place b + 16) bytes) ≡ number_bytes cell.prev → bytes ≡ bytes_by b cell
+unfolding bytes_with
+bytes_read true (version ∷ flags ∷ rest) cell long first are is same_flags value prev =
+    let txid : txid_bytes cell.txid ≡ take 8 rest =
+    ap (λ (c : Cell). txid_bytes c.txid) is ∙ txid_back (take 8 rest) (omega (arith, length-take 8 rest)) (take_bytes 8 rest are.1.1) in
+    let attempt : attempt_bytes cell.attempt ≡ take 4 (drop 8 rest) =
+    ap (λ (c : Cell). attempt_bytes c.attempt) is ∙ attempt_back (take 4 (drop 8 rest)) (omega (arith, length-take 4 (drop 8 rest), length-drop 8 rest)) (take_bytes 4 (drop 8 rest) (drop_bytes 8 rest are.1.1)) in
+    ap (λ xs. version ∷ flags ∷ xs) (four rest (omega arith))
+    ∙ (rw (first, same_flags, txid, attempt, ← value, ← prev) refl)
+bytes_read false (version ∷ flags ∷ rest) cell long first are is same_flags value prev =
     let txid : txid_bytes cell.txid ≡ take 8 rest =
     ap (λ (c : Cell). txid_bytes c.txid) is ∙ txid_back (take 8 rest) (omega (arith, length-take 8 rest)) (take_bytes 8 rest are.1.1) in
     ap (λ xs. version ∷ flags ∷ xs) (three rest (omega arith))
     ∙ (rw (first, same_flags, txid, ← value, ← prev) refl)
-bytes_read bytes cell long first are is same_flags value prev = absurd (omega arith)
+bytes_read true [] cell long first are is same_flags value prev = absurd (omega arith)
+bytes_read true (byte ∷ []) cell long first are is same_flags value prev = absurd (omega arith)
+bytes_read false [] cell long first are is same_flags value prev = absurd (omega arith)
+bytes_read false (byte ∷ []) cell long first are is same_flags value prev = absurd (omega arith)
 
-pub cell_pieces : (bytes : List ℕ) (cell : Cell) → bytes ≡ bytes_of cell
-    → (get_or bytes 1 0 ≡ flags_of cell) × (take 16 (drop 10 bytes) ≡ number_bytes cell.value) × (take 16 (drop 26 bytes) ≡ number_bytes cell.prev)
-unfolding bytes_of
-cell_pieces bytes cell same =
-    let at = pieces (txid_bytes cell.txid) (number_bytes cell.value) (number_bytes cell.prev) (length-txid_bytes cell.txid) (length-number_bytes cell.value) (length-number_bytes cell.prev) in
-    (ap (λ xs. get_or xs 1 0) same, ap (λ xs. take 16 (drop 10 xs)) same ∙ at.1, ap (λ xs. take 16 (drop 26 xs)) same ∙ at.2)
+pub cell_pieces : (b : Bool) (bytes : List ℕ) (cell : Cell) → bytes ≡ bytes_by b cell
+    → (get_or bytes 1 0 ≡ flags_of cell) × (take 16 (drop (value_place b) bytes) ≡ number_bytes cell.value) × (take 16 (drop (value_place b + 16) bytes) ≡ number_bytes cell.prev)
+unfolding bytes_with
+cell_pieces true bytes cell same =
+    let at = pieces (txid_bytes cell.txid) (attempt_bytes cell.attempt) (number_bytes cell.value) (number_bytes cell.prev) 12 28 (length-txid_bytes cell.txid) (omega (arith, length-attempt_bytes cell.attempt)) (length-number_bytes cell.value) (length-number_bytes cell.prev) refl in
+    (ap (λ xs. get_or xs 1 0) same, ap (λ xs. take 16 (drop 14 xs)) same ∙ at.2, ap (λ xs. take 16 (drop 30 xs)) same ∙ at.3)
+cell_pieces false bytes cell same =
+    let at = pieces (txid_bytes cell.txid) [] (number_bytes cell.value) (number_bytes cell.prev) 8 24 (length-txid_bytes cell.txid) refl (length-number_bytes cell.value) (length-number_bytes cell.prev) refl in
+    (ap (λ xs. get_or xs 1 0) same, ap (λ xs. take 16 (drop 10 xs)) same ∙ at.2, ap (λ xs. take 16 (drop 26 xs)) same ∙ at.3)
 
 -- ---- tests that are joined
 

@@ -1,16 +1,17 @@
-ghost use Rattle.std.specs.Prelude.{◌≡◌, ◌↔◌, ℤ, Option, None, Some, MatchOption, IsTrue, IfSome};
+ghost use Rattle.std.specs.Prelude.{◌≡◌, ◌↔◌, ℤ, [], Option, None, Some, MatchOption, IsTrue, IfSome};
 ghost use Rattle.cell_format.specs.Commits.{IsCellOf, IsRefused, after, again, anew, kept_by, value_after, value_of};
-ghost use Rattle.cell_format.specs.Layout.{bytes_of};
+ghost use Rattle.cell_format.specs.Layout.{AreBytesOf};
 ghost use Rattle.tree_model.specs.Tables.{folded};
 
 use crate::cell::Cell;
 use crate::codec::decode_cell;
+use tree_model::storm_values::Root;
 use tree_model::topology_plan::{Fold, Kind};
 
 /// The cell that the bytes are, where a part of this kind takes it.
 pub fn cell_for(kind: Kind, bytes: &[u8]) -> Option<Cell>
     ensures { MatchOption result (IsRefused kind bytes.now)
-        (λ cell. IsCellOf kind cell × (bytes.now ≡ bytes_of cell)) }
+        (λ cell. IsCellOf kind cell × AreBytesOf cell bytes.now) }
 {
     match decode_cell(bytes) {
         Ok(cell) if is_same(cell.kind, kind) => Some(cell),
@@ -27,30 +28,40 @@ fn is_same(a: Kind, b: Kind) -> bool
     }
 }
 
-/// What a commit puts at a key that has this cell, or none: `None` where the key stays as it is.
-/// The amounts are those that are written for the key, in order.
-pub fn change(kind: Kind, by: Fold, txid: u64, amounts: &[i64], cell: Option<Cell>) -> Option<Cell>
+/// What a commit puts at a key that has this cell, or none: `None` where the key stays as it is, as
+/// in a transactional part where nothing is written. The amounts are those that are written for the
+/// key, in order.
+pub fn change(
+    kind: Kind,
+    by: Fold,
+    root: Root,
+    amounts: &[i64],
+    cell: Option<Cell>,
+) -> Option<Cell>
     requires { IfSome cell (IsCellOf kind) }
-    ensures made { MatchOption result (after kind by txid amounts.now cell ≡ cell)
-        (λ new. after kind by txid amounts.now cell ≡ Some new) }
+    ensures made { MatchOption result (after kind by root amounts.now cell ≡ cell)
+        (λ new. after kind by root amounts.now cell ≡ Some new) }
+    ensures left { kind ≡ Kind.Transactional → amounts.now ≡ [] → result ≡ None }
     ensures good { IfSome result (IsCellOf kind) }
 {
     match cell {
-        Some(old) if old.txid == txid => change_again(kind, by, amounts, old),
-        _ => change_anew(kind, by, txid, amounts, cell),
+        Some(old) if old.txid == root.txid => change_again(kind, by, root.attempt, amounts, old),
+        _ => change_anew(kind, by, root, amounts, cell),
     }
 }
 
-fn change_again(kind: Kind, by: Fold, amounts: &[i64], cell: Cell) -> Option<Cell>
+fn change_again(kind: Kind, by: Fold, attempt: u32, amounts: &[i64], cell: Cell) -> Option<Cell>
     requires { IsCellOf kind cell }
-    ensures made { MatchOption result (again kind by amounts.now cell ≡ cell)
-        (λ new. again kind by amounts.now cell ≡ new) }
+    ensures made { MatchOption result (again kind by attempt amounts.now cell ≡ cell)
+        (λ new. again kind by attempt amounts.now cell ≡ new) }
+    ensures left { kind ≡ Kind.Transactional → result ≡ None }
     ensures good { IfSome result (IsCellOf kind) }
 {
     match kind {
         Kind::Transactional => None,
         Kind::Opaque => Some(Cell {
             txid: cell.txid,
+            attempt,
             value: fold_all(by, amounts, cell.prev),
             prev: cell.prev,
             kind: cell.kind,
@@ -58,9 +69,16 @@ fn change_again(kind: Kind, by: Fold, amounts: &[i64], cell: Cell) -> Option<Cel
     }
 }
 
-fn change_anew(kind: Kind, by: Fold, txid: u64, amounts: &[i64], cell: Option<Cell>) -> Option<Cell>
-    ensures made { MatchOption result (anew kind by txid amounts.now cell ≡ cell)
-        (λ new. anew kind by txid amounts.now cell ≡ Some new) }
+fn change_anew(
+    kind: Kind,
+    by: Fold,
+    root: Root,
+    amounts: &[i64],
+    cell: Option<Cell>,
+) -> Option<Cell>
+    ensures made { MatchOption result (anew kind by root amounts.now cell ≡ cell)
+        (λ new. anew kind by root amounts.now cell ≡ Some new) }
+    ensures left { amounts.now ≡ [] → result ≡ None }
     ensures good { IfSome result (IsCellOf kind) }
 {
     if amounts.is_empty() {
@@ -68,7 +86,8 @@ fn change_anew(kind: Kind, by: Fold, txid: u64, amounts: &[i64], cell: Option<Ce
     }
     let value = value_in(cell);
     Some(Cell {
-        txid,
+        txid: root.txid,
+        attempt: root.attempt,
         value: fold_all(by, amounts, value),
         prev: keep(kind, value),
         kind,

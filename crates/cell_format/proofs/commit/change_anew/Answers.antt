@@ -6,6 +6,7 @@ pub returns-clause-good : goal.returns-clause-good
 returns-clause-good c = record {
   is = record {
     txid = search rules;
+    attempt = search rules;
     value = search rules;
     prev = search rules;
     whole = rw (c.fold_all.ensures, c.keep.ensures) (whole_anew c.args.kind c.args.by c.args.amounts.now c.value_in-value.result (λ none. not_empty c.args.amounts.now none c.if-is_empty.ensures));
