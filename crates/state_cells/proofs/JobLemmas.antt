@@ -6,6 +6,7 @@ use Rattle.std.specs.Str.{bytes_eq}
 use Rattle.std.proofs.lemmas.List.Folds.{find-append}
 use Rattle.std.proofs.lemmas.Slice.Eq.{bytes_eq-Decides}
 use Rattle.tree_model.specs.topology_plan.declared.parts.Fold.{Fold}
+use Rattle.tree_model.specs.storm_values.declared.value.Root.{Root}
 use Rattle.tree_model.specs.topology_plan.declared.parts.Kind.{Kind}
 use Rattle.storm_stores.specs.CellMaps.{CellMap, cell_at}
 use Rattle.storm_stores.proofs.CellMapLemmas.{bytes_eq-same}
@@ -57,25 +58,25 @@ joined None r = refl
 pub job_at-append : (done rest : List Job) (k : List ℕ) → job_at (done ++ rest) k ≡ option_or (job_at done k) (job_at rest k)
 job_at-append done rest k = ap (option_map (λ (x : Job). x.amounts)) (find-append (λ (x : Job). bytes_eq k x.key) done rest) ∙ joined (find (λ (x : Job). bytes_eq k x.key) done) (find (λ (x : Job). bytes_eq k x.key) rest)
 
-module _ {S : Type 0} (tells : S → CellMap → Type 0) (kind : Kind) (by : Fold) (txid : ℕ) where
-  step : (o : Option (List ℤ)) (b : Bool) (amounts : List ℤ) (old mid new : Option (List ℕ)) → (b ≡ true → o ≡ None) → IsWorked kind by txid o old mid
-      → (b ≡ true → Commits kind by txid amounts mid new) → (b ≡ false → new ≡ mid) → IsWorked kind by txid (option_or o (cond b (Some amounts) None)) old new
-  step None true amounts old mid new none worked here other = subst (λ (x : Option (List ℕ)). Commits kind by txid amounts x new) worked (here refl)
+module _ {S : Type 0} (tells : S → CellMap → Type 0) (kind : Kind) (by : Fold) (root : Root) where
+  step : (o : Option (List ℤ)) (b : Bool) (amounts : List ℤ) (old mid new : Option (List ℕ)) → (b ≡ true → o ≡ None) → IsWorked kind by root o old mid
+      → (b ≡ true → Commits kind by root amounts mid new) → (b ≡ false → new ≡ mid) → IsWorked kind by root (option_or o (cond b (Some amounts) None)) old new
+  step None true amounts old mid new none worked here other = subst (λ (x : Option (List ℕ)). Commits kind by root amounts x new) worked (here refl)
   step None false amounts old mid new none worked here other = other refl ∙ worked
   step (Some a) true amounts old mid new none worked here other = absurd (let e : ◌≡◌ {A = Option (List ℤ)} (Some a) None = none refl in cc)
-  step (Some a) false amounts old mid new none worked here other = subst (Commits kind by txid a old) (sym (other refl)) worked
+  step (Some a) false amounts old mid new none worked here other = subst (Commits kind by root a old) (sym (other refl)) worked
 
-  stayed : (o : Option (List ℤ)) (old new : Option (List ℕ)) → new ≡ old → IsPerhapsWorked kind by txid o old new
+  stayed : (o : Option (List ℤ)) (old new : Option (List ℕ)) → new ≡ old → IsPerhapsWorked kind by root o old new
   stayed None old new same = same
   stayed (Some a) old new same = inl same
 
-  step_broken : (o r : Option (List ℤ)) (b : Bool) (amounts : List ℤ) (old mid new : Option (List ℕ)) → (b ≡ true → o ≡ None) → (b ≡ true → r ≡ Some amounts) → IsWorked kind by txid o old mid
-      → (b ≡ true → IsPerhapsDone kind by txid amounts mid new) → (b ≡ false → new ≡ mid) → IsPerhapsWorked kind by txid (option_or o r) old new
+  step_broken : (o r : Option (List ℤ)) (b : Bool) (amounts : List ℤ) (old mid new : Option (List ℕ)) → (b ≡ true → o ≡ None) → (b ≡ true → r ≡ Some amounts) → IsWorked kind by root o old mid
+      → (b ≡ true → IsPerhapsDone kind by root amounts mid new) → (b ≡ false → new ≡ mid) → IsPerhapsWorked kind by root (option_or o r) old new
   step_broken None r true amounts old mid new none its worked here other =
-      subst (λ (x : Option (List ℤ)). IsPerhapsWorked kind by txid x old new) (sym (its refl)) (subst (λ (x : Option (List ℕ)). IsPerhapsDone kind by txid amounts x new) worked (here refl))
+      subst (λ (x : Option (List ℤ)). IsPerhapsWorked kind by root x old new) (sym (its refl)) (subst (λ (x : Option (List ℕ)). IsPerhapsDone kind by root amounts x new) worked (here refl))
   step_broken None r false amounts old mid new none its worked here other = stayed r old new (other refl ∙ worked)
   step_broken (Some a) r true amounts old mid new none its worked here other = absurd (let e : ◌≡◌ {A = Option (List ℤ)} (Some a) None = none refl in cc)
-  step_broken (Some a) r false amounts old mid new none its worked here other = inr (subst (Commits kind by txid a old) (sym (other refl)) worked)
+  step_broken (Some a) r false amounts old mid new none its worked here other = inr (subst (Commits kind by root a old) (sym (other refl)) worked)
 
   same_key : (k at : List ℕ) → bytes_eq k at ≡ true → k ≡ at
   same_key k at is = (bytes_eq-Decides k at).0 is
@@ -83,33 +84,33 @@ module _ {S : Type 0} (tells : S → CellMap → Type 0) (kind : Kind) (by : Fol
   other_key : (k at : List ℕ) → bytes_eq k at ≡ false → k ≢ at
   other_key k at is same = true≢false (sym ((bytes_eq-Decides k at).1 same) ∙ is)
 
-  pub work_none : (a : S) → Turns tells (λ key. IsWorked kind by txid (job_at [] key)) a a
+  pub work_none : (a : S) → Turns tells (λ key. IsWorked kind by root (job_at [] key)) a a
   work_none a = record { to = λ m told. (m, told, λ key. refl) }
 
-  pub work_more : (done : List Job) (job : Job) (a b c : S) → job_at done job.key ≡ None → Turns tells (λ key. IsWorked kind by txid (job_at done key)) a b
-      → Turns tells (OnlyAt job.key (Commits kind by txid job.amounts)) b c → Turns tells (λ key. IsWorked kind by txid (job_at (done ++ job ∷ []) key)) a c
+  pub work_more : (done : List Job) (job : Job) (a b c : S) → job_at done job.key ≡ None → Turns tells (λ key. IsWorked kind by root (job_at done key)) a b
+      → Turns tells (OnlyAt job.key (Commits kind by root job.amounts)) b c → Turns tells (λ key. IsWorked kind by root (job_at (done ++ job ∷ []) key)) a c
   work_more done job a b c apart first then = record {
     to = λ m told.
         let x = first.to m told in
         let y = then.to x.0 x.1 in (
           y.0,
           y.1,
-          λ key. subst (λ (o : Option (List ℤ)). IsWorked kind by txid o (cell_at m key) (cell_at y.0 key)) (sym (job_at-more done job key))
+          λ key. subst (λ (o : Option (List ℤ)). IsWorked kind by root o (cell_at m key) (cell_at y.0 key)) (sym (job_at-more done job key))
               (step (job_at done key) (bytes_eq key job.key) job.amounts (cell_at m key) (cell_at x.0 key) (cell_at y.0 key)
               (λ is. ap (job_at done) (same_key key job.key is) ∙ apart) (x.2 key)
               (λ is. (y.2 key).0 (same_key key job.key is)) (λ is. (y.2 key).1 (other_key key job.key is))),
         );
   }
 
-  pub work_broken : (done rest : List Job) (job : Job) (a b c : S) → job_at done job.key ≡ None → Turns tells (λ key. IsWorked kind by txid (job_at done key)) a b
-      → Turns tells (OnlyAt job.key (IsPerhapsDone kind by txid job.amounts)) b c → Turns tells (λ key. IsPerhapsWorked kind by txid (job_at (done ++ job ∷ rest) key)) a c
+  pub work_broken : (done rest : List Job) (job : Job) (a b c : S) → job_at done job.key ≡ None → Turns tells (λ key. IsWorked kind by root (job_at done key)) a b
+      → Turns tells (OnlyAt job.key (IsPerhapsDone kind by root job.amounts)) b c → Turns tells (λ key. IsPerhapsWorked kind by root (job_at (done ++ job ∷ rest) key)) a c
   work_broken done rest job a b c apart first then = record {
     to = λ m told.
         let x = first.to m told in
         let y = then.to x.0 x.1 in (
           y.0,
           y.1,
-          λ key. subst (λ (o : Option (List ℤ)). IsPerhapsWorked kind by txid o (cell_at m key) (cell_at y.0 key)) (sym (job_at-append done (job ∷ rest) key))
+          λ key. subst (λ (o : Option (List ℤ)). IsPerhapsWorked kind by root o (cell_at m key) (cell_at y.0 key)) (sym (job_at-append done (job ∷ rest) key))
               (step_broken (job_at done key) (job_at (job ∷ rest) key) (bytes_eq key job.key) job.amounts (cell_at m key) (cell_at x.0 key) (cell_at y.0 key)
               (λ is. ap (job_at done) (same_key key job.key is) ∙ apart)
               (λ is. ap (λ (t : Bool). option_map (λ (z : Job). z.amounts) (cond t (Some job) (find (λ (z : Job). bytes_eq key z.key) rest))) is)
@@ -131,26 +132,25 @@ module _ {S : Type 0} (tells : S → CellMap → Type 0) (kind : Kind) (by : Fol
   taken_more : (jobs : List Job) (i : ℕ) (job : Job) → slice_get jobs i ≡ Some job → take (i + 1) jobs ≡ take i jobs ++ job ∷ []
   taken_more jobs i job at = let e : i + 1 ≡ suc i = omega arith in ap (λ n. take n jobs) e ∙ taken_suc jobs i job at
 
-  pub work_more_at : (jobs : List Job) (i : ℕ) (job : Job) (a b c : S) → AreApart jobs → slice_get jobs i ≡ Some job → Turns tells (λ key. IsWorked kind by txid (job_at (take i jobs) key)) a b
-      → Turns tells (OnlyAt job.key (Commits kind by txid job.amounts)) b c → Turns tells (λ key. IsWorked kind by txid (job_at (take (i + 1) jobs) key)) a c
+  pub work_more_at : (jobs : List Job) (i : ℕ) (job : Job) (a b c : S) → AreApart jobs → slice_get jobs i ≡ Some job → Turns tells (λ key. IsWorked kind by root (job_at (take i jobs) key)) a b
+      → Turns tells (OnlyAt job.key (Commits kind by root job.amounts)) b c → Turns tells (λ key. IsWorked kind by root (job_at (take (i + 1) jobs) key)) a c
   work_more_at jobs i job a b c apart at first then =
-      subst (λ (xs : List Job). Turns tells (λ key. IsWorked kind by txid (job_at xs key)) a c) (sym (taken_more jobs i job at))
+      subst (λ (xs : List Job). Turns tells (λ key. IsWorked kind by root (job_at xs key)) a c) (sym (taken_more jobs i job at))
       (work_more (take i jobs) job a b c (job_at-before jobs i job apart at) first then)
 
-  pub work_broken_at : (jobs : List Job) (i : ℕ) (job : Job) (a b c : S) → AreApart jobs → slice_get jobs i ≡ Some job → Turns tells (λ key. IsWorked kind by txid (job_at (take i jobs) key)) a b
-      → Turns tells (OnlyAt job.key (IsPerhapsDone kind by txid job.amounts)) b c → Turns tells (λ key. IsPerhapsWorked kind by txid (job_at jobs key)) a c
+  pub work_broken_at : (jobs : List Job) (i : ℕ) (job : Job) (a b c : S) → AreApart jobs → slice_get jobs i ≡ Some job → Turns tells (λ key. IsWorked kind by root (job_at (take i jobs) key)) a b
+      → Turns tells (OnlyAt job.key (IsPerhapsDone kind by root job.amounts)) b c → Turns tells (λ key. IsPerhapsWorked kind by root (job_at jobs key)) a c
   work_broken_at jobs i job a b c apart at first then =
-      subst (λ (xs : List Job). Turns tells (λ key. IsPerhapsWorked kind by txid (job_at xs key)) a c) (sym (taken jobs i job at))
+      subst (λ (xs : List Job). Turns tells (λ key. IsPerhapsWorked kind by root (job_at xs key)) a c) (sym (taken jobs i job at))
       (work_broken (take i jobs) (drop (suc i) jobs) job a b c (job_at-before jobs i job apart at) first then)
 
 -- ---- a cell that the part does not take
 
 good_not_bad : (kind : Kind) (held : Option (List ℕ)) (cell : Option Cell) → Holds kind held cell → IsBad kind held → ⊥
 good_not_bad kind None cell holds bad = bad
-good_not_bad kind (Some bytes) None holds bad = let e : ◌≡◌ {A = Option (List ℕ)} (Some bytes) None = holds.bytes in absurd cc
-good_not_bad kind (Some bytes) (Some cell) holds bad = bad cell holds.good (let e : ◌≡◌ {A = Option (List ℕ)} (Some bytes) (Some (bytes_of cell)) = holds.bytes in cc)
+good_not_bad kind (Some bytes) None holds bad = holds.bytes
+good_not_bad kind (Some bytes) (Some cell) holds bad = bad cell holds.good holds.bytes
 
--- no commit makes one
-pub bad_before : (kind : Kind) (by : Fold) (txid : ℕ) (o : Option (List ℤ)) (old new : Option (List ℕ)) → IsWorked kind by txid o old new → IsBad kind new → IsBad kind old
-bad_before kind by txid None old new same bad = subst (IsBad kind) same bad
-bad_before kind by txid (Some amounts) old new commits bad = absurd (good_not_bad kind new (after kind by txid amounts commits.cell) commits.is bad)
+pub bad_before : (kind : Kind) (by : Fold) (root : Root) (o : Option (List ℤ)) (old new : Option (List ℕ)) → IsWorked kind by root o old new → IsBad kind new → IsBad kind old
+bad_before kind by root None old new same bad = subst (IsBad kind) same bad
+bad_before kind by root (Some amounts) old new commits bad = absurd (good_not_bad kind new (after kind by root amounts commits.cell) commits.is bad)

@@ -13,13 +13,14 @@ use Rattle.std.proofs.lemmas.Map.Text.{is_eq-slice_cmp}
 use Rattle.std.proofs.lemmas.Map.Views.{any-filter_same}
 use Rattle.std.proofs.lemmas.Slice.Eq.{bytes_eq-Decides}
 use Rattle.tree_model.specs.topology_plan.declared.parts.Fold.{Fold}
+use Rattle.tree_model.specs.storm_values.declared.value.Root.{Root}
 use Rattle.tree_model.specs.topology_plan.declared.parts.Kind.{Kind}
 use Rattle.tree_model.specs.topology_plan.declared.parts.Kind.TheVariants.{Opaque}
 use Rattle.storm_stores.specs.CellMaps.{CellMap, InKeyOrder, cell_at}
 use Rattle.cell_format.specs.Layout.{bytes_of, read_of}
 use Rattle.cell_format.specs.Commits.{Holds, again, after, anew}
 use Rattle.cell_format.specs.declared.cell.Cell.{Cell}
-use Rattle.cell_format.proofs.LayoutLemmas.{read_of-bytes_of}
+use Rattle.cell_format.proofs.CommitLemmas.{Holds-one}
 use Rattle.storm_stores.specs.declared.key.KeyBytes.{KeyBytes}
 use Rattle.state_cells.specs.Groups.{Group, job_of, restores_in}
 use Rattle.state_cells.specs.Known.{AreKnown, FollowsFrom, IsAfter, IsKnownAt, IsListedOf, Knows, keys_in}
@@ -136,77 +137,67 @@ not_carrier txid keys key (Some c) listed none = cases (c.txid == txid) refl
 
 -- ---- a commit
 
--- bytes are those of one cell
-same_cell : (held : Option (List ℕ)) (a b : Option Cell) → Holds Opaque held a → Holds Opaque held b → a ≡ b
-same_cell held None None is_a is_b = refl
-same_cell held None (Some b) is_a is_b = absurd (let e : ◌≡◌ {A = Option (List ℕ)} None (Some (bytes_of b)) = sym is_a.bytes ∙ is_b.bytes in cc)
-same_cell held (Some a) None is_a is_b = absurd (let e : ◌≡◌ {A = Option (List ℕ)} (Some (bytes_of a)) None = sym is_a.bytes ∙ is_b.bytes in cc)
-same_cell held (Some a) (Some b) is_a is_b =
-    let e : ◌≡◌ {A = Option (List ℕ)} (Some (bytes_of a)) (Some (bytes_of b)) = sym is_a.bytes ∙ is_b.bytes in
-    let bytes : bytes_of a ≡ bytes_of b = cc in
-    ap Some (sym (read_of-bytes_of a is_a.good.is) ∙ ap read_of bytes ∙ read_of-bytes_of b is_b.good.is)
-
-module _ (by : Fold) (txid : ℕ) (newest : Bool) (keys : List (List ℕ)) where
+module _ (by : Fold) (root : Root) (newest : Bool) (keys : List (List ℕ)) where
   -- a cell that the commit made of one that was not later
-  made_within : (amounts : List ℤ) (cell : Option Cell) → IsNotLater txid cell → IsNotLater txid (after Opaque by txid amounts cell)
+  made_within : (amounts : List ℤ) (cell : Option Cell) → IsNotLater root.txid cell → IsNotLater root.txid (after Opaque by root amounts cell)
   made_within [] None is = tt
   made_within (a ∷ rest) None is = omega arith
-  made_within amounts (Some c) is = cases (c.txid == txid) amounts
+  made_within amounts (Some c) is = cases (c.txid == root.txid) amounts
     where
-      cases : (b : Bool) (xs : List ℤ) → IsNotLater txid (cond b (Some (again Opaque by xs c)) (anew Opaque by txid xs (Some c)))
+      cases : (b : Bool) (xs : List ℤ) → IsNotLater root.txid (cond b (Some (again Opaque by root.attempt xs c)) (anew Opaque by root xs (Some c)))
       cases true xs = is
       cases false [] = is
       cases false (a ∷ rest) = omega arith
 
-  listed_cell : (key : List ℕ) (cell : Option Cell) → IsListed keys key → IsListedOf txid keys key cell
+  listed_cell : (key : List ℕ) (cell : Option Cell) → IsListed keys key → IsListedOf root.txid keys key cell
   listed_cell key None listed = tt
   listed_cell key (Some c) listed = λ _. listed
 
-  known_at : (key : List ℕ) (o : Option (List ℤ)) (old new : Option (List ℕ)) → is_some o ≡ list_any (bytes_eq key) keys → IsKnownAt txid newest keys key old → IsPerhapsWorked Opaque by txid o old new → IsKnownAt txid newest keys key new
-  known_at key None old new listed known same = subst (IsKnownAt txid newest keys key) (sym same) known
-  known_at key (Some amounts) old new listed known (inl same) = subst (IsKnownAt txid newest keys key) (sym same) known
+  known_at : (key : List ℕ) (o : Option (List ℤ)) (old new : Option (List ℕ)) → is_some o ≡ list_any (bytes_eq key) keys → IsKnownAt root.txid newest keys key old → IsPerhapsWorked Opaque by root o old new → IsKnownAt root.txid newest keys key new
+  known_at key None old new listed known same = subst (IsKnownAt root.txid newest keys key) (sym same) known
+  known_at key (Some amounts) old new listed known (inl same) = subst (IsKnownAt root.txid newest keys key) (sym same) known
   known_at key (Some amounts) old new listed known (inr commits) = record {
-    cell = after Opaque by txid amounts commits.cell;
+    cell = after Opaque by root amounts commits.cell;
     holds = commits.is;
-    listed = listed_cell key (after Opaque by txid amounts commits.cell) (sym listed);
-    within = λ is. made_within amounts commits.cell (subst (IsNotLater txid) (same_cell old known.cell commits.cell known.holds commits.was) (known.within is));
+    listed = listed_cell key (after Opaque by root amounts commits.cell) (sym listed);
+    within = λ is. made_within amounts commits.cell (subst (IsNotLater root.txid) (Holds-one Opaque old known.cell commits.cell known.holds commits.was) (known.within is));
   }
 
-pub known_worked : (by : Fold) (txid : ℕ) (newest : Bool) (jobs : List Job) (cells after : CellMap) → AreKnown txid newest (keys_in jobs) cells
-    → ((key : List ℕ) → IsPerhapsWorked Opaque by txid (job_at jobs key) (cell_at cells key) (cell_at after key)) → AreKnown txid newest (keys_in jobs) after
-known_worked by txid newest jobs cells after known worked = record {
+pub known_worked : (by : Fold) (root : Root) (newest : Bool) (jobs : List Job) (cells after : CellMap) → AreKnown root.txid newest (keys_in jobs) cells
+    → ((key : List ℕ) → IsPerhapsWorked Opaque by root (job_at jobs key) (cell_at cells key) (cell_at after key)) → AreKnown root.txid newest (keys_in jobs) after
+known_worked by root newest jobs cells after known worked = record {
   once = known.once;
-  at = λ key. known_at by txid newest (keys_in jobs) key (job_at jobs key) (cell_at cells key) (cell_at after key) (sym (job_listed jobs key)) (known.at key) (worked key);
+  at = λ key. known_at by root newest (keys_in jobs) key (job_at jobs key) (cell_at cells key) (cell_at after key) (sym (job_listed jobs key)) (known.at key) (worked key);
 }
 
-perhaps : (kind : Kind) (by : Fold) (txid : ℕ) (o : Option (List ℤ)) (old new : Option (List ℕ)) → IsWorked kind by txid o old new → IsPerhapsWorked kind by txid o old new
-perhaps kind by txid None old new worked = worked
-perhaps kind by txid (Some amounts) old new worked = inr worked
+perhaps : (kind : Kind) (by : Fold) (root : Root) (o : Option (List ℤ)) (old new : Option (List ℕ)) → IsWorked kind by root o old new → IsPerhapsWorked kind by root o old new
+perhaps kind by root None old new worked = worked
+perhaps kind by root (Some amounts) old new worked = inr worked
 
-module _ {S T E : Type 0} (tells : S → CellMap → Type 0) (one_map : (s : S) (m n : CellMap) → tells s m → tells s n → m ≡ n) (kind : Kind) (by : Fold) (txid : ℕ) (newest : Bool) (jobs : List Job) (a b c : S) (r : Result T E) where
-  either : OnOk r (AreApart jobs → Turns tells (λ key. IsWorked kind by txid (job_at jobs key)) b c) → OnErr r (AreApart jobs → Turns tells (λ key. IsPerhapsWorked kind by txid (job_at jobs key)) b c)
-      → AreApart jobs → Turns tells (λ key. IsPerhapsWorked kind by txid (job_at jobs key)) b c
+module _ {S T E : Type 0} (tells : S → CellMap → Type 0) (one_map : (s : S) (m n : CellMap) → tells s m → tells s n → m ≡ n) (kind : Kind) (by : Fold) (root : Root) (newest : Bool) (jobs : List Job) (a b c : S) (r : Result T E) where
+  either : OnOk r (AreApart jobs → Turns tells (λ key. IsWorked kind by root (job_at jobs key)) b c) → OnErr r (AreApart jobs → Turns tells (λ key. IsPerhapsWorked kind by root (job_at jobs key)) b c)
+      → AreApart jobs → Turns tells (λ key. IsPerhapsWorked kind by root (job_at jobs key)) b c
   either on_ok on_err = cases r on_ok on_err
     where
-      cases : (x : Result T E) → OnOk x (AreApart jobs → Turns tells (λ key. IsWorked kind by txid (job_at jobs key)) b c) → OnErr x (AreApart jobs → Turns tells (λ key. IsPerhapsWorked kind by txid (job_at jobs key)) b c)
-          → AreApart jobs → Turns tells (λ key. IsPerhapsWorked kind by txid (job_at jobs key)) b c
+      cases : (x : Result T E) → OnOk x (AreApart jobs → Turns tells (λ key. IsWorked kind by root (job_at jobs key)) b c) → OnErr x (AreApart jobs → Turns tells (λ key. IsPerhapsWorked kind by root (job_at jobs key)) b c)
+          → AreApart jobs → Turns tells (λ key. IsPerhapsWorked kind by root (job_at jobs key)) b c
       cases (Ok x) on_ok on_err = λ apart. record {
-        to = λ m told. let y = (on_ok apart).to m told in (y.0, y.1, λ key. perhaps kind by txid (job_at jobs key) (cell_at m key) (cell_at y.0 key) (y.2 key));
+        to = λ m told. let y = (on_ok apart).to m told in (y.0, y.1, λ key. perhaps kind by root (job_at jobs key) (cell_at m key) (cell_at y.0 key) (y.2 key));
       }
       cases (Err e) on_ok on_err = on_err
 
-  pub knows_after : (known : Option Known) → IfSome known (IsAfter kind txid newest jobs)
-      → ((m : CellMap) → tells a m → AreApart jobs) → (kind ≡ Opaque → (m : CellMap) → tells a m → AreKnown txid newest (keys_in jobs) m) → ((m : CellMap) → tells b m → tells a m)
-      → OnOk r (AreApart jobs → Turns tells (λ key. IsWorked kind by txid (job_at jobs key)) b c) → OnErr r (AreApart jobs → Turns tells (λ key. IsPerhapsWorked kind by txid (job_at jobs key)) b c)
+  pub knows_after : (known : Option Known) → IfSome known (IsAfter kind root.txid newest jobs)
+      → ((m : CellMap) → tells a m → AreApart jobs) → (kind ≡ Opaque → (m : CellMap) → tells a m → AreKnown root.txid newest (keys_in jobs) m) → ((m : CellMap) → tells b m → tells a m)
+      → OnOk r (AreApart jobs → Turns tells (λ key. IsWorked kind by root (job_at jobs key)) b c) → OnErr r (AreApart jobs → Turns tells (λ key. IsPerhapsWorked kind by root (job_at jobs key)) b c)
       → ((m : CellMap) → tells c m → (n : CellMap) × tells b n) → IfSome known (Knows tells c)
   knows_after None is apart known before on_ok on_err told_before = tt
   knows_after (Some now) is apart known before on_ok on_err told_before = λ m told.
       let x = told_before m told in
       let y = (either on_ok on_err (apart x.0 (before x.0 x.1))).to x.0 x.1 in
       let same : y.0 ≡ m = one_map c y.0 m y.1 told in
-      let worked : (key : List ℕ) → IsPerhapsWorked Opaque by txid (job_at jobs key) (cell_at x.0 key) (cell_at y.0 key)
-      = subst (λ (k : Kind). (key : List ℕ) → IsPerhapsWorked k by txid (job_at jobs key) (cell_at x.0 key) (cell_at y.0 key)) is.kind_is y.2 in
-      let there : AreKnown txid newest (keys_in jobs) m = subst (AreKnown txid newest (keys_in jobs)) same (known_worked by txid newest jobs x.0 y.0 (known is.kind_is x.0 (before x.0 x.1)) worked) in
+      let worked : (key : List ℕ) → IsPerhapsWorked Opaque by root (job_at jobs key) (cell_at x.0 key) (cell_at y.0 key)
+      = subst (λ (k : Kind). (key : List ℕ) → IsPerhapsWorked k by root (job_at jobs key) (cell_at x.0 key) (cell_at y.0 key)) is.kind_is y.2 in
+      let there : AreKnown root.txid newest (keys_in jobs) m = subst (AreKnown root.txid newest (keys_in jobs)) same (known_worked by root newest jobs x.0 y.0 (known is.kind_is x.0 (before x.0 x.1)) worked) in
       rw (is.txid_is, is.newest_is, is.keys_are) there
 
 -- ---- the keys that are written, and then the others

@@ -5,10 +5,10 @@ use Rattle.std.specs.Option.{option_map_or, option_or}
 use Rattle.smallvec.specs.SmallVec.{SmallVec}
 use Rattle.std.specs.Str.{bytes_eq}
 use Rattle.tree_model.specs.topology_plan.declared.parts.Fold.{Fold}
+use Rattle.tree_model.specs.storm_values.declared.value.Root.{Root}
 use Rattle.tree_model.specs.topology_plan.declared.parts.Kind.{Kind}
 use Rattle.tree_model.specs.topology_plan.declared.parts.Kind.TheVariants.{Transactional, Opaque}
 use Rattle.storm_stores.specs.CellMaps.{CellMap, cell_at}
-use Rattle.cell_format.specs.Layout.{bytes_of}
 use Rattle.cell_format.specs.Commits.{Commits, Holds, IsDone, IsPerhapsDone, after, again}
 use Rattle.cell_format.specs.declared.cell.Cell.{Cell}
 use Rattle.state_cells.specs.Known.{AreKnown, IsListedOf, keys_in}
@@ -19,58 +19,50 @@ use Rattle.state_cells.proofs.KnownLemmas.{job_listed, keys_once, not_carrier}
 
 -- ---- what the jobs make of a key
 
-not_carried : (by : Fold) (txid : ℕ) (cell : Option Cell) → carries_of txid cell ≡ false → after Opaque by txid [] cell ≡ cell
-not_carried by txid None is = refl
-not_carried by txid (Some c) is = ap (λ b. cond b (Some (again Opaque by [] c)) (Some c)) is
+not_carried : (by : Fold) (root : Root) (cell : Option Cell) → carries_of root.txid cell ≡ false → after Opaque by root [] cell ≡ cell
+not_carried by root None is = refl
+not_carried by root (Some c) is = ap (λ b. cond b (Some (again Opaque by root.attempt [] c)) (Some c)) is
 
-unwritten : (by : Fold) (txid : ℕ) (cell : Option Cell) → after Transactional by txid [] cell ≡ cell
-unwritten by txid None = refl
-unwritten by txid (Some c) = cases (c.txid == txid)
-  where
-    cases : (b : Bool) → cond b (Some c) (Some c) ≡ Some c
-    cases true = refl
-    cases false = refl
+done_written : (kind : Kind) (by : Fold) (root : Root) (amounts : List ℤ) (old new : Option (List ℕ)) → Commits kind by root amounts old new → IsDone kind by root amounts old new
+done_written Opaque by root amounts old new commits = commits
+done_written Transactional by root (a ∷ rest) old new commits = commits
+done_written Transactional by root [] old new commits = commits.left
 
-done_written : (kind : Kind) (by : Fold) (txid : ℕ) (amounts : List ℤ) (old new : Option (List ℕ)) → Commits kind by txid amounts old new → IsDone kind by txid amounts old new
-done_written Opaque by txid amounts old new commits = commits
-done_written Transactional by txid (a ∷ rest) old new commits = commits
-done_written Transactional by txid [] old new commits = commits.is.bytes ∙ ap (option_map bytes_of) (unwritten by txid commits.cell) ∙ sym commits.was.bytes
+left_done : (kind : Kind) (by : Fold) (root : Root) (amounts : List ℤ) (old new : Option (List ℕ)) → IsLeft kind root.txid amounts old → new ≡ old → IsDone kind by root amounts old new
+left_done Transactional by root amounts old new none same = subst (λ (xs : List ℤ). IsDone Transactional by root xs old new) (sym none) same
+left_done Opaque by root amounts old new left same =
+    let stays : after Opaque by root [] left.1 ≡ left.1 = not_carried by root left.1 left.3 in
+    let commits : Commits Opaque by root [] old old = record { cell = left.1; was = left.2; is = subst (Holds Opaque old) (sym stays) left.2; left = tt } in
+    subst (λ (xs : List ℤ). Commits Opaque by root xs old new) (sym left.0) (subst (Commits Opaque by root [] old) (sym same) commits)
 
-left_done : (kind : Kind) (by : Fold) (txid : ℕ) (amounts : List ℤ) (old new : Option (List ℕ)) → IsLeft kind txid amounts old → new ≡ old → IsDone kind by txid amounts old new
-left_done Transactional by txid amounts old new none same = subst (λ (xs : List ℤ). IsDone Transactional by txid xs old new) (sym none) same
-left_done Opaque by txid amounts old new left same =
-    let stays : after Opaque by txid [] left.1 ≡ left.1 = not_carried by txid left.1 left.3 in
-    let commits : Commits Opaque by txid [] old old = record { cell = left.1; was = left.2; is = subst (Holds Opaque old) (sym stays) left.2 } in
-    subst (λ (xs : List ℤ). Commits Opaque by txid xs old new) (sym left.0) (subst (Commits Opaque by txid [] old) (sym same) commits)
+worked_done : (kind : Kind) (by : Fold) (root : Root) (amounts : List ℤ) (job : Option (List ℤ)) (old new : Option (List ℕ)) → MatchOption job (IsLeft kind root.txid amounts old) (λ xs. xs ≡ amounts) → IsWorked kind by root job old new → IsDone kind by root amounts old new
+worked_done kind by root amounts None old new left same = left_done kind by root amounts old new left same
+worked_done kind by root amounts (Some xs) old new is commits = done_written kind by root amounts old new (subst (λ (ys : List ℤ). Commits kind by root ys old new) is commits)
 
-worked_done : (kind : Kind) (by : Fold) (txid : ℕ) (amounts : List ℤ) (job : Option (List ℤ)) (old new : Option (List ℕ)) → MatchOption job (IsLeft kind txid amounts old) (λ xs. xs ≡ amounts) → IsWorked kind by txid job old new → IsDone kind by txid amounts old new
-worked_done kind by txid amounts None old new left same = left_done kind by txid amounts old new left same
-worked_done kind by txid amounts (Some xs) old new is commits = done_written kind by txid amounts old new (subst (λ (ys : List ℤ). Commits kind by txid ys old new) is commits)
+perhaps_done : (kind : Kind) (by : Fold) (root : Root) (amounts : List ℤ) (job : Option (List ℤ)) (old new : Option (List ℕ)) → MatchOption job (IsLeft kind root.txid amounts old) (λ xs. xs ≡ amounts) → IsPerhapsWorked kind by root job old new → IsPerhapsDone kind by root amounts old new
+perhaps_done kind by root amounts None old new left same = inl same
+perhaps_done kind by root amounts (Some xs) old new is perhaps = subst (λ (ys : List ℤ). IsPerhapsDone kind by root ys old new) is perhaps
 
-perhaps_done : (kind : Kind) (by : Fold) (txid : ℕ) (amounts : List ℤ) (job : Option (List ℤ)) (old new : Option (List ℕ)) → MatchOption job (IsLeft kind txid amounts old) (λ xs. xs ≡ amounts) → IsPerhapsWorked kind by txid job old new → IsPerhapsDone kind by txid amounts old new
-perhaps_done kind by txid amounts None old new left same = inl same
-perhaps_done kind by txid amounts (Some xs) old new is perhaps = subst (λ (ys : List ℤ). IsPerhapsDone kind by txid ys old new) is perhaps
-
-module _ {S : Type 0} (tells : S → CellMap → Type 0) (kind : Kind) (by : Fold) (txid : ℕ) (written : List ℕ → List ℤ) (jobs : List Job) (a b c : S) (planned : (m : CellMap) → tells a m → IsPlan kind txid written m jobs) (same : (m : CellMap) → tells a m → tells b m) where
-  pub plan_done : (AreApart jobs → Turns tells (λ key. IsWorked kind by txid (job_at jobs key)) b c) → Turns tells (λ key. IsDone kind by txid (written key)) a c
+module _ {S : Type 0} (tells : S → CellMap → Type 0) (kind : Kind) (by : Fold) (root : Root) (written : List ℕ → List ℤ) (jobs : List Job) (a b c : S) (planned : (m : CellMap) → tells a m → IsPlan kind root.txid written m jobs) (same : (m : CellMap) → tells a m → tells b m) where
+  pub plan_done : (AreApart jobs → Turns tells (λ key. IsWorked kind by root (job_at jobs key)) b c) → Turns tells (λ key. IsDone kind by root (written key)) a c
   plan_done works = record {
     to = λ m told.
         let plan = planned m told in
         let x = (works plan.apart).to m (same m told) in
-        (x.0, x.1, λ key. worked_done kind by txid (written key) (job_at jobs key) (cell_at m key) (cell_at x.0 key) (plan.at key) (x.2 key));
+        (x.0, x.1, λ key. worked_done kind by root (written key) (job_at jobs key) (cell_at m key) (cell_at x.0 key) (plan.at key) (x.2 key));
   }
 
-  pub plan_broken : (AreApart jobs → Turns tells (λ key. IsPerhapsWorked kind by txid (job_at jobs key)) b c) → Turns tells (λ key. IsPerhapsDone kind by txid (written key)) a c
+  pub plan_broken : (AreApart jobs → Turns tells (λ key. IsPerhapsWorked kind by root (job_at jobs key)) b c) → Turns tells (λ key. IsPerhapsDone kind by root (written key)) a c
   plan_broken works = record {
     to = λ m told.
         let plan = planned m told in
         let x = (works plan.apart).to m (same m told) in
-        (x.0, x.1, λ key. perhaps_done kind by txid (written key) (job_at jobs key) (cell_at m key) (cell_at x.0 key) (plan.at key) (x.2 key));
+        (x.0, x.1, λ key. perhaps_done kind by root (written key) (job_at jobs key) (cell_at m key) (cell_at x.0 key) (plan.at key) (x.2 key));
   }
 
 -- where nothing was done yet
-pub nothing_done : {S : Type 0} (tells : S → CellMap → Type 0) (kind : Kind) (by : Fold) (txid : ℕ) (written : List ℕ → List ℤ) (a b : S) → ((m : CellMap) → tells a m → tells b m) → Turns tells (λ key. IsPerhapsDone kind by txid (written key)) a b
-nothing_done tells kind by txid written a b same = record { to = λ m told. (m, same m told, λ key. inl refl) }
+pub nothing_done : {S : Type 0} (tells : S → CellMap → Type 0) (kind : Kind) (by : Fold) (root : Root) (written : List ℕ → List ℤ) (a b : S) → ((m : CellMap) → tells a m → tells b m) → Turns tells (λ key. IsPerhapsDone kind by root (written key)) a b
+nothing_done tells kind by root written a b same = record { to = λ m told. (m, same m told, λ key. inl refl) }
 
 -- ---- the plans
 

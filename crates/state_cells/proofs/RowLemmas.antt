@@ -12,7 +12,7 @@ use Rattle.tree_model.specs.declared.write.Pair.{Pair}
 use Rattle.storm_stores.specs.CellMaps.{CellMap, cell_at}
 use Rattle.cell_format.specs.Commits.{Holds, value_of}
 use Rattle.cell_format.specs.declared.cell.Cell.{Cell}
-use Rattle.cell_format.proofs.LayoutLemmas.{read_of-bytes_of}
+use Rattle.cell_format.proofs.LayoutLemmas.{read_of-bytes}
 use Rattle.state_cells.specs.Rows.{IsBadRow, Reads, row_by, rows_of, value_in}
 use Rattle.state_cells.specs.Scans.{AreGood}
 use Rattle.state_cells.proofs.ScanLemmas.{Scanned, Scanned-end, Scanned-more, Scanned-none, taken_more}
@@ -23,8 +23,10 @@ pub record Tabled (kind : Kind) (cells : CellMap) (n : ℕ) (pairs : List Pair) 
   pub seen : (keys : List (List ℕ)) × Scanned kind 0 cells n keys false
 
 value_is : (kind : Kind) (held : Option (List ℕ)) (cell : Option Cell) → Holds kind held cell → value_in held ≡ value_of cell
-value_is kind held None is = rw is.bytes refl
-value_is kind held (Some c) is = ap value_in is.bytes ∙ ap (λ (d : Cell). d.value) (read_of-bytes_of c is.good.is)
+value_is kind None None is = refl
+value_is kind None (Some c) is = absurd is.bytes
+value_is kind (Some bytes) None is = absurd is.bytes
+value_is kind (Some bytes) (Some c) is = ap (λ (d : Cell). d.value) (read_of-bytes c bytes is.good.is is.bytes)
 
 pub Tabled-none : (kind : Kind) (cells : CellMap) → Tabled kind cells 0 []
 Tabled-none kind cells = record { rows = refl; seen = ([], Scanned-none kind 0 cells false) }

@@ -1,5 +1,5 @@
 -- The keys that were looked at so far.
-use Rattle.std.proofs.Common.{◌≡◌, ◌<◌, ◌+◌, ℕ, zero, suc, nat_lt, Bool, true, false, cond, List, [], ◌∷◌, ◌++◌, length, take, filter, Option, None, Some, refl, sym, ap, subst, ◌∙◌, arith}
+use Rattle.std.proofs.Common.{◌≡◌, ◌==◌, ◌<◌, ◌+◌, ℕ, zero, suc, nat_lt, Bool, true, false, cond, List, [], ◌∷◌, ◌++◌, length, take, filter, Option, None, Some, refl, sym, ap, subst, ◌∙◌, arith}
 use Rattle.std.specs.List.{slice_get}
 use Rattle.std.specs.Map.{keys_of}
 use Rattle.std.specs.Str.{bytes_eq}
@@ -7,10 +7,10 @@ use Rattle.std.proofs.lemmas.Bool.Decides.{nat_tests}
 use Rattle.std.proofs.lemmas.List.{take_all}
 use Rattle.std.proofs.lemmas.Map.Entries.{length-keys_of, place_from_lookup}
 use Rattle.std.proofs.lemmas.Slice.Eq.{bytes_eq-Decides}
-use Rattle.cell_format.proofs.LayoutLemmas.{read_of-bytes_of}
+use Rattle.cell_format.proofs.LayoutLemmas.{read_of-bytes}
 use Rattle.tree_model.specs.topology_plan.declared.parts.Kind.{Kind}
 use Rattle.storm_stores.specs.CellMaps.{CellMap, cell_at}
-use Rattle.cell_format.specs.Commits.{Holds}
+use Rattle.cell_format.specs.Commits.{Holds, IsHeld}
 use Rattle.cell_format.specs.declared.cell.Cell.{Cell}
 use Rattle.state_cells.specs.Scans.{IsNotLater, Scans, carriers, carries_of, is_carrier}
 
@@ -20,8 +20,10 @@ pub record Scanned (kind : Kind) (txid : ℕ) (cells : CellMap) (n : ℕ) (keys 
 
 -- the bytes tell the transaction of the cell
 pub carrier_is : (kind : Kind) (txid : ℕ) (held : Option (List ℕ)) (cell : Option Cell) → Holds kind held cell → is_carrier txid held ≡ carries_of txid cell
-carrier_is kind txid held None is = rw is.bytes refl
-carrier_is kind txid held (Some c) is = rw (is.bytes, read_of-bytes_of c is.good.is) refl
+carrier_is kind txid None None is = refl
+carrier_is kind txid None (Some c) is = absurd is.bytes
+carrier_is kind txid (Some bytes) None is = absurd is.bytes
+carrier_is kind txid (Some bytes) (Some c) is = ap (λ (d : Cell). d.txid == txid) (read_of-bytes c bytes is.good.is is.bytes)
 
 pub taken_more : (xs : List (List ℕ)) (i : ℕ) (x : List ℕ) → slice_get xs i ≡ Some x → take (suc i) xs ≡ take i xs ++ x ∷ []
 taken_more [] i x at = absurd (let e : ◌≡◌ {A = Option (List ℕ)} None (Some x) = at in cc)
@@ -80,7 +82,7 @@ Scanned-end kind txid cells n keys newest all seen =
     (seen.noted ∙ ap (filter p) (take_all n (keys_of cells) (omega (arith, length-keys_of cells, all))), λ key. cases key (cell_at cells key) refl)
   where
     cases : (key : List ℕ) (held : Option (List ℕ)) → cell_at cells key ≡ held → (cell : Option Cell) × Holds kind (cell_at cells key) cell × (newest ≡ true → IsNotLater txid cell)
-    cases key None is = (None, record { bytes = is; good = tt }, λ _. tt)
+    cases key None is = (None, record { bytes = subst (λ (held : Option (List ℕ)). IsHeld held None) (sym is) tt; good = tt }, λ _. tt)
     cases key (Some bytes) is =
         let place = place_from_lookup (bytes_eq key) cells bytes is in
         let at = key_of_place cells place.0 place.1 bytes place.2 in

@@ -7,6 +7,7 @@ use Rattle.std.specs.Str.{bytes_eq}
 use Rattle.std.proofs.lemmas.Slice.Eq.{bytes_eq-Decides}
 use Rattle.smallvec.specs.SmallVec.{SmallVec}
 use Rattle.tree_model.specs.topology_plan.declared.parts.Fold.{Fold}
+use Rattle.tree_model.specs.storm_values.declared.value.Root.{Root}
 use Rattle.tree_model.specs.topology_plan.declared.parts.Kind.{Kind}
 use Rattle.storm_stores.specs.CellMaps.{CellMap, cell_at}
 use Rattle.storm_stores.proofs.CellMapLemmas.{bytes_eq-same}
@@ -53,9 +54,9 @@ not_before (j ∷ js) rest job apart = cases (bytes_eq job.key j.key) refl (not_
     cases true is later = absurd (there js rest job (ap (job_at (js ++ job ∷ rest)) ((bytes_eq-Decides job.key j.key).0 is) ∙ apart.0))
     cases false is later = later
 
-module _ {S : Type 0} (tells : S → CellMap → Type 0) (kind : Kind) (by : Fold) (txid : ℕ) where
+module _ {S : Type 0} (tells : S → CellMap → Type 0) (kind : Kind) (by : Fold) (root : Root) where
   module _ (ys : List Shown) (x : Shown) (it next all : List Group) (parts : map deref_pair ys ++ it ≡ all) (step : it ≡ deref_pair x ∷ next) (apart : AreApart (map job_of all)) (a b c : S)
-      (first : Turns tells (λ key. IsWorked kind by txid (job_at (map job_of (map deref_pair ys)) key)) a b) where
+      (first : Turns tells (λ key. IsWorked kind by root (job_at (map job_of (map deref_pair ys)) key)) a b) where
     whole : map job_of all ≡ map job_of (map deref_pair ys) ++ job_of (deref_pair x) ∷ map job_of next
     whole = ap (map job_of) (sym parts ∙ ap (λ r. map deref_pair ys ++ r) step) ∙ map_join job_of (map deref_pair ys) (deref_pair x ∷ next)
 
@@ -65,11 +66,11 @@ module _ {S : Type 0} (tells : S → CellMap → Type 0) (kind : Kind) (by : Fol
     done : map job_of (map deref_pair (ys ++ x ∷ [])) ≡ map job_of (map deref_pair ys) ++ job_of (deref_pair x) ∷ []
     done = ap (map job_of) (map_join deref_pair ys (x ∷ [])) ∙ map_join job_of (map deref_pair ys) (deref_pair x ∷ [])
 
-    pub group_done : Turns tells (OnlyAt x.0.now.bytes.now (Commits kind by txid x.1.now.items)) b c → Turns tells (λ key. IsWorked kind by txid (job_at (map job_of (map deref_pair (ys ++ x ∷ []))) key)) a c
-    group_done then = subst (λ (js : List Job). Turns tells (λ key. IsWorked kind by txid (job_at js key)) a c) (sym done) (work_more tells kind by txid (map job_of (map deref_pair ys)) (job_of (deref_pair x)) a b c fresh first then)
+    pub group_done : Turns tells (OnlyAt x.0.now.bytes.now (Commits kind by root x.1.now.items)) b c → Turns tells (λ key. IsWorked kind by root (job_at (map job_of (map deref_pair (ys ++ x ∷ []))) key)) a c
+    group_done then = subst (λ (js : List Job). Turns tells (λ key. IsWorked kind by root (job_at js key)) a c) (sym done) (work_more tells kind by root (map job_of (map deref_pair ys)) (job_of (deref_pair x)) a b c fresh first then)
 
-    pub group_broken : Turns tells (OnlyAt x.0.now.bytes.now (IsPerhapsDone kind by txid x.1.now.items)) b c → Turns tells (λ key. IsPerhapsWorked kind by txid (job_at (map job_of all) key)) a c
-    group_broken then = subst (λ (js : List Job). Turns tells (λ key. IsPerhapsWorked kind by txid (job_at js key)) a c) (sym whole) (work_broken tells kind by txid (map job_of (map deref_pair ys)) (map job_of next) (job_of (deref_pair x)) a b c fresh first then)
+    pub group_broken : Turns tells (OnlyAt x.0.now.bytes.now (IsPerhapsDone kind by root x.1.now.items)) b c → Turns tells (λ key. IsPerhapsWorked kind by root (job_at (map job_of all) key)) a c
+    group_broken then = subst (λ (js : List Job). Turns tells (λ key. IsPerhapsWorked kind by root (job_at js key)) a c) (sym whole) (work_broken tells kind by root (map job_of (map deref_pair ys)) (map job_of next) (job_of (deref_pair x)) a b c fresh first then)
 
 -- ---- one walk after the other
 
@@ -97,59 +98,59 @@ differ (j ∷ js) b key apart found = cases (bytes_eq key j.key) refl (λ later.
     cases true is later here = ap (job_at b) ((bytes_eq-Decides key j.key).0 is) ∙ right_none (job_at js j.key) (job_at b j.key) (sym (job_at-append js b j.key) ∙ apart.0)
     cases false is later here = later here
 
-module _ {S : Type 0} (tells : S → CellMap → Type 0) (kind : Kind) (by : Fold) (txid : ℕ) where
+module _ {S : Type 0} (tells : S → CellMap → Type 0) (kind : Kind) (by : Fold) (root : Root) where
   there_is : (a : List ℤ) → ◌≢◌ {A = Option (List ℤ)} (Some a) None
   there_is a is = absurd (let e : ◌≡◌ {A = Option (List ℤ)} (Some a) None = is in cc)
 
-  row : (o r : Option (List ℤ)) (old mid new : Option (List ℕ)) → (o ≢ None → r ≡ None) → IsWorked kind by txid o old mid → IsWorked kind by txid r mid new → IsWorked kind by txid (option_or o r) old new
-  row None r old mid new none first then = subst (λ (x : Option (List ℕ)). IsWorked kind by txid r x new) first then
+  row : (o r : Option (List ℤ)) (old mid new : Option (List ℕ)) → (o ≢ None → r ≡ None) → IsWorked kind by root o old mid → IsWorked kind by root r mid new → IsWorked kind by root (option_or o r) old new
+  row None r old mid new none first then = subst (λ (x : Option (List ℕ)). IsWorked kind by root r x new) first then
   row (Some a) r old mid new none first then =
-      let same : new ≡ mid = subst (λ (z : Option (List ℤ)). IsWorked kind by txid z mid new) (none (there_is a)) then in
-      subst (Commits kind by txid a old) (sym same) first
+      let same : new ≡ mid = subst (λ (z : Option (List ℤ)). IsWorked kind by root z mid new) (none (there_is a)) then in
+      subst (Commits kind by root a old) (sym same) first
 
-  row_broken : (o r : Option (List ℤ)) (old mid new : Option (List ℕ)) → (o ≢ None → r ≡ None) → IsWorked kind by txid o old mid → IsPerhapsWorked kind by txid r mid new → IsPerhapsWorked kind by txid (option_or o r) old new
-  row_broken None r old mid new none first then = subst (λ (x : Option (List ℕ)). IsPerhapsWorked kind by txid r x new) first then
+  row_broken : (o r : Option (List ℤ)) (old mid new : Option (List ℕ)) → (o ≢ None → r ≡ None) → IsWorked kind by root o old mid → IsPerhapsWorked kind by root r mid new → IsPerhapsWorked kind by root (option_or o r) old new
+  row_broken None r old mid new none first then = subst (λ (x : Option (List ℕ)). IsPerhapsWorked kind by root r x new) first then
   row_broken (Some a) r old mid new none first then =
-      let same : new ≡ mid = subst (λ (z : Option (List ℤ)). IsPerhapsWorked kind by txid z mid new) (none (there_is a)) then in
-      inr (subst (Commits kind by txid a old) (sym same) first)
+      let same : new ≡ mid = subst (λ (z : Option (List ℤ)). IsPerhapsWorked kind by root z mid new) (none (there_is a)) then in
+      inr (subst (Commits kind by root a old) (sym same) first)
 
-  row_begun : (o r : Option (List ℤ)) (old new : Option (List ℕ)) → IsPerhapsWorked kind by txid o old new → IsPerhapsWorked kind by txid (option_or o r) old new
+  row_begun : (o r : Option (List ℤ)) (old new : Option (List ℕ)) → IsPerhapsWorked kind by root o old new → IsPerhapsWorked kind by root (option_or o r) old new
   row_begun None None old new first = first
   row_begun None (Some b) old new first = inl first
   row_begun (Some a) r old new first = first
 
   module _ (x y : List Job) (a b c : S) where
-    pub both_done : AreApart (x ++ y) → Turns tells (λ key. IsWorked kind by txid (job_at x key)) a b → Turns tells (λ key. IsWorked kind by txid (job_at y key)) b c → Turns tells (λ key. IsWorked kind by txid (job_at (x ++ y) key)) a c
+    pub both_done : AreApart (x ++ y) → Turns tells (λ key. IsWorked kind by root (job_at x key)) a b → Turns tells (λ key. IsWorked kind by root (job_at y key)) b c → Turns tells (λ key. IsWorked kind by root (job_at (x ++ y) key)) a c
     both_done apart first then = record {
       to = λ m told.
           let p = first.to m told in
           let q = then.to p.0 p.1 in (
             q.0,
             q.1,
-            λ key. subst (λ (o : Option (List ℤ)). IsWorked kind by txid o (cell_at m key) (cell_at q.0 key)) (sym (job_at-append x y key))
+            λ key. subst (λ (o : Option (List ℤ)). IsWorked kind by root o (cell_at m key) (cell_at q.0 key)) (sym (job_at-append x y key))
                 (row (job_at x key) (job_at y key) (cell_at m key) (cell_at p.0 key) (cell_at q.0 key) (differ x y key apart) (p.2 key) (q.2 key)),
           );
     }
 
-    pub both_broken : AreApart (x ++ y) → Turns tells (λ key. IsWorked kind by txid (job_at x key)) a b → Turns tells (λ key. IsPerhapsWorked kind by txid (job_at y key)) b c → Turns tells (λ key. IsPerhapsWorked kind by txid (job_at (x ++ y) key)) a c
+    pub both_broken : AreApart (x ++ y) → Turns tells (λ key. IsWorked kind by root (job_at x key)) a b → Turns tells (λ key. IsPerhapsWorked kind by root (job_at y key)) b c → Turns tells (λ key. IsPerhapsWorked kind by root (job_at (x ++ y) key)) a c
     both_broken apart first then = record {
       to = λ m told.
           let p = first.to m told in
           let q = then.to p.0 p.1 in (
             q.0,
             q.1,
-            λ key. subst (λ (o : Option (List ℤ)). IsPerhapsWorked kind by txid o (cell_at m key) (cell_at q.0 key)) (sym (job_at-append x y key))
+            λ key. subst (λ (o : Option (List ℤ)). IsPerhapsWorked kind by root o (cell_at m key) (cell_at q.0 key)) (sym (job_at-append x y key))
                 (row_broken (job_at x key) (job_at y key) (cell_at m key) (cell_at p.0 key) (cell_at q.0 key) (differ x y key apart) (p.2 key) (q.2 key)),
           );
     }
 
-    pub first_broken : Turns tells (λ key. IsPerhapsWorked kind by txid (job_at x key)) a b → Turns tells (λ key. IsPerhapsWorked kind by txid (job_at (x ++ y) key)) a b
+    pub first_broken : Turns tells (λ key. IsPerhapsWorked kind by root (job_at x key)) a b → Turns tells (λ key. IsPerhapsWorked kind by root (job_at (x ++ y) key)) a b
     first_broken first = record {
       to = λ m told.
           let p = first.to m told in (
             p.0,
             p.1,
-            λ key. subst (λ (o : Option (List ℤ)). IsPerhapsWorked kind by txid o (cell_at m key) (cell_at p.0 key)) (sym (job_at-append x y key))
+            λ key. subst (λ (o : Option (List ℤ)). IsPerhapsWorked kind by root o (cell_at m key) (cell_at p.0 key)) (sym (job_at-append x y key))
                 (row_begun (job_at x key) (job_at y key) (cell_at m key) (cell_at p.0 key) (p.2 key)),
           );
     }

@@ -11,7 +11,7 @@ use crate::group::Groups;
 use cell_format::{Cell, cell_for, change, encode_cell};
 use std::alloc::Global;
 use storm_stores::{CellStore, StoreFault};
-use tree_model::storm_values::Bytes;
+use tree_model::storm_values::{Bytes, Root};
 use tree_model::topology_plan::{Fold, Kind};
 
 /// What a commit is of.
@@ -19,7 +19,7 @@ use tree_model::topology_plan::{Fold, Kind};
 pub(crate) struct Batch {
     pub kind: Kind,
     pub by: Fold,
-    pub txid: u64,
+    pub root: Root,
 }
 
 /// Tells that a key has a cell that the part does not take.
@@ -93,9 +93,9 @@ fn commit_key<C: CellStore>(
     amounts: &[i64],
 ) -> Result<(), PartFault>
     ensures ok { OnOk result (Turns C.tells (OnlyAt key.now
-        (Commits batch.kind batch.by batch.txid amounts.now)) store.old store.new) }
+        (Commits batch.kind batch.by batch.root amounts.now)) store.old store.new) }
     ensures err { OnErr result (Turns C.tells (OnlyAt key.now
-        (IsPerhapsDone batch.kind batch.by batch.txid amounts.now)) store.old store.new) }
+        (IsPerhapsDone batch.kind batch.by batch.root amounts.now)) store.old store.new) }
     ensures failed { IsErrOf result PartFault.Store →
         C.fault_count store.new ≡ raised (C.fault_count store.old) }
     ensures quiet { (IsErrOf result PartFault.Store → ⊥) →
@@ -110,7 +110,7 @@ fn commit_key<C: CellStore>(
         Ok(cell) => cell,
         Err(fault) => return Err(fault),
     };
-    match change(batch.kind, batch.by, batch.txid, amounts, cell) {
+    match change(batch.kind, batch.by, batch.root, amounts, cell) {
         None => Ok(()),
         Some(new) => put_cell(store, key, &new),
     }
@@ -124,10 +124,10 @@ fn commit_groups<C: CellStore>(
     groups: &Groups<'_>,
 ) -> Result<(), PartFault>
     ensures ok { OnOk result (AreApart (jobs_in groups.now) → Turns C.tells
-        (λ key. IsWorked batch.kind batch.by batch.txid (job_at (jobs_in groups.now) key))
+        (λ key. IsWorked batch.kind batch.by batch.root (job_at (jobs_in groups.now) key))
         store.old store.new) }
     ensures err { OnErr result (AreApart (jobs_in groups.now) → Turns C.tells
-        (λ key. IsPerhapsWorked batch.kind batch.by batch.txid (job_at (jobs_in groups.now) key))
+        (λ key. IsPerhapsWorked batch.kind batch.by batch.root (job_at (jobs_in groups.now) key))
         store.old store.new) }
     ensures failed { IsErrOf result PartFault.Store →
         C.fault_count store.new ≡ raised (C.fault_count store.old) }
@@ -154,10 +154,10 @@ fn commit_restores<C: CellStore>(
     keys: &[Bytes],
 ) -> Result<(), PartFault>
     ensures ok { OnOk result (AreApart (restores_in keys.now) → Turns C.tells
-        (λ key. IsWorked batch.kind batch.by batch.txid (job_at (restores_in keys.now) key))
+        (λ key. IsWorked batch.kind batch.by batch.root (job_at (restores_in keys.now) key))
         store.old store.new) }
     ensures err { OnErr result (AreApart (restores_in keys.now) → Turns C.tells
-        (λ key. IsPerhapsWorked batch.kind batch.by batch.txid (job_at (restores_in keys.now) key))
+        (λ key. IsPerhapsWorked batch.kind batch.by batch.root (job_at (restores_in keys.now) key))
         store.old store.new) }
     ensures failed { IsErrOf result PartFault.Store →
         C.fault_count store.new ≡ raised (C.fault_count store.old) }
@@ -185,10 +185,10 @@ pub(crate) fn commit_jobs<C: CellStore>(
     keys: &[Bytes],
 ) -> Result<(), PartFault>
     ensures ok { OnOk result (AreApart (jobs_of groups.now keys.now) → Turns C.tells
-        (λ key. IsWorked batch.kind batch.by batch.txid (job_at (jobs_of groups.now keys.now) key))
+        (λ key. IsWorked batch.kind batch.by batch.root (job_at (jobs_of groups.now keys.now) key))
         store.old store.new) }
     ensures err { OnErr result (AreApart (jobs_of groups.now keys.now) → Turns C.tells
-        (λ key. IsPerhapsWorked batch.kind batch.by batch.txid
+        (λ key. IsPerhapsWorked batch.kind batch.by batch.root
         (job_at (jobs_of groups.now keys.now) key)) store.old store.new) }
     ensures failed { IsErrOf result PartFault.Store →
         C.fault_count store.new ≡ raised (C.fault_count store.old) }

@@ -57,7 +57,7 @@ pub(crate) fn known_after(
     work: Work,
 ) -> Option<Known>
     ensures { IfSome result
-        (IsAfter batch.kind batch.txid work.is_newest (jobs_of groups.now work.restores.items)) }
+        (IsAfter batch.kind batch.root.txid work.is_newest (jobs_of groups.now work.restores.items)) }
 {
     let Work {
         restores,
@@ -67,7 +67,7 @@ pub(crate) fn known_after(
         Kind::Transactional => None,
         Kind::Opaque => match keys_of(alloc, groups, restores) {
             Ok(keys) => Some(Known {
-                txid: batch.txid,
+                txid: batch.root.txid,
                 keys,
                 is_newest,
             }),

@@ -19,6 +19,7 @@ use std::alloc::Global;
 use std::marker::Model;
 use storm_stores::CellStore;
 use tree_model::Pairs;
+use tree_model::storm_values::Root;
 use tree_model::topology_plan::{Fold, Kind};
 
 /// A part of a state: its cells lie in a store that may refuse.
@@ -77,11 +78,11 @@ impl<C: CellStore> Part<C> {
     /// back, with a get and a put too; it looks at each key of its store at its first commit, and
     /// once more at each commit of an older transaction than the one before and at the one after
     /// that. After a fault some keys may be done and the others are as before.
-    pub fn commit(&mut self, txid: u64, writes: &GroupedWrites<'_>) -> Result<(), PartFault>
-        ensures ok { OnOk result (Turns C.tells (λ key. IsDone self.old.kind self.old.by txid
+    pub fn commit(&mut self, root: Root, writes: &GroupedWrites<'_>) -> Result<(), PartFault>
+        ensures ok { OnOk result (Turns C.tells (λ key. IsDone self.old.kind self.old.by root
             (amounts_of writes.now key)) self.old.store self.new.store) }
         ensures err { OnErr result
-            (Turns C.tells (λ key. IsPerhapsDone self.old.kind self.old.by txid
+            (Turns C.tells (λ key. IsPerhapsDone self.old.kind self.old.by root
             (amounts_of writes.now key)) self.old.store self.new.store) }
         ensures failed { IsErrOf result PartFault.Store →
             C.fault_count self.new.store ≡ raised (C.fault_count self.old.store) }
@@ -96,7 +97,7 @@ impl<C: CellStore> Part<C> {
         let batch = Batch {
             kind: self.kind,
             by: self.by,
-            txid,
+            root,
         };
         let groups = writes.groups();
         commit_batch(self.alloc, &mut self.store, &mut self.known, batch, groups)
@@ -134,9 +135,9 @@ fn commit_batch<C: CellStore>(
     requires known { IfSome known.old (Knows C.tells store.old) }
     requires apart { AreApart (jobs_in groups.now) }
     ensures known { IfSome known.new (Knows C.tells store.new) }
-    ensures ok { OnOk result (Turns C.tells (λ key. IsDone batch.kind batch.by batch.txid
+    ensures ok { OnOk result (Turns C.tells (λ key. IsDone batch.kind batch.by batch.root
         (amounts_in groups.now key)) store.old store.new) }
-    ensures err { OnErr result (Turns C.tells (λ key. IsPerhapsDone batch.kind batch.by batch.txid
+    ensures err { OnErr result (Turns C.tells (λ key. IsPerhapsDone batch.kind batch.by batch.root
         (amounts_in groups.now key)) store.old store.new) }
     ensures failed { IsErrOf result PartFault.Store →
         C.fault_count store.new ≡ raised (C.fault_count store.old) }

@@ -37,11 +37,11 @@ pub(crate) fn plan<C: CellStore>(
     requires known { IfSome known (Knows C.tells store.old) }
     requires apart { AreApart (jobs_in groups.now) }
     ensures plan { IfOk result (λ work. (cells : CellMap) → C.tells store.old cells →
-        IsPlan batch.kind batch.txid (amounts_in groups.now) cells
+        IsPlan batch.kind batch.root.txid (amounts_in groups.now) cells
         (jobs_of groups.now work.restores.items)) }
     ensures known { IfOk result (λ work. batch.kind ≡ Kind.Opaque →
         (cells : CellMap) → C.tells store.old cells →
-        AreKnown batch.txid work.is_newest (keys_in (jobs_of groups.now work.restores.items))
+        AreKnown batch.root.txid work.is_newest (keys_in (jobs_of groups.now work.restores.items))
         cells) }
     ensures same { (cells : CellMap) → C.tells store.old cells → C.tells store.new cells }
     ensures told_before { (cells : CellMap) → C.tells store.new cells → C.tells store.old cells }
@@ -58,7 +58,7 @@ pub(crate) fn plan<C: CellStore>(
             restores: Vec::new(alloc),
             is_newest: false,
         }),
-        Kind::Opaque => plan_opaque(alloc, store, known, batch.txid, groups),
+        Kind::Opaque => plan_opaque(alloc, store, known, batch.root.txid, groups),
     }
 }
 

@@ -23,7 +23,7 @@ use Rattle.tree_model.specs.Tables.{AreTables, IsTableOf, StateOf, amounts_of, b
 use Rattle.cell_format.specs.Commits.{Holds, amounts_at, value_after}
 use Rattle.cell_format.specs.Standing.{CellStands, IsKeyOf, KeyStands}
 use Rattle.cell_format.specs.declared.cell.Cell.{Cell}
-use Rattle.cell_format.proofs.LayoutLemmas.{read_of-bytes_of}
+use Rattle.cell_format.proofs.LayoutLemmas.{read_of-bytes}
 use Rattle.state_cells.specs.Rows.{value_in}
 use Rattle.state_parts.specs.declared.parts.StatePart.{StatePart}
 use Rattle.state_parts.specs.Commits.{is_for_part, own_writes}
@@ -338,12 +338,14 @@ record IsState (t : Topology) (s : StateOf) : Type 0 where
 
 module _ {S : Type 0} (tells : S → CellMap → Type 0) (t : Topology) (n : ℕ) (done next : List Write) where
   key_value : (kind : Kind) (by : Fold) (v : Option ℤ) (amounts : List ℤ) (held : Option (List ℕ)) → KeyStands kind by n v amounts held → ((cell : Cell) → Holds kind held (Some cell) → cell.txid ≤ n) → value_in held ≡ v
-  key_value kind by v amounts held stands within = cases stands.cell stands.is stands.stands
+  key_value kind by v amounts held stands within = cases held stands.cell stands.is stands.stands within
     where
-      cases : (cell : Option Cell) → Holds kind held cell → CellStands kind by n v amounts cell → value_in held ≡ v
-      cases None is none = ap value_in is.bytes ∙ sym none
-      cases (Some cell) is (inl at) = ap value_in is.bytes ∙ ap (λ (d : Cell). d.value) (read_of-bytes_of cell is.good.is) ∙ at.1
-      cases (Some cell) is (inr later) = absurd (let low = within cell is in let high = later.0 in omega arith)
+      cases : (h : Option (List ℕ)) (cell : Option Cell) → Holds kind h cell → CellStands kind by n v amounts cell → ((c : Cell) → Holds kind h (Some c) → c.txid ≤ n) → value_in h ≡ v
+      cases None None is none low = sym none
+      cases None (Some cell) is stands low = absurd is.bytes
+      cases (Some bytes) None is stands low = absurd is.bytes
+      cases (Some bytes) (Some cell) is (inl at) low = ap (λ (d : Cell). d.value) (read_of-bytes cell bytes is.good.is is.bytes) ∙ at.1
+      cases (Some bytes) (Some cell) is (inr later) low = absurd (let small = low cell is in let high = later.0 in omega arith)
 
   maps_of : (parts : List (StatePart S)) → AllAreAt tells t n done next parts → Maps tells done parts
   maps_of [] are = record { maps = []; told = tt; values = λ c key. refl }

@@ -14,6 +14,7 @@ use std::alloc::Global;
 use std::marker::{Send, Sync};
 use std::thread::{Threads, join_mut};
 use storm_stores::CellStore;
+use tree_model::storm_values::Root;
 
 // How many of the parts are for so many of the threads, each with as many as another.
 fn parts_of(few: usize, threads: usize, parts: usize) -> usize
@@ -28,30 +29,30 @@ fn parts_of(few: usize, threads: usize, parts: usize) -> usize
 #[cycle(halves)]
 fn commit_halves<'w, C: CellStore + Send, R: Threads + Sync>(
     rt: &R,
-    txid: u64,
+    root: Root,
     threads: usize,
     dealt: &[GroupedWrites<'w>],
     parts: &mut [StatePart<C>],
 ) -> Tally
     requires { length dealt.now ≡ length parts.old }
     ensures { (writes : List Write) → AreDealt writes parts.old dealt.now →
-        AreTried C.tells C.fault_count txid writes parts.old parts.new result }
+        AreTried C.tells C.fault_count root writes parts.old parts.new result }
 {
     if threads < 2 || parts.len() < 2 {
-        return commit_run(parts, txid, dealt);
+        return commit_run(parts, root, dealt);
     }
     let few = threads / 2;
     let cut = parts_of(few, threads, parts.len());
     let (first, rest) = dealt.split_at(cut);
     let (front, back) = parts.split_at_mut(cut);
-    both_halves(rt, txid, few, first, front, threads - few, rest, back)
+    both_halves(rt, root, few, first, front, threads - few, rest, back)
 }
 
 /// Tries the parts in front on a thread of their own, and those behind on this one.
 #[cycle(halves)]
 fn both_halves<'w, C: CellStore + Send, R: Threads + Sync>(
     rt: &R,
-    txid: u64,
+    root: Root,
     few: usize,
     first: &[GroupedWrites<'w>],
     front: &mut [StatePart<C>],
@@ -64,15 +65,15 @@ fn both_halves<'w, C: CellStore + Send, R: Threads + Sync>(
     requires front { length first.now ≡ length front.old }
     requires back { length rest.now ≡ length back.old }
     ensures { (writes : List Write) → AreDealt writes front.old first.now →
-        AreDealt writes back.old rest.now → AreTried C.tells C.fault_count txid writes
+        AreDealt writes back.old rest.now → AreTried C.tells C.fault_count root writes
         (front.old ++ back.old) (front.new ++ back.new) result }
 {
-    let same = txid;
+    let same = root;
     let mut ahead = || -> Tally
         requires { IsSync R.row × IsSend C.row × (length first.now ≡ length front.now) }
         ensures { (writes : List Write) → AreDealt writes front.entry.now first.entry.now →
-            AreTried C.tells C.fault_count txid writes front.entry.now front.exit.now result }
-    { commit_halves(rt, txid, few, first, front) };
+            AreTried C.tells C.fault_count root writes front.entry.now front.exit.now result }
+    { commit_halves(rt, root, few, first, front) };
     let mut behind = || -> Tally
         requires { IsSync R.row × IsSend C.row × (length rest.now ≡ length back.now) }
         ensures { (writes : List Write) → AreDealt writes back.entry.now rest.entry.now →
@@ -92,12 +93,12 @@ pub(crate) fn commit_parts_beside<C: CellStore + Send, R: Threads + Sync>(
     commit: Commit,
 ) -> Result<CommitOutcome, CommitFault>
     requires { AreIndexed firsts.now 0 (plans_of parts.old.items) }
-    ensures { IsCommit C.tells C.fault_count commit.root.txid commit.writes
+    ensures { IsCommit C.tells C.fault_count commit.root commit.writes
         parts.old.items parts.new.items result }
 {
     let dealt = match split(alloc, firsts, parts, &commit.writes) {
         Ok(dealt) => dealt,
         Err(_) => return Err(CommitFault::Memory),
     };
-    commit_halves(rt, commit.root.txid, threads, &dealt, parts).answer()
+    commit_halves(rt, commit.root, threads, &dealt, parts).answer()
 }

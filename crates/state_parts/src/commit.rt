@@ -11,19 +11,20 @@ use crate::split::split;
 use state_cells::GroupedWrites;
 use std::alloc::Global;
 use storm_stores::CellStore;
+use tree_model::storm_values::Root;
 
 /// Commits a part with its writes of a batch, and notes what it answers.
 fn commit_part<C: CellStore>(
     at: &mut StatePart<C>,
-    txid: u64,
+    root: Root,
     writes: &GroupedWrites<'_>,
     tally: &mut Tally,
 )
     ensures { (own : List Write) → IsGrouped own writes.now →
-        Tries C.tells C.fault_count txid own at.old at.new tally.old tally.new }
+        Tries C.tells C.fault_count root own at.old at.new tally.old tally.new }
 {
     let before = at.over.faults();
-    let answer = at.over.commit(txid, writes);
+    let answer = at.over.commit(root, writes);
     let after = at.over.faults();
     tally.note(
         answer,
@@ -39,16 +40,16 @@ fn commit_part<C: CellStore>(
 /// Tries these parts, one after another, each with its writes.
 pub(crate) fn commit_run<C: CellStore>(
     parts: &mut [StatePart<C>],
-    txid: u64,
+    root: Root,
     dealt: &[GroupedWrites<'_>],
 ) -> Tally
     requires { length dealt.now ≡ length parts.old }
     ensures { (writes : List Write) → AreDealt writes parts.old dealt.now →
-        AreTried C.tells C.fault_count txid writes parts.old parts.new result }
+        AreTried C.tells C.fault_count root writes parts.old parts.new result }
 {
     let mut tally = Tally::new();
     for i in 0..parts.len() {
-        commit_part(&mut parts[i], txid, &dealt[i], &mut tally);
+        commit_part(&mut parts[i], root, &dealt[i], &mut tally);
     }
     tally
 }
@@ -56,14 +57,14 @@ pub(crate) fn commit_run<C: CellStore>(
 /// Tries every part, one after another, each with its writes.
 fn commit_each<C: CellStore>(
     parts: &mut Vec<StatePart<C>>,
-    txid: u64,
+    root: Root,
     dealt: &[GroupedWrites<'_>],
 ) -> Tally
     requires { length dealt.now ≡ length parts.old.items }
     ensures { (writes : List Write) → AreDealt writes parts.old.items dealt.now →
-        AreTried C.tells C.fault_count txid writes parts.old.items parts.new.items result }
+        AreTried C.tells C.fault_count root writes parts.old.items parts.new.items result }
 {
-    commit_run(parts, txid, dealt)
+    commit_run(parts, root, dealt)
 }
 
 /// Commits a batch to all parts, each with its writes.
@@ -76,11 +77,11 @@ pub(crate) fn commit_parts<C: CellStore>(
     requires { AreIndexed firsts.now 0 (plans_of parts.old.items) }
     ensures plans { plans_of parts.new.items ≡ plans_of parts.old.items }
     ensures comes { (result ≡ Err CommitFault.Memory → ⊥) →
-        Comes C.tells C.fault_count commit.root.txid commit.writes
+        Comes C.tells C.fault_count commit.root commit.writes
         parts.old.items parts.new.items result }
     ensures done { result ≡ Ok CommitOutcome.Done →
-        AreCommitted C.tells commit.root.txid commit.writes parts.old.items parts.new.items }
-    ensures kept { ArePerhapsCommitted C.tells commit.root.txid commit.writes
+        AreCommitted C.tells commit.root commit.writes parts.old.items parts.new.items }
+    ensures kept { ArePerhapsCommitted C.tells commit.root commit.writes
         parts.old.items parts.new.items }
     ensures failed { (component part before after : ℕ) →
         result ≡ Ok (CommitOutcome.Failed component part before after) →
@@ -96,5 +97,5 @@ pub(crate) fn commit_parts<C: CellStore>(
         Ok(dealt) => dealt,
         Err(_) => return Err(CommitFault::Memory),
     };
-    commit_each(parts, commit.root.txid, &dealt).answer()
+    commit_each(parts, commit.root, &dealt).answer()
 }

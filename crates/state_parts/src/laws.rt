@@ -1,6 +1,7 @@
 ghost use Rattle.std.specs.Prelude.{◌≡◌, ◌+◌, ◌++◌, ℕ, List, [], All};
 ghost use Rattle.std.specs.List.{AllZip};
 ghost use Rattle.tree_model.specs.bolt_ops.RowOp.{Custom};
+ghost use Rattle.tree_model.specs.storm_values.declared.value.Root.{Root};
 ghost use Rattle.tree_model.specs.storm_values.declared.value.Value.{Value};
 ghost use Rattle.tree_model.specs.topology_plan.Topology.{Topology};
 ghost use Rattle.tree_model.specs.topology_plan.Wired.{IsWired};
@@ -26,15 +27,15 @@ pub fn parts_over_empty_stores_begin<C: CellStore>()
 /// n + 1, and no cell has a larger transaction then; and one that was broken off, in whatever part,
 /// leaves each part at n.
 pub fn commits_move_all_parts_on<C: CellStore>()
-    ensures moved { (t : Topology) (n : ℕ) (done next more : List Write)
+    ensures moved { (t : Topology) (n : ℕ) (root : Root) (done next more : List Write)
         (old new : List (StatePart C))
-        → AllStand C.tells t n done next old → ArePlaced t next
-        → AreCommitted C.tells (n + 1) next old new
+        → root.txid ≡ n + 1 → AllStand C.tells t n done next old → ArePlaced t next
+        → AreCommitted C.tells root next old new
         → AllAreAt C.tells t (n + 1) (done ++ next) more new }
-    ensures begun { (t : Topology) (n : ℕ) (done next : List Write)
+    ensures begun { (t : Topology) (n : ℕ) (root : Root) (done next : List Write)
         (old new : List (StatePart C))
-        → AllStand C.tells t n done next old → ArePlaced t next
-        → ArePerhapsCommitted C.tells (n + 1) next old new
+        → root.txid ≡ n + 1 → AllStand C.tells t n done next old → ArePlaced t next
+        → ArePerhapsCommitted C.tells root next old new
         → AllStand C.tells t n done next new }
     ensures stand { (t : Topology) (n : ℕ) (done next : List Write) (parts : List (StatePart C))
         → AllAreAt C.tells t n done next parts → AllStand C.tells t n done next parts }

@@ -99,10 +99,10 @@ impl<C: CellStore> Parts<C> {
     pub fn commit_all(&mut self, commit: Commit) -> Result<CommitOutcome, CommitFault>
         ensures plans { plans_of self.new ≡ plans_of self.old }
         ensures comes { (result ≡ Err CommitFault.Memory → ⊥) →
-            Comes C.tells C.fault_count commit.root.txid commit.writes self.old self.new result }
+            Comes C.tells C.fault_count commit.root commit.writes self.old self.new result }
         ensures done { result ≡ Ok CommitOutcome.Done →
-            AreCommitted C.tells commit.root.txid commit.writes self.old self.new }
-        ensures kept { ArePerhapsCommitted C.tells commit.root.txid commit.writes
+            AreCommitted C.tells commit.root commit.writes self.old self.new }
+        ensures kept { ArePerhapsCommitted C.tells commit.root commit.writes
             self.old self.new }
         ensures failed { (component part before after : ℕ) →
             result ≡ Ok (CommitOutcome.Failed component part before after) →
@@ -166,10 +166,10 @@ impl<C: CellStore + Send> Parts<C> {
     ) -> Result<CommitOutcome, CommitFault>
         ensures plans { plans_of self.new ≡ plans_of self.old }
         ensures comes { (result ≡ Err CommitFault.Memory → ⊥) →
-            Comes C.tells C.fault_count commit.root.txid commit.writes self.old self.new result }
+            Comes C.tells C.fault_count commit.root commit.writes self.old self.new result }
         ensures done { result ≡ Ok CommitOutcome.Done →
-            AreCommitted C.tells commit.root.txid commit.writes self.old self.new }
-        ensures kept { ArePerhapsCommitted C.tells commit.root.txid commit.writes
+            AreCommitted C.tells commit.root commit.writes self.old self.new }
+        ensures kept { ArePerhapsCommitted C.tells commit.root commit.writes
             self.old self.new }
         ensures failed { (component part before after : ℕ) →
             result ≡ Ok (CommitOutcome.Failed component part before after) →

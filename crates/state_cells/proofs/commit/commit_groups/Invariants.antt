@@ -8,7 +8,7 @@ use Rattle.state_cells.proofs.commit.commit_groups.Given as goal
 abbrev pub invariant-loop-key : goal.invariant-loop-key
 invariant-loop-key g l = record {
   parts : map deref_pair l.yielded ++ l.key-iterator ≡ l.groups.entries;
-  worked : AreApart (jobs_in l.groups) → Turns g.C.CellStore.tells (λ key. IsWorked l.batch.kind l.batch.by l.batch.txid (job_at (map job_of (map deref_pair l.yielded)) key)) l.initial.store l.store;
+  worked : AreApart (jobs_in l.groups) → Turns g.C.CellStore.tells (λ key. IsWorked l.batch.kind l.batch.by l.batch.root (job_at (map job_of (map deref_pair l.yielded)) key)) l.initial.store l.store;
   told_before : (cells : CellMap) → g.C.CellStore.tells l.store cells → (before : CellMap) × g.C.CellStore.tells l.initial.store before;
   quiet : g.C.CellStore.fault_count l.store ≡ g.C.CellStore.fault_count l.initial.store;
 }

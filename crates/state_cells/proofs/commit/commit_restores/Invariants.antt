@@ -6,7 +6,7 @@ use Rattle.state_cells.proofs.commit.commit_restores.Given as goal
 
 abbrev pub invariant-loop-key : goal.invariant-loop-key
 invariant-loop-key g l = record {
-  worked : AreApart (restores_in l.keys) → Turns g.C.CellStore.tells (λ key. IsWorked l.batch.kind l.batch.by l.batch.txid (job_at (take l.key-index (restores_in l.keys)) key)) l.initial.store l.store;
+  worked : AreApart (restores_in l.keys) → Turns g.C.CellStore.tells (λ key. IsWorked l.batch.kind l.batch.by l.batch.root (job_at (take l.key-index (restores_in l.keys)) key)) l.initial.store l.store;
   told_before : (cells : CellMap) → g.C.CellStore.tells l.store cells → (before : CellMap) × g.C.CellStore.tells l.initial.store before;
   quiet : g.C.CellStore.fault_count l.store ≡ g.C.CellStore.fault_count l.initial.store;
 }
