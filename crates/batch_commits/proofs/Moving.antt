@@ -3,6 +3,7 @@ use Rattle.std.proofs.Common.{◌≡◌, ◌<◌, ℕ, ◌+◌, zero, suc, List,
 use Rattle.std.proofs.lemmas.List.{append-nil}
 use Rattle.std.specs.List.{flat_map, range_with_len, AllZip}
 use Rattle.batch_commits.specs.Standing.{PartsStand, batches_in, writes_at, writes_to}
+use Rattle.tuple_account.specs.storm_values.declared.value.Root.{Root}
 use Rattle.tuple_account.specs.bolt_ops.RowOp.{Custom}
 use Rattle.commit_turns.specs.Account.{rows_in}
 use Rattle.state_parts.specs.Commits.{AreCommitted, ArePerhapsCommitted}
@@ -36,10 +37,10 @@ none_written t custom = refl
 -- the laws of the parts, as these lemmas take them
 pub record Laws {S : Type 0} (tells : S → CellMap → Type 0) : Type 0 where
   pub begin : (t : Topology) (next : List Write) (parts : List (StatePart S)) → All (IsEmpty tells) parts → AllAreAt tells t 0 [] next parts
-  pub moved : (t : Topology) (n : ℕ) (done next more : List Write) (old new : List (StatePart S)) → AllStand tells t n done next old → ArePlaced t next
-      → AreCommitted tells (n + 1) next old new → AllAreAt tells t (n + 1) (done ++ next) more new
-  pub begun : (t : Topology) (n : ℕ) (done next : List Write) (old new : List (StatePart S)) → AllStand tells t n done next old → ArePlaced t next
-      → ArePerhapsCommitted tells (n + 1) next old new → AllStand tells t n done next new
+  pub moved : (t : Topology) (n : ℕ) (root : Root) (done next more : List Write) (old new : List (StatePart S)) → root.txid ≡ n + 1 → AllStand tells t n done next old → ArePlaced t next
+      → AreCommitted tells root next old new → AllAreAt tells t (n + 1) (done ++ next) more new
+  pub begun : (t : Topology) (n : ℕ) (root : Root) (done next : List Write) (old new : List (StatePart S)) → root.txid ≡ n + 1 → AllStand tells t n done next old → ArePlaced t next
+      → ArePerhapsCommitted tells root next old new → AllStand tells t n done next new
   pub stand : (t : Topology) (n : ℕ) (done next : List Write) (parts : List (StatePart S)) → AllAreAt tells t n done next parts → AllStand tells t n done next parts
   pub placed : (t : Topology) (custom : Custom) (rows : List (List Value)) → ArePlaced t (writes t custom rows)
   pub joined : (t : Topology) (custom : Custom) (xs ys : List (List Value)) → writes t custom (xs ++ ys) ≡ writes t custom xs ++ writes t custom ys
@@ -56,17 +57,17 @@ module _ (t : Topology) (custom : Custom) (cut : Cut) {S : Type 0} (tells : S �
       subst (λ (ws : List Write). AllAreAt tells t 0 ws (writes_at t custom cut 1) parts) (sym (none_written t custom)) (laws.begin t (writes_at t custom cut 1) parts empty) in
       record { stand = laws.stand t 0 (writes_to t custom cut 0) (writes_at t custom cut 1) parts at; at_end = λ _. at }
 
-  pub stand_done : (laws : Laws tells) (n : ℕ) (old new : List (StatePart S)) → PartsStand tells t custom cut n old → AreCommitted tells (n + 1) (writes_at t custom cut (n + 1)) old new → PartsStand tells t custom cut (n + 1) new
-  stand_done laws n old new stands done =
+  pub stand_done : (laws : Laws tells) (n : ℕ) (root : Root) (old new : List (StatePart S)) → root.txid ≡ n + 1 → PartsStand tells t custom cut n old → AreCommitted tells root (writes_at t custom cut (n + 1)) old new → PartsStand tells t custom cut (n + 1) new
+  stand_done laws n root old new next_is stands done =
       let next = writes_at t custom cut (n + 1) in
       let more = writes_at t custom cut (n + 1 + 1) in
-      let moved = laws.moved t n (writes_to t custom cut n) next more old new stands.stand (laws.placed t custom (rows_in cut (n + 1))) done in
+      let moved = laws.moved t n root (writes_to t custom cut n) next more old new next_is stands.stand (laws.placed t custom (rows_in cut (n + 1))) done in
       let at : AllAreAt tells t (n + 1) (writes_to t custom cut (n + 1)) more new = subst (λ (ws : List Write). AllAreAt tells t (n + 1) ws more new) (sym (writes_to-more laws n)) moved in
       record { stand = laws.stand t (n + 1) (writes_to t custom cut (n + 1)) more new at; at_end = λ _. at }
 
-  pub stand_broken : (laws : Laws tells) (n : ℕ) (old new : List (StatePart S)) → PartsStand tells t custom cut n old → n < batches_in cut → ArePerhapsCommitted tells (n + 1) (writes_at t custom cut (n + 1)) old new → PartsStand tells t custom cut n new
-  stand_broken laws n old new stands below broken = record {
-    stand = laws.begun t n (writes_to t custom cut n) (writes_at t custom cut (n + 1)) old new stands.stand (laws.placed t custom (rows_in cut (n + 1))) broken;
+  pub stand_broken : (laws : Laws tells) (n : ℕ) (root : Root) (old new : List (StatePart S)) → root.txid ≡ n + 1 → PartsStand tells t custom cut n old → n < batches_in cut → ArePerhapsCommitted tells root (writes_at t custom cut (n + 1)) old new → PartsStand tells t custom cut n new
+  stand_broken laws n root old new next_is stands below broken = record {
+    stand = laws.begun t n root (writes_to t custom cut n) (writes_at t custom cut (n + 1)) old new next_is stands.stand (laws.placed t custom (rows_in cut (n + 1))) broken;
     at_end = λ end. absurd (omega arith);
   }
 

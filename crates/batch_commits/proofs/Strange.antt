@@ -7,7 +7,6 @@ use Rattle.std.specs.Str.{IsUtf8, bytes_eq}
 use Rattle.batch_commits.specs.Standing.{HasStrangeAt, HasTextKey, IsStrange}
 use Rattle.cell_format.specs.Commits.{Commits, Holds, IsPerhapsDone, after, amounts_at}
 use Rattle.cell_format.specs.declared.cell.Cell.{Cell}
-use Rattle.cell_format.specs.Layout.{bytes_of}
 use Rattle.state_cells.specs.Rows.{IsBadRow}
 use Rattle.state_cells.specs.Turns.{IsBad}
 use Rattle.state_parts.specs.Commits.{ArePerhapsCommitted, IsBadAt, PerhapsCommitted, is_for_part, own_writes}
@@ -15,6 +14,7 @@ use Rattle.state_parts.specs.declared.parts.StatePart.{StatePart}
 use Rattle.state_parts.specs.PartPlans.{PartPlan}
 use Rattle.state_parts.specs.PartTables.{IsBadRowAt}
 use Rattle.storm_stores.specs.CellMaps.{CellMap, cell_at}
+use Rattle.tuple_account.specs.storm_values.declared.value.Root.{Root}
 use Rattle.tuple_account.specs.topology_plan.declared.parts.Fold.{Fold}
 use Rattle.tuple_account.specs.topology_plan.declared.parts.Kind.{Kind}
 use Rattle.tuple_account.specs.tree_model.declared.write.Write.{Write}
@@ -36,72 +36,72 @@ none_at c p (w ∷ ws) texts key strange = own (none_at c p ws (All-tail HasText
 -- bytes that are some cell's are not refused
 not_bad : (kind : Kind) (held : Option (List ℕ)) (cell : Option Cell) → Holds kind held cell → IsBad kind held → ⊥
 not_bad kind None cell holds bad = bad
-not_bad kind (Some bytes) None holds bad = absurd (let e = holds.bytes in cc)
-not_bad kind (Some bytes) (Some cell) holds bad = bad cell holds.good (let e : Some bytes ≡ Some (bytes_of cell) = holds.bytes in cc)
+not_bad kind (Some bytes) None holds bad = holds.bytes
+not_bad kind (Some bytes) (Some cell) holds bad = bad cell holds.good holds.bytes
 
 -- a key with a cell has bytes
 has_some : (kind : Kind) (held : Option (List ℕ)) (cell : Cell) → Holds kind held (Some cell) → IsSome held
-has_some kind None cell holds = absurd (let e : None ≡ Some (bytes_of cell) = holds.bytes in cc)
+has_some kind None cell holds = absurd holds.bytes
 has_some kind (Some bytes) cell holds = search rules
 
 -- a key without a cell has none
 has_none : (kind : Kind) (held : Option (List ℕ)) → Holds kind held None → IsSome held → ⊥
 has_none kind None holds some = search rules
-has_none kind (Some bytes) holds some = absurd (let e : Some bytes ≡ None = holds.bytes in cc)
+has_none kind (Some bytes) holds some = holds.bytes
 
 -- where nothing is written, only a key that had a cell has one
-had_some : (kind : Kind) (by : Fold) (txid : ℕ) (old new : Option (List ℕ)) → Commits kind by txid [] old new → IsSome new → IsSome old
-had_some kind by txid old new done some = cases done.cell done.was done.is
+had_some : (kind : Kind) (by : Fold) (root : Root) (old new : Option (List ℕ)) → Commits kind by root [] old new → IsSome new → IsSome old
+had_some kind by root old new done some = cases done.cell done.was done.is
   where
-    cases : (cell : Option Cell) → Holds kind old cell → Holds kind new (after kind by txid [] cell) → IsSome old
+    cases : (cell : Option Cell) → Holds kind old cell → Holds kind new (after kind by root [] cell) → IsSome old
     cases None was is = absurd (has_none kind new is some)
     cases (Some cell) was is = has_some kind old cell was
 
 -- a commit makes no strange cell
-commit_strange : (kind : Kind) (by : Fold) (txid : ℕ) (amounts : List ℤ) (key : List ℕ) (old new : Option (List ℕ)) → ((IsUtf8 key → ⊥) → amounts ≡ []) → IsPerhapsDone kind by txid amounts old new → IsStrange kind key new → IsStrange kind key old
-commit_strange kind by txid amounts key old new none (inl same) strange = subst (IsStrange kind key) same strange
-commit_strange kind by txid amounts key old new none (inr done) (inl bad) = absurd (not_bad kind new _ done.is bad)
-commit_strange kind by txid amounts key old new none (inr done) (inr strange) =
-    inr (had_some kind by txid old new (subst (λ (xs : List ℤ). Commits kind by txid xs old new) (none strange.1) done) strange.0, strange.1)
+commit_strange : (kind : Kind) (by : Fold) (root : Root) (amounts : List ℤ) (key : List ℕ) (old new : Option (List ℕ)) → ((IsUtf8 key → ⊥) → amounts ≡ []) → IsPerhapsDone kind by root amounts old new → IsStrange kind key new → IsStrange kind key old
+commit_strange kind by root amounts key old new none (inl same) strange = subst (IsStrange kind key) same strange
+commit_strange kind by root amounts key old new none (inr done) (inl bad) = absurd (not_bad kind new _ done.is bad)
+commit_strange kind by root amounts key old new none (inr done) (inr strange) =
+    inr (had_some kind by root old new (subst (λ (xs : List ℤ). Commits kind by root xs old new) (none strange.1) done) strange.0, strange.1)
 
 -- nor a bad one
-commit_bad : (kind : Kind) (by : Fold) (txid : ℕ) (amounts : List ℤ) (old new : Option (List ℕ)) → IsPerhapsDone kind by txid amounts old new → IsBad kind new → IsBad kind old
-commit_bad kind by txid amounts old new (inl same) bad = subst (IsBad kind) same bad
-commit_bad kind by txid amounts old new (inr done) bad = absurd (not_bad kind new _ done.is bad)
+commit_bad : (kind : Kind) (by : Fold) (root : Root) (amounts : List ℤ) (old new : Option (List ℕ)) → IsPerhapsDone kind by root amounts old new → IsBad kind new → IsBad kind old
+commit_bad kind by root amounts old new (inl same) bad = subst (IsBad kind) same bad
+commit_bad kind by root amounts old new (inr done) bad = absurd (not_bad kind new _ done.is bad)
 
 module _ {S : Type 0} (tells : S → CellMap → Type 0) where
   -- what a part's cells have at a key
   abbrev HasAt : (Kind → List ℕ → Option (List ℕ) → Type 0) → StatePart S → List ℕ → Type 0
   HasAt What at key = (cells : CellMap) → tells at.over.store cells → What at.over.kind key (cell_at cells key)
 
-  part_before : (What : Kind → List ℕ → Option (List ℕ) → Type 0) (txid : ℕ) (made : List Write) (old new : StatePart S) (key : List ℕ)
-      → ((was is : Option (List ℕ)) → IsPerhapsDone old.over.kind old.over.by txid (amounts_at (own_writes made old) key) was is → What old.over.kind key is → What old.over.kind key was)
-      → PerhapsCommitted tells txid (own_writes made old) old new → HasAt What new key → HasAt What old key
-  part_before What txid made old new key back done found = λ cells told.
+  part_before : (What : Kind → List ℕ → Option (List ℕ) → Type 0) (root : Root) (made : List Write) (old new : StatePart S) (key : List ℕ)
+      → ((was is : Option (List ℕ)) → IsPerhapsDone old.over.kind old.over.by root (amounts_at (own_writes made old) key) was is → What old.over.kind key is → What old.over.kind key was)
+      → PerhapsCommitted tells root (own_writes made old) old new → HasAt What new key → HasAt What old key
+  part_before What root made old new key back done found = λ cells told.
       let went = done.turns.to cells told in
       let kind : new.over.kind ≡ old.over.kind = ap (λ (p : PartPlan). p.kind) done.plan in
       back (cell_at cells key) (cell_at went.0 key) (went.2 key) (subst (λ (k : Kind). What k key (cell_at went.0 key)) kind (found went.0 went.1))
 
-  found_before : (What : Kind → List ℕ → Option (List ℕ) → Type 0) (txid : ℕ) (made : List Write) (key : List ℕ)
-      → ((x : StatePart S) (was is : Option (List ℕ)) → IsPerhapsDone x.over.kind x.over.by txid (amounts_at (own_writes made x) key) was is → What x.over.kind key is → What x.over.kind key was)
-      → (place : ℕ) (old new : List (StatePart S)) → ArePerhapsCommitted tells txid made old new → (at : StatePart S) → slice_get new place ≡ Some at → HasAt What at key
+  found_before : (What : Kind → List ℕ → Option (List ℕ) → Type 0) (root : Root) (made : List Write) (key : List ℕ)
+      → ((x : StatePart S) (was is : Option (List ℕ)) → IsPerhapsDone x.over.kind x.over.by root (amounts_at (own_writes made x) key) was is → What x.over.kind key is → What x.over.kind key was)
+      → (place : ℕ) (old new : List (StatePart S)) → ArePerhapsCommitted tells root made old new → (at : StatePart S) → slice_get new place ≡ Some at → HasAt What at key
       → (was : StatePart S) × (slice_get old place ≡ Some was) × HasAt What was key
-  found_before What txid made key back place old [] done at is found = absurd (let e : None ≡ Some at = is in cc)
-  found_before What txid made key back place [] (y ∷ ys) done at is found = absurd done
-  found_before What txid made key back zero (x ∷ xs) (y ∷ ys) done at is found =
-      let same : at ≡ y = (let e : Some y ≡ Some at = is in cc) in (x, refl, part_before What txid made x y key (back x) done.0 (subst (λ (z : StatePart S). HasAt What z key) same found))
-  found_before What txid made key back (suc place) (x ∷ xs) (y ∷ ys) done at is found = found_before What txid made key back place xs ys done.1 at is found
+  found_before What root made key back place old [] done at is found = absurd (let e : None ≡ Some at = is in cc)
+  found_before What root made key back place [] (y ∷ ys) done at is found = absurd done
+  found_before What root made key back zero (x ∷ xs) (y ∷ ys) done at is found =
+      let same : at ≡ y = (let e : Some y ≡ Some at = is in cc) in (x, refl, part_before What root made x y key (back x) done.0 (subst (λ (z : StatePart S). HasAt What z key) same found))
+  found_before What root made key back (suc place) (x ∷ xs) (y ∷ ys) done at is found = found_before What root made key back place xs ys done.1 at is found
 
-  pub strange_before : (txid : ℕ) (made : List Write) (old new : List (StatePart S)) (key : List ℕ) → All HasTextKey made → ArePerhapsCommitted tells txid made old new → HasStrangeAt tells new key → HasStrangeAt tells old key
-  strange_before txid made old new key texts done strange =
+  pub strange_before : (root : Root) (made : List Write) (old new : List (StatePart S)) (key : List ℕ) → All HasTextKey made → ArePerhapsCommitted tells root made old new → HasStrangeAt tells new key → HasStrangeAt tells old key
+  strange_before root made old new key texts done strange =
       let found =
-      found_before IsStrange txid made key (λ x was is done bad. commit_strange x.over.kind x.over.by txid (amounts_at (own_writes made x) key) key was is (λ odd. none_at x.component x.part made texts key odd) done bad) strange.place old new done strange.at strange.is_at
+      found_before IsStrange root made key (λ x was is done bad. commit_strange x.over.kind x.over.by root (amounts_at (own_writes made x) key) key was is (λ odd. none_at x.component x.part made texts key odd) done bad) strange.place old new done strange.at strange.is_at
       strange.strange in
       record { place = strange.place; at = found.0; is_at = found.1; strange = found.2 }
 
-  pub bad_before : (txid : ℕ) (made : List Write) (old new : List (StatePart S)) (key : List ℕ) → ArePerhapsCommitted tells txid made old new → IsBadAt tells new key → IsBadAt tells old key
-  bad_before txid made old new key done bad =
-      let found = found_before (λ kind k held. IsBad kind held) txid made key (λ x was is done bad. commit_bad x.over.kind x.over.by txid (amounts_at (own_writes made x) key) was is done bad) bad.place old new done bad.was bad.was_at bad.bad in
+  pub bad_before : (root : Root) (made : List Write) (old new : List (StatePart S)) (key : List ℕ) → ArePerhapsCommitted tells root made old new → IsBadAt tells new key → IsBadAt tells old key
+  bad_before root made old new key done bad =
+      let found = found_before (λ kind k held. IsBad kind held) root made key (λ x was is done bad. commit_bad x.over.kind x.over.by root (amounts_at (own_writes made x) key) was is done bad) bad.place old new done bad.was bad.was_at bad.bad in
       record { place = bad.place; was = found.0; was_at = found.1; bad = found.2 }
 
   pub strange_cell : (parts : List (StatePart S)) (key : List ℕ) → IsBadAt tells parts key → HasStrangeAt tells parts key

@@ -4,6 +4,7 @@ ghost use Rattle.tuple_account.specs.acker_core.declared.verdict.Verdict.{Verdic
 ghost use Rattle.attempt_fates.specs.declared.fates.Attempt.{Attempt};
 ghost use Rattle.batch_commits.specs.Standing.{AllButLastAreCounted, FailsAtOneOf, FailuresAreCounted, HasStrangeAt, HasTextKey, PartsStand, RoseByFailures, TellsFailedPart, batches_in, failed_commits, writes_at};
 ghost use Rattle.tuple_account.specs.bolt_ops.RowOp.{Custom};
+ghost use Rattle.tuple_account.specs.storm_values.declared.value.Root.{Root};
 ghost use Rattle.commit_turns.specs.Desks.{Desk};
 ghost use Rattle.commit_turns.specs.Outcomes.{IsOutcome};
 ghost use Rattle.commit_turns.specs.declared.wait.Wait.{Wait};
@@ -38,15 +39,15 @@ use tuple_account::tree_model::writes_of_joined_rows;
 pub fn commits_of_batches_move_parts<C: CellStore>()
     ensures first { (t : Topology) (custom : Custom) (cut : Cut) (parts : List (StatePart C))
         → 0 < cut.size → All (IsEmpty C.tells) parts → PartsStand C.tells t custom cut 0 parts }
-    ensures done { (t : Topology) (custom : Custom) (cut : Cut) (n : ℕ)
+    ensures done { (t : Topology) (custom : Custom) (cut : Cut) (n : ℕ) (root : Root)
         (old new : List (StatePart C))
-        → PartsStand C.tells t custom cut n old
-        → AreCommitted C.tells (n + 1) (writes_at t custom cut (n + 1)) old new
+        → root.txid ≡ n + 1 → PartsStand C.tells t custom cut n old
+        → AreCommitted C.tells root (writes_at t custom cut (n + 1)) old new
         → PartsStand C.tells t custom cut (n + 1) new }
-    ensures broken_off { (t : Topology) (custom : Custom) (cut : Cut) (n : ℕ)
+    ensures broken_off { (t : Topology) (custom : Custom) (cut : Cut) (n : ℕ) (root : Root)
         (old new : List (StatePart C))
-        → PartsStand C.tells t custom cut n old → n < batches_in cut
-        → ArePerhapsCommitted C.tells (n + 1) (writes_at t custom cut (n + 1)) old new
+        → root.txid ≡ n + 1 → PartsStand C.tells t custom cut n old → n < batches_in cut
+        → ArePerhapsCommitted C.tells root (writes_at t custom cut (n + 1)) old new
         → PartsStand C.tells t custom cut n new }
 {
     parts_over_empty_stores_begin::<C>();
@@ -74,12 +75,12 @@ pub fn parts_that_stand_have_the_tables<C: CellStore>()
 /// a commit of writes whose keys are texts; and a fault that tells of a bad cell tells of such a
 /// one.
 pub fn strange_cells_were_there<C: CellStore>()
-    ensures commit { (txid : ℕ) (made : List Write) (old new : List (StatePart C)) (key : List ℕ)
-        → All HasTextKey made → ArePerhapsCommitted C.tells txid made old new
+    ensures commit { (root : Root) (made : List Write) (old new : List (StatePart C)) (key : List ℕ)
+        → All HasTextKey made → ArePerhapsCommitted C.tells root made old new
         → HasStrangeAt C.tells new key → HasStrangeAt C.tells old key }
-    ensures bad_before { (txid : ℕ) (made : List Write) (old new : List (StatePart C))
+    ensures bad_before { (root : Root) (made : List Write) (old new : List (StatePart C))
         (key : List ℕ)
-        → ArePerhapsCommitted C.tells txid made old new
+        → ArePerhapsCommitted C.tells root made old new
         → IsBadAt C.tells new key → IsBadAt C.tells old key }
     ensures bad_cell { (parts : List (StatePart C)) (key : List ℕ)
         → IsBadAt C.tells parts key → HasStrangeAt C.tells parts key }

@@ -2,6 +2,7 @@
 use Rattle.std.proofs.Common.{◌≡◌, ℕ, List, [], ◌∷◌, refl, sym, subst, ◌∙◌}
 use Rattle.std.specs.List.{AllZip}
 use Rattle.schedule_core.specs.Driving.{AreKept, StillTells}
+use Rattle.event_worlds.specs.storm_values.declared.value.Root.{Root}
 use Rattle.event_worlds.specs.state_parts.Commits.{ArePerhapsCommitted}
 use Rattle.event_worlds.specs.state_parts.declared.parts.StatePart.{StatePart}
 use Rattle.event_worlds.specs.state_parts.PartPlans.{plans_of}
@@ -24,14 +25,14 @@ module _ {S : Type 0} (tells : S → CellMap → Type 0) where
     told-then xs ys zs first.1 second.1,
   )
 
-  told-committed : (txid : ℕ) (made : List Write) (a b : List (StatePart S))
-      → ArePerhapsCommitted tells txid made a b → AllZip (StillTells tells) a b
-  told-committed txid made [] [] kept = tt
-  told-committed txid made [] (y ∷ ys) kept = absurd kept
-  told-committed txid made (x ∷ xs) [] kept = absurd kept
-  told-committed txid made (x ∷ xs) (y ∷ ys) kept = (
+  told-committed : (root : Root) (made : List Write) (a b : List (StatePart S))
+      → ArePerhapsCommitted tells root made a b → AllZip (StillTells tells) a b
+  told-committed root made [] [] kept = tt
+  told-committed root made [] (y ∷ ys) kept = absurd kept
+  told-committed root made (x ∷ xs) [] kept = absurd kept
+  told-committed root made (x ∷ xs) (y ∷ ys) kept = (
     λ cells told. let to = kept.0.turns.to cells told in (to.0, to.1),
-    told-committed txid made xs ys kept.1,
+    told-committed root made xs ys kept.1,
   )
 
   -- nothing was done
@@ -51,9 +52,9 @@ module _ {S : Type 0} (tells : S → CellMap → Type 0) where
   }
 
   -- a commit, also one that was broken off
-  pub kept-committed : (txid : ℕ) (made : List Write) (a b : List (StatePart S))
-      → plans_of b ≡ plans_of a → ArePerhapsCommitted tells txid made a b → AreKept tells a b
-  kept-committed txid made a b plans kept = record {
+  pub kept-committed : (root : Root) (made : List Write) (a b : List (StatePart S))
+      → plans_of b ≡ plans_of a → ArePerhapsCommitted tells root made a b → AreKept tells a b
+  kept-committed root made a b plans kept = record {
     plans = plans;
-    told = told-committed txid made a b kept;
+    told = told-committed root made a b kept;
   }

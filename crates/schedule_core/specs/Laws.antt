@@ -1,5 +1,6 @@
 -- The laws of worlds and of parts that runs rest on. This project's own.
 use Rattle.std.specs.Prelude.{◌≡◌, ◌<◌, ℕ, ◌+◌, List, [], ◌++◌, All, Some, slice_get}
+use Rattle.event_worlds.specs.storm_values.declared.value.Root.{Root}
 use Rattle.event_worlds.specs.attempt_fates.declared.fates.Attempt.{Attempt}
 use Rattle.batch_commits.specs.Standing.{AllButLastAreCounted, FailuresAreCounted, HasStrangeAt, HasTextKey, PartsStand, TellsFailedPart, batches_in, failed_commits, writes_at}
 use Rattle.event_worlds.specs.bolt_ops.RowOp.{Custom, IsCustom}
@@ -41,18 +42,19 @@ pub record Laws {S : Type 0} (count : S → ℕ) (t : Topology) (custom : Custom
 -- what the coordinator's steps rest on
 pub record CommitLaws {S : Type 0} (holds : S → CellMap → Type 0) (count : S → ℕ) (t : Topology)
     (custom : Custom) (cut : Cut) : Type 0 where
-  pub done : (n : ℕ) (old new : List (StatePart S)) → PartsStand holds t custom cut n old
-      → AreCommitted holds (n + 1) (writes_at t custom cut (n + 1)) old new
+  pub done : (n : ℕ) (root : Root) (old new : List (StatePart S)) → root.txid ≡ n + 1
+      → PartsStand holds t custom cut n old
+      → AreCommitted holds root (writes_at t custom cut (n + 1)) old new
       → PartsStand holds t custom cut (n + 1) new
-  pub broken_off : (n : ℕ) (old new : List (StatePart S)) → PartsStand holds t custom cut n old
-      → n < batches_in cut
-      → ArePerhapsCommitted holds (n + 1) (writes_at t custom cut (n + 1)) old new
+  pub broken_off : (n : ℕ) (root : Root) (old new : List (StatePart S)) → root.txid ≡ n + 1
+      → PartsStand holds t custom cut n old → n < batches_in cut
+      → ArePerhapsCommitted holds root (writes_at t custom cut (n + 1)) old new
       → PartsStand holds t custom cut n new
-  pub strange : (txid : ℕ) (made : List Write) (old new : List (StatePart S)) (key : List ℕ)
-      → All HasTextKey made → ArePerhapsCommitted holds txid made old new
+  pub strange : (root : Root) (made : List Write) (old new : List (StatePart S)) (key : List ℕ)
+      → All HasTextKey made → ArePerhapsCommitted holds root made old new
       → HasStrangeAt holds new key → HasStrangeAt holds old key
-  pub bad : (txid : ℕ) (made : List Write) (old new : List (StatePart S)) (key : List ℕ)
-      → ArePerhapsCommitted holds txid made old new → IsBadAt holds new key
+  pub bad : (root : Root) (made : List Write) (old new : List (StatePart S)) (key : List ℕ)
+      → ArePerhapsCommitted holds root made old new → IsBadAt holds new key
       → IsBadAt holds old key
   pub decided_counts : (d : Desk) (w : Wait) (how : CommitOutcome) (old new : List (StatePart S))
       → next_to_commit t cut d ≡ Some w → CountsFollow count how old new

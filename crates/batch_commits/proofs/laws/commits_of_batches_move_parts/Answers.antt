@@ -5,7 +5,7 @@ pub returns-clause-first : goal.returns-clause-first
 returns-clause-first g c = λ t custom cut parts some empty. stand_first t custom cut g.C.CellStore.tells (record { begin = c.parts_over_empty_stores_begin.ensures; moved = c.commits_move_all_parts_on.ensures.moved; begun = c.commits_move_all_parts_on.ensures.begun; stand = c.commits_move_all_parts_on.ensures.stand; placed = c.writes_of_trees_are_placed.ensures.placed; joined = c.writes_of_joined_rows.ensures }) parts empty
 
 pub returns-clause-done : goal.returns-clause-done
-returns-clause-done g c = λ t custom cut n old new stands done. stand_done t custom cut g.C.CellStore.tells (record { begin = c.parts_over_empty_stores_begin.ensures; moved = c.commits_move_all_parts_on.ensures.moved; begun = c.commits_move_all_parts_on.ensures.begun; stand = c.commits_move_all_parts_on.ensures.stand; placed = c.writes_of_trees_are_placed.ensures.placed; joined = c.writes_of_joined_rows.ensures }) n old new stands done
+returns-clause-done g c = λ t custom cut n root old new next_is stands done. stand_done t custom cut g.C.CellStore.tells (record { begin = c.parts_over_empty_stores_begin.ensures; moved = c.commits_move_all_parts_on.ensures.moved; begun = c.commits_move_all_parts_on.ensures.begun; stand = c.commits_move_all_parts_on.ensures.stand; placed = c.writes_of_trees_are_placed.ensures.placed; joined = c.writes_of_joined_rows.ensures }) n root old new next_is stands done
 
 pub returns-clause-broken_off : goal.returns-clause-broken_off
-returns-clause-broken_off g c = λ t custom cut n old new stands below broken. stand_broken t custom cut g.C.CellStore.tells (record { begin = c.parts_over_empty_stores_begin.ensures; moved = c.commits_move_all_parts_on.ensures.moved; begun = c.commits_move_all_parts_on.ensures.begun; stand = c.commits_move_all_parts_on.ensures.stand; placed = c.writes_of_trees_are_placed.ensures.placed; joined = c.writes_of_joined_rows.ensures }) n old new stands below broken
+returns-clause-broken_off g c = λ t custom cut n root old new next_is stands below broken. stand_broken t custom cut g.C.CellStore.tells (record { begin = c.parts_over_empty_stores_begin.ensures; moved = c.commits_move_all_parts_on.ensures.moved; begun = c.commits_move_all_parts_on.ensures.begun; stand = c.commits_move_all_parts_on.ensures.stand; placed = c.writes_of_trees_are_placed.ensures.placed; joined = c.writes_of_joined_rows.ensures }) n root old new next_is stands below broken

@@ -50,7 +50,7 @@ returns-in_err-decide-clause-short g c = λ custom is.
     let cut = cut_in c.args.engine.now in
     let laws = c.laws_of_steps.ensures t custom cut in
     let more = c.laws_of_commits.ensures t custom cut in
-    let comes : CommitComes g.C.CellStore.tells g.C.CellStore.fault_count c.in-Some.commit.root.txid c.in-Some.commit.writes c.in_ok-how.how c.args.parts.now c.commit_beside.new.self = record {
+    let comes : CommitComes g.C.CellStore.tells g.C.CellStore.fault_count c.in-Some.commit.root c.in-Some.commit.writes c.in_ok-how.how c.args.parts.now c.commit_beside.new.self = record {
       plans = c.in_ok-how.ensures.plans;
       done = λ is. c.in_ok-how.ensures.done (ap Ok is);
       kept = c.in_ok-how.ensures.kept;
@@ -67,7 +67,7 @@ returns-clause-drives g c = λ custom.
     let cut = cut_in c.args.engine.now in
     let laws = c.laws_of_steps.ensures t custom cut in
     let more = c.laws_of_commits.ensures t custom cut in
-    let comes : CommitComes g.C.CellStore.tells g.C.CellStore.fault_count c.in-Some.commit.root.txid c.in-Some.commit.writes c.in_ok-how.how c.args.parts.now c.commit_beside.new.self = record {
+    let comes : CommitComes g.C.CellStore.tells g.C.CellStore.fault_count c.in-Some.commit.root c.in-Some.commit.writes c.in_ok-how.how c.args.parts.now c.commit_beside.new.self = record {
       plans = c.in_ok-how.ensures.plans;
       done = λ is. c.in_ok-how.ensures.done (ap Ok is);
       kept = c.in_ok-how.ensures.kept;
@@ -86,12 +86,12 @@ returns-in_default-clause-kept g c = kept-none g.C.CellStore.tells c.args.parts.
 
 pub returns-in_err-how-clause-kept : goal.returns-in_err-how-clause-kept
 returns-in_err-how-clause-kept g c =
-    kept-committed g.C.CellStore.tells c.in-Some.commit.root.txid c.in-Some.commit.writes c.args.parts.now c.commit_beside.new.self c.in_err-how.ensures.plans c.in_err-how.ensures.kept
+    kept-committed g.C.CellStore.tells c.in-Some.commit.root c.in-Some.commit.writes c.args.parts.now c.commit_beside.new.self c.in_err-how.ensures.plans c.in_err-how.ensures.kept
 
 pub returns-in_err-decide-clause-kept : goal.returns-in_err-decide-clause-kept
 returns-in_err-decide-clause-kept g c =
-    kept-committed g.C.CellStore.tells c.in-Some.commit.root.txid c.in-Some.commit.writes c.args.parts.now c.commit_beside.new.self c.in_ok-how.ensures.plans c.in_ok-how.ensures.kept
+    kept-committed g.C.CellStore.tells c.in-Some.commit.root c.in-Some.commit.writes c.args.parts.now c.commit_beside.new.self c.in_ok-how.ensures.plans c.in_ok-how.ensures.kept
 
 pub returns-clause-kept : goal.returns-clause-kept
 returns-clause-kept g c =
-    kept-committed g.C.CellStore.tells c.in-Some.commit.root.txid c.in-Some.commit.writes c.args.parts.now c.commit_beside.new.self c.in_ok-how.ensures.plans c.in_ok-how.ensures.kept
+    kept-committed g.C.CellStore.tells c.in-Some.commit.root c.in-Some.commit.writes c.args.parts.now c.commit_beside.new.self c.in_ok-how.ensures.plans c.in_ok-how.ensures.kept
