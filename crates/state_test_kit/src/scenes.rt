@@ -1,10 +1,10 @@
 //! A part over a store with given cells, of which a call may fail: what it commits, and the cells
 //! that this is to make.
-use cell_format::{Cell, encode_cell};
+use cell_format::{CELL_BYTES, Cell, encode_cell};
 use state_cells::{GroupedWrites, Part, PartFault};
 use std::alloc::Global;
 use storm_stores::{CallKind, CellStore, FailAt, MemStore, StoreFault};
-use tree_model::storm_values::{Bytes, Memory, Txt};
+use tree_model::storm_values::{Bytes, Memory, Root, Txt};
 use tree_model::topology_plan::{Fold, Kind};
 use tree_model::{Write, Writes};
 
@@ -66,18 +66,23 @@ fn bytes(alloc: Global, text: &[u8]) -> Result<Bytes, Memory> {
     Ok(Bytes::from_vec(text.to_vec(alloc)?))
 }
 
+// Each commit is of the first attempt of its transaction, and so are the cells at the start.
+const ATTEMPT: u32 = 1;
+
 // The bytes of the line's cell.
-fn cell_bytes(kind: Kind, line: &Line) -> [u8; 42] {
+fn cell_bytes(kind: Kind, line: &Line) -> [u8; CELL_BYTES] {
     let (_, txid, value, prev) = *line;
     match kind {
         Kind::Transactional => encode_cell(&Cell {
             txid,
+            attempt: ATTEMPT,
             value: Some(value.unwrap_or(0)),
             prev: None,
             kind: Kind::Transactional,
         }),
         Kind::Opaque => encode_cell(&Cell {
             txid,
+            attempt: ATTEMPT,
             value,
             prev,
             kind: Kind::Opaque,
@@ -140,7 +145,11 @@ pub fn commit(
 ) -> Result<(), PartFault> {
     let mut grouped = GroupedWrites::with_capacity(alloc, 1)?;
     group(&mut grouped, writes)?;
-    part.commit(txid, &grouped)
+    let root = Root {
+        txid,
+        attempt: ATTEMPT,
+    };
+    part.commit(root, &grouped)
 }
 
 fn take_step(alloc: Global, part: &mut Part<MemStore>, step: &Step) -> Result<(), Trouble> {

@@ -78,7 +78,7 @@ fn a_bad_cell_is_not_met_without_a_commit(rt: HostRuntime) -> Result<(), Mismatc
     check_refusal(&rt, rt.alloc(), scene, outside, 8, "unfinished 0\n")
 }
 
-// A cell of the value 5, of no transaction of the run.
+// A cell of the value 5 in format 1, of no transaction of the run.
 const FIVE: [u8; 42] = [
     1, 1, 0, 0, 0, 0, 0, 0, 0, 0, 0, 0, 0, 0, 0, 0, 0, 0, 0, 0, 0, 0, 0, 0, 0, 5, 0, 0, 0, 0, 0, 0,
     0, 0, 0, 0, 0, 0, 0, 0, 0, 0,

@@ -117,7 +117,7 @@ fn every_commit_fails(rt: HostRuntime) -> Result<(), Mismatch> {
 
 // ---- cells
 
-// The value 5 by the transaction 1, and by the transaction 9.
+// The value 5 by the transaction 1, and by the transaction 9, in format 1.
 const FIVE_BY_1: [u8; 42] = [
     1, 1, 0, 0, 0, 0, 0, 0, 0, 1, 0, 0, 0, 0, 0, 0, 0, 0, 0, 0, 0, 0, 0, 0, 0, 5, 0, 0, 0, 0, 0, 0,
     0, 0, 0, 0, 0, 0, 0, 0, 0, 0,
@@ -167,10 +167,10 @@ fn stores_begin_with_cells(rt: HostRuntime) -> Result<(), Mismatch> {
     Ok(())
 }
 
-// The value 1 by the transaction 1.
-const ONE_BY_1: [u8; 42] = [
-    1, 1, 0, 0, 0, 0, 0, 0, 0, 1, 0, 0, 0, 0, 0, 0, 0, 0, 0, 0, 0, 0, 0, 0, 0, 1, 0, 0, 0, 0, 0, 0,
-    0, 0, 0, 0, 0, 0, 0, 0, 0, 0,
+// The value 1 by the first attempt of the transaction 1.
+const ONE_BY_1: [u8; 46] = [
+    2, 1, 0, 0, 0, 0, 0, 0, 0, 1, 0, 0, 0, 1, 0, 0, 0, 0, 0, 0, 0, 0, 0, 0, 0, 0, 0, 0, 0, 1, 0, 0,
+    0, 0, 0, 0, 0, 0, 0, 0, 0, 0, 0, 0, 0, 0,
 ];
 
 // Whether a key was found with this cell.
