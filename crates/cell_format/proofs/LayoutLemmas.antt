@@ -145,7 +145,7 @@ pieces a x b d m k la lx lb ld lk =
       ap (take (length x)) (drop_front a (x ++ (b ++ d)) 8 la) ∙ take_front x (b ++ d) (length x) refl,
       ap (λ (xs : List ℕ). take 16 (drop m xs)) (sym (append_assoc a x (b ++ d))) ∙ ap (take 16) (drop_front (a ++ x) (b ++ d) m two) ∙ take_front b d 16 lb,
       ap (λ (xs : List ℕ). take 16 (drop k xs)) (sym (append_assoc a x (b ++ d)) ∙ sym (append_assoc (a ++ x) b d)) ∙ ap (take 16) (drop_front ((a ++ x) ++ b) d k three)
-      ∙ take_all 16 d (omega (arith, ld)),
+          ∙ take_all 16 d (omega (arith, ld)),
     )
 
 -- what stands at each place

@@ -142,7 +142,11 @@ fn value_bytes(bytes: &[u8], has_attempt: bool) -> &[u8]
     ensures value { result.now ≡ take 16 (drop (value_place has_attempt) bytes.now) }
     ensures length { length result.now ≡ 16 }
 {
-    if has_attempt { &bytes[14..30] } else { &bytes[10..26] }
+    if has_attempt {
+        &bytes[14..30]
+    } else {
+        &bytes[10..26]
+    }
 }
 
 /// The place of the value before.
@@ -151,7 +155,11 @@ fn prev_bytes(bytes: &[u8], has_attempt: bool) -> &[u8]
     ensures value { result.now ≡ take 16 (drop (value_place has_attempt + 16) bytes.now) }
     ensures length { length result.now ≡ 16 }
 {
-    if has_attempt { &bytes[30..46] } else { &bytes[26..42] }
+    if has_attempt {
+        &bytes[30..46]
+    } else {
+        &bytes[26..42]
+    }
 }
 
 /// Whether the bytes are those of the cell that was read from them. Its numbers were read from

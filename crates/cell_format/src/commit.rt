@@ -31,13 +31,7 @@ fn is_same(a: Kind, b: Kind) -> bool
 /// What a commit puts at a key that has this cell, or none: `None` where the key stays as it is, as
 /// in a transactional part where nothing is written. The amounts are those that are written for the
 /// key, in order.
-pub fn change(
-    kind: Kind,
-    by: Fold,
-    root: Root,
-    amounts: &[i64],
-    cell: Option<Cell>,
-) -> Option<Cell>
+pub fn change(kind: Kind, by: Fold, root: Root, amounts: &[i64], cell: Option<Cell>) -> Option<Cell>
     requires { IfSome cell (IsCellOf kind) }
     ensures made { MatchOption result (after kind by root amounts.now cell ≡ cell)
         (λ new. after kind by root amounts.now cell ≡ Some new) }

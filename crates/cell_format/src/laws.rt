@@ -29,18 +29,18 @@ pub fn opaque_cells_have_the_attempt()
 pub fn commits_move_parts_on()
     ensures begins { (kind : Kind) (by : Fold) (parts part : ℕ) (next : List Write)
         → Stands kind by parts part 0 [] next (λ _. None) }
-    ensures moved { (kind : Kind) (by : Fold) (parts part t : ℕ) (root : Root) (done next more : List Write)
-        (old new : List ℕ → Option (List ℕ))
+    ensures moved { (kind : Kind) (by : Fold) (parts part t : ℕ) (root : Root)
+        (done next more : List Write) (old new : List ℕ → Option (List ℕ))
         → root.txid ≡ t + 1 → Stands kind by parts part t done next old → AreOwn parts part next
         → ((key : List ℕ) → IsDone kind by root (amounts_at next key) (old key) (new key))
         → Stands kind by parts part (t + 1) (done ++ next) more new × IsWithin kind (t + 1) new }
-    ensures begun { (kind : Kind) (by : Fold) (parts part t : ℕ) (root : Root) (done next : List Write)
-        (old new : List ℕ → Option (List ℕ))
+    ensures begun { (kind : Kind) (by : Fold) (parts part t : ℕ) (root : Root)
+        (done next : List Write) (old new : List ℕ → Option (List ℕ))
         → root.txid ≡ t + 1 → Stands kind by parts part t done next old → AreOwn parts part next
         → ((key : List ℕ) → IsPerhapsDone kind by root (amounts_at next key) (old key) (new key))
         → Stands kind by parts part t done next new }
-    ensures done { (kind : Kind) (by : Fold) (parts part t : ℕ) (root : Root) (done next : List Write)
-        (old new : List ℕ → Option (List ℕ))
+    ensures done { (kind : Kind) (by : Fold) (parts part t : ℕ) (root : Root)
+        (done next : List Write) (old new : List ℕ → Option (List ℕ))
         → root.txid ≡ t + 1 → Stands kind by parts part t done next old → AreOwn parts part next
         → ((key : List ℕ) → IsDone kind by root (amounts_at next key) (old key) (new key))
         → Stands kind by parts part t done next new }

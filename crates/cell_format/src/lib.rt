@@ -10,6 +10,4 @@ mod laws;
 pub use cell::{Cell, CellFault};
 pub use codec::{CELL_BYTES, decode_cell, encode_cell};
 pub use commit::{cell_for, change};
-pub use laws::{
-    bytes_tell_cells_apart, commits_move_parts_on, opaque_cells_have_the_attempt,
-};
+pub use laws::{bytes_tell_cells_apart, commits_move_parts_on, opaque_cells_have_the_attempt};

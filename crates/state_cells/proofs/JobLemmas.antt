@@ -11,7 +11,6 @@ use Rattle.tree_model.specs.topology_plan.declared.parts.Kind.{Kind}
 use Rattle.storm_stores.specs.CellMaps.{CellMap, cell_at}
 use Rattle.storm_stores.proofs.CellMapLemmas.{bytes_eq-same}
 use Rattle.cell_format.specs.Commits.{Commits, Holds, IsPerhapsDone, after}
-use Rattle.cell_format.specs.Layout.{bytes_of}
 use Rattle.cell_format.specs.declared.cell.Cell.{Cell}
 use Rattle.state_cells.specs.Turns.{AreApart, IsBad, IsPerhapsWorked, IsWorked, OnlyAt, Turns, job_at, Job}
 

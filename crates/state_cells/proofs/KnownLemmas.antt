@@ -17,7 +17,6 @@ use Rattle.tree_model.specs.storm_values.declared.value.Root.{Root}
 use Rattle.tree_model.specs.topology_plan.declared.parts.Kind.{Kind}
 use Rattle.tree_model.specs.topology_plan.declared.parts.Kind.TheVariants.{Opaque}
 use Rattle.storm_stores.specs.CellMaps.{CellMap, InKeyOrder, cell_at}
-use Rattle.cell_format.specs.Layout.{bytes_of, read_of}
 use Rattle.cell_format.specs.Commits.{Holds, again, after, anew}
 use Rattle.cell_format.specs.declared.cell.Cell.{Cell}
 use Rattle.cell_format.proofs.CommitLemmas.{Holds-one}

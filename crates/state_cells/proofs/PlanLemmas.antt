@@ -1,5 +1,5 @@
 -- The jobs that a commit needs, and what they make of a part.
-use Rattle.std.proofs.Common.{◌≡◌, inl, ℕ, ℤ, Bool, true, false, true≢false, not, ◌&&◌, ◌==◌, cond, List, [], ◌∷◌, Option, None, Some, MatchOption, is_some, option_map, refl, sym, ap, subst, ◌∙◌}
+use Rattle.std.proofs.Common.{◌≡◌, inl, ℕ, ℤ, Bool, true, false, true≢false, not, ◌&&◌, cond, List, [], ◌∷◌, Option, None, Some, MatchOption, is_some, option_map, refl, sym, ap, subst, ◌∙◌}
 use Rattle.std.specs.List.{list_any}
 use Rattle.std.specs.Option.{option_map_or, option_or}
 use Rattle.smallvec.specs.SmallVec.{SmallVec}

@@ -48,13 +48,14 @@ AreApart [] = Unit {0}
 AreApart (job ∷ jobs) = (job_at jobs job.key ≡ None) × AreApart jobs
 
 -- a key with a job is committed, every other key has what it had
-abbrev pub IsWorked : Kind → Fold → Root → Option (List ℤ) → Option (List ℕ) → Option (List ℕ) → Type 0
+abbrev pub IsWorked : Kind → Fold → Root → Option (List ℤ) → Option (List ℕ) → Option (List ℕ)
+    → Type 0
 IsWorked kind by root None old new = new ≡ old
 IsWorked kind by root (Some amounts) old new = Commits kind by root amounts old new
 
 -- the same where the work was broken off
-abbrev pub IsPerhapsWorked : Kind → Fold → Root → Option (List ℤ) → Option (List ℕ) → Option (List ℕ)
-    → Type 0
+abbrev pub IsPerhapsWorked : Kind → Fold → Root → Option (List ℤ) → Option (List ℕ)
+    → Option (List ℕ) → Type 0
 IsPerhapsWorked kind by root None old new = new ≡ old
 IsPerhapsWorked kind by root (Some amounts) old new = IsPerhapsDone kind by root amounts old new
 
