@@ -322,7 +322,7 @@ module _ {S M : Type 0} (tells : S → CellMap → Type 0) (count : S → ℕ)
         (sym none_written)
         (Stands-none part.kind part.by (tasks_of t part.component) part.part
         (writes_of_part part (writes_at t custom cut 1)));
-    within = λ all key cell is. absurd (let none = is.bytes in cc);
+    within = λ all key cell is. absurd is.bytes;
   }
 
   -- maps that held no cell, and that hold what they held, stand where no batch was committed
