@@ -189,6 +189,31 @@ class Reports(Pictures):
                 picture.report_picture(text)
 
 
+class Trackings(Pictures):
+    def test_examples(self):
+        for path in sorted(glob.glob(f"{TOP}/examples/*/tracked.txt")):
+            text = text_of(path)
+            svg = picture.track_picture(text)
+            self.assert_readable(svg)
+            for line in text.splitlines():
+                if line.startswith("record "):
+                    _, number, _, tries, *end = line.split()
+                    self.assertIn(f"record {number}, attempt {tries}: {' '.join(end)}", svg)
+                    self.assertEqual(svg.count(f"<title>record {number}, attempt "), int(tries))
+
+    def test_without_records_and_with_many(self):
+        self.assert_readable(picture.track_picture("tracked 0 records 0 acked\n"))
+        lines = [f"record {it} attempts {it % 100 + 1} gave up\n" for it in range(1, 501)]
+        svg = picture.track_picture("".join(lines) + "tracked 500 records 0 acked\n")
+        self.assert_readable(svg)
+        self.assertIn(f"{500 - picture.MOST_LANES} more records are not drawn.", svg)
+
+    def test_refuses(self):
+        for text in ("", "record 1 attempts 1 acked\n", "tracked 0 records 0 acked\ntracked 0 records 0 acked\n", "attempt 1.1\n"):
+            with self.assertRaises(picture.Unreadable):
+                picture.track_picture(text)
+
+
 class Calls(unittest.TestCase):
     def call(self, *words, given=""):
         return subprocess.run([sys.executable, "-B", TOOL, *words], input=given, capture_output=True, text=True)

@@ -3,7 +3,7 @@
 //! A folder has `topology.json` and `input.jsonl`. One of an operation or a grouping has in
 //! `plain.txt` what `plain` prints, and a run prints the same after its attempt lines, whatever its
 //! number of workers. One of an end has in `report.txt` what a run prints, or a replay of its
-//! `schedule.txt`.
+//! `schedule.txt`, and one of a tracking in `tracked.txt` what `track` prints.
 #![tactic(auto)]
 
 ghost use Rattle.std.specs.Prelude.{[]};
@@ -62,7 +62,7 @@ const OPERATIONS: [(&str, Handed); 20] = [
 const WORKERS: [&str; 4] = ["1", "2", "3", "7"];
 
 // The folders of ends, the command, and what is handed in.
-const ENDS: [(&str, &str, Handed); 9] = [
+const ENDS: [(&str, &str, Handed); 11] = [
     ("end_committed", "run", Handed::Nothing),
     ("end_failed", "run", Handed::Nothing),
     ("end_timed_out", "replay", Handed::Nothing),
@@ -76,6 +76,8 @@ const ENDS: [(&str, &str, Handed); 9] = [
         Handed::FailingPut(FOURTH_PUT),
     ),
     ("retries", "replay", Handed::Nothing),
+    ("tracked_late", "track", Handed::Nothing),
+    ("tracked_lost", "track", Handed::Nothing),
 ];
 
 // Of `end_coincided` the task is the source 0 of ids, and the coordinator the source 2. The first
@@ -292,6 +294,15 @@ fn tell_runs<R: Threads + Wait + Sync, H: Shelf, K: Sink>(
     tell(alloc, out, "run", of.as_str(), same)
 }
 
+// Where a folder has what a command prints.
+fn text_of(command: &str) -> &'static str {
+    if command == "track" {
+        "tracked"
+    } else {
+        "report"
+    }
+}
+
 // Tells whether a command on a folder's files prints its report.
 fn tell_report<R: Threads + Wait + Sync, H: Shelf, K: Sink>(
     rt: &R,
@@ -303,7 +314,8 @@ fn tell_report<R: Threads + Wait + Sync, H: Shelf, K: Sink>(
     handed: Handed,
 ) -> Result<(), InFault> {
     let report = printed(rt, alloc, shelf, command, name, None, handed)?;
-    let file = format!(in alloc; "{name}/report.txt")?;
+    let text = text_of(command);
+    let file = format!(in alloc; "{name}/{text}.txt")?;
     let want = read_file(alloc, shelf, file.as_str())?;
     let same = report.bytes() == want.as_slice();
     tell(alloc, out, command, name, same)

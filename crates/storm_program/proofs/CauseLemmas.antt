@@ -19,6 +19,7 @@ use Rattle.storm_program.specs.Outside.{RunUse, ShelfUse, SinkUse, ShelfFailed, 
 use Rattle.storm_program.specs.Plain.{PlainComes, PlainCalls}
 use Rattle.storm_program.specs.Replay.{ReplayComes, ReplayCalls}
 use Rattle.storm_program.specs.Run.{RunComes, RunCalls}
+use Rattle.storm_program.specs.Track.{TrackCalls, TrackComes}
 use Rattle.storm_program.specs.Schedules.{AllFilesCall, AllFilesCome, AreAllAccepted, AreEvents, IsScheduleLine, TellsEvents, TellsScheduleFault}
 use Rattle.storm_program.proofs.EndLemmas.{answered_by_ends}
 
@@ -154,6 +155,18 @@ plain_came custom shelf topology input _ text has comes = absurd comes
 pub plain_answered : (custom : Custom) (shelf : ShelfUse) (sink : SinkUse) (topology input : List ℕ) (s : Status) → Ends (PlainComes custom shelf topology input) sink s → IsAnswered (PlainCalls shelf.holds topology input) shelf sink s
 plain_answered custom shelf sink topology input s =
     answered_by_ends (PlainComes custom shelf topology input) (PlainCalls shelf.holds topology input) shelf sink s (λ t called text has comes calls. files_agree shelf sink topology input t called text has (plain_came custom shelf topology input t text has comes) calls)
+
+track_came : (custom : Custom) (shelf : ShelfUse) (topology input : List ℕ) (s : Status) (text : List ℕ) → HasText s → TrackComes custom shelf topology input s text → FilesCame shelf topology input s text
+track_came custom shelf topology input status.Done text has comes = (tt, (comes.1.plan, comes.1.records, comes.1.accepted))
+track_came custom shelf topology input status.Memory text has comes = tt
+track_came custom shelf topology input status.Topology text has comes = comes
+track_came custom shelf topology input status.Input text has comes = comes
+track_came custom shelf topology input status.ReadFault text has comes = comes
+track_came custom shelf topology input _ text has comes = absurd comes
+
+pub track_answered : (custom : Custom) (shelf : ShelfUse) (sink : SinkUse) (topology input : List ℕ) (s : Status) → Ends (TrackComes custom shelf topology input) sink s → IsAnswered (TrackCalls shelf.holds topology input) shelf sink s
+track_answered custom shelf sink topology input s =
+    answered_by_ends (TrackComes custom shelf topology input) (TrackCalls shelf.holds topology input) shelf sink s (λ t called text has comes calls. files_agree shelf sink topology input t called text has (track_came custom shelf topology input t text has comes) calls)
 
 run_came : (custom : Custom) (shelf : ShelfUse) (base : RunUse) (ticks : TicksUse) (topology input : List ℕ) (fates : List Attempt) (s : Status) (text : List ℕ) → HasText s → RunComes custom shelf base ticks topology input fates s text → FilesCame shelf topology input s text
 run_came custom shelf base ticks topology input fates status.Done text has comes = (tt, (comes.1.plan, comes.1.records, comes.1.accepted))

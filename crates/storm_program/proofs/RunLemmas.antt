@@ -24,7 +24,8 @@ use Rattle.storm_program.specs.Run.{IsNotBegun, IsShort, MustCommitAll, RunComes
 use Rattle.storm_program.specs.Schedules.{AllFilesCome, AreAllAccepted, TellsEvents}
 use Rattle.storm_program.specs.Storm.{ComesOfWords, IsNotStarted, WordsCome, command_promise, promise}
 use Rattle.storm_program.specs.Texts.{usage}
-use Rattle.storm_words.specs.Words.{Command, check, plain, load}
+use Rattle.storm_program.specs.Track.{TrackComes, track_promise}
+use Rattle.storm_words.specs.Words.{Command, check, plain, load, track}
 use Rattle.storm_program.specs.steps.Stops.{IsMemory, IsWritten, Stops}
 use Rattle.storm_program.proofs.CauseLemmas.{never_bad, never_bad_schedule, never_refused, same_events, same_plan, same_records}
 use Rattle.storm_program.proofs.EndLemmas.{Ends-weaker, ends_memory, ends_written}
@@ -44,6 +45,11 @@ check_of_topology shelf topology _ text comes = comes
 pub plain_of_files : (custom : Custom) (shelf : ShelfUse) (topology input : List ℕ) (s : Status) (text : List ℕ) → FilesCome shelf topology input s text → PlainComes custom shelf topology input s text
 plain_of_files custom shelf topology input status.Done text comes = absurd comes
 plain_of_files custom shelf topology input _ text comes = comes
+
+-- and of a tracking
+pub track_of_files : (custom : Custom) (shelf : ShelfUse) (topology input : List ℕ) (s : Status) (text : List ℕ) → FilesCome shelf topology input s text → TrackComes custom shelf topology input s text
+track_of_files custom shelf topology input status.Done text comes = absurd comes
+track_of_files custom shelf topology input _ text comes = comes
 
 -- a maker that was not called is untouched
 pub untouched : {S M : Type 0} (tells : S → CellMap → Type 0) (count : S → ℕ) (holds : M → ℕ → ℕ → CellMap → Type 0) (made : M → ℕ → ℕ → Type 0) (faults : M → ℕ) (maker : M) → IsUntouched (maker_use tells count holds made faults maker maker)
@@ -206,6 +212,11 @@ module _ (custom : Custom) (shelf : ShelfUse) (sink : SinkUse) (base : RunUse) (
   ends_plain topology input is none idle ends =
       ends_own (Some (plain topology input)) is
       (Ends-weaker (PlainComes custom shelf topology input) (plain_promise custom shelf base.stores fates topology input).comes sink answer (λ s text comes. (comes, none, idle)) ends)
+
+  pub ends_track : (topology input : List ℕ) (workers : ℕ) → said ≡ Some (track topology input workers) → fates ≡ [] → IsUntouched base.stores → Ends (TrackComes custom shelf topology input) sink answer → Ends (promise custom shelf sink base ticks fates said).comes sink answer
+  ends_track topology input workers is none idle ends =
+      ends_own (Some (track topology input workers)) is
+      (Ends-weaker (TrackComes custom shelf topology input) (track_promise custom shelf base.stores fates topology input).comes sink answer (λ s text comes. (comes, none, idle)) ends)
 
   pub ends_load : (count seed : ℕ) → said ≡ Some (load count seed) → shelf.fetches_after ≡ shelf.fetches_before → Ends (LoadComes custom base count seed fates) sink answer → Ends (promise custom shelf sink base ticks fates said).comes sink answer
   ends_load count seed is still ends =

@@ -11,5 +11,6 @@ pub mod Schedules
 pub mod Statuses
 pub mod Storm
 pub mod Texts
+pub mod Track
 pub mod steps
 pub use Rattle.stored_runs.specs as stored_runs

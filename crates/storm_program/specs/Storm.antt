@@ -13,7 +13,8 @@ use Rattle.storm_program.specs.Replay.{replay_promise}
 use Rattle.storm_program.specs.Run.{IsNotBegun, run_promise}
 use Rattle.storm_program.specs.Statuses.{code_of}
 use Rattle.storm_program.specs.Texts.{usage}
-use Rattle.storm_words.specs.Words.{Command, check, plain, replay, run, load, command}
+use Rattle.storm_program.specs.Track.{track_promise}
+use Rattle.storm_words.specs.Words.{Command, check, plain, replay, run, load, track, command}
 
 -- Words that are no command come to the usage line: no file is fetched, and nothing is run.
 abbrev pub WordsCome : ShelfUse → RunUse → List Attempt → Status → List ℕ → Type 0
@@ -42,6 +43,8 @@ command_promise custom shelf sink base ticks fates (Some (run topology input wor
     run_promise custom shelf sink base ticks fates topology input
 command_promise custom shelf sink base ticks fates (Some (load count seed)) =
     load_promise custom shelf sink base fates count seed
+command_promise custom shelf sink base ticks fates (Some (track topology input workers)) =
+    track_promise custom shelf base.stores fates topology input
 command_promise custom shelf sink base ticks fates None = words_promise shelf base fates
 
 -- no file is fetched, and nothing is run

@@ -13,10 +13,13 @@ mod run;
 mod schedule;
 mod status;
 mod stop;
+mod track;
 
 pub use event_worlds::attempt_fates::{
     Attempt, End, Fates, committed_records_are_all, each_record_is_committed_once,
 };
-pub use program::{storm, storm_check, storm_load, storm_plain, storm_replay, storm_run};
+pub use program::{
+    storm, storm_check, storm_load, storm_plain, storm_replay, storm_run, storm_track,
+};
 pub use status::Status;
 pub use stored_runs::{RunEnd, replay_over};

@@ -8,6 +8,7 @@ ghost use Rattle.storm_program.specs.Plain.{PlainComes, PlainCalls};
 ghost use Rattle.storm_program.specs.Replay.{ReplayComes, ReplayCalls, ReplayMustFinish};
 ghost use Rattle.storm_program.specs.Run.{RunComes, RunCalls, MustFinish};
 ghost use Rattle.storm_program.specs.Storm.{promise};
+ghost use Rattle.storm_program.specs.Track.{TrackCalls, TrackComes};
 ghost use Rattle.storm_words.specs.Words.{command};
 ghost use Rattle.stored_runs.specs.Makers.{maker_use};
 
@@ -18,6 +19,7 @@ use crate::plain::plain_files;
 use crate::replay::replay_files;
 use crate::run::run_files;
 use crate::status::Status;
+use crate::track::track_files;
 use event_worlds::attempt_fates::Fates;
 use event_worlds::bolt_ops::RowOp;
 use event_worlds::storm_ids::IdMaker;
@@ -32,8 +34,8 @@ use storm_words::{Command, USAGE, read_words};
 
 /// Carries out the command that the words after the program's name give.
 ///
-/// The words are those of `check`, `plain`, `replay`, `run` and `load`; all others get the usage
-/// line. Bolts with the operation `custom` do what is handed in. Stores are made by `stores` and
+/// The words are those of `check`, `plain`, `replay`, `run`, `load` and `track`; all others get the
+/// usage line. Bolts with the operation `custom` do what is handed in. Stores are made by `stores` and
 /// given back, ids come of sources that `ids` makes, and ticks of `ticks`. A run of two workers or
 /// more passes `gate` before each execution.
 pub fn storm<
@@ -133,6 +135,11 @@ where
         Command::Load { records, seed } => {
             storm_load(alloc, records, seed, out, stores, ids, custom, fates)
         }
+        Command::Track {
+            topology,
+            input,
+            workers,
+        } => storm_track(rt, alloc, topology, input, workers, shelf, out, ids, custom),
     }
 }
 
@@ -365,5 +372,47 @@ pub fn storm_load<K: Sink, M: StoreMaker, N: IdMaker, O: RowOp>(
     ensures store_faults { M.fault_count stores.old ≤ M.fault_count stores.new }
 {
     let came = load_records_of(alloc, records, seed, stores, ids, custom, fates);
+    write_answer(came, out)
+}
+
+/// Tracks the records of a file through the topology of another, each as a root of its own, and
+/// writes for each record how often it was tried and whether it was acked, how often each key of a
+/// state was reached, and a last line.
+///
+/// A record is acked at the first attempt at which no bolt that its tuples reach fails or stays
+/// mute; it gives up after the topology's number of attempts. Each try processes anew all that it
+/// reaches, so the tallies count at least once what is acked. Windows of up to 1,024 records go
+/// through the topology depth by depth, by so many workers, which share their roots' words. It
+/// reads both files before it begins, and builds the whole text before it writes. Time is
+/// proportional to what all tries reach, and each key costs the logarithm of its state's keys
+/// besides. It uses neither stores nor ticks, and always returns.
+pub fn storm_track<R: Threads + Sync, H: Shelf, K: Sink, N: IdMaker, O: RowOp>(
+    rt: &R,
+    alloc: Global,
+    topology: &str,
+    input: &str,
+    workers: u32,
+    shelf: &mut H,
+    out: &mut K,
+    ids: &mut N,
+    custom: &O,
+) -> Status
+    requires workers { (1 ≤ workers) × (workers ≤ most_workers) }
+
+    // With status 0 the output took exactly the text, by the definitions alone: whatever the number
+    // of workers and the ids.
+    ensures ends { Ends
+        (TrackComes (O.meaning custom.now)
+        (shelf_use H.holds H.ready H.fetches H.faults shelf.old shelf.new)
+        topology.now input.now)
+        (sink_use K.taken K.faults out.old out.new) result }
+    ensures answered { IsAnswered (TrackCalls (H.holds shelf.old) topology.now input.now)
+        (shelf_use H.holds H.ready H.fetches H.faults shelf.old shelf.new)
+        (sink_use K.taken K.faults out.old out.new) result }
+    ensures counts { FilesCounts
+        (shelf_use H.holds H.ready H.fetches H.faults shelf.old shelf.new)
+        (sink_use K.taken K.faults out.old out.new) }
+{
+    let came = track_files(rt, alloc, topology, input, workers, shelf, ids, custom);
     write_answer(came, out)
 }

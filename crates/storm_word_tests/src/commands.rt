@@ -5,8 +5,11 @@ use test_kit::{Mismatch, compare};
 
 const NONE: &str = "none";
 
+const USAGE_LINE: &str =
+    "usage: storm check T | plain T I | replay T I S | run T I [W] | load N SEED | track T I [W]\n";
+
 // Words, and their command with its texts and numbers between bars.
-const COMMANDS: [(&[&str], &str); 33] = [
+const COMMANDS: [(&[&str], &str); 39] = [
     (&["check", "t"], "check|t"),
     (&["check", "check"], "check|check"),
     (&["check", "help"], "check|help"),
@@ -40,10 +43,16 @@ const COMMANDS: [(&[&str], &str); 33] = [
     (&["load", "9999", "65534"], "load|9999|65534"),
     (&["load", "10000", "65535"], "load|10000|65535"),
     (&["load", "010", "0010"], "load|10|10"),
+    (&["track", "t", "i"], "track|t|i|4"),
+    (&["track", "t", "t"], "track|t|t|4"),
+    (&["track", "t", "i", "1"], "track|t|i|1"),
+    (&["track", "t", "i", "08"], "track|t|i|8"),
+    (&["track", "t", "i", "00064"], "track|t|i|64"),
+    (&["track", "track", "run", "64"], "track|track|run|64"),
 ];
 
 // Words that are no command: too few of them, or too many.
-const TOO_FEW_OR_MANY: [&[&str]; 19] = [
+const TOO_FEW_OR_MANY: [&[&str]; 23] = [
     &[],
     &["check"],
     &["check", "t", "u"],
@@ -62,11 +71,15 @@ const TOO_FEW_OR_MANY: [&[&str]; 19] = [
     &["load"],
     &["load", "1"],
     &["load", "1", "1", "1"],
+    &["track"],
+    &["track", "t"],
+    &["track", "t", "i", "4", "4"],
+    &["track", "t", "i", "4", "5", "6"],
     &["storm", "check", "t"],
 ];
 
 // No command has the name of the first of these.
-const OTHER_NAMES: [&[&str]; 13] = [
+const OTHER_NAMES: [&[&str]; 16] = [
     &["t"],
     &["t", "check"],
     &["help"],
@@ -75,6 +88,9 @@ const OTHER_NAMES: [&[&str]; 13] = [
     &["Check", "t"],
     &["CHECK", "t"],
     &["Load", "1", "1"],
+    &["Track", "t", "i"],
+    &["trac", "t", "i"],
+    &["tracks", "t", "i"],
     &["chec", "t"],
     &["checks", "t"],
     &[" check", "t"],
@@ -83,7 +99,7 @@ const OTHER_NAMES: [&[&str]; 13] = [
 ];
 
 // A word that is empty or begins with `-` stands among these.
-const NO_WORDS: [&[&str]; 24] = [
+const NO_WORDS: [&[&str]; 26] = [
     &[""],
     &["", "t"],
     &["check", ""],
@@ -92,6 +108,8 @@ const NO_WORDS: [&[&str]; 24] = [
     &["replay", "t", "i", ""],
     &["run", "t", "i", ""],
     &["load", "", "1"],
+    &["track", "t", ""],
+    &["track", "t", "i", ""],
     &["-"],
     &["--"],
     &["-h"],
@@ -110,7 +128,7 @@ const NO_WORDS: [&[&str]; 24] = [
     &["load", "-1", "1"],
 ];
 
-// The last word of a run, and words of a load, that are no number within its range.
+// The last word of a run or a tracking, and words of a load, that are no number within its range.
 const NO_WORKERS: [&str; 16] = [
     "0", "00000", "65", "00065", "99999", "100000", "000004", "+4", "4.0", "4 ", " 4", "four",
     "0x4", "1e1", "4,0", "٤",
@@ -158,6 +176,13 @@ fn told(alloc: Global, words: &[&str]) -> Result<String, Mismatch> {
             },
         ) => format!(in alloc; "run|{topology}|{input}|{workers}")?,
         Some(Command::Load { records, seed }) => format!(in alloc; "load|{records}|{seed}")?,
+        Some(
+            Command::Track {
+                topology,
+                input,
+                workers,
+            },
+        ) => format!(in alloc; "track|{topology}|{input}|{workers}")?,
     };
     Ok(text)
 }
@@ -192,6 +217,7 @@ fn words_of_none(rt: HostRuntime) -> Result<(), Mismatch> {
     check_none(alloc, &NO_LOADS)?;
     for workers in NO_WORKERS {
         check(alloc, &["run", "t", "i", workers], NONE)?;
+        check(alloc, &["track", "t", "i", workers], NONE)?;
     }
     Ok(())
 }
@@ -206,6 +232,5 @@ fn other_commands_are_told_apart(rt: HostRuntime) -> Result<(), Mismatch> {
 
 #[test]
 fn the_line_that_refuses_words(rt: HostRuntime) -> Result<(), Mismatch> {
-    let want = "usage: storm check T | plain T I | replay T I S | run T I [W] | load N SEED\n";
-    compare(rt.alloc(), "usage", USAGE, want)
+    compare(rt.alloc(), "usage", USAGE, USAGE_LINE)
 }

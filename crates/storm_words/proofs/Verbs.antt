@@ -9,7 +9,7 @@ use Rattle.clap.specs.Simple.{built, built_leaf, entered, inherited, rows_at}
 use Rattle.clap.specs.Walk.{Walk, nothing_held, finished, walk, walked}
 use Rattle.clap.specs.Faults.{level_fault, walk_fault, defaults_fault}
 use Rattle.storm_words.specs.Words.{Command, is_word, command_of}
-use Rattle.storm_words.specs.steps.Parser.{storm_app, check_app, plain_app, replay_app, run_app, load_app}
+use Rattle.storm_words.specs.steps.Parser.{storm_app, check_app, plain_app, replay_app, run_app, load_app, track_app}
 use Rattle.storm_words.specs.steps.Reading.{read_of}
 use Rattle.storm_words.proofs.Walks.{GoesOn, GoesOnTwo, GoesOnThree, after_one, after_two, after_three, start, enters, leaf_ending, one_text, two_texts, three_texts, one_fault, two_faults, three_faults, four_faults}
 
@@ -250,3 +250,42 @@ run_agrees (a ∷ b ∷ c ∷ d ∷ rest) g =
     let g2 = and_parts (is_word c) (list_all is_word (d ∷ rest)) g1.1 in
     let g3 = and_parts (is_word d) (list_all is_word (rest)) g2.1 in
     long run_leaf (codes "run") (a ∷ b ∷ c ∷ d ∷ rest) run_enters _ _ (four_faults run_leaf a b c d (rest) run_on_three g0.0 g1.0 g2.0 g3.0) refl
+
+-- ---- track
+
+abbrev track_leaf : Shape
+track_leaf = leaf track_app
+
+track_enters : Enters track_leaf (codes "track")
+unfolding walked walk_fault defaults_fault
+track_enters rest =
+    let e = enters app (codes "track") rest refl refl in
+    (e.0, ap (λ (w : Walk). entered app w.stopped) e.1)
+
+track_on : GoesOnTwo track_leaf
+track_on = (λ a. refl, λ a b. refl)
+
+track_on_three : GoesOnThree track_leaf
+track_on_three = (track_on, λ a b c. refl)
+
+pub track_agrees : (rest : List Text) → list_all is_word rest ≡ true → Agrees (codes "track" ∷ rest)
+unfolding walk_fault defaults_fault
+track_agrees [] g = short track_leaf (codes "track") [] track_enters start refl refl refl refl
+track_agrees (a ∷ []) g =
+    let g0 = and_parts (is_word a) (list_all is_word ([])) g in
+    short track_leaf (codes "track") (a ∷ []) track_enters (after_one track_leaf a) (one_text track_leaf a [] g0.0) (one_fault track_leaf a [] g0.0) refl refl
+track_agrees (a ∷ b ∷ []) g =
+    let g0 = and_parts (is_word a) (list_all is_word (b ∷ [])) g in
+    let g1 = and_parts (is_word b) (list_all is_word ([])) g0.1 in
+    good track_leaf (codes "track") (a ∷ b ∷ []) track_enters (after_two track_leaf a b) (two_texts track_leaf a b [] track_on.0 g0.0 g1.0) (two_faults track_leaf a b [] track_on.0 g0.0 g1.0) refl refl
+track_agrees (a ∷ b ∷ c ∷ []) g =
+    let g0 = and_parts (is_word a) (list_all is_word (b ∷ c ∷ [])) g in
+    let g1 = and_parts (is_word b) (list_all is_word (c ∷ [])) g0.1 in
+    let g2 = and_parts (is_word c) (list_all is_word ([])) g1.1 in
+    good track_leaf (codes "track") (a ∷ b ∷ c ∷ []) track_enters (after_three track_leaf a b c) (three_texts track_leaf a b c [] track_on g0.0 g1.0 g2.0) (three_faults track_leaf a b c [] track_on g0.0 g1.0 g2.0) refl refl
+track_agrees (a ∷ b ∷ c ∷ d ∷ rest) g =
+    let g0 = and_parts (is_word a) (list_all is_word (b ∷ c ∷ d ∷ rest)) g in
+    let g1 = and_parts (is_word b) (list_all is_word (c ∷ d ∷ rest)) g0.1 in
+    let g2 = and_parts (is_word c) (list_all is_word (d ∷ rest)) g1.1 in
+    let g3 = and_parts (is_word d) (list_all is_word (rest)) g2.1 in
+    long track_leaf (codes "track") (a ∷ b ∷ c ∷ d ∷ rest) track_enters _ _ (four_faults track_leaf a b c d (rest) track_on_three g0.0 g1.0 g2.0 g3.0) refl

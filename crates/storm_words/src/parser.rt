@@ -6,7 +6,7 @@ ghost use Rattle.storm_words.specs.steps.Parser.{app_with, positional, storm_app
 use clap::{Arg, Command};
 use std::alloc::{AllocError, Global};
 
-/// Five subcommands, each with positional texts.
+/// Six subcommands, each with positional texts.
 pub fn storm_parser<'a>(alloc: Global) -> Result<Command<'a>, AllocError>
     ensures app { IfOk result (λ made. app_of made ≡ storm_app) }
     ensures local { IfOk result (λ made. (fields_of made).has_globals ≡ false) }
@@ -17,11 +17,13 @@ pub fn storm_parser<'a>(alloc: Global) -> Result<Command<'a>, AllocError>
     let run = with_workers(alloc, over_files(alloc, "run")?)?;
     let load = with_text(alloc, Command::new(alloc, "load"), "records")?;
     let load = with_text(alloc, load, "seed")?;
+    let track = with_workers(alloc, over_files(alloc, "track")?)?;
     let storm = with_command(top(alloc), check)?;
     let storm = with_command(storm, plain)?;
     let storm = with_command(storm, replay)?;
     let storm = with_command(storm, run)?;
-    with_command(storm, load)
+    let storm = with_command(storm, load)?;
+    with_command(storm, track)
 }
 
 fn top<'a>(alloc: Global) -> Command<'a>

@@ -3,7 +3,8 @@ ghost use Rattle.std.specs.List.{list_all};
 ghost use Rattle.std.specs.Char.{is_ascii_digit};
 ghost use Rattle.clap.specs.Words.{first_of, found_of, rows_of, subcommand_rows_of};
 ghost use Rattle.storm_words.specs.Commands.{command_of_words, IsWithin};
-ghost use Rattle.storm_words.specs.Words.{is_word, digits_value, number_word, command, run, load};
+ghost use Rattle.storm_values.specs.Limits.{most_workers};
+ghost use Rattle.storm_words.specs.Words.{is_word, digits_value, number_word, command, load, run, track};
 ghost use Rattle.storm_words.specs.steps.Reading.{read_of, text_of, workers_of};
 
 use crate::parser::storm_parser;
@@ -14,9 +15,9 @@ use storm_values::{MOST_WORKERS, Memory};
 
 /// The line that refuses words.
 pub const USAGE: &str =
-    "usage: storm check T | plain T I | replay T I S | run T I [W] | load N SEED\n";
+    "usage: storm check T | plain T I | replay T I S | run T I [W] | load N SEED | track T I [W]\n";
 
-/// How many workers run a topology where the words do not say it.
+/// How many workers there are where the words do not say it.
 const WORKERS: u32 = 4;
 
 /// The most records of a load, and its greatest seed.
@@ -47,6 +48,11 @@ pub enum Command<'a> {
     Load {
         records: u32,
         seed: u32,
+    },
+    Track {
+        topology: &'a str,
+        input: &'a str,
+        workers: u32,
     },
 }
 
@@ -86,7 +92,8 @@ fn command_in<'a>(matches: &ArgMatches<'a>) -> Option<Command<'a>>
             schedule: text(given, "schedule"),
         }),
         "run" => run_of(topology, input, text_given(given, "workers")),
-        _ => load_of(text(given, "records"), text(given, "seed")),
+        "load" => load_of(text(given, "records"), text(given, "seed")),
+        _ => track_of(topology, input, text_given(given, "workers")),
     }
 }
 
@@ -112,15 +119,37 @@ fn run_of<'a>(topology: &'a str, input: &'a str, workers: Option<&str>) -> Optio
         (workers_of (option_map (λ s. s.now) workers.entry)) }
     ensures range { IfSome result IsWithin }
 {
-    let workers = match workers {
-        Some(word) => number_word(word, 1, MOST_WORKERS)?,
-        None => WORKERS,
-    };
+    let workers = workers_of(workers)?;
     Some(Command::Run {
         topology,
         input,
         workers,
     })
+}
+
+fn track_of<'a>(topology: &'a str, input: &'a str, workers: Option<&str>) -> Option<Command<'a>>
+    ensures command { option_map command_of_words result ≡ option_and_then
+        (λ w. Some (track topology.now input.now w))
+        (workers_of (option_map (λ s. s.now) workers.entry)) }
+    ensures range { IfSome result IsWithin }
+{
+    let workers = workers_of(workers)?;
+    Some(Command::Track {
+        topology,
+        input,
+        workers,
+    })
+}
+
+/// How many workers some words ask for.
+fn workers_of(given: Option<&str>) -> Option<u32>
+    ensures number { result ≡ workers_of (option_map (λ s. s.now) given.entry) }
+    ensures range { IfSome result (λ workers. (1 ≤ workers) × (workers ≤ most_workers)) }
+{
+    match given {
+        Some(word) => number_word(word, 1, MOST_WORKERS),
+        None => Some(WORKERS),
+    }
 }
 
 fn load_of<'a>(records: &str, seed: &str) -> Option<Command<'a>>

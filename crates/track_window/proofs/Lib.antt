@@ -1,0 +1,10 @@
+mod Acting
+mod Makes
+mod Judging
+mod Words
+mod Found
+mod Settling
+mod Beginning
+mod Depths
+mod Executed
+mod Windows

@@ -1,0 +1,5 @@
+pub mod Acts
+pub mod Jobs
+pub mod Making
+pub mod Noted
+pub mod Walks

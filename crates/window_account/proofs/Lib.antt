@@ -1,0 +1,7 @@
+mod Weigh
+pub mod OneRoot
+pub mod Tuples
+pub mod Opening
+pub mod Stepping
+pub mod Keeping
+pub mod Ending
