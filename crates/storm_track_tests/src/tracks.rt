@@ -210,11 +210,11 @@ fn track_of<'a>(words: &'a [&'a str], topology: &'a str, input: &'a str) -> Scen
 }
 
 // Tracks by each number of workers.
-fn check_track<R: Threads + Wait + Sync>(
+fn check_track<'a, R: Threads + Wait + Sync>(
     rt: &R,
     alloc: Global,
-    topology: &str,
-    input: &str,
+    topology: &'a str,
+    input: &'a str,
     outside: Outside<'_>,
     want: &str,
 ) -> Result<(), Mismatch> {
@@ -297,7 +297,8 @@ fn refusals_of_files(rt: HostRuntime) -> Result<(), Mismatch> {
 }
 
 // More records than a window has, each of which is acked at its second attempt.
-fn many_records(alloc: Global, count: u32) -> Result<(String, String), Mismatch> {
+fn many_records(alloc: Global, count: u16) -> Result<(String, String), Mismatch> {
+    let count = u64::from(count);
     let mut input = String::new(alloc);
     let mut want = String::new(alloc);
     for number in 1..count + 1 {
