@@ -10,8 +10,8 @@ use std::thread;
 use std::thread::Threads;
 use storm_values::Memory;
 
-// How many acks each worker makes.
-const ACKS: u64 = 4000;
+// How many acks each worker makes: a million by eight.
+const ACKS: u64 = 125_000;
 
 // The root that all ack.
 const ROOT: u32 = 1;
