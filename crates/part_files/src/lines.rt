@@ -1,11 +1,11 @@
-ghost use Rattle.std.specs.Prelude.{◌≡◌, ◌<◌, ◌==◌, [], ◌∷◌, length, IfSome, IfNone, IfOk, OnOk, position};
+ghost use Rattle.std.specs.Prelude.{◌≡◌, ◌<◌, [], ◌∷◌, length, IfSome, IfNone, IfOk, OnOk};
 ghost use Rattle.storm_stores.specs.MemoryStore.{store_of};
 ghost use Rattle.part_files.specs.PartFiles.{after_put, bytes_in, lines_in, map_of, pair_in, piece_of, put_in};
 
 use hex::FromHexError;
 use std::alloc::{AllocError, Global};
 use storm_stores::MemStore;
-use storm_values::{Bytes, Memory};
+use storm_values::{Bytes, Memory, find_byte};
 
 /// What a put appends: a line of the key and the cell, with a line end before it and after it. It
 /// is twice as long as both, and four bytes more.
@@ -30,7 +30,7 @@ pub fn read_cells(alloc: Global, bytes: &[u8]) -> Result<MemStore, Memory>
 {
     let mut store = MemStore::new(alloc);
     let mut rest = bytes;
-    while let Some((line, after)) = split_line(rest) {
+    while let Some((line, after)) = next_line(rest) {
         read_line(alloc, &mut store, line)?;
         rest = after;
     }
@@ -39,7 +39,7 @@ pub fn read_cells(alloc: Global, bytes: &[u8]) -> Result<MemStore, Memory>
 }
 
 /// The first line and what follows its line end, if it has one.
-fn split_line(bytes: &[u8]) -> Option<(&[u8], &[u8])>
+fn next_line(bytes: &[u8]) -> Option<(&[u8], &[u8])>
     ensures some { IfSome result (λ split.
         lines_in bytes.now ≡ split.0.now ∷ lines_in split.1.now) }
     ensures shorter { IfSome result (λ split. length split.1.now < length bytes.now) }
@@ -101,10 +101,4 @@ fn bytes_of(alloc: Global, text: &[u8]) -> Result<Option<Bytes>, Memory>
         Err(FromHexError::OutOfMemory) => Err(AllocError),
         Err(_) => Ok(None),
     }
-}
-
-fn find_byte(bytes: &[u8], byte: u8) -> Option<usize>
-    ensures { result ≡ position (λ b. b == byte) bytes.now }
-{
-    bytes.iter().position(|b| *b == byte)
 }

@@ -1,5 +1,4 @@
-ghost use Rattle.std.specs.Prelude.{◌≡◌, ℕ, ◌<◌, ◌==◌, ◌∷◌, IfErr, IfNone, IfOk, IfSome, MatchResult, OnOk, length};
-ghost use Rattle.std.specs.List.{position};
+ghost use Rattle.std.specs.Prelude.{◌≡◌, ℕ, ◌<◌, ◌∷◌, IfErr, IfNone, IfOk, IfSome, MatchResult, OnOk, length};
 ghost use Rattle.report_grammar.specs.Lines.{LineText, Says, lines_in};
 ghost use Rattle.report_grammar.specs.Report.{ReportText, report_text};
 ghost use Rattle.report_lines.specs.Told.{line_told, told};
@@ -15,7 +14,7 @@ use crate::lines::line_from;
 use crate::printed::push_line;
 use crate::report::{Line, Report};
 use std::alloc::Global;
-use storm_values::Memory;
+use storm_values::{Memory, find_byte};
 
 /// The report that a text is, in time linear in its length.
 pub fn read_report(alloc: Global, bytes: &[u8]) -> Result<Report, ReportFault>
@@ -41,7 +40,7 @@ fn report_of_lines(alloc: Global, bytes: &[u8]) -> Result<Report, ReportFault>
     let mut number = 0;
     let mut rest = bytes;
     while !rest.is_empty() {
-        let (line, after) = split_line(rest);
+        let (line, after) = first_line(rest);
         number += 1;
         take_line(alloc, &mut room, &mut gathered, line, number)?;
         rest = after;
@@ -99,19 +98,13 @@ fn read_line(alloc: Global, room: &mut String, line: &[u8]) -> Result<Option<Lin
 }
 
 /// The first line with its byte 10, if it has one, and what follows.
-fn split_line(bytes: &[u8]) -> (&[u8], &[u8])
+fn first_line(bytes: &[u8]) -> (&[u8], &[u8])
     requires { 0 < length bytes.now }
     ensures lines { lines_in bytes.now ≡ result.0.now ∷ lines_in result.1.now }
     ensures shorter { length result.1.now < length bytes.now }
 {
-    match line_end(bytes) {
+    match find_byte(bytes, b'\n') {
         Some(end) => bytes.split_at(end + 1),
         None => (bytes, &[]),
     }
-}
-
-fn line_end(bytes: &[u8]) -> Option<usize>
-    ensures { result ≡ position (λ byte. byte == 10) bytes.now }
-{
-    bytes.iter().position(|byte| *byte == b'\n')
 }

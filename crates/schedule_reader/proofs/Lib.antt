@@ -1,4 +1,3 @@
-mod SplitLemmas
 mod NumberLemmas
 mod EventLemmas
 mod ScheduleLemmas

@@ -1,6 +1,5 @@
-ghost use Rattle.std.specs.Prelude.{◌≡◌, ◌≢◌, ℕ, ◌+◌, ◌<◌, ◌^◌, ◌==◌, List, ◌∷◌, length, take, Some, None, IfOk, IfErr};
-ghost use Rattle.std.specs.List.{AllByRecursion, position};
-ghost use Rattle.storm_values.specs.Lines.{lines_of};
+ghost use Rattle.std.specs.Prelude.{◌≡◌, ◌≢◌, ℕ, ◌+◌, ◌<◌, ◌^◌, List, length, take, Some, None, IfOk, IfErr};
+ghost use Rattle.std.specs.List.{AllByRecursion};
 ghost use Rattle.topology_plan.specs.Topology.{Topology};
 ghost use Rattle.schedule_reader.specs.Events.{FitsEvent};
 ghost use Rattle.schedule_reader.specs.Limits.{most_schedule_bytes};
@@ -10,7 +9,7 @@ use crate::event::{Event, Events, event_from_line};
 use crate::fault::ScheduleFault;
 use crate::limits::MOST_SCHEDULE_BYTES;
 use std::alloc::Global;
-use storm_values::Seq;
+use storm_values::{Seq, split_line};
 use topology_plan::Plan;
 
 /// The events of a schedule over a plan, in time linear in its length.
@@ -58,24 +57,6 @@ fn read_step(line: &[u8], number: u64, plan: &Plan) -> Result<Event, ScheduleFau
     } else {
         Err(ScheduleFault::NoTask(number))
     }
-}
-
-/// The first line without its byte 10, and what follows.
-fn split_line(bytes: &[u8]) -> (&[u8], &[u8])
-    requires { 0 < length bytes.now }
-    ensures lines { lines_of bytes.now ≡ result.0.now ∷ lines_of result.1.now }
-    ensures shorter { length result.1.now < length bytes.now }
-{
-    match line_end(bytes) {
-        Some(end) => (&bytes[..end], &bytes[end + 1..]),
-        None => (bytes, &[]),
-    }
-}
-
-fn line_end(bytes: &[u8]) -> Option<usize>
-    ensures { result ≡ position (λ byte. byte == 10) bytes.now }
-{
-    bytes.iter().position(|byte| *byte == b'\n')
 }
 
 /// A law: the first byte past the limit tells as much of a schedule as all that follow it.

@@ -18,7 +18,7 @@ input_fault-TooBig bytes want long =
     let over : ltb 67108864 (length bytes) ≡ true = grind (arith, nat_tests) in
     rw over
 
-pub input_fault-lines : (bytes : List ℕ) (want : ℕ) → length bytes ≤ 67108864 → input_fault bytes want ≡ fault_of_lines want 1 100000 (lines_of bytes)
+pub input_fault-lines : (bytes : List ℕ) (want : ℕ) → length bytes ≤ 67108864 → input_fault bytes want ≡ fault_of_lines want 1 1000000 (lines_of bytes)
 unfolding input_fault fault_of_lines
 input_fault-lines bytes want short =
     let within : ltb 67108864 (length bytes) ≡ false = grind (arith, nat_tests) in

@@ -12,7 +12,7 @@ abbrev pub most_input_bytes : ℕ
 most_input_bytes = 67108864
 
 abbrev pub most_lines : ℕ
-most_lines = 100000
+most_lines = 1000000
 
 -- ---- a row
 
@@ -60,15 +60,15 @@ most_tasks = 64
 
 -- tasks of all components together
 abbrev pub most_tasks_in_all : ℕ
-most_tasks_in_all = 256
+most_tasks_in_all = 1024
 
 -- tuples that one tuple of the spout can make where each bolt emits one row for a row
 abbrev pub most_weight : ℕ
-most_weight = 256
+most_weight = 4096
 
 -- records of a batch
 abbrev pub most_batch : ℕ
-most_batch = 10000
+most_batch = 100000
 
 abbrev pub most_ackers : ℕ
 most_ackers = 16

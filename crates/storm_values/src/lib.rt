@@ -23,7 +23,8 @@ pub use limits::{
     limits_have_these_values,
 };
 pub use lines::{
-    InputFault, LineFault, one_byte_past_the_limit_suffices, read_input, row_from_line,
+    InputFault, LineFault, find_byte, one_byte_past_the_limit_suffices, read_input, row_from_line,
+    split_line,
 };
 pub use list::{Duplicate, Indexes, Memory, Seq};
 pub use path::{Path, path_order_is_total};

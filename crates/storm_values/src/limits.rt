@@ -7,7 +7,7 @@ pub const MOST_LINE_BYTES: usize = 4096;
 
 pub const MOST_INPUT_BYTES: usize = 67_108_864;
 
-pub const MOST_LINES: usize = 100_000;
+pub const MOST_LINES: usize = 1_000_000;
 
 pub const MOST_FIELDS: u32 = 8;
 
@@ -31,11 +31,11 @@ pub const MOST_STATE_INPUTS: u32 = 33;
 
 pub const MOST_TASKS: u32 = 64;
 
-pub const MOST_TASKS_IN_ALL: u32 = 256;
+pub const MOST_TASKS_IN_ALL: u32 = 1_024;
 
-pub const MOST_WEIGHT: u64 = 256;
+pub const MOST_WEIGHT: u64 = 4_096;
 
-pub const MOST_BATCH: u32 = 10_000;
+pub const MOST_BATCH: u32 = 100_000;
 
 pub const MOST_ACKERS: u32 = 16;
 

@@ -37,7 +37,7 @@ pub enum LineFault {
 #[derive(Debug, PartialEq, Eq, Drop)]
 pub enum InputFault {
     TooBig,
-    /// The first bad line among the first 100,000, counted from 1.
+    /// The first bad line among the first 1,000,000, counted from 1.
     Line(usize, LineFault),
     TooMany,
     Memory,
@@ -284,22 +284,23 @@ fn numbered_row(
     }
 }
 
-/// The first line without its byte 10, and what follows.
-fn split_line(bytes: &[u8]) -> (&[u8], &[u8])
+/// The first line without its byte 10, and what follows, in time in proportion to the line.
+pub fn split_line(bytes: &[u8]) -> (&[u8], &[u8])
     requires { 0 < length bytes.now }
     ensures lines { lines_of bytes.now ≡ result.0.now ∷ lines_of result.1.now }
     ensures shorter { length result.1.now < length bytes.now }
 {
-    match line_end(bytes) {
+    match find_byte(bytes, b'\n') {
         Some(end) => (&bytes[..end], &bytes[end + 1..]),
         None => (bytes, &[]),
     }
 }
 
-fn line_end(bytes: &[u8]) -> Option<usize>
-    ensures { result ≡ position (λ byte. byte == 10) bytes.now }
+/// Where a byte stands first.
+pub fn find_byte(bytes: &[u8], byte: u8) -> Option<usize>
+    ensures { result ≡ position (λ b. b == byte) bytes.now }
 {
-    bytes.iter().position(|byte| *byte == b'\n')
+    bytes.iter().position(|b| *b == byte)
 }
 
 /// A law: the first byte past the limit tells as much of an input as all that follow it.

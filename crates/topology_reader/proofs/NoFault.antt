@@ -276,15 +276,15 @@ module _ (p : FileParts) (valid : IsValidFile p) where
       (find_none (λ (part : ComponentPart). keeps_exact part.body) p.states
       (λ part at. All-at_in (λ (state : ComponentPart). keeps_exact state.body ≡ false) p.states (valid.replays is) part at))
 
-light : (weight : ℕ) → weight ≤ 256 → (if nat_lt 256 weight then Some (Weight weight) else None) ≡ None
-light weight few = cond-false (nat_lt 256 weight) (Some (Weight weight)) None (le-ltb 256 weight few)
+light : (weight : ℕ) → weight ≤ 4096 → (if nat_lt 4096 weight then Some (Weight weight) else None) ≡ None
+light weight few = cond-false (nat_lt 4096 weight) (Some (Weight weight)) None (le-ltb 4096 weight few)
 
 pub none_of_valid : (p : FileParts) → IsValidFile p → meaning_fault p ≡ None
 unfolding meaning_fault
 none_of_valid p valid =
-    let tasks = within_range (codes "tasks in all") (tasks_in_all (plan_of p)) 1 256 (subst (λ n. IsBetween n 1 256) (sum_of_tasks p) valid.tasks) in
+    let tasks = within_range (codes "tasks in all") (tasks_in_all (plan_of p)) 1 1024 (subst (λ n. IsBetween n 1 1024) (sum_of_tasks p) valid.tasks) in
     let size =
-    none_first (range_fault (codes "tasks in all") 1 256 (pos (tasks_in_all (plan_of p))) ∷ (if nat_lt 256 (weight_of (plan_of p)) then Some (Weight (weight_of (plan_of p))) else None) ∷ [])
+    none_first (range_fault (codes "tasks in all") 1 1024 (pos (tasks_in_all (plan_of p))) ∷ (if nat_lt 4096 (weight_of (plan_of p)) then Some (Weight (weight_of (plan_of p))) else None) ∷ [])
     (tasks, (light (weight_of (plan_of p)) valid.weight, tt))
     in
     none_first (twice_fault p ∷ source_fault p ∷ cycle_fault p ∷ fields_fault p ∷ replay_fault p p.spout.kind ∷ size_fault (tasks_in_all (plan_of p)) (weight_of (plan_of p)) ∷ [])

@@ -18,15 +18,15 @@ pub record HasNoFault (p : FileParts) : Type 0 where
   pub cycle : cycle_fault p ≡ None
   pub fields : fields_fault p ≡ None
   pub replay : replay_fault p p.spout.kind ≡ None
-  pub tasks : range_fault (codes "tasks in all") 1 256 (pos (tasks_in_all (plan_of p))) ≡ None
-  pub weight : (if nat_lt 256 (weight_of (plan_of p)) then Some (Weight (weight_of (plan_of p))) else None) ≡ None
+  pub tasks : range_fault (codes "tasks in all") 1 1024 (pos (tasks_in_all (plan_of p))) ≡ None
+  pub weight : (if nat_lt 4096 (weight_of (plan_of p)) then Some (Weight (weight_of (plan_of p))) else None) ≡ None
 
 pub no_fault : (p : FileParts) → meaning_fault p ≡ None → HasNoFault p
 unfolding meaning_fault
 no_fault p none =
-    let tasks = range_fault (codes "tasks in all") 1 256 (pos (tasks_in_all (plan_of p))) in
+    let tasks = range_fault (codes "tasks in all") 1 1024 (pos (tasks_in_all (plan_of p))) in
     let each = none_each (twice_fault p ∷ source_fault p ∷ cycle_fault p ∷ fields_fault p ∷ replay_fault p p.spout.kind ∷ size_fault (tasks_in_all (plan_of p)) (weight_of (plan_of p)) ∷ []) none in
-    let size = none_each (tasks ∷ (if nat_lt 256 (weight_of (plan_of p)) then Some (Weight (weight_of (plan_of p))) else None) ∷ []) each.1.1.1.1.1.0 in
+    let size = none_each (tasks ∷ (if nat_lt 4096 (weight_of (plan_of p)) then Some (Weight (weight_of (plan_of p))) else None) ∷ []) each.1.1.1.1.1.0 in
     record { twice = each.0; sources = each.1.0; cycle = each.1.1.0; fields = each.1.1.1.0; replay = each.1.1.1.1.0; tasks = size.0; weight = size.1.0 }
 
 -- ---- numbers
@@ -40,11 +40,11 @@ between_from_range name n least most none =
       | inr without ↦ absurd (none-some (OutOfRange name (pos n) least most) (sym none ∙ cond-false (int_le (pos least) (pos n) && int_le (pos n) (pos most)) None (Some (OutOfRange name (pos n) least most)) without))
     ]
 
-most_from_weight : (weight : ℕ) → (if nat_lt 256 weight then Some (Weight weight) else None) ≡ None → weight ≤ 256
+most_from_weight : (weight : ℕ) → (if nat_lt 4096 weight then Some (Weight weight) else None) ≡ None → weight ≤ 4096
 most_from_weight weight none =
-    elim (cases_Bool (nat_lt 256 weight)) [
-      | inl more ↦ absurd (none-some (Weight weight) (sym none ∙ cond-true (nat_lt 256 weight) (Some (Weight weight)) None more))
-      | inr fits ↦ ltb-false 256 weight fits
+    elim (cases_Bool (nat_lt 4096 weight)) [
+      | inl more ↦ absurd (none-some (Weight weight) (sym none ∙ cond-true (nat_lt 4096 weight) (Some (Weight weight)) None more))
+      | inr fits ↦ ltb-false 4096 weight fits
     ]
 
 -- ---- sources
@@ -186,7 +186,7 @@ valid_plan p range none =
       buckets = range.buckets;
       attempts = range.attempts;
       components = (omega (arith, length_components p, count_parts p, range.states.0), omega (arith, length_components p, count_parts p, range.states.1, range.bolts));
-      tasks = between_from_range (codes "tasks in all") (tasks_in_all (plan_of p)) 1 256 faultless.tasks;
+      tasks = between_from_range (codes "tasks in all") (tasks_in_all (plan_of p)) 1 1024 faultless.tasks;
       sources = length_sources p;
       targets = targets_planned p;
       ranked = ranked_planned p faultless.cycle;

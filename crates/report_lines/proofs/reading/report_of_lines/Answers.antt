@@ -11,16 +11,16 @@ use Rattle.report_lines.proofs.reading.report_of_lines.Goals as goal
 
 pub returns-in_err-take_line-clause-fault : goal.returns-in_err-take_line-clause-fault
 returns-in_err-take_line-clause-fault c =
-    let all = rw c.split_line.ensures.lines at c.loop-rest.invariant.lines in
+    let all = rw c.first_line.ensures.lines at c.loop-rest.invariant.lines in
     let place : c.loop-rest.number + 1 ≡ suc (length (lines_so_far (gathered_told c.loop-rest.gathered))) = omega (arith, c.loop-rest.invariant.number) in
     let made = err_from_is_err_and c.from_residual.result c.from_residual.ensures.1 in
     rw (made.1, made.2)
-    (fault_of (gathered_told c.loop-rest.gathered) c.args.bytes.now c.split_line.result.0.now (lines_in c.split_line.result.1.now) _ _ c.in_err-take_line.ensures.fault c.loop-rest.invariant.are all place)
+    (fault_of (gathered_told c.loop-rest.gathered) c.args.bytes.now c.first_line.result.0.now (lines_in c.first_line.result.1.now) _ _ c.in_err-take_line.ensures.fault c.loop-rest.invariant.are all place)
 
 pub loop-rest-preserved : goal.loop-rest-preserved
 loop-rest-preserved c =
-    let all = rw c.split_line.ensures.lines at c.loop-rest.invariant.lines in
-    let more = gathered_more (gathered_told c.loop-rest.gathered) (gathered_told c.take_line.new.gathered) c.split_line.result.0.now (lines_in c.args.bytes.now) (lines_in c.split_line.result.1.now) c.in_ok-take_line.ensures.added c.loop-rest.invariant.are all in
+    let all = rw c.first_line.ensures.lines at c.loop-rest.invariant.lines in
+    let more = gathered_more (gathered_told c.loop-rest.gathered) (gathered_told c.take_line.new.gathered) c.first_line.result.0.now (lines_in c.args.bytes.now) (lines_in c.first_line.result.1.now) c.in_ok-take_line.ensures.added c.loop-rest.invariant.are all in
     let count = more.2 in
     record {
       lines = more.0;

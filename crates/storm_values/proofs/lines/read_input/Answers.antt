@@ -16,7 +16,7 @@ pub returns-then-read-eq-MOST_LINES-clause-fault :
     goal.returns-then-read-eq-MOST_LINES-clause-fault
 returns-then-read-eq-MOST_LINES-clause-fault c =
     let whole = input_fault-lines c.args.bytes.now c.args.want (omega arith) ∙ sym c.loop-rest.invariant.fault in
-    let none_left : 100000 - length c.loop-rest.rows ≡ 0 = omega arith in
+    let none_left : 1000000 - length c.loop-rest.rows ≡ 0 = omega arith in
     let some : 0 < length c.loop-rest.rest.now = grind (arith, nat_tests) in
     λ _. whole ∙ rw none_left (fault_of_lines-TooMany c.args.want _ (lines_of c.loop-rest.rest.now) (length-lines_of c.loop-rest.rest.now some))
 
@@ -25,7 +25,7 @@ returns-in_err-row-clause-fault c =
     let made = err_from_is_err_and c.from_residual.result c.from_residual.ensures.1 in
     let number : c.len-read.result + 1 ≡ suc (length c.loop-rest.rows) = omega arith in
     let whole = input_fault-lines c.args.bytes.now c.args.want (omega arith) ∙ sym c.loop-rest.invariant.fault in
-    let left : 0 < 100000 - length c.loop-rest.rows = omega arith in
+    let left : 0 < 1000000 - length c.loop-rest.rows = omega arith in
     rw (made.1, made.2) (λ other. whole
     ∙ rw c.split_line.ensures.lines (fault_of_lines-Line c.args.want _ _ c.split_line.result.0.now _ c.in_err-row.field-0.0 left (rw number at (c.in_err-row.ensures.fault other))))
 
@@ -37,7 +37,7 @@ loop-rest-preserved c =
     let good = c.in_ok-row.ensures.good in
     let pushed : c.push.new.self ≡ rows ++ c.in_ok-row.row ∷ [] = c.in_ok-push.ensures.ok in
     let longer : length c.push.new.self ≡ suc (length rows) = ap length pushed ∙ length-append rows (c.in_ok-row.row ∷ []) ∙ omega arith in
-    let left : 100000 - length rows ≡ suc (100000 - suc (length rows)) = omega arith in
+    let left : 1000000 - length rows ≡ suc (1000000 - suc (length rows)) = omega arith in
     let step = fault_of_lines-cons c.args.want (suc (length rows)) _ _ line (lines_of c.split_line.result.1.now) left good.0 in
     record {
       records = rw (pushed, append_assoc) (rw (split, ← good.1) at c.loop-rest.invariant.records);

@@ -1,7 +1,7 @@
 use Rattle.std.proofs.Common.{◌∷◌, ap₂, sym, ◌∙◌}
 use Rattle.report_grammar.specs.Lines.{lines_in}
 use Rattle.report_grammar.proofs.Splitting.{lines_in-Some, lines_in-None}
-use Rattle.report_lines.proofs.reading.split_line.Goals as goal
+use Rattle.report_lines.proofs.reading.first_line.Goals as goal
 
 pub returns-in-Some-clause-lines : goal.returns-in-Some-clause-lines
 returns-in-Some-clause-lines c =
