@@ -1,18 +1,16 @@
 -- A log in memory.
-use Rattle.std.specs.Prelude.{ℕ, ◌+◌, ◌-◌, ◌<◌, ◌%◌, ◌^◌, ◌==◌, ◌⊎◌, min, List, [], ◌∷◌, ◌++◌, length, Option, option_map, unwrap_or, find, IsSome}
-use Rattle.storm_outside.specs.Calls.{CallLog, no_calls}
-use Rattle.part_files.specs.declared.memory_log.Cut.{Cut}
+use Rattle.std.specs.Prelude.{ℕ, ◌-◌, ◌<◌, ◌⊎◌, min, List, length, Option, unwrap_or, IsSome}
+use Rattle.call_log.specs.Calls.{CallLog, NoFate, counted, failing_as, next_fate, no_calls}
 
--- how many appends were made, modulo 2^64, and those that are cut short, counted from 1
-pub record AppendLog : Type 0 where
-  pub made : ℕ
-  pub cuts : List Cut
+-- the appends, and of each that is cut short how many bytes it adds at most
+abbrev pub AppendLog : Type 0
+AppendLog = CallLog ℕ
 
 -- the bytes, and the most that there is room for in all
 pub record LogState : Type 0 where
   pub bytes : List ℕ
   pub room : ℕ
-  pub reads : CallLog
+  pub reads : CallLog NoFate
   pub appends : AppendLog
   pub faults : ℕ
 
@@ -23,26 +21,26 @@ log_of bytes room =
       bytes = bytes;
       room = room;
       reads = no_calls;
-      appends = record { made = 0; cuts = [] };
+      appends = no_calls;
       faults = 0;
     }
 
 -- one append more
 abbrev pub appended : AppendLog → AppendLog
-appended appends = record appends { made = (appends.made + 1) % 2 ^ 64 }
+appended = counted
+
+-- an append that is cut short: its number, and the most bytes that it adds
+pub record Cut : Type 0 where
+  pub number : ℕ
+  pub count : ℕ
 
 -- this append is cut short too
 abbrev pub cut_at : AppendLog → Cut → AppendLog
-cut_at appends cut = record appends { cuts = appends.cuts ++ cut ∷ [] }
+cut_at appends cut = failing_as appends cut.number cut.count
 
--- how many bytes the append of a number adds at most, where it is one that is cut short
-abbrev pub cut_in : List Cut → ℕ → Option ℕ
-cut_in cuts number =
-    option_map (λ (cut : Cut). cut.count) (find (λ (cut : Cut). cut.number == number) cuts)
-
--- the same of the next append
+-- how many bytes the next append adds at most, where it is one that is cut short
 abbrev pub next_cut : AppendLog → Option ℕ
-next_cut appends = cut_in appends.cuts ((appends.made + 1) % 2 ^ 64)
+next_cut = next_fate
 
 -- how many bytes there is still room for
 abbrev pub free : LogState → ℕ

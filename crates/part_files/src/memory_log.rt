@@ -1,54 +1,17 @@
-ghost use Rattle.std.specs.Prelude.{◌≡◌, ◌≤◌, ◌-◌, ◌^◌, ◌↔◌, ◌++◌, length, take, IsTrue, IsErr, IfOk, OnOk, OnErr, IsErrOf};
+ghost use Rattle.std.specs.Prelude.{◌≡◌, ◌≤◌, ◌-◌, ◌^◌, ◌↔◌, ◌++◌, length, take, IsErr, IfOk, OnOk, OnErr, IsErrOf};
 ghost use Rattle.std.proofs.Common.{sym, ◌∙◌};
 ghost use Rattle.std.proofs.Math.Nat.{min-le_right};
 ghost use Rattle.storm_values.specs.Counts.{raised};
+ghost use Rattle.call_log.specs.Calls.{counted, failing_at, NextFails};
 ghost use Rattle.storm_stores.specs.MemoryStore.{ended};
-ghost use Rattle.storm_outside.specs.Calls.{counted, failing_at, NextFails};
-ghost use Rattle.part_files.specs.MemoryLog.{AppendFails, added, appended, cut_at, cut_in, log_of, next_cut};
+ghost use Rattle.part_files.specs.MemoryLog.{AppendFails, added, appended, cut_at, log_of};
 
 use crate::log::Log;
+use call_log::Calls;
 use std::alloc::Global;
 use std::marker::Model;
 use storm_outside::{Failed, InFault};
 use storm_values::{Bytes, Memory};
-
-/// An append that is cut short: its number among the appends, the first being number 1, and the
-/// most bytes that it adds.
-#[derive(Clone, Copy, Debug)]
-struct Cut {
-    number: u64,
-    count: usize,
-}
-
-/// The calls of reads, some of which are to fail.
-#[derive(Debug, Drop)]
-struct Reads {
-    made: u64,
-    failing: Vec<u64>,
-}
-
-impl Model for Reads {
-    ghost use Rattle.storm_outside.specs.Calls.{CallLog};
-
-    ghost Value = { CallLog };
-
-    ghost view = { λ c. record { made = c.made; failing = c.failing.items } };
-}
-
-/// The calls of appends, some of which are to be cut short.
-#[derive(Debug, Drop)]
-struct Appends {
-    made: u64,
-    cuts: Vec<Cut>,
-}
-
-impl Model for Appends {
-    ghost use Rattle.part_files.specs.MemoryLog.{AppendLog};
-
-    ghost Value = { AppendLog };
-
-    ghost view = { λ c. record { made = c.made; cuts = c.cuts.items } };
-}
 
 /// A log in memory, which has room for so many bytes in all. An append for which there is no room
 /// adds as many bytes as there is room for, and fails.
@@ -56,8 +19,9 @@ impl Model for Appends {
 pub struct MemLog {
     bytes: Vec<u8>,
     room: usize,
-    reads: Reads,
-    appends: Appends,
+    reads: Calls<()>,
+    /// Of each append that is cut short, the most bytes that it adds.
+    appends: Calls<usize>,
     faults: u64,
 }
 
@@ -76,38 +40,6 @@ impl Model for MemLog {
     } };
 
     ghost invariant = { λ s. (s.room ≤ vec_capacity s.bytes) × (vec_len s.bytes ≤ s.room) };
-}
-
-impl Reads {
-    /// Counts a read, and tells whether it is one that fails.
-    fn next(&mut self) -> bool
-        ensures counted { self.new ≡ counted self.old }
-        ensures fails { IsTrue result ↔ NextFails self.old }
-    {
-        self.made = self.made.wrapping_add(1);
-        self.failing.contains(&self.made)
-    }
-}
-
-impl Appends {
-    /// Counts an append. Where it is one that is cut short, tells how many bytes it adds at most.
-    fn next(&mut self) -> Option<usize>
-        ensures counted { self.new ≡ appended self.old }
-        ensures cut { result ≡ next_cut self.old }
-    {
-        self.made = self.made.wrapping_add(1);
-        let made = self.made;
-        find_cut(&self.cuts, made)
-    }
-}
-
-/// How many bytes the append of a number adds at most, where it is one that is cut short.
-fn find_cut(cuts: &[Cut], number: u64) -> Option<usize>
-    ensures { result ≡ cut_in cuts.now number }
-{
-    cuts.iter()
-        .find(|cut| cut.number == number)
-        .map(|cut| cut.count)
 }
 
 /// Counts a fault, up to 2^64 - 1.
@@ -133,14 +65,8 @@ impl MemLog {
         Ok(MemLog {
             bytes: held,
             room,
-            reads: Reads {
-                made: 0,
-                failing: Vec::new(alloc),
-            },
-            appends: Appends {
-                made: 0,
-                cuts: Vec::new(alloc),
-            },
+            reads: Calls::new(alloc),
+            appends: Calls::new(alloc),
             faults: 0,
         })
     }
@@ -152,8 +78,7 @@ impl MemLog {
         }) }
         ensures err { OnErr result (self.new ≡ self.old) }
     {
-        self.reads.failing.push(number)?;
-        Ok(())
+        self.reads.fail(number, ())
     }
 
     /// Lets the append of this number fail, the first being number 1, after it added so many bytes,
@@ -164,8 +89,7 @@ impl MemLog {
         }) }
         ensures err { OnErr result (self.new ≡ self.old) }
     {
-        self.appends.cuts.push(Cut { number, count })?;
-        Ok(())
+        self.appends.fail(number, count)
     }
 
     pub fn bytes(&self) -> &[u8]
@@ -199,7 +123,7 @@ impl Log for MemLog {
             ended self.new.faults ≡ raised (ended self.old.faults) }
         ensures never_falls { ended self.old.faults ≤ ended self.new.faults }
     {
-        if self.reads.next() {
+        if self.reads.count() {
             return Err(InFault::from(count_fault(&mut self.faults)));
         }
         Ok(Bytes::from_slice(alloc, self.bytes.as_slice())?)

@@ -1,4 +1,3 @@
-pub mod Calls
 pub mod Pieces
 pub mod Files
 pub mod Place

@@ -1,6 +1,6 @@
 -- A shelf in memory.
 use Rattle.std.specs.Prelude.{ℕ, ◌≡◌, ◌⊎◌, List, [], Option, None}
-use Rattle.storm_outside.specs.Calls.{CallLog, NextFails, no_calls}
+use Rattle.call_log.specs.Calls.{CallLog, NextFails, NoFate, no_calls}
 use Rattle.storm_outside.specs.Files.{file_of}
 
 -- the files with their names, what is left of the current one, and the most that one read gives
@@ -8,8 +8,8 @@ pub record ShelfState : Type 0 where
   pub files : List (List ℕ × List ℕ)
   pub rest : Option (List ℕ)
   pub longest : ℕ
-  pub fetches : CallLog
-  pub reads : CallLog
+  pub fetches : CallLog NoFate
+  pub reads : CallLog NoFate
   pub faults : ℕ
 
 abbrev pub empty_shelf : ℕ → ShelfState

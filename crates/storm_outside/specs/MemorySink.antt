@@ -1,13 +1,13 @@
 -- A sink in memory.
 use Rattle.std.specs.Prelude.{ℕ, ◌≡◌, ◌-◌, ◌⊎◌, List, [], length}
-use Rattle.storm_outside.specs.Calls.{CallLog, NextFails, no_calls}
+use Rattle.call_log.specs.Calls.{CallLog, NextFails, NoFate, no_calls}
 
 -- the bytes taken, the most that one write takes, and the most that there is room for in all
 pub record SinkState : Type 0 where
   pub taken : List ℕ
   pub longest : ℕ
   pub room : ℕ
-  pub writes : CallLog
+  pub writes : CallLog NoFate
   pub faults : ℕ
 
 abbrev pub empty_sink : ℕ → ℕ → SinkState

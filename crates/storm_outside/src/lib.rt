@@ -2,7 +2,6 @@
 //! and passed on the stores, the ids, the ticks and the gates.
 #![tactic(auto)]
 
-mod calls;
 mod failed;
 mod memory_shelf;
 mod memory_sink;

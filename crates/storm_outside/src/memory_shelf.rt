@@ -1,14 +1,14 @@
 ghost use Rattle.std.specs.Prelude.{◌≡◌, ℕ, ◌<◌, ◌≤◌, ◌↔◌, List, [], ◌∷◌, ◌++◌, length, take, drop, min, Some, None, IsTrue, IsSome, IfSome, IfOk, IsErr, OnOk, OnErr, position};
 ghost use Rattle.std.specs.Str.{bytes_eq};
 ghost use Rattle.storm_values.specs.Counts.{Rose, raised};
-ghost use Rattle.storm_outside.specs.Calls.{counted, failing_at, NextFails};
+ghost use Rattle.call_log.specs.Calls.{counted, failing_at, NextFails};
 ghost use Rattle.storm_outside.specs.Files.{file_of, one_file};
 ghost use Rattle.storm_outside.specs.Pieces.{GivesFirst};
 ghost use Rattle.storm_outside.specs.MemoryShelf.{empty_shelf, FetchFails, IsReady};
 
-use crate::calls::{Calls, count_fault};
-use crate::failed::Failed;
+use crate::failed::{Failed, count_fault};
 use crate::shelf::Shelf;
+use call_log::Calls;
 use std::alloc::Global;
 use std::marker::Model;
 use storm_values::{Bytes, Memory, Txt};
@@ -27,8 +27,8 @@ pub struct MemShelf {
     files: Vec<(Txt, Bytes)>,
     current: Option<Place>,
     longest: usize,
-    fetches: Calls,
-    reads: Calls,
+    fetches: Calls<()>,
+    reads: Calls<()>,
     faults: u64,
 }
 
@@ -119,7 +119,7 @@ impl MemShelf {
         }) }
         ensures err { OnErr result (self.new ≡ self.old) }
     {
-        self.fetches.fail(number)
+        self.fetches.fail(number, ())
     }
 
     /// Lets the read of this number fail, the first being number 1.
@@ -129,7 +129,7 @@ impl MemShelf {
         }) }
         ensures err { OnErr result (self.new ≡ self.old) }
     {
-        self.reads.fail(number)
+        self.reads.fail(number, ())
     }
 
     /// How often a call has failed. The count ends at 2^64 - 1.

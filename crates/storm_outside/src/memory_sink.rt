@@ -1,11 +1,11 @@
 ghost use Rattle.std.specs.Prelude.{◌≡◌, ◌<◌, ◌≤◌, ◌↔◌, ◌++◌, length, take, min, Some, IfOk, IsErr, OnOk, OnErr};
 ghost use Rattle.storm_values.specs.Counts.{Rose, raised};
-ghost use Rattle.storm_outside.specs.Calls.{counted, failing_at};
+ghost use Rattle.call_log.specs.Calls.{counted, failing_at};
 ghost use Rattle.storm_outside.specs.MemorySink.{empty_sink, free, WriteFails};
 
-use crate::calls::{Calls, count_fault};
-use crate::failed::Failed;
+use crate::failed::{Failed, count_fault};
 use crate::sink::Sink;
+use call_log::Calls;
 use std::alloc::Global;
 use std::marker::Model;
 use storm_values::Memory;
@@ -17,7 +17,7 @@ pub struct MemSink {
     taken: Vec<u8>,
     longest: usize,
     room: usize,
-    writes: Calls,
+    writes: Calls<()>,
     faults: u64,
 }
 
@@ -61,7 +61,7 @@ impl MemSink {
         }) }
         ensures err { OnErr result (self.new ≡ self.old) }
     {
-        self.writes.fail(number)
+        self.writes.fail(number, ())
     }
 
     /// The bytes taken.

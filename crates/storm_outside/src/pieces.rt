@@ -3,8 +3,7 @@ ghost use Rattle.std.specs.Prelude.{◌≡◌, ◌<◌, ◌≤◌, length, IfOk,
 ghost use Rattle.std.specs.Io.KnownBytes.{ReadConsumes, WriteAppends};
 ghost use Rattle.storm_values.specs.Counts.{Rose, raised};
 
-use crate::calls::count_fault;
-use crate::failed::Failed;
+use crate::failed::{Failed, count_fault};
 use std::io::{Read, Write};
 
 /// Reads the first bytes of what is left of a source into the front of the buffer, and answers

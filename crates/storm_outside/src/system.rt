@@ -1,8 +1,7 @@
 // The real outside. It tells neither what a file holds nor what was taken.
 ghost use Rattle.std.specs.Prelude.{◌≡◌, IsSome, None};
 
-use crate::calls::count_fault;
-use crate::failed::Failed;
+use crate::failed::{Failed, count_fault};
 use crate::pieces::{read_piece, write_piece};
 use crate::shelf::Shelf;
 use crate::sink::Sink;

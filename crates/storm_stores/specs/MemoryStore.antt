@@ -1,18 +1,18 @@
 -- A store in memory.
 use Rattle.std.specs.Prelude.{ℕ, ◌≡◌, ◌-◌, ◌^◌, min, List, [], ◌∷◌, Bool, true, false, Option, Some, None}
+use Rattle.call_log.specs.Calls.{CallLog, no_calls, failing_as}
 use Rattle.storm_stores.specs.CellMaps.{CellMap, InKeyOrder, with_cell}
-use Rattle.storm_stores.specs.Calls.{CallLog, no_calls, failing_at}
 use Rattle.storm_stores.specs.declared.calls.CallKind.{CallKind}
 use Rattle.storm_stores.specs.declared.calls.CallKind.TheVariants.{Get, Put, Count, KeyAt}
-use Rattle.storm_stores.specs.declared.calls.Failing.{Failing}
 
--- the map, the calls of each kind and how many have failed
+-- the map, the calls of each kind, those that fail with whether they happen all the same, and how
+-- many have failed
 pub record StoreState : Type 0 where
   pub cells : CellMap
-  pub gets : CallLog
-  pub puts : CallLog
-  pub counts : CallLog
-  pub keys : CallLog
+  pub gets : CallLog Bool
+  pub puts : CallLog Bool
+  pub counts : CallLog Bool
+  pub keys : CallLog Bool
   pub faults : ℕ
 
 -- a store with these cells, whose calls do not fail
@@ -27,12 +27,21 @@ store_of cells =
       faults = 0;
     }
 
+-- the number of a call that is to fail, and whether it happens all the same
+pub record Failing : Type 0 where
+  pub number : ℕ
+  pub happened : Bool
+
+-- this call fails too
+abbrev pub failing : CallLog Bool → Failing → CallLog Bool
+failing calls call = failing_as calls call.number call.happened
+
 -- a call of this kind fails too
 abbrev pub failing_of : CallKind → Failing → StoreState → StoreState
-failing_of Get call store = record store { gets = failing_at store.gets call }
-failing_of Put call store = record store { puts = failing_at store.puts call }
-failing_of Count call store = record store { counts = failing_at store.counts call }
-failing_of KeyAt call store = record store { keys = failing_at store.keys call }
+failing_of Get call store = record store { gets = failing store.gets call }
+failing_of Put call store = record store { puts = failing store.puts call }
+failing_of Count call store = record store { counts = failing store.counts call }
+failing_of KeyAt call store = record store { keys = failing store.keys call }
 
 -- a count that ends at 2^64 - 1
 abbrev pub ended : ℕ → ℕ

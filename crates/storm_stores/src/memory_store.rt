@@ -8,14 +8,15 @@ ghost use Rattle.std.specs.Str.{bytes_eq};
 ghost use Rattle.std.proofs.Common.{sym, ◌∙◌};
 ghost use Rattle.std.proofs.Math.Nat.{min-le_right};
 ghost use Rattle.storm_values.specs.Counts.{raised};
+ghost use Rattle.call_log.specs.Calls.{counted, next_fate};
 ghost use Rattle.storm_stores.specs.CellMaps.{CellMap, InKeyOrder, cell_at, with_cell};
-ghost use Rattle.storm_stores.specs.Calls.{counted, next_fate};
 ghost use Rattle.storm_stores.specs.MemoryStore.{Holds, cells_after, cells_of, ended, failing_of, store_of};
 
-use crate::calls::{CallKind, Calls, FailAt, Failing, count_fault};
+use crate::calls::{CallKind, FailAt, count_fault};
 use crate::fault::StoreFault;
 use crate::key::{Key, KeyBytes};
 use crate::store::CellStore;
+use call_log::Calls;
 use indexmap::IndexMap;
 use std::alloc::Global;
 use std::marker::Model;
@@ -35,10 +36,10 @@ pub struct MemStore {
     last: usize,
     /// The keys in order, until there is a new one.
     order: Option<Vec<Bytes>>,
-    gets: Calls,
-    puts: Calls,
-    counts: Calls,
-    keys: Calls,
+    gets: Calls<bool>,
+    puts: Calls<bool>,
+    counts: Calls<bool>,
+    keys: Calls<bool>,
     faults: u64,
     alloc: Global,
 }
@@ -207,15 +208,11 @@ impl MemStore {
             ≡ failing_of at.kind (record { number = at.number; happened = at.happened }) self.old) }
         ensures err { OnErr result (self.new ≡ self.old) }
     {
-        let call = Failing {
-            number: at.number,
-            happened: at.happened,
-        };
         match at.kind {
-            CallKind::Get => self.gets.fail(call),
-            CallKind::Put => self.puts.fail(call),
-            CallKind::Count => self.counts.fail(call),
-            CallKind::KeyAt => self.keys.fail(call),
+            CallKind::Get => self.gets.fail(at.number, at.happened),
+            CallKind::Put => self.puts.fail(at.number, at.happened),
+            CallKind::Count => self.counts.fail(at.number, at.happened),
+            CallKind::KeyAt => self.keys.fail(at.number, at.happened),
         }
     }
 }
