@@ -9,9 +9,9 @@ import re
 
 MOST = 2**64 - 1
 MOST_BYTES, MOST_INPUT, MOST_SCHEDULE = 65_536, 67_108_864, 1_048_576
-MOST_LINE, MOST_LINES, MOST_ROUNDS = 4_096, 100_000, 10_000_000
+MOST_LINE, MOST_LINES, MOST_ROUNDS = 4_096, 1_000_000, 10_000_000
 MOST_DEEP = 127
-MOST_TASKS, MOST_WEIGHT, MOST_FIELDS, MOST_TEXT, MOST_NAME = 256, 256, 8, 256, 32
+MOST_TASKS, MOST_WEIGHT, MOST_FIELDS, MOST_TEXT, MOST_NAME = 1_024, 4_096, 8, 256, 32
 
 
 class Refused(Exception):
@@ -170,7 +170,7 @@ OPERATIONS = ("split", "project", "filter", "set", "len", "route", "flaky", "mut
 
 def spout_of(it):
     made = {"name": it.name("name"), "kind": it.word("kind", ("transactional", "opaque"))}
-    made |= {"fields": it.names("fields", MOST_FIELDS), "batch": it.number("batch", 1, 10_000)}
+    made |= {"fields": it.names("fields", MOST_FIELDS), "batch": it.number("batch", 1, 100_000)}
     it.end()
     return made
 

@@ -399,7 +399,7 @@ pub const OPERATIONS: [Example; 9] = [SPLIT, PROJECT, FILTER, SET, LEN, ROUTE, F
 /// Several bolts, several states of both kinds, and several subscriptions of one source.
 pub const SEVERAL: [Example; 6] = [WORD_COUNT, PAIRS, CHAIN, KINDS, OPAQUE, MEETING];
 
-/// Batches of one record and one batch of all.
+/// Batches of one record, and one batch of all by the most records that a batch may have.
 pub const SCALES: [Scale; 12] = [
     ("1", r#","ackers":1,"pending":1"#),
     ("1", r#","ackers":1,"pending":4"#),
@@ -407,12 +407,12 @@ pub const SCALES: [Scale; 12] = [
     ("1", r#","ackers":16,"pending":1"#),
     ("1", r#","ackers":16,"pending":4"#),
     ("1", r#","ackers":16,"pending":64"#),
-    ("10000", r#","ackers":1,"pending":1"#),
-    ("10000", r#","ackers":1,"pending":4"#),
-    ("10000", r#","ackers":1,"pending":64"#),
-    ("10000", r#","ackers":16,"pending":1"#),
-    ("10000", r#","ackers":16,"pending":4"#),
-    ("10000", r#","ackers":16,"pending":64"#),
+    ("100000", r#","ackers":1,"pending":1"#),
+    ("100000", r#","ackers":1,"pending":4"#),
+    ("100000", r#","ackers":1,"pending":64"#),
+    ("100000", r#","ackers":16,"pending":1"#),
+    ("100000", r#","ackers":16,"pending":4"#),
+    ("100000", r#","ackers":16,"pending":64"#),
 ];
 
 /// Rounds until nothing is left to do, and ticks for mute attempts, of which each batch has one.

@@ -5,8 +5,9 @@ use storm_test_kit::storm_program::{Status, storm_check};
 use storm_test_kit::{CALM, CHECK, Scene, check_refusal, run_of, shelf, sink, taken};
 use test_kit::{Mismatch, changed, compare};
 
-// A bolt of 64 tasks that each get a copy, and one of 4 tasks that each get one of those.
-const TOO_HEAVY: &str = r#"{"version":1,
+// A bolt of 64 tasks that each get a copy, and one of 4 tasks that each get one of those: the ways
+// are 64 and twice 64 * 4.
+const WIDE: &str = r#"{"version":1,
  "spout":{"name":"lines","kind":"transactional","fields":["word"],"batch":1},
  "bolts":[{"name":"wide","tasks":64,"op":{"do":"route","field":"word"},
    "inputs":[{"from":"lines","grouping":"all"}]},
@@ -33,7 +34,7 @@ const CHECKS: [(&str, u8, &str); 8] = [
         "valid components 3 tasks 6 weight 9 depth 3\n",
     ),
     (PAIRS, 0, "valid components 6 tasks 11 weight 6 depth 4\n"),
-    (TOO_HEAVY, 3, "topology: weight 576, most 256\n"),
+    (WIDE, 0, "valid components 3 tasks 69 weight 576 depth 3\n"),
     (r#"{"version":1"#, 3, "topology: no JSON\n"),
     ("[]", 3, "topology: wrong kind \"topology\"\n"),
     (
@@ -43,32 +44,44 @@ const CHECKS: [(&str, u8, &str); 8] = [
     ),
 ];
 
-// What stands in the word count in the place of something else, with the status
-// and the line of a check.
-const CHANGED: [(&str, &str, u8, &str); 4] = [
+// What stands in a topology in the place of something else, with the status and the line of a
+// check.
+const CHANGED: [(&str, &str, &str, u8, &str); 5] = [
     (
+        WORD_COUNT,
         r#"{"do":"split","field":"sentence","as":"word"}"#,
         r#"{"do":"flaky","below":2}"#,
         3,
         "topology: no field \"word\" at \"counts\"\n",
     ),
     (
+        WORD_COUNT,
         r#""lines","kind":"transactional""#,
         r#""lines","kind":"opaque""#,
         3,
         "topology: not exactly once \"counts\"\n",
     ),
     (
+        WORD_COUNT,
         r#""counts","kind":"transactional""#,
         r#""counts","kind":"opaque""#,
         0,
         "valid components 2 tasks 4 weight 2 depth 2\n",
     ),
     (
+        WORD_COUNT,
         r#""shuffle""#,
         r#""direct""#,
         3,
         "topology: wrong kind \"grouping\"\n",
+    ),
+    // 64 and twice 64 * 64
+    (
+        WIDE,
+        r#""tasks":4,"#,
+        r#""tasks":64,"#,
+        3,
+        "topology: weight 8256, most 4096\n",
     ),
 ];
 
@@ -100,7 +113,7 @@ const KINDS: [(&str, &str, &str); 4] = [
 ];
 
 // A check of one topology.
-fn check_of(topology: &str) -> Scene<'_> {
+pub fn check_of(topology: &str) -> Scene<'_> {
     Scene {
         words: &CHECK,
         topology: Some(topology),
@@ -120,17 +133,17 @@ fn checks_of_topologies(rt: HostRuntime) -> Result<(), Mismatch> {
 #[test]
 fn checks_of_changed_topologies(rt: HostRuntime) -> Result<(), Mismatch> {
     let alloc = rt.alloc();
-    for (part, other, code, want) in CHANGED {
-        let topology = changed(alloc, WORD_COUNT, part, other)?;
+    for (topology, part, other, code, want) in CHANGED {
+        let topology = changed(alloc, topology, part, other)?;
         check_refusal(&rt, alloc, check_of(topology.as_str()), CALM, code, want)?;
     }
     Ok(())
 }
 
-// The word count with spaces behind it, so many bytes in all.
-fn filled_up(alloc: Global, bytes: usize) -> Result<String, Mismatch> {
-    let mut text = String::from_str(alloc, WORD_COUNT)?;
-    let spaces = " ".repeat(alloc, bytes.saturating_sub(WORD_COUNT.len()))?;
+// The topology with spaces behind it, so many bytes in all.
+pub fn filled_up(alloc: Global, topology: &str, bytes: usize) -> Result<String, Mismatch> {
+    let mut text = String::from_str(alloc, topology)?;
+    let spaces = " ".repeat(alloc, bytes.saturating_sub(topology.len()))?;
     text.push_str(spaces.as_str())?;
     Ok(text)
 }
@@ -139,7 +152,7 @@ fn filled_up(alloc: Global, bytes: usize) -> Result<String, Mismatch> {
 fn a_file_of_65537_bytes(rt: HostRuntime) -> Result<(), Mismatch> {
     let alloc = rt.alloc();
     for (bytes, code, want) in LENGTHS {
-        let topology = filled_up(alloc, bytes)?;
+        let topology = filled_up(alloc, WORD_COUNT, bytes)?;
         assert!(rt; topology.len() == bytes);
         check_refusal(&rt, alloc, check_of(topology.as_str()), CALM, code, want)?;
     }

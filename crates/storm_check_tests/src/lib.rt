@@ -5,3 +5,5 @@
 mod checks;
 #[cfg(test)]
 mod kit;
+#[cfg(test)]
+mod largest;

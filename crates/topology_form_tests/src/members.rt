@@ -189,13 +189,13 @@ const RANGES: &str = r#"
 "fields":["a","b"] | "fields":[] | "fields" is 0, not from 1 to 8
 "fields":["a","b"] | "fields":["a","b","c","d","e","f","g","h"] | no fault
 "fields":["a","b"] | "fields":["a","b","c","d","e","f","g","h","i"] | "fields" is 9, not from 1 to 8
-"batch":5 | "batch":0 | "batch" is 0, not from 1 to 10000
+"batch":5 | "batch":0 | "batch" is 0, not from 1 to 100000
 "batch":5 | "batch":1 | no fault
-"batch":5 | "batch":10000 | no fault
-"batch":5 | "batch":10001 | "batch" is 10001, not from 1 to 10000
+"batch":5 | "batch":100000 | no fault
+"batch":5 | "batch":100001 | "batch" is 100001, not from 1 to 100000
 "tasks":60 | "tasks":0 | "tasks" is 0, not from 1 to 64
 "tasks":60 | "tasks":1 | no fault
-"tasks":60 | "tasks":64 | "parts":10 | "parts":6 | no fault
+"tasks":60 | "tasks":64 | no fault
 "tasks":60 | "tasks":65 | "tasks" is 65, not from 1 to 64
 "inputs":[{"from":"p" | "inputs":[],"strange":[{"from":"p" | "inputs" is 0, not from 1 to 32
 "key":["a","b"] | "key":[] | "key" is 0, not from 1 to 8
@@ -207,7 +207,7 @@ const RANGES: &str = r#"
 "states":[ | "states":[0,0,0,0,0,0,0,0,0],"strange":[ | "states" is 9, not from 1 to 8
 "parts":63 | "parts":0 | "parts" is 0, not from 1 to 64
 "parts":63 | "parts":1 | no fault
-"parts":63 | "parts":64 | "parts":10 | "parts":9 | no fault
+"parts":63 | "parts":64 | no fault
 "parts":63 | "parts":65 | "parts" is 65, not from 1 to 64
 "key":["a"] | "key":[] | "key" is 0, not from 1 to 8
 "key":["a"] | "key":["a","b","c","d","e","f","g","h"] | no field "c" at "t"

@@ -1,7 +1,7 @@
 // Faults of what a file says. Each line of a table of changes is a file: parts of the valid file,
 // what stands in their places, and what is printed of the fault then.
 use test_kit::Mismatch;
-use topology_test_kit::{check_changes, check_operations};
+use topology_test_kit::{check_changes, check_changes_of, check_operations, full_file};
 
 const TWICE: &str = r#"
 "name":"p" | "name":"s" | "s" twice
@@ -99,13 +99,20 @@ const REPLAYS: &str = r#"
 "t","kind":"transactional" | "t","kind":"opaque" | no fault
 "#;
 
-// The last two files differ in one input of a state.
-const SIZES: &str = r#"
-"parts":10 | "parts":11 | "tasks in all" is 257, not from 1 to 256
-"tasks":60 | "tasks":64 | "tasks in all" is 260, not from 1 to 256
-"grouping":"fields","key":["a","b"] | "grouping":"all" | weight 300, most 256
-"parts":10 | "parts":8 | "tasks":61 | "tasks":63 | "grouping":"shuffle" | "grouping":"all" | "fields":["b","a"] | "fields":["a","b"] | "inputs":["r"] | "inputs":["r","s"] | "inputs":["q"] | "inputs":["q","p","s"] | no fault
-"parts":10 | "parts":8 | "tasks":61 | "tasks":63 | "grouping":"shuffle" | "grouping":"all" | "fields":["b","a"] | "fields":["a","b"] | "inputs":["r"] | "inputs":["r","s","p"] | "inputs":["q"] | "inputs":["q","p","s"] | weight 257, most 256
+// Of the file whose tasks in all are 1,024.
+const TASKS: &str = r#"
+"parts":10 | "parts":9 | no fault
+"parts":10 | "parts":11 | "tasks in all" is 1025, not from 1 to 1024
+"tasks":60 | "tasks":64 | "tasks in all" is 1028, not from 1 to 1024
+"parts":10 | "parts":9 | "tasks":60 | "tasks":61 | no fault
+"#;
+
+// Of `p`, `q`, `r`, `t` and `u` the ways are 60 and four times 60 * 61; then 45, 45 * 22 twice, and
+// of the states 45 * 22 + 45 and one more. The last two files differ in one input of a state.
+const WEIGHTS: &str = r#"
+"grouping":"fields","key":["a","b"] | "grouping":"all" | "grouping":"shuffle" | "grouping":"all" | weight 14700, most 4096
+"tasks":60 | "tasks":45 | "tasks":61 | "tasks":22 | "grouping":"fields","key":["a","b"] | "grouping":"all" | "grouping":"shuffle" | "grouping":"all" | "fields":["b","a"] | "fields":["a","b"] | "inputs":["r"] | "inputs":["r","p"] | "inputs":["q"] | "inputs":["q","p","s"] | no fault
+"tasks":60 | "tasks":45 | "tasks":61 | "tasks":22 | "grouping":"fields","key":["a","b"] | "grouping":"all" | "grouping":"shuffle" | "grouping":"all" | "fields":["b","a"] | "fields":["a","b"] | "inputs":["r"] | "inputs":["r","p","s"] | "inputs":["q"] | "inputs":["q","p","s"] | weight 4097, most 4096
 "#;
 
 #[test]
@@ -139,6 +146,12 @@ fn transactional_states_of_an_opaque_spout(rt: HostRuntime) -> Result<(), Mismat
 }
 
 #[test]
-fn sizes_above_the_most(rt: HostRuntime) -> Result<(), Mismatch> {
-    check_changes(rt.alloc(), SIZES)
+fn tasks_in_all_above_the_most(rt: HostRuntime) -> Result<(), Mismatch> {
+    let alloc = rt.alloc();
+    check_changes_of(alloc, full_file(alloc)?.as_str(), TASKS)
+}
+
+#[test]
+fn weights_above_the_most(rt: HostRuntime) -> Result<(), Mismatch> {
+    check_changes(rt.alloc(), WEIGHTS)
 }

@@ -1,13 +1,13 @@
 // Files with two faults: the one that stands first in the order of the checks is told. A line of a
 // table of pairs has two changes of the valid file, each with what is printed of its fault.
 use test_kit::Mismatch;
-use topology_test_kit::{check_changes, check_operations, check_pairs};
+use topology_test_kit::{check_changes, check_operations, check_pairs, check_pairs_of, full_file};
 
 const WALK_TO_BOLTS: &str = r#"
 "version":1 | "version":0 | "version" is 0, not from 1 to 1 | "spout":{ | "spout":7,"strange":{ | wrong kind "spout"
 "name":"s" | "name":"S" | wrong kind "name" | "kind":"transactional","fields" | "kind":"exact","fields" | unknown "exact"
 "kind":"transactional","fields" | "fields" | missing "kind" | ["a","b"],"batch" | [],"batch" | "fields" is 0, not from 1 to 8
-"fields":["a","b"] | "fields":"a" | wrong kind "fields" | "batch":5 | "batch":0 | "batch" is 0, not from 1 to 10000
+"fields":["a","b"] | "fields":"a" | wrong kind "fields" | "batch":5 | "batch":0 | "batch" is 0, not from 1 to 100000
 "batch":5 | "batch":null | wrong kind "batch" | "name":"s" | "Name":0,"name":"s" | unknown "Name"
 "name":"s" | "Name":0,"name":"s" | unknown "Name" | "bolts":[ | "bolts":7,"strange":[ | wrong kind "bolts"
 "#;
@@ -83,7 +83,7 @@ const TURNED: &str = r#"
 {"name":"s","kind":"transactional","fields":["a","b"],"batch":5} | {"a":0,"batch":0,"fields":[],"kind":"","name":""} | wrong kind "name"
 {"name":"s","kind":"transactional","fields":["a","b"],"batch":5} | {"a":0,"batch":0,"fields":[],"kind":"","name":"s"} | unknown ""
 {"name":"s","kind":"transactional","fields":["a","b"],"batch":5} | {"a":0,"batch":0,"fields":[],"kind":"opaque","name":"s"} | "fields" is 0, not from 1 to 8
-{"name":"s","kind":"transactional","fields":["a","b"],"batch":5} | {"a":0,"batch":0,"fields":["a"],"kind":"opaque","name":"s"} | "batch" is 0, not from 1 to 10000
+{"name":"s","kind":"transactional","fields":["a","b"],"batch":5} | {"a":0,"batch":0,"fields":["a"],"kind":"opaque","name":"s"} | "batch" is 0, not from 1 to 100000
 {"from":"p","grouping":"shuffle"} | {"a":0,"key":7,"grouping":"fields","from":7} | wrong kind "from"
 {"from":"p","grouping":"shuffle"} | {"a":0,"key":7,"grouping":7,"from":"p"} | wrong kind "grouping"
 {"from":"p","grouping":"shuffle"} | {"a":0,"key":7,"grouping":"fields","from":"p"} | wrong kind "key"
@@ -135,8 +135,13 @@ const FIELDS: &str = r#"
 "inputs":["r"] | "inputs":["r","q"] | fields differ at "t" | "key":["a"] | "key":["c"] | no field "c" at "t"
 "key":["a"] | "key":["c"] | no field "c" at "t" | "amount":"b" | "amount":"d" | no field "d" at "t"
 "amount":"b" | "amount":"c" | no field "c" at "t" | "s","kind":"transactional" | "s","kind":"opaque" | not exactly once "t"
-"s","kind":"transactional" | "s","kind":"opaque" | not exactly once "t" | "parts":10 | "parts":11 | "tasks in all" is 257, not from 1 to 256
-"parts":10 | "parts":11 | "tasks in all" is 257, not from 1 to 256 | "grouping":"fields","key":["a","b"] | "grouping":"all" | weight 300, most 256
+"#;
+
+// Of the file whose tasks in all are 1,024. The ways to `p` and to the other four are 60 each, and
+// to the 12 bolts that get copies of its rows 60 * 64.
+const SIZES: &str = r#"
+"s","kind":"transactional" | "s","kind":"opaque" | not exactly once "t" | "parts":10 | "parts":11 | "tasks in all" is 1025, not from 1 to 1024
+"parts":10 | "parts":11 | "tasks in all" is 1025, not from 1 to 1024 | "grouping":"fields","key":["a","b"] | "grouping":"all" | weight 46380, most 4096
 "#;
 
 // Faults of two components, or two of one, that take more changes.
@@ -183,8 +188,14 @@ fn names_before_sources_before_cycles(rt: HostRuntime) -> Result<(), Mismatch> {
 }
 
 #[test]
-fn fields_before_replays_before_sizes(rt: HostRuntime) -> Result<(), Mismatch> {
+fn fields_before_replays(rt: HostRuntime) -> Result<(), Mismatch> {
     check_pairs(rt.alloc(), FIELDS)
+}
+
+#[test]
+fn replays_before_tasks_before_weight(rt: HostRuntime) -> Result<(), Mismatch> {
+    let alloc = rt.alloc();
+    check_pairs_of(alloc, full_file(alloc)?.as_str(), SIZES)
 }
 
 #[test]

@@ -9,21 +9,32 @@ use topology_test_kit::check_told;
 
 // How many bolts stand in a chain, how many tasks each has, how many the last has, their grouping,
 // and what is printed of the fault.
-const CHAINS: [(u32, u32, u32, &str, &str); 9] = [
+const CHAINS: [(u32, u32, u32, &str, &str); 12] = [
     (32, 1, 1, "shuffle", "no fault"),
-    (32, 7, 7, "global", "no fault"),
-    // 64, 64 * 4, and the state's 64 * 4
-    (2, 64, 4, "all", "weight 576, most 256"),
-    // 2 to 64, each twice the one before, and 64 of the state
-    (6, 2, 2, "all", "no fault"),
-    (7, 2, 2, "all", "weight 382, most 256"),
+    // 31 * 32, 31, and the state's one part
+    (32, 32, 31, "global", "no fault"),
+    (
+        32,
+        32,
+        32,
+        "global",
+        "\"tasks in all\" is 1025, not from 1 to 1024",
+    ),
+    // 64, 64 * 4, and the state's 64 * 4: 576
+    (2, 64, 4, "all", "no fault"),
+    // 64, 64 * 31, and as many of the state: 4,032
+    (2, 64, 31, "all", "no fault"),
+    (2, 64, 32, "all", "weight 4160, most 4096"),
+    // 2 to 1,024, each twice the one before, and 1,024 of the state: 3,070
+    (10, 2, 2, "all", "no fault"),
+    (11, 2, 2, "all", "weight 6142, most 4096"),
     // powers of 4 up to the 31st, and that of the state
-    (31, 4, 4, "all", "weight 10760600709663905108, most 256"),
+    (31, 4, 4, "all", "weight 10760600709663905108, most 4096"),
     // the sum passes the most, but no product does
-    (32, 4, 3, "all", "weight 18446744073709551615, most 256"),
+    (32, 4, 3, "all", "weight 18446744073709551615, most 4096"),
     // 4 to the 32nd is the most and one
-    (32, 4, 4, "all", "weight 18446744073709551615, most 256"),
-    (23, 11, 11, "all", "weight 18446744073709551615, most 256"),
+    (32, 4, 4, "all", "weight 18446744073709551615, most 4096"),
+    (23, 11, 11, "all", "weight 18446744073709551615, most 4096"),
 ];
 
 // A file of bolts and of a state that takes from the names of a list.
@@ -129,9 +140,18 @@ fn weights_of_chains(rt: HostRuntime) -> Result<(), Mismatch> {
 #[test]
 fn the_longest_chain(rt: HostRuntime) -> Result<(), Fail> {
     let alloc = rt.alloc();
-    let plan = read_topology(alloc, chain(alloc, 32, 7, 7, "shuffle")?.as_bytes())?;
-    assert!(rt; (plan.components(), plan.tasks()) == (33, 225));
+    let plan = read_topology(alloc, chain(alloc, 32, 32, 31, "shuffle")?.as_bytes())?;
+    assert!(rt; (plan.components(), plan.tasks()) == (33, 1_024));
     assert!(rt; (plan.weight(), plan.depth()) == (33, 33));
+    Ok(())
+}
+
+#[test]
+fn sixty_four_tasks_by_four(rt: HostRuntime) -> Result<(), Fail> {
+    let alloc = rt.alloc();
+    let plan = read_topology(alloc, chain(alloc, 2, 64, 4, "all")?.as_bytes())?;
+    assert!(rt; (plan.components(), plan.tasks()) == (3, 69));
+    assert!(rt; (plan.weight(), plan.depth()) == (576, 3));
     Ok(())
 }
 
@@ -139,12 +159,16 @@ fn the_longest_chain(rt: HostRuntime) -> Result<(), Fail> {
 #[test]
 fn weights_of_lattices(rt: HostRuntime) -> Result<(), Mismatch> {
     let alloc = rt.alloc();
-    check_told(alloc, lattice(alloc, 6)?.as_str(), "no fault")?;
-    check_told(alloc, lattice(alloc, 7)?.as_str(), "weight 382, most 256")?;
+    check_told(alloc, lattice(alloc, 10)?.as_str(), "no fault")?;
+    check_told(
+        alloc,
+        lattice(alloc, 11)?.as_str(),
+        "weight 6142, most 4096",
+    )?;
     check_told(
         alloc,
         lattice(alloc, 16)?.as_str(),
-        "weight 196606, most 256",
+        "weight 196606, most 4096",
     )
 }
 
@@ -152,11 +176,11 @@ fn weights_of_lattices(rt: HostRuntime) -> Result<(), Mismatch> {
 #[test]
 fn weights_of_meshes(rt: HostRuntime) -> Result<(), Mismatch> {
     let alloc = rt.alloc();
-    check_told(alloc, mesh(alloc, 7)?.as_str(), "no fault")?;
-    check_told(alloc, mesh(alloc, 8)?.as_str(), "weight 511, most 256")?;
+    check_told(alloc, mesh(alloc, 11)?.as_str(), "no fault")?;
+    check_told(alloc, mesh(alloc, 12)?.as_str(), "weight 8191, most 4096")?;
     check_told(
         alloc,
         mesh(alloc, 32)?.as_str(),
-        "weight 8589934591, most 256",
+        "weight 8589934591, most 4096",
     )
 }

@@ -1,10 +1,12 @@
-//! What the tests of topology files share: a valid file, changes of it, and what the reader tells.
+//! What the tests of topology files share: valid files, changes of them, and what the reader tells.
 #![tactic(auto)]
 
 mod checks;
 mod reading;
 
-pub use checks::{FILE, check_changes, check_operations, check_pairs};
+pub use checks::{
+    FILE, check_changes, check_changes_of, check_operations, check_pairs, check_pairs_of, full_file,
+};
 pub use reading::{check_told, told};
 
 #[cfg(test)]

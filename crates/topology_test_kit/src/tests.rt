@@ -1,9 +1,12 @@
 // A check whose line is not met fails.
-use crate::{check_changes, check_operations, check_pairs};
+use crate::{
+    check_changes, check_changes_of, check_operations, check_pairs, check_pairs_of, check_told,
+    full_file,
+};
 use test_kit::Mismatch;
 
 // Tables with a line that is met.
-const CHANGE: &str = r#""batch":5 | "batch":0 | "batch" is 0, not from 1 to 10000"#;
+const CHANGE: &str = r#""batch":5 | "batch":0 | "batch" is 0, not from 1 to 100000"#;
 
 const OPERATION: &str = r#"{"do":"join"} | unknown "join""#;
 
@@ -34,6 +37,18 @@ fn lines_that_are_met(rt: HostRuntime) -> Result<(), Mismatch> {
     check_changes(rt.alloc(), CHANGE)?;
     check_operations(rt.alloc(), OPERATION)?;
     check_pairs(rt.alloc(), PAIR)
+}
+
+#[test]
+fn lines_of_the_file_with_the_most_tasks(rt: HostRuntime) -> Result<(), Mismatch> {
+    let alloc = rt.alloc();
+    let file = full_file(alloc)?;
+    check_told(alloc, file.as_str(), "no fault")?;
+    check_changes_of(alloc, file.as_str(), CHANGE)?;
+    check_pairs_of(alloc, file.as_str(), PAIR)?;
+    assert!(rt; is_told(check_changes_of(alloc, file.as_str(), OTHER_CHANGE)));
+    assert!(rt; is_told(check_pairs_of(alloc, file.as_str(), OTHER_SECOND)));
+    Ok(())
 }
 
 #[test]
