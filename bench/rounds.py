@@ -5,7 +5,7 @@ import subprocess
 import sys
 import time
 
-SIZES = ["1-mib", "4-mib", "16-mib", "10000-lines", "100000-lines"]
+SIZES = ["1-mib", "4-mib", "16-mib", "10000-lines", "100000-lines", "1000000-lines"]
 ROUNDS = 5
 program, work, topology = sys.argv[1:]
 

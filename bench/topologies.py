@@ -4,14 +4,17 @@ records, FOLDER/topology.json and FOLDER/input.jsonl, and prints a number of wor
 
 The same numbers give the same files. A run ends soon and with status 0: a flaky bolt lets two attempts of a
 batch through, or all, and a mute bolt has a `below` of 1. In about one of 200 a bolt stays mute at the first
-attempt, so that the run waits for two ticks.
+attempt, so that the run waits for two ticks. About one of ten is wide: it has more bolts, with up to 64 tasks, and up
+to 64 parts of a state.
 """
 
 import json
 import os
 import sys
 
-MOST_WEIGHT = 256
+MOST_WEIGHT = 4_096
+# Tasks of a component. With at most 12 bolts and 4 states the tasks in all are 1,024, the most, at most.
+MOST_TASKS = 64
 MOST_FIELDS = 8
 # The most tuples of all attempts of a run, by an estimate from above.
 MOST_TUPLES = 20_000
@@ -99,6 +102,7 @@ class Topology:
         self.is_mute = draws.chance(200)
         if self.is_mute:
             self.attempts, self.has_attempts = max(self.attempts, 3), True
+        self.is_wide = draws.chance(10)
         self.below = 1
         self.weight = 0
         self.tuples = 0
@@ -128,7 +132,8 @@ class Topology:
         return max(self.below, 2 if self.is_mute else 1)
 
     def add_bolt(self):
-        draws, name, tasks = self.draws, f"b{len(self.bolts)}", self.draws.number(1, 5)
+        draws, name = self.draws, f"b{len(self.bolts)}"
+        tasks = draws.number(1, MOST_TASKS if self.is_wide else 5)
         inputs, ways, tuples = [], 0, 0
         sources = self.inputs()
         for source in sources:
@@ -196,7 +201,7 @@ class Topology:
         self.tuples += tuples
         fields, fold = sources[0].fields, draws.one(FOLDS)
         kind = "opaque" if self.kind == "opaque" else draws.one(["transactional", "opaque"])
-        state = {"name": f"s{len(self.states)}", "kind": kind, "parts": draws.number(1, 4)}
+        state = {"name": f"s{len(self.states)}", "kind": kind, "parts": draws.number(1, MOST_TASKS if self.is_wide else 4)}
         state.update(key=draws.some(fields, 1, draws.one([1, 2, MOST_FIELDS])), fold=fold)
         if fold != "count":
             state["amount"] = draws.one(fields)
@@ -206,7 +211,7 @@ class Topology:
     def whole(self, most_records):
         """The object of the topology, and the records of its input."""
         draws = self.draws
-        for _ in range(draws.number(int(self.is_mute), 6)):
+        for _ in range(draws.number(int(self.is_mute), 12 if self.is_wide else 6)):
             self.add_bolt()
         for _ in range(draws.number(1, 4)):
             self.add_state()
