@@ -115,13 +115,8 @@ fn tells_the_first_fault_of_a_line(rt: HostRuntime) -> Result<(), Fail> {
 fn tells_the_first_fault_of_an_input(rt: HostRuntime) -> Result<(), Fail> {
     let alloc = rt.alloc();
     let big = vec![in alloc; b' '; MOST_INPUT_BYTES + 1]?;
-    let mut many = Vec::new(alloc);
-    for _ in 0..=MOST_LINES {
-        many.extend_from_slice(b"[1]\n")?;
-    }
     for (bytes, fault) in [
         (big.as_slice(), InputFault::TooBig),
-        (many.as_slice(), InputFault::TooMany),
         (
             b"[\"a\"]\n[1.5]",
             InputFault::Line(2, LineFault::BadItem(0)),
@@ -131,6 +126,23 @@ fn tells_the_first_fault_of_an_input(rt: HostRuntime) -> Result<(), Fail> {
     }
     let text = format!(in alloc; "{}", InputFault::Line(2, LineFault::BadItem(0)))?;
     assert!(rt; text.as_str() == "line 2: item 0 is no text and no whole number");
+    Ok(())
+}
+
+// A million lines: with checks at run time it may take longer than the time that a test has.
+#[test]
+fn tells_one_line_too_many(rt: HostRuntime) -> Result<(), Fail> {
+    let alloc = rt.alloc();
+    let mut many = Vec::new(alloc);
+    for _ in 0..=MOST_LINES {
+        many.extend_from_slice(b"[\"\"]\n")?;
+    }
+    assert_eq!(rt;
+        read_input(alloc, many.as_slice(), 1).err(),
+        Some(InputFault::TooMany)
+    );
+    let text = format!(in alloc; "{}", InputFault::TooMany)?;
+    assert!(rt; text.as_str() == "more than 1000000 lines");
     Ok(())
 }
 
