@@ -1,5 +1,5 @@
 -- Lists of messages about one root: what they say of its tree, and of the ids of its edges.
-use Rattle.std.specs.Prelude.{◌≡◌, ◌≢◌, ◌≤◌, ℕ, ◌%◌, List, [], ◌∷◌, length, map, Some}
+use Rattle.std.specs.Prelude.{◌≡◌, ◌≢◌, ◌≤◌, ℕ, ◌%◌, List, [], ◌∷◌, length, map, Option, Some}
 use Rattle.std.specs.List.{flat_map, AllByRecursion}
 use Rattle.storm_values.specs.declared.value.Root.{Root}
 use Rattle.counted_items.specs.Weights.{weigh}
@@ -81,11 +81,15 @@ module _ {N : Type 0} where
   abbrev pub AreTrueOf : Growth N → Root → List Message → Type 0
   AreTrueOf g root list = AllByRecursion (IsTrueOf g root) list
 
-  -- there is an init, and each path of the tree is consumed
-  pub record Covers (g : Growth N) (root : Root) (list : List Message) : Type 0 where
+  -- there is an init, and each path of a tree, given by the node at each path, is consumed
+  pub record CoversTree (tree : List ℕ → Option N) (list : List Message) : Type 0 where
     pub begins : 1 ≤ weigh is_init list
-    pub consumed : (path : List ℕ) (node : N) → node_at g root path ≡ Some node
+    pub consumed : (path : List ℕ) (node : N) → tree path ≡ Some node
         → 1 ≤ weigh (consumes path) list
+
+  -- the list covers a root's tree
+  abbrev pub Covers : Growth N → Root → List Message → Type 0
+  Covers g root list = CoversTree (node_at g root) list
 
 -- there is at most one init, and no path is consumed twice
 pub record IsSingle (list : List Message) : Type 0 where

@@ -17,14 +17,23 @@ pub record Growth (N : Type 0) : Type 0 where
   pub course : Root → N → Course
 
 module _ {N : Type 0} where
-  -- the node at a path from a node: itself at the empty path, and else each number picks a child
-  abbrev pub node_from : Growth N → N → List ℕ → Option N
-  node_from g node [] = Some node
-  node_from g node (i ∷ path) =
-      option_and_then (λ kid. node_from g kid path) (slice_get (g.kids node) i)
+  -- The descendant of a node at a path, where each node has these children: itself at the empty
+  -- path, and else each number picks a child.
+  abbrev pub descendant : (N → List N) → N → List ℕ → Option N
+  descendant kids node [] = Some node
+  descendant kids node (i ∷ path) =
+      option_and_then (λ kid. descendant kids kid path) (slice_get (kids node) i)
 
-  -- the node at a path in a root's tree, which has none at the empty path
+  -- the node at a path in the forest of some first nodes, which has none at the empty path
+  abbrev pub node_in : (N → List N) → List N → List ℕ → Option N
+  node_in kids firsts [] = None
+  node_in kids firsts (i ∷ path) =
+      option_and_then (λ node. descendant kids node path) (slice_get firsts i)
+
+  -- the node at a path from a node
+  abbrev pub node_from : Growth N → N → List ℕ → Option N
+  node_from g = descendant g.kids
+
+  -- the node at a path in a root's tree
   abbrev pub node_at : Growth N → Root → List ℕ → Option N
-  node_at g root [] = None
-  node_at g root (i ∷ path) =
-      option_and_then (λ node. node_from g node path) (slice_get (g.firsts root) i)
+  node_at g root = node_in g.kids (g.firsts root)
