@@ -1,6 +1,5 @@
 mod Depth
 mod Folding
-pub mod ListLaws
 mod Lists
 mod Loops
 mod Maps

@@ -14,6 +14,7 @@ use Rattle.bolt_ops.specs.RowOp.{Custom}
 use Rattle.topology_plan.specs.declared.parts.Origin.TheVariants as origin
 use Rattle.topology_plan.specs.Topology.{Topology}
 use Rattle.topology_plan.specs.Valid.{IsValid}
+use Rattle.tuple_tickets.proofs.Once.{and_then-some, node_in-push}
 use Rattle.tree_model.specs.Paths.{ArePathsOf, write_at}
 use Rattle.storm_values.specs.Order.{path_cmp}
 use Rattle.tree_model.specs.Trees.{Node, kids, kids_of, node_from, node_at, IsInTree, nodes_from, nodes_of, node_count, write_of, writes}
@@ -22,29 +23,12 @@ use Rattle.tree_model.proofs.Lists.{each-append, each-map, each-any, each-weaker
 
 -- ---- longer paths
 
-and_then-some : {X : Type 0} (o : Option X) → option_and_then (λ x. Some x) o ≡ o
-and_then-some None = refl
-and_then-some (Some x) = refl
-
--- a path leads on to a child
-node_from-push : (t : Topology) (custom : Custom) (node : Node) (path : List ℕ) (j : ℕ) → node_from t custom node (path ++ j ∷ []) ≡ option_and_then (λ n. slice_get (kids_of t custom n) j) (node_from t custom node path)
-node_from-push t custom node [] j = and_then-some (slice_get (kids_of t custom node) j)
-node_from-push t custom node (i ∷ path) j =
-    elim (slice_get (kids_of t custom node) i) as (λ o. option_and_then (λ kid. node_from t custom kid (path ++ j ∷ [])) o ≡ option_and_then (λ n. slice_get (kids_of t custom n) j) (option_and_then (λ kid. node_from t custom kid path) o)) [
-      | None ↦ refl
-      | Some kid ↦ node_from-push t custom kid path j
-    ]
-
 pub node_at-one : (t : Topology) (custom : Custom) (rows : List (List Value)) (i : ℕ) → node_at t custom rows (i ∷ []) ≡ slice_get (kids t origin.Spout rows) i
 node_at-one t custom rows i = and_then-some (slice_get (kids t origin.Spout rows) i)
 
 pub node_at-push : (t : Topology) (custom : Custom) (rows : List (List Value)) (path : List ℕ) (j : ℕ) → path ≢ [] → node_at t custom rows (path ++ j ∷ []) ≡ option_and_then (λ n. slice_get (kids_of t custom n) j) (node_at t custom rows path)
 node_at-push t custom rows [] j some = absurd (some refl)
-node_at-push t custom rows (i ∷ path) j some =
-    elim (slice_get (kids t origin.Spout rows) i) as (λ o. option_and_then (λ node. node_from t custom node (path ++ j ∷ [])) o ≡ option_and_then (λ n. slice_get (kids_of t custom n) j) (option_and_then (λ node. node_from t custom node path) o)) [
-      | None ↦ refl
-      | Some node ↦ node_from-push t custom node path j
-    ]
+node_at-push t custom rows (i ∷ path) j some = node_in-push (kids_of t custom) (kids t origin.Spout rows) i path j
 
 -- ---- the list of the paths
 

@@ -20,6 +20,7 @@ use Rattle.topology_plan.specs.declared.parts.Origin.TheVariants as origin
 use Rattle.topology_plan.specs.declared.parts.StateSpec.{StateSpec}
 use Rattle.topology_plan.specs.declared.parts.Sub.{Sub}
 use Rattle.topology_plan.specs.Topology.{Topology, subs_of, copies_of}
+use Rattle.tuple_tickets.specs.Trees.{descendant, node_in}
 use Rattle.tree_model.specs.declared.write.Write.{Write}
 
 -- A tuple that has come to a component.
@@ -57,17 +58,13 @@ kids_of t custom node =
     kids t (origin.Component node.component) (rows_by custom c.body node.row))
     (slice_get t.components node.component) []
 
--- the node at a path from a node: itself at the empty path, and else each number picks a child
+-- the node at a path from a node
 abbrev pub node_from : Topology → Custom → Node → List ℕ → Option Node
-node_from t custom node [] = Some node
-node_from t custom node (i ∷ path) =
-    option_and_then (λ kid. node_from t custom kid path) (slice_get (kids_of t custom node) i)
+node_from t custom = descendant (kids_of t custom)
 
--- the node at a path in the tree of the spout's rows, which has none at the empty path
+-- the node at a path in the tree of the spout's rows
 abbrev pub node_at : Topology → Custom → List (List Value) → List ℕ → Option Node
-node_at t custom rows [] = None
-node_at t custom rows (i ∷ path) =
-    option_and_then (λ node. node_from t custom node path) (slice_get (kids t origin.Spout rows) i)
+node_at t custom rows = node_in (kids_of t custom) (kids t origin.Spout rows)
 
 -- the tree of the spout's rows has this path
 abbrev pub IsInTree : Topology → Custom → List (List Value) → List ℕ → Type 0

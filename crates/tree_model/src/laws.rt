@@ -1,5 +1,6 @@
 ghost use Rattle.std.specs.Prelude.{◌≡◌, ◌≢◌, ◌≤◌, ℕ, ◌+◌, List, [], ◌∷◌, ◌++◌, All, length, slice_get, slice_range, option_and_then, Some};
 ghost use Rattle.std.specs.List.{filter_map};
+ghost use Rattle.storm_values.specs.declared.value.Root.{Root};
 ghost use Rattle.storm_values.specs.declared.value.Value.{Value};
 ghost use Rattle.topology_plan.specs.Topology.{Topology};
 ghost use Rattle.tree_model.specs.declared.write.Table.{Table};
@@ -8,6 +9,10 @@ ghost use Rattle.topology_plan.specs.Valid.{IsValid};
 ghost use Rattle.topology_plan.specs.Wired.{IsWired, width_of, width_to};
 ghost use Rattle.bolt_ops.specs.RowOp.{Custom, IsCustom};
 ghost use Rattle.storm_values.specs.Rows.{IsRow};
+ghost use Rattle.tuple_tickets.specs.Lists as tickets;
+ghost use Rattle.tree_model.specs.declared.messages.AckMsg.{AckMsg};
+ghost use Rattle.tree_model.specs.Courses.{growth_of};
+ghost use Rattle.tree_model.specs.Lists.{all_said, AreTrueOf};
 ghost use Rattle.tree_model.specs.Paths.{ArePathsOf, write_at};
 ghost use Rattle.tree_model.specs.Tables.{AreTables};
 ghost use Rattle.tree_model.specs.Trees.{Node, exec_at, kids, kids_of, node_at, node_count, writes};
@@ -77,4 +82,13 @@ pub fn writes_stand_in_path_order()
     ensures count { (t : Topology) (custom : Custom) (rows : List (List Value))
         (paths : List (List ℕ))
         → IsValid t → ArePathsOf t custom rows paths → node_count t custom rows ≡ length paths }
+{}
+
+/// A law: what a true list says is true of its root's tree, as that grows from these rows. So the
+/// laws of lists in `tuple_tickets` hold of what it says.
+pub fn true_lists_say_what_is_true()
+    ensures { (t : Topology) (custom : Custom) (rows : List (List Value)) (root : Root)
+        (list : List AckMsg)
+        → AreTrueOf t custom rows root list
+        → tickets.AreTrueOf (growth_of t custom (λ r. rows)) root (all_said list) }
 {}

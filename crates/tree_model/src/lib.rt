@@ -5,7 +5,6 @@
 #![tactic(auto)]
 
 mod laws;
-mod list_laws;
 mod messages;
 mod packed;
 mod plain;
@@ -17,12 +16,8 @@ pub use bolt_ops;
 pub use counted_items;
 pub use laws::{
     children_are_made_of_rows, nodes_of_joined_rows, paths_lead_to_children,
-    rows_of_nodes_are_within_limits, tables_are_one, writes_of_joined_rows,
-    writes_stand_in_path_order,
-};
-pub use list_laws::{
-    closed_lists_cover, complete_lists_cover, covering_lists_are_closed,
-    what_does_not_cancel_does_not_coincide, words_are_of_open_edges,
+    rows_of_nodes_are_within_limits, tables_are_one, true_lists_say_what_is_true,
+    writes_of_joined_rows, writes_stand_in_path_order,
 };
 pub use messages::{AckMsg, Done, Draw, FailNote, Init, Parcel, Parcels, Tuple};
 pub use packed::{LentWrite, PackedWrites};

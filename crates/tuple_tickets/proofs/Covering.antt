@@ -130,7 +130,7 @@ module _ {N : Type 0} (g : Growth N) (r : Root) where
 
   -- ---- no message is a failure
 
-  consumed_goes : (path : List ℕ) (n : N) → node_at g r path ≡ Some n → (ms : List Message) → AreTrueOf g r ms → 1 ≤ weigh (consumes path) ms → g.course r n ≡ goes
+  pub consumed_goes : (path : List ℕ) (n : N) → node_at g r path ≡ Some n → (ms : List Message) → AreTrueOf g r ms → 1 ≤ weigh (consumes path) ms → g.course r n ≡ goes
   consumed_goes path n there [] all some = absurd (omega arith)
   consumed_goes path n there (init es ∷ ms) all some = consumed_goes path n there ms all.1 (omega arith)
   consumed_goes path n there (failed p ∷ ms) all some = consumed_goes path n there ms all.1 (omega arith)

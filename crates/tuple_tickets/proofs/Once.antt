@@ -10,7 +10,7 @@ use Rattle.counted_items.proofs.Weighing.{weigh-append, weigh-le, weigh-zero, we
 use Rattle.tuple_tickets.specs.Paths.{path_eq}
 use Rattle.tuple_tickets.specs.Roots.{root_eq}
 use Rattle.tuple_tickets.specs.Tickets.{Ticket, Begun, Run, Account, is_begun, is_at, tickets_from, first_tickets, made_by, made_of, issued, IsAccount, IsNode}
-use Rattle.tuple_tickets.specs.Trees.{Course, goes, fails, mute, Growth, node_from, node_at}
+use Rattle.tuple_tickets.specs.Trees.{Course, goes, fails, mute, Growth, descendant, node_in, node_at}
 use Rattle.tuple_tickets.proofs.Codes.{ticket_code}
 use Rattle.tuple_tickets.proofs.Paths.{ends-apart, by_ends, other_path, same_end}
 
@@ -126,21 +126,26 @@ pub and_then-some : {X : Type 0} (o : Option X) → option_and_then (λ x. Some 
 and_then-some None = refl
 and_then-some (Some x) = refl
 
-module _ {N : Type 0} (g : Growth N) where
-  node_from-push : (n : N) (path : List ℕ) (j : ℕ) → node_from g n (path ++ j ∷ []) ≡ option_and_then (λ m. slice_get (g.kids m) j) (node_from g n path)
-  node_from-push n [] j = and_then-some (slice_get (g.kids n) j)
-  node_from-push n (i ∷ path) j =
-      elim (slice_get (g.kids n) i) as (λ o. option_and_then (λ kid. node_from g kid (path ++ j ∷ [])) o ≡ option_and_then (λ m. slice_get (g.kids m) j) (option_and_then (λ kid. node_from g kid path) o)) [
+module _ {N : Type 0} (kids : N → List N) where
+  descendant-push : (n : N) (path : List ℕ) (j : ℕ) → descendant kids n (path ++ j ∷ []) ≡ option_and_then (λ m. slice_get (kids m) j) (descendant kids n path)
+  descendant-push n [] j = and_then-some (slice_get (kids n) j)
+  descendant-push n (i ∷ path) j =
+      elim (slice_get (kids n) i) as (λ o. option_and_then (λ kid. descendant kids kid (path ++ j ∷ [])) o ≡ option_and_then (λ m. slice_get (kids m) j) (option_and_then (λ kid. descendant kids kid path) o)) [
         | None ↦ refl
-        | Some kid ↦ node_from-push kid path j
+        | Some kid ↦ descendant-push kid path j
       ]
 
-  pub node_at-push : (r : Root) (i : ℕ) (path : List ℕ) (j : ℕ) → node_at g r ((i ∷ path) ++ j ∷ []) ≡ option_and_then (λ m. slice_get (g.kids m) j) (node_at g r (i ∷ path))
-  node_at-push r i path j =
-      elim (slice_get (g.firsts r) i) as (λ o. option_and_then (λ n. node_from g n (path ++ j ∷ [])) o ≡ option_and_then (λ m. slice_get (g.kids m) j) (option_and_then (λ n. node_from g n path) o)) [
+  -- a path leads on to a child
+  pub node_in-push : (firsts : List N) (i : ℕ) (path : List ℕ) (j : ℕ) → node_in kids firsts ((i ∷ path) ++ j ∷ []) ≡ option_and_then (λ m. slice_get (kids m) j) (node_in kids firsts (i ∷ path))
+  node_in-push firsts i path j =
+      elim (slice_get firsts i) as (λ o. option_and_then (λ n. descendant kids n (path ++ j ∷ [])) o ≡ option_and_then (λ m. slice_get (kids m) j) (option_and_then (λ n. descendant kids n path) o)) [
         | None ↦ refl
-        | Some n ↦ node_from-push n path j
+        | Some n ↦ descendant-push n path j
       ]
+
+module _ {N : Type 0} (g : Growth N) where
+  pub node_at-push : (r : Root) (i : ℕ) (path : List ℕ) (j : ℕ) → node_at g r ((i ∷ path) ++ j ∷ []) ≡ option_and_then (λ m. slice_get (g.kids m) j) (node_at g r (i ∷ path))
+  node_at-push r = node_in-push g.kids (g.firsts r)
 
   -- a node at a longer path is a child of a node at the path
   pub led : (r : Root) (i : ℕ) (q : List ℕ) (k : ℕ) (n : N) → node_at g r ((i ∷ q) ++ k ∷ []) ≡ Some n → (m : N) × (node_at g r (i ∷ q) ≡ Some m) × (slice_get (g.kids m) k ≡ Some n)

@@ -102,7 +102,7 @@ pub none-left : (left : List Edge) → ((e : Edge) → times e left ≡ 0) → l
 none-left [] zero_each = refl
 none-left (e ∷ left) zero_each = let z = zero_each e in let one : is_edge e e ≡ 1 = rw (edge_itself e) refl in absurd (omega arith)
 
-xor-append : (xs ys : List Edge) → xor_ids (xs ++ ys) ≡ bit_xor (xor_ids xs) (xor_ids ys)
+pub xor-append : (xs ys : List Edge) → xor_ids (xs ++ ys) ≡ bit_xor (xor_ids xs) (xor_ids ys)
 xor-append [] ys = sym (xor_zero_l (xor_ids ys))
 xor-append (x ∷ xs) ys = ap (bit_xor x.id) (xor-append xs ys) ∙ sym (xor_assoc x.id (xor_ids xs) (xor_ids ys))
 

@@ -26,6 +26,10 @@ closed-none list edges are_open closed = none-left edges (λ e. are_open e ∙ c
 pub none-closed : (list : List Message) (edges : List Edge) → AreOpen list edges → edges ≡ [] → IsClosed list
 none-closed list edges are_open none e = sym (are_open e) ∙ ap (times e) none
 
+-- a list is closed exactly where it has no open edges
+pub closed_empty : (list : List Message) (edges : List Edge) → AreOpen list edges → IsClosed list ↔ (edges ≡ [])
+closed_empty list edges are_open = (closed-none list edges are_open, none-closed list edges are_open)
+
 pub closed_word : (list : List Message) → IsClosed list → word list ≡ 0
 closed_word list closed = word_of_open list [] (λ e. sym (closed e))
 
@@ -56,6 +60,16 @@ zero_closed list none begins zero_word = by_left (left_of (occurrences list)) re
       cancel = sym (word_of_open list (left_of (occurrences list)) (left_are_open list)) ∙ zero_word;
     }))
 
+-- a list that is told as complete and is not closed coincides
+pub complete_coincides : (list : List Message) → IsComplete list → (IsClosed list → ⊥) → Coincides list
+complete_coincides list complete not_closed = record {
+  begins = complete.begins;
+  edges = left_of (occurrences list);
+  are_open = left_are_open list;
+  are_some = λ none. not_closed (none-closed list (left_of (occurrences list)) (left_are_open list) none);
+  cancel = sym (word_of_open list (left_of (occurrences list)) (left_are_open list)) ∙ complete.zero_word;
+}
+
 -- ---- complete and covered
 
 module _ {N : Type 0} (g : Growth N) (r : Root) (list : List Message) (all_true : AreTrueOf g r list) where
@@ -79,3 +93,6 @@ module _ {N : Type 0} (g : Growth N) (r : Root) (list : List Message) (all_true 
 
     pub covered_if_complete : (Coincides list → ⊥) → IsComplete list → Covers g r list
     covered_if_complete none complete = covered_if_closed (let a = single.begins in let b = complete.begins in omega arith) (zero_closed list none complete.begins complete.zero_word)
+
+    pub complete_covers : (Coincides list → ⊥) → IsComplete list ↔ Covers g r list
+    complete_covers none = (covered_if_complete none, complete_if_covered)

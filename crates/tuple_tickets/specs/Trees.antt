@@ -30,10 +30,6 @@ module _ {N : Type 0} where
   node_in kids firsts (i ∷ path) =
       option_and_then (λ node. descendant kids node path) (slice_get firsts i)
 
-  -- the node at a path from a node
-  abbrev pub node_from : Growth N → N → List ℕ → Option N
-  node_from g = descendant g.kids
-
   -- the node at a path in a root's tree
   abbrev pub node_at : Growth N → Root → List ℕ → Option N
   node_at g root = node_in g.kids (g.firsts root)

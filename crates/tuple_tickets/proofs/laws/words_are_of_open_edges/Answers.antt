@@ -1,6 +1,6 @@
 use Rattle.tuple_tickets.specs.Lists.{occurrences}
 use Rattle.tuple_tickets.proofs.Toggles.{left_of}
-use Rattle.tuple_tickets.proofs.Words.{left_are_open, open_there, word_of_open, closed-none, none-closed}
+use Rattle.tuple_tickets.proofs.Words.{left_are_open, open_there, word_of_open, closed_empty}
 use Rattle.tuple_tickets.proofs.laws.words_are_of_open_edges.Goals as goal
 
 pub returns-clause-are_there : goal.returns-clause-are_there
@@ -13,4 +13,4 @@ pub returns-clause-word : goal.returns-clause-word
 returns-clause-word c = word_of_open
 
 pub returns-clause-closed : goal.returns-clause-closed
-returns-clause-closed c = λ list edges are_open. (closed-none list edges are_open, none-closed list edges are_open)
+returns-clause-closed c = closed_empty
