@@ -23,6 +23,7 @@ use Rattle.tree_model.specs.declared.write.Write.{Write}
 use Rattle.tree_model.specs.Lists.{consumes, AreTrueOf, IsTrueOf, IsSingle, Covers}
 use Rattle.tree_model.specs.Paths.{ArePathsOf, write_at}
 use Rattle.tree_model.specs.Trees.{Node, IsInTree, node_at, write_of, writes}
+use Rattle.tree_model.proofs.Reading.{consumed_said}
 use Rattle.tree_model.proofs.TreePaths.{writes_in_order}
 use Rattle.commit_writes.specs.Writes.{done_in, dones_in, writes_in, AreInPathOrder, AreWritesOf}
 use Rattle.commit_writes.proofs.Rising.{path_of, rising}
@@ -57,7 +58,7 @@ module _ (t : Topology) (custom : Custom) (rows : List (List Value)) where
 
   node_of : (root : Root) (m : AckMsg) → IsTrueOf t custom rows root m → AllByRecursion HasNode (done_in m)
   node_of root (msg.Init m) is_true = tt
-  node_of root (msg.Done m) is_true = let says = is_true.says_true in (record { node = says.0; there = says.1; written = says.4 }, tt)
+  node_of root (msg.Done m) is_true = let says = is_true.says_true in (record { node = says.0; there = says.1; written = is_true.carries ∙ ap (λ o. option_to_list (option_and_then (write_of t) o)) says.1 }, tt)
   node_of root (msg.Failed m) is_true = tt
 
   nodes_of_dones : (root : Root) (list : List AckMsg) → AreTrueOf t custom rows root list → AllByRecursion HasNode (dones_in list)
@@ -94,11 +95,12 @@ module _ (t : Topology) (custom : Custom) (rows : List (List Value)) where
       λ is_in. let node = node_in (node_at t custom rows path) is_in in
           let some = covers.consumed path node.0 node.1 in
           let count = consumed-ordered path list ds same in
+          let said = consumed_said list path in
           path_among path (map path_of ds) (Contains (map path_of ds)) (recursion_from_All (Contains (map path_of ds)) (map path_of ds) (All-contains_itself (map path_of ds))) (omega arith),
       λ among. All-contains (IsInTree t custom rows) (map path_of ds) path
           (All-from_recursion (IsInTree t custom rows) (map path_of ds) (each-to_map (IsInTree t custom rows) path_of ds (each-weaker HasNode (λ d. IsInTree t custom rows (path_of d)) in_tree ds (nodes_in_order root list ds are_true same)))) among,
     );
-    ordered = rising ds ordered (λ path. let count = consumed-ordered path list ds same in let one = single.consumed path in omega arith);
+    ordered = rising ds ordered (λ path. let count = consumed-ordered path list ds same in let said = consumed_said list path in let one = single.consumed path in omega arith);
   }
 
   -- and so what they write is what the tree's state nodes write

@@ -1,9 +1,9 @@
 -- The calls that stand for messages have their word, and as many inits and fails.
-use Rattle.std.proofs.Common.{◌≡◌, ℕ, ◌+◌, ◌==◌, Bool, true, false, cond, eq-eqb, bit_xor, List, [], ◌∷◌, ◌++◌, filter, sym, refl, ap, ◌∙◌, arith}
-use Rattle.std.specs.Int.Bits.{xor_assoc, xor_zero_l}
+use Rattle.std.proofs.Common.{◌≡◌, ℕ, ◌+◌, ◌==◌, Bool, true, false, cond, eq-eqb, bit_xor, List, [], ◌∷◌, filter, sym, refl, ap, ◌∙◌, arith}
+use Rattle.std.specs.Int.Bits.{xor_zero_l}
 use Rattle.tree_model.specs.counted_items.Weights.{weigh}
-use Rattle.tree_model.specs.tuple_tickets.declared.edge.Edge.{Edge}
 use Rattle.tree_model.specs.tuple_tickets.Edges.{xor_ids}
+use Rattle.tree_model.proofs.tuple_tickets.Toggles.{xor-append}
 use Rattle.tree_model.specs.declared.messages.AckMsg.{AckMsg}
 use Rattle.tree_model.specs.declared.messages.AckMsg.TheVariants as msg
 use Rattle.tree_model.specs.Lists.{word, occurrences, occurrences_in, is_init, is_failed}
@@ -12,10 +12,6 @@ use Rattle.shared_ledger.specs.declared.rule.Book.{Book}
 use Rattle.shared_ledger.specs.Books.{word_at, fail_at, init_at, toggles, fail_weight, init_weight, word_of, fails_of, inits_of}
 use Rattle.shared_ledger.specs.Xors.{xor_by}
 use Rattle.ledger_words.specs.Notes.{call_at, calls_at, HoldsNotes}
-
-xor-append : (xs ys : List Edge) → xor_ids (xs ++ ys) ≡ bit_xor (xor_ids xs) (xor_ids ys)
-xor-append [] ys = sym (xor_zero_l (xor_ids ys))
-xor-append (x ∷ xs) ys = ap (bit_xor x.id) (xor-append xs ys) ∙ sym (xor_assoc x.id (xor_ids xs) (xor_ids ys))
 
 -- the calls on a root
 abbrev calls_on : ℕ → List Call → List Call
