@@ -5,15 +5,12 @@ use Rattle.std.specs.Int.Bits.{xor_assoc, xor_zero_l, xor_zero_r}
 use Rattle.rotating_ledger.specs.Told.{merged}
 use Rattle.tree_model.specs.tuple_tickets.declared.edge.Edge.{Edge}
 use Rattle.tree_model.specs.tuple_tickets.Edges.{xor_ids}
+use Rattle.tree_model.proofs.tuple_tickets.Toggles.{xor-append}
 use Rattle.tree_model.specs.declared.messages.AckMsg.{AckMsg}
 use Rattle.tree_model.specs.declared.messages.AckMsg.TheVariants.{Init, Done, Failed}
 use Rattle.tree_model.specs.Lists.{occurrences, occurrences_in, word}
 use Rattle.acker_core.specs.Entries.{has_init, first_failed}
 use Rattle.acker_core.specs.States.{state_of, state_in}
-
-xor-append : (xs ys : List Edge) → xor_ids (xs ++ ys) ≡ bit_xor (xor_ids xs) (xor_ids ys)
-xor-append [] ys = sym (xor_zero_l (xor_ids ys))
-xor-append (x ∷ xs) ys = ap (bit_xor x.id) (xor-append xs ys) ∙ sym (xor_assoc x.id (xor_ids xs) (xor_ids ys))
 
 word_in : (m : AckMsg) → xor_ids (occurrences_in m) ≡ (state_in m).word
 word_in (Init m) = refl

@@ -9,6 +9,7 @@ use Rattle.rotating_ledger.specs.declared.state.Told.TheVariants as ledger
 use Rattle.tree_model.specs.declared.messages.AckMsg.{AckMsg}
 use Rattle.tree_model.specs.declared.messages.AckMsg.TheVariants.{Init, Done, Failed}
 use Rattle.tree_model.specs.Lists.{word, is_init, is_failed, IsComplete}
+use Rattle.tree_model.proofs.Reading.{inits_said, failures_said}
 use Rattle.acker_core.specs.declared.verdict.Verdict.{Verdict}
 use Rattle.acker_core.specs.declared.verdict.Verdict.TheVariants.{Complete, Fails}
 use Rattle.acker_core.specs.Entries.{has_init, first_failed, tell_by, tell}
@@ -131,9 +132,15 @@ pub complete-told : (root : Root) (list : List AckMsg) → (tell root list ≡ S
 complete-told root list = (
   (λ is.
       let p = parts root list (has_init list) (first_failed list) (word list == 0) (ap is_complete is) in
-      record { begins = init-weighs list p.begun; none_failed = none-weighs list p.none_failed; zero_word = eqb-true (word list) 0 p.zero_word }),
+      let inits = inits_said list in
+      let failures = failures_said list in
+      let begun = init-weighs list p.begun in
+      let none_failed = none-weighs list p.none_failed in
+      record { begins = omega arith; none_failed = omega arith; zero_word = eqb-true (word list) 0 p.zero_word }),
   λ complete.
-      ap (λ (b : Bool). tell_by root list b (first_failed list) (word list == 0)) (weighs-init list complete.begins)
-      ∙ ap (λ (f : Option (List ℕ)). tell_by root list true f (word list == 0)) (weighs-none list complete.none_failed)
+      let begun : 1 ≤ weigh is_init list = let inits = inits_said list in let b = complete.begins in omega arith in
+      let none_failed : weigh is_failed list ≡ 0 = let failures = failures_said list in let n = complete.none_failed in omega arith in
+      ap (λ (b : Bool). tell_by root list b (first_failed list) (word list == 0)) (weighs-init list begun)
+      ∙ ap (λ (f : Option (List ℕ)). tell_by root list true f (word list == 0)) (weighs-none list none_failed)
       ∙ ap (λ (z : Bool). tell_by root list true None z) (eq-eqb (word list) 0 complete.zero_word),
 )

@@ -4,6 +4,7 @@ use Rattle.std.specs.Prelude.{slice_get}
 use Rattle.std.specs.List.{AllByRecursion}
 use Rattle.std.specs.Ordering.{ordering_reverse}
 use Rattle.std.proofs.lemmas.Cmp.{nat_list_cmp_total}
+use Rattle.std.proofs.lemmas.List.Folds.{flat_map-map}
 use Rattle.tree_model.specs.counted_items.Weights.{Same, weigh}
 use Rattle.tree_model.proofs.counted_items.Each.{each-append, each-weaker}
 use Rattle.tree_model.proofs.counted_items.Sums.{same-IsPermutation}
@@ -14,7 +15,8 @@ use Rattle.tree_model.specs.tuple_tickets.Edges.{is_edge}
 use Rattle.tree_model.specs.declared.messages.AckMsg.{AckMsg}
 use Rattle.tree_model.specs.declared.messages.AckMsg.TheVariants as msg
 use Rattle.tree_model.specs.declared.messages.Done.{Done}
-use Rattle.tree_model.specs.Lists.{IsClosed, occurrences, occurrences_in}
+use Rattle.tree_model.specs.tuple_tickets.Lists as tickets
+use Rattle.tree_model.specs.Lists.{said, IsClosed, occurrences_in}
 use Rattle.commit_writes.specs.Writes.{AreInPathOrder, HasDoneAt, IsPathOrderOf, done_of, dones_at, dones_in}
 use Rattle.acker_core.specs.declared.follow.LentEdge.{LentEdge}
 use Rattle.acker_core.specs.declared.follow.Open.{Open}
@@ -216,7 +218,8 @@ module _ (list : List AckMsg) where
       closed : IsClosed list
       closed e =
           let f = is_edge e in
-          let same = same-IsPermutation (occurrences list) (flat_map (λ (k : ℕ). edges_of (slice_get list k)) (init.place ∷ order)) (whole_at edges_of refl list (init.place ∷ order) no_twice all_there count) f in
+          let same = same-IsPermutation (flat_map occurrences_in list) (flat_map (λ (k : ℕ). edges_of (slice_get list k)) (init.place ∷ order)) (whole_at edges_of refl list (init.place ∷ order) no_twice all_there count) f in
+          let each = ap (weigh f) (flat_map-map tickets.occurrences_in said list) in
           let flat = weigh-flat_map f (λ (k : ℕ). edges_of (slice_get list k)) (init.place ∷ order) in
           let first : weigh f (edges_of (slice_get list init.place)) ≡ weigh f init.init.edges = ap (λ (o : Option AckMsg). weigh f (edges_of o)) init.there in
           let are = ap (weigh f) init.are in
