@@ -14,9 +14,10 @@ use Rattle.tree_model.specs.storm_values.declared.value.Value.{Value}
 use Rattle.tree_model.specs.topology_plan.Topology.{Topology}
 use Rattle.tree_model.specs.topology_plan.Valid.{IsValid}
 use Rattle.tree_model.specs.declared.messages.AckMsg.{AckMsg}
-use Rattle.tree_model.specs.Lists.{IsClosed, IsComplete, Coincides}
+use Rattle.tree_model.specs.Lists.{all_said}
 use Rattle.tree_model.specs.Trees.{node_count}
-use Rattle.tree_model.proofs.ListLaws.{open_edges, word_open, closed_empty, closed_covers}
+use Rattle.tree_model.proofs.Reading.{growth, all_true_said}
+use Rattle.tree_model.proofs.tuple_tickets.Words.{complete_coincides, covered_if_closed}
 use Rattle.tuple_account.specs.Drawn.{AreDrawn, started}
 use Rattle.tuple_account.specs.Ends.{Ending, committed, failed, timed_out, coincided, commit_failed, Ended, Desk, verdicts_by, verdicts_of_ends, verdicts_of_waits, list_in, lists_of, CauseBy, HasCause}
 use Rattle.tuple_account.specs.Fits.{CheckedBy, IsEnd, Fits}
@@ -29,17 +30,6 @@ use Rattle.tuple_account.proofs.Drawing.{list_drawn}
 use Rattle.tuple_account.proofs.Reading.{held_met}
 use Rattle.tuple_account.proofs.Routing.{verdict_code}
 use Rattle.tuple_account.proofs.Telling.{heard_causes, heard_told, Says, says}
-
--- a list that is told as complete and is not closed coincides
-coincides : (list : List AckMsg) → IsComplete list → (IsClosed list → ⊥) → Coincides list
-coincides list complete not_closed =
-    let edges = open_edges list in record {
-      begins = complete.begins;
-      edges = edges.0;
-      are_open = edges.1;
-      are_some = λ none. not_closed ((closed_empty list edges.0 edges.1).1 none);
-      cancel = sym (word_open list edges.0 edges.1) ∙ complete.zero_word;
-    }
 
 -- the messages that a verdict has
 abbrev in_verdict : (AckMsg → ℕ) → Verdict → ℕ
@@ -86,11 +76,11 @@ module _ (t : Topology) (custom : Custom) (h : History) (b : Station) (reached :
       by (committed list) all closed = (
         all.0.0,
         closed,
-        closed_covers t custom (rows_of a.root) a.root list all.0.0.is_true closed (let x = all.0.1.begins in let y = all.0.0.is_single.begins in omega arith),
+        covered_if_closed (growth t custom (rows_of a.root)) a.root (all_said list) (all_true_said t custom (rows_of a.root) a.root list all.0.0.is_true) (let x = all.0.1.begins in let y = all.0.0.is_single.begins in omega arith) closed,
       )
       by (failed path) all checked = all.0
       by timed_out all checked = (checked, is.finishes)
-      by (coincided list) all open_list = (all.0.0, coincides list all.0.1 open_list)
+      by (coincided list) all open_list = (all.0.0, complete_coincides (all_said list) all.0.1 open_list)
       by (commit_failed component part first last) all checked = checked
 
   -- each end has its cause

@@ -1,5 +1,5 @@
 -- The laws of tickets, read off for tuples.
-use Rattle.std.proofs.Common.{◌≡◌, ◌≢◌, ℕ, ◌≤◌, Bool, true, false, cond, List, [], ◌∷◌, length, map, flat_map, Some, IsSome, sym, refl, ap, subst, ◌∙◌, arith}
+use Rattle.std.proofs.Common.{◌≡◌, ◌≢◌, ℕ, ◌≤◌, Bool, true, false, cond, List, [], ◌∷◌, length, map, flat_map, Some, IsSome, option_and_then, option_to_list, sym, refl, ap, subst, ◌∙◌, arith}
 use Rattle.std.specs.List.{AllByRecursion}
 use Rattle.tree_model.specs.bolt_ops.RowOp.{Custom}
 use Rattle.tree_model.specs.counted_items.Weights.{weigh, Within}
@@ -26,9 +26,9 @@ use Rattle.tree_model.proofs.tuple_tickets.Stuck.{all_covered}
 use Rattle.tree_model.proofs.tuple_tickets.Told.{paths_of_tickets, list_single, list_steady}
 use Rattle.tree_model.specs.declared.messages.AckMsg.{AckMsg}
 use Rattle.tree_model.specs.declared.messages.Tuple.{Tuple}
-use Rattle.tree_model.specs.Lists.{root_of, said, is_failed, IsTrueOf, AreTrueOf, IsSingle, IsSteady, Covers}
-use Rattle.tree_model.specs.Trees.{Node, kids, kids_of, node_count}
-use Rattle.tree_model.proofs.Reading.{read_at, inits_said, failures_said, consumed_said, single_read, steady_read}
+use Rattle.tree_model.specs.Lists.{root_of, all_said, is_failed, IsTrueOf, AreTrueOf, IsSingle, IsSteady, Covers}
+use Rattle.tree_model.specs.Trees.{Node, kids, kids_of, node_count, write_of}
+use Rattle.tree_model.proofs.Reading.{failures_said}
 use Rattle.tree_model.proofs.TreePaths.{paths, paths_are, as_many_paths}
 use Rattle.tuple_account.specs.Accounts.{Account, is_begun, is_of, is_at, notes_about, issued, issued_notes, IsBegun, IsRun, IsAccount, IsNode}
 use Rattle.tuple_account.specs.Issued.{Begun, Run, node_of, tuples_from, edges_of, init_of, course_of_run, notes_by, notes_of}
@@ -59,6 +59,7 @@ module _ (t : Topology) (custom : Custom) (rows_of : Root → List (List Value))
   init_true b well = record {
     of_root = refl;
     says_true = paths_of_tuples b.root [] (kids t origin.Spout b.rows) b.ids well.ids ∙ ap (λ (rows : List (List Value)). paths_below [] 0 (length (kids t origin.Spout rows))) well.rows;
+    carries = tt;
   }
 
   run_true : (u : Run) → IsRun t custom u → IsNode t custom rows_of u.tuple → AllByRecursion IsTrueNote (notes_of t custom u)
@@ -68,18 +69,18 @@ module _ (t : Topology) (custom : Custom) (rows_of : Root → List (List Value))
       cases goes is = (
         record {
           of_root = refl;
+          carries = ap (λ o. option_to_list (option_and_then (write_of t) o)) (sym node);
           says_true = (
             node_of u.tuple,
             node,
             is,
             ap (λ (c : Course). paths_of (edges_of (made_by c (tuples_from u.tuple.root u.tuple.edge.path 0 (kids_of t custom (node_of u.tuple)) u.ids)))) is
                 ∙ paths_of_tuples u.tuple.root u.tuple.edge.path (kids_of t custom (node_of u.tuple)) u.ids (well is),
-            refl,
           );
         },
         tt,
       )
-      cases fails is = (record { of_root = refl; says_true = (node_of u.tuple, node, is) }, tt)
+      cases fails is = (record { of_root = refl; says_true = (node_of u.tuple, node, is); carries = tt }, tt)
       cases mute is = tt
 
   module _ (a : Account) (account : IsAccount t custom rows_of a) where
@@ -89,16 +90,12 @@ module _ (t : Topology) (custom : Custom) (rows_of : Root → List (List Value))
     pub once : (r : Root) (path : List ℕ) → weigh (is_at r path) (issued t custom a) ≤ 1
     once r path = subst (λ (n : ℕ). n ≤ 1) (issued_read t custom rows_of a account.begun_well (tickets.is_at r path)) (once_tickets.once (grows t custom rows_of) (account_read a) read r path)
 
-    node_read : (tuple : Tuple) → tickets.IsNode (grows t custom rows_of) (ticket_of tuple) → IsNode t custom rows_of tuple
-    node_read tuple there = sym (read_at t custom rows_of tuple.root tuple.edge.path) ∙ there
-
     pub nodes : AllByRecursion (IsNode t custom rows_of) (issued t custom a)
     nodes =
-        each-weaker (λ tuple. tickets.IsNode (grows t custom rows_of) (ticket_of tuple)) (IsNode t custom rows_of) node_read (issued t custom a)
-        (each-map (tickets.IsNode (grows t custom rows_of)) ticket_of (issued t custom a)
+        each-map (tickets.IsNode (grows t custom rows_of)) ticket_of (issued t custom a)
         (each-within (ticket_code node_code) (tickets.IsNode (grows t custom rows_of)) (map ticket_of (issued t custom a)) (tickets.issued (grows t custom rows_of) (account_read a))
         (λ f. let e = issued_read t custom rows_of a account.begun_well f in let m = weigh-map f ticket_of (issued t custom a) in omega arith)
-        (once_tickets.nodes (grows t custom rows_of) node_code (account_read a) read)))
+        (once_tickets.nodes (grows t custom rows_of) node_code (account_read a) read))
 
     pub few : IsValid t → (r : Root) → weigh (is_of r) (issued t custom a) ≤ node_count t custom (rows_of r)
     few valid r =
@@ -106,15 +103,13 @@ module _ (t : Topology) (custom : Custom) (rows_of : Root → List (List Value))
         let are = paths_are t custom (rows_of r) valid in
         let n = as_many_paths t custom (rows_of r) (paths t custom (rows_of r)) valid are in
         let l = few_tickets.few node_code (grows t custom rows_of) (account_read a) read r (paths t custom (rows_of r))
-        (λ path node there. (are.exact path).0 (subst IsSome (sym there ∙ read_at t custom rows_of r path) (in_tree node))) in omega arith
+        (λ path node there. (are.exact path).0 (subst IsSome (sym there) (in_tree node))) in omega arith
       where
         in_tree : (node : Node) → IsSome (Some node)
         in_tree node = refl
 
     pub used_nodes : AllByRecursion (λ (u : Run). IsNode t custom rows_of u.tuple) a.runs
-    used_nodes =
-        each-weaker (λ (u : Run). tickets.IsNode (grows t custom rows_of) (ticket_of u.tuple)) (λ (u : Run). IsNode t custom rows_of u.tuple) (λ u. node_read u.tuple) a.runs
-        (each-map (λ (u : tickets.Run Node). tickets.IsNode (grows t custom rows_of) u.ticket) run_read a.runs (once_tickets.used_nodes (grows t custom rows_of) node_code (account_read a) read))
+    used_nodes = each-map (λ (u : tickets.Run Node). tickets.IsNode (grows t custom rows_of) u.ticket) run_read a.runs (once_tickets.used_nodes (grows t custom rows_of) node_code (account_read a) read)
 
     notes_true : AllByRecursion IsTrueNote (issued_notes t custom a)
     notes_true =
@@ -131,18 +126,14 @@ module _ (t : Topology) (custom : Custom) (rows_of : Root → List (List Value))
           (each-within msg_code (λ (m : AckMsg). (root_of m ≡ r) × IsTrueNote m) list (notes_about r (issued_notes t custom a)) within (each_about IsTrueNote r (issued_notes t custom a) notes_true))
 
       pub are_single : IsSingle list
-      are_single = single_read list (list_single node_code (grows t custom rows_of) (account_read a) read r (map said list) (within_read t custom rows_of a account.begun_well r list within))
+      are_single = list_single node_code (grows t custom rows_of) (account_read a) read r (all_said list) (within_read t custom rows_of a account.begun_well r list within)
 
       pub are_steady : IsSteady list
-      are_steady = steady_read list (list_steady node_code (grows t custom rows_of) (account_read a) read r (map said list) (within_read t custom rows_of a account.begun_well r list within))
+      are_steady = list_steady node_code (grows t custom rows_of) (account_read a) read r (all_said list) (within_read t custom rows_of a account.begun_well r list within)
 
     pub covers : ((f : Tuple → ℕ) → a.waiting f ≡ 0) → AllByRecursion (λ (u : Run). course_of_run t custom u ≢ mute) a.runs
         → (r : Root) (list : List AckMsg) → 1 ≤ weigh (is_begun r) a.begun → Within (notes_about r (issued_notes t custom a)) list → weigh is_failed list ≡ 0 → Covers t custom (rows_of r) list
     covers none_waits none_mute r list begun has_all none_failed =
-        let all = all_covered node_code (grows t custom rows_of) (account_read a) read (λ f. none_waits (λ tuple. f (ticket_of tuple)))
+        all_covered node_code (grows t custom rows_of) (account_read a) read (λ f. none_waits (λ tuple. f (ticket_of tuple)))
         (each-to_map (λ (u : tickets.Run Node). (grows t custom rows_of).course u.ticket.root u.ticket.node ≢ mute) run_read a.runs none_mute)
-        r (map said list) (has_all_read t custom rows_of a account.begun_well r list has_all) (let m = weigh-map (tickets.is_begun r) begun_read a.begun in omega arith) (failures_said list ∙ none_failed) in
-        record {
-          begins = subst (λ (n : ℕ). 1 ≤ n) (inits_said list) all.begins;
-          consumed = λ path node there. subst (λ (n : ℕ). 1 ≤ n) (consumed_said list path) (all.consumed path node (read_at t custom rows_of r path ∙ there));
-        }
+        r (all_said list) (has_all_read t custom rows_of a account.begun_well r list has_all) (let m = weigh-map (tickets.is_begun r) begun_read a.begun in omega arith) (failures_said list ∙ none_failed)

@@ -11,14 +11,14 @@ use Rattle.tree_model.proofs.counted_items.Weighing.{weigh-none, weigh-zero, wei
 use Rattle.rotating_ledger.specs.Held.{Held, value_of}
 use Rattle.tree_model.specs.storm_values.declared.value.Root.{Root}
 use Rattle.tree_model.specs.topology_plan.Topology.{Topology}
-use Rattle.tree_model.specs.tuple_tickets.Edges.{xor_ids}
 use Rattle.tree_model.specs.tuple_tickets.Roots.{root_eq}
 use Rattle.tree_model.specs.tuple_tickets.Trees.{mute}
 use Rattle.tree_model.proofs.tuple_tickets.Roots.{same_root, root_itself}
 use Rattle.tree_model.specs.declared.messages.AckMsg.{AckMsg}
 use Rattle.tree_model.specs.declared.messages.AckMsg.TheVariants as msg
-use Rattle.tree_model.specs.Lists.{is_init, is_failed, word, IsClosed}
-use Rattle.tree_model.proofs.ListLaws.{open_edges, word_open, closed_empty, covering_closed}
+use Rattle.tree_model.specs.Lists.{all_said, is_init, is_failed, word}
+use Rattle.tree_model.proofs.Reading.{growth, all_true_said}
+use Rattle.tree_model.proofs.tuple_tickets.Words.{complete_if_covered}
 use Rattle.tuple_account.specs.Accounts.{is_begun, notes_about, issued_notes}
 use Rattle.tuple_account.specs.Issued.{Run, init_of, course_of_run}
 use Rattle.tuple_account.proofs.Tickets.{weigh-notes_about}
@@ -108,12 +108,6 @@ no_failure root list some none = none_failed_list list (cases (first_failed list
     cases None is = refl
     cases (Some path) is = cc
 
-closed_word : (list : List AckMsg) → IsClosed list → word list ≡ 0
-closed_word list closed =
-    let edges = open_edges list in
-    let none = (closed_empty list edges.0 edges.1).0 closed in
-    word_open list edges.0 edges.1 ∙ ap xor_ids none
-
 some_none : (root : Root) (list : List AckMsg) → tell root list ≡ Some (Complete root list) → tell root list ≡ None → ⊥
 some_none root list some none = apart (sym some ∙ none)
   where
@@ -179,12 +173,11 @@ module _ (t : Topology) (custom : Custom) (h : History) (b : Station) (reached :
         let is_true = sound.are_true t custom (rows_in h.begun) (account_of h b) own root list about in
         let is_single = sound.are_single t custom (rows_in h.begun) (account_of h b) own root list about in
         let is_steady = sound.are_steady t custom (rows_in h.begun) (account_of h b) own root list about in
-        let none_failed = no_failure root list begun_here told_none in
         let covers = sound.covers t custom (rows_in h.begun) (account_of h b) own (λ f. stuck.none_waits (on_tuple f))
         (each-to_map (λ (u : Run). course_of_run t custom u ≢ mute) (λ (e : Execution). e.run) h.runs stuck.none_mute) root list
-        (let m = weigh_begun in omega arith) has_all none_failed in
-        let closed = covering_closed t custom (rows_in h.begun root) root list is_true is_single is_steady covers in
-        some_none root list ((complete-told root list).1 (record { begins = begun_here; none_failed = none_failed; zero_word = closed_word list closed })) told_none
+        (let m = weigh_begun in omega arith) has_all (no_failure root list begun_here told_none) in
+        let all_true = all_true_said t custom (rows_in h.begun root) root list is_true in
+        some_none root list ((complete-told root list).1 (complete_if_covered (growth t custom (rows_in h.begun root)) root (all_said list) all_true is_single is_steady covers)) told_none
       where
         weigh_begun : weigh (is_begun root) (map (λ (o : Opening). o.begun) h.begun) ≡ weigh (opens root) h.begun
         weigh_begun = weigh-map (is_begun root) (λ (o : Opening). o.begun) h.begun
