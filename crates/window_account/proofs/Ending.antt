@@ -9,8 +9,9 @@ use Rattle.tree_model.proofs.counted_items.Each.{each-append, each-both, each-we
 use Rattle.tree_model.proofs.counted_items.Equality.{each-within}
 use Rattle.tree_model.proofs.counted_items.Weighing.{weigh-append, weigh-map}
 use Rattle.tree_model.proofs.tuple_tickets.Codes.{root_code, edge_code}
-use Rattle.tree_model.proofs.tuple_tickets.Paths.{same_path}
-use Rattle.tree_model.proofs.ListLaws.{open_edges, word_open, closed_empty, closed_covers, covering_closed, covering_none_failed}
+use Rattle.tree_model.proofs.tuple_tickets.Covering as covering
+use Rattle.tree_model.proofs.tuple_tickets.Words.{closed_word, covered_if_closed}
+use Rattle.tree_model.proofs.Reading.{growth, all_true_said, inits_said, failures_said}
 use Rattle.ledger_words.specs.Notes.{HoldsNotes}
 use Rattle.shared_ledger.specs.declared.rule.Book.{Book}
 use Rattle.shared_ledger.specs.declared.rule.Call.{Call}
@@ -21,16 +22,12 @@ use Rattle.tree_model.specs.storm_values.declared.value.Value.{Value}
 use Rattle.tree_model.specs.topology_plan.Topology.{Topology}
 use Rattle.tree_model.specs.topology_plan.Valid.{IsValid}
 use Rattle.tree_model.specs.tuple_tickets.declared.edge.Edge.{Edge}
-use Rattle.tree_model.specs.tuple_tickets.Edges.{xor_ids}
-use Rattle.tree_model.specs.tuple_tickets.Paths.{path_eq}
+use Rattle.tree_model.specs.tuple_tickets.Lists as tickets
 use Rattle.tree_model.specs.tuple_tickets.Roots.{root_eq}
-use Rattle.tree_model.specs.tuple_tickets.Trees.{goes}
 use Rattle.tree_model.specs.declared.messages.AckMsg.{AckMsg}
-use Rattle.tree_model.specs.declared.messages.AckMsg.TheVariants as msg
 use Rattle.tree_model.specs.declared.messages.Tuple.{Tuple}
-use Rattle.tree_model.specs.Courses.{course_at}
-use Rattle.tree_model.specs.Lists.{root_of, word, is_init, is_failed, consumes, AreTrueOf, IsSingle, IsSteady, IsClosed, Covers}
-use Rattle.tree_model.specs.Trees.{Node, node_at}
+use Rattle.tree_model.specs.Lists.{root_of, all_said, word, is_init, is_failed, AreTrueOf, IsSingle, IsSteady, IsClosed, Covers}
+use Rattle.tree_model.specs.Trees.{node_at}
 use Rattle.tracked_trees.specs.Reached.{is_good}
 use Rattle.tracked_trees.proofs.Good.{all_go, good_of}
 use Rattle.tracked_trees.proofs.Short.{short}
@@ -53,23 +50,6 @@ tuple_code =
 never : {X : Type 0} (xs : List X) → AllByRecursion (λ x. ⊥) xs → xs ≡ []
 never [] all = refl
 never (x ∷ xs) all = absurd all.0
-
--- a node that is consumed goes on
-goes_where : (t : Topology) (custom : Custom) (rows : List (List Value)) (root : Root) (path : List ℕ) (n : Node) → node_at t custom rows path ≡ Some n
-    → (list : List AckMsg) → AreTrueOf t custom rows root list → 1 ≤ weigh (consumes path) list → course_at t custom root.attempt n ≡ goes
-goes_where t custom rows root path n there [] all some = absurd (omega (arith, some))
-goes_where t custom rows root path n there (msg.Init m ∷ list) all some = goes_where t custom rows root path n there list all.1 (omega (arith, some))
-goes_where t custom rows root path n there (msg.Failed m ∷ list) all some = goes_where t custom rows root path n there list all.1 (omega (arith, some))
-goes_where t custom rows root path n there (msg.Done m ∷ list) all some = by (path_eq m.consumed.path path) refl some (goes_where t custom rows root path n there list all.1)
-  where
-    by : (b : Bool) → path_eq m.consumed.path path ≡ b → 1 ≤ cond b 1 0 + weigh (consumes path) list → (1 ≤ weigh (consumes path) list → course_at t custom root.attempt n ≡ goes) → course_at t custom root.attempt n ≡ goes
-    by true is some later =
-        let says = all.0.says_true in
-        let same = same_path m.consumed.path path is in
-        let one : Some says.0 ≡ Some n = sym says.1 ∙ ap (node_at t custom rows) same ∙ there in
-        let node : says.0 ≡ n = cc in
-        ap (course_at t custom root.attempt) (sym node) ∙ says.2
-    by false is some later = later (omega (arith, some))
 
 both_ways : (x y : Bool) → (x ≡ true → y ≡ true) → (y ≡ true → x ≡ true) → x ≡ y
 both_ways true y there back = sym (there refl)
@@ -110,13 +90,16 @@ module _ (t : Topology) (custom : Custom) (valid : IsValid t) (attempt levels : 
     true_told = subst (λ (rs : List (List Value)). AreTrueOf t custom rs (root_at attempt i) told) own_row
         (are_true t custom (rows_of rows) (account_of last.begun last.runs waiting) last.account (root_at attempt i) told whole)
 
+    all_true : tickets.AreTrueOf (growth t custom (row ∷ [])) (root_at attempt i) (all_said told)
+    all_true = all_true_said t custom (row ∷ []) (root_at attempt i) told true_told
+
     single_told : IsSingle told
     single_told = are_single t custom (rows_of rows) (account_of last.begun last.runs waiting) last.account (root_at attempt i) told whole
 
     steady_told : IsSteady told
     steady_told = are_steady t custom (rows_of rows) (account_of last.begun last.runs waiting) last.account (root_at attempt i) told whole
 
-    one_init : weigh is_init told ≡ 1
+    one_init : weigh tickets.is_init (all_said told) ≡ 1
     one_init =
         let r = root_at attempt i in
         let w = λ (m : AckMsg). cond (root_eq (root_of m) r) (is_init m) 0 in
@@ -125,7 +108,8 @@ module _ (t : Topology) (custom : Custom) (valid : IsValid t) (attempt levels : 
         let inits = weigh-map w (init_of t) last.begun in
         let some : 1 ≤ weigh (λ (b : Begun). w (init_of t b)) last.begun = last.all_begun i within in
         let most = single_told.begins in
-        omega (arith, all, cut, inits, some, most)
+        let said = inits_said told in
+        omega (arith, all, cut, inits, some, most, said)
 
     held : (book : Book) → book.calls ≡ calls → HoldsNotes i book told
     held book is =
@@ -133,21 +117,20 @@ module _ (t : Topology) (custom : Custom) (valid : IsValid t) (attempt levels : 
 
     good_is : (list : List AckMsg) (acked : Bool) → list ≡ told → IsJudged list acked → acked ≡ is_good t custom attempt row
     good_is list acked is judged = both_ways acked (is_good t custom attempt row)
-        (λ is_acked. good_of t custom attempt row (λ path node at. goes_where t custom (row ∷ []) (root_at attempt i) path node at told true_told ((covers_told (subst IsClosed is (judged.0 is_acked).2)).consumed path node at)))
+        (λ is_acked. good_of t custom attempt row (λ path node at. covering.consumed_goes (growth t custom (row ∷ [])) (root_at attempt i) path node at (all_said told) all_true ((covers_told (subst IsClosed is (judged.0 is_acked).2)).consumed path node at)))
         (λ good. judged.1 (subst (λ (l : List AckMsg). (word l ≡ 0) × (weigh is_failed l ≡ 0) × IsClosed l) (sym is) (good_told good)))
       where
         covers_told : IsClosed told → Covers t custom (row ∷ []) told
-        covers_told closed = closed_covers t custom (row ∷ []) (root_at attempt i) told true_told closed one_init
+        covers_told closed = covered_if_closed (growth t custom (row ∷ [])) (root_at attempt i) (all_said told) all_true one_init closed
 
         good_told : is_good t custom attempt row ≡ true → (word told ≡ 0) × (weigh is_failed told ≡ 0) × IsClosed told
         good_told good =
             let covers : Covers t custom (row ∷ []) told = subst (λ (rs : List (List Value)). Covers t custom rs told) own_row
             (good_covers t custom (rows_of rows) (account_of last.begun last.runs waiting) last.account (λ f. ap (weigh f) none_left) (root_at attempt i)
             (λ path node at. all_go t custom attempt row valid good path node (subst (λ (rs : List (List Value)). node_at t custom rs path ≡ Some node) own_row at)) (last.all_begun i within)) in
-            let closed = covering_closed t custom (row ∷ []) (root_at attempt i) told true_told single_told steady_told covers in
-            let left = open_edges told in
-            let none = (closed_empty told left.0 left.1).0 closed in
-            (word_open told left.0 left.1 ∙ ap xor_ids none, covering_none_failed t custom (row ∷ []) (root_at attempt i) told true_told single_told steady_told covers, closed)
+            let closed = covering.closed (growth t custom (row ∷ [])) (root_at attempt i) (all_said told) all_true single_told steady_told covers in
+            let none_failed = covering.no_failure (growth t custom (row ∷ [])) (root_at attempt i) (all_said told) all_true covers in
+            (closed_word (all_said told) closed, sym (failures_said told) ∙ none_failed, closed)
 
     pub is_noted : (book : Book) (list : List AckMsg) → book.calls ≡ calls → slice_get lists i ≡ Some list → IsNoted t custom attempt book i row list
     is_noted book list is at = subst (IsNoted t custom attempt book i row) (sym (its_list list at))
@@ -156,7 +139,7 @@ module _ (t : Topology) (custom : Custom) (valid : IsValid t) (attempt levels : 
     pub acked_covers : (list : List AckMsg) (acked : Bool) → slice_get lists i ≡ Some list → IsJudged list acked → acked ≡ true → Covers t custom (row ∷ []) list
     acked_covers list acked at judged is_acked =
         let is = its_list list at in
-        subst (Covers t custom (row ∷ [])) (sym is) (closed_covers t custom (row ∷ []) (root_at attempt i) told true_told (subst IsClosed is (judged.0 is_acked).2) one_init)
+        subst (Covers t custom (row ∷ [])) (sym is) (covered_if_closed (growth t custom (row ∷ [])) (root_at attempt i) (all_said told) all_true one_init (subst IsClosed is (judged.0 is_acked).2))
 
     pub acked_good : (list : List AckMsg) (acked : Bool) → slice_get lists i ≡ Some list → IsJudged list acked → acked ≡ is_good t custom attempt row
     acked_good list acked at judged = good_is list acked (its_list list at) judged
