@@ -15,9 +15,9 @@ use Rattle.commit_order.specs.storm_values.declared.value.Root.{Root}
 use Rattle.commit_order.specs.storm_values.declared.value.Value.{Value}
 use Rattle.commit_order.specs.topology_plan.Topology.{Topology}
 use Rattle.commit_order.specs.tree_model.declared.messages.AckMsg.{AckMsg}
-use Rattle.commit_order.specs.tree_model.Lists.{Covers, IsClosed, IsComplete}
+use Rattle.commit_order.specs.tree_model.Lists.{all_said, Covers, IsClosed, IsComplete}
 use Rattle.commit_order.specs.tree_model.Trees.{node_count}
-use Rattle.commit_order.proofs.tree_model.ListLaws.{closed_covers}
+use Rattle.commit_order.proofs.tree_model.Reading.{growth, all_true_said}
 use Rattle.commit_order.specs.trident_batches.Batches.{Cut}
 use Rattle.commit_order.specs.tuple_account.Drawn.{AreDrawn}
 use Rattle.commit_order.specs.tuple_account.Ends.{Waits, lists_of, verdicts_of_ends, verdicts_of_waits, verdicts_settled}
@@ -28,6 +28,7 @@ use Rattle.commit_order.specs.tuple_account.Places.{before}
 use Rattle.commit_order.specs.tuple_account.Sound.{IsCaused, IsSound}
 use Rattle.commit_order.proofs.tuple_account.Ending.{causes, ends_drawn}
 use Rattle.commit_order.proofs.tuple_account.Routing.{verdict_code}
+use Rattle.commit_order.proofs.tuple_tickets.Words.{covered_if_closed}
 use Rattle.commit_order.proofs.tuple_account.Telling.{heard_causes}
 
 -- what each item of a list has, the one at a place has
@@ -101,5 +102,5 @@ module _ (t : Topology) (custom : Custom) (cut : Cut) (words : ℕ → ℕ → �
       let closed : IsClosed list = waits.closed list is in (
         sound,
         closed,
-        closed_covers t custom (rows_in cut w.root.txid) w.root list sound.is_true closed (let x = complete.begins in let y = sound.is_single.begins in omega arith),
+        covered_if_closed (growth t custom (rows_in cut w.root.txid)) w.root (all_said list) (all_true_said t custom (rows_in cut w.root.txid) w.root list sound.is_true) (let x = complete.begins in let y = sound.is_single.begins in omega arith) closed,
       )
