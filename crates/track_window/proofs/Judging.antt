@@ -5,15 +5,15 @@ use Rattle.shared_ledger.specs.Books.{word_of, fails_of}
 use Rattle.tree_model.specs.counted_items.Weights.{weigh}
 use Rattle.tree_model.specs.tuple_tickets.declared.edge.Edge.{Edge}
 use Rattle.tree_model.specs.declared.messages.AckMsg.{AckMsg}
-use Rattle.tree_model.specs.Lists.{word, is_failed, IsClosed, AreOpen}
-use Rattle.tree_model.proofs.ListLaws.{closed_empty}
+use Rattle.tree_model.specs.Lists.{all_said, word, is_failed, IsClosed, AreOpen}
+use Rattle.tree_model.proofs.tuple_tickets.Words.{closed_empty}
 use Rattle.track_window.specs.Noted.{IsJudged}
 
 pub closed_yes : (list : List AckMsg) → IsClosed list → true ≡ true ↔ IsClosed list
 closed_yes list closed = (λ same. closed, λ again. refl)
 
 pub closed_no : (list : List AckMsg) (edges : List Edge) → AreOpen list edges → edges ≢ [] → false ≡ true ↔ IsClosed list
-closed_no list edges are some = (λ same. absurd (true≢false (sym same)), λ closed. absurd (some ((closed_empty list edges are).0 closed)))
+closed_no list edges are some = (λ same. absurd (true≢false (sym same)), λ closed. absurd (some ((closed_empty (all_said list) edges are).0 closed)))
 
 module _ (number : ℕ) (book : Book) (list : List AckMsg) (words : word_of number book ≡ word list) (fails : fails_of number book ≡ weigh is_failed list) (w : ℕ) (word_is : w ≡ word_of number book) (failed : Bool) (failed_is : failed ≡ true ↔ 1 ≤ fails_of number book) where
   pub judged_word : w ≢ 0 → IsJudged list false
