@@ -9,10 +9,12 @@ use Rattle.storm_values.specs.declared.value.Value.{Value}
 use Rattle.storm_values.specs.declared.value.Value.TheVariants.{Int, Text}
 use Rattle.storm_values.specs.Rows.{IsShort, IsRow}
 use Rattle.topology_plan.specs.declared.parts.Op.{Op}
-use Rattle.topology_plan.specs.declared.parts.Op.TheVariants.{Split, Project, Filter, Set, Len, Route, Flaky, Mute}
-use Rattle.topology_plan.specs.declared.parts.Op.TheVariants as op
-use Rattle.topology_plan.specs.Wired.{IsWithin, IsConstant, width_after}
-use Rattle.bolt_ops.specs.Operations.{keeps as keeps_row, value_at, bytes_of, text_at, pieces, words, out}
+use Rattle.topology_plan.specs.declared.function.Function.{Function}
+use Rattle.topology_plan.specs.declared.function.Function.TheVariants.{Split, Project, Filter, Set, Len, Route, Flaky, Mute}
+use Rattle.topology_plan.specs.declared.function.Function.TheVariants as function
+use Rattle.topology_plan.specs.Functions.{shape, first_field, AreRead, width_left, IsConstant, IsFunctionInRange}
+use Rattle.topology_plan.specs.Wired.{IsWithin, width_after}
+use Rattle.bolt_ops.specs.Operations.{keeps as keeps_row, value_at, bytes_of, text_at, pieces, words, made, out}
 use Rattle.bolt_ops.specs.RowOp.{Custom, IsCustom}
 
 -- ---- the words of a text
@@ -96,22 +98,32 @@ short-constant : (value : Value) → IsConstant value → IsShort value
 short-constant (Int n) constant = tt
 short-constant (Text bytes) constant = omega arith
 
+-- a field that is read is among the values
+first_there : (reads : List ℕ) (n : ℕ) (row : List Value) → IsRow n row → 1 ≤ length reads → All (λ field. field < n) reads → first_field reads < length row
+first_there [] n row is some there = absurd (omega arith)
+first_there (field ∷ reads) n row is some there = rw is.width (All-head (λ f. f < n) field reads there)
+
+-- the rows that a function of some of n fields makes of a row of n values within limits
+made-within : (custom : Custom) (function : Function) (reads : List ℕ) (n : ℕ) (row : List Value)
+    → IsCustom custom → AreRead function reads → All (λ field. field < n) reads → IsFunctionInRange function → IsRow n row
+    → All (IsRow (width_left (shape function).leaves (length reads) n)) (made custom function reads row)
+made-within custom Split reads n row keeps read there range is =
+    one_each (words (text_at row (first_field reads))) (words_fit (text_at row (first_field reads)) (text_fits row (first_field reads) (first_there reads n row is read.0 there) is.short))
+made-within custom Project reads n row keeps read there range is =
+    let inside = subst (λ m. All (λ field. field < m) reads) (sym is.width) there in
+    one_row (length reads) _ (record { width = length-project row reads inside; short = short-project row reads is.short inside })
+made-within custom (Filter test value) reads n row keeps read there range is = kept_or_not n (keeps_row (first_field reads) test value row) row is
+made-within custom (Set value) reads n row keeps read there range is =
+    one_row n _ (record { width = length-set row (first_field reads) value ∙ is.width; short = All-set IsShort row (first_field reads) value (short-constant value range) is.short })
+made-within custom Len reads n row keeps read there range is =
+    one_row (n + 1) _ (record { width = length_push row _ ∙ ap (λ m. m + 1) is.width; short = All-push IsShort row _ is.short tt })
+made-within custom Route reads n row keeps read there range is = one_row n row is
+made-within custom (Flaky below) reads n row keeps read there range is = one_row n row is
+made-within custom (Mute below) reads n row keeps read there range is = one_row n row is
+made-within custom function.Custom reads n row keeps read there range is =
+    λ k d below. record { width = keeps.widths row is.short k d below ∙ is.width; short = keeps.short row is.short k d below }
+
 -- the rows that an operation makes of a row of n values within limits
 pub out-within : (custom : Custom) (operation : Op) (n : ℕ) (row : List Value)
     → IsCustom custom → IsWithin operation n → IsRow n row → All (IsRow (width_after operation n)) (out custom operation row)
-out-within custom (Split field) n row keeps within is =
-    let there : field < length row = rw is.width within in
-    one_each (words (text_at row field)) (words_fit (text_at row field) (text_fits row field there is.short))
-out-within custom (Project fields) n row keeps within is =
-    let there = subst (λ m. All (λ field. field < m) fields) (sym is.width) within.1 in
-    one_row (length fields) _ (record { width = length-project row fields there; short = short-project row fields is.short there })
-out-within custom (Filter field test value) n row keeps within is = kept_or_not n (keeps_row field test value row) row is
-out-within custom (Set field value) n row keeps within is =
-    one_row n _ (record { width = length-set row field value ∙ is.width; short = All-set IsShort row field value (short-constant value within.1) is.short })
-out-within custom (Len field) n row keeps within is =
-    one_row (n + 1) _ (record { width = length_push row _ ∙ ap (λ m. m + 1) is.width; short = All-push IsShort row _ is.short tt })
-out-within custom (Route field) n row keeps within is = one_row n row is
-out-within custom (Flaky below) n row keeps within is = one_row n row is
-out-within custom (Mute below) n row keeps within is = one_row n row is
-out-within custom op.Custom n row keeps within is =
-    λ k d below. record { width = keeps.widths row is.short k d below ∙ is.width; short = keeps.short row is.short k d below }
+out-within custom operation n row keeps within is = made-within custom operation.function operation.reads n row keeps within.0 within.1.0 within.1.1.1 is

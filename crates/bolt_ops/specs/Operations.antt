@@ -8,10 +8,14 @@ use Rattle.storm_values.specs.declared.value.Value.{Value}
 use Rattle.storm_values.specs.declared.value.Value.TheVariants.{Int, Text}
 use Rattle.storm_values.specs.Order.{value_cmp}
 use Rattle.topology_plan.specs.declared.parts.Op.{Op}
-use Rattle.topology_plan.specs.declared.parts.Op.TheVariants.{Split, Project, Filter, Set, Len, Route, Flaky, Mute}
-use Rattle.topology_plan.specs.declared.parts.Op.TheVariants as op
-use Rattle.topology_plan.specs.declared.parts.Test.{Test}
-use Rattle.topology_plan.specs.declared.parts.Test.TheVariants.{Eq, Ne, Lt}
+use Rattle.topology_plan.specs.declared.function.Attempts.{Attempts}
+use Rattle.topology_plan.specs.declared.function.Attempts.TheVariants.{FailBelow, MuteBelow}
+use Rattle.topology_plan.specs.declared.function.Function.{Function}
+use Rattle.topology_plan.specs.declared.function.Function.TheVariants.{Split, Project, Filter, Set, Len, Route, Flaky, Mute}
+use Rattle.topology_plan.specs.declared.function.Function.TheVariants as function
+use Rattle.topology_plan.specs.declared.function.Test.{Test}
+use Rattle.topology_plan.specs.declared.function.Test.TheVariants.{Eq, Ne, Lt}
+use Rattle.topology_plan.specs.Functions.{shape, first_field}
 use Rattle.bolt_ops.specs.RowOp.{Custom}
 use Rattle.bolt_ops.specs.declared.operation.Outcome.{Outcome}
 use Rattle.bolt_ops.specs.declared.operation.Outcome.TheVariants as outcome
@@ -49,27 +53,42 @@ abbrev pub keeps : ℕ → Test → Value → List Value → Bool
 keeps field test value row =
     option_map_or (λ found. passes test (value_cmp found value)) (value_at row field) false
 
--- the rows that an operation makes of a row; `custom` is what the user's own operation means
-abbrev pub out : Custom → Op → List Value → List (List Value)
-out custom (Split field) row = map (λ word. Text word ∷ []) (words (text_at row field))
-out custom (Project fields) row = filter_map (value_at row) fields ∷ []
-out custom (Filter field test value) row = if keeps field test value row then row ∷ [] else []
-out custom (Set field value) row = slice_set row field value ∷ []
-out custom (Len field) row = (row ++ Int (pos (length (text_at row field))) ∷ []) ∷ []
-out custom (Route field) row = row ∷ []
-out custom (Flaky below) row = row ∷ []
-out custom (Mute below) row = row ∷ []
-out custom op.Custom row = custom.rows row
+-- the rows that a function of these fields makes of a row; `custom` is what the user's own operation
+-- means
+abbrev pub made : Custom → Function → List ℕ → List Value → List (List Value)
+made custom Split reads row = map (λ word. Text word ∷ []) (words (text_at row (first_field reads)))
+made custom Project reads row = filter_map (value_at row) reads ∷ []
+made custom (Filter test value) reads row =
+    if keeps (first_field reads) test value row then row ∷ [] else []
+made custom (Set value) reads row = slice_set row (first_field reads) value ∷ []
+made custom Len reads row =
+    (row ++ Int (pos (length (text_at row (first_field reads)))) ∷ []) ∷ []
+made custom Route reads row = row ∷ []
+made custom (Flaky below) reads row = row ∷ []
+made custom (Mute below) reads row = row ∷ []
+made custom function.Custom reads row = custom.rows row
 
--- a flaky operation fails at each attempt below a number; attempts are counted from 1
+-- the rows that an operation makes of a row
+abbrev pub out : Custom → Op → List Value → List (List Value)
+out custom op row = made custom op.function op.reads row
+
+-- whether an attempt fails; attempts are counted from 1
+abbrev pub is_failing : Attempts → ℕ → Bool
+is_failing (FailBelow below) attempt = nat_lt attempt below
+is_failing _ attempt = false
+
+-- whether nothing is answered at an attempt
+abbrev pub is_silent : Attempts → ℕ → Bool
+is_silent (MuteBelow below) attempt = nat_lt attempt below
+is_silent _ attempt = false
+
+-- a flaky operation fails at each attempt below a number
 abbrev pub fails_at : Op → ℕ → Bool
-fails_at (Flaky below) attempt = nat_lt attempt below
-fails_at _ attempt = false
+fails_at op attempt = is_failing (shape op.function).attempts attempt
 
 -- a mute operation answers nothing at each attempt below a number
 abbrev pub is_mute_at : Op → ℕ → Bool
-is_mute_at (Mute below) attempt = nat_lt attempt below
-is_mute_at _ attempt = false
+is_mute_at op attempt = is_silent (shape op.function).attempts attempt
 
 -- what an attempt at a row comes to
 abbrev pub exec_of : Custom → Op → List Value → ℕ → Outcome

@@ -9,7 +9,7 @@ use crate::custom::RowOp;
 use std::alloc::Global;
 use std::cmp::Ordering;
 use storm_values::{Duplicate, Memory, Row, Rows, Txt, Value};
-use topology_plan::{Op, Test};
+use topology_plan::{Attempts, Function, Op, Test};
 
 /// The room for words that is asked for at once.
 const WORD_ROOM: usize = 16;
@@ -37,9 +37,9 @@ pub fn exec<O: RowOp>(
     ensures { IfOk result
         (λ outcome. outcome ≡ exec_of (O.meaning custom.now) op.now row.now attempt) }
 {
-    match op {
-        Op::Flaky { below } if attempt < *below => Ok(Outcome::Fail),
-        Op::Mute { below } if attempt < *below => Ok(Outcome::Mute),
+    match op.function.shape().attempts {
+        Attempts::FailBelow(below) if attempt < below => Ok(Outcome::Fail),
+        Attempts::MuteBelow(below) if attempt < below => Ok(Outcome::Mute),
         _ => Ok(Outcome::Rows(output_rows(alloc, op, row, custom)?)),
     }
 }
@@ -51,20 +51,22 @@ pub fn output_rows<O: RowOp>(alloc: Global, op: &Op, row: &Row, custom: &O) -> R
     requires op { IsWithin op.now (length row.now) }
     ensures { IfOk result (λ rows. rows ≡ out (O.meaning custom.now) op.now row.now) }
 {
-    match op {
-        Op::Split { field } => word_rows(alloc, text_of_field(row, *field)),
-        Op::Project(fields) => one_row(alloc, project(alloc, fields.as_slice(), row)?),
-        Op::Filter { field, test, value } => {
-            if is_kept(*field, *test, value, row) {
+    match &op.function {
+        Function::Split => word_rows(alloc, text_of_field(row, op.field())),
+        Function::Project => one_row(alloc, project(alloc, op.reads.as_slice(), row)?),
+        Function::Filter { test, value } => {
+            if is_kept(op.field(), *test, value, row) {
                 one_row(alloc, row.copy()?)
             } else {
                 Ok(Rows::new(alloc))
             }
         }
-        Op::Set { field, value } => one_row(alloc, with_field(alloc, *field, value, row)?),
-        Op::Len { field } => one_row(alloc, with_len(*field, row)?),
-        Op::Route { .. } | Op::Flaky { .. } | Op::Mute { .. } => one_row(alloc, row.copy()?),
-        Op::Custom => custom.rows(alloc, row),
+        Function::Set { value } => one_row(alloc, with_field(alloc, op.field(), value, row)?),
+        Function::Len => one_row(alloc, with_len(op.field(), row)?),
+        Function::Route => one_row(alloc, row.copy()?),
+        Function::Flaky { .. } => one_row(alloc, row.copy()?),
+        Function::Mute { .. } => one_row(alloc, row.copy()?),
+        Function::Custom => custom.rows(alloc, row),
     }
 }
 

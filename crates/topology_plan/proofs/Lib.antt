@@ -1,2 +1,3 @@
 mod Plans
 pub mod Widths
+pub mod Functions

@@ -1,11 +1,9 @@
 -- What a plan keeps beyond its numbers: whose rows come to whom, with which fields. Widths are
 -- numbers of fields. This project's own.
-use Rattle.std.specs.Prelude.{◌≡◌, ◌≢◌, ◌<◌, ℕ, ◌+◌, ◌-◌, ◌≤◌, List, [], length, map, All, Option, None, IsSome, slice_get, IfSome, Some, sum, take, AllPairs}
+use Rattle.std.specs.Prelude.{◌≡◌, ◌≢◌, ◌<◌, ℕ, ◌-◌, ◌≤◌, List, [], length, map, All, Option, None, IsSome, slice_get, IfSome, Some, sum, take, AllPairs, true}
 use Rattle.std.specs.List.Sorted.{IsStrictlyIncreasing}
 use Rattle.std.specs.Option.{option_map_or}
-use Rattle.storm_values.specs.Limits.{most_fields, most_constant_bytes, most_below, most_tasks, most_bolts, most_states}
-use Rattle.storm_values.specs.declared.value.Value.{Value}
-use Rattle.storm_values.specs.declared.value.Value.TheVariants.{Int, Text}
+use Rattle.storm_values.specs.Limits.{most_fields, most_tasks, most_bolts, most_states}
 use Rattle.topology_plan.specs.declared.parts.Body.{Body}
 use Rattle.topology_plan.specs.declared.parts.Body.TheVariants.{Bolt, State}
 use Rattle.topology_plan.specs.declared.parts.Component.{Component}
@@ -15,11 +13,11 @@ use Rattle.topology_plan.specs.declared.parts.Grouping.{Grouping}
 use Rattle.topology_plan.specs.declared.parts.Grouping.TheVariants as grouping
 use Rattle.topology_plan.specs.declared.parts.Kind.TheVariants.{Opaque}
 use Rattle.topology_plan.specs.declared.parts.Op.{Op}
-use Rattle.topology_plan.specs.declared.parts.Op.TheVariants.{Split, Project, Filter, Set, Len, Route, Flaky, Mute, Custom}
 use Rattle.topology_plan.specs.declared.parts.Origin.{Origin}
 use Rattle.topology_plan.specs.declared.parts.Origin.TheVariants as origin
 use Rattle.topology_plan.specs.declared.parts.StateSpec.{StateSpec}
 use Rattle.topology_plan.specs.declared.parts.Sub.{Sub}
+use Rattle.topology_plan.specs.Functions.{shape, first_field, AreRead, width_left, AreLeftOnce, IsFunctionInRange}
 use Rattle.topology_plan.specs.Texts.{IsName}
 use Rattle.topology_plan.specs.Topology.{Topology, subs_of, inputs_of}
 use Rattle.topology_plan.specs.Valid.{IsBetween}
@@ -47,15 +45,7 @@ width_to t c = length (fields_to t c)
 
 -- how many fields an operation leaves of a row of n
 abbrev pub width_after : Op → ℕ → ℕ
-width_after (Split field) n = 1
-width_after (Project fields) n = length fields
-width_after (Filter field test value) n = n
-width_after (Set field value) n = n
-width_after (Len field) n = n + 1
-width_after (Route field) n = n
-width_after (Flaky below) n = n
-width_after (Mute below) n = n
-width_after Custom n = n
+width_after op n = width_left (shape op.function).leaves (length op.reads) n
 
 -- some fields of a row of n, each once
 abbrev pub AreWithin : List ℕ → ℕ → Type 0
@@ -63,22 +53,12 @@ AreWithin fields n =
     IsBetween (length fields) 1 most_fields × All (λ field. field < n) fields
     × AllPairs (λ a b. a ≢ b) fields
 
--- a number, or a text of at most 256 bytes
-abbrev pub IsConstant : Value → Type 0
-IsConstant (Int number) = Unit {0}
-IsConstant (Text bytes) = length bytes ≤ most_constant_bytes
-
--- the fields of an operation are there, and its numbers and its constant are within their limits
+-- the fields that an operation reads are there, and so many that it may read them, and its numbers
+-- and its constant are within their limits
 abbrev pub IsWithin : Op → ℕ → Type 0
-IsWithin (Split field) n = field < n
-IsWithin (Project fields) n = AreWithin fields n
-IsWithin (Filter field test value) n = (field < n) × IsConstant value
-IsWithin (Set field value) n = (field < n) × IsConstant value
-IsWithin (Len field) n = field < n
-IsWithin (Route field) n = field < n
-IsWithin (Flaky below) n = IsBetween below 1 most_below
-IsWithin (Mute below) n = IsBetween below 1 most_below
-IsWithin Custom n = Unit {0}
+IsWithin op n =
+    AreRead op.function op.reads × All (λ field. field < n) op.reads
+    × AreLeftOnce (shape op.function).leaves op.reads × IsFunctionInRange op.function
 
 -- an amount is there for each fold but count
 abbrev pub HasAmount : Fold → Option ℕ → ℕ → Type 0
@@ -89,10 +69,11 @@ HasAmount Max amount n = IsSome amount × IfSome amount (λ field. field < n)
 
 -- ---- subscriptions
 
--- a direct grouping comes from a route alone, by the route's own field
+-- a direct grouping comes from an operation that chooses tasks alone, by the field that it reads
 abbrev pub IsRouteOf : Body → ℕ → Type 0
-IsRouteOf (Bolt (Route chosen)) field = chosen ≡ field
-IsRouteOf _ field = ⊥
+IsRouteOf (Bolt op) field =
+    ((shape op.function).chooses ≡ true) × (first_field op.reads ≡ field)
+IsRouteOf (State spec) field = ⊥
 
 -- a grouping fits its source: its key is among the source's fields, and where it is
 -- direct, the source is a route

@@ -1,8 +1,10 @@
 //! What a valid topology is, and the plan that runs it.
 #![tactic(auto)]
 
+mod function;
 mod parts;
 mod plan;
 
-pub use parts::{Body, Component, Fold, Grouping, Kind, Op, Origin, StateSpec, Sub, Test};
+pub use function::{Attempts, Function, Leaves, Shape, Test};
+pub use parts::{Body, Component, Fold, Grouping, Kind, Op, Origin, StateSpec, Sub};
 pub use plan::{Made, Plan};

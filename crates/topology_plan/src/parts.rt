@@ -1,6 +1,10 @@
 //! What a topology is made of: bolts and states, and who takes whose rows.
 
-use storm_values::{Indexes, Names, Txt, Value};
+ghost use Rattle.std.specs.Prelude.{◌≡◌};
+ghost use Rattle.topology_plan.specs.Functions.{first_field};
+
+use crate::function::Function;
+use storm_values::{Indexes, Names, Txt};
 
 /// How a spout replays, or how a state keeps its values.
 #[derive(Clone, Copy, Debug, PartialEq, Eq)]
@@ -45,42 +49,24 @@ pub struct Sub {
     pub grouping: Grouping,
 }
 
-#[derive(Clone, Copy, Debug, PartialEq, Eq)]
-pub enum Test {
-    Eq,
-    Ne,
-    Lt,
+/// What a bolt does to a row.
+#[derive(Debug, Drop)]
+pub struct Op {
+    /// The fields that it reads, by their numbers in its input row, counted from 0.
+    pub reads: Indexes,
+    pub function: Function,
 }
 
-/// What a bolt does to a row. Fields are numbers in its input row, counted from 0.
-#[derive(Debug, Drop)]
-pub enum Op {
-    Split {
-        field: u32,
-    },
-    Project(Indexes),
-    Filter {
-        field: u32,
-        test: Test,
-        value: Value,
-    },
-    Set {
-        field: u32,
-        value: Value,
-    },
-    Len {
-        field: u32,
-    },
-    Route {
-        field: u32,
-    },
-    Flaky {
-        below: u32,
-    },
-    Mute {
-        below: u32,
-    },
-    Custom,
+impl Op {
+    /// The first field that it reads.
+    pub fn field(&self) -> u32
+        ensures { result ≡ first_field self.now.reads }
+    {
+        match self.reads.as_slice().first() {
+            Some(field) => *field,
+            None => 0,
+        }
+    }
 }
 
 /// What a state keeps: the fold of an amount for each key.
