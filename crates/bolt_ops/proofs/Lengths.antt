@@ -126,4 +126,4 @@ made-within custom function.Custom reads n row keeps read there range is =
 -- the rows that an operation makes of a row of n values within limits
 pub out-within : (custom : Custom) (operation : Op) (n : ℕ) (row : List Value)
     → IsCustom custom → IsWithin operation n → IsRow n row → All (IsRow (width_after operation n)) (out custom operation row)
-out-within custom operation n row keeps within is = made-within custom operation.function operation.reads n row keeps within.0 within.1.0 within.1.1.1 is
+out-within custom operation n row keeps within is = made-within custom operation.function operation.reads n row keeps within.0 within.1 within.3 is
