@@ -9,7 +9,9 @@ use Rattle.commit_order.specs.topology_plan.declared.parts.Body.{Body}
 use Rattle.commit_order.specs.topology_plan.declared.parts.Body.TheVariants.{Bolt, State}
 use Rattle.commit_order.specs.topology_plan.declared.parts.Component.{Component}
 use Rattle.commit_order.specs.topology_plan.declared.parts.Op.{Op}
-use Rattle.commit_order.specs.topology_plan.declared.parts.Op.TheVariants as op
+use Rattle.commit_order.specs.topology_plan.declared.function.Attempts.{Attempts}
+use Rattle.commit_order.specs.topology_plan.declared.function.Attempts.TheVariants.{MakeRows, FailBelow, MuteBelow}
+use Rattle.commit_order.specs.topology_plan.Functions.{shape}
 use Rattle.commit_order.specs.topology_plan.Topology.{Topology, tasks_in_all}
 use Rattle.commit_order.specs.tree_model.declared.messages.AckMsg.{AckMsg}
 use Rattle.commit_order.specs.tree_model.Trees.{node_count}
@@ -41,17 +43,15 @@ is_tick of_tick = true
 abbrev pub ticks_in : List Step → ℕ
 ticks_in steps = length (filter is_tick steps)
 
+-- attempts that are not the last a plan allows may fail, and none is mute
+abbrev pub EndsByAttempts : Topology → Attempts → Type 0
+EndsByAttempts t MakeRows = Unit {0}
+EndsByAttempts t (FailBelow below) = below ≤ t.attempts
+EndsByAttempts t (MuteBelow below) = below ≤ 1
+
 -- the operation fails at no attempt that is the last a plan allows, and is never mute
 abbrev pub EndsByOp : Topology → Op → Type 0
-EndsByOp t (op.Split field) = Unit {0}
-EndsByOp t (op.Project fields) = Unit {0}
-EndsByOp t (op.Filter field test value) = Unit {0}
-EndsByOp t (op.Set field value) = Unit {0}
-EndsByOp t (op.Len field) = Unit {0}
-EndsByOp t (op.Route field) = Unit {0}
-EndsByOp t (op.Flaky below) = below ≤ t.attempts
-EndsByOp t (op.Mute below) = below ≤ 1
-EndsByOp t op.Custom = Unit {0}
+EndsByOp t op = EndsByAttempts t (shape op.function).attempts
 
 abbrev pub EndsByBody : Topology → Body → Type 0
 EndsByBody t (Bolt o) = EndsByOp t o

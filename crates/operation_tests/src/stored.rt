@@ -7,8 +7,8 @@ use bolt_ops::{Outcome, Reverse, RowFn, RowLaw, StoredOp, exec, reversed_row};
 use sample_operations::{Nothing, Sixteen, copies};
 use std::alloc::Global;
 use std::test::Fail;
-use storm_values::{Memory, Row, Rows, Value};
-use topology_plan::Op;
+use storm_values::{Indexes, Memory, Row, Rows, Value};
+use topology_plan::{Function, Op};
 
 fn pair(alloc: Global) -> Result<Row, Memory>
     ensures { IfOk result (All IsShort) }
@@ -30,7 +30,11 @@ fn made_by<L: RowLaw + Sync, F: RowFn + Sync + Drop>(
     ensures { IfOk result (λ outcome. outcome ≡ Outcome.Rows (L.law.rows row.now)) }
 {
     let op = StoredOp::<L, F>::new(make);
-    exec(alloc, &Op::Custom, row, 1, &op)
+    let custom = Op {
+        reads: Indexes::new(alloc),
+        function: Function::Custom,
+    };
+    exec(alloc, &custom, row, 1, &op)
 }
 
 // The closure catches a number.

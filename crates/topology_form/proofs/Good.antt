@@ -7,7 +7,7 @@ use Rattle.topology_form.specs.Prelude.{Data, Items, no_items, item, Members, no
 use Rattle.storm_values.specs.Json.{value_of}
 use Rattle.storm_values.specs.declared.value.Value.TheVariants.{Int, Text}
 use Rattle.topology_plan.specs.Valid.{IsBetween}
-use Rattle.topology_plan.specs.Wired.{IsConstant}
+use Rattle.topology_plan.specs.Functions.{IsConstant}
 use Rattle.topology_form.specs.Reading.{Form, Reader, of_kind, within, each, some_names, some_objects, a_number, a_name, short, a_constant, an_object, and_then, ◌>>=◌, done, ends, without, read_or, required, optional}
 
 -- P holds of what is read by the form

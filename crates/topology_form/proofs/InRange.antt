@@ -1,19 +1,20 @@
 -- What a file says is in range.
-use Rattle.topology_form.specs.Prelude.{Data, most_ackers, most_pending, least_buckets, most_buckets, most_attempts, IsName, TopoFault, FileParts, Fold, Count, Sum, Last, Max, Input, ComponentPart}
-use Rattle.topology_form.specs.declared.parts.{GroupingWord.GroupingWord, OperationWord.OperationWord}
+use Rattle.topology_plan.specs.declared.parts.Fold.TheVariants as fold_of
+use Rattle.topology_form.specs.Prelude.{Data, most_ackers, most_pending, least_buckets, most_buckets, most_attempts, TopoFault, FileParts, Fold, Count, Sum, Last, Max, Input, ComponentPart}
+use Rattle.topology_form.specs.declared.parts.{GroupingWord.GroupingWord}
 use Rattle.topology_form.specs.declared.parts.GroupingPart.TheVariants as said
 use Rattle.topology_form.specs.declared.parts.GroupingWord.TheVariants as word
-use Rattle.topology_form.specs.declared.parts.OperationWord.TheVariants as op
 use Rattle.topology_plan.specs.Valid.{IsBetween}
 use Rattle.std.proofs.Common.{◌≡◌, ℕ, List, [], ◌∷◌, length, All, Bool, true, false, subst, codes, None, Result, Ok, Err, IfOk, refl, sym, lit≤}
 use Rattle.std.specs.Result.{result_err, result_unwrap_or}
 use Rattle.std.proofs.lemmas.List.{length-map}
 use Rattle.std.proofs.lemmas.List.Elements.{All-nil, All-cons, All-append, All-weaker}
 use Rattle.std.proofs.lemmas.Option.{none-some}
-use Rattle.topology_form.specs.Format.{form_fault, parts_said, blank, file_of, operation_of, grouping_of, a_grouping, amount_for, grouped_by, a_spout, two_fields, an_operation, an_input, a_bolt, a_state, some_numbers, a_file}
+use Rattle.topology_form.specs.Format.{form_fault, parts_said, blank, file_of, grouping_of, a_grouping, amount_for, grouped_by, a_spout, an_input, a_bolt, a_state, some_numbers, a_file}
 use Rattle.topology_form.specs.Reading.{an_object}
-use Rattle.topology_form.specs.Ranges.{IsSpoutInRange, IsOperationInRange, IsGroupingInRange, HasAmount, IsComponentInRange, is_bolt, IsInRange}
-use Rattle.topology_form.proofs.Good.{IsOf, Reads, Makes, first, had, reads, object_of, a_member, may_be, number_of, name_of, any_of, names_of, objects_of, constant_of}
+use Rattle.topology_form.specs.Ranges.{IsSpoutInRange, IsGroupingInRange, HasAmount, IsComponentInRange, is_bolt, IsInRange}
+use Rattle.topology_form.proofs.OperationRanges.{operation_good}
+use Rattle.topology_form.proofs.Good.{IsOf, Reads, Makes, first, had, reads, object_of, a_member, may_be, number_of, name_of, any_of, names_of, objects_of}
 
 pub spout_of : IsOf IsSpoutInRange (an_object a_spout)
 spout_of =
@@ -25,23 +26,6 @@ spout_of =
     had _ (record { name = named; fields = are.0; field_names = are.1; batch = is }))))))
 
 -- ---- bolts
-
-two_read : Reads (λ (fields : List ℕ × List ℕ). IsName fields.1) two_fields
-two_read = reads (first (a_member _ any_of) (λ field _. first (a_member _ name_of) (λ into named. had _ named)))
-
-operation_makes : (word : OperationWord) → Makes (λ x. IsOperationInRange x.0) (operation_of word)
-operation_makes op.Split = first two_read (λ fields named. had _ named)
-operation_makes op.Project = first (a_member _ names_of) (λ fields are. had _ are)
-operation_makes op.Filter = first (a_member _ any_of) (λ field _. first (a_member _ any_of) (λ test _. first (a_member _ constant_of) (λ value is. had _ is)))
-operation_makes op.Set = first (a_member _ any_of) (λ field _. first (a_member _ constant_of) (λ value is. had _ is))
-operation_makes op.Len = first two_read (λ fields named. had _ named)
-operation_makes op.Route = first (a_member _ any_of) (λ field _. had _ tt)
-operation_makes op.Flaky = first (a_member _ number_of) (λ below is. had _ is)
-operation_makes op.Mute = first (a_member _ number_of) (λ below is. had _ is)
-operation_makes op.Custom = had _ tt
-
-pub operation_good : IsOf IsOperationInRange (an_object an_operation)
-operation_good = object_of (first (a_member _ any_of) (λ word _. operation_makes word))
 
 grouping_makes : (word : GroupingWord) → Makes (λ x. IsGroupingInRange x.0) (grouping_of word)
 grouping_makes word.Shuffle = had _ tt

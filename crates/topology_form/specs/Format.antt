@@ -1,13 +1,12 @@
 -- What the objects of a topology file say. This project's own.
 use Rattle.std.specs.Prelude.{ℕ, List, [], ◌∷◌, map, Option, Some, None, Result, codes}
 use Rattle.std.specs.Result.{result_err, result_unwrap_or}
-use Rattle.topology_form.specs.Prelude.{Data, most_fields, most_batch, most_below, most_tasks, most_bolt_inputs, most_state_inputs, most_bolts, most_states, most_ackers, most_pending, least_buckets, most_buckets, most_attempts, Value, TopoFault, FileParts, Fold, Test, Count, Sum, Last, Max, GroupingPart, Input, Operation, Split, Project, Filter, Set, Len, Route, Flaky, Mute, Custom, SpoutPart, ComponentPart, Bolt, State, Kind, Transactional, Opaque}
-use Rattle.topology_plan.specs.declared.parts.Test.TheVariants.{Eq, Ne, Lt}
-use Rattle.topology_form.specs.declared.parts.{GroupingWord.GroupingWord, OperationWord.OperationWord}
+use Rattle.topology_form.specs.Prelude.{Data, most_fields, most_batch, most_tasks, most_bolt_inputs, most_state_inputs, most_bolts, most_states, most_ackers, most_pending, least_buckets, most_buckets, most_attempts, TopoFault, FileParts, Fold, Count, Sum, Last, Max, GroupingPart, Input, SpoutPart, ComponentPart, Bolt, State, Kind, Transactional, Opaque}
+use Rattle.topology_form.specs.declared.parts.{GroupingWord.GroupingWord}
 use Rattle.topology_form.specs.declared.parts.GroupingPart.TheVariants as said
 use Rattle.topology_form.specs.declared.parts.GroupingWord.TheVariants as word
-use Rattle.topology_form.specs.declared.parts.OperationWord.TheVariants as op
-use Rattle.topology_form.specs.Reading.{Reader, ◌>>=◌, done, required, optional, a_number, a_name, a_word, some_names, a_constant, an_object, some_objects}
+use Rattle.topology_form.specs.Operations.{an_operation}
+use Rattle.topology_form.specs.Reading.{Reader, ◌>>=◌, done, required, optional, a_number, a_name, a_word, some_names, an_object, some_objects}
 
 abbrev pub kinds : List (List ℕ × Kind)
 kinds = (codes "transactional", Transactional) ∷ (codes "opaque", Opaque) ∷ []
@@ -22,50 +21,6 @@ a_spout = do
   done (record { name = name; kind = kind; fields = fields; batch = batch })
 
 -- ---- bolts
-
-abbrev pub tests : List (List ℕ × Test)
-tests = (codes "eq", Eq) ∷ (codes "ne", Ne) ∷ (codes "lt", Lt) ∷ []
-
--- members that several operations have
-abbrev pub some_fields : Reader (List (List ℕ))
-some_fields = required (codes "fields") (some_names 1 most_fields)
-
-abbrev pub a_field : Reader (List ℕ)
-a_field = required (codes "field") a_name
-
-abbrev pub two_fields : Reader (List ℕ × List ℕ)
-two_fields = do field ← a_field; into ← required (codes "as") a_name; done (field, into)
-
-abbrev pub a_value : Reader Value
-a_value = required (codes "value") a_constant
-
-abbrev pub a_limit : Reader ℕ
-a_limit = required (codes "below") (a_number 1 most_below)
-
-abbrev pub operation_words : List (List ℕ × OperationWord)
-operation_words =
-    (codes "split", op.Split) ∷ (codes "project", op.Project) ∷ (codes "filter", op.Filter)
-    ∷ (codes "set", op.Set) ∷ (codes "len", op.Len) ∷ (codes "route", op.Route)
-    ∷ (codes "flaky", op.Flaky) ∷ (codes "mute", op.Mute) ∷ (codes "custom", op.Custom) ∷ []
-
--- the operation of a word, by the other members
-abbrev pub operation_of : OperationWord → Reader Operation
-operation_of op.Split = do fields ← two_fields; done (Split fields.0 fields.1)
-operation_of op.Project = do fields ← some_fields; done (Project fields)
-operation_of op.Filter = do
-  field ← a_field
-  test ← required (codes "test") (a_word tests)
-  value ← a_value
-  done (Filter field test value)
-operation_of op.Set = do field ← a_field; value ← a_value; done (Set field value)
-operation_of op.Len = do fields ← two_fields; done (Len fields.0 fields.1)
-operation_of op.Route = do field ← a_field; done (Route field)
-operation_of op.Flaky = do below ← a_limit; done (Flaky below)
-operation_of op.Mute = do below ← a_limit; done (Mute below)
-operation_of op.Custom = done Custom
-
-abbrev pub an_operation : Reader Operation
-an_operation = do word ← required (codes "do") (a_word operation_words); operation_of word
 
 abbrev pub a_key : Reader (List (List ℕ))
 a_key = required (codes "key") (some_names 1 most_fields)

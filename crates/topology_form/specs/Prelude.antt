@@ -7,11 +7,10 @@ pub use Rattle.storm_values.specs.Limits.{most_topology_bytes, most_weight, most
 pub use Rattle.storm_values.specs.declared.value.Value.{Value}
 pub use Rattle.topology_form.specs.declared.fault.TopoFault.{TopoFault}
 pub use Rattle.topology_form.specs.declared.fault.TopoFault.TheVariants.{Missing, WrongKind, UnknownName, OutOfRange, Memory}
-pub use Rattle.topology_form.specs.declared.parts.{BodyPart.BodyPart, ComponentPart.ComponentPart, FileParts.FileParts, GroupingPart.GroupingPart, Input.Input, Operation.Operation, SpoutPart.SpoutPart}
+pub use Rattle.topology_form.specs.declared.parts.{BodyPart.BodyPart, ComponentPart.ComponentPart, FileParts.FileParts, GroupingPart.GroupingPart, Input.Input, SpoutPart.SpoutPart}
 pub use Rattle.topology_form.specs.declared.parts.BodyPart.TheVariants.{Bolt, State}
-pub use Rattle.topology_form.specs.declared.parts.Operation.TheVariants.{Split, Project, Filter, Set, Len, Route, Flaky, Mute, Custom}
 pub use Rattle.topology_plan.specs.Texts.{is_name, is_name_byte}
 unfoldable pub use Rattle.topology_plan.specs.Texts.{IsName}
-pub use Rattle.topology_plan.specs.declared.parts.{Fold.Fold, Kind.Kind, Test.Test}
+pub use Rattle.topology_plan.specs.declared.parts.{Fold.Fold, Kind.Kind}
 pub use Rattle.topology_plan.specs.declared.parts.Fold.TheVariants.{Count, Sum, Last, Max}
 pub use Rattle.topology_plan.specs.declared.parts.Kind.TheVariants.{Transactional, Opaque}

@@ -1,9 +1,10 @@
 -- How large the numbers and the lists are of what a file says, and what its names are, where it has
 -- no fault of form. This project's own.
 use Rattle.std.specs.Prelude.{◌≡◌, ◌≤◌, ℕ, List, ◌++◌, length, Bool, true, false, Option, None, IsSome, All}
-use Rattle.topology_form.specs.Prelude.{most_fields, most_batch, most_below, most_tasks, most_bolt_inputs, most_state_inputs, most_bolts, most_states, most_ackers, most_pending, least_buckets, most_buckets, most_attempts, FileParts, IsName, Fold, Count, GroupingPart, Input, Operation, Split, Project, Filter, Set, Len, Flaky, Mute, SpoutPart, BodyPart, Bolt, State, ComponentPart}
+use Rattle.topology_form.specs.Prelude.{most_fields, most_batch, most_tasks, most_bolt_inputs, most_state_inputs, most_bolts, most_states, most_ackers, most_pending, least_buckets, most_buckets, most_attempts, FileParts, IsName, Fold, Count, GroupingPart, Input, SpoutPart, BodyPart, Bolt, State, ComponentPart}
 use Rattle.topology_form.specs.declared.parts.GroupingPart.TheVariants as said
-use Rattle.topology_plan.specs.{Valid.IsBetween, Wired.IsConstant}
+use Rattle.topology_form.specs.Operations.{IsOperationInRange}
+use Rattle.topology_plan.specs.{Valid.IsBetween}
 
 -- the spout's name, its fields, and how many records a batch has
 pub record IsSpoutInRange (spout : SpoutPart) : Type 0 where
@@ -11,17 +12,6 @@ pub record IsSpoutInRange (spout : SpoutPart) : Type 0 where
   pub fields : IsBetween (length spout.fields) 1 most_fields
   pub field_names : All IsName spout.fields
   pub batch : IsBetween spout.batch 1 most_batch
-
--- the names that an operation makes fields of, a constant, and the attempts that fail or are mute
-abbrev pub IsOperationInRange : Operation → Type 0
-IsOperationInRange (Split field into) = IsName into
-IsOperationInRange (Project fields) = IsBetween (length fields) 1 most_fields × All IsName fields
-IsOperationInRange (Filter field test value) = IsConstant value
-IsOperationInRange (Set field value) = IsConstant value
-IsOperationInRange (Len field into) = IsName into
-IsOperationInRange (Flaky below) = IsBetween below 1 most_below
-IsOperationInRange (Mute below) = IsBetween below 1 most_below
-IsOperationInRange _ = Unit {0}
 
 -- the names of a key
 abbrev pub IsGroupingInRange : GroupingPart → Type 0

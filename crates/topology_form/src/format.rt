@@ -3,25 +3,25 @@
 
 ghost use Rattle.std.specs.Prelude.{◌≡◌, ◌≢◌, Some, None, IfOk, IfErr};
 ghost use Rattle.topology_form.specs.Prelude.{Data, view};
-ghost use Rattle.topology_form.specs.Format.{form_fault, parts_said, a_spout, two_fields, an_operation, operation_of, a_grouping, an_input, a_bolt, amount_for, grouped_by, a_state, some_numbers, a_file};
+ghost use Rattle.topology_form.specs.Format.{form_fault, parts_said, a_spout, a_grouping, an_input, a_bolt, amount_for, grouped_by, a_state, some_numbers, a_file};
 ghost use Rattle.topology_form.specs.Ranges.{IsInRange};
 ghost use Rattle.topology_form.specs.Reading.{Takes, left_in};
 
 use crate::fault::TopoFault;
-use crate::forms::{Constant, Form, Name, Number, SomeNames, SomeObjects, Word};
+use crate::forms::{Form, Name, Number, SomeNames, SomeObjects, Word};
 use crate::object::{Object, ObjectOf, Reader};
+use crate::operations::BoltOperation;
 use crate::parts::{
-    BodyPart, ComponentPart, FileParts, GroupingPart, GroupingWord, Input, Operation,
-    OperationWord, SpoutPart, StatePart,
+    BodyPart, ComponentPart, FileParts, GroupingPart, GroupingWord, Input, SpoutPart, StatePart,
 };
 use serde_json::Value as Json;
 use std::alloc::Global;
 use storm_values::{
-    LEAST_BUCKETS, MOST_ACKERS, MOST_ATTEMPTS, MOST_BATCH, MOST_BELOW, MOST_BOLT_INPUTS,
-    MOST_BOLTS, MOST_BUCKETS, MOST_FIELDS, MOST_PENDING, MOST_STATE_INPUTS, MOST_STATES,
-    MOST_TASKS, Memory, Names, Seq, Txt,
+    LEAST_BUCKETS, MOST_ACKERS, MOST_ATTEMPTS, MOST_BATCH, MOST_BOLT_INPUTS, MOST_BOLTS,
+    MOST_BUCKETS, MOST_FIELDS, MOST_PENDING, MOST_STATE_INPUTS, MOST_STATES, MOST_TASKS, Memory,
+    Names, Seq, Txt,
 };
-use topology_plan::{Fold, Kind, Test};
+use topology_plan::{Fold, Kind};
 
 /// What a file's value says, or its first fault of form. The value's texts are moved,
 /// and time is linear in it.
@@ -60,70 +60,6 @@ impl Reader<SpoutPart> for Spout {
             batch: object.required("batch", &Number(1, MOST_BATCH))?,
         })
     }
-}
-
-const TESTS: [(&str, Test); 3] = [("eq", Test::Eq), ("ne", Test::Ne), ("lt", Test::Lt)];
-
-const OPERATIONS: [(&str, OperationWord); 9] = [
-    ("split", OperationWord::Split),
-    ("project", OperationWord::Project),
-    ("filter", OperationWord::Filter),
-    ("set", OperationWord::Set),
-    ("len", OperationWord::Len),
-    ("route", OperationWord::Route),
-    ("flaky", OperationWord::Flaky),
-    ("mute", OperationWord::Mute),
-    ("custom", OperationWord::Custom),
-];
-
-const BELOW: Number = Number(1, MOST_BELOW);
-
-struct BoltOperation;
-
-impl Reader<Operation> for BoltOperation {
-    ghost reader = { λ _. an_operation };
-
-    fn read(&self, object: &mut Object) -> Result<Operation, TopoFault> {
-        let word = object.required("do", &Word(&OPERATIONS))?;
-        operation_from(object, word)
-    }
-}
-
-fn operation_from(object: &mut Object, word: OperationWord) -> Result<Operation, TopoFault>
-    ensures { Takes result (left_in object.new) (operation_of word (left_in object.old)) }
-{
-    match word {
-        OperationWord::Split => {
-            let (field, into) = two_fields_from(object)?;
-            Ok(Operation::Split { field, into })
-        }
-        OperationWord::Project => Ok(Operation::Project(object.required("fields", &FIELDS)?)),
-        OperationWord::Filter => {
-            let field = object.required("field", &Name)?;
-            let test = object.required("test", &Word(&TESTS))?;
-            Ok(Operation::Filter(field, test, object.required("value", &Constant)?))
-        }
-        OperationWord::Set => {
-            let field = object.required("field", &Name)?;
-            Ok(Operation::Set(field, object.required("value", &Constant)?))
-        }
-        OperationWord::Len => {
-            let (field, into) = two_fields_from(object)?;
-            Ok(Operation::Len { field, into })
-        }
-        OperationWord::Route => Ok(Operation::Route(object.required("field", &Name)?)),
-        OperationWord::Flaky => Ok(Operation::Flaky(object.required("below", &BELOW)?)),
-        OperationWord::Mute => Ok(Operation::Mute(object.required("below", &BELOW)?)),
-        OperationWord::Custom => Ok(Operation::Custom),
-    }
-}
-
-/// The field that is read, and the one that is made.
-fn two_fields_from(object: &mut Object) -> Result<(Txt, Txt), TopoFault>
-    ensures { Takes result (left_in object.new) (two_fields (left_in object.old)) }
-{
-    let field = object.required("field", &Name)?;
-    Ok((field, object.required("as", &Name)?))
 }
 
 const GROUPINGS: [(&str, GroupingWord); 7] = [

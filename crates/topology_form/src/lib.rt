@@ -6,11 +6,11 @@ mod fault;
 mod format;
 mod forms;
 mod object;
+mod operations;
 mod parts;
 
 pub use fault::TopoFault;
 pub use format::{files_are_in_range, parts_from};
 pub use forms::within;
-pub use parts::{
-    BodyPart, ComponentPart, FileParts, GroupingPart, Input, Operation, SpoutPart, StatePart,
-};
+pub use operations::Operation;
+pub use parts::{BodyPart, ComponentPart, FileParts, GroupingPart, Input, SpoutPart, StatePart};

@@ -1,7 +1,8 @@
 //! What a topology file says, before its names are looked up.
 
-use storm_values::{Memory, Names, Seq, Txt, Value};
-use topology_plan::{Fold, Kind, Test};
+use crate::operations::Operation;
+use storm_values::{Memory, Names, Seq, Txt};
+use topology_plan::{Fold, Kind};
 
 /// What a file says of a grouping. `none` and `local_or_shuffle` are `Shuffle` too.
 #[derive(Drop)]
@@ -27,34 +28,6 @@ pub enum GroupingWord {
     All,
     Global,
     Direct,
-}
-
-/// The word of `do`.
-#[derive(Clone, Copy)]
-pub enum OperationWord {
-    Split,
-    Project,
-    Filter,
-    Set,
-    Len,
-    Route,
-    Flaky,
-    Mute,
-    Custom,
-}
-
-/// An operation, with fields by their names: the one that it reads comes first.
-#[derive(Drop)]
-pub enum Operation {
-    Split { field: Txt, into: Txt },
-    Project(Names),
-    Filter(Txt, Test, Value),
-    Set(Txt, Value),
-    Len { field: Txt, into: Txt },
-    Route(Txt),
-    Flaky(u32),
-    Mute(u32),
-    Custom,
 }
 
 #[derive(Drop)]

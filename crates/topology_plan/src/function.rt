@@ -4,7 +4,7 @@
 ghost use Rattle.std.specs.Prelude.{◌≡◌};
 ghost use Rattle.topology_plan.specs.Functions.{reading, shape, trying};
 
-use storm_values::{MOST_FIELDS, Value};
+use storm_values::{Duplicate, MOST_FIELDS, Memory, Value};
 
 #[derive(Clone, Copy, Debug, PartialEq, Eq)]
 pub enum Test {
@@ -80,6 +80,27 @@ impl Function {
             Function::Flaky { below } => trying(Attempts::FailBelow(*below)),
             Function::Mute { below } => trying(Attempts::MuteBelow(*below)),
             Function::Custom => reading(0, 0, Leaves::Same),
+        }
+    }
+}
+
+impl Duplicate for Function {
+    fn copy(&self) -> Result<Function, Memory> {
+        match self {
+            Function::Split => Ok(Function::Split),
+            Function::Project => Ok(Function::Project),
+            Function::Filter { test, value } => Ok(Function::Filter {
+                test: *test,
+                value: value.copy()?,
+            }),
+            Function::Set { value } => Ok(Function::Set {
+                value: value.copy()?,
+            }),
+            Function::Len => Ok(Function::Len),
+            Function::Route => Ok(Function::Route),
+            Function::Flaky { below } => Ok(Function::Flaky { below: *below }),
+            Function::Mute { below } => Ok(Function::Mute { below: *below }),
+            Function::Custom => Ok(Function::Custom),
         }
     }
 }

@@ -3,7 +3,7 @@ use std::alloc::Global;
 use std::fmt::Write;
 use storm_values::{Memory, Value};
 use topology_plan::{
-    Body, Component, Fold, Grouping, Kind, Op, Origin, Plan, StateSpec, Sub, Test,
+    Body, Component, Fold, Function, Grouping, Kind, Op, Origin, Plan, StateSpec, Sub, Test,
 };
 
 /// A line of the plan's sizes, a line of what the run needs, and then a line for the spout's
@@ -59,22 +59,22 @@ fn write_component(text: &mut String, component: &Component) -> Result<(), Memor
 }
 
 fn write_op(text: &mut String, op: &Op) -> Result<(), Memory> {
-    match op {
-        Op::Split { field } => write!(text, " split {field}"),
-        Op::Project(fields) => write!(text, " project {:?}", fields.as_slice()),
-        Op::Filter { field, test, value } => {
-            write!(text, " filter {field} {} ", test_word(*test))?;
+    match &op.function {
+        Function::Split => write!(text, " split {}", op.field()),
+        Function::Project => write!(text, " project {:?}", op.reads.as_slice()),
+        Function::Filter { test, value } => {
+            write!(text, " filter {} {} ", op.field(), test_word(*test))?;
             write_value(text, value)
         }
-        Op::Set { field, value } => {
-            write!(text, " set {field} ")?;
+        Function::Set { value } => {
+            write!(text, " set {} ", op.field())?;
             write_value(text, value)
         }
-        Op::Len { field } => write!(text, " len {field}"),
-        Op::Route { field } => write!(text, " route {field}"),
-        Op::Flaky { below } => write!(text, " flaky {below}"),
-        Op::Mute { below } => write!(text, " mute {below}"),
-        Op::Custom => write!(text, " custom"),
+        Function::Len => write!(text, " len {}", op.field()),
+        Function::Route => write!(text, " route {}", op.field()),
+        Function::Flaky { below } => write!(text, " flaky {below}"),
+        Function::Mute { below } => write!(text, " mute {below}"),
+        Function::Custom => write!(text, " custom"),
     }
 }
 

@@ -1,8 +1,9 @@
 -- The fields of the sources where a file has no fault: each source has one to eight fields, none twice, that its operation makes of the fields of its sources.
-use Rattle.std.proofs.Common.{◌≡◌, ℕ, zero, suc, ◌+◌, ◌<◌, ◌≤◌, ◌==◌, pos, List, [], ◌∷◌, ◌++◌, length, map, slice_index, All, false, not, Option, Some, None, option_and_then, is_none, codes, inl, inr, refl, sym, ◌∙◌, ap, subst, arith}
-use Rattle.topology_reader.proofs.Common.{values_of, at_depth, get_or-map-range_with_len, length-map-range_with_len, range_with_len, list_any, bytes_eq, Origin, TopoFault, Twice, NoSource, NoField, FieldsDiffer, Input, Operation, Split, Project, Filter, Set, Len, Route, Flaky, Mute, Custom, BodyPart, Bolt, State, ComponentPart, components_of, FileParts, first_some, IsBetween, IsInRange, IsOperationInRange, IsBodyInRange, IsComponentInRange, feeds_at, value_in, value_of, Feed, pointwise, pointwise_decides, true≢false, cases_Bool, cond-true, cond-false, both_ways, eq-eqb, not-false, All-nil, All-cons, All-append, none-some, same_Some, slice_get_within, depth_at, by_depth, depth_rule, depth_at_within, is_among, range_fault, first_again, again_fault, key_of, own_key, projected, component_twice, twice_fault, nameless_fault, source_fault, cycle_fault, differ_fault, field_fault, direct_fault, input_fault, fields_read, added_fault, component_fault, fields_fault, component_names, name_at, source_of, inputs_at, sources_at, fields_after, fields_of, fields_to, graph_of, IsSource}
+use Rattle.std.proofs.Common.{◌≡◌, ℕ, zero, suc, ◌+◌, ◌<◌, ◌≤◌, ◌==◌, pos, List, [], ◌∷◌, ◌++◌, length, map, slice_index, All, false, not, Option, Some, None, option_to_list, option_and_then, is_none, codes, inl, inr, refl, sym, ◌∙◌, ap, subst, arith}
+use Rattle.topology_reader.proofs.Common.{values_of, at_depth, get_or-map-range_with_len, length-map-range_with_len, range_with_len, list_any, bytes_eq, Origin, TopoFault, Twice, NoSource, NoField, FieldsDiffer, Input, Operation, shape, Leaves, HasInto, IsShape, AreSomeRead, shape_fits, false≢true, read_left, one_more_fault, more_fault, fields_left, BodyPart, Bolt, State, ComponentPart, components_of, FileParts, first_some, IsBetween, IsInRange, IsOperationInRange, IsBodyInRange, IsComponentInRange, feeds_at, value_in, value_of, Feed, pointwise, pointwise_decides, true≢false, cases_Bool, cond-true, cond-false, both_ways, eq-eqb, not-false, All-nil, All-cons, All-append, none-some, same_Some, slice_get_within, depth_at, by_depth, depth_rule, depth_at_within, is_among, range_fault, first_again, again_fault, key_of, own_key, projected, component_twice, twice_fault, nameless_fault, source_fault, cycle_fault, differ_fault, field_fault, direct_fault, input_fault, fields_read, added_fault, component_fault, fields_fault, component_names, name_at, source_of, inputs_at, sources_at, fields_after, fields_of, fields_to, graph_of, IsSource}
 use Rattle.std.specs.List.{find}
 use Rattle.std.proofs.lemmas.List.{length-append}
+use Rattle.topology_plan.specs.declared.function.Leaves.TheVariants as leaves
 use Rattle.topology_plan.specs.declared.parts.Origin.TheVariants as origin
 use Rattle.topology_plan.specs.Texts.{IsName}
 use Rattle.topology_reader.proofs.Ranks.{rank, rank_grows}
@@ -135,7 +136,7 @@ pub record AreFields (fields : List (List ℕ)) : Type 0 where
   pub apart : AreApart fields
   pub named : All IsName fields
 
-fields_with : (fields : List (List ℕ)) (into : List ℕ) → IsName into → added_fault fields (Bolt (Len (codes "") into)) ≡ None → AreFields fields → AreFields (fields ++ into ∷ [])
+fields_with : (fields : List (List ℕ)) (into : List ℕ) → IsName into → one_more_fault fields into ≡ None → AreFields fields → AreFields (fields ++ into ∷ [])
 fields_with fields into name none were =
     let counted = range_fault (codes "fields") 1 8 (pos (length fields + 1)) in
     elim (cases_Bool (is_among fields into)) [
@@ -149,20 +150,30 @@ fields_with fields into name none were =
           }
     ]
 
+one_field : (into : Option (List ℕ)) → HasInto leaves.Made into → AreFields (option_to_list into)
+one_field None is = absurd (false≢true is.0)
+one_field (Some into) is = record { count = (omega arith, omega arith); apart = (λ at. elim at [ ], tt); named = All-cons IsName into [] is.1 (All-nil IsName) }
+
+one_more_field : (fields : List (List ℕ)) (into : Option (List ℕ)) → HasInto leaves.More into → more_fault leaves.More fields into ≡ None → AreFields fields → AreFields (fields ++ option_to_list into)
+one_more_field fields None is none were = absurd (false≢true is.0)
+one_more_field fields (Some into) is none were = fields_with fields into is.1 none were
+
+kept_by : (l : Leaves) (operation : Operation) (fields : List (List ℕ)) (least most : ℕ) → AreSomeRead l least most → IsBetween (length operation.reads) least most → All IsName operation.reads → HasInto l operation.into
+    → AreApart (read_left l operation.reads) → more_fault l fields operation.into ≡ None → AreFields fields → AreFields (fields_left l operation fields)
+kept_by leaves.Same operation fields least most some count names into apart none were = were
+kept_by leaves.Read operation fields least most some count names into apart none were =
+    record { count = (omega (arith, some.0, count.0), omega (arith, some.1, count.1)); apart = apart; named = names }
+kept_by leaves.Made operation fields least most some count names into apart none were = one_field operation.into into
+kept_by leaves.More operation fields least most some count names into apart none were = one_more_field fields operation.into into none were
+
 fields_kept : (operation : Operation) (fields : List (List ℕ)) → IsOperationInRange operation → AreApart (projected (Bolt operation)) → added_fault fields (Bolt operation) ≡ None → AreFields fields → AreFields (fields_after (Bolt operation) fields)
-fields_kept (Split field into) fields range apart none were = record { count = (omega arith, omega arith); apart = (λ at. elim at [ ], tt); named = All-cons IsName into [] range (All-nil IsName) }
-fields_kept (Project names) fields range apart none were = record { count = range.0; apart = apart; named = range.1 }
-fields_kept (Filter field test value) fields range apart none were = were
-fields_kept (Set field value) fields range apart none were = were
-fields_kept (Len field into) fields range apart none were = fields_with fields into range none were
-fields_kept (Route field) fields range apart none were = were
-fields_kept (Flaky below) fields range apart none were = were
-fields_kept (Mute below) fields range apart none were = were
-fields_kept Custom fields range apart none were = were
+fields_kept operation fields range apart none were =
+    let s = shape operation.function in
+    kept_by s.leaves operation fields s.least s.most (IsShape.read (shape_fits operation.function)) range.count range.reads range.into apart none were
 
 -- the same of a component that is a bolt
-fields_left : (p : FileParts) (c : ℕ) (part : ComponentPart) (operation : Operation) → part.body ≡ Bolt operation → IsComponentInRange part → AreApart (projected part.body) → added_fault (fields_to p c) part.body ≡ None → AreFields (fields_to p c) → AreFields (fields_after part.body (fields_to p c))
-fields_left p c part operation is range apart none were =
+bolt_fields : (p : FileParts) (c : ℕ) (part : ComponentPart) (operation : Operation) → part.body ≡ Bolt operation → IsComponentInRange part → AreApart (projected part.body) → added_fault (fields_to p c) part.body ≡ None → AreFields (fields_to p c) → AreFields (fields_after part.body (fields_to p c))
+bolt_fields p c part operation is range apart none were =
     let limits : IsOperationInRange operation = (subst (λ (b : BodyPart). IsBodyInRange b part.inputs) is range.body).0 in
     rw is (fields_kept operation (fields_to p c) limits (subst (λ (b : BodyPart). AreApart (projected b)) is apart) (subst (λ (b : BodyPart). added_fault (fields_to p c) b ≡ None) is none) were)
 
@@ -222,7 +233,7 @@ module _ (p : FileParts) (range : IsInRange p) (faultless : HasNoFault p) where
       let first = first_source c part.0 part.1 in
       let come : AreFields (fields_to p c) = subst AreFields (sym first.2) (fields_before n first.0 (source_below p n c first.0 faultless.cycle first.1 below) (source_there p c first.0 first.1)) in
       subst AreFields (sym (fields_of_part p c part.0 range faultless.cycle part.1))
-      (fields_left p c part.0 operation.0 operation.1 (range_at p c part.0 range part.1)
+      (bolt_fields p c part.0 operation.0 operation.1 (range_at p c part.0 range part.1)
       (projected_once p faultless.twice part.0 (in_place (components_of p) c part.0 part.1))
       (HasNoFaultAt.added (no_fault_here c part.0 part.1) part.0 part.1) come)
 

@@ -1,8 +1,9 @@
 -- A file that says what is valid has no fault in what it says.
-use Rattle.std.proofs.Common.{if◌then◌else◌, ◌≡◌, ◌≢◌, ◌↔◌, ℕ, zero, suc, ◌+◌, ◌<◌, ◌≤◌, ◌==◌, ◌&&◌, ◌∷◌, List, [], ◌++◌, pos, length, map, slice_index, All, AllPairs, true, false, not, nat_lt, int_le, Option, Some, None, IfSome, option_map, option_and_then, slice_get, is_none, codes, inl, inr, refl, sym, ◌∙◌, ap, subst, arith}
-use Rattle.topology_reader.proofs.Common.{values_of, value_of, at_depth, depth_rule, length-map-range_with_len, Contains, list_any, range_with_len, option_map_or, bytes_eq, first_some, Origin, tasks_in_all, IsBetween, WrongKind, OutOfRange, Twice, NoSource, FieldsDiffer, NoField, NotExactlyOnce, Weight, GroupingPart, Input, Split, Project, Filter, Set, Len, Route, Flaky, Mute, Custom, BodyPart, Bolt, State, ComponentPart, components_of, FileParts, IsInRange, IsBodyInRange, IsComponentInRange, is_bolt, feeds_at, Feed, pointwise, pointwise_decides, cond-true, cond-false, false≢true, false_from_ne_true, and_from, eqb-true, le-leb, le-ltb, map-id, same_Some, slice_get_within, Kind, Transactional, Opaque, by_depth, is_among, range_fault, first_again, again_fault, key_of, own_key, projected, component_twice, twice_fault, nameless_fault, source_fault, cycle_fault, differ_fault, field_fault, is_route, chooses, direct_fault, input_fault, fields_read, added_fault, component_fault, fields_fault, keeps_exact, replay_fault, meaning_fault, size_fault, component_names, component_count, name_at, source_of, inputs_at, sources_at, is_component, feeds, fields_after, fields_of, fields_to, body_of, graph_of, plan_of, IsPathThrough, AreDistinct, HasFields, IsValidInput, IsValidComponent, IsValidFile, list_any_none}
+use Rattle.std.proofs.Common.{if◌then◌else◌, ◌≡◌, ◌≢◌, ◌↔◌, ℕ, zero, suc, ◌+◌, ◌<◌, ◌≤◌, ◌==◌, ◌&&◌, ◌∷◌, List, [], ◌++◌, pos, length, map, slice_index, All, AllPairs, true, false, not, nat_lt, int_le, Option, Some, None, IfSome, option_map, option_to_list, option_and_then, slice_get, is_none, codes, inl, inr, refl, sym, ◌∙◌, ap, subst, arith}
+use Rattle.topology_reader.proofs.Common.{values_of, value_of, at_depth, depth_rule, length-map-range_with_len, Contains, list_any, range_with_len, option_map_or, bytes_eq, first_some, Origin, tasks_in_all, IsBetween, WrongKind, OutOfRange, Twice, NoSource, FieldsDiffer, NoField, NotExactlyOnce, Weight, GroupingPart, Input, Operation, shape, Leaves, fields_left, read_left, more_fault, BodyPart, Bolt, State, ComponentPart, components_of, FileParts, IsInRange, IsBodyInRange, IsComponentInRange, is_bolt, feeds_at, Feed, pointwise, pointwise_decides, cond-true, cond-false, false≢true, false_from_ne_true, and_from, eqb-true, le-leb, le-ltb, map-id, same_Some, slice_get_within, Kind, Transactional, Opaque, by_depth, is_among, range_fault, first_again, again_fault, key_of, own_key, projected, component_twice, twice_fault, nameless_fault, source_fault, cycle_fault, differ_fault, field_fault, is_route, chooses, direct_fault, input_fault, fields_read, added_fault, component_fault, fields_fault, keeps_exact, replay_fault, meaning_fault, size_fault, component_names, component_count, name_at, source_of, inputs_at, sources_at, is_component, feeds, fields_after, fields_of, fields_to, body_of, graph_of, plan_of, IsPathThrough, AreDistinct, HasFields, IsValidInput, IsValidComponent, IsValidFile, list_any_none}
 use Rattle.topology_plan.specs.Topology.{weight_of}
 use Rattle.std.proofs.lemmas.List.{length-append}
+use Rattle.topology_plan.specs.declared.function.Leaves.TheVariants as leaves
 use Rattle.topology_plan.specs.declared.parts.Origin.TheVariants as origin
 use Rattle.topology_form.specs.declared.parts.GroupingPart.TheVariants as said
 use Rattle.topology_reader.proofs.Listed.{IsIn, All-from_in, All-at_in, in_map, in_flat_map, in_filter, in_range, in_any, find_none, none_first, none_first_map}
@@ -43,6 +44,13 @@ apart_from_pairs f (x ∷ xs) pairs = (
 
 apart_from_distinct : (names : List (List ℕ)) → AreDistinct names → AreApart names
 apart_from_distinct names distinct = subst AreApart (map-id names) (apart_from_pairs (λ (name : List ℕ). name) names distinct)
+
+-- fields that are left once are read once
+read_apart : (l : Leaves) (operation : Operation) (fields come : List (List ℕ)) → fields ≡ fields_left l operation come → AreDistinct fields → AreApart (read_left l operation.reads)
+read_apart leaves.Same operation fields come is distinct = tt
+read_apart leaves.Read operation fields come is distinct = apart_from_distinct operation.reads (subst AreDistinct is distinct)
+read_apart leaves.Made operation fields come is distinct = tt
+read_apart leaves.More operation fields come is distinct = tt
 
 none_again : (before names : List (List ℕ)) → AreApart names → ((name : List ℕ) → IsIn name names → IsIn name before → ⊥) → first_again before names ≡ None
 none_again before [] apart new = refl
@@ -98,15 +106,7 @@ module _ (p : FileParts) (valid : IsValidFile p) where
   has_fields c part is bolt = valid.fields (origin.Component c) (bolt_below p c part valid.range is bolt)
 
   projected_by : (fields come : List (List ℕ)) (body : BodyPart) → fields ≡ fields_after body come → (is_bolt body ≡ true → AreDistinct fields) → AreApart (projected body)
-  projected_by fields come (Bolt (Split field into)) is distinct = tt
-  projected_by fields come (Bolt (Project names)) is distinct = apart_from_distinct names (subst AreDistinct is (distinct refl))
-  projected_by fields come (Bolt (Filter field test value)) is distinct = tt
-  projected_by fields come (Bolt (Set field value)) is distinct = tt
-  projected_by fields come (Bolt (Len field into)) is distinct = tt
-  projected_by fields come (Bolt (Route field)) is distinct = tt
-  projected_by fields come (Bolt (Flaky below)) is distinct = tt
-  projected_by fields come (Bolt (Mute below)) is distinct = tt
-  projected_by fields come (Bolt Custom) is distinct = tt
+  projected_by fields come (Bolt operation) is distinct = read_apart (shape operation.function).leaves operation fields come is (distinct refl)
   projected_by fields come (State state) is distinct = tt
 
   -- a state's key is that of its first input
@@ -218,21 +218,23 @@ new_last (first ∷ names) name apart at =
     last_in [] name = inl refl
     last_in (first ∷ names) name = inr (last_in names name)
 
-added_none : (fields come : List (List ℕ)) (body : BodyPart) → fields ≡ fields_after body come → (is_bolt body ≡ true → AreDistinct fields × IsBetween (length fields) 1 8) → added_fault come body ≡ None
-added_none fields come (Bolt (Split field into)) is has = refl
-added_none fields come (Bolt (Project names)) is has = refl
-added_none fields come (Bolt (Filter field test value)) is has = refl
-added_none fields come (Bolt (Set field value)) is has = refl
-added_none fields come (Bolt (Len field into)) is has =
-    let apart : AreApart (come ++ into ∷ []) = apart_from_distinct (come ++ into ∷ []) (subst AreDistinct is (has refl).0) in
+one_more_none : (fields come : List (List ℕ)) (into : Option (List ℕ)) → fields ≡ come ++ option_to_list into → AreDistinct fields → IsBetween (length fields) 1 8 → more_fault leaves.More come into ≡ None
+one_more_none fields come None is distinct count = refl
+one_more_none fields come (Some into) is distinct count =
+    let apart : AreApart (come ++ into ∷ []) = apart_from_distinct (come ++ into ∷ []) (subst AreDistinct is distinct) in
     let new : is_among come into ≡ false = false_from_ne_true (is_among come into) (λ among. new_last come into apart (among_in come into among)) in
     let more : length fields ≡ length come + 1 = ap (λ (names : List (List ℕ)). length names) is ∙ length-append come (into ∷ []) in
     cond-false (is_among come into) (Some (Twice into)) (range_fault (codes "fields") 1 8 (pos (length come + 1))) new
-    ∙ within_range (codes "fields") (length come + 1) 1 8 (subst (λ n. IsBetween n 1 8) more (has refl).1)
-added_none fields come (Bolt (Route field)) is has = refl
-added_none fields come (Bolt (Flaky below)) is has = refl
-added_none fields come (Bolt (Mute below)) is has = refl
-added_none fields come (Bolt Custom) is has = refl
+    ∙ within_range (codes "fields") (length come + 1) 1 8 (subst (λ n. IsBetween n 1 8) more count)
+
+more_none : (l : Leaves) (operation : Operation) (fields come : List (List ℕ)) → fields ≡ fields_left l operation come → AreDistinct fields → IsBetween (length fields) 1 8 → more_fault l come operation.into ≡ None
+more_none leaves.Same operation fields come is distinct count = refl
+more_none leaves.Read operation fields come is distinct count = refl
+more_none leaves.Made operation fields come is distinct count = refl
+more_none leaves.More operation fields come is distinct count = one_more_none fields come operation.into is distinct count
+
+added_none : (fields come : List (List ℕ)) (body : BodyPart) → fields ≡ fields_after body come → (is_bolt body ≡ true → AreDistinct fields × IsBetween (length fields) 1 8) → added_fault come body ≡ None
+added_none fields come (Bolt operation) is has = more_none (shape operation.function).leaves operation fields come is (has refl).0 (has refl).1
 added_none fields come (State state) is has = refl
 
 module _ (p : FileParts) (valid : IsValidFile p) where

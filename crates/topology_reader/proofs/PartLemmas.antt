@@ -1,6 +1,6 @@
 -- Lists that are made of others.
 use Rattle.std.proofs.Common.{◌≡◌, ◌<◌, ℕ, ◌+◌, not, Option, Some, None, option_map, List, [], ◌∷◌, ◌++◌, length, map, take, get_or, refl, sym, ap, ◌∙◌, arith}
-use Rattle.topology_reader.proofs.Common.{take_more, map_push, enumerate_from, option_or, FileParts, NoField, name_at, is_among, fields_to, field_fault}
+use Rattle.topology_reader.proofs.Common.{take_more, map_push, enumerate_from, option_or, FileParts, NoField, name_at, is_among, fields_to, field_fault, append-nil}
 use Rattle.std.specs.List.{find}
 use Rattle.std.proofs.lemmas.List.Folds.{find-append}
 
@@ -28,3 +28,6 @@ pub field_fault_of_both : (p : FileParts) (c : ℕ) (first others : List (List �
 field_fault_of_both p c first others =
     let strange = λ (name : List ℕ). not (is_among (fields_to p c) name) in
     ap (option_map (NoField (name_at p c))) (find-append strange first others) ∙ mapped_or (NoField (name_at p c)) (find strange first) (find strange others)
+
+pub none_more : (names : List (List ℕ)) → names ++ [] ≡ names
+none_more names = append-nil names

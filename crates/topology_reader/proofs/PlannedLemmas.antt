@@ -1,22 +1,27 @@
 -- Fields by their numbers, and how many fields a source can have.
-use Rattle.std.proofs.Common.{ℕ, zero, suc, ◌+◌, ◌≤◌, List, [], ◌∷◌, length, All, slice_get, arith, length-append}
-use Rattle.topology_reader.proofs.Common.{IsInRange, IsBodyInRange, IsComponentInRange, Origin, Split, Project, Filter, Set, Len, Route, Flaky, Mute, Custom, BodyPart, Bolt, State, ComponentPart, components_of, Input, FileParts, option_map_or, feeds_at, fed, value_in, value_of, Feed, All-head, All-tail, fields_after, fields_of, fields_rule, first_of, graph_of}
+use Rattle.std.proofs.Common.{ℕ, zero, suc, ◌+◌, ◌≤◌, List, [], ◌∷◌, length, All, slice_get, Option, Some, None, option_to_list, arith, length-append}
+use Rattle.topology_reader.proofs.Common.{IsInRange, IsBodyInRange, IsComponentInRange, IsBetween, IsOperationInRange, IsShape, AreSomeRead, shape_fits, Origin, Operation, shape, Leaves, BodyPart, Bolt, State, ComponentPart, components_of, Input, FileParts, option_map_or, feeds_at, fed, value_in, value_of, Feed, All-head, All-tail, fields_left, fields_after, fields_of, fields_rule, first_of, graph_of}
+use Rattle.topology_plan.specs.declared.function.Leaves.TheVariants as leaves
 use Rattle.topology_plan.specs.declared.parts.Origin.TheVariants as origin
 use Rattle.topology_reader.proofs.Numbered.{count_parts}
 use Rattle.topology_reader.proofs.SourceLemmas.{length_graph}
 
 -- ---- how many fields there are
 
+few_made : (into : Option (List ℕ)) → length (option_to_list into) ≤ 1
+few_made None = omega arith
+few_made (Some into) = omega arith
+
+few_left : (l : Leaves) (operation : Operation) (fields : List (List ℕ)) (least top most : ℕ) → AreSomeRead l least top → IsBetween (length operation.reads) least top → 8 ≤ most → length fields ≤ most → length (fields_left l operation fields) ≤ most + 1
+few_left leaves.Same operation fields least top most some count eight few = omega arith
+few_left leaves.Read operation fields least top most some count eight few = omega (arith, some.1, count.1)
+few_left leaves.Made operation fields least top most some count eight few = omega (arith, few_made operation.into)
+few_left leaves.More operation fields least top most some count eight few = rw length-append (omega (arith, few_made operation.into))
+
 few_after : (body : BodyPart) (inputs : List Input) (fields : List (List ℕ)) (most : ℕ) → IsBodyInRange body inputs → 8 ≤ most → length fields ≤ most → length (fields_after body fields) ≤ most + 1
-few_after (Bolt (Split field into)) inputs fields most range eight few = omega arith
-few_after (Bolt (Project names)) inputs fields most range eight few = omega (arith, range.0.0.1)
-few_after (Bolt (Filter field test value)) inputs fields most range eight few = omega arith
-few_after (Bolt (Set field value)) inputs fields most range eight few = omega arith
-few_after (Bolt (Len field into)) inputs fields most range eight few = rw length-append (omega arith)
-few_after (Bolt (Route field)) inputs fields most range eight few = omega arith
-few_after (Bolt (Flaky below)) inputs fields most range eight few = omega arith
-few_after (Bolt (Mute below)) inputs fields most range eight few = omega arith
-few_after (Bolt Custom) inputs fields most range eight few = omega arith
+few_after (Bolt operation) inputs fields most range eight few =
+    let s = shape operation.function in
+    few_left s.leaves operation fields s.least s.most most (IsShape.read (shape_fits operation.function)) (IsOperationInRange.count range.0) eight few
 few_after (State state) inputs fields most range eight few = omega arith
 
 few_behind : (parts : List ComponentPart) (c : ℕ) (before : List (List ℕ)) (most : ℕ) → All IsComponentInRange parts → 8 ≤ most → length before ≤ most → length (option_map_or (λ (part : ComponentPart). fields_after part.body before) (slice_get parts c) []) ≤ most + 1

@@ -1,14 +1,15 @@
 -- The subscriptions of the plan of a file without a fault: at most one of a component to a source, with a grouping by fields that are there.
-use Rattle.std.proofs.Common.{◌≡◌, ℕ, ◌+◌, ◌<◌, List, [], ◌∷◌, ◌++◌, length, map, filter, All, Bool, true, false, Option, Some, None, option_map, option_and_then, slice_get, unwrap_or, codes, ◌⊎◌, inl, inr, refl, sym, ◌∙◌, ap, subst, arith}
-use Rattle.topology_reader.proofs.Common.{enumerate_from, flat_map, option_map_or, Origin, WrongKind, GroupingPart, Input, Split, Project, Filter, Set, Len, Route, Flaky, Mute, Custom, BodyPart, Bolt, State, ComponentPart, components_of, FileParts, IsBetween, IsInRange, IsGroupingInRange, IsComponentInRange, cases_Bool, cases_lt, cond-true, cond-false, false≢true, false_from_ne_true, length-map, map-id, none-some, same_Some, slice_get_within, Sub, subs_of, plan_fields, width_of, AreWithin, IsRouteOf, IsFrom, source_of, inputs_by_component, inputs_at, sources_at, fields_after, fields_of, fields_to, body_of, number_of, numbers_of, planned_body, route_field, planned_grouping, is_from, subs_of_component, planned_subs, planned_component, plan_of, key_of, is_route, chooses, direct_fault, fields_read, twice_fault, IsSource}
+use Rattle.std.proofs.Common.{◌≡◌, ◌≢◌, ℕ, ◌+◌, ◌<◌, ◌≤◌, List, [], ◌∷◌, ◌++◌, length, map, filter, All, AllPairs, Bool, true, false, Option, Some, None, option_map, option_and_then, slice_get, unwrap_or, codes, ◌⊎◌, inl, inr, refl, sym, ◌∙◌, ap, subst, arith}
+use Rattle.topology_reader.proofs.Common.{enumerate_from, flat_map, option_map_or, Origin, WrongKind, GroupingPart, Input, Operation, shape, Leaves, IsShape, IsChoice, shape_fits, first_field, IsOperationInRange, IsBodyInRange, fields_left, BodyPart, Bolt, State, ComponentPart, components_of, FileParts, IsBetween, IsInRange, IsGroupingInRange, IsComponentInRange, cases_Bool, cases_lt, cond-true, cond-false, false≢true, false_from_ne_true, length-map, map-id, none-some, same_Some, slice_get_within, Sub, subs_of, plan_fields, width_of, AreWithin, IsRouteOf, IsFrom, source_of, inputs_by_component, inputs_at, sources_at, fields_after, fields_of, fields_to, body_of, number_of, numbers_of, planned_body, route_field, planned_grouping, is_from, subs_of_component, planned_subs, planned_component, plan_of, key_of, is_route, chooses, direct_fault, fields_read, twice_fault, IsSource}
 use Rattle.std.specs.List.Sorted.{IsStrictlyIncreasing}
 use Rattle.topology_plan.specs.declared.parts.Component.{Component}
+use Rattle.topology_plan.specs.declared.function.Leaves.TheVariants as leaves
 use Rattle.topology_plan.specs.declared.parts.Origin.TheVariants as origin
 use Rattle.topology_form.specs.declared.parts.GroupingPart.TheVariants as said
 use Rattle.topology_reader.proofs.Listed.{IsIn, All-from_in, All-at_in, in_map, to_map, in_place}
 use Rattle.topology_reader.proofs.Distinct.{place_named, place_within, place_there, AreApart, AllPairs-from_apart, IsRising, rising_above, increasing_from_rising}
 use Rattle.topology_reader.proofs.Places.{place_of-names}
-use Rattle.topology_reader.proofs.Numbered.{count_parts, part_there, planned_at}
+use Rattle.topology_reader.proofs.Numbered.{count_parts, part_there, planned_at, range_at}
 use Rattle.topology_reader.proofs.ValidPlan.{HasNoFault, is_source, IsPlanned, planned_in_plan, subs_of_plan, no_subs_past, planned_source}
 use Rattle.topology_reader.proofs.SourceLemmas.{length_inputs, in_inputs_at, source_there, IsNamed, source_named, of_inputs}
 use Rattle.topology_reader.proofs.GraphLemmas.{fields_of_spout, fields_of_part}
@@ -99,14 +100,22 @@ numbers_apart fields (name ∷ names) apart there = (
   numbers_apart fields names apart.1 (λ n at. there n (inr at)),
 )
 
+pub numbers_there : (fields names : List (List ℕ)) → ((name : List ℕ) → IsIn name names → IsIn name fields) → All (λ field. field < length fields) (numbers_of fields names)
+numbers_there fields names there =
+    All-from_in (λ field. field < length fields) (numbers_of fields names)
+    (λ field at.
+    let name = in_map (number_of fields) names field at in
+    subst (λ n. n < length fields) name.2 (number_within fields name.0 (there name.0 name.1)))
+
+pub numbers_once : (fields names : List (List ℕ)) → AreApart names → ((name : List ℕ) → IsIn name names → IsIn name fields) → AllPairs (λ a b. a ≢ b) (numbers_of fields names)
+numbers_once fields names apart there =
+    AllPairs-from_apart (λ (n : ℕ). n) (numbers_of fields names) (subst AreApart (sym (map-id (numbers_of fields names))) (numbers_apart fields names apart there))
+
 pub numbers_within : (fields names : List (List ℕ)) → IsBetween (length names) 1 8 → AreApart names → ((name : List ℕ) → IsIn name names → IsIn name fields) → AreWithin (numbers_of fields names) (length fields)
 numbers_within fields names count apart there = (
   (omega (arith, length-map names (number_of fields), count.0), omega (arith, length-map names (number_of fields), count.1)),
-  All-from_in (λ field. field < length fields) (numbers_of fields names)
-      (λ field at.
-      let name = in_map (number_of fields) names field at in
-      subst (λ n. n < length fields) name.2 (number_within fields name.0 (there name.0 name.1))),
-  AllPairs-from_apart (λ (n : ℕ). n) (numbers_of fields names) (subst AreApart (sym (map-id (numbers_of fields names))) (numbers_apart fields names apart there)),
+  numbers_there fields names there,
+  numbers_once fields names apart there,
 )
 
 -- ---- fields of the plan
@@ -123,29 +132,41 @@ width_planned p from there = ap (λ (fields : List (List ℕ)). length fields) (
 
 -- ---- routes
 
--- a route by a field
-pub routed : (body : BodyPart) → is_route body ≡ true → (field : List ℕ) × (body ≡ Bolt (Route field))
-routed (Bolt (Split field into)) route = absurd (false≢true route)
-routed (Bolt (Project names)) route = absurd (false≢true route)
-routed (Bolt (Filter field test value)) route = absurd (false≢true route)
-routed (Bolt (Set field value)) route = absurd (false≢true route)
-routed (Bolt (Len field into)) route = absurd (false≢true route)
-routed (Bolt (Route field)) route = (field, refl)
-routed (Bolt (Flaky below)) route = absurd (false≢true route)
-routed (Bolt (Mute below)) route = absurd (false≢true route)
-routed (Bolt Custom) route = absurd (false≢true route)
-routed (State state) route = absurd (false≢true route)
+choice_is : (chooses : Bool) (least : ℕ) (l : Leaves) → chooses ≡ true → IsChoice chooses least l → (1 ≤ least) × (l ≡ leaves.Same)
+choice_is true least l is choice = choice
+choice_is false least l is choice = absurd (false≢true is)
+
+-- an operation that chooses tasks reads a field and leaves those that came
+chosen : (operation : Operation) → (shape operation.function).chooses ≡ true → (1 ≤ (shape operation.function).least) × ((shape operation.function).leaves ≡ leaves.Same)
+chosen operation route =
+    let s = shape operation.function in choice_is s.chooses s.least s.leaves route (IsShape.choice (shape_fits operation.function))
+
+first_number : (fields names : List (List ℕ)) → first_field (numbers_of fields names) ≡ option_map_or (number_of fields) (slice_get names 0) 0
+first_number fields [] = refl
+first_number fields (name ∷ names) = refl
+
+some_first : (names : List (List ℕ)) → 1 ≤ length names → (name : List ℕ) × IsIn name names × (slice_get names 0 ≡ Some name)
+some_first [] some = absurd (omega arith)
+some_first (name ∷ names) some = (name, inl refl, refl)
+
+route_is : (fields : List (List ℕ)) (operation : Operation) → (shape operation.function).chooses ≡ true → route_field fields (Bolt operation) ≡ option_map_or (number_of fields) (slice_get operation.reads 0) 0
+route_is fields operation route = cond-true (shape operation.function).chooses (option_map_or (number_of fields) (slice_get operation.reads 0) 0) 0 route
 
 route_of : (fields : List (List ℕ)) (body : BodyPart) → is_route body ≡ true → IsRouteOf (planned_body fields body) (route_field fields body)
-route_of fields body route = let by = routed body route in subst (λ (b : BodyPart). IsRouteOf (planned_body fields b) (route_field fields b)) (sym by.1) refl
+route_of fields (Bolt operation) route = (route, first_number fields operation.reads ∙ sym (route_is fields operation route))
+route_of fields (State state) route = absurd (false≢true route)
 
 route_keeps : (fields : List (List ℕ)) (body : BodyPart) → is_route body ≡ true → fields_after body fields ≡ fields
-route_keeps fields body route = let by = routed body route in ap (λ (b : BodyPart). fields_after b fields) by.1
+route_keeps fields (Bolt operation) route = ap (λ (l : Leaves). fields_left l operation fields) (chosen operation route).1
+route_keeps fields (State state) route = absurd (false≢true route)
 
-route_within : (fields : List (List ℕ)) (body : BodyPart) → is_route body ≡ true → ((name : List ℕ) → IsIn name (fields_read body) → IsIn name fields) → route_field fields body < length fields
-route_within fields body route there =
-    let by = routed body route in
-    subst (λ (b : BodyPart). route_field fields b < length fields) (sym by.1) (number_within fields by.0 (there by.0 (subst (λ (b : BodyPart). IsIn by.0 (fields_read b)) (sym by.1) (inl refl))))
+route_within : (fields : List (List ℕ)) (body : BodyPart) (inputs : List Input) → IsBodyInRange body inputs → is_route body ≡ true → ((name : List ℕ) → IsIn name (fields_read body) → IsIn name fields) → route_field fields body < length fields
+route_within fields (Bolt operation) inputs limits route there =
+    let count : IsBetween (length operation.reads) (shape operation.function).least (shape operation.function).most = IsOperationInRange.count limits.0 in
+    let first = some_first operation.reads (omega (arith, (chosen operation route).0, count.0)) in
+    let field : route_field fields (Bolt operation) ≡ number_of fields first.0 = route_is fields operation route ∙ ap (λ there. option_map_or (number_of fields) there 0) first.2 in
+    subst (λ n. n < length fields) (sym field) (number_within fields first.0 (there first.0 first.1))
+route_within fields (State state) inputs limits route there = absurd (false≢true route)
 
 pub chosen_by_route : (p : FileParts) (input : Input) (from : Origin) → source_of p input.from ≡ Some from → direct_fault p input said.Direct ≡ None → option_map_or is_route (body_of p from) false ≡ true
 chosen_by_route p input from source none =
@@ -181,7 +202,7 @@ module _ (p : FileParts) (range : IsInRange p) (faultless : HasNoFault p) where
         planned_at p c part.0 part.1,
         subst (IsRouteOf (planned_body (fields_to p c) part.0.body)) (sym field) (route_of (fields_to p c) part.0.body route),
         subst (λ n. n < length (fields_of p (origin.Component c))) (sym field)
-            (subst (λ (names : List (List ℕ)). route_field (fields_to p c) part.0.body < length names) (sym fields) (route_within (fields_to p c) part.0.body route (here.reads part.0 part.1))),
+            (subst (λ (names : List (List ℕ)). route_field (fields_to p c) part.0.body < length names) (sym fields) (route_within (fields_to p c) part.0.body part.0.inputs (IsComponentInRange.body (range_at p c part.0 range part.1)) route (here.reads part.0 part.1))),
       )
 
   said_planned : (from : Origin) (by : GroupingPart) → IsSource p from → IsGroupingInRange by → AreApart (key_of by) → ((name : List ℕ) → IsIn name (key_of by) → IsIn name (fields_of p from))

@@ -1,8 +1,8 @@
 -- The plan of a file without a fault is wired: its components take rows with the fields that they name.
-use Rattle.std.proofs.Common.{◌≡◌, ◌≢◌, ℕ, ◌<◌, ◌≤◌, ◌==◌, List, [], ◌∷◌, ◌++◌, length, map, filter, All, AllPairs, true, false, Option, Some, None, IsSome, IfSome, option_map, option_to_list, slice_get, sum, take, inl, inr, refl, sym, ◌∙◌, ap, subst, arith}
+use Rattle.std.proofs.Common.{◌≡◌, ◌≢◌, ℕ, ◌+◌, ◌<◌, ◌≤◌, ◌==◌, List, [], ◌∷◌, ◌++◌, length, map, filter, All, AllPairs, true, false, Option, Some, None, IsSome, IfSome, option_map, option_to_list, slice_get, sum, take, inl, inr, refl, sym, ◌∙◌, ap, subst, arith}
 use Rattle.std.proofs.lemmas.List.{take-map}
 use Rattle.std.proofs.lemmas.List.Sums.{sum-map}
-use Rattle.topology_reader.proofs.Common.{enumerate_from, range_with_len, option_map_or, Origin, NotExactlyOnce, Input, Operation, Split, Project, Filter, Set, Len, Route, Flaky, Mute, Custom, BodyPart, Bolt, State, ComponentPart, components_of, FileParts, Topology, subs_of, origins, inputs_of, IsInRange, SaysAmount, IsOperationInRange, IsBodyInRange, IsComponentInRange, is_bolt, eqb-true, eq-eqb, false≢true, length-map, map-id, map-map, All-nil, same_Some, Kind, Transactional, Opaque, Sub, plan_fields, plan_fields_to, IsFed, width_after, IsWithin, HasAmount, IsComponent, IsPlaced, IsLaidOut, MayFollowOpaque, IsWired, component_names, inputs_by_component, sources_at, fields_after, fields_of, fields_to, number_of, numbers_of, planned_operation, planned_body, planned_grouping, tasks_by_component, planned_component, plan_of, own_key, projected, fields_read, twice_fault, is_transactional, keeps_exact, replay_fault, meaning_fault, IsSource}
+use Rattle.topology_reader.proofs.Common.{enumerate_from, range_with_len, option_map_or, Origin, NotExactlyOnce, Input, Operation, shape, Leaves, IsBetween, HasInto, AreLeftOnce, width_left, fields_left, read_left, BodyPart, Bolt, State, ComponentPart, components_of, FileParts, Topology, subs_of, origins, inputs_of, IsInRange, SaysAmount, IsOperationInRange, IsBodyInRange, IsComponentInRange, is_bolt, eqb-true, eq-eqb, false≢true, length-map, map-id, map-map, All-nil, same_Some, Kind, Transactional, Opaque, Sub, plan_fields, plan_fields_to, IsFed, width_after, IsWithin, HasAmount, IsComponent, IsPlaced, IsLaidOut, MayFollowOpaque, IsWired, component_names, inputs_by_component, sources_at, fields_after, fields_of, fields_to, number_of, numbers_of, planned_operation, planned_body, planned_grouping, tasks_by_component, planned_component, plan_of, own_key, projected, fields_read, twice_fault, is_transactional, keeps_exact, replay_fault, meaning_fault, IsSource}
 use Rattle.std.specs.List.{find}
 use Rattle.std.proofs.lemmas.List.{length-append}
 use Rattle.topology_form.specs.declared.parts.StatePart.{StatePart}
@@ -10,6 +10,7 @@ use Rattle.topology_plan.specs.declared.parts.Component.{Component}
 use Rattle.topology_plan.specs.declared.parts.Fold.{Fold}
 use Rattle.topology_plan.specs.declared.parts.Fold.TheVariants.{Count, Sum, Last, Max}
 use Rattle.topology_plan.specs.declared.parts.Grouping.TheVariants as grouping
+use Rattle.topology_plan.specs.declared.function.Leaves.TheVariants as leaves
 use Rattle.topology_plan.specs.declared.parts.Origin.TheVariants as origin
 use Rattle.topology_form.specs.declared.parts.GroupingPart.TheVariants as said
 use Rattle.topology_plan.specs.Texts.{IsName}
@@ -20,7 +21,7 @@ use Rattle.topology_reader.proofs.ValidPlan.{HasNoFault, no_fault, IsPlanned, pl
 use Rattle.topology_reader.proofs.SourceLemmas.{source_within, to_sources, in_inputs_at, source_there}
 use Rattle.topology_reader.proofs.GraphLemmas.{fields_of_part}
 use Rattle.topology_reader.proofs.Columns.{HasNoFaultAt, names_once, spout_once, own_key_once, projected_once, HasSource, some_source, AreFields, no_fault_here, fields_of_source}
-use Rattle.topology_reader.proofs.SubFacts.{once_planned, number_within, numbers_within, fields_planned, groupings_planned}
+use Rattle.topology_reader.proofs.SubFacts.{once_planned, number_within, numbers_there, numbers_once, numbers_within, fields_planned, groupings_planned}
 
 -- ---- names and tasks
 
@@ -42,27 +43,34 @@ tasks_planned p =
 
 -- ---- operations
 
-operation_within : (fields : List (List ℕ)) (operation : Operation) → IsOperationInRange operation → AreApart (projected (Bolt operation)) → ((name : List ℕ) → IsIn name (fields_read (Bolt operation)) → IsIn name fields) → IsWithin (planned_operation fields operation) (length fields)
-operation_within fields (Split field into) limits apart there = number_within fields field (there field (inl refl))
-operation_within fields (Project names) limits apart there = numbers_within fields names limits.0 apart there
-operation_within fields (Filter field test value) limits apart there = (number_within fields field (there field (inl refl)), limits)
-operation_within fields (Set field value) limits apart there = (number_within fields field (there field (inl refl)), limits)
-operation_within fields (Len field into) limits apart there = number_within fields field (there field (inl refl))
-operation_within fields (Route field) limits apart there = number_within fields field (there field (inl refl))
-operation_within fields (Flaky below) limits apart there = limits
-operation_within fields (Mute below) limits apart there = limits
-operation_within fields Custom limits apart there = tt
+left_once : (l : Leaves) (fields names : List (List ℕ)) → AreApart (read_left l names) → ((name : List ℕ) → IsIn name names → IsIn name fields) → AreLeftOnce l (numbers_of fields names)
+left_once leaves.Same fields names apart there = tt
+left_once leaves.Read fields names apart there = numbers_once fields names apart there
+left_once leaves.Made fields names apart there = tt
+left_once leaves.More fields names apart there = tt
 
-width_kept : (fields : List (List ℕ)) (operation : Operation) → length (fields_after (Bolt operation) fields) ≡ width_after (planned_operation fields operation) (length fields)
-width_kept fields (Split field into) = refl
-width_kept fields (Project names) = sym (length-map names (number_of fields))
-width_kept fields (Filter field test value) = refl
-width_kept fields (Set field value) = refl
-width_kept fields (Len field into) = length-append fields (into ∷ [])
-width_kept fields (Route field) = refl
-width_kept fields (Flaky below) = refl
-width_kept fields (Mute below) = refl
-width_kept fields Custom = refl
+operation_within : (fields : List (List ℕ)) (operation : Operation) → IsOperationInRange operation → AreApart (projected (Bolt operation)) → ((name : List ℕ) → IsIn name (fields_read (Bolt operation)) → IsIn name fields) → IsWithin (planned_operation fields operation) (length fields)
+operation_within fields operation limits apart there =
+    let count : IsBetween (length operation.reads) (shape operation.function).least (shape operation.function).most = limits.count in
+    let same : length (numbers_of fields operation.reads) ≡ length operation.reads = length-map operation.reads (number_of fields) in (
+      (omega (arith, same, count.0), omega (arith, same, count.1)),
+      numbers_there fields operation.reads there,
+      left_once (shape operation.function).leaves fields operation.reads apart there,
+      limits.range,
+    )
+
+one_made : (into : Option (List ℕ)) → HasInto leaves.Made into → length (option_to_list into) ≡ 1
+one_made None has = absurd (false≢true has.0)
+one_made (Some into) has = refl
+
+width_by : (l : Leaves) (fields : List (List ℕ)) (operation : Operation) → HasInto l operation.into → length (fields_left l operation fields) ≡ width_left l (length (numbers_of fields operation.reads)) (length fields)
+width_by leaves.Same fields operation has = refl
+width_by leaves.Read fields operation has = sym (length-map operation.reads (number_of fields))
+width_by leaves.Made fields operation has = one_made operation.into has
+width_by leaves.More fields operation has = length-append fields (option_to_list operation.into) ∙ ap (λ n. length fields + n) (one_made operation.into has)
+
+width_kept : (fields : List (List ℕ)) (operation : Operation) → IsOperationInRange operation → length (fields_after (Bolt operation) fields) ≡ width_after (planned_operation fields operation) (length fields)
+width_kept fields operation limits = width_by (shape operation.function).leaves fields operation limits.into
 
 -- ---- amounts
 
@@ -169,7 +177,7 @@ module _ (p : FileParts) (range : IsInRange p) (faultless : HasNoFault p) where
           operation_within (fields_to p c) operation limits.0 (subst (λ (b : BodyPart). AreApart (projected b)) body (projected_once p faultless.twice part (in_place (components_of p) c part is)))
               (λ name at. HasNoFaultAt.reads (no_fault_here p range faultless c part is) part is name
               (subst (λ (b : BodyPart). IsIn name (fields_read b)) (sym body) at)),
-          ap (λ (names : List (List ℕ)). length names) left ∙ width_kept (fields_to p c) operation,
+          ap (λ (names : List (List ℕ)). length names) left ∙ width_kept (fields_to p c) operation limits.0,
           fields.count,
         ),
         (fields.apart, fields.named),

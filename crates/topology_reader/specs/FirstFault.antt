@@ -1,8 +1,9 @@
 -- Which fault a topology file has first, and which plan it has where it has none. This project's
 -- own.
 use Rattle.std.specs.Prelude.{◌≡◌, ℕ, ◌+◌, pos, List, [], ◌∷◌, ◌++◌, length, map, Bool, true, false, not, nat_lt, if◌then◌else◌, Option, Some, None, option_map, option_and_then, is_none, codes}
-use Rattle.topology_reader.specs.Prelude.{pointwise, find, range_fault, Data, json_of, most_topology_bytes, TooLong, NotJson, form_fault, parts_said, Topology, list_any, range_with_len, option_map_or, option_to_list, bytes_eq, first_some, most_tasks_in_all, most_weight, GroupingPart, Input, Split, Project, Filter, Set, Len, Route, BodyPart, Bolt, State, ComponentPart, FileParts, components_of, TopoFault, WrongKind, Twice, NoSource, Cycle, FieldsDiffer, NoField, NotExactlyOnce, Weight, Kind, Transactional, Opaque, tasks_in_all, weight_of, Feed, feeds_at, by_depth}
+use Rattle.topology_reader.specs.Prelude.{pointwise, find, range_fault, Data, json_of, most_topology_bytes, TooLong, NotJson, form_fault, parts_said, Topology, list_any, range_with_len, option_map_or, option_to_list, bytes_eq, first_some, most_tasks_in_all, most_weight, GroupingPart, Input, shape, Leaves, BodyPart, Bolt, State, ComponentPart, FileParts, components_of, TopoFault, WrongKind, Twice, NoSource, Cycle, FieldsDiffer, NoField, NotExactlyOnce, Weight, Kind, Transactional, Opaque, tasks_in_all, weight_of, Feed, feeds_at, by_depth}
 use Rattle.topology_form.specs.declared.parts.GroupingPart.TheVariants as said
+use Rattle.topology_plan.specs.declared.function.Leaves.TheVariants as leaves
 use Rattle.topology_reader.specs.Wiring.{component_names, name_at, source_of, graph_of, reaches, fields_of, fields_to, body_of, component_at}
 use Rattle.topology_reader.specs.Planned.{plan_of}
 
@@ -27,10 +28,15 @@ abbrev pub key_of : GroupingPart → List (List ℕ)
 key_of (said.Fields key) = key
 key_of _ = []
 
+-- the names that are read, where an operation leaves these
+abbrev pub read_left : Leaves → List (List ℕ) → List (List ℕ)
+read_left leaves.Read names = names
+read_left _ names = []
+
 -- the names that an operation puts in the place of the fields
 abbrev pub projected : BodyPart → List (List ℕ)
-projected (Bolt (Project names)) = names
-projected _ = []
+projected (Bolt operation) = read_left (shape operation.function).leaves operation.reads
+projected (State state) = []
 
 -- the key of a state
 abbrev pub own_key : BodyPart → List (List ℕ)
@@ -89,8 +95,8 @@ field_fault p c names =
 
 -- the operation chooses the tasks of its rows
 abbrev pub is_route : BodyPart → Bool
-is_route (Bolt (Route field)) = true
-is_route _ = false
+is_route (Bolt operation) = (shape operation.function).chooses
+is_route (State state) = false
 
 -- the source chooses the task by a route
 abbrev pub chooses : FileParts → Input → Bool
@@ -110,21 +116,25 @@ input_fault p c input =
 
 -- the fields that a bolt's operation reads, or a state's key and what it adds up or keeps
 abbrev pub fields_read : BodyPart → List (List ℕ)
-fields_read (Bolt (Split field into)) = field ∷ []
-fields_read (Bolt (Project names)) = names
-fields_read (Bolt (Filter field test value)) = field ∷ []
-fields_read (Bolt (Set field value)) = field ∷ []
-fields_read (Bolt (Len field into)) = field ∷ []
-fields_read (Bolt (Route field)) = field ∷ []
-fields_read (Bolt _) = []
+fields_read (Bolt operation) = operation.reads
 fields_read (State state) = state.key ++ option_to_list state.amount
 
--- the field that a length adds is there already, or there are eight without it
-abbrev pub added_fault : List (List ℕ) → BodyPart → Option TopoFault
-added_fault fields (Bolt (Len field into)) =
+-- a field that is made beside these is there already, or there are eight without it
+abbrev pub one_more_fault : List (List ℕ) → List ℕ → Option TopoFault
+one_more_fault fields into =
     if is_among fields into then Some (Twice into)
     else range_fault (codes "fields") 1 8 (pos (length fields + 1))
-added_fault fields _ = None
+
+-- the same of an operation that leaves these fields and makes this one
+abbrev pub more_fault : Leaves → List (List ℕ) → Option (List ℕ) → Option TopoFault
+more_fault leaves.More fields into = option_and_then (one_more_fault fields) into
+more_fault _ fields into = None
+
+-- the same of a body
+abbrev pub added_fault : List (List ℕ) → BodyPart → Option TopoFault
+added_fault fields (Bolt operation) =
+    more_fault (shape operation.function).leaves fields operation.into
+added_fault fields (State state) = None
 
 -- the first fault of fields of a component: its sources, its inputs in order, what it reads, what
 -- it adds

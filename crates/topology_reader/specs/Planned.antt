@@ -1,11 +1,10 @@
 -- The topology of what a file says. It means something where the file has no
 -- fault. This project's own.
-use Rattle.std.specs.Prelude.{ℕ, ◌==◌, List, map, filter, position, Bool, true, false, option_map, unwrap_or, sum_by, take}
-use Rattle.topology_reader.specs.Prelude.{enumerate_from, flat_map, option_map_or, bytes_eq, Origin, GroupingPart, Input, Operation, Split, Project, Filter, Set, Len, Route, Flaky, Mute, Custom, BodyPart, Bolt, State, ComponentPart, FileParts, components_of, Topology}
+use Rattle.std.specs.Prelude.{ℕ, ◌==◌, List, map, filter, position, Bool, true, false, option_map, unwrap_or, sum_by, take, slice_get, if◌then◌else◌}
+use Rattle.topology_reader.specs.Prelude.{enumerate_from, flat_map, option_map_or, bytes_eq, Origin, GroupingPart, Input, Operation, shape, BodyPart, Bolt, State, ComponentPart, FileParts, components_of, Topology}
 use Rattle.topology_plan.specs.declared.parts.{Body.Body, Component.Component, Grouping.Grouping, Op.Op, Sub.Sub}
 use Rattle.topology_plan.specs.declared.parts.Body.TheVariants as body
 use Rattle.topology_plan.specs.declared.parts.Grouping.TheVariants as grouping
-use Rattle.topology_plan.specs.declared.parts.Op.TheVariants as op
 use Rattle.topology_plan.specs.declared.parts.Origin.TheVariants as origin
 use Rattle.topology_form.specs.declared.parts.GroupingPart.TheVariants as said
 use Rattle.topology_reader.specs.Wiring.{source_of, inputs_by_component, fields_of, fields_to, body_of}
@@ -22,15 +21,8 @@ numbers_of fields names = map (number_of fields) names
 
 -- an operation with the numbers of its fields, which come with these names
 abbrev pub planned_operation : List (List ℕ) → Operation → Op
-planned_operation fields (Split field into) = op.Split (number_of fields field)
-planned_operation fields (Project names) = op.Project (numbers_of fields names)
-planned_operation fields (Filter field test value) = op.Filter (number_of fields field) test value
-planned_operation fields (Set field value) = op.Set (number_of fields field) value
-planned_operation fields (Len field into) = op.Len (number_of fields field)
-planned_operation fields (Route field) = op.Route (number_of fields field)
-planned_operation fields (Flaky below) = op.Flaky below
-planned_operation fields (Mute below) = op.Mute below
-planned_operation fields Custom = op.Custom
+planned_operation fields operation =
+    record { reads = numbers_of fields operation.reads; function = operation.function }
 
 -- the same of a body
 abbrev pub planned_body : List (List ℕ) → BodyPart → Body
@@ -44,10 +36,12 @@ planned_body fields (State state) = body.State (record {
 
 -- ---- subscriptions
 
--- the number of the field by which a route chooses
+-- the number of the field by which an operation chooses tasks
 abbrev pub route_field : List (List ℕ) → BodyPart → ℕ
-route_field fields (Bolt (Route field)) = number_of fields field
-route_field fields _ = 0
+route_field fields (Bolt operation) =
+    if (shape operation.function).chooses
+    then option_map_or (number_of fields) (slice_get operation.reads 0) 0 else 0
+route_field fields (State state) = 0
 
 -- the grouping of a subscription to a source, in the numbers of the source's fields
 abbrev pub planned_grouping : FileParts → Origin → GroupingPart → Grouping

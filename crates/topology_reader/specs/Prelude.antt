@@ -9,9 +9,9 @@ pub use Rattle.storm_values.specs.Lines.{first_some}
 pub use Rattle.topology_form.specs.Prelude.{Data, view, Kind, Transactional, Opaque}
 pub use Rattle.topology_form.specs.declared.fault.TopoFault.{TopoFault}
 pub use Rattle.topology_form.specs.declared.fault.TopoFault.TheVariants.{TooLong, NotJson, WrongKind, Twice, NoSource, Cycle, FieldsDiffer, NoField, NotExactlyOnce, Weight}
-pub use Rattle.topology_form.specs.declared.parts.{BodyPart.BodyPart, ComponentPart.ComponentPart, FileParts.FileParts, GroupingPart.GroupingPart, Input.Input, Operation.Operation}
+pub use Rattle.topology_form.specs.declared.parts.{BodyPart.BodyPart, ComponentPart.ComponentPart, FileParts.FileParts, GroupingPart.GroupingPart, Input.Input}
+pub use Rattle.topology_form.specs.declared.operations.Operation.{Operation}
 pub use Rattle.topology_form.specs.declared.parts.BodyPart.TheVariants.{Bolt, State}
-pub use Rattle.topology_form.specs.declared.parts.Operation.TheVariants.{Split, Project, Filter, Set, Len, Route, Flaky, Mute, Custom}
 pub use Rattle.topology_form.specs.Format.{form_fault, parts_said}
 pub use Rattle.topology_form.specs.Ranges.{IsInRange, components_of}
 pub use Rattle.topology_form.specs.Reading.{Checks, range_fault}
@@ -19,4 +19,6 @@ pub use Rattle.topology_graph.specs.Graph.{feeds_at, value_of, values_of, Rule, 
 pub use Rattle.topology_graph.specs.declared.values.Feed.{Feed}
 pub use Rattle.topology_plan.specs.Topology.{Topology, tasks_in_all, weight_of, depth_of}
 pub use Rattle.topology_plan.specs.{Valid.IsBetween, Valid.IsValid, Wired.IsWired}
+pub use Rattle.topology_plan.specs.Functions.{shape}
+pub use Rattle.topology_plan.specs.declared.function.Leaves.{Leaves}
 pub use Rattle.topology_plan.specs.declared.parts.{Origin.Origin}

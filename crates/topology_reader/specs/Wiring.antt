@@ -1,9 +1,10 @@
 -- Who feeds whom in what a topology file says, and which fields a source has. Components are the
 -- bolts and then the states, each in file order. This project's own.
 use Rattle.std.specs.Prelude.{◌≡◌, ◌<◌, ℕ, zero, suc, ◌==◌, ◌&&◌, ◌||◌, List, [], ◌∷◌, ◌++◌, length, map, position, Bool, true, false, if◌then◌else◌, Option, Some, None, option_map, slice_get, slice_index_or}
-use Rattle.topology_reader.specs.Prelude.{list_any, filter_map, option_map_or, bytes_eq, Origin, GroupingPart, Input, Split, Project, Len, BodyPart, Bolt, State, ComponentPart, FileParts, components_of, Feed, Rule, fed, feeds_at, value_of}
+use Rattle.topology_reader.specs.Prelude.{list_any, filter_map, option_map_or, bytes_eq, Origin, GroupingPart, Input, Operation, shape, Leaves, option_to_list, BodyPart, Bolt, State, ComponentPart, FileParts, components_of, Feed, Rule, fed, feeds_at, value_of}
 use Rattle.topology_plan.specs.declared.parts.Origin.TheVariants as origin
 use Rattle.topology_form.specs.declared.parts.GroupingPart.TheVariants as said
+use Rattle.topology_plan.specs.declared.function.Leaves.TheVariants as leaves
 
 -- ---- names
 
@@ -92,12 +93,17 @@ IsPath p a b = (bolts : List ℕ) × IsPathThrough p a bolts b
 
 -- ---- fields
 
+-- the fields that an operation leaves of these
+abbrev pub fields_left : Leaves → Operation → List (List ℕ) → List (List ℕ)
+fields_left leaves.Same operation fields = fields
+fields_left leaves.Read operation fields = operation.reads
+fields_left leaves.Made operation fields = option_to_list operation.into
+fields_left leaves.More operation fields = fields ++ option_to_list operation.into
+
 -- the fields that a bolt's operation leaves; a state leaves none
 abbrev pub fields_after : BodyPart → List (List ℕ) → List (List ℕ)
-fields_after (Bolt (Split field into)) fields = into ∷ []
-fields_after (Bolt (Project names)) fields = names
-fields_after (Bolt (Len field into)) fields = fields ++ into ∷ []
-fields_after (Bolt _) fields = fields
+fields_after (Bolt operation) fields =
+    fields_left (shape operation.function).leaves operation fields
 fields_after (State state) fields = []
 
 -- what the first of some sources has

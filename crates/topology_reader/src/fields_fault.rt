@@ -2,15 +2,16 @@
 
 ghost use Rattle.std.specs.Prelude.{◌≡◌, map};
 ghost use Rattle.topology_reader.specs.Prelude.{pointwise, Checks, bytes_eq, first_some};
-ghost use Rattle.topology_reader.specs.FirstFault.{is_among, differ_fault, field_fault, chooses, direct_fault, input_fault, fields_read, added_fault, component_fault, fields_fault};
+ghost use Rattle.topology_reader.specs.FirstFault.{is_among, differ_fault, field_fault, chooses, direct_fault, input_fault, fields_read, one_more_fault, added_fault, component_fault, fields_fault};
 
 use crate::names::key_of;
 use crate::wiring::Wiring;
 use std::alloc::Global;
 use std::slice::from_ref;
 use storm_values::Txt;
-use topology_form::{BodyPart, ComponentPart, GroupingPart, Input, Operation, TopoFault, within};
+use topology_form::{BodyPart, ComponentPart, GroupingPart, Input, TopoFault, within};
 use topology_graph::by_depth;
+use topology_plan::Leaves;
 
 /// The fields of each component, after those of all of its sources.
 pub(crate) fn check_fields(wiring: &Wiring<'_>) -> Result<(), TopoFault>
@@ -106,10 +107,10 @@ fn chooses(wiring: &Wiring<'_>, input: &Input) -> bool
     let Some(from) = wiring.sources().source_of(&input.from) else {
         return false;
     };
-    matches!(
-        wiring.sources().body_of(from),
-        Some(BodyPart::Bolt(Operation::Route(_)))
-    )
+    match wiring.sources().body_of(from) {
+        Some(BodyPart::Bolt(operation)) => operation.function.shape().chooses,
+        _ => false,
+    }
 }
 
 /// The fields that a bolt's operation reads, or a state's key and then its amount.
@@ -118,15 +119,7 @@ fn check_read(wiring: &Wiring<'_>, c: usize, body: &BodyPart) -> Result<(), Topo
     ensures { Checks result (field_fault wiring.now c (fields_read body.now)) }
 {
     match body {
-        BodyPart::Bolt(Operation::Project(names)) => check_there(wiring, c, names.as_slice()),
-        BodyPart::Bolt(
-            Operation::Split { field, .. }
-            | Operation::Filter(field, ..)
-            | Operation::Set(field, _)
-            | Operation::Len { field, .. }
-            | Operation::Route(field),
-        ) => check_there(wiring, c, from_ref(field)),
-        BodyPart::Bolt(_) => Ok(()),
+        BodyPart::Bolt(operation) => check_there(wiring, c, operation.reads.as_slice()),
         BodyPart::State(state) => {
             check_there(wiring, c, state.key.as_slice())?;
             match &state.amount {
@@ -140,9 +133,21 @@ fn check_read(wiring: &Wiring<'_>, c: usize, body: &BodyPart) -> Result<(), Topo
 fn check_added(alloc: Global, fields: &[Txt], body: &BodyPart) -> Result<(), TopoFault>
     ensures { Checks result (added_fault fields.now body.now) }
 {
-    let BodyPart::Bolt(Operation::Len { into, .. }) = body else {
+    let BodyPart::Bolt(operation) = body else {
         return Ok(());
     };
+    match operation.function.shape().leaves {
+        Leaves::More => match &operation.into {
+            Some(into) => check_one_more(alloc, fields, into),
+            None => Ok(()),
+        },
+        _ => Ok(()),
+    }
+}
+
+fn check_one_more(alloc: Global, fields: &[Txt], into: &Txt) -> Result<(), TopoFault>
+    ensures { Checks result (one_more_fault fields.now into.now) }
+{
     if is_among(fields, into) {
         return Err(TopoFault::Twice(into.copy()?));
     }

@@ -14,5 +14,5 @@ pub use laws::{cycles_are_paths, first_bytes_decide, plans_of_files_are_valid};
 pub use read::read_topology;
 pub use topology_form::TopoFault;
 pub use topology_plan::{
-    Body, Component, Fold, Grouping, Kind, Made, Op, Origin, Plan, StateSpec, Sub, Test,
+    Body, Component, Fold, Function, Grouping, Kind, Made, Op, Origin, Plan, StateSpec, Sub, Test,
 };

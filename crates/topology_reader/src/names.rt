@@ -10,7 +10,8 @@ use crate::wiring::Sources;
 use indexmap::IndexSet;
 use std::alloc::Global;
 use storm_values::{Memory, Txt};
-use topology_form::{BodyPart, ComponentPart, GroupingPart, Input, Operation, TopoFault};
+use topology_form::{BodyPart, ComponentPart, GroupingPart, Input, TopoFault};
+use topology_plan::Leaves;
 
 /// What goes by a name.
 trait Named {
@@ -150,7 +151,10 @@ fn projected(body: &BodyPart) -> &[Txt]
     ensures { result.now ≡ projected body.now }
 {
     match body {
-        BodyPart::Bolt(Operation::Project(names)) => names.as_slice(),
+        BodyPart::Bolt(operation) => match operation.function.shape().leaves {
+            Leaves::Read => operation.reads.as_slice(),
+            _ => &[],
+        },
         _ => &[],
     }
 }

@@ -1,6 +1,6 @@
 //! What a topology file says, with components and fields by their numbers.
 
-ghost use Rattle.std.specs.Prelude.{◌≡◌, ◌<◌, ◌^◌, [], ◌∷◌, length, replicate, option_map, IfOk, IfSome, OnOk};
+ghost use Rattle.std.specs.Prelude.{◌≡◌, ◌<◌, ◌^◌, [], ◌∷◌, length, replicate, option_map, slice_get, IfOk, IfSome, OnOk};
 ghost use Rattle.topology_reader.specs.Prelude.{option_map_or, tasks_in_all};
 ghost use Rattle.topology_reader.specs.Planned.{number_of, numbers_of, planned_operation, planned_body, route_field, planned_grouping, planned_component, first_task_of, plan_of};
 ghost use Rattle.topology_reader.specs.Steps.{items_by, with_sub, with_inputs};
@@ -37,30 +37,10 @@ fn planned_operation(alloc: Global, fields: &[Txt], operation: &Operation) -> Re
     requires { length fields.now < 2 ^ 32 }
     ensures { IfOk result (λ op. op ≡ planned_operation fields.now operation.now) }
 {
-    match operation {
-        Operation::Split { field, .. } => Ok(Op::Split {
-            field: number_of(fields, field),
-        }),
-        Operation::Project(names) => Ok(Op::Project(numbers_of(alloc, fields, names.as_slice())?)),
-        Operation::Filter(field, test, value) => Ok(Op::Filter {
-            field: number_of(fields, field),
-            test: *test,
-            value: value.copy()?,
-        }),
-        Operation::Set(field, value) => Ok(Op::Set {
-            field: number_of(fields, field),
-            value: value.copy()?,
-        }),
-        Operation::Len { field, .. } => Ok(Op::Len {
-            field: number_of(fields, field),
-        }),
-        Operation::Route(field) => Ok(Op::Route {
-            field: number_of(fields, field),
-        }),
-        Operation::Flaky(below) => Ok(Op::Flaky { below: *below }),
-        Operation::Mute(below) => Ok(Op::Mute { below: *below }),
-        Operation::Custom => Ok(Op::Custom),
-    }
+    Ok(Op {
+        reads: numbers_of(alloc, fields, operation.reads.as_slice())?,
+        function: operation.function.copy()?,
+    })
 }
 
 fn planned_body(alloc: Global, fields: &[Txt], body: &BodyPart) -> Result<Body, Memory>
@@ -98,8 +78,20 @@ fn chosen_field(wiring: &Wiring<'_>, from: Origin) -> u32
         ≡ option_map_or (route_field (fields_of wiring.now from)) (body_of wiring.now from) 0 }
 {
     match wiring.sources().body_of(from) {
-        Some(BodyPart::Bolt(Operation::Route(field))) => number_of(wiring.fields_of(from), field),
+        Some(BodyPart::Bolt(operation)) if operation.function.shape().chooses => {
+            number_of_first(wiring.fields_of(from), operation.reads.as_slice())
+        }
         _ => 0,
+    }
+}
+
+fn number_of_first(fields: &[Txt], names: &[Txt]) -> u32
+    requires { length fields.now < 2 ^ 32 }
+    ensures { result ≡ option_map_or (number_of fields.now) (slice_get names.now 0) 0 }
+{
+    match names.first() {
+        Some(name) => number_of(fields, name),
+        None => 0,
     }
 }
 

@@ -3,17 +3,16 @@
 
 ghost use Rattle.std.specs.Prelude.{◌≡◌, ◌<◌, ◌^◌, [], ◌∷◌, ◌++◌, length, slice_get, None, Some, IfOk};
 ghost use Rattle.topology_reader.specs.FirstFault.{cycle_fault};
-ghost use Rattle.topology_reader.specs.Prelude.{IsInRange, components_of, filter_map, IsClosed, IsSettled, option_copied, feeds_at, fed_by, read};
+ghost use Rattle.topology_reader.specs.Prelude.{IsInRange, components_of, filter_map, IsClosed, IsSettled, option_copied, option_to_list, feeds_at, fed_by, read};
 ghost use Rattle.topology_reader.specs.Wiring.{source_of, component_at, copies_said, feed_of, graph_of, body_of, name_at, fields_after, first_of, fields_rule, fields_of, fields_to};
 
 use indexmap::IndexMap;
 use std::alloc::Global;
 use std::marker::Model;
-use std::slice::from_ref;
 use storm_values::{Memory, Names, Seq, Txt};
-use topology_form::{BodyPart, ComponentPart, FileParts, GroupingPart, Operation};
+use topology_form::{BodyPart, ComponentPart, FileParts, GroupingPart};
 use topology_graph::{Along, Feed, Graph, values_along};
-use topology_plan::Origin;
+use topology_plan::{Leaves, Origin};
 
 /// The spout and the bolts by their names, found by the names' hashes. Contracts see it as what the
 /// file says.
@@ -292,16 +291,26 @@ fn fields_after(alloc: Global, body: &BodyPart, come: &[Txt]) -> Result<Names, M
     ensures { IfOk result (λ after. after ≡ fields_after body.now come.now) }
 {
     match body {
-        BodyPart::Bolt(Operation::Split { into, .. }) => copied(alloc, from_ref(into)),
-        BodyPart::Bolt(Operation::Project(names)) => names.copy(),
-        BodyPart::Bolt(Operation::Len { into, .. }) => {
-            let mut more = copied(alloc, come)?;
-            more.push(into.copy()?)?;
-            Ok(more)
-        }
-        BodyPart::Bolt(_) => copied(alloc, come),
+        BodyPart::Bolt(operation) => match operation.function.shape().leaves {
+            Leaves::Same => copied(alloc, come),
+            Leaves::Read => operation.reads.copy(),
+            Leaves::Made => with_made(alloc, &[], &operation.into),
+            Leaves::More => with_made(alloc, come, &operation.into),
+        },
         BodyPart::State(_) => Ok(Names::new(alloc)),
     }
+}
+
+/// Fields with one that is made.
+#[tactic(auto, using(crate::proofs::PartLemmas::none_more))]
+fn with_made(alloc: Global, come: &[Txt], into: &Option<Txt>) -> Result<Names, Memory>
+    ensures { IfOk result (λ made. made ≡ come.now ++ option_to_list into.now) }
+{
+    let mut made = copied(alloc, come)?;
+    if let Some(name) = into {
+        made.push(name.copy()?)?;
+    }
+    Ok(made)
 }
 
 pub(crate) fn copied(alloc: Global, names: &[Txt]) -> Result<Names, Memory>

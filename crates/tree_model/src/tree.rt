@@ -11,7 +11,7 @@ ghost use Rattle.tree_model.specs.Trees.{word_rows};
 use bolt_ops::{RowOp, output_rows};
 use std::alloc::Global;
 use storm_values::{Memory, Row, Txt, Value};
-use topology_plan::{Body, Grouping, Op, Origin, Plan, Sub};
+use topology_plan::{Body, Function, Grouping, Op, Origin, Plan, Sub};
 
 /// What is done at each node of a tree.
 pub(crate) trait Visitor {
@@ -158,11 +158,11 @@ impl<O: RowOp> Tree<'_, O> {
             (out (O.meaning self.now.custom.now) op.now row.now)))) }
     {
         let from = Origin::Component(component);
-        match op {
-            Op::Split { field } => {
-                self.visit_words(visitor, levels, from, text_of_field(row, *field))
+        match op.function {
+            Function::Split => {
+                self.visit_words(visitor, levels, from, text_of_field(row, op.field()))
             }
-            Op::Route { .. } | Op::Flaky { .. } | Op::Mute { .. } => {
+            Function::Route | Function::Flaky { .. } | Function::Mute { .. } => {
                 self.visit_row(visitor, levels, from, row)
             }
             _ => {

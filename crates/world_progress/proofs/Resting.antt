@@ -7,7 +7,7 @@ use Rattle.std.proofs.lemmas.Bool.{and_parts, cases_eq, le-ltb, ltb-false, ltb-t
 use Rattle.std.proofs.lemmas.List.Sums.{sum_by-cons}
 use Rattle.std.proofs.lemmas.Option.{slice_get-get_or}
 use Rattle.event_worlds.specs.acker_core.Entries.{tell}
-use Rattle.event_worlds.specs.bolt_ops.Operations.{fails_at, is_mute_at, out}
+use Rattle.event_worlds.specs.bolt_ops.Operations.{fails_at, is_failing, is_mute_at, is_silent, out}
 use Rattle.event_worlds.specs.bolt_ops.RowOp.{Custom}
 use Rattle.event_worlds.specs.bolt_ops.declared.operation.Outcome.TheVariants as outcome
 use Rattle.event_worlds.specs.commit_turns.declared.wait.Wait.{Wait}
@@ -24,7 +24,9 @@ use Rattle.event_worlds.specs.topology_plan.declared.parts.Body.{Body}
 use Rattle.event_worlds.specs.topology_plan.declared.parts.Body.TheVariants.{Bolt, State}
 use Rattle.event_worlds.specs.topology_plan.declared.parts.Component.{Component}
 use Rattle.event_worlds.specs.topology_plan.declared.parts.Op.{Op}
-use Rattle.event_worlds.specs.topology_plan.declared.parts.Op.TheVariants as op
+use Rattle.event_worlds.specs.topology_plan.declared.function.Attempts.{Attempts}
+use Rattle.event_worlds.specs.topology_plan.declared.function.Attempts.TheVariants.{MakeRows, FailBelow, MuteBelow}
+use Rattle.event_worlds.specs.topology_plan.Functions.{shape}
 use Rattle.event_worlds.specs.topology_plan.Topology.{Topology, component_from, component_of, tasks_in_all}
 use Rattle.event_worlds.specs.topology_plan.Valid.{IsValid}
 use Rattle.event_worlds.specs.tree_model.declared.messages.AckMsg.{AckMsg}
@@ -49,7 +51,7 @@ use Rattle.event_worlds.specs.tuple_account.Issued.{course_of_run}
 use Rattle.event_worlds.specs.tuple_tickets.Roots.{root_eq}
 use Rattle.event_worlds.specs.tuple_tickets.Trees.{fails, goes, mute}
 use Rattle.event_worlds.proofs.tuple_tickets.Roots.{root_itself, same_root}
-use Rattle.event_worlds.specs.Rounds.{CanFinish, EndsByBody, EndsByOp}
+use Rattle.event_worlds.specs.Rounds.{CanFinish, EndsByAttempts, EndsByBody, EndsByOp}
 use Rattle.world_progress.proofs.Answering.{IsIdleSide}
 use Rattle.world_progress.specs.Lasting.{Lasting}
 use Rattle.world_progress.proofs.Phases.{IsEmpty}
@@ -101,27 +103,21 @@ away t n most es root young other =
 
 -- ---- no operation stays mute
 
+speaks_by : (t : Topology) (attempts : Attempts) (attempt : ℕ) → 1 ≤ attempt → EndsByAttempts t attempts → is_silent attempts attempt ≡ false
+speaks_by t MakeRows attempt some ends = refl
+speaks_by t (FailBelow below) attempt some ends = refl
+speaks_by t (MuteBelow below) attempt some ends = le-ltb attempt below (omega arith)
+
 never_mute : (t : Topology) (o : Op) (attempt : ℕ) → 1 ≤ attempt → EndsByOp t o → is_mute_at o attempt ≡ false
-never_mute t (op.Split field) attempt some ends = refl
-never_mute t (op.Project fields) attempt some ends = refl
-never_mute t (op.Filter field test value) attempt some ends = refl
-never_mute t (op.Set field value) attempt some ends = refl
-never_mute t (op.Len field) attempt some ends = refl
-never_mute t (op.Route field) attempt some ends = refl
-never_mute t (op.Flaky below) attempt some ends = refl
-never_mute t (op.Mute below) attempt some ends = le-ltb attempt below (omega arith)
-never_mute t op.Custom attempt some ends = refl
+never_mute t o attempt some ends = speaks_by t (shape o.function).attempts attempt some ends
+
+last_by : (t : Topology) (attempts : Attempts) (attempt : ℕ) → t.attempts ≤ attempt → EndsByAttempts t attempts → is_failing attempts attempt ≡ false
+last_by t MakeRows attempt last ends = refl
+last_by t (FailBelow below) attempt last ends = le-ltb attempt below (omega arith)
+last_by t (MuteBelow below) attempt last ends = refl
 
 pub at_last : (t : Topology) (o : Op) (attempt : ℕ) → t.attempts ≤ attempt → EndsByOp t o → fails_at o attempt ≡ false
-at_last t (op.Split field) attempt last ends = refl
-at_last t (op.Project fields) attempt last ends = refl
-at_last t (op.Filter field test value) attempt last ends = refl
-at_last t (op.Set field value) attempt last ends = refl
-at_last t (op.Len field) attempt last ends = refl
-at_last t (op.Route field) attempt last ends = refl
-at_last t (op.Flaky below) attempt last ends = le-ltb attempt below (omega arith)
-at_last t (op.Mute below) attempt last ends = refl
-at_last t op.Custom attempt last ends = refl
+at_last t o attempt last ends = last_by t (shape o.function).attempts attempt last ends
 
 goes_mute : goes ≡ mute → ⊥
 goes_mute e = cc
