@@ -8,3 +8,4 @@ mod KnownLemmas
 mod WorkLemmas
 mod PlanLemmas
 mod RowLemmas
+mod MigrateLemmas

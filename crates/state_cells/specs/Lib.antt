@@ -6,3 +6,4 @@ pub mod Plans
 pub mod Known
 pub mod PartStates
 pub mod Rows
+pub mod Migrate

@@ -62,7 +62,11 @@ pub(crate) fn find_cell<C: CellStore>(
     }
 }
 
-fn put_cell<C: CellStore>(store: &mut C, key: &[u8], cell: &Cell) -> Result<(), PartFault>
+pub(crate) fn put_cell<C: CellStore>(
+    store: &mut C,
+    key: &[u8],
+    cell: &Cell,
+) -> Result<(), PartFault>
     requires { IsWhole cell.now.kind cell.now.value cell.now.prev }
     ensures done { OnOk result ((cells : CellMap) → C.tells store.old cells →
         C.tells store.new (with_cell cells key.now (bytes_of cell.now))) }

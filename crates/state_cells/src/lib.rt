@@ -1,10 +1,12 @@
-//! A part of a state over a store that may refuse: commits of batches, and the table of its values.
+//! A part of a state over a store that may refuse: commits of batches, the table of its values, and
+//! its cells brought to the format that is written.
 #![tactic(auto)]
 
 mod commit;
 mod fault;
 mod group;
 mod known;
+mod migrate;
 mod part;
 mod plan;
 mod scan;

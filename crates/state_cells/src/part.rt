@@ -4,6 +4,7 @@ ghost use Rattle.storm_stores.specs.CellMaps.{CellMap, cell_at};
 ghost use Rattle.cell_format.specs.Commits.{IsDone, IsPerhapsDone};
 ghost use Rattle.state_cells.specs.Groups.{amounts_in, amounts_of, jobs_in};
 ghost use Rattle.state_cells.specs.Known.{Knows};
+ghost use Rattle.state_cells.specs.Migrate.{IsSameCell, MigratesBefore, MigratesSome, all_migrated, old_count};
 ghost use Rattle.state_cells.specs.PartStates.{part_of};
 ghost use Rattle.state_cells.specs.Rows.{IsBadRow, rows_of};
 ghost use Rattle.state_cells.specs.Scans.{AreGood};
@@ -13,6 +14,7 @@ use crate::commit::{Batch, commit_jobs};
 use crate::fault::PartFault;
 use crate::group::{GroupedWrites, Groups};
 use crate::known::{Known, known_after};
+use crate::migrate::migrate;
 use crate::plan::plan;
 use crate::table::table;
 use std::alloc::Global;
@@ -122,6 +124,42 @@ impl<C: CellStore> Part<C> {
         ensures fold { self.new.by ≡ self.old.by }
     {
         table(self.alloc, &mut self.store, self.kind)
+    }
+
+    /// Brings each cell of format 1 to format 2, in the order of keys, and answers how many they
+    /// were: one look at each key, and one put for each that is brought. Bytes of format 2 stay as
+    /// they are, and what `table` refuses is refused. After a fault the first keys are done and the
+    /// others as before; each cell, and so the table, is the same after any answer.
+    pub fn migrate(&mut self) -> Result<u64, PartFault>
+        ensures counted { IfOk result (λ count. (cells : CellMap) → C.tells self.old.store cells →
+            count ≡ old_count cells) }
+        ensures done { OnOk result ((cells : CellMap) → C.tells self.old.store cells →
+            C.tells self.new.store (all_migrated cells)) }
+        ensures none_left { OnOk result ((cells : CellMap) → C.tells self.new.store cells →
+            old_count cells ≡ 0) }
+        ensures good { OnOk result ((cells : CellMap) → C.tells self.old.store cells →
+            AreGood self.old.kind cells) }
+        ensures none_bad { OnOk result ((cells : CellMap) → C.tells self.old.store cells →
+            (k : List ℕ) → IsBadRow self.old.kind k (cell_at cells k) → ⊥) }
+        ensures reached { (cells : CellMap) → C.tells self.old.store cells →
+            MigratesSome C.tells self.old.kind cells self.new.store }
+        ensures stopped { (k : List ℕ) → IsErrOf result (PartFault.BadCell k) →
+            (cells : CellMap) → C.tells self.old.store cells →
+            MigratesBefore C.tells self.old.kind k cells self.new.store }
+        ensures same { Turns C.tells IsSameCell self.old.store self.new.store }
+        ensures rows { (old new : CellMap) → C.tells self.old.store old →
+            C.tells self.new.store new → rows_of new ≡ rows_of old }
+        ensures failed { IsErrOf result PartFault.Store →
+            C.fault_count self.new.store ≡ raised (C.fault_count self.old.store) }
+        ensures quiet { (IsErrOf result PartFault.Store → ⊥) →
+            C.fault_count self.new.store ≡ C.fault_count self.old.store }
+        ensures bad { (k : List ℕ) → IsErrOf result (PartFault.BadCell k) → (cells : CellMap) →
+            C.tells self.old.store cells → IsBadRow self.old.kind k (cell_at cells k) }
+        ensures never_falls { C.fault_count self.old.store ≤ C.fault_count self.new.store }
+        ensures kind { self.new.kind ≡ self.old.kind }
+        ensures fold { self.new.by ≡ self.old.by }
+    {
+        migrate(self.alloc, &mut self.store, self.kind)
     }
 }
 
