@@ -67,7 +67,8 @@ MigratesBefore tells kind key cells new =
 
 -- what a key has is the same cell for a part of either kind, or none
 abbrev pub IsSameCell : List ℕ → Option (List ℕ) → Option (List ℕ) → Type 0
-IsSameCell key old new = (kind : Kind) (cell : Option Cell) → Holds kind old cell ↔ Holds kind new cell
+IsSameCell key old new =
+    (kind : Kind) (cell : Option Cell) → Holds kind old cell ↔ Holds kind new cell
 
 -- the cell of the key of a number was read, and whether it is of format 1; its bytes in format 2
 -- are there now

@@ -8,3 +8,4 @@ mod StandingLemmas
 mod TableLaw
 mod KeyTexts
 mod TreeWrites
+mod MigrateLemmas

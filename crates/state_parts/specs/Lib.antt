@@ -6,3 +6,4 @@ pub mod Answers
 pub mod PartTables
 pub mod Standing
 pub mod Gathered
+pub mod Migrate

@@ -1,5 +1,5 @@
 //! The parts of all states of a topology over a maker of stores: commits of batches to all of them,
-//! and the tables of the states.
+//! the tables of the states, and cells brought to the format that is written.
 #![tactic(auto)]
 
 mod answer;
@@ -8,6 +8,7 @@ mod commit;
 mod give;
 mod laws;
 mod make;
+mod migrate;
 mod parts;
 mod split;
 mod tables;

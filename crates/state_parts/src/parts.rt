@@ -2,17 +2,21 @@ ghost use Rattle.std.specs.Prelude.{◌≡◌, ◌≤◌, ◌⊎◌, ℕ, List, 
 ghost use Rattle.std.specs.List.{AllZip};
 ghost use Rattle.tree_model.specs.storm_values.Counts.{raised_by};
 ghost use Rattle.storm_stores.specs.CellMaps.{CellMap, cell_at};
-ghost use Rattle.tree_model.specs.Tables.{states_of};
+ghost use Rattle.tree_model.specs.Tables.{StateOf, states_of};
+ghost use Rattle.tree_model.specs.bolt_ops.RowOp.{Custom};
+ghost use Rattle.tree_model.specs.declared.write.Table.{Table};
 ghost use Rattle.state_parts.specs.Commits.{AreCommitted, ArePerhapsCommitted, Comes, CountsFollow, FailOnceAtMost, IsBadAt, IsFailedPart, NoCountFell, SameCounts};
 ghost use Rattle.state_parts.specs.Makers.{AreMade, Began, CameBack, HasNotFailed, OnlyMade, RoseBySum, faults_of};
+ghost use Rattle.state_parts.specs.Migrate.{AreKept, AreMigrated, IsBrokenOff, StopAt, StopsBefore, old_sum};
 ghost use Rattle.state_parts.specs.PartPlans.{AreParts, IsOneOf, plans_of};
-ghost use Rattle.state_parts.specs.PartTables.{AreRead, IsBadRowAt, IsTableOver, OneRaised};
+ghost use Rattle.state_parts.specs.PartTables.{AreRead, IsBadRowAt, IsTableOver, OneRaised, Tell};
 
 use crate::answer::{Commit, CommitFault, CommitOutcome};
 use crate::beside::commit_parts_beside;
 use crate::commit::commit_parts;
 use crate::give::give_all;
 use crate::make::add_states;
+use crate::migrate::migrate_parts;
 use crate::tables::tables_of;
 use state_cells::{Part, PartFault};
 use std::alloc::Global;
@@ -132,6 +136,32 @@ impl<C: CellStore> Parts<C> {
             IsBadRowAt C.tells self.old key }
     {
         tables_of(self.alloc, &mut self.parts, plan)
+    }
+
+    /// Brings the cells of all parts to format 2, one part after another, and answers how many were
+    /// of format 1, up to 2^64 - 1. It stops at the first fault, of those of `tables`: of that part
+    /// the first keys may be done, and the parts behind it are untouched. Each key has the same
+    /// cell after any answer.
+    pub fn migrate(&mut self) -> Result<u64, PartFault>
+        ensures counted { IfOk result (λ count. (maps : List CellMap) →
+            Tell C.tells self.old maps → count ≡ old_sum maps) }
+        ensures done { OnOk result (AreMigrated C.tells C.fault_count self.old self.new) }
+        ensures broken { OnErr result (StopAt C.tells C.fault_count
+            (IsBrokenOff C.tells C.fault_count) self.old self.new) }
+        ensures stopped { (key : List ℕ) → IsErrOf result (PartFault.BadCell key) →
+            StopAt C.tells C.fault_count (StopsBefore C.tells key) self.old self.new }
+        ensures kept { AreKept C.tells C.fault_count self.old self.new }
+        ensures plans { plans_of self.new ≡ plans_of self.old }
+        ensures tables { (state : StateOf) (table : Table) →
+            IsTableOver C.tells self.new state table → IsTableOver C.tells self.old state table }
+        ensures failed { IsErrOf result PartFault.Store →
+            OneRaised C.fault_count self.old self.new }
+        ensures quiet { (IsErrOf result PartFault.Store → ⊥) →
+            SameCounts C.fault_count self.old self.new }
+        ensures bad { (key : List ℕ) → IsErrOf result (PartFault.BadCell key) →
+            IsBadRowAt C.tells self.old key }
+    {
+        migrate_parts(&mut self.parts)
     }
 
     /// Gives every store back to the maker, which takes no memory.
