@@ -43,12 +43,15 @@ migrated_bytes cell bytes is (inr old) =
     rw here (ap bytes_of (read_of-bytes cell bytes is (inr old)))
 
 -- bytes of format 2 are not of format 1
-migrated_new : (bytes : List ℕ) → is_old (migrated bytes) ≡ false
+pub migrated_new : (bytes : List ℕ) → is_old (migrated bytes) ≡ false
 migrated_new bytes = cases (is_old bytes) refl
   where
     cases : (b : Bool) → is_old bytes ≡ b → is_old (cond b (bytes_of (read_of bytes)) bytes) ≡ false
     cases true is = ap (λ n. n == 42) (length-bytes_by true (read_of bytes))
     cases false is = is
+
+pub migrated_kept : (bytes : List ℕ) → is_old bytes ≡ false → migrated bytes ≡ bytes
+migrated_kept bytes other = rw other refl
 
 -- ---- what a key has
 

@@ -15,4 +15,5 @@ mod table;
 pub use cell_format::{Cell, CellFault, commits_move_parts_on, decode_cell, encode_cell};
 pub use fault::PartFault;
 pub use group::GroupedWrites;
+pub use migrate::cells_are_brought_to_format_2;
 pub use part::Part;

@@ -1,8 +1,10 @@
-ghost use Rattle.std.specs.Prelude.{◌≡◌, ◌≤◌, ◌<◌, ◌⊎◌, true, ℕ, List, length, IsSome, IsTrue, Some, MatchOption, IfOk, OnOk, OnErr, IsErrOf};
+ghost use Rattle.std.specs.Prelude.{◌≡◌, ◌≤◌, ◌<◌, ◌⊎◌, true, false, ℕ, List, length, IsSome, IsTrue, Some, MatchOption, IfOk, OnOk, OnErr, IsErrOf};
 ghost use Rattle.std.specs.Str.{IsUtf8};
 ghost use Rattle.tree_model.specs.storm_values.Counts.{raised};
 ghost use Rattle.storm_stores.specs.CellMaps.{CellMap, cell_at};
-ghost use Rattle.state_cells.specs.Migrate.{IsBadKey, IsRowCell, Migrates, MigratesAt, MigratesBefore, MigratesSome, old_count};
+ghost use Rattle.cell_format.specs.Layout.{AreBytesOf, IsCell, bytes_of};
+ghost use Rattle.cell_format.specs.declared.cell.Cell.{Cell};
+ghost use Rattle.state_cells.specs.Migrate.{IsBadKey, IsRowCell, Migrates, MigratesAt, MigratesBefore, MigratesSome, is_old, migrated, old_count};
 ghost use Rattle.state_cells.specs.Rows.{IsBadRow};
 
 use crate::commit::{bad_cell, put_cell};
@@ -116,3 +118,12 @@ pub(crate) fn migrate<C: CellStore>(
     }
     Ok(migrated)
 }
+
+/// A law: the bytes of a cell are brought to those that are written for the same cell, which are not
+/// of format 1; and bytes that are no cell of format 1 stay.
+pub fn cells_are_brought_to_format_2()
+    ensures same { (cell : Cell) (bytes : List ℕ) → IsCell cell → AreBytesOf cell bytes
+        → migrated bytes ≡ bytes_of cell }
+    ensures none_old { (bytes : List ℕ) → is_old (migrated bytes) ≡ false }
+    ensures kept { (bytes : List ℕ) → is_old bytes ≡ false → migrated bytes ≡ bytes }
+{}

@@ -1,6 +1,7 @@
 -- Parts that are migrated one after another.
-use Rattle.std.proofs.Common.{◌≡◌, ◌+◌, ◌-◌, ◌^◌, ◌≤◌, ◌<◌, ◌==◌, ◌⊎◌, inl, inr, ℕ, ℤ, zero, suc, min, Bool, true, false, cond, List, [], ◌∷◌, length, map, get_or, set, take, Option, None, Some, slice_get, refl, sym, ap, subst, ◌∙◌, arith}
+use Rattle.std.proofs.Common.{◌≡◌, ◌+◌, ◌-◌, ◌^◌, ◌≤◌, ◌<◌, ◌==◌, ◌⊎◌, inl, inr, ℕ, ℤ, zero, suc, min, Bool, true, false, cond, List, [], ◌∷◌, length, map, filter, All, get_or, set, take, Option, None, Some, IsSome, refl, sym, ap, subst, ◌∙◌, arith}
 use Rattle.std.proofs.lemmas.List.{take_all}
+use Rattle.std.proofs.lemmas.List.Elements.{All-cons, All-head, All-nil, All-tail}
 use Rattle.std.proofs.lemmas.List.Sums.{sum_by_more}
 use Rattle.std.proofs.lemmas.Option.{slice_get-get_or}
 use Rattle.std.proofs.lemmas.Slice.Zip.{AllZip-long}
@@ -9,14 +10,22 @@ use Rattle.std.specs.Option.{option_or}
 use Rattle.storm_stores.specs.CellMaps.{CellMap, cell_at}
 use Rattle.tree_model.specs.Tables.{StateOf}
 use Rattle.tree_model.specs.declared.write.Table.{Table}
+use Rattle.tree_model.specs.declared.write.Write.{Write}
+use Rattle.tree_model.specs.topology_plan.Topology.{Topology, tasks_of}
+use Rattle.tree_model.specs.topology_plan.declared.parts.Fold.{Fold}
+use Rattle.tree_model.specs.topology_plan.declared.parts.Kind.{Kind}
+use Rattle.cell_format.specs.Commits.{IsHeld}
+use Rattle.cell_format.specs.Standing.{IsWithin, Stands}
+use Rattle.cell_format.specs.declared.cell.Cell.{Cell}
 use Rattle.state_cells.specs.Migrate.{IsSameCell, old_count}
 use Rattle.state_cells.specs.Rows.{IsBadRow, rows_of, value_in}
 use Rattle.state_cells.specs.Turns.{Turns}
 use Rattle.state_parts.specs.declared.parts.StatePart.{StatePart}
-use Rattle.state_parts.specs.Commits.{SameCounts}
+use Rattle.state_parts.specs.Commits.{SameCounts, is_for_part, own_writes}
 use Rattle.state_parts.specs.Migrate.{AreKept, AreMigrated, IsBrokenOff, IsMigrated, KeepsCells, StopAt, old_sum}
 use Rattle.state_parts.specs.PartPlans.{PartPlan, plan_of, plans_of}
 use Rattle.state_parts.specs.PartTables.{IsBadRowAt, IsTableOver, Tell, components_of, put_all, value_among, value_for}
+use Rattle.state_parts.specs.Standing.{AllAreAt, AllStand, PartIsAt, PartStands}
 use Rattle.state_parts.proofs.TableLemmas.{put_rows, zip_at}
 
 -- ---- sums that end
@@ -206,3 +215,64 @@ module _ {S : Type 0} (tells : S → CellMap → Type 0) (count : S → ℕ) whe
     stopped_kept (x ∷ old) [] stop = absurd stop
     stopped_kept (x ∷ old) (y ∷ new) (inl (done, later)) = (done.kept, stopped_kept old new later)
     stopped_kept (x ∷ old) (y ∷ new) (inr (broken, same)) = (broken.kept, subst (AreKept tells count old) (sym same) (all_kept old))
+
+-- ---- where the parts stand
+
+-- what a store tells is said key by key
+same_held : (kind : Kind) (by : Fold) (parts part t : ℕ) (done next : List Write) (old new : List ℕ → Option (List ℕ)) → ((key : List ℕ) → IsSameCell key (old key) (new key)) → Stands kind by parts part t done next old
+    → Stands kind by parts part t done next new
+same_held kind by parts part t done next old new same stands = record {
+  keys = λ key. let k = stands.keys key in record { cell = k.cell; is = (same key kind k.cell).0 k.is; stands = k.stands };
+  own = λ key some.
+      let k = stands.keys key in
+      stands.own key (there k.cell (old key) (new key) k.is.bytes ((same key kind k.cell).0 k.is).bytes some);
+}
+  where
+    there : (cell : Option Cell) (was now : Option (List ℕ)) → IsHeld was cell → IsHeld now cell → IsSome now → IsSome was
+    there None None None is_was is_now some = some
+    there None None (Some bytes) is_was is_now some = absurd is_now
+    there None (Some bytes) now is_was is_now some = refl
+    there (Some cell) None now is_was is_now some = absurd is_was
+    there (Some cell) (Some bytes) now is_was is_now some = refl
+
+same_within : (kind : Kind) (t : ℕ) (old new : List ℕ → Option (List ℕ)) → ((key : List ℕ) → IsSameCell key (old key) (new key)) → IsWithin kind t old → IsWithin kind t new
+same_within kind t old new same within = λ key cell holds. within key cell ((same key kind (Some cell)).1 holds)
+
+module _ {S : Type 0} (tells : S → CellMap → Type 0) (count : S → ℕ) (t : Topology) (n : ℕ) (done next : List Write) where
+  -- how a part stands by its numbers, kind and fold alone
+  abbrev StandsBy : (List ℕ → Option (List ℕ)) → PartPlan → Type 0
+  StandsBy held p = Stands p.kind p.by (tasks_of t p.component) p.part n (filter (is_for_part p.component p.part) done) (filter (is_for_part p.component p.part) next) held
+
+  one_stands : (old new : StatePart S) → KeepsCells tells count old new → PartStands tells t n done next old → PartStands tells t n done next new
+  one_stands old new kept stands =
+      let x = kept.same.to stands.cells stands.told in
+      let as_old : StandsBy (cell_at x.0) (plan_of old) =
+      same_held old.over.kind old.over.by (tasks_of t old.component) old.part n (own_writes done old) (own_writes next old) (cell_at stands.cells) (cell_at x.0) x.2 stands.stands in
+      record { cells = x.0; told = x.1; stands = subst (StandsBy (cell_at x.0)) (sym kept.plan) as_old }
+
+  one_is_at : (old new : StatePart S) → KeepsCells tells count old new → PartIsAt tells t n done next old → PartIsAt tells t n done next new
+  one_is_at old new kept stands =
+      let x = kept.same.to stands.cells stands.told in
+      let as_old : StandsBy (cell_at x.0) (plan_of old) =
+      same_held old.over.kind old.over.by (tasks_of t old.component) old.part n (own_writes done old) (own_writes next old) (cell_at stands.cells) (cell_at x.0) x.2 stands.stands in
+      let within_old : IsWithin old.over.kind n (cell_at x.0) = same_within old.over.kind n (cell_at stands.cells) (cell_at x.0) x.2 stands.within in
+      record {
+        cells = x.0;
+        told = x.1;
+        stands = subst (StandsBy (cell_at x.0)) (sym kept.plan) as_old;
+        within = subst (λ (p : PartPlan). IsWithin p.kind n (cell_at x.0)) (sym kept.plan) within_old;
+      }
+
+  pub kept_stand : (old new : List (StatePart S)) → AreKept tells count old new → AllStand tells t n done next old → AllStand tells t n done next new
+  kept_stand [] [] kept stand = All-nil (PartStands tells t n done next)
+  kept_stand [] (y ∷ new) kept stand = absurd kept
+  kept_stand (x ∷ old) [] kept stand = absurd kept
+  kept_stand (x ∷ old) (y ∷ new) kept stand =
+      All-cons (PartStands tells t n done next) y new (one_stands x y kept.0 (All-head (PartStands tells t n done next) x old stand)) (kept_stand old new kept.1 (All-tail (PartStands tells t n done next) x old stand))
+
+  pub kept_are_at : (old new : List (StatePart S)) → AreKept tells count old new → AllAreAt tells t n done next old → AllAreAt tells t n done next new
+  kept_are_at [] [] kept stand = All-nil (PartIsAt tells t n done next)
+  kept_are_at [] (y ∷ new) kept stand = absurd kept
+  kept_are_at (x ∷ old) [] kept stand = absurd kept
+  kept_are_at (x ∷ old) (y ∷ new) kept stand =
+      All-cons (PartIsAt tells t n done next) y new (one_is_at x y kept.0 (All-head (PartIsAt tells t n done next) x old stand)) (kept_are_at old new kept.1 (All-tail (PartIsAt tells t n done next) x old stand))

@@ -18,4 +18,5 @@ pub use laws::{
     commits_move_all_parts_on, parts_over_empty_stores_begin, tables_of_parts_are_tables_of_writes,
     writes_of_trees_are_placed,
 };
+pub use migrate::parts_with_the_same_cells_stand;
 pub use parts::Parts;

@@ -1,7 +1,9 @@
 ghost use Rattle.std.specs.Prelude.{◌≡◌, ◌≤◌, ℕ, List, IfOk, OnOk, OnErr, IsErrOf};
 ghost use Rattle.tree_model.specs.storm_values.Counts.{raised};
 ghost use Rattle.tree_model.specs.Tables.{StateOf};
+ghost use Rattle.tree_model.specs.topology_plan.Topology.{Topology};
 ghost use Rattle.tree_model.specs.declared.write.Table.{Table};
+ghost use Rattle.tree_model.specs.declared.write.Write.{Write};
 ghost use Rattle.storm_stores.specs.CellMaps.{CellMap, cell_at};
 ghost use Rattle.state_cells.specs.Migrate.{old_count};
 ghost use Rattle.state_cells.specs.Rows.{IsBadRow};
@@ -9,6 +11,8 @@ ghost use Rattle.state_parts.specs.Commits.{SameCounts};
 ghost use Rattle.state_parts.specs.Migrate.{AreKept, AreMigrated, IsBrokenOff, IsMigrated, StopAt, StopsBefore, old_sum};
 ghost use Rattle.state_parts.specs.PartPlans.{plans_of};
 ghost use Rattle.state_parts.specs.PartTables.{IsBadRowAt, IsTableOver, OneRaised, Tell};
+ghost use Rattle.state_parts.specs.Standing.{AllAreAt, AllStand};
+ghost use Rattle.state_parts.specs.declared.parts.StatePart.{StatePart};
 
 use crate::parts::StatePart;
 use state_cells::PartFault;
@@ -64,3 +68,14 @@ pub(crate) fn migrate_parts<C: CellStore>(parts: &mut Vec<StatePart<C>>) -> Resu
     }
     Ok(total)
 }
+
+/// A law: parts that have the same cells as before stand at the number of commits at which they
+/// stood.
+pub fn parts_with_the_same_cells_stand<C: CellStore>()
+    ensures stand { (t : Topology) (n : ℕ) (done next : List Write) (old new : List (StatePart C))
+        → AreKept C.tells C.fault_count old new → AllStand C.tells t n done next old
+        → AllStand C.tells t n done next new }
+    ensures are_at { (t : Topology) (n : ℕ) (done next : List Write) (old new : List (StatePart C))
+        → AreKept C.tells C.fault_count old new → AllAreAt C.tells t n done next old
+        → AllAreAt C.tells t n done next new }
+{}
