@@ -4,4 +4,6 @@
 #[cfg(test)]
 mod commits;
 #[cfg(test)]
+mod migrations;
+#[cfg(test)]
 mod scene;

@@ -42,6 +42,8 @@ pub enum Trouble {
     Count(u64),
     /// The table has other rows, or another fault.
     Rows,
+    /// The cells were brought to format 2 with another answer.
+    Migration,
 }
 
 impl From<PartFault> for Trouble {

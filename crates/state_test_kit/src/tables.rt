@@ -73,7 +73,7 @@ pub fn check_table_failing(
     compare_again(&mut failing_part_of(alloc, lines, at)?, rows)
 }
 
-fn is_bad(fault: &PartFault, key: &[u8]) -> bool {
+pub(crate) fn is_bad(fault: &PartFault, key: &[u8]) -> bool {
     match fault {
         PartFault::BadCell(bytes) => bytes.as_slice() == key,
         _ => false,

@@ -6,6 +6,8 @@ mod bytes;
 #[cfg(test)]
 mod commits;
 #[cfg(test)]
+mod migrations;
+#[cfg(test)]
 mod refusals;
 #[cfg(test)]
 mod tables;
