@@ -26,7 +26,7 @@ pub struct Lane {
 
 impl Lane {
     /// Where a row goes, whereupon a shuffle goes on to the next task. It takes no memory.
-    pub(crate) fn route(&mut self, row: &Row) -> Targets
+    pub fn route(&mut self, row: &Row) -> Targets
         requires { IsLane self.old }
         ensures target { result ≡ targets self.old row.now }
         ensures moved { self.new ≡ moved self.old }

@@ -4,8 +4,6 @@
 mod lane;
 mod laws;
 mod router;
-#[cfg(test)]
-mod tests;
 
 pub use lane::{Lane, Targets};
 pub use laws::{shuffles_are_even, targets_are_allowed};

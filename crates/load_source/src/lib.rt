@@ -8,6 +8,3 @@ mod topology;
 pub use laws::{load_file_is_fit, load_records_are_rows};
 pub use records::load_records;
 pub use topology::load_plan;
-
-#[cfg(test)]
-mod tests;

@@ -6,8 +6,6 @@ mod board;
 mod laws;
 mod rule;
 mod seat;
-#[cfg(test)]
-mod tests;
 
 pub use laws::{a_halt_was_made, unmarked_books_count_all};
 pub use rule::Book;

@@ -6,8 +6,6 @@ mod fault;
 mod laws;
 mod pending;
 mod roots;
-#[cfg(test)]
-mod tests;
 
 pub use fault::BeginFault;
 pub use laws::{roots_are_told_at_their_last_tick, roots_that_are_not_timed_are_not_told};

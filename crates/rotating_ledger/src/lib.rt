@@ -8,8 +8,6 @@ mod ledger;
 mod rotating;
 mod slot;
 mod state;
-#[cfg(test)]
-mod tests;
 
 pub use dropped::Dropped;
 pub use ledger::Ledger;

@@ -4,8 +4,6 @@
 mod chacha;
 mod ids;
 mod script;
-#[cfg(test)]
-mod tests;
 
 pub use chacha::{ChaChaIds, ChaChaMaker};
 pub use ids::{IdMaker, Ids, Words};

@@ -13,6 +13,7 @@ mod system;
 pub use failed::Failed;
 pub use memory_shelf::MemShelf;
 pub use memory_sink::MemSink;
+pub use pieces::{read_piece, write_piece};
 pub use shelf::{InFault, Shelf, read_all};
 pub use sink::{Sink, write_all};
 pub use storm_gates::{Gate, HoldUntil, OpenGate};
@@ -22,6 +23,3 @@ pub use storm_stores::{
 };
 pub use storm_ticks::{ClockTicks, ScriptTicks, Ticks, handed_out_is_the_sum_of_answers, ticks_at};
 pub use system::{FileShelf, OutSink};
-
-#[cfg(test)]
-mod tests;

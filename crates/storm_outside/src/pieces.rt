@@ -8,7 +8,7 @@ use std::io::{Read, Write};
 
 /// Reads the first bytes of what is left of a source into the front of the buffer, and answers
 /// how many. 0 is the end.
-pub(crate) fn read_piece<S: Read>(
+pub fn read_piece<S: Read>(
     source: &mut S,
     buf: &mut [u8],
     faults: &mut u64,
@@ -27,11 +27,7 @@ pub(crate) fn read_piece<S: Read>(
 }
 
 /// Writes the first of some bytes, and answers how many.
-pub(crate) fn write_piece<W: Write>(
-    out: &mut W,
-    bytes: &[u8],
-    faults: &mut u64,
-) -> Result<usize, Failed>
+pub fn write_piece<W: Write>(out: &mut W, bytes: &[u8], faults: &mut u64) -> Result<usize, Failed>
     ensures least { IfOk result (λ k. 0 < k) }
     ensures count { IfOk result (λ k. k ≤ length bytes.now) }
     ensures bytes { WriteAppends (W.contents out.old) (W.contents out.new) result bytes.now }

@@ -4,8 +4,6 @@
 
 mod clock;
 mod script;
-#[cfg(test)]
-mod tests;
 mod ticks;
 
 pub use clock::{ClockTicks, ticks_at};

@@ -7,6 +7,3 @@ mod texts;
 
 pub use mismatch::{Mismatch, compare};
 pub use texts::{changed, columns, lines_without};
-
-#[cfg(test)]
-mod tests;

@@ -8,6 +8,3 @@ pub use checks::{
     FILE, check_changes, check_changes_of, check_operations, check_pairs, check_pairs_of, full_file,
 };
 pub use reading::{check_told, told};
-
-#[cfg(test)]
-mod tests;

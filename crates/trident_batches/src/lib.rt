@@ -3,8 +3,6 @@
 
 mod batches;
 mod laws;
-#[cfg(test)]
-mod tests;
 
 pub use batches::Batches;
 pub use laws::{

@@ -7,8 +7,6 @@
 
 mod edge;
 mod laws;
-#[cfg(test)]
-mod tests;
 
 pub use edge::{Edge, Edges, edge_order_is_total};
 pub use laws::{

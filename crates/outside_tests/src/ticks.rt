@@ -1,8 +1,9 @@
-use crate::{ClockTicks, ScriptTicks, Ticks, ticks_at};
+// Ticks of a script, and of a clock.
 use std::cell::Cell;
 use std::io;
 use std::test::Fail;
 use std::time::{Clock, Duration};
+use storm_outside::{ClockTicks, ScriptTicks, Ticks, ticks_at};
 use storm_values::Indexes;
 
 // A call through the bound.

@@ -1,4 +1,5 @@
-use crate::{load_plan, load_records};
+// The topology and the records that `load` makes.
+use load_source::{load_plan, load_records};
 use std::test::Fail;
 use storm_values::Value;
 

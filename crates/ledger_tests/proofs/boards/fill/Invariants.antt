@@ -1,5 +1,5 @@
 use Rattle.pulse_board.specs.Seats.{IsSeatOf}
-use Rattle.pulse_board.proofs.tests.fill.Given as goal
+use Rattle.ledger_tests.proofs.boards.fill.Given as goal
 
 abbrev pub invariant-loop-number : goal.invariant-loop-number
 invariant-loop-number l = IsSeatOf l.board l.seat

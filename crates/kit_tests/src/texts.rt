@@ -1,4 +1,5 @@
-use crate::{Mismatch, changed, columns, compare, lines_without};
+// Texts are changed, cut and compared.
+use test_kit::{Mismatch, changed, columns, compare, lines_without};
 
 fn is_case(outcome: Result<String, Mismatch>) -> bool {
     matches!(outcome, Err(Mismatch::Case(_)))

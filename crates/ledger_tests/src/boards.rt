@@ -1,8 +1,9 @@
+// Seats of a board of ticks.
 ghost use Rattle.std.specs.Prelude.{◌≡◌};
 ghost use Rattle.pulse_board.specs.Seats.{IsSeatOf};
 
-use super::*;
-use std::test::*;
+use pulse_board::{Board, BoardSeat};
+use std::test::Fail;
 use std::thread::{Threads, join};
 
 #[test]

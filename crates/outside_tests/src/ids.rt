@@ -1,5 +1,6 @@
-use crate::{ChaChaMaker, IdMaker, Ids, ScriptIds, Words};
+// Ids of ChaCha20 and of a script.
 use std::test::Fail;
+use storm_outside::{ChaChaMaker, IdMaker, Ids, ScriptIds, Words};
 
 // ids of a key of zeros, from the key streams that OpenSSL's `chacha20` writes
 #[test]

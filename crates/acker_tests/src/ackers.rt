@@ -1,5 +1,4 @@
-use crate::follow::followed_order;
-use crate::{Acker, Check, Verdict, check_list};
+use acker_core::{Acker, Check, Verdict, check_list, followed_order};
 use message_lists::Notes;
 use std::alloc::Global;
 use std::test::Fail;

@@ -1,7 +1,8 @@
-use crate::Batches;
+// The batches of an input.
 use std::alloc::Global;
 use std::test::Fail;
 use storm_values::{Memory, Row, Rows, Value};
+use trident_batches::Batches;
 
 // So many rows, each with its number counted from 1.
 fn numbered_rows(alloc: Global, records: i64) -> Result<Rows, Memory> {

@@ -1,8 +1,9 @@
-use crate::Edge;
+// Edges are copied, and stand in order.
 use std::alloc::Global;
 use std::cmp::Ordering;
 use std::test::Fail;
-use storm_values::{Duplicate, Memory, Path};
+use tree_model::Edge;
+use tree_model::storm_values::{Duplicate, Memory, Path};
 
 #[test]
 fn a_copy_has_the_path_and_the_id(rt: HostRuntime) -> Result<(), Fail> {

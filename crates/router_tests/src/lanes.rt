@@ -1,4 +1,5 @@
-use crate::lane::{Lane, Targets};
+// Where one lane sends a row.
+use groupings::{Lane, Targets};
 use std::alloc::Global;
 use std::test::Fail;
 use storm_values::{Indexes, Memory, Row, Txt, Value};

@@ -1,4 +1,5 @@
-use crate::{BeginFault, Pending, Roots};
+// Attempts in flight.
+use replay_pending::{BeginFault, Pending, Roots};
 use std::alloc::AllocError;
 use std::test::Fail;
 use storm_values::{Memory, Root};

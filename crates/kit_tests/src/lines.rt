@@ -1,9 +1,9 @@
 // A check whose line is not met fails.
-use crate::{
+use test_kit::Mismatch;
+use topology_test_kit::{
     check_changes, check_changes_of, check_operations, check_pairs, check_pairs_of, check_told,
     full_file,
 };
-use test_kit::Mismatch;
 
 // Tables with a line that is met.
 const CHANGE: &str = r#""batch":5 | "batch":0 | "batch" is 0, not from 1 to 100000"#;

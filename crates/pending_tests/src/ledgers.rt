@@ -1,4 +1,5 @@
-use crate::{Dropped, Ledger, Rotating, Told};
+// The XOR words of roots, and values that rotate.
+use rotating_ledger::{Dropped, Ledger, Rotating, Told};
 use std::alloc::Global;
 use std::test::Fail;
 use storm_values::{Memory, Root};

@@ -1,12 +1,13 @@
+// Files and outputs, in memory and of the system.
 ghost use Rattle.std.specs.Prelude.{◌<◌, ◌-◌, ◌^◌};
 
-use crate::pieces::write_piece;
-use crate::{
-    Failed, FileShelf, InFault, MemShelf, MemSink, OutSink, Shelf, Sink, read_all, write_all,
-};
 use std::alloc::Global;
 use std::fs;
 use std::test::Fail;
+use storm_outside::{
+    Failed, FileShelf, InFault, MemShelf, MemSink, OutSink, Shelf, Sink, read_all, write_all,
+    write_piece,
+};
 use storm_values::{Bytes, Memory, Txt};
 
 const TEXT: &str = "abcdefgh";
@@ -89,7 +90,7 @@ fn a_sink_fails_at_each_write(rt: HostRuntime) -> Result<(), Fail> {
 
 #[test]
 fn a_file_is_read_and_printed(rt: HostRuntime) -> Result<(), Fail> {
-    let path = "storm_outside_test.txt";
+    let path = "outside_tests_test.txt";
     fs::write(&rt, path, TEXT)?;
     let mut shelf = FileShelf::new(&rt);
     shelf.fetch(path)?;
@@ -116,7 +117,7 @@ fn read_file(alloc: Global, shelf: &mut impl Shelf, name: &str, most: u64) -> Re
 #[test]
 fn a_file_is_longer_than_one_read(rt: HostRuntime) -> Result<(), Fail> {
     let alloc = rt.alloc();
-    let path = "storm_outside_long.txt";
+    let path = "outside_tests_long.txt";
     let line = "a line of 23 characters";
     let long = line.repeat(alloc, 1_000)?;
     fs::write(&rt, path, long.as_str())?;
@@ -132,7 +133,7 @@ fn a_file_is_longer_than_one_read(rt: HostRuntime) -> Result<(), Fail> {
 #[test]
 fn files_are_fetched_in_turn(rt: HostRuntime) -> Result<(), Fail> {
     let alloc = rt.alloc();
-    let names = ["storm_outside_one.txt", "storm_outside_two.txt"];
+    let names = ["outside_tests_one.txt", "outside_tests_two.txt"];
     for name in names {
         fs::write(&rt, name, name)?;
     }
@@ -158,7 +159,7 @@ fn files_are_fetched_in_turn(rt: HostRuntime) -> Result<(), Fail> {
 
 #[test]
 fn a_folder_is_no_file(rt: HostRuntime) -> Result<(), Fail> {
-    let path = "storm_outside_folder";
+    let path = "outside_tests_folder";
     fs::create_dir(&rt, path)?;
     let mut shelf = FileShelf::new(&rt);
     // the system opens a folder, and lets no byte of it be read
