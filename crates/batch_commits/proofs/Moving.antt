@@ -36,12 +36,12 @@ none_written t custom = refl
 
 -- the laws of the parts, as these lemmas take them
 pub record Laws {S : Type 0} (tells : S → CellMap → Type 0) : Type 0 where
-  pub begin : (t : Topology) (next : List Write) (parts : List (StatePart S)) → All (IsEmpty tells) parts → AllAreAt tells t 0 [] next parts
-  pub moved : (t : Topology) (n : ℕ) (root : Root) (done next more : List Write) (old new : List (StatePart S)) → root.txid ≡ n + 1 → AllStand tells t n done next old → ArePlaced t next
-      → AreCommitted tells root next old new → AllAreAt tells t (n + 1) (done ++ next) more new
-  pub begun : (t : Topology) (n : ℕ) (root : Root) (done next : List Write) (old new : List (StatePart S)) → root.txid ≡ n + 1 → AllStand tells t n done next old → ArePlaced t next
-      → ArePerhapsCommitted tells root next old new → AllStand tells t n done next new
-  pub stand : (t : Topology) (n : ℕ) (done next : List Write) (parts : List (StatePart S)) → AllAreAt tells t n done next parts → AllStand tells t n done next parts
+  pub begin : (t : Topology) (custom : Custom) (next : List Write) (parts : List (StatePart S)) → All (IsEmpty tells) parts → AllAreAt tells t custom 0 [] next parts
+  pub moved : (t : Topology) (custom : Custom) (n : ℕ) (root : Root) (done next more : List Write) (old new : List (StatePart S)) → root.txid ≡ n + 1 → AllStand tells t custom n done next old → ArePlaced t next
+      → AreCommitted tells custom root next old new → AllAreAt tells t custom (n + 1) (done ++ next) more new
+  pub begun : (t : Topology) (custom : Custom) (n : ℕ) (root : Root) (done next : List Write) (old new : List (StatePart S)) → root.txid ≡ n + 1 → AllStand tells t custom n done next old → ArePlaced t next
+      → ArePerhapsCommitted tells custom root next old new → AllStand tells t custom n done next new
+  pub stand : (t : Topology) (custom : Custom) (n : ℕ) (done next : List Write) (parts : List (StatePart S)) → AllAreAt tells t custom n done next parts → AllStand tells t custom n done next parts
   pub placed : (t : Topology) (custom : Custom) (rows : List (List Value)) → ArePlaced t (writes t custom rows)
   pub joined : (t : Topology) (custom : Custom) (xs ys : List (List Value)) → writes t custom (xs ++ ys) ≡ writes t custom xs ++ writes t custom ys
 
@@ -53,35 +53,35 @@ module _ (t : Topology) (custom : Custom) (cut : Cut) {S : Type 0} (tells : S �
 
   pub stand_first : (laws : Laws tells) (parts : List (StatePart S)) → All (IsEmpty tells) parts → PartsStand tells t custom cut 0 parts
   stand_first laws parts empty =
-      let at : AllAreAt tells t 0 (writes_to t custom cut 0) (writes_at t custom cut 1) parts =
-      subst (λ (ws : List Write). AllAreAt tells t 0 ws (writes_at t custom cut 1) parts) (sym (none_written t custom)) (laws.begin t (writes_at t custom cut 1) parts empty) in
-      record { stand = laws.stand t 0 (writes_to t custom cut 0) (writes_at t custom cut 1) parts at; at_end = λ _. at }
+      let at : AllAreAt tells t custom 0 (writes_to t custom cut 0) (writes_at t custom cut 1) parts =
+      subst (λ (ws : List Write). AllAreAt tells t custom 0 ws (writes_at t custom cut 1) parts) (sym (none_written t custom)) (laws.begin t custom (writes_at t custom cut 1) parts empty) in
+      record { stand = laws.stand t custom 0 (writes_to t custom cut 0) (writes_at t custom cut 1) parts at; at_end = λ _. at }
 
-  pub stand_done : (laws : Laws tells) (n : ℕ) (root : Root) (old new : List (StatePart S)) → root.txid ≡ n + 1 → PartsStand tells t custom cut n old → AreCommitted tells root (writes_at t custom cut (n + 1)) old new → PartsStand tells t custom cut (n + 1) new
+  pub stand_done : (laws : Laws tells) (n : ℕ) (root : Root) (old new : List (StatePart S)) → root.txid ≡ n + 1 → PartsStand tells t custom cut n old → AreCommitted tells custom root (writes_at t custom cut (n + 1)) old new → PartsStand tells t custom cut (n + 1) new
   stand_done laws n root old new next_is stands done =
       let next = writes_at t custom cut (n + 1) in
       let more = writes_at t custom cut (n + 1 + 1) in
-      let moved = laws.moved t n root (writes_to t custom cut n) next more old new next_is stands.stand (laws.placed t custom (rows_in cut (n + 1))) done in
-      let at : AllAreAt tells t (n + 1) (writes_to t custom cut (n + 1)) more new = subst (λ (ws : List Write). AllAreAt tells t (n + 1) ws more new) (sym (writes_to-more laws n)) moved in
-      record { stand = laws.stand t (n + 1) (writes_to t custom cut (n + 1)) more new at; at_end = λ _. at }
+      let moved = laws.moved t custom n root (writes_to t custom cut n) next more old new next_is stands.stand (laws.placed t custom (rows_in cut (n + 1))) done in
+      let at : AllAreAt tells t custom (n + 1) (writes_to t custom cut (n + 1)) more new = subst (λ (ws : List Write). AllAreAt tells t custom (n + 1) ws more new) (sym (writes_to-more laws n)) moved in
+      record { stand = laws.stand t custom (n + 1) (writes_to t custom cut (n + 1)) more new at; at_end = λ _. at }
 
-  pub stand_broken : (laws : Laws tells) (n : ℕ) (root : Root) (old new : List (StatePart S)) → root.txid ≡ n + 1 → PartsStand tells t custom cut n old → n < batches_in cut → ArePerhapsCommitted tells root (writes_at t custom cut (n + 1)) old new → PartsStand tells t custom cut n new
+  pub stand_broken : (laws : Laws tells) (n : ℕ) (root : Root) (old new : List (StatePart S)) → root.txid ≡ n + 1 → PartsStand tells t custom cut n old → n < batches_in cut → ArePerhapsCommitted tells custom root (writes_at t custom cut (n + 1)) old new → PartsStand tells t custom cut n new
   stand_broken laws n root old new next_is stands below broken = record {
-    stand = laws.begun t n root (writes_to t custom cut n) (writes_at t custom cut (n + 1)) old new next_is stands.stand (laws.placed t custom (rows_in cut (n + 1))) broken;
+    stand = laws.begun t custom n root (writes_to t custom cut n) (writes_at t custom cut (n + 1)) old new next_is stands.stand (laws.placed t custom (rows_in cut (n + 1))) broken;
     at_end = λ end. absurd (omega arith);
   }
 
 -- the laws of the tables
 pub record TableLaws {S : Type 0} (tells : S → CellMap → Type 0) : Type 0 where
-  pub tables : (t : Topology) (n : ℕ) (done next : List Write) (parts : List (StatePart S)) (tables : List Table) → IsWired t → AreParts t parts → ArePlaced t done → HaveOnePart done
-      → AllAreAt tells t n done next parts → AllZip (IsTableOver tells parts) (states_of t) tables → AreTables t done tables
+  pub tables : (t : Topology) (custom : Custom) (n : ℕ) (done next : List Write) (parts : List (StatePart S)) (tables : List Table) → IsWired t → AreParts t parts → ArePlaced t done → HaveOnePart done
+      → AllAreAt tells t custom n done next parts → AllZip (IsTableOver tells parts) (states_of t custom) tables → AreTables t custom done tables
   pub placed : (t : Topology) (custom : Custom) (rows : List (List Value)) → ArePlaced t (writes t custom rows)
   pub one_part : (t : Topology) (custom : Custom) (rows : List (List Value)) → HaveOnePart (writes t custom rows)
   pub all : (records : List (List Value)) (size : ℕ) → 0 < size → batches_joined size (batch_count (length records) size) records ≡ records
 
 pub tables_stand : (t : Topology) (custom : Custom) (cut : Cut) {S : Type 0} (tells : S → CellMap → Type 0) (laws : TableLaws tells) (parts : List (StatePart S)) (tables : List Table)
-    → IsWired t → 0 < cut.size → AreParts t parts → PartsStand tells t custom cut (batches_in cut) parts → AllZip (IsTableOver tells parts) (states_of t) tables → AreTables t (writes t custom cut.records) tables
+    → IsWired t → 0 < cut.size → AreParts t parts → PartsStand tells t custom cut (batches_in cut) parts → AllZip (IsTableOver tells parts) (states_of t custom) tables → AreTables t custom (writes t custom cut.records) tables
 tables_stand t custom cut tells laws parts tables wired some planned stands zipped =
     let all : writes_to t custom cut (batches_in cut) ≡ writes t custom cut.records = ap (writes t custom) (laws.all cut.records cut.size some) in
-    let at : AllAreAt tells t (batches_in cut) (writes t custom cut.records) (writes_at t custom cut (batches_in cut + 1)) parts = subst (λ (ws : List Write). AllAreAt tells t (batches_in cut) ws (writes_at t custom cut (batches_in cut + 1)) parts) all (stands.at_end refl) in
-    laws.tables t (batches_in cut) (writes t custom cut.records) (writes_at t custom cut (batches_in cut + 1)) parts tables wired planned (laws.placed t custom cut.records) (laws.one_part t custom cut.records) at zipped
+    let at : AllAreAt tells t custom (batches_in cut) (writes t custom cut.records) (writes_at t custom cut (batches_in cut + 1)) parts = subst (λ (ws : List Write). AllAreAt tells t custom (batches_in cut) ws (writes_at t custom cut (batches_in cut + 1)) parts) all (stands.at_end refl) in
+    laws.tables t custom (batches_in cut) (writes t custom cut.records) (writes_at t custom cut (batches_in cut + 1)) parts tables wired planned (laws.placed t custom cut.records) (laws.one_part t custom cut.records) at zipped

@@ -15,7 +15,8 @@ use Rattle.state_parts.specs.PartPlans.{PartPlan}
 use Rattle.state_parts.specs.PartTables.{IsBadRowAt}
 use Rattle.storm_stores.specs.CellMaps.{CellMap, cell_at}
 use Rattle.tuple_account.specs.storm_values.declared.value.Root.{Root}
-use Rattle.tuple_account.specs.topology_plan.declared.parts.Fold.{Fold}
+use Rattle.tuple_account.specs.bolt_ops.RowOp.{Custom}
+use Rattle.tuple_account.specs.tree_model.Tables.{Folding, folded}
 use Rattle.tuple_account.specs.topology_plan.declared.parts.Kind.{Kind}
 use Rattle.tuple_account.specs.tree_model.declared.write.Write.{Write}
 
@@ -50,7 +51,7 @@ has_none kind None holds some = search rules
 has_none kind (Some bytes) holds some = holds.bytes
 
 -- where nothing is written, only a key that had a cell has one
-had_some : (kind : Kind) (by : Fold) (root : Root) (old new : Option (List ℕ)) → Commits kind by root [] old new → IsSome new → IsSome old
+had_some : (kind : Kind) (by : Folding) (root : Root) (old new : Option (List ℕ)) → Commits kind by root [] old new → IsSome new → IsSome old
 had_some kind by root old new done some = cases done.cell done.was done.is
   where
     cases : (cell : Option Cell) → Holds kind old cell → Holds kind new (after kind by root [] cell) → IsSome old
@@ -58,14 +59,14 @@ had_some kind by root old new done some = cases done.cell done.was done.is
     cases (Some cell) was is = has_some kind old cell was
 
 -- a commit makes no strange cell
-commit_strange : (kind : Kind) (by : Fold) (root : Root) (amounts : List ℤ) (key : List ℕ) (old new : Option (List ℕ)) → ((IsUtf8 key → ⊥) → amounts ≡ []) → IsPerhapsDone kind by root amounts old new → IsStrange kind key new → IsStrange kind key old
+commit_strange : (kind : Kind) (by : Folding) (root : Root) (amounts : List ℤ) (key : List ℕ) (old new : Option (List ℕ)) → ((IsUtf8 key → ⊥) → amounts ≡ []) → IsPerhapsDone kind by root amounts old new → IsStrange kind key new → IsStrange kind key old
 commit_strange kind by root amounts key old new none (inl same) strange = subst (IsStrange kind key) same strange
 commit_strange kind by root amounts key old new none (inr done) (inl bad) = absurd (not_bad kind new _ done.is bad)
 commit_strange kind by root amounts key old new none (inr done) (inr strange) =
     inr (had_some kind by root old new (subst (λ (xs : List ℤ). Commits kind by root xs old new) (none strange.1) done) strange.0, strange.1)
 
 -- nor a bad one
-commit_bad : (kind : Kind) (by : Fold) (root : Root) (amounts : List ℤ) (old new : Option (List ℕ)) → IsPerhapsDone kind by root amounts old new → IsBad kind new → IsBad kind old
+commit_bad : (kind : Kind) (by : Folding) (root : Root) (amounts : List ℤ) (old new : Option (List ℕ)) → IsPerhapsDone kind by root amounts old new → IsBad kind new → IsBad kind old
 commit_bad kind by root amounts old new (inl same) bad = subst (IsBad kind) same bad
 commit_bad kind by root amounts old new (inr done) bad = absurd (not_bad kind new _ done.is bad)
 
@@ -74,34 +75,34 @@ module _ {S : Type 0} (tells : S → CellMap → Type 0) where
   abbrev HasAt : (Kind → List ℕ → Option (List ℕ) → Type 0) → StatePart S → List ℕ → Type 0
   HasAt What at key = (cells : CellMap) → tells at.over.store cells → What at.over.kind key (cell_at cells key)
 
-  part_before : (What : Kind → List ℕ → Option (List ℕ) → Type 0) (root : Root) (made : List Write) (old new : StatePart S) (key : List ℕ)
-      → ((was is : Option (List ℕ)) → IsPerhapsDone old.over.kind old.over.by root (amounts_at (own_writes made old) key) was is → What old.over.kind key is → What old.over.kind key was)
-      → PerhapsCommitted tells root (own_writes made old) old new → HasAt What new key → HasAt What old key
-  part_before What root made old new key back done found = λ cells told.
+  part_before : (What : Kind → List ℕ → Option (List ℕ) → Type 0) (custom : Custom) (root : Root) (made : List Write) (old new : StatePart S) (key : List ℕ)
+      → ((was is : Option (List ℕ)) → IsPerhapsDone old.over.kind (folded custom old.over.by) root (amounts_at (own_writes made old) key) was is → What old.over.kind key is → What old.over.kind key was)
+      → PerhapsCommitted tells custom root (own_writes made old) old new → HasAt What new key → HasAt What old key
+  part_before What custom root made old new key back done found = λ cells told.
       let went = done.turns.to cells told in
       let kind : new.over.kind ≡ old.over.kind = ap (λ (p : PartPlan). p.kind) done.plan in
       back (cell_at cells key) (cell_at went.0 key) (went.2 key) (subst (λ (k : Kind). What k key (cell_at went.0 key)) kind (found went.0 went.1))
 
-  found_before : (What : Kind → List ℕ → Option (List ℕ) → Type 0) (root : Root) (made : List Write) (key : List ℕ)
-      → ((x : StatePart S) (was is : Option (List ℕ)) → IsPerhapsDone x.over.kind x.over.by root (amounts_at (own_writes made x) key) was is → What x.over.kind key is → What x.over.kind key was)
-      → (place : ℕ) (old new : List (StatePart S)) → ArePerhapsCommitted tells root made old new → (at : StatePart S) → slice_get new place ≡ Some at → HasAt What at key
+  found_before : (What : Kind → List ℕ → Option (List ℕ) → Type 0) (custom : Custom) (root : Root) (made : List Write) (key : List ℕ)
+      → ((x : StatePart S) (was is : Option (List ℕ)) → IsPerhapsDone x.over.kind (folded custom x.over.by) root (amounts_at (own_writes made x) key) was is → What x.over.kind key is → What x.over.kind key was)
+      → (place : ℕ) (old new : List (StatePart S)) → ArePerhapsCommitted tells custom root made old new → (at : StatePart S) → slice_get new place ≡ Some at → HasAt What at key
       → (was : StatePart S) × (slice_get old place ≡ Some was) × HasAt What was key
-  found_before What root made key back place old [] done at is found = absurd (let e : None ≡ Some at = is in cc)
-  found_before What root made key back place [] (y ∷ ys) done at is found = absurd done
-  found_before What root made key back zero (x ∷ xs) (y ∷ ys) done at is found =
-      let same : at ≡ y = (let e : Some y ≡ Some at = is in cc) in (x, refl, part_before What root made x y key (back x) done.0 (subst (λ (z : StatePart S). HasAt What z key) same found))
-  found_before What root made key back (suc place) (x ∷ xs) (y ∷ ys) done at is found = found_before What root made key back place xs ys done.1 at is found
+  found_before What custom root made key back place old [] done at is found = absurd (let e : None ≡ Some at = is in cc)
+  found_before What custom root made key back place [] (y ∷ ys) done at is found = absurd done
+  found_before What custom root made key back zero (x ∷ xs) (y ∷ ys) done at is found =
+      let same : at ≡ y = (let e : Some y ≡ Some at = is in cc) in (x, refl, part_before What custom root made x y key (back x) done.0 (subst (λ (z : StatePart S). HasAt What z key) same found))
+  found_before What custom root made key back (suc place) (x ∷ xs) (y ∷ ys) done at is found = found_before What custom root made key back place xs ys done.1 at is found
 
-  pub strange_before : (root : Root) (made : List Write) (old new : List (StatePart S)) (key : List ℕ) → All HasTextKey made → ArePerhapsCommitted tells root made old new → HasStrangeAt tells new key → HasStrangeAt tells old key
-  strange_before root made old new key texts done strange =
+  pub strange_before : (custom : Custom) (root : Root) (made : List Write) (old new : List (StatePart S)) (key : List ℕ) → All HasTextKey made → ArePerhapsCommitted tells custom root made old new → HasStrangeAt tells new key → HasStrangeAt tells old key
+  strange_before custom root made old new key texts done strange =
       let found =
-      found_before IsStrange root made key (λ x was is done bad. commit_strange x.over.kind x.over.by root (amounts_at (own_writes made x) key) key was is (λ odd. none_at x.component x.part made texts key odd) done bad) strange.place old new done strange.at strange.is_at
+      found_before IsStrange custom root made key (λ x was is done bad. commit_strange x.over.kind (folded custom x.over.by) root (amounts_at (own_writes made x) key) key was is (λ odd. none_at x.component x.part made texts key odd) done bad) strange.place old new done strange.at strange.is_at
       strange.strange in
       record { place = strange.place; at = found.0; is_at = found.1; strange = found.2 }
 
-  pub bad_before : (root : Root) (made : List Write) (old new : List (StatePart S)) (key : List ℕ) → ArePerhapsCommitted tells root made old new → IsBadAt tells new key → IsBadAt tells old key
-  bad_before root made old new key done bad =
-      let found = found_before (λ kind k held. IsBad kind held) root made key (λ x was is done bad. commit_bad x.over.kind x.over.by root (amounts_at (own_writes made x) key) was is done bad) bad.place old new done bad.was bad.was_at bad.bad in
+  pub bad_before : (custom : Custom) (root : Root) (made : List Write) (old new : List (StatePart S)) (key : List ℕ) → ArePerhapsCommitted tells custom root made old new → IsBadAt tells new key → IsBadAt tells old key
+  bad_before custom root made old new key done bad =
+      let found = found_before (λ kind k held. IsBad kind held) custom root made key (λ x was is done bad. commit_bad x.over.kind (folded custom x.over.by) root (amounts_at (own_writes made x) key) was is done bad) bad.place old new done bad.was bad.was_at bad.bad in
       record { place = bad.place; was = found.0; was_at = found.1; bad = found.2 }
 
   pub strange_cell : (parts : List (StatePart S)) (key : List ℕ) → IsBadAt tells parts key → HasStrangeAt tells parts key

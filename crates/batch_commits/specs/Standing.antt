@@ -39,9 +39,9 @@ batches_in cut = batch_count (length cut.records) cut.size
 -- all batches are committed no cell has a larger transaction.
 pub record PartsStand {S : Type 0} (tells : S → CellMap → Type 0) (t : Topology)
     (custom : Custom) (cut : Cut) (n : ℕ) (parts : List (StatePart S)) : Type 0 where
-  pub stand : AllStand tells t n (writes_to t custom cut n) (writes_at t custom cut (n + 1)) parts
+  pub stand : AllStand tells t custom n (writes_to t custom cut n) (writes_at t custom cut (n + 1)) parts
   pub at_end : n ≡ batches_in cut
-      → AllAreAt tells t n (writes_to t custom cut n) (writes_at t custom cut (n + 1)) parts
+      → AllAreAt tells t custom n (writes_to t custom cut n) (writes_at t custom cut (n + 1)) parts
 
 -- ---- cells that no part takes
 

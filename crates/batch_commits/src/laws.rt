@@ -42,12 +42,12 @@ pub fn commits_of_batches_move_parts<C: CellStore>()
     ensures done { (t : Topology) (custom : Custom) (cut : Cut) (n : ℕ) (root : Root)
         (old new : List (StatePart C))
         → root.txid ≡ n + 1 → PartsStand C.tells t custom cut n old
-        → AreCommitted C.tells root (writes_at t custom cut (n + 1)) old new
+        → AreCommitted C.tells custom root (writes_at t custom cut (n + 1)) old new
         → PartsStand C.tells t custom cut (n + 1) new }
     ensures broken_off { (t : Topology) (custom : Custom) (cut : Cut) (n : ℕ) (root : Root)
         (old new : List (StatePart C))
         → root.txid ≡ n + 1 → PartsStand C.tells t custom cut n old → n < batches_in cut
-        → ArePerhapsCommitted C.tells root (writes_at t custom cut (n + 1)) old new
+        → ArePerhapsCommitted C.tells custom root (writes_at t custom cut (n + 1)) old new
         → PartsStand C.tells t custom cut n new }
 {
     parts_over_empty_stores_begin::<C>();
@@ -63,8 +63,8 @@ pub fn parts_that_stand_have_the_tables<C: CellStore>()
         (tables : List Table)
         → IsWired t → 0 < cut.size → AreParts t parts
         → PartsStand C.tells t custom cut (batches_in cut) parts
-        → AllZip (IsTableOver C.tells parts) (states_of t) tables
-        → AreTables t (writes t custom cut.records) tables }
+        → AllZip (IsTableOver C.tells parts) (states_of t custom) tables
+        → AreTables t custom (writes t custom cut.records) tables }
 {
     tables_of_parts_are_tables_of_writes::<C>();
     writes_of_trees_are_placed();
@@ -75,12 +75,13 @@ pub fn parts_that_stand_have_the_tables<C: CellStore>()
 /// a commit of writes whose keys are texts; and a fault that tells of a bad cell tells of such a
 /// one.
 pub fn strange_cells_were_there<C: CellStore>()
-    ensures commit { (root : Root) (made : List Write) (old new : List (StatePart C)) (key : List ℕ)
-        → All HasTextKey made → ArePerhapsCommitted C.tells root made old new
+    ensures commit { (custom : Custom) (root : Root) (made : List Write)
+        (old new : List (StatePart C)) (key : List ℕ)
+        → All HasTextKey made → ArePerhapsCommitted C.tells custom root made old new
         → HasStrangeAt C.tells new key → HasStrangeAt C.tells old key }
-    ensures bad_before { (root : Root) (made : List Write) (old new : List (StatePart C))
-        (key : List ℕ)
-        → ArePerhapsCommitted C.tells root made old new
+    ensures bad_before { (custom : Custom) (root : Root) (made : List Write)
+        (old new : List (StatePart C)) (key : List ℕ)
+        → ArePerhapsCommitted C.tells custom root made old new
         → IsBadAt C.tells new key → IsBadAt C.tells old key }
     ensures bad_cell { (parts : List (StatePart C)) (key : List ℕ)
         → IsBadAt C.tells parts key → HasStrangeAt C.tells parts key }

@@ -5,8 +5,8 @@ ghost use Rattle.bolt_ops.specs.RowOp.{Custom, IsCustom};
 use std::alloc::Global;
 use storm_values::{Memory, Row, Rows};
 
-/// An operation of the user's own, for rows within limits. What it makes depends on the
-/// operation and the row alone.
+/// An operation of the user's own: what it makes of rows within limits, and how a custom fold
+/// combines amounts. Each answer depends on the operation and the arguments alone.
 pub trait RowOp: Sync {
     ghost meaning: { Self → Custom };
 
@@ -16,4 +16,12 @@ pub trait RowOp: Sync {
     fn rows(&self, alloc: Global, row: &Row) -> Result<Rows, Memory>
         requires { All IsShort row.now }
         ensures { IfOk result (λ rows. rows ≡ (meaning self.now).rows row.now) };
+
+    /// The value that a custom fold makes of one amount.
+    fn one(&self, amount: i64) -> i128
+        ensures { result ≡ (meaning self.now).one amount };
+
+    /// The value that a custom fold makes of two, of which the first comes from earlier amounts.
+    fn combine(&self, earlier: i128, later: i128) -> i128
+        ensures { result ≡ (meaning self.now).combine earlier later };
 }

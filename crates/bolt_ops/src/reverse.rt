@@ -1,5 +1,5 @@
 ghost use Rattle.std.specs.Prelude.{◌≡◌, ◌∷◌, [], reverse, IfOk};
-ghost use Rattle.bolt_ops.specs.RowOp.{IsCustom-reversed, reversed};
+ghost use Rattle.bolt_ops.specs.RowOp.{IsCustom-reversed, reversed_rows};
 
 use crate::stored::RowLaw;
 use std::alloc::Global;
@@ -9,7 +9,7 @@ use storm_values::{Duplicate, Memory, Row, Rows};
 pub struct Reverse;
 
 impl RowLaw for Reverse {
-    ghost law = { reversed };
+    ghost law = { reversed_rows };
 
     ghost keeps = { IsCustom-reversed };
 }

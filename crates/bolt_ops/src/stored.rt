@@ -1,7 +1,7 @@
 ghost use Rattle.std.specs.Prelude.{◌≡◌, List, IfOk, Ok};
 ghost use Rattle.std.specs.Borrow.{Bor};
 ghost use Rattle.storm_values.specs.declared.value.Value.{Value};
-ghost use Rattle.bolt_ops.specs.RowOp.{Custom, IsCustom};
+ghost use Rattle.bolt_ops.specs.RowOp.{IsCustom, custom_of};
 ghost use Rattle.bolt_ops.specs.Stored.{Keeps};
 
 use crate::custom::RowOp;
@@ -32,15 +32,15 @@ impl<F: Fn(Global, &Row) -> Result<Rows, Memory>> RowFn for F {
     }
 }
 
-/// What a stored operation is to answer.
+/// The rows that a stored operation is to answer.
 pub trait RowLaw {
-    ghost law: { Custom };
+    ghost law: { List Value → List (List Value) };
 
-    ghost keeps: { IsCustom law };
+    ghost keeps: { IsCustom (custom_of law) };
 }
 
 /// A closure beside the fact that on each row within limits it may be called, and answers the
-/// rows of a law or want of memory.
+/// rows of a law or want of memory. A custom fold takes the last amount.
 #[derive(Drop)]
 pub struct StoredOp<L: RowLaw, F: RowFn> {
     make: F,
@@ -65,12 +65,20 @@ impl<L: RowLaw, F: RowFn> StoredOp<L, F> {
 }
 
 impl<L: RowLaw + Sync, F: RowFn + Sync> RowOp for StoredOp<L, F> {
-    ghost meaning = { λ _. L.law };
+    ghost meaning = { λ _. custom_of L.law };
 
     ghost keeps = { λ _. L.keeps };
 
     fn rows(&self, alloc: Global, row: &Row) -> Result<Rows, Memory> {
         self.known();
         self.make.make(alloc, row)
+    }
+
+    fn one(&self, amount: i64) -> i128 {
+        i128::from(amount)
+    }
+
+    fn combine(&self, _earlier: i128, later: i128) -> i128 {
+        later
     }
 }

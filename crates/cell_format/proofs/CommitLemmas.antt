@@ -3,10 +3,9 @@ use Rattle.std.proofs.Common.{◌≡◌, ◌≢◌, ◌≤◌, ◌⊎◌, inl, i
 use Rattle.std.specs.Str.{bytes_eq}
 use Rattle.std.proofs.lemmas.List.Sums.{fold-append}
 use Rattle.std.proofs.lemmas.Option.{none-some, same_Some}
-use Rattle.tree_model.specs.topology_plan.declared.parts.Fold.{Fold}
 use Rattle.tree_model.specs.topology_plan.declared.parts.Kind.{Kind}
 use Rattle.tree_model.specs.topology_plan.declared.parts.Kind.TheVariants.{Transactional, Opaque}
-use Rattle.tree_model.specs.Tables.{folded}
+use Rattle.tree_model.specs.Tables.{Folding}
 use Rattle.tree_model.specs.storm_values.declared.value.Root.{Root}
 use Rattle.tree_model.specs.declared.write.Write.{Write}
 use Rattle.cell_format.specs.declared.cell.Cell.{Cell}
@@ -16,9 +15,9 @@ use Rattle.cell_format.proofs.LayoutLemmas.{bytes_of-apart}
 
 -- ---- one cell
 
-module _ (by : Fold) where
+module _ (by : Folding) where
   pub value_after-append : (xs ys : List ℤ) (value : Option ℤ) → value_after by (xs ++ ys) value ≡ value_after by ys (value_after by xs value)
-  value_after-append xs ys value = fold-append (λ old amount. Some (folded by old amount)) value xs ys
+  value_after-append xs ys value = fold-append (λ old amount. Some (by old amount)) value xs ys
 
   abbrev CellWithin : ℕ → Option Cell → Type 0
   CellWithin t None = Unit {0}
@@ -80,13 +79,13 @@ Holds-one kind (Some bytes) None b is_a is_b = absurd is_a.bytes
 Holds-one kind (Some bytes) (Some a) None is_a is_b = absurd is_b.bytes
 Holds-one kind (Some bytes) (Some a) (Some b) is_a is_b = ap Some (bytes_of-apart a b bytes is_a.good.is is_b.good.is is_a.bytes is_b.bytes)
 
-pub perhaps_if_done : (kind : Kind) (by : Fold) (root : Root) (amounts : List ℤ) (old new : Option (List ℕ)) → IsDone kind by root amounts old new → IsPerhapsDone kind by root amounts old new
+pub perhaps_if_done : (kind : Kind) (by : Folding) (root : Root) (amounts : List ℤ) (old new : Option (List ℕ)) → IsDone kind by root amounts old new → IsPerhapsDone kind by root amounts old new
 perhaps_if_done Transactional by root [] old new done = inl done
 perhaps_if_done Transactional by root (a ∷ rest) old new done = inr done
 perhaps_if_done Opaque by root amounts old new done = inr done
 
 -- an opaque cell that is of the transaction after a commit is of its attempt
-pub attempt_is : (by : Fold) (root : Root) (amounts : List ℤ) (old new : Option (List ℕ)) (cell : Cell) → IsDone Opaque by root amounts old new → Holds Opaque new (Some cell) → cell.txid ≡ root.txid → cell.attempt ≡ root.attempt
+pub attempt_is : (by : Folding) (root : Root) (amounts : List ℤ) (old new : Option (List ℕ)) (cell : Cell) → IsDone Opaque by root amounts old new → Holds Opaque new (Some cell) → cell.txid ≡ root.txid → cell.attempt ≡ root.attempt
 attempt_is by root amounts old new cell done holds of_root = made done.cell (Holds-one Opaque new (after Opaque by root amounts done.cell) (Some cell) done.is holds)
   where
     made_anew : (xs : List ℤ) (before : Option Cell) → ((c : Cell) → before ≡ Some c → c.txid ≡ root.txid → ⊥) → anew Opaque by root xs before ≡ Some cell → cell.attempt ≡ root.attempt
@@ -102,7 +101,7 @@ attempt_is by root amounts old new cell done holds of_root = made done.cell (Hol
         cases false at same = made_anew amounts (Some c) (λ d one is_of. true≢false (sym (eq-eqb c.txid root.txid (ap (λ (e : Cell). e.txid) (same_Some _ _ one) ∙ is_of)) ∙ at)) same
 
 module _ (root : Root) (t : ℕ) (next_is : root.txid ≡ t + 1) where
-  key_stays : (kind : Kind) (by : Fold) (base : Option ℤ) (next : List ℤ) (old new : Option (List ℕ)) → KeyStands kind by t base next old → IsPerhapsDone kind by root next old new → KeyStands kind by t base next new
+  key_stays : (kind : Kind) (by : Folding) (base : Option ℤ) (next : List ℤ) (old new : Option (List ℕ)) → KeyStands kind by t base next old → IsPerhapsDone kind by root next old new → KeyStands kind by t base next new
   key_stays kind by base next old new stands (inl same) = subst (KeyStands kind by t base next) (sym same) stands
   key_stays kind by base next old new stands (inr commits) =
       let one = Holds-one kind old commits.cell stands.cell commits.was stands.is in
@@ -112,17 +111,17 @@ module _ (root : Root) (t : ℕ) (next_is : root.txid ≡ t + 1) where
         stands = stays by root t next_is kind base next commits.cell (subst (CellStands kind by t base next) (sym one) stands.stands);
       }
 
-  abbrev KeyMoved : Kind → Fold → Option ℤ → List ℤ → List ℤ → Option (List ℕ) → Type 0
+  abbrev KeyMoved : Kind → Folding → Option ℤ → List ℤ → List ℤ → Option (List ℕ) → Type 0
   KeyMoved kind by base next more new = KeyStands kind by (t + 1) (value_after by next base) more new × ((cell : Cell) → Holds kind new (Some cell) → cell.txid ≤ t + 1)
 
-  moved_to : (kind : Kind) (by : Fold) (base : Option ℤ) (next more : List ℤ) (new : Option (List ℕ)) (cell : Option Cell) → Holds kind new cell → Moved by kind t base next more cell → KeyMoved kind by base next more new
+  moved_to : (kind : Kind) (by : Folding) (base : Option ℤ) (next more : List ℤ) (new : Option (List ℕ)) (cell : Option Cell) → Holds kind new cell → Moved by kind t base next more cell → KeyMoved kind by base next more new
   moved_to kind by base next more new cell is moved =
       (record { cell = cell; is = is; stands = moved.0 }, λ c holds. within c (Holds-one kind new cell (Some c) is holds) moved.1)
     where
       within : (c : Cell) → cell ≡ Some c → CellWithin by (t + 1) cell → c.txid ≤ t + 1
       within c same bound = subst (CellWithin by (t + 1)) same bound
 
-  key_moves : (kind : Kind) (by : Fold) (base : Option ℤ) (next more : List ℤ) (old new : Option (List ℕ)) → KeyStands kind by t base next old → IsDone kind by root next old new → KeyMoved kind by base next more new
+  key_moves : (kind : Kind) (by : Folding) (base : Option ℤ) (next more : List ℤ) (old new : Option (List ℕ)) → KeyStands kind by t base next old → IsDone kind by root next old new → KeyMoved kind by base next more new
   key_moves kind by base next more old new stands done = cases kind next stands done
     where
       through : (k : Kind) (amounts : List ℤ) → KeyStands k by t base amounts old → Commits k by root amounts old new → KeyMoved k by base amounts more new
@@ -143,7 +142,7 @@ module _ (root : Root) (t : ℕ) (next_is : root.txid ≡ t + 1) where
       cases Opaque amounts is commits = through Opaque amounts is commits
 
 -- a key that has something after a commit had something before, or is written
-key_own : (K : Type 0) (kind : Kind) (by : Fold) (root : Root) (amounts : List ℤ) (old new : Option (List ℕ)) → (IsSome old → K) → (amounts ≢ [] → K) → IsPerhapsDone kind by root amounts old new → IsSome new → K
+key_own : (K : Type 0) (kind : Kind) (by : Folding) (root : Root) (amounts : List ℤ) (old new : Option (List ℕ)) → (IsSome old → K) → (amounts ≢ [] → K) → IsPerhapsDone kind by root amounts old new → IsSome new → K
 key_own K kind by root amounts old new before written (inl same) some = before (subst IsSome same some)
 key_own K kind by root (a ∷ rest) old new before written (inr commits) some = written (λ none. cc)
 key_own K kind by root [] (Some bytes) new before written (inr commits) some = before refl
@@ -172,13 +171,13 @@ pub amounts_at-append : (xs ys : List Write) (key : List ℕ) → amounts_at (xs
 amounts_at-append xs ys key =
     ap (map (λ (write : Write). write.amount)) (filter-append (λ (write : Write). bytes_eq key write.key) xs ys) ∙ map_append (filter (λ (write : Write). bytes_eq key write.key) xs) (filter (λ (write : Write). bytes_eq key write.key) ys)
 
-pub Stands-none : (kind : Kind) (by : Fold) (parts part : ℕ) (next : List Write) → Stands kind by parts part 0 [] next (λ _. None)
+pub Stands-none : (kind : Kind) (by : Folding) (parts part : ℕ) (next : List Write) → Stands kind by parts part 0 [] next (λ _. None)
 Stands-none kind by parts part next = record {
   keys = λ key. record { cell = None; is = record { bytes = tt; good = tt }; stands = refl };
   own = λ key some. absurd (true≢false (sym some));
 }
 
-module _ (kind : Kind) (by : Fold) (parts part t : ℕ) (root : Root) (next_is : root.txid ≡ t + 1) (done next : List Write) (old new : List ℕ → Option (List ℕ)) where
+module _ (kind : Kind) (by : Folding) (parts part t : ℕ) (root : Root) (next_is : root.txid ≡ t + 1) (done next : List Write) (old new : List ℕ → Option (List ℕ)) where
   pub Stands-begun : Stands kind by parts part t done next old → AreOwn parts part next → ((key : List ℕ) → IsPerhapsDone kind by root (amounts_at next key) (old key) (new key)) → Stands kind by parts part t done next new
   Stands-begun stands own each = record {
     keys = λ key. key_stays root t next_is kind by _ (amounts_at next key) (old key) (new key) (stands.keys key) (each key);

@@ -1,10 +1,9 @@
 -- What a commit makes of a key's cell. After Trident's transactional and opaque states.
 use Rattle.std.specs.Prelude.{◌≡◌, ◌⊎◌, ℕ, ◌==◌, ℤ, if◌then◌else◌, List, [], ◌∷◌, Option, None, Some, IfSome, map, filter, fold}
 use Rattle.std.specs.Str.{bytes_eq}
-use Rattle.tree_model.specs.topology_plan.declared.parts.Fold.{Fold}
 use Rattle.tree_model.specs.topology_plan.declared.parts.Kind.{Kind}
 use Rattle.tree_model.specs.topology_plan.declared.parts.Kind.TheVariants.{Transactional, Opaque}
-use Rattle.tree_model.specs.Tables.{folded}
+use Rattle.tree_model.specs.Tables.{Folding}
 use Rattle.tree_model.specs.declared.write.Write.{Write}
 use Rattle.tree_model.specs.storm_values.declared.value.Root.{Root}
 use Rattle.cell_format.specs.declared.cell.Cell.{Cell}
@@ -17,8 +16,8 @@ amounts_at writes key =
     (filter (λ (write : Write). bytes_eq key write.key) writes)
 
 -- a value after these amounts, from the value before, if there was one
-abbrev pub value_after : Fold → List ℤ → Option ℤ → Option ℤ
-value_after by amounts value = fold (λ old amount. Some (folded by old amount)) value amounts
+abbrev pub value_after : Folding → List ℤ → Option ℤ → Option ℤ
+value_after by amounts value = fold (λ old amount. Some (by old amount)) value amounts
 
 -- the value of a key
 abbrev pub value_of : Option Cell → Option ℤ
@@ -27,7 +26,7 @@ value_of (Some cell) = cell.value
 
 -- A cell of the committed transaction: it stays, or begins anew from the value before and is then
 -- of this attempt.
-abbrev pub again : Kind → Fold → ℕ → List ℤ → Cell → Cell
+abbrev pub again : Kind → Folding → ℕ → List ℤ → Cell → Cell
 again Transactional by attempt amounts cell = cell
 again Opaque by attempt amounts cell =
     record cell { attempt = attempt; value = value_after by amounts cell.prev }
@@ -38,7 +37,7 @@ kept_by Transactional value = None
 kept_by Opaque value = value
 
 -- a key without a cell of the committed transaction: only a write changes it
-abbrev pub anew : Kind → Fold → Root → List ℤ → Option Cell → Option Cell
+abbrev pub anew : Kind → Folding → Root → List ℤ → Option Cell → Option Cell
 anew kind by root [] cell = cell
 anew kind by root (amount ∷ amounts) cell =
     Some (record {
@@ -50,7 +49,7 @@ anew kind by root (amount ∷ amounts) cell =
     })
 
 -- the cell of a key after a commit of these amounts of the key
-abbrev pub after : Kind → Fold → Root → List ℤ → Option Cell → Option Cell
+abbrev pub after : Kind → Folding → Root → List ℤ → Option Cell → Option Cell
 after kind by root amounts None = anew kind by root amounts None
 after kind by root amounts (Some cell) =
     if cell.txid == root.txid then Some (again kind by root.attempt amounts cell)
@@ -82,7 +81,7 @@ IsLeftAlone Transactional (amount ∷ amounts) old new = Unit {0}
 IsLeftAlone Opaque amounts old new = Unit {0}
 
 -- a commit of these amounts of a key made the new bytes of the old
-pub record Commits (kind : Kind) (by : Fold) (root : Root) (amounts : List ℤ)
+pub record Commits (kind : Kind) (by : Folding) (root : Root) (amounts : List ℤ)
     (old new : Option (List ℕ)) : Type 0 where
   pub cell : Option Cell
   pub was : Holds kind old cell
@@ -90,14 +89,14 @@ pub record Commits (kind : Kind) (by : Fold) (root : Root) (amounts : List ℤ)
   pub left : IsLeftAlone kind amounts old new
 
 -- what a whole commit leaves at a key; a transactional one does not look at a key that has no write
-abbrev pub IsDone : Kind → Fold → Root → List ℤ → Option (List ℕ) → Option (List ℕ) → Type 0
+abbrev pub IsDone : Kind → Folding → Root → List ℤ → Option (List ℕ) → Option (List ℕ) → Type 0
 IsDone Transactional by root [] old new = new ≡ old
 IsDone Transactional by root (amount ∷ amounts) old new =
     Commits Transactional by root (amount ∷ amounts) old new
 IsDone Opaque by root amounts old new = Commits Opaque by root amounts old new
 
 -- what a commit that was broken off leaves at a key
-abbrev pub IsPerhapsDone : Kind → Fold → Root → List ℤ → Option (List ℕ) → Option (List ℕ) → Type 0
+abbrev pub IsPerhapsDone : Kind → Folding → Root → List ℤ → Option (List ℕ) → Option (List ℕ) → Type 0
 IsPerhapsDone kind by root amounts old new = (new ≡ old) ⊎ Commits kind by root amounts old new
 
 -- no cell that a part of this kind takes has these bytes

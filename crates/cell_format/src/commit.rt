@@ -5,6 +5,8 @@ ghost use Rattle.tree_model.specs.Tables.{folded};
 
 use crate::cell::Cell;
 use crate::codec::decode_cell;
+use tree_model::bolt_ops::RowOp;
+use tree_model::fold_amount;
 use tree_model::storm_values::Root;
 use tree_model::topology_plan::{Fold, Kind};
 
@@ -31,23 +33,44 @@ fn is_same(a: Kind, b: Kind) -> bool
 /// What a commit puts at a key that has this cell, or none: `None` where the key stays as it is, as
 /// in a transactional part where nothing is written. The amounts are those that are written for the
 /// key, in order.
-pub fn change(kind: Kind, by: Fold, root: Root, amounts: &[i64], cell: Option<Cell>) -> Option<Cell>
+pub fn change<O: RowOp>(
+    kind: Kind,
+    by: Fold,
+    custom: &O,
+    root: Root,
+    amounts: &[i64],
+    cell: Option<Cell>,
+) -> Option<Cell>
     requires { IfSome cell (IsCellOf kind) }
-    ensures made { MatchOption result (after kind by root amounts.now cell ≡ cell)
-        (λ new. after kind by root amounts.now cell ≡ Some new) }
+    ensures made { let leaves = after kind (folded (O.meaning custom.now) by) root amounts.now cell in
+        MatchOption result (leaves ≡ cell) (λ new. leaves ≡ Some new) }
     ensures left { kind ≡ Kind.Transactional → amounts.now ≡ [] → result ≡ None }
     ensures good { IfSome result (IsCellOf kind) }
 {
     match cell {
-        Some(old) if old.txid == root.txid => change_again(kind, by, root.attempt, amounts, old),
-        _ => change_anew(kind, by, root, amounts, cell),
+        Some(old) if old.txid == root.txid => change_again(
+            kind,
+            by,
+            custom,
+            root.attempt,
+            amounts,
+            old,
+        ),
+        _ => change_anew(kind, by, custom, root, amounts, cell),
     }
 }
 
-fn change_again(kind: Kind, by: Fold, attempt: u32, amounts: &[i64], cell: Cell) -> Option<Cell>
+fn change_again<O: RowOp>(
+    kind: Kind,
+    by: Fold,
+    custom: &O,
+    attempt: u32,
+    amounts: &[i64],
+    cell: Cell,
+) -> Option<Cell>
     requires { IsCellOf kind cell }
-    ensures made { MatchOption result (again kind by attempt amounts.now cell ≡ cell)
-        (λ new. again kind by attempt amounts.now cell ≡ new) }
+    ensures made { let leaves = again kind (folded (O.meaning custom.now) by) attempt amounts.now cell in
+        MatchOption result (leaves ≡ cell) (λ new. leaves ≡ new) }
     ensures left { kind ≡ Kind.Transactional → result ≡ None }
     ensures good { IfSome result (IsCellOf kind) }
 {
@@ -56,22 +79,23 @@ fn change_again(kind: Kind, by: Fold, attempt: u32, amounts: &[i64], cell: Cell)
         Kind::Opaque => Some(Cell {
             txid: cell.txid,
             attempt,
-            value: fold_all(by, amounts, cell.prev),
+            value: fold_all(by, custom, amounts, cell.prev),
             prev: cell.prev,
             kind: cell.kind,
         }),
     }
 }
 
-fn change_anew(
+fn change_anew<O: RowOp>(
     kind: Kind,
     by: Fold,
+    custom: &O,
     root: Root,
     amounts: &[i64],
     cell: Option<Cell>,
 ) -> Option<Cell>
-    ensures made { MatchOption result (anew kind by root amounts.now cell ≡ cell)
-        (λ new. anew kind by root amounts.now cell ≡ Some new) }
+    ensures made { let leaves = anew kind (folded (O.meaning custom.now) by) root amounts.now cell in
+        MatchOption result (leaves ≡ cell) (λ new. leaves ≡ Some new) }
     ensures left { amounts.now ≡ [] → result ≡ None }
     ensures good { IfSome result (IsCellOf kind) }
 {
@@ -82,7 +106,7 @@ fn change_anew(
     Some(Cell {
         txid: root.txid,
         attempt: root.attempt,
-        value: fold_all(by, amounts, value),
+        value: fold_all(by, custom, amounts, value),
         prev: keep(kind, value),
         kind,
     })
@@ -107,23 +131,12 @@ fn keep(kind: Kind, value: Option<i128>) -> Option<i128>
 }
 
 /// A value after these amounts, in order.
-fn fold_all(by: Fold, amounts: &[i64], value: Option<i128>) -> Option<i128>
-    ensures { result ≡ value_after by amounts.now value }
+fn fold_all<O: RowOp>(by: Fold, custom: &O, amounts: &[i64], value: Option<i128>) -> Option<i128>
+    ensures { result ≡ value_after (folded (O.meaning custom.now) by) amounts.now value }
 {
     let mut folded = value;
     for amount in amounts {
-        folded = Some(fold_one(by, folded, *amount));
+        folded = Some(fold_amount(custom, by, folded, *amount));
     }
     folded
-}
-
-fn fold_one(by: Fold, old: Option<i128>, amount: i64) -> i128
-    ensures { result ≡ folded by old amount }
-{
-    let amount = i128::from(amount);
-    match by {
-        Fold::Count | Fold::Sum => old.unwrap_or(0).saturating_add(amount),
-        Fold::Last => amount,
-        Fold::Max => old.map_or(amount, |old| old.max(amount)),
-    }
 }

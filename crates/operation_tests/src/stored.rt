@@ -27,7 +27,7 @@ fn made_by<L: RowLaw + Sync, F: RowFn + Sync + Drop>(
 ) -> Result<Outcome, Memory>
     requires short { All IsShort row.now }
     requires keeps { Keeps L.law (F.may_make make) (F.makes make) }
-    ensures { IfOk result (λ outcome. outcome ≡ Outcome.Rows (L.law.rows row.now)) }
+    ensures { IfOk result (λ outcome. outcome ≡ Outcome.Rows (L.law row.now)) }
 {
     let op = StoredOp::<L, F>::new(make);
     let custom = Op {

@@ -4,11 +4,11 @@ use Rattle.std.proofs.Common.{lit≤, refl}
 use Rattle.std.proofs.lemmas.List.Elements.{All-cons}
 use Rattle.storm_values.specs.declared.value.Value.{Value}
 use Rattle.storm_values.specs.Rows.{IsShort}
-use Rattle.bolt_ops.specs.RowOp.{Custom, IsCustom, IsCustom-reversed}
+use Rattle.bolt_ops.specs.RowOp.{Custom, IsCustom, IsCustom-reversed, custom_of}
 
--- the row, and then the row with its values in reverse order
+-- the row, and then the row with its values in reverse order; a custom fold takes the last amount
 abbrev pub both_ways : Custom
-both_ways = record { rows = λ row. row ∷ reverse row ∷ [] }
+both_ways = custom_of (λ row. row ∷ reverse row ∷ [])
 
 both_ways-widths : (row : List Value) → All IsShort row
     → All (λ (made : List Value). length made ≡ length row) (row ∷ reverse row ∷ [])
@@ -29,4 +29,5 @@ IsCustom-both_ways =
       few = λ row short. lit≤ tt;
       widths = both_ways-widths;
       short = both_ways-short;
+      associative = λ a b c. refl;
     }

@@ -35,6 +35,14 @@ impl RowOp for BothWays {
         rows.push(reversed)?;
         Ok(rows)
     }
+
+    fn one(&self, amount: i64) -> i128 {
+        i128::from(amount)
+    }
+
+    fn combine(&self, _earlier: i128, later: i128) -> i128 {
+        later
+    }
 }
 
 fn main(rt: HostRuntime) -> ExitCode {

@@ -4,6 +4,7 @@ ghost use Rattle.storm_stores.specs.MemoryMaker.{HasMade};
 ghost use Rattle.state_parts.specs.Makers.{AreMade};
 ghost use Rattle.state_parts.specs.PartPlans.{plans_of};
 
+use sample_operations::Backwards;
 use state_cells::PartFault;
 use state_parts::{Commit, CommitFault, CommitOutcome, Parts};
 use std::alloc::Global;
@@ -107,7 +108,7 @@ pub fn commit(
 ) -> Result<CommitOutcome, Trouble>
     ensures { plans_of parts.new ≡ plans_of parts.old }
 {
-    Ok(parts.commit_all(commit_of(alloc, txid)?)?)
+    Ok(parts.commit_all(commit_of(alloc, txid)?, &Backwards)?)
 }
 
 // The parts over these stores, after one commit of the batch, whatever came of it.

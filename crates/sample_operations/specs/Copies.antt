@@ -6,11 +6,11 @@ use Rattle.std.proofs.lemmas.List.Elements.{All-replicate}
 use Rattle.storm_values.specs.declared.value.Value.{Value}
 use Rattle.storm_values.specs.Limits.{most_custom_rows}
 use Rattle.storm_values.specs.Rows.{IsShort}
-use Rattle.bolt_ops.specs.RowOp.{Custom, IsCustom}
+use Rattle.bolt_ops.specs.RowOp.{Custom, IsCustom, custom_of}
 
 -- the row itself, so many times
 abbrev pub copies : ℕ → Custom
-copies n = record { rows = λ row. replicate n row }
+copies n = custom_of (replicate n)
 
 pub IsCustom-copies : (n : ℕ) → n ≤ most_custom_rows → IsCustom (copies n)
 IsCustom-copies n few =
@@ -18,6 +18,7 @@ IsCustom-copies n few =
       few = λ row short. subst (λ m. m ≤ most_custom_rows) (sym (length-replicate n row)) few;
       widths = λ row short. All-replicate (λ (made : List Value). length made ≡ length row) n row refl;
       short = λ row short. All-replicate (All IsShort) n row short;
+      associative = λ a b c. refl;
     }
 
 pub IsCustom-sixteen : IsCustom (copies 16)

@@ -1,5 +1,5 @@
 ghost use Rattle.std.specs.Prelude.{◌≡◌, replicate, IfOk};
-ghost use Rattle.sample_operations.specs.Copies.{copies, IsCustom-none, IsCustom-sixteen};
+ghost use Rattle.sample_operations.specs.Copies.{IsCustom-none, IsCustom-sixteen};
 
 use bolt_ops::RowLaw;
 use std::alloc::Global;
@@ -9,7 +9,7 @@ use storm_values::{Duplicate, Memory, Row, Rows};
 pub struct Sixteen;
 
 impl RowLaw for Sixteen {
-    ghost law = { copies 16 };
+    ghost law = { replicate 16 };
 
     ghost keeps = { IsCustom-sixteen };
 }
@@ -18,7 +18,7 @@ impl RowLaw for Sixteen {
 pub struct Nothing;
 
 impl RowLaw for Nothing {
-    ghost law = { copies 0 };
+    ghost law = { replicate 0 };
 
     ghost keeps = { IsCustom-none };
 }

@@ -16,4 +16,12 @@ impl RowOp for Backwards {
     fn rows(&self, alloc: Global, row: &Row) -> Result<Rows, Memory> {
         reversed_row(alloc, row)
     }
+
+    fn one(&self, amount: i64) -> i128 {
+        i128::from(amount)
+    }
+
+    fn combine(&self, _earlier: i128, later: i128) -> i128 {
+        later
+    }
 }

@@ -93,10 +93,10 @@ module _ (t : Topology) (custom : Custom) (cut : Cut) (words : ℕ → ℕ → �
       (quiet_turn t cut (next_words words k.counts (tasks_in_all t) (turn_needs t cut k.world)) k.world)
 
 -- what came of a commit to all parts
-pub record CommitComes {S : Type 0} (holds : S → CellMap → Type 0) (count : S → ℕ) (root : Root) (made : List Write) (how : CommitOutcome) (was is : List (StatePart S)) : Type 0 where
+pub record CommitComes {S : Type 0} (holds : S → CellMap → Type 0) (custom : Custom) (count : S → ℕ) (root : Root) (made : List Write) (how : CommitOutcome) (was is : List (StatePart S)) : Type 0 where
   pub plans : plans_of is ≡ plans_of was
-  pub done : how ≡ Done → AreCommitted holds root made was is
-  pub kept : ArePerhapsCommitted holds root made was is
+  pub done : how ≡ Done → AreCommitted holds custom root made was is
+  pub kept : ArePerhapsCommitted holds custom root made was is
   pub failed : TellsFailedPart count was is how
   pub counted : CountsFollow count how was is
 
@@ -172,7 +172,7 @@ module _ {I S : Type 0} {g : Ghosts I} (tells : I → (ℕ → ℕ) → ℕ → 
   -- what a commit left that was ordered and came to its outcome or was broken off
   module _ (laws : Laws count t custom cut) (more : CommitLaws holds count t custom cut) (mid : Engine I g) (was is : List (StatePart S)) (w : Wait) (commit : Commit)
       (next : next_to_commit t cut (shape mid).desk ≡ Some w) (ordered : IsCommitOf (Some w) (Some commit)) (txid : commit.root.txid ≡ committed_by mid + 1) (texts : All HasTextKey commit.writes)
-      (kept : ArePerhapsCommitted holds commit.root commit.writes was is) where
+      (kept : ArePerhapsCommitted holds custom commit.root commit.writes was is) where
     -- no fate tells of it
     leaves-broken : (fates : List Attempt) → fates ≡ mid.fates → FailOnceAtMost count was is → Leaves holds count t custom cut mid fates was is
     leaves-broken fates same once = record {
@@ -183,23 +183,23 @@ module _ {I S : Type 0} {g : Ghosts I} (tells : I → (ℕ → ℕ) → ℕ → 
           let commits : length (committed_txids fates) ≡ committed_by mid = ap (λ (fs : List Attempt). length (committed_txids fs)) same ∙ commits_at mid words all h k has led in
           subst (λ (n : ℕ). PartsStand holds t custom cut n is) (sym commits)
           (more.broken_off (committed_by mid) commit.root was is txid stand made.1
-          (subst (λ (ws : List Write). ArePerhapsCommitted holds commit.root ws was is) made.0 kept));
+          (subst (λ (ws : List Write). ArePerhapsCommitted holds custom commit.root ws was is) made.0 kept));
       strange = λ key found. more.strange commit.root commit.writes was is key texts kept found;
       counted = more.last_counts [] was was is (laws.counts_none was) once;
     }
 
     -- parts that stood at what was committed stand at what is, where it came to an outcome
-    stands-decided : (how : CommitOutcome) → CommitComes holds count commit.root commit.writes how was is → commit.writes ≡ writes_at t custom cut (committed_by mid + 1) → committed_by mid < batches_in cut
+    stands-decided : (how : CommitOutcome) → CommitComes holds custom count commit.root commit.writes how was is → commit.writes ≡ writes_at t custom cut (committed_by mid + 1) → committed_by mid < batches_in cut
         → PartsStand holds t custom cut (committed_by mid) was → PartsStand holds t custom cut (decided t cut how (shape mid).desk).desk.committed is
     stands-decided Done came writes_are below stand =
         subst (λ (n : ℕ). PartsStand holds t custom cut n is) (sym (decided-done t cut (shape mid).desk w next))
-        (more.done (committed_by mid) commit.root was is txid stand (subst (λ (ws : List Write). AreCommitted holds commit.root ws was is) writes_are (came.done refl)))
+        (more.done (committed_by mid) commit.root was is txid stand (subst (λ (ws : List Write). AreCommitted holds custom commit.root ws was is) writes_are (came.done refl)))
     stands-decided (Failed component part before after) came writes_are below stand =
         subst (λ (n : ℕ). PartsStand holds t custom cut n is) (sym (decided-failed t cut (shape mid).desk component part before after))
-        (more.broken_off (committed_by mid) commit.root was is txid stand below (subst (λ (ws : List Write). ArePerhapsCommitted holds commit.root ws was is) writes_are came.kept))
+        (more.broken_off (committed_by mid) commit.root was is txid stand below (subst (λ (ws : List Write). ArePerhapsCommitted holds custom commit.root ws was is) writes_are came.kept))
 
     -- so do they after the outcome, by the account of any world that has the coordinator's desk
-    pub outcome-stands : (new : Engine I g) (how : CommitOutcome) → CommitComes holds count commit.root commit.writes how was is → (shape new).desk ≡ (decided t cut how (shape mid).desk).desk
+    pub outcome-stands : (new : Engine I g) (how : CommitOutcome) → CommitComes holds custom count commit.root commit.writes how was is → (shape new).desk ≡ (decided t cut how (shape mid).desk).desk
         → (words : ℕ → ℕ → ℕ) (all : Station) (h : History) (k : Known) → k.world.desk ≡ (shape mid).desk → IsInput t cut → LedAt t custom cut words all h k
         → PartsStand holds t custom cut (committed_by mid) was → PartsStand holds t custom cut (committed_by new) is
     outcome-stands new how comes desk_is words all h k same input led stand =
@@ -207,7 +207,7 @@ module _ {I S : Type 0} {g : Ghosts I} (tells : I → (ℕ → ℕ) → ℕ → 
         subst (λ (n : ℕ). PartsStand holds t custom cut n is) (sym (ap (λ (d : Desk). d.committed) desk_is)) (stands-decided how comes made.0 made.1 stand)
 
     -- a fate tells of it
-    leaves-told : (how : CommitOutcome) (fates : List Attempt) → fates ≡ mid.fates ++ (decided t cut how (shape mid).desk).ended → CommitComes holds count commit.root commit.writes how was is → Leaves holds count t custom cut mid fates was is
+    leaves-told : (how : CommitOutcome) (fates : List Attempt) → fates ≡ mid.fates ++ (decided t cut how (shape mid).desk).ended → CommitComes holds custom count commit.root commit.writes how was is → Leaves holds count t custom cut mid fates was is
     leaves-told how fates added comes = record {
       more = (decided t cut how (shape mid).desk).ended;
       added = added;
@@ -231,7 +231,7 @@ module _ {I S : Type 0} {g : Ghosts I} (tells : I → (ℕ → ℕ) → ℕ → 
         decided_commits (Failed component part before after) (Some x) = omega arith
 
     -- memory was wanted where the outcome was to be told: a fate tells of it or none does
-    leaves-undecided : (how : CommitOutcome) (fates : List Attempt) → AddsSome (decided t cut how (shape mid).desk).ended mid.fates fates → CommitComes holds count commit.root commit.writes how was is → FailOnceAtMost count was is → Leaves holds count t custom cut mid fates was is
+    leaves-undecided : (how : CommitOutcome) (fates : List Attempt) → AddsSome (decided t cut how (shape mid).desk).ended mid.fates fates → CommitComes holds custom count commit.root commit.writes how was is → FailOnceAtMost count was is → Leaves holds count t custom cut mid fates was is
     leaves-undecided how fates some comes once =
         let ended_is : (decided t cut how (shape mid).desk).ended ≡ ended_at cut (shape mid).desk.tick (end_by t cut how w.settled) w ∷ [] = ap (λ (o : Option Wait). (decided_by t cut how o (shape mid).desk).ended) next in
         ⊎_elim (λ (none : some.done ≡ []). leaves-broken fates (some.added ∙ ap (λ (xs : List Attempt). mid.fates ++ xs) none ∙ append-nil mid.fates) once)
@@ -254,7 +254,7 @@ module _ {I S : Type 0} {g : Ghosts I} (tells : I → (ℕ → ℕ) → ℕ → 
   -- the outcome of a commit that was ordered
   pub drives-outcome : (laws : Laws count t custom cut) (more : CommitLaws holds count t custom cut) (mid new : Engine I g) (was is : List (StatePart S)) (w : Wait) (commit : Commit) (how : CommitOutcome)
       → is_over t cut (shape mid) ≡ false → (shape mid).desk.out ≡ true → next_to_commit t cut (shape mid).desk ≡ Some w → IsCommitOf (Some w) (Some commit) → commit.root.txid ≡ committed_by mid + 1
-      → All HasTextKey commit.writes → AreParts t was → CommitComes holds count commit.root commit.writes how was is
+      → All HasTextKey commit.writes → AreParts t was → CommitComes holds custom count commit.root commit.writes how was is
       → outcomes_of new.fates ≡ outcomes_of mid.fates ++ how ∷ [] → Goes tells t custom cut (of_outcome ∷ []) mid new → Drives tells holds count t custom cut (of_outcome ∷ []) mid new was is
   drives-outcome laws more mid new was is w commit how going out next ordered txid texts are comes told goes =
       let shape_is = outcome_is mid new how going out told goes in
@@ -291,7 +291,7 @@ module _ {I S : Type 0} {g : Ghosts I} (tells : I → (ℕ → ℕ) → ℕ → 
 
   -- a commit was ordered, and its outcome was told
   pub drives-ordered : (laws : Laws count t custom cut) (more : CommitLaws holds count t custom cut) (old mid new : Engine I g) (was is : List (StatePart S)) (commit : Commit) (how : CommitOutcome)
-      → Goes tells t custom cut (of_turn ∷ []) old mid → IsReady t cut mid → IsOrder commit mid → All HasTextKey commit.writes → AreParts t was → CommitComes holds count commit.root commit.writes how was is
+      → Goes tells t custom cut (of_turn ∷ []) old mid → IsReady t cut mid → IsOrder commit mid → All HasTextKey commit.writes → AreParts t was → CommitComes holds custom count commit.root commit.writes how was is
       → outcomes_of new.fates ≡ outcomes_of mid.fates ++ how ∷ [] → Goes tells (topology_in mid) custom (cut_in mid) (of_outcome ∷ []) mid new → Drives tells holds count t custom cut coordinator_steps old new was is
   drives-ordered laws more old mid new was is commit how goes ready order texts are comes told after =
       drives-then tells holds count t custom cut laws (of_turn ∷ []) (of_outcome ∷ []) old mid new was was is (drives-turn more old mid was goes)
@@ -300,7 +300,7 @@ module _ {I S : Type 0} {g : Ghosts I} (tells : I → (ℕ → ℕ) → ℕ → 
 
   -- a commit was ordered, and met a bad cell
   pub breaks-ordered : (laws : Laws count t custom cut) (more : CommitLaws holds count t custom cut) (key : List ℕ) (old mid : Engine I g) (was is : List (StatePart S)) (commit : Commit)
-      → Goes tells t custom cut (of_turn ∷ []) old mid → IsReady t cut mid → IsOrder commit mid → All HasTextKey commit.writes → ArePerhapsCommitted holds commit.root commit.writes was is → FailOnceAtMost count was is
+      → Goes tells t custom cut (of_turn ∷ []) old mid → IsReady t cut mid → IsOrder commit mid → All HasTextKey commit.writes → ArePerhapsCommitted holds custom commit.root commit.writes was is → FailOnceAtMost count was is
       → IsBadAt holds was key → Breaks tells holds count t custom cut coordinator_steps key old mid was is
   breaks-ordered laws more key old mid was is commit goes ready order texts kept once bad = record {
     steps = of_turn ∷ [];
@@ -314,7 +314,7 @@ module _ {I S : Type 0} {g : Ghosts I} (tells : I → (ℕ → ℕ) → ℕ → 
 
   -- or it wanted memory
   pub wants-ordered : (laws : Laws count t custom cut) (more : CommitLaws holds count t custom cut) (old mid : Engine I g) (was is : List (StatePart S)) (commit : Commit)
-      → Goes tells t custom cut (of_turn ∷ []) old mid → IsReady t cut mid → IsOrder commit mid → All HasTextKey commit.writes → ArePerhapsCommitted holds commit.root commit.writes was is → FailOnceAtMost count was is
+      → Goes tells t custom cut (of_turn ∷ []) old mid → IsReady t cut mid → IsOrder commit mid → All HasTextKey commit.writes → ArePerhapsCommitted holds custom commit.root commit.writes was is → FailOnceAtMost count was is
       → WantsMemory tells holds count t custom cut old mid.fates was is
   wants-ordered laws more old mid was is commit goes ready order texts kept once = record {
     steps = of_turn ∷ [];
@@ -326,7 +326,7 @@ module _ {I S : Type 0} {g : Ghosts I} (tells : I → (ℕ → ℕ) → ℕ → 
 
   -- or memory was wanted where its outcome was to be told
   pub wants-undecided : (laws : Laws count t custom cut) (more : CommitLaws holds count t custom cut) (old mid : Engine I g) (fates : List Attempt) (was is : List (StatePart S)) (commit : Commit) (how : CommitOutcome)
-      → Goes tells t custom cut (of_turn ∷ []) old mid → IsReady t cut mid → IsOrder commit mid → All HasTextKey commit.writes → CommitComes holds count commit.root commit.writes how was is → FailOnceAtMost count was is
+      → Goes tells t custom cut (of_turn ∷ []) old mid → IsReady t cut mid → IsOrder commit mid → All HasTextKey commit.writes → CommitComes holds custom count commit.root commit.writes how was is → FailOnceAtMost count was is
       → DecidesShort how mid fates → WantsMemory tells holds count t custom cut old fates was is
   wants-undecided laws more old mid fates was is commit how goes ready order texts comes once short = record {
     steps = of_turn ∷ [];

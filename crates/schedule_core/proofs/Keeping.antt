@@ -2,6 +2,7 @@
 use Rattle.std.proofs.Common.{◌≡◌, ℕ, List, [], ◌∷◌, refl, sym, subst, ◌∙◌}
 use Rattle.std.specs.List.{AllZip}
 use Rattle.schedule_core.specs.Driving.{AreKept, StillTells}
+use Rattle.event_worlds.specs.bolt_ops.RowOp.{Custom}
 use Rattle.event_worlds.specs.storm_values.declared.value.Root.{Root}
 use Rattle.event_worlds.specs.state_parts.Commits.{ArePerhapsCommitted}
 use Rattle.event_worlds.specs.state_parts.declared.parts.StatePart.{StatePart}
@@ -25,14 +26,14 @@ module _ {S : Type 0} (tells : S → CellMap → Type 0) where
     told-then xs ys zs first.1 second.1,
   )
 
-  told-committed : (root : Root) (made : List Write) (a b : List (StatePart S))
-      → ArePerhapsCommitted tells root made a b → AllZip (StillTells tells) a b
-  told-committed root made [] [] kept = tt
-  told-committed root made [] (y ∷ ys) kept = absurd kept
-  told-committed root made (x ∷ xs) [] kept = absurd kept
-  told-committed root made (x ∷ xs) (y ∷ ys) kept = (
+  told-committed : (custom : Custom) (root : Root) (made : List Write) (a b : List (StatePart S))
+      → ArePerhapsCommitted tells custom root made a b → AllZip (StillTells tells) a b
+  told-committed custom root made [] [] kept = tt
+  told-committed custom root made [] (y ∷ ys) kept = absurd kept
+  told-committed custom root made (x ∷ xs) [] kept = absurd kept
+  told-committed custom root made (x ∷ xs) (y ∷ ys) kept = (
     λ cells told. let to = kept.0.turns.to cells told in (to.0, to.1),
-    told-committed root made xs ys kept.1,
+    told-committed custom root made xs ys kept.1,
   )
 
   -- nothing was done
@@ -52,9 +53,9 @@ module _ {S : Type 0} (tells : S → CellMap → Type 0) where
   }
 
   -- a commit, also one that was broken off
-  pub kept-committed : (root : Root) (made : List Write) (a b : List (StatePart S))
-      → plans_of b ≡ plans_of a → ArePerhapsCommitted tells root made a b → AreKept tells a b
-  kept-committed root made a b plans kept = record {
+  pub kept-committed : (custom : Custom) (root : Root) (made : List Write) (a b : List (StatePart S))
+      → plans_of b ≡ plans_of a → ArePerhapsCommitted tells custom root made a b → AreKept tells a b
+  kept-committed custom root made a b plans kept = record {
     plans = plans;
-    told = told-committed root made a b kept;
+    told = told-committed custom root made a b kept;
   }

@@ -44,17 +44,17 @@ pub record CommitLaws {S : Type 0} (holds : S → CellMap → Type 0) (count : S
     (custom : Custom) (cut : Cut) : Type 0 where
   pub done : (n : ℕ) (root : Root) (old new : List (StatePart S)) → root.txid ≡ n + 1
       → PartsStand holds t custom cut n old
-      → AreCommitted holds root (writes_at t custom cut (n + 1)) old new
+      → AreCommitted holds custom root (writes_at t custom cut (n + 1)) old new
       → PartsStand holds t custom cut (n + 1) new
   pub broken_off : (n : ℕ) (root : Root) (old new : List (StatePart S)) → root.txid ≡ n + 1
       → PartsStand holds t custom cut n old → n < batches_in cut
-      → ArePerhapsCommitted holds root (writes_at t custom cut (n + 1)) old new
+      → ArePerhapsCommitted holds custom root (writes_at t custom cut (n + 1)) old new
       → PartsStand holds t custom cut n new
   pub strange : (root : Root) (made : List Write) (old new : List (StatePart S)) (key : List ℕ)
-      → All HasTextKey made → ArePerhapsCommitted holds root made old new
+      → All HasTextKey made → ArePerhapsCommitted holds custom root made old new
       → HasStrangeAt holds new key → HasStrangeAt holds old key
   pub bad : (root : Root) (made : List Write) (old new : List (StatePart S)) (key : List ℕ)
-      → ArePerhapsCommitted holds root made old new → IsBadAt holds new key
+      → ArePerhapsCommitted holds custom root made old new → IsBadAt holds new key
       → IsBadAt holds old key
   pub decided_counts : (d : Desk) (w : Wait) (how : CommitOutcome) (old new : List (StatePart S))
       → next_to_commit t cut d ≡ Some w → CountsFollow count how old new

@@ -2,7 +2,6 @@
 //! side. Its clauses are those of a round on one thread.
 ghost use Rattle.std.specs.Prelude.{◌≡◌, ℕ, List, length, Err, OnOk, OnErr};
 ghost use Rattle.event_worlds.specs.attempt_fates.Fates.{IsOnce};
-ghost use Rattle.event_worlds.specs.bolt_ops.RowOp.{Custom};
 ghost use Rattle.event_worlds.specs.commit_turns.Turns.{last_tick};
 ghost use Rattle.event_engine.specs.Engines.{cut_in, topology_in};
 ghost use Rattle.event_worlds.specs.Worlds.{coordinator_steps};
@@ -14,30 +13,32 @@ ghost use Rattle.event_worlds.specs.state_parts.PartPlans.{AreParts};
 use crate::drive::tick_on;
 use crate::laws::{laws_of_commits, laws_of_steps};
 use event_engine::Engine;
+use event_worlds::bolt_ops::RowOp;
 use event_worlds::state_parts::{CommitFault, Parts};
 use event_worlds::storm_ids::Ids;
 use std::thread::Threads;
 use storm_stores::CellStore;
 
 /// The coordinator's step, and the commit that it orders, to all parts side by side.
-fn coordinate_beside<R: Threads + Sync, I: Ids, C: CellStore + Send>(
+fn coordinate_beside<R: Threads + Sync, I: Ids, C: CellStore + Send, O: RowOp>(
     rt: &R,
     engine: &mut Engine<'_, I>,
     parts: &mut Parts<C>,
+    custom: &O,
     threads: usize,
 ) -> Result<(), CommitFault>
     requires at_rest { IsAtRest engine.old }
     requires parts { AreParts (topology_in engine.old) parts.old }
     ensures at_rest { OnOk result (IsAtRest engine.new) }
     ensures same_run { OnOk result (IsOfSameRun engine.old engine.new) }
-    ensures drives { (custom : Custom) → OnOk result
-        (Drives I.tells C.tells C.fault_count (topology_in engine.old) custom (cut_in engine.old)
-        coordinator_steps engine.old engine.new parts.old parts.new) }
-    ensures bad { (custom : Custom) (key : List ℕ) → result ≡ Err (fault.BadCell key)
-        → Breaks I.tells C.tells C.fault_count (topology_in engine.old) custom (cut_in engine.old)
-        coordinator_steps key engine.old engine.new parts.old parts.new }
-    ensures short { (custom : Custom) → result ≡ Err fault.Memory
-        → WantsMemory I.tells C.tells C.fault_count (topology_in engine.old) custom
+    ensures drives { OnOk result
+        (Drives I.tells C.tells C.fault_count (topology_in engine.old) (O.meaning custom.now)
+        (cut_in engine.old) coordinator_steps engine.old engine.new parts.old parts.new) }
+    ensures bad { (key : List ℕ) → result ≡ Err (fault.BadCell key)
+        → Breaks I.tells C.tells C.fault_count (topology_in engine.old) (O.meaning custom.now)
+        (cut_in engine.old) coordinator_steps key engine.old engine.new parts.old parts.new }
+    ensures short { result ≡ Err fault.Memory
+        → WantsMemory I.tells C.tells C.fault_count (topology_in engine.old) (O.meaning custom.now)
         (cut_in engine.old) engine.old engine.new.fates parts.old parts.new }
     ensures once { OnErr result (IsOnce (length (cut_in engine.old).records)
         (cut_in engine.old).size last_tick engine.new.fates) }
@@ -49,17 +50,18 @@ fn coordinate_beside<R: Threads + Sync, I: Ids, C: CellStore + Send>(
         return Ok(());
     };
     commit.writes.keys_are_texts();
-    let how = parts.commit_beside(rt, threads, commit)?;
+    let how = parts.commit_beside(rt, threads, commit, custom)?;
     engine.decide(how)?;
     Ok(())
 }
 
 /// The rest of a round, as `close_round` has it, with the commit to the parts side by side, in so
 /// many threads at most.
-pub fn close_round_beside<R: Threads + Sync, I: Ids, C: CellStore + Send>(
+pub fn close_round_beside<R: Threads + Sync, I: Ids, C: CellStore + Send, O: RowOp>(
     rt: &R,
     engine: &mut Engine<'_, I>,
     parts: &mut Parts<C>,
+    custom: &O,
     threads: usize,
     passed: u32,
 ) -> Result<(), CommitFault>
@@ -67,14 +69,14 @@ pub fn close_round_beside<R: Threads + Sync, I: Ids, C: CellStore + Send>(
     requires parts { AreParts (topology_in engine.old) parts.old }
     ensures at_rest { OnOk result (IsAtRest engine.new) }
     ensures same_run { OnOk result (IsOfSameRun engine.old engine.new) }
-    ensures drives { (custom : Custom) → OnOk result
-        (Drives I.tells C.tells C.fault_count (topology_in engine.old) custom (cut_in engine.old)
-        (closing_steps passed) engine.old engine.new parts.old parts.new) }
-    ensures bad { (custom : Custom) (key : List ℕ) → result ≡ Err (fault.BadCell key)
-        → Breaks I.tells C.tells C.fault_count (topology_in engine.old) custom (cut_in engine.old)
-        (closing_steps passed) key engine.old engine.new parts.old parts.new }
-    ensures short { (custom : Custom) → result ≡ Err fault.Memory
-        → WantsMemory I.tells C.tells C.fault_count (topology_in engine.old) custom
+    ensures drives { OnOk result
+        (Drives I.tells C.tells C.fault_count (topology_in engine.old) (O.meaning custom.now)
+        (cut_in engine.old) (closing_steps passed) engine.old engine.new parts.old parts.new) }
+    ensures bad { (key : List ℕ) → result ≡ Err (fault.BadCell key)
+        → Breaks I.tells C.tells C.fault_count (topology_in engine.old) (O.meaning custom.now)
+        (cut_in engine.old) (closing_steps passed) key engine.old engine.new parts.old parts.new }
+    ensures short { result ≡ Err fault.Memory
+        → WantsMemory I.tells C.tells C.fault_count (topology_in engine.old) (O.meaning custom.now)
         (cut_in engine.old) engine.old engine.new.fates parts.old parts.new }
     ensures once { OnErr result (IsOnce (length (cut_in engine.old).records)
         (cut_in engine.old).size last_tick engine.new.fates) }
@@ -82,6 +84,6 @@ pub fn close_round_beside<R: Threads + Sync, I: Ids, C: CellStore + Send>(
 {
     laws_of_steps::<C>();
     tick_on(engine, passed);
-    coordinate_beside(rt, engine, parts, threads)?;
+    coordinate_beside(rt, engine, parts, custom, threads)?;
     Ok(())
 }

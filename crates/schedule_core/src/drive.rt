@@ -27,22 +27,23 @@ use storm_stores::CellStore;
 const MOST_BEFORE: u32 = 64;
 
 /// The coordinator's step, and the commit that it orders, to all parts.
-fn coordinate<I: Ids, C: CellStore>(
+fn coordinate<I: Ids, C: CellStore, O: RowOp>(
     engine: &mut Engine<'_, I>,
     parts: &mut Parts<C>,
+    custom: &O,
 ) -> Result<(), CommitFault>
     requires at_rest { IsAtRest engine.old }
     requires parts { AreParts (topology_in engine.old) parts.old }
     ensures at_rest { OnOk result (IsAtRest engine.new) }
     ensures same_run { OnOk result (IsOfSameRun engine.old engine.new) }
-    ensures drives { (custom : Custom) → OnOk result
-        (Drives I.tells C.tells C.fault_count (topology_in engine.old) custom (cut_in engine.old)
-        coordinator_steps engine.old engine.new parts.old parts.new) }
-    ensures bad { (custom : Custom) (key : List ℕ) → result ≡ Err (fault.BadCell key)
-        → Breaks I.tells C.tells C.fault_count (topology_in engine.old) custom (cut_in engine.old)
-        coordinator_steps key engine.old engine.new parts.old parts.new }
-    ensures short { (custom : Custom) → result ≡ Err fault.Memory
-        → WantsMemory I.tells C.tells C.fault_count (topology_in engine.old) custom
+    ensures drives { OnOk result
+        (Drives I.tells C.tells C.fault_count (topology_in engine.old) (O.meaning custom.now)
+        (cut_in engine.old) coordinator_steps engine.old engine.new parts.old parts.new) }
+    ensures bad { (key : List ℕ) → result ≡ Err (fault.BadCell key)
+        → Breaks I.tells C.tells C.fault_count (topology_in engine.old) (O.meaning custom.now)
+        (cut_in engine.old) coordinator_steps key engine.old engine.new parts.old parts.new }
+    ensures short { result ≡ Err fault.Memory
+        → WantsMemory I.tells C.tells C.fault_count (topology_in engine.old) (O.meaning custom.now)
         (cut_in engine.old) engine.old engine.new.fates parts.old parts.new }
     ensures once { OnErr result (IsOnce (length (cut_in engine.old).records)
         (cut_in engine.old).size last_tick engine.new.fates) }
@@ -54,7 +55,7 @@ fn coordinate<I: Ids, C: CellStore>(
         return Ok(());
     };
     commit.writes.keys_are_texts();
-    let how = parts.commit_all(commit)?;
+    let how = parts.commit_all(commit, custom)?;
     engine.decide(how)?;
     Ok(())
 }
@@ -133,23 +134,24 @@ pub(crate) fn tick_on<I: Ids>(engine: &mut Engine<'_, I>, count: u32)
 /// It costs a tick each, what the turn hears and begins, and the writes of the commit. With a bad
 /// cell or want of memory the engine may have no more events; its fates are those of all attempts
 /// that ended.
-pub(crate) fn close_round<I: Ids, C: CellStore>(
+pub(crate) fn close_round<I: Ids, C: CellStore, O: RowOp>(
     engine: &mut Engine<'_, I>,
     parts: &mut Parts<C>,
+    custom: &O,
     passed: u32,
 ) -> Result<(), CommitFault>
     requires at_rest { IsAtRest engine.old }
     requires parts { AreParts (topology_in engine.old) parts.old }
     ensures at_rest { OnOk result (IsAtRest engine.new) }
     ensures same_run { OnOk result (IsOfSameRun engine.old engine.new) }
-    ensures drives { (custom : Custom) → OnOk result
-        (Drives I.tells C.tells C.fault_count (topology_in engine.old) custom (cut_in engine.old)
-        (closing_steps passed) engine.old engine.new parts.old parts.new) }
-    ensures bad { (custom : Custom) (key : List ℕ) → result ≡ Err (fault.BadCell key)
-        → Breaks I.tells C.tells C.fault_count (topology_in engine.old) custom (cut_in engine.old)
-        (closing_steps passed) key engine.old engine.new parts.old parts.new }
-    ensures short { (custom : Custom) → result ≡ Err fault.Memory
-        → WantsMemory I.tells C.tells C.fault_count (topology_in engine.old) custom
+    ensures drives { OnOk result
+        (Drives I.tells C.tells C.fault_count (topology_in engine.old) (O.meaning custom.now)
+        (cut_in engine.old) (closing_steps passed) engine.old engine.new parts.old parts.new) }
+    ensures bad { (key : List ℕ) → result ≡ Err (fault.BadCell key)
+        → Breaks I.tells C.tells C.fault_count (topology_in engine.old) (O.meaning custom.now)
+        (cut_in engine.old) (closing_steps passed) key engine.old engine.new parts.old parts.new }
+    ensures short { result ≡ Err fault.Memory
+        → WantsMemory I.tells C.tells C.fault_count (topology_in engine.old) (O.meaning custom.now)
         (cut_in engine.old) engine.old engine.new.fates parts.old parts.new }
     ensures once { OnErr result (IsOnce (length (cut_in engine.old).records)
         (cut_in engine.old).size last_tick engine.new.fates) }
@@ -157,7 +159,7 @@ pub(crate) fn close_round<I: Ids, C: CellStore>(
 {
     laws_of_steps::<C>();
     tick_on(engine, passed);
-    coordinate(engine, parts)?;
+    coordinate(engine, parts, custom)?;
     Ok(())
 }
 
@@ -187,7 +189,7 @@ fn round<I: Ids, C: CellStore, O: RowOp>(
 {
     laws_of_steps::<C>();
     open_round(engine, custom)?;
-    coordinate(engine, parts)?;
+    coordinate(engine, parts, custom)?;
     Ok(())
 }
 
@@ -257,7 +259,7 @@ fn carry_out<I: Ids, C: CellStore, O: RowOp>(
     match event {
         Event::Task(n) => engine.task(n, custom)?,
         Event::Acker(n) => engine.acker(n)?,
-        Event::Coord => coordinate(engine, parts)?,
+        Event::Coord => coordinate(engine, parts, custom)?,
         Event::Tick => engine.tick(),
         Event::Rounds(count) => rounds(engine, parts, custom, count)?,
     }

@@ -86,7 +86,7 @@ fn rounds_until_over<R: Wait, T: Ticks, I: Ids, C: CellStore, O: RowOp>(
         }
         open_boosted(engine, custom)?;
         let passed = ticks.passed();
-        close_round(engine, parts, passed)?;
+        close_round(engine, parts, custom, passed)?;
     }
     unreachable!()
 }

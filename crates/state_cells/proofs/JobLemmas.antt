@@ -5,7 +5,7 @@ use Rattle.std.specs.Option.{option_or}
 use Rattle.std.specs.Str.{bytes_eq}
 use Rattle.std.proofs.lemmas.List.Folds.{find-append}
 use Rattle.std.proofs.lemmas.Slice.Eq.{bytes_eq-Decides}
-use Rattle.tree_model.specs.topology_plan.declared.parts.Fold.{Fold}
+use Rattle.tree_model.specs.Tables.{Folding}
 use Rattle.tree_model.specs.storm_values.declared.value.Root.{Root}
 use Rattle.tree_model.specs.topology_plan.declared.parts.Kind.{Kind}
 use Rattle.storm_stores.specs.CellMaps.{CellMap, cell_at}
@@ -57,7 +57,7 @@ joined None r = refl
 pub job_at-append : (done rest : List Job) (k : List ℕ) → job_at (done ++ rest) k ≡ option_or (job_at done k) (job_at rest k)
 job_at-append done rest k = ap (option_map (λ (x : Job). x.amounts)) (find-append (λ (x : Job). bytes_eq k x.key) done rest) ∙ joined (find (λ (x : Job). bytes_eq k x.key) done) (find (λ (x : Job). bytes_eq k x.key) rest)
 
-module _ {S : Type 0} (tells : S → CellMap → Type 0) (kind : Kind) (by : Fold) (root : Root) where
+module _ {S : Type 0} (tells : S → CellMap → Type 0) (kind : Kind) (by : Folding) (root : Root) where
   step : (o : Option (List ℤ)) (b : Bool) (amounts : List ℤ) (old mid new : Option (List ℕ)) → (b ≡ true → o ≡ None) → IsWorked kind by root o old mid
       → (b ≡ true → Commits kind by root amounts mid new) → (b ≡ false → new ≡ mid) → IsWorked kind by root (option_or o (cond b (Some amounts) None)) old new
   step None true amounts old mid new none worked here other = subst (λ (x : Option (List ℕ)). Commits kind by root amounts x new) worked (here refl)
@@ -150,6 +150,6 @@ good_not_bad kind None cell holds bad = bad
 good_not_bad kind (Some bytes) None holds bad = holds.bytes
 good_not_bad kind (Some bytes) (Some cell) holds bad = bad cell holds.good holds.bytes
 
-pub bad_before : (kind : Kind) (by : Fold) (root : Root) (o : Option (List ℤ)) (old new : Option (List ℕ)) → IsWorked kind by root o old new → IsBad kind new → IsBad kind old
+pub bad_before : (kind : Kind) (by : Folding) (root : Root) (o : Option (List ℤ)) (old new : Option (List ℕ)) → IsWorked kind by root o old new → IsBad kind new → IsBad kind old
 bad_before kind by root None old new same bad = subst (IsBad kind) same bad
 bad_before kind by root (Some amounts) old new commits bad = absurd (good_not_bad kind new (after kind by root amounts commits.cell) commits.is bad)

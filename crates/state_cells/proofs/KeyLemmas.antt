@@ -1,7 +1,7 @@
 -- What one get and one put do.
 use Rattle.std.proofs.Common.{◌≡◌, ◌≢◌, ◌⊎◌, inl, inr, ℕ, ℤ, List, [], ◌∷◌, Option, Some, None, refl, sym, subst, ◌∙◌}
 use Rattle.std.proofs.lemmas.Option.{none-some}
-use Rattle.tree_model.specs.topology_plan.declared.parts.Fold.{Fold}
+use Rattle.tree_model.specs.Tables.{Folding}
 use Rattle.tree_model.specs.storm_values.declared.value.Root.{Root}
 use Rattle.tree_model.specs.topology_plan.declared.parts.Kind.{Kind}
 use Rattle.tree_model.specs.topology_plan.declared.parts.Kind.TheVariants.{Transactional, Opaque}
@@ -32,7 +32,7 @@ pub written_if_put : (kind : Kind) (amounts : List ℤ) (put : Option Cell) (new
 written_if_put Transactional amounts put new left is = λ none. none-some new (sym (left refl none) ∙ is)
 written_if_put Opaque amounts put new left is = tt
 
-module _ {S : Type 0} (tells : S → CellMap → Type 0) (kind : Kind) (by : Fold) (root : Root) (amounts : List ℤ) (key : List ℕ) (cell : Option Cell) where
+module _ {S : Type 0} (tells : S → CellMap → Type 0) (kind : Kind) (by : Folding) (root : Root) (amounts : List ℤ) (key : List ℕ) (cell : Option Cell) where
   -- a put of the cell that the commit makes
   put_here : (new : Cell) (m : CellMap) → Holds kind (cell_at m key) cell → after kind by root amounts cell ≡ Some new → IsCellOf kind new → IsWritten kind amounts
       → (k : List ℕ) → OnlyAt key (Commits kind by root amounts) k (cell_at m k) (cell_at (with_cell m key (bytes_of new)) k)
@@ -77,6 +77,6 @@ module _ {S : Type 0} (tells : S → CellMap → Type 0) (kind : Kind) (by : Fol
   }
 
 -- a call that changed nothing
-pub perhaps_not : {S : Type 0} (tells : S → CellMap → Type 0) (kind : Kind) (by : Fold) (root : Root) (amounts : List ℤ) (key : List ℕ) (a b : S) → ((m : CellMap) → tells a m → tells b m)
+pub perhaps_not : {S : Type 0} (tells : S → CellMap → Type 0) (kind : Kind) (by : Folding) (root : Root) (amounts : List ℤ) (key : List ℕ) (a b : S) → ((m : CellMap) → tells a m → tells b m)
     → Turns tells (OnlyAt key (IsPerhapsDone kind by root amounts)) a b
 perhaps_not tells kind by root amounts key a b same = record { to = λ m told. (m, same m told, λ k. (λ _. inl refl, λ _. refl)) }

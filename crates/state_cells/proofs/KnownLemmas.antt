@@ -12,7 +12,7 @@ use Rattle.std.proofs.lemmas.List.Kept.{IsStrictlySortedBy-filter}
 use Rattle.std.proofs.lemmas.Map.Text.{is_eq-slice_cmp}
 use Rattle.std.proofs.lemmas.Map.Views.{any-filter_same}
 use Rattle.std.proofs.lemmas.Slice.Eq.{bytes_eq-Decides}
-use Rattle.tree_model.specs.topology_plan.declared.parts.Fold.{Fold}
+use Rattle.tree_model.specs.Tables.{Folding}
 use Rattle.tree_model.specs.storm_values.declared.value.Root.{Root}
 use Rattle.tree_model.specs.topology_plan.declared.parts.Kind.{Kind}
 use Rattle.tree_model.specs.topology_plan.declared.parts.Kind.TheVariants.{Opaque}
@@ -136,7 +136,7 @@ not_carrier txid keys key (Some c) listed none = cases (c.txid == txid) refl
 
 -- ---- a commit
 
-module _ (by : Fold) (root : Root) (newest : Bool) (keys : List (List ℕ)) where
+module _ (by : Folding) (root : Root) (newest : Bool) (keys : List (List ℕ)) where
   -- a cell that the commit made of one that was not later
   made_within : (amounts : List ℤ) (cell : Option Cell) → IsNotLater root.txid cell → IsNotLater root.txid (after Opaque by root amounts cell)
   made_within [] None is = tt
@@ -162,18 +162,18 @@ module _ (by : Fold) (root : Root) (newest : Bool) (keys : List (List ℕ)) wher
     within = λ is. made_within amounts commits.cell (subst (IsNotLater root.txid) (Holds-one Opaque old known.cell commits.cell known.holds commits.was) (known.within is));
   }
 
-pub known_worked : (by : Fold) (root : Root) (newest : Bool) (jobs : List Job) (cells after : CellMap) → AreKnown root.txid newest (keys_in jobs) cells
+pub known_worked : (by : Folding) (root : Root) (newest : Bool) (jobs : List Job) (cells after : CellMap) → AreKnown root.txid newest (keys_in jobs) cells
     → ((key : List ℕ) → IsPerhapsWorked Opaque by root (job_at jobs key) (cell_at cells key) (cell_at after key)) → AreKnown root.txid newest (keys_in jobs) after
 known_worked by root newest jobs cells after known worked = record {
   once = known.once;
   at = λ key. known_at by root newest (keys_in jobs) key (job_at jobs key) (cell_at cells key) (cell_at after key) (sym (job_listed jobs key)) (known.at key) (worked key);
 }
 
-perhaps : (kind : Kind) (by : Fold) (root : Root) (o : Option (List ℤ)) (old new : Option (List ℕ)) → IsWorked kind by root o old new → IsPerhapsWorked kind by root o old new
+perhaps : (kind : Kind) (by : Folding) (root : Root) (o : Option (List ℤ)) (old new : Option (List ℕ)) → IsWorked kind by root o old new → IsPerhapsWorked kind by root o old new
 perhaps kind by root None old new worked = worked
 perhaps kind by root (Some amounts) old new worked = inr worked
 
-module _ {S T E : Type 0} (tells : S → CellMap → Type 0) (one_map : (s : S) (m n : CellMap) → tells s m → tells s n → m ≡ n) (kind : Kind) (by : Fold) (root : Root) (newest : Bool) (jobs : List Job) (a b c : S) (r : Result T E) where
+module _ {S T E : Type 0} (tells : S → CellMap → Type 0) (one_map : (s : S) (m n : CellMap) → tells s m → tells s n → m ≡ n) (kind : Kind) (by : Folding) (root : Root) (newest : Bool) (jobs : List Job) (a b c : S) (r : Result T E) where
   either : OnOk r (AreApart jobs → Turns tells (λ key. IsWorked kind by root (job_at jobs key)) b c) → OnErr r (AreApart jobs → Turns tells (λ key. IsPerhapsWorked kind by root (job_at jobs key)) b c)
       → AreApart jobs → Turns tells (λ key. IsPerhapsWorked kind by root (job_at jobs key)) b c
   either on_ok on_err = cases r on_ok on_err

@@ -4,7 +4,7 @@ use Rattle.std.specs.List.{list_any}
 use Rattle.std.specs.Option.{option_map_or, option_or}
 use Rattle.smallvec.specs.SmallVec.{SmallVec}
 use Rattle.std.specs.Str.{bytes_eq}
-use Rattle.tree_model.specs.topology_plan.declared.parts.Fold.{Fold}
+use Rattle.tree_model.specs.Tables.{Folding}
 use Rattle.tree_model.specs.storm_values.declared.value.Root.{Root}
 use Rattle.tree_model.specs.topology_plan.declared.parts.Kind.{Kind}
 use Rattle.tree_model.specs.topology_plan.declared.parts.Kind.TheVariants.{Transactional, Opaque}
@@ -19,31 +19,31 @@ use Rattle.state_cells.proofs.KnownLemmas.{job_listed, keys_once, not_carrier}
 
 -- ---- what the jobs make of a key
 
-not_carried : (by : Fold) (root : Root) (cell : Option Cell) → carries_of root.txid cell ≡ false → after Opaque by root [] cell ≡ cell
+not_carried : (by : Folding) (root : Root) (cell : Option Cell) → carries_of root.txid cell ≡ false → after Opaque by root [] cell ≡ cell
 not_carried by root None is = refl
 not_carried by root (Some c) is = ap (λ b. cond b (Some (again Opaque by root.attempt [] c)) (Some c)) is
 
-done_written : (kind : Kind) (by : Fold) (root : Root) (amounts : List ℤ) (old new : Option (List ℕ)) → Commits kind by root amounts old new → IsDone kind by root amounts old new
+done_written : (kind : Kind) (by : Folding) (root : Root) (amounts : List ℤ) (old new : Option (List ℕ)) → Commits kind by root amounts old new → IsDone kind by root amounts old new
 done_written Opaque by root amounts old new commits = commits
 done_written Transactional by root (a ∷ rest) old new commits = commits
 done_written Transactional by root [] old new commits = commits.left
 
-left_done : (kind : Kind) (by : Fold) (root : Root) (amounts : List ℤ) (old new : Option (List ℕ)) → IsLeft kind root.txid amounts old → new ≡ old → IsDone kind by root amounts old new
+left_done : (kind : Kind) (by : Folding) (root : Root) (amounts : List ℤ) (old new : Option (List ℕ)) → IsLeft kind root.txid amounts old → new ≡ old → IsDone kind by root amounts old new
 left_done Transactional by root amounts old new none same = subst (λ (xs : List ℤ). IsDone Transactional by root xs old new) (sym none) same
 left_done Opaque by root amounts old new left same =
     let stays : after Opaque by root [] left.1 ≡ left.1 = not_carried by root left.1 left.3 in
     let commits : Commits Opaque by root [] old old = record { cell = left.1; was = left.2; is = subst (Holds Opaque old) (sym stays) left.2; left = tt } in
     subst (λ (xs : List ℤ). Commits Opaque by root xs old new) (sym left.0) (subst (Commits Opaque by root [] old) (sym same) commits)
 
-worked_done : (kind : Kind) (by : Fold) (root : Root) (amounts : List ℤ) (job : Option (List ℤ)) (old new : Option (List ℕ)) → MatchOption job (IsLeft kind root.txid amounts old) (λ xs. xs ≡ amounts) → IsWorked kind by root job old new → IsDone kind by root amounts old new
+worked_done : (kind : Kind) (by : Folding) (root : Root) (amounts : List ℤ) (job : Option (List ℤ)) (old new : Option (List ℕ)) → MatchOption job (IsLeft kind root.txid amounts old) (λ xs. xs ≡ amounts) → IsWorked kind by root job old new → IsDone kind by root amounts old new
 worked_done kind by root amounts None old new left same = left_done kind by root amounts old new left same
 worked_done kind by root amounts (Some xs) old new is commits = done_written kind by root amounts old new (subst (λ (ys : List ℤ). Commits kind by root ys old new) is commits)
 
-perhaps_done : (kind : Kind) (by : Fold) (root : Root) (amounts : List ℤ) (job : Option (List ℤ)) (old new : Option (List ℕ)) → MatchOption job (IsLeft kind root.txid amounts old) (λ xs. xs ≡ amounts) → IsPerhapsWorked kind by root job old new → IsPerhapsDone kind by root amounts old new
+perhaps_done : (kind : Kind) (by : Folding) (root : Root) (amounts : List ℤ) (job : Option (List ℤ)) (old new : Option (List ℕ)) → MatchOption job (IsLeft kind root.txid amounts old) (λ xs. xs ≡ amounts) → IsPerhapsWorked kind by root job old new → IsPerhapsDone kind by root amounts old new
 perhaps_done kind by root amounts None old new left same = inl same
 perhaps_done kind by root amounts (Some xs) old new is perhaps = subst (λ (ys : List ℤ). IsPerhapsDone kind by root ys old new) is perhaps
 
-module _ {S : Type 0} (tells : S → CellMap → Type 0) (kind : Kind) (by : Fold) (root : Root) (written : List ℕ → List ℤ) (jobs : List Job) (a b c : S) (planned : (m : CellMap) → tells a m → IsPlan kind root.txid written m jobs) (same : (m : CellMap) → tells a m → tells b m) where
+module _ {S : Type 0} (tells : S → CellMap → Type 0) (kind : Kind) (by : Folding) (root : Root) (written : List ℕ → List ℤ) (jobs : List Job) (a b c : S) (planned : (m : CellMap) → tells a m → IsPlan kind root.txid written m jobs) (same : (m : CellMap) → tells a m → tells b m) where
   pub plan_done : (AreApart jobs → Turns tells (λ key. IsWorked kind by root (job_at jobs key)) b c) → Turns tells (λ key. IsDone kind by root (written key)) a c
   plan_done works = record {
     to = λ m told.
@@ -61,7 +61,7 @@ module _ {S : Type 0} (tells : S → CellMap → Type 0) (kind : Kind) (by : Fol
   }
 
 -- where nothing was done yet
-pub nothing_done : {S : Type 0} (tells : S → CellMap → Type 0) (kind : Kind) (by : Fold) (root : Root) (written : List ℕ → List ℤ) (a b : S) → ((m : CellMap) → tells a m → tells b m) → Turns tells (λ key. IsPerhapsDone kind by root (written key)) a b
+pub nothing_done : {S : Type 0} (tells : S → CellMap → Type 0) (kind : Kind) (by : Folding) (root : Root) (written : List ℕ → List ℤ) (a b : S) → ((m : CellMap) → tells a m → tells b m) → Turns tells (λ key. IsPerhapsDone kind by root (written key)) a b
 nothing_done tells kind by root written a b same = record { to = λ m told. (m, same m told, λ key. inl refl) }
 
 -- ---- the plans

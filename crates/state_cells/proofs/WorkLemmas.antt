@@ -6,7 +6,7 @@ use Rattle.std.specs.Option.{option_or}
 use Rattle.std.specs.Str.{bytes_eq}
 use Rattle.std.proofs.lemmas.Slice.Eq.{bytes_eq-Decides}
 use Rattle.smallvec.specs.SmallVec.{SmallVec}
-use Rattle.tree_model.specs.topology_plan.declared.parts.Fold.{Fold}
+use Rattle.tree_model.specs.Tables.{Folding}
 use Rattle.tree_model.specs.storm_values.declared.value.Root.{Root}
 use Rattle.tree_model.specs.topology_plan.declared.parts.Kind.{Kind}
 use Rattle.storm_stores.specs.CellMaps.{CellMap, cell_at}
@@ -54,7 +54,7 @@ not_before (j ∷ js) rest job apart = cases (bytes_eq job.key j.key) refl (not_
     cases true is later = absurd (there js rest job (ap (job_at (js ++ job ∷ rest)) ((bytes_eq-Decides job.key j.key).0 is) ∙ apart.0))
     cases false is later = later
 
-module _ {S : Type 0} (tells : S → CellMap → Type 0) (kind : Kind) (by : Fold) (root : Root) where
+module _ {S : Type 0} (tells : S → CellMap → Type 0) (kind : Kind) (by : Folding) (root : Root) where
   module _ (ys : List Shown) (x : Shown) (it next all : List Group) (parts : map deref_pair ys ++ it ≡ all) (step : it ≡ deref_pair x ∷ next) (apart : AreApart (map job_of all)) (a b c : S)
       (first : Turns tells (λ key. IsWorked kind by root (job_at (map job_of (map deref_pair ys)) key)) a b) where
     whole : map job_of all ≡ map job_of (map deref_pair ys) ++ job_of (deref_pair x) ∷ map job_of next
@@ -98,7 +98,7 @@ differ (j ∷ js) b key apart found = cases (bytes_eq key j.key) refl (λ later.
     cases true is later here = ap (job_at b) ((bytes_eq-Decides key j.key).0 is) ∙ right_none (job_at js j.key) (job_at b j.key) (sym (job_at-append js b j.key) ∙ apart.0)
     cases false is later here = later here
 
-module _ {S : Type 0} (tells : S → CellMap → Type 0) (kind : Kind) (by : Fold) (root : Root) where
+module _ {S : Type 0} (tells : S → CellMap → Type 0) (kind : Kind) (by : Folding) (root : Root) where
   there_is : (a : List ℤ) → ◌≢◌ {A = Option (List ℤ)} (Some a) None
   there_is a is = absurd (let e : ◌≡◌ {A = Option (List ℤ)} (Some a) None = is in cc)
 

@@ -2,7 +2,7 @@
 use Rattle.std.specs.Prelude.{◌≡◌, ◌≢◌, ℕ, ℤ, List, [], ◌∷◌, Option, None, Some, option_map, find, true}
 use Rattle.std.specs.List.{list_any}
 use Rattle.std.specs.Str.{bytes_eq}
-use Rattle.tree_model.specs.topology_plan.declared.parts.Fold.{Fold}
+use Rattle.tree_model.specs.Tables.{Folding}
 use Rattle.tree_model.specs.storm_values.declared.value.Root.{Root}
 use Rattle.tree_model.specs.topology_plan.declared.parts.Kind.{Kind}
 use Rattle.storm_stores.specs.CellMaps.{CellMap, cell_at}
@@ -48,13 +48,13 @@ AreApart [] = Unit {0}
 AreApart (job ∷ jobs) = (job_at jobs job.key ≡ None) × AreApart jobs
 
 -- a key with a job is committed, every other key has what it had
-abbrev pub IsWorked : Kind → Fold → Root → Option (List ℤ) → Option (List ℕ) → Option (List ℕ)
+abbrev pub IsWorked : Kind → Folding → Root → Option (List ℤ) → Option (List ℕ) → Option (List ℕ)
     → Type 0
 IsWorked kind by root None old new = new ≡ old
 IsWorked kind by root (Some amounts) old new = Commits kind by root amounts old new
 
 -- the same where the work was broken off
-abbrev pub IsPerhapsWorked : Kind → Fold → Root → Option (List ℤ) → Option (List ℕ)
+abbrev pub IsPerhapsWorked : Kind → Folding → Root → Option (List ℤ) → Option (List ℕ)
     → Option (List ℕ) → Type 0
 IsPerhapsWorked kind by root None old new = new ≡ old
 IsPerhapsWorked kind by root (Some amounts) old new = IsPerhapsDone kind by root amounts old new

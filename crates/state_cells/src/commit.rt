@@ -1,5 +1,6 @@
 ghost use Rattle.std.specs.Prelude.{◌≡◌, ◌≤◌, ◌⊎◌, ℕ, List, Option, IfOk, IfSome, OnOk, OnErr, IsErrOf};
 ghost use Rattle.tree_model.specs.storm_values.Counts.{raised};
+ghost use Rattle.tree_model.specs.Tables.{folded};
 ghost use Rattle.storm_stores.specs.CellMaps.{CellMap, cell_at, with_cell};
 ghost use Rattle.cell_format.specs.Commits.{Commits, Holds, IsCellOf, IsPerhapsDone};
 ghost use Rattle.cell_format.specs.Layout.{IsWhole, bytes_of};
@@ -11,6 +12,7 @@ use crate::group::Groups;
 use cell_format::{Cell, cell_for, change, encode_cell};
 use std::alloc::Global;
 use storm_stores::{CellStore, StoreFault};
+use tree_model::bolt_ops::RowOp;
 use tree_model::storm_values::{Bytes, Root};
 use tree_model::topology_plan::{Fold, Kind};
 
@@ -89,17 +91,20 @@ pub(crate) fn put_cell<C: CellStore>(
 }
 
 /// Commits a key's amounts, with one get and one put at most.
-fn commit_key<C: CellStore>(
+fn commit_key<C: CellStore, O: RowOp>(
     alloc: Global,
     store: &mut C,
     batch: Batch,
+    custom: &O,
     key: &[u8],
     amounts: &[i64],
 ) -> Result<(), PartFault>
-    ensures ok { OnOk result (Turns C.tells (OnlyAt key.now
-        (Commits batch.kind batch.by batch.root amounts.now)) store.old store.new) }
-    ensures err { OnErr result (Turns C.tells (OnlyAt key.now
-        (IsPerhapsDone batch.kind batch.by batch.root amounts.now)) store.old store.new) }
+    ensures ok { let by = folded (O.meaning custom.now) batch.by in
+        OnOk result (Turns C.tells (OnlyAt key.now
+        (Commits batch.kind by batch.root amounts.now)) store.old store.new) }
+    ensures err { let by = folded (O.meaning custom.now) batch.by in
+        OnErr result (Turns C.tells (OnlyAt key.now
+        (IsPerhapsDone batch.kind by batch.root amounts.now)) store.old store.new) }
     ensures failed { IsErrOf result PartFault.Store →
         C.fault_count store.new ≡ raised (C.fault_count store.old) }
     ensures quiet { (IsErrOf result PartFault.Store → ⊥) →
@@ -114,24 +119,27 @@ fn commit_key<C: CellStore>(
         Ok(cell) => cell,
         Err(fault) => return Err(fault),
     };
-    match change(batch.kind, batch.by, batch.root, amounts, cell) {
+    match change(batch.kind, batch.by, custom, batch.root, amounts, cell) {
         None => Ok(()),
         Some(new) => put_cell(store, key, &new),
     }
 }
 
 /// Commits the keys that are written, in the order in which they came first.
-fn commit_groups<C: CellStore>(
+fn commit_groups<C: CellStore, O: RowOp>(
     alloc: Global,
     store: &mut C,
     batch: Batch,
+    custom: &O,
     groups: &Groups<'_>,
 ) -> Result<(), PartFault>
-    ensures ok { OnOk result (AreApart (jobs_in groups.now) → Turns C.tells
-        (λ key. IsWorked batch.kind batch.by batch.root (job_at (jobs_in groups.now) key))
+    ensures ok { let by = folded (O.meaning custom.now) batch.by in
+        OnOk result (AreApart (jobs_in groups.now) → Turns C.tells
+        (λ key. IsWorked batch.kind by batch.root (job_at (jobs_in groups.now) key))
         store.old store.new) }
-    ensures err { OnErr result (AreApart (jobs_in groups.now) → Turns C.tells
-        (λ key. IsPerhapsWorked batch.kind batch.by batch.root (job_at (jobs_in groups.now) key))
+    ensures err { let by = folded (O.meaning custom.now) batch.by in
+        OnErr result (AreApart (jobs_in groups.now) → Turns C.tells
+        (λ key. IsPerhapsWorked batch.kind by batch.root (job_at (jobs_in groups.now) key))
         store.old store.new) }
     ensures failed { IsErrOf result PartFault.Store →
         C.fault_count store.new ≡ raised (C.fault_count store.old) }
@@ -145,23 +153,26 @@ fn commit_groups<C: CellStore>(
     ensures never_falls { C.fault_count store.old ≤ C.fault_count store.new }
 {
     for (key, amounts) in groups {
-        commit_key(alloc, store, batch, key.bytes, amounts.as_slice())?;
+        commit_key(alloc, store, batch, custom, key.bytes, amounts.as_slice())?;
     }
     Ok(())
 }
 
 /// Commits keys for which nothing is written, in order.
-fn commit_restores<C: CellStore>(
+fn commit_restores<C: CellStore, O: RowOp>(
     alloc: Global,
     store: &mut C,
     batch: Batch,
+    custom: &O,
     keys: &[Bytes],
 ) -> Result<(), PartFault>
-    ensures ok { OnOk result (AreApart (restores_in keys.now) → Turns C.tells
-        (λ key. IsWorked batch.kind batch.by batch.root (job_at (restores_in keys.now) key))
+    ensures ok { let by = folded (O.meaning custom.now) batch.by in
+        OnOk result (AreApart (restores_in keys.now) → Turns C.tells
+        (λ key. IsWorked batch.kind by batch.root (job_at (restores_in keys.now) key))
         store.old store.new) }
-    ensures err { OnErr result (AreApart (restores_in keys.now) → Turns C.tells
-        (λ key. IsPerhapsWorked batch.kind batch.by batch.root (job_at (restores_in keys.now) key))
+    ensures err { let by = folded (O.meaning custom.now) batch.by in
+        OnErr result (AreApart (restores_in keys.now) → Turns C.tells
+        (λ key. IsPerhapsWorked batch.kind by batch.root (job_at (restores_in keys.now) key))
         store.old store.new) }
     ensures failed { IsErrOf result PartFault.Store →
         C.fault_count store.new ≡ raised (C.fault_count store.old) }
@@ -175,25 +186,28 @@ fn commit_restores<C: CellStore>(
     ensures never_falls { C.fault_count store.old ≤ C.fault_count store.new }
 {
     for key in keys {
-        commit_key(alloc, store, batch, key.as_slice(), &[])?;
+        commit_key(alloc, store, batch, custom, key.as_slice(), &[])?;
     }
     Ok(())
 }
 
 /// Does the jobs of a commit: the keys that are written, and then the others.
-pub(crate) fn commit_jobs<C: CellStore>(
+pub(crate) fn commit_jobs<C: CellStore, O: RowOp>(
     alloc: Global,
     store: &mut C,
     batch: Batch,
+    custom: &O,
     groups: &Groups<'_>,
     keys: &[Bytes],
 ) -> Result<(), PartFault>
-    ensures ok { OnOk result (AreApart (jobs_of groups.now keys.now) → Turns C.tells
-        (λ key. IsWorked batch.kind batch.by batch.root (job_at (jobs_of groups.now keys.now) key))
+    ensures ok { let by = folded (O.meaning custom.now) batch.by in
+        OnOk result (AreApart (jobs_of groups.now keys.now) → Turns C.tells
+        (λ key. IsWorked batch.kind by batch.root (job_at (jobs_of groups.now keys.now) key))
         store.old store.new) }
-    ensures err { OnErr result (AreApart (jobs_of groups.now keys.now) → Turns C.tells
-        (λ key. IsPerhapsWorked batch.kind batch.by batch.root
-        (job_at (jobs_of groups.now keys.now) key)) store.old store.new) }
+    ensures err { let by = folded (O.meaning custom.now) batch.by in
+        OnErr result (AreApart (jobs_of groups.now keys.now) → Turns C.tells
+        (λ key. IsPerhapsWorked batch.kind by batch.root (job_at (jobs_of groups.now keys.now) key))
+        store.old store.new) }
     ensures failed { IsErrOf result PartFault.Store →
         C.fault_count store.new ≡ raised (C.fault_count store.old) }
     ensures quiet { (IsErrOf result PartFault.Store → ⊥) →
@@ -205,8 +219,8 @@ pub(crate) fn commit_jobs<C: CellStore>(
         (before : CellMap) × C.tells store.old before }
     ensures never_falls { C.fault_count store.old ≤ C.fault_count store.new }
 {
-    match commit_groups(alloc, store, batch, groups) {
-        Ok(()) => commit_restores(alloc, store, batch, keys),
+    match commit_groups(alloc, store, batch, custom, groups) {
+        Ok(()) => commit_restores(alloc, store, batch, custom, keys),
         Err(fault) => Err(fault),
     }
 }

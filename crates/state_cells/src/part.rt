@@ -1,5 +1,6 @@
 ghost use Rattle.std.specs.Prelude.{◌≡◌, ◌≤◌, ℕ, List, IfOk, IfSome, OnOk, OnErr, IsErrOf};
 ghost use Rattle.tree_model.specs.storm_values.Counts.{raised};
+ghost use Rattle.tree_model.specs.Tables.{folded};
 ghost use Rattle.storm_stores.specs.CellMaps.{CellMap, cell_at};
 ghost use Rattle.cell_format.specs.Commits.{IsDone, IsPerhapsDone};
 ghost use Rattle.state_cells.specs.Groups.{amounts_in, amounts_of, jobs_in};
@@ -21,6 +22,7 @@ use std::alloc::Global;
 use std::marker::Model;
 use storm_stores::CellStore;
 use tree_model::Pairs;
+use tree_model::bolt_ops::RowOp;
 use tree_model::storm_values::Root;
 use tree_model::topology_plan::{Fold, Kind};
 
@@ -80,11 +82,17 @@ impl<C: CellStore> Part<C> {
     /// back, with a get and a put too; it looks at each key of its store at its first commit, and
     /// once more at each commit of an older transaction than the one before and at the one after
     /// that. After a fault some keys may be done and the others are as before.
-    pub fn commit(&mut self, root: Root, writes: &GroupedWrites<'_>) -> Result<(), PartFault>
-        ensures ok { OnOk result (Turns C.tells (λ key. IsDone self.old.kind self.old.by root
+    pub fn commit<O: RowOp>(
+        &mut self,
+        root: Root,
+        writes: &GroupedWrites<'_>,
+        custom: &O,
+    ) -> Result<(), PartFault>
+        ensures ok { let by = folded (O.meaning custom.now) self.old.by in
+            OnOk result (Turns C.tells (λ key. IsDone self.old.kind by root
             (amounts_of writes.now key)) self.old.store self.new.store) }
-        ensures err { OnErr result
-            (Turns C.tells (λ key. IsPerhapsDone self.old.kind self.old.by root
+        ensures err { let by = folded (O.meaning custom.now) self.old.by in
+            OnErr result (Turns C.tells (λ key. IsPerhapsDone self.old.kind by root
             (amounts_of writes.now key)) self.old.store self.new.store) }
         ensures failed { IsErrOf result PartFault.Store →
             C.fault_count self.new.store ≡ raised (C.fault_count self.old.store) }
@@ -102,7 +110,14 @@ impl<C: CellStore> Part<C> {
             root,
         };
         let groups = writes.groups();
-        commit_batch(self.alloc, &mut self.store, &mut self.known, batch, groups)
+        commit_batch(
+            self.alloc,
+            &mut self.store,
+            &mut self.known,
+            batch,
+            custom,
+            groups,
+        )
     }
 
     /// The keys with a value, in order, with one look at each key.
@@ -163,19 +178,22 @@ impl<C: CellStore> Part<C> {
     }
 }
 
-fn commit_batch<C: CellStore>(
+fn commit_batch<C: CellStore, O: RowOp>(
     alloc: Global,
     store: &mut C,
     known: &mut Option<Known>,
     batch: Batch,
+    custom: &O,
     groups: &Groups<'_>,
 ) -> Result<(), PartFault>
     requires known { IfSome known.old (Knows C.tells store.old) }
     requires apart { AreApart (jobs_in groups.now) }
     ensures known { IfSome known.new (Knows C.tells store.new) }
-    ensures ok { OnOk result (Turns C.tells (λ key. IsDone batch.kind batch.by batch.root
+    ensures ok { let by = folded (O.meaning custom.now) batch.by in
+        OnOk result (Turns C.tells (λ key. IsDone batch.kind by batch.root
         (amounts_in groups.now key)) store.old store.new) }
-    ensures err { OnErr result (Turns C.tells (λ key. IsPerhapsDone batch.kind batch.by batch.root
+    ensures err { let by = folded (O.meaning custom.now) batch.by in
+        OnErr result (Turns C.tells (λ key. IsPerhapsDone batch.kind by batch.root
         (amounts_in groups.now key)) store.old store.new) }
     ensures failed { IsErrOf result PartFault.Store →
         C.fault_count store.new ≡ raised (C.fault_count store.old) }
@@ -189,7 +207,7 @@ fn commit_batch<C: CellStore>(
         Ok(work) => work,
         Err(fault) => return Err(fault),
     };
-    let done = commit_jobs(alloc, store, batch, groups, &work.restores);
+    let done = commit_jobs(alloc, store, batch, custom, groups, &work.restores);
     *known = known_after(alloc, batch, groups, work);
     done
 }

@@ -12,7 +12,8 @@ use Rattle.tree_model.specs.Tables.{StateOf}
 use Rattle.tree_model.specs.declared.write.Table.{Table}
 use Rattle.tree_model.specs.declared.write.Write.{Write}
 use Rattle.tree_model.specs.topology_plan.Topology.{Topology, tasks_of}
-use Rattle.tree_model.specs.topology_plan.declared.parts.Fold.{Fold}
+use Rattle.tree_model.specs.bolt_ops.RowOp.{Custom}
+use Rattle.tree_model.specs.Tables.{Folding, folded}
 use Rattle.tree_model.specs.topology_plan.declared.parts.Kind.{Kind}
 use Rattle.cell_format.specs.Commits.{IsHeld}
 use Rattle.cell_format.specs.Standing.{IsWithin, Stands}
@@ -219,7 +220,7 @@ module _ {S : Type 0} (tells : S → CellMap → Type 0) (count : S → ℕ) whe
 -- ---- where the parts stand
 
 -- what a store tells is said key by key
-same_held : (kind : Kind) (by : Fold) (parts part t : ℕ) (done next : List Write) (old new : List ℕ → Option (List ℕ)) → ((key : List ℕ) → IsSameCell key (old key) (new key)) → Stands kind by parts part t done next old
+same_held : (kind : Kind) (by : Folding) (parts part t : ℕ) (done next : List Write) (old new : List ℕ → Option (List ℕ)) → ((key : List ℕ) → IsSameCell key (old key) (new key)) → Stands kind by parts part t done next old
     → Stands kind by parts part t done next new
 same_held kind by parts part t done next old new same stands = record {
   keys = λ key. let k = stands.keys key in record { cell = k.cell; is = (same key kind k.cell).0 k.is; stands = k.stands };
@@ -238,23 +239,23 @@ same_held kind by parts part t done next old new same stands = record {
 same_within : (kind : Kind) (t : ℕ) (old new : List ℕ → Option (List ℕ)) → ((key : List ℕ) → IsSameCell key (old key) (new key)) → IsWithin kind t old → IsWithin kind t new
 same_within kind t old new same within = λ key cell holds. within key cell ((same key kind (Some cell)).1 holds)
 
-module _ {S : Type 0} (tells : S → CellMap → Type 0) (count : S → ℕ) (t : Topology) (n : ℕ) (done next : List Write) where
+module _ {S : Type 0} (tells : S → CellMap → Type 0) (count : S → ℕ) (t : Topology) (custom : Custom) (n : ℕ) (done next : List Write) where
   -- how a part stands by its numbers, kind and fold alone
   abbrev StandsBy : (List ℕ → Option (List ℕ)) → PartPlan → Type 0
-  StandsBy held p = Stands p.kind p.by (tasks_of t p.component) p.part n (filter (is_for_part p.component p.part) done) (filter (is_for_part p.component p.part) next) held
+  StandsBy held p = Stands p.kind (folded custom p.by) (tasks_of t p.component) p.part n (filter (is_for_part p.component p.part) done) (filter (is_for_part p.component p.part) next) held
 
-  one_stands : (old new : StatePart S) → KeepsCells tells count old new → PartStands tells t n done next old → PartStands tells t n done next new
+  one_stands : (old new : StatePart S) → KeepsCells tells count old new → PartStands tells t custom n done next old → PartStands tells t custom n done next new
   one_stands old new kept stands =
       let x = kept.same.to stands.cells stands.told in
       let as_old : StandsBy (cell_at x.0) (plan_of old) =
-      same_held old.over.kind old.over.by (tasks_of t old.component) old.part n (own_writes done old) (own_writes next old) (cell_at stands.cells) (cell_at x.0) x.2 stands.stands in
+      same_held old.over.kind (folded custom old.over.by) (tasks_of t old.component) old.part n (own_writes done old) (own_writes next old) (cell_at stands.cells) (cell_at x.0) x.2 stands.stands in
       record { cells = x.0; told = x.1; stands = subst (StandsBy (cell_at x.0)) (sym kept.plan) as_old }
 
-  one_is_at : (old new : StatePart S) → KeepsCells tells count old new → PartIsAt tells t n done next old → PartIsAt tells t n done next new
+  one_is_at : (old new : StatePart S) → KeepsCells tells count old new → PartIsAt tells t custom n done next old → PartIsAt tells t custom n done next new
   one_is_at old new kept stands =
       let x = kept.same.to stands.cells stands.told in
       let as_old : StandsBy (cell_at x.0) (plan_of old) =
-      same_held old.over.kind old.over.by (tasks_of t old.component) old.part n (own_writes done old) (own_writes next old) (cell_at stands.cells) (cell_at x.0) x.2 stands.stands in
+      same_held old.over.kind (folded custom old.over.by) (tasks_of t old.component) old.part n (own_writes done old) (own_writes next old) (cell_at stands.cells) (cell_at x.0) x.2 stands.stands in
       let within_old : IsWithin old.over.kind n (cell_at x.0) = same_within old.over.kind n (cell_at stands.cells) (cell_at x.0) x.2 stands.within in
       record {
         cells = x.0;
@@ -263,16 +264,16 @@ module _ {S : Type 0} (tells : S → CellMap → Type 0) (count : S → ℕ) (t 
         within = subst (λ (p : PartPlan). IsWithin p.kind n (cell_at x.0)) (sym kept.plan) within_old;
       }
 
-  pub kept_stand : (old new : List (StatePart S)) → AreKept tells count old new → AllStand tells t n done next old → AllStand tells t n done next new
-  kept_stand [] [] kept stand = All-nil (PartStands tells t n done next)
+  pub kept_stand : (old new : List (StatePart S)) → AreKept tells count old new → AllStand tells t custom n done next old → AllStand tells t custom n done next new
+  kept_stand [] [] kept stand = All-nil (PartStands tells t custom n done next)
   kept_stand [] (y ∷ new) kept stand = absurd kept
   kept_stand (x ∷ old) [] kept stand = absurd kept
   kept_stand (x ∷ old) (y ∷ new) kept stand =
-      All-cons (PartStands tells t n done next) y new (one_stands x y kept.0 (All-head (PartStands tells t n done next) x old stand)) (kept_stand old new kept.1 (All-tail (PartStands tells t n done next) x old stand))
+      All-cons (PartStands tells t custom n done next) y new (one_stands x y kept.0 (All-head (PartStands tells t custom n done next) x old stand)) (kept_stand old new kept.1 (All-tail (PartStands tells t custom n done next) x old stand))
 
-  pub kept_are_at : (old new : List (StatePart S)) → AreKept tells count old new → AllAreAt tells t n done next old → AllAreAt tells t n done next new
-  kept_are_at [] [] kept stand = All-nil (PartIsAt tells t n done next)
+  pub kept_are_at : (old new : List (StatePart S)) → AreKept tells count old new → AllAreAt tells t custom n done next old → AllAreAt tells t custom n done next new
+  kept_are_at [] [] kept stand = All-nil (PartIsAt tells t custom n done next)
   kept_are_at [] (y ∷ new) kept stand = absurd kept
   kept_are_at (x ∷ old) [] kept stand = absurd kept
   kept_are_at (x ∷ old) (y ∷ new) kept stand =
-      All-cons (PartIsAt tells t n done next) y new (one_is_at x y kept.0 (All-head (PartIsAt tells t n done next) x old stand)) (kept_are_at old new kept.1 (All-tail (PartIsAt tells t n done next) x old stand))
+      All-cons (PartIsAt tells t custom n done next) y new (one_is_at x y kept.0 (All-head (PartIsAt tells t custom n done next) x old stand)) (kept_are_at old new kept.1 (All-tail (PartIsAt tells t custom n done next) x old stand))

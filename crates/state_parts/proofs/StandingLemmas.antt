@@ -4,6 +4,8 @@ use Rattle.std.proofs.lemmas.List.Elements.{All-cons, All-head, All-nil, All-tai
 use Rattle.std.specs.Str.{bytes_eq}
 use Rattle.std.specs.Cmp.Lexicographic.{bytes_decides}
 use Rattle.storm_stores.specs.CellMaps.{CellMap, cell_at}
+use Rattle.tree_model.specs.bolt_ops.RowOp.{Custom}
+use Rattle.tree_model.specs.Tables.{folded}
 use Rattle.tree_model.specs.storm_values.declared.value.Root.{Root}
 use Rattle.tree_model.specs.topology_plan.Topology.{Topology, tasks_of}
 use Rattle.tree_model.specs.declared.write.Write.{Write}
@@ -49,36 +51,36 @@ placed_own t c p (write ∷ writes) placed key some = cases (is_for_part c p wri
 
 -- ---- one part
 
-module _ {S : Type 0} (tells : S → CellMap → Type 0) (t : Topology) where
-  empty_begins : (next : List Write) (at : StatePart S) → IsEmpty tells at → PartIsAt tells t 0 [] next at
+module _ {S : Type 0} (tells : S → CellMap → Type 0) (t : Topology) (custom : Custom) where
+  empty_begins : (next : List Write) (at : StatePart S) → IsEmpty tells at → PartIsAt tells t custom 0 [] next at
   empty_begins next at empty = record {
     cells = [];
     told = empty;
-    stands = Stands-none at.over.kind at.over.by (tasks_of t at.component) at.part (own_writes next at);
+    stands = Stands-none at.over.kind (folded custom at.over.by) (tasks_of t at.component) at.part (own_writes next at);
     within = λ key cell holds. absurd holds.bytes;
   }
 
-  pub all_begin : (next : List Write) (parts : List (StatePart S)) → All (IsEmpty tells) parts → AllAreAt tells t 0 [] next parts
-  all_begin next parts empty = All-weaker (IsEmpty tells) (PartIsAt tells t 0 [] next) (λ at is. empty_begins next at is) parts empty
+  pub all_begin : (next : List Write) (parts : List (StatePart S)) → All (IsEmpty tells) parts → AllAreAt tells t custom 0 [] next parts
+  all_begin next parts empty = All-weaker (IsEmpty tells) (PartIsAt tells t custom 0 [] next) (λ at is. empty_begins next at is) parts empty
 
-  stands_too : (n : ℕ) (done next : List Write) (at : StatePart S) → PartIsAt tells t n done next at → PartStands tells t n done next at
+  stands_too : (n : ℕ) (done next : List Write) (at : StatePart S) → PartIsAt tells t custom n done next at → PartStands tells t custom n done next at
   stands_too n done next at is = record { cells = is.cells; told = is.told; stands = is.stands }
 
-  pub all_stand : (n : ℕ) (done next : List Write) (parts : List (StatePart S)) → AllAreAt tells t n done next parts → AllStand tells t n done next parts
-  all_stand n done next parts are = All-weaker (PartIsAt tells t n done next) (PartStands tells t n done next) (λ at is. stands_too n done next at is) parts are
+  pub all_stand : (n : ℕ) (done next : List Write) (parts : List (StatePart S)) → AllAreAt tells t custom n done next parts → AllStand tells t custom n done next parts
+  all_stand n done next parts are = All-weaker (PartIsAt tells t custom n done next) (PartStands tells t custom n done next) (λ at is. stands_too n done next at is) parts are
 
   -- how a part stands by its numbers, kind and fold alone
   abbrev StandsBy : ℕ → List Write → List Write → (List ℕ → Option (List ℕ)) → PartPlan → Type 0
-  StandsBy n done next held p = Stands p.kind p.by (tasks_of t p.component) p.part n (filter (is_for_part p.component p.part) done) (filter (is_for_part p.component p.part) next) held
+  StandsBy n done next held p = Stands p.kind (folded custom p.by) (tasks_of t p.component) p.part n (filter (is_for_part p.component p.part) done) (filter (is_for_part p.component p.part) next) held
 
-  one_moved : (n : ℕ) (root : Root) (next_is : root.txid ≡ n + 1) (done next more : List Write) (old new : StatePart S) → ArePlaced t next → PartStands tells t n done next old → Committed tells root (own_writes next old) old new → PartIsAt tells t (n + 1) (done ++ next) more new
+  one_moved : (n : ℕ) (root : Root) (next_is : root.txid ≡ n + 1) (done next more : List Write) (old new : StatePart S) → ArePlaced t next → PartStands tells t custom n done next old → Committed tells custom root (own_writes next old) old new → PartIsAt tells t custom (n + 1) (done ++ next) more new
   one_moved n root next_is done next more old new placed stands committed =
       let x = committed.turns.to stands.cells stands.told in
-      let moved = Stands-moved old.over.kind old.over.by (tasks_of t old.component) old.part n root next_is (own_writes done old) (own_writes next old) (cell_at stands.cells) (cell_at x.0) (own_writes more old) stands.stands
+      let moved = Stands-moved old.over.kind (folded custom old.over.by) (tasks_of t old.component) old.part n root next_is (own_writes done old) (own_writes next old) (cell_at stands.cells) (cell_at x.0) (own_writes more old) stands.stands
       (placed_own t old.component old.part next placed) x.2 in
       let joined : own_writes done old ++ own_writes next old ≡ own_writes (done ++ next) old = sym (filter-append (is_for_part old.component old.part) done next) in
       let as_old : StandsBy (n + 1) (done ++ next) more (cell_at x.0) (plan_of old) =
-      subst (λ (ws : List Write). Stands old.over.kind old.over.by (tasks_of t old.component) old.part (n + 1) ws (own_writes more old) (cell_at x.0)) joined moved.0 in
+      subst (λ (ws : List Write). Stands old.over.kind (folded custom old.over.by) (tasks_of t old.component) old.part (n + 1) ws (own_writes more old) (cell_at x.0)) joined moved.0 in
       record {
         cells = x.0;
         told = x.1;
@@ -86,11 +88,11 @@ module _ {S : Type 0} (tells : S → CellMap → Type 0) (t : Topology) where
         within = subst (λ (p : PartPlan). IsWithin p.kind (n + 1) (cell_at x.0)) (sym committed.plan) moved.1;
       }
 
-  one_begun : (n : ℕ) (root : Root) (next_is : root.txid ≡ n + 1) (done next : List Write) (old new : StatePart S) → ArePlaced t next → PartStands tells t n done next old → PerhapsCommitted tells root (own_writes next old) old new → PartStands tells t n done next new
+  one_begun : (n : ℕ) (root : Root) (next_is : root.txid ≡ n + 1) (done next : List Write) (old new : StatePart S) → ArePlaced t next → PartStands tells t custom n done next old → PerhapsCommitted tells custom root (own_writes next old) old new → PartStands tells t custom n done next new
   one_begun n root next_is done next old new placed stands committed =
       let x = committed.turns.to stands.cells stands.told in
       let as_old : StandsBy n done next (cell_at x.0) (plan_of old) =
-      Stands-begun old.over.kind old.over.by (tasks_of t old.component) old.part n root next_is (own_writes done old) (own_writes next old) (cell_at stands.cells) (cell_at x.0) stands.stands
+      Stands-begun old.over.kind (folded custom old.over.by) (tasks_of t old.component) old.part n root next_is (own_writes done old) (own_writes next old) (cell_at stands.cells) (cell_at x.0) stands.stands
       (placed_own t old.component old.part next placed) x.2 in
       record {
         cells = x.0;
@@ -99,18 +101,18 @@ module _ {S : Type 0} (tells : S → CellMap → Type 0) (t : Topology) where
       }
 
   module _ (n : ℕ) (root : Root) (next_is : root.txid ≡ n + 1) (done next : List Write) (placed : ArePlaced t next) where
-    pub all_moved : (more : List Write) (old new : List (StatePart S)) → AllStand tells t n done next old → AreCommitted tells root next old new → AllAreAt tells t (n + 1) (done ++ next) more new
-    all_moved more [] [] stand committed = All-nil (PartIsAt tells t (n + 1) (done ++ next) more)
+    pub all_moved : (more : List Write) (old new : List (StatePart S)) → AllStand tells t custom n done next old → AreCommitted tells custom root next old new → AllAreAt tells t custom (n + 1) (done ++ next) more new
+    all_moved more [] [] stand committed = All-nil (PartIsAt tells t custom (n + 1) (done ++ next) more)
     all_moved more [] (y ∷ new) stand committed = absurd committed
     all_moved more (x ∷ old) [] stand committed = absurd committed
     all_moved more (x ∷ old) (y ∷ new) stand committed =
-        All-cons (PartIsAt tells t (n + 1) (done ++ next) more) y new (one_moved n root next_is done next more x y placed (All-head (PartStands tells t n done next) x old stand) committed.0)
-        (all_moved more old new (All-tail (PartStands tells t n done next) x old stand) committed.1)
+        All-cons (PartIsAt tells t custom (n + 1) (done ++ next) more) y new (one_moved n root next_is done next more x y placed (All-head (PartStands tells t custom n done next) x old stand) committed.0)
+        (all_moved more old new (All-tail (PartStands tells t custom n done next) x old stand) committed.1)
 
-    pub all_begun : (old new : List (StatePart S)) → AllStand tells t n done next old → ArePerhapsCommitted tells root next old new → AllStand tells t n done next new
-    all_begun [] [] stand committed = All-nil (PartStands tells t n done next)
+    pub all_begun : (old new : List (StatePart S)) → AllStand tells t custom n done next old → ArePerhapsCommitted tells custom root next old new → AllStand tells t custom n done next new
+    all_begun [] [] stand committed = All-nil (PartStands tells t custom n done next)
     all_begun [] (y ∷ new) stand committed = absurd committed
     all_begun (x ∷ old) [] stand committed = absurd committed
     all_begun (x ∷ old) (y ∷ new) stand committed =
-        All-cons (PartStands tells t n done next) y new (one_begun n root next_is done next x y placed (All-head (PartStands tells t n done next) x old stand) committed.0)
-        (all_begun old new (All-tail (PartStands tells t n done next) x old stand) committed.1)
+        All-cons (PartStands tells t custom n done next) y new (one_begun n root next_is done next x y placed (All-head (PartStands tells t custom n done next) x old stand) committed.0)
+        (all_begun old new (All-tail (PartStands tells t custom n done next) x old stand) committed.1)

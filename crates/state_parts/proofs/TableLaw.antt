@@ -7,6 +7,7 @@ use Rattle.std.specs.List.{AllZip, cons_option, filter_map, flat_map, range_with
 use Rattle.std.specs.Option.{option_and_then, option_map_or, option_or}
 use Rattle.std.specs.Str.{bytes_eq}
 use Rattle.std.specs.Cmp.Lexicographic.{bytes_decides}
+use Rattle.tree_model.specs.bolt_ops.RowOp.{Custom}
 use Rattle.tree_model.specs.storm_values.Keys.{hash_of}
 use Rattle.storm_stores.specs.CellMaps.{CellMap, cell_at}
 use Rattle.tree_model.specs.topology_plan.declared.parts.Body.{Body}
@@ -19,7 +20,7 @@ use Rattle.tree_model.specs.topology_plan.Topology.{Topology, tasks_of}
 use Rattle.tree_model.specs.topology_plan.Wired.{IsComponent, IsWired}
 use Rattle.tree_model.specs.declared.write.Table.{Table}
 use Rattle.tree_model.specs.declared.write.Write.{Write}
-use Rattle.tree_model.specs.Tables.{AreTables, IsTableOf, StateOf, amounts_of, base, state_at, state_by, states_of}
+use Rattle.tree_model.specs.Tables.{Folding, folded, AreTables, IsTableOf, StateOf, amounts_of, base, state_at, state_by, states_of}
 use Rattle.cell_format.specs.Commits.{Holds, amounts_at, value_after}
 use Rattle.cell_format.specs.Standing.{CellStands, IsKeyOf, KeyStands}
 use Rattle.cell_format.specs.declared.cell.Cell.{Cell}
@@ -235,10 +236,10 @@ or_here None b v one is = is
 or_here (Some x) b v (inl none) is = absurd (none-some x (sym none))
 or_here (Some x) b v (inr same) is = same
 
-module _ (done : List Write) (c : ℕ) (key : List ℕ) where
+module _ (custom : Custom) (done : List Write) (c : ℕ) (key : List ℕ) where
   -- what a part of the state has for the key
   abbrev has : PartPlan → Option ℤ
-  has p = cond (p.component == c) (value_after p.by (amounts_at (filter (is_for_part p.component p.part) done) key) None) None
+  has p = cond (p.component == c) (value_after (folded custom p.by) (amounts_at (filter (is_for_part p.component p.part) done) key) None) None
 
   abbrev together : List PartPlan → Option ℤ
   together [] = None
@@ -261,17 +262,17 @@ below : (h parts part tasks : ℕ) → h % parts ≡ part → parts ≡ tasks �
 below h parts part tasks is same least = let positive : 0 < parts = omega arith in omega arith
 
 -- the planned parts of a topology have together what is written for a key of a state
-module _ (t : Topology) (done : List Write) (wired : IsWired t) (placed : ArePlaced t done) (one : HaveOnePart done) (c : ℕ) (key : List ℕ) (component : Component) (spec : StateSpec) (there : slice_get t.components c ≡ Some component) (body : component.body ≡ State spec) where
+module _ (t : Topology) (custom : Custom) (done : List Write) (wired : IsWired t) (placed : ArePlaced t done) (one : HaveOnePart done) (c : ℕ) (key : List ℕ) (component : Component) (spec : StateSpec) (there : slice_get t.components c ≡ Some component) (body : component.body ≡ State spec) where
   of_one : (w : Write) → IsWriteOf done c key w → (u : Write) → IsWriteOf done c key u → u.part ≡ w.part
   of_one w w_is u u_is = one u w (in_contains u done u_is.there) (in_contains w done w_is.there) (u_is.state ∙ sym w_is.state) (u_is.key_is ∙ sym w_is.key_is)
 
   has_all : (part : ℕ) (w : Write) → IsWriteOf done c key w → w.part ≡ part → amounts_at (filter (is_for_part c part) done) key ≡ amounts_of done c key
   has_all part w is at = all_own c key part done (λ u u_is. of_one w is u u_is ∙ at)
 
-  each_part : (p : PartPlan) → IsIn p (planned_parts t) → (has done c key p ≡ None) ⊎ (has done c key p ≡ base spec.fold done c key)
+  each_part : (p : PartPlan) → IsIn p (planned_parts t) → (has custom done c key p ≡ None) ⊎ (has custom done c key p ≡ base (folded custom spec.fold) done c key)
   each_part p is = ⊎_elim own other (cases_eq p.component c)
     where
-      other : (p.component ≡ c → ⊥) → (has done c key p ≡ None) ⊎ (has done c key p ≡ base spec.fold done c key)
+      other : (p.component ≡ c → ⊥) → (has custom done c key p ≡ None) ⊎ (has custom done c key p ≡ base (folded custom spec.fold) done c key)
       other differs = inl (let apart : (p.component == c) ≡ false = ne_eqb p.component c differs in rw apart refl)
 
       by_is : p.component ≡ c → p.by ≡ spec.fold
@@ -282,32 +283,32 @@ module _ (t : Topology) (done : List Write) (wired : IsWired t) (placed : ArePla
           let specs : from.spec ≡ spec = cc in
           from.by_is ∙ ap (λ (s : StateSpec). s.fold) specs
 
-      value : p.component ≡ c → has done c key p ≡ value_after spec.fold (amounts_at (filter (is_for_part c p.part) done) key) None
+      value : p.component ≡ c → has custom done c key p ≡ value_after (folded custom spec.fold) (amounts_at (filter (is_for_part c p.part) done) key) None
       value same =
           let here : (p.component == c) ≡ true = eq-eqb p.component c same in
-          ap (λ (b : Bool). cond b (value_after p.by (amounts_at (filter (is_for_part p.component p.part) done) key) None) None) here
-          ∙ ap (λ (f : Fold). value_after f (amounts_at (filter (is_for_part p.component p.part) done) key) None) (by_is same)
-          ∙ ap (λ (n : ℕ). value_after spec.fold (amounts_at (filter (is_for_part n p.part) done) key) None) same
+          ap (λ (b : Bool). cond b (value_after (folded custom p.by) (amounts_at (filter (is_for_part p.component p.part) done) key) None) None) here
+          ∙ ap (λ (f : Fold). value_after (folded custom f) (amounts_at (filter (is_for_part p.component p.part) done) key) None) (by_is same)
+          ∙ ap (λ (n : ℕ). value_after (folded custom spec.fold) (amounts_at (filter (is_for_part n p.part) done) key) None) same
 
-      own : p.component ≡ c → (has done c key p ≡ None) ⊎ (has done c key p ≡ base spec.fold done c key)
+      own : p.component ≡ c → (has custom done c key p ≡ None) ⊎ (has custom done c key p ≡ base (folded custom spec.fold) done c key)
       own same =
-          ⊎_elim (λ (none : amounts_at (filter (is_for_part c p.part) done) key ≡ []). inl (value same ∙ ap (λ (amounts : List ℤ). value_after spec.fold amounts None) none))
-          (λ (some : (w : Write) × IsWriteOf done c key w × (w.part ≡ p.part)). inr (value same ∙ ap (λ (amounts : List ℤ). value_after spec.fold amounts None) (has_all p.part some.0 some.1 some.2)))
+          ⊎_elim (λ (none : amounts_at (filter (is_for_part c p.part) done) key ≡ []). inl (value same ∙ ap (λ (amounts : List ℤ). value_after (folded custom spec.fold) amounts None) none))
+          (λ (some : (w : Write) × IsWriteOf done c key w × (w.part ≡ p.part)). inr (value same ∙ ap (λ (amounts : List ℤ). value_after (folded custom spec.fold) amounts None) (has_all p.part some.0 some.1 some.2)))
           (own_write c key p.part done)
 
   tasks_are : tasks_of t c ≡ component.tasks
   tasks_are = ap (λ (o : Option Component). option_map_or (λ (x : Component). x.tasks) o 0) there
 
-  pub together_is : together done c key (planned_parts t) ≡ base spec.fold done c key
+  pub together_is : together custom done c key (planned_parts t) ≡ base (folded custom spec.fold) done c key
   together_is = ⊎_elim none some (some_write c key done)
     where
-      none : amounts_of done c key ≡ [] → together done c key (planned_parts t) ≡ base spec.fold done c key
+      none : amounts_of done c key ≡ [] → together custom done c key (planned_parts t) ≡ base (folded custom spec.fold) done c key
       none empty =
-          let value : base spec.fold done c key ≡ None = ap (λ (amounts : List ℤ). value_after spec.fold amounts None) empty in
-          ⊎_elim (λ (no : together done c key (planned_parts t) ≡ None). no ∙ sym value) (λ (same : together done c key (planned_parts t) ≡ base spec.fold done c key). same)
-          (at_most done c key (base spec.fold done c key) (planned_parts t) each_part)
+          let value : base (folded custom spec.fold) done c key ≡ None = ap (λ (amounts : List ℤ). value_after (folded custom spec.fold) amounts None) empty in
+          ⊎_elim (λ (no : together custom done c key (planned_parts t) ≡ None). no ∙ sym value) (λ (same : together custom done c key (planned_parts t) ≡ base (folded custom spec.fold) done c key). same)
+          (at_most custom done c key (base (folded custom spec.fold) done c key) (planned_parts t) each_part)
 
-      some : (w : Write) × IsWriteOf done c key w → together done c key (planned_parts t) ≡ base spec.fold done c key
+      some : (w : Write) × IsWriteOf done c key w → together custom done c key (planned_parts t) ≡ base (folded custom spec.fold) done c key
       some found =
           let own : IsKeyOf (tasks_of t found.0.state) found.0.part found.0.key = All-contains (IsPlaced t) done found.0 placed (in_contains found.0 done found.1.there) in
           let tasks : tasks_of t found.0.state ≡ component.tasks = ap (tasks_of t) found.1.state ∙ tasks_are in
@@ -315,29 +316,29 @@ module _ (t : Topology) (done : List Write) (wired : IsWired t) (placed : ArePla
           let least : 1 ≤ component.tasks = wide.tasks.0 in
           let within : found.0.part < component.tasks = below (hash_of own.values) (tasks_of t found.0.state) found.0.part component.tasks own.place tasks least in
           let here : (c == c) ≡ true = eq-eqb c c refl in
-          let value : has done c key (part_by c spec.kind spec.fold found.0.part) ≡ base spec.fold done c key =
-          ap (λ (b : Bool). cond b (value_after spec.fold (amounts_at (filter (is_for_part c found.0.part) done) key) None) None) here
-          ∙ ap (λ (amounts : List ℤ). value_after spec.fold amounts None) (has_all found.0.part found.0 found.1 refl) in
-          reached done c key (base spec.fold done c key) (planned_parts t) (part_by c spec.kind spec.fold found.0.part) each_part (has_planned t c found.0.part component spec there body within) value
+          let value : has custom done c key (part_by c spec.kind spec.fold found.0.part) ≡ base (folded custom spec.fold) done c key =
+          ap (λ (b : Bool). cond b (value_after (folded custom spec.fold) (amounts_at (filter (is_for_part c found.0.part) done) key) None) None) here
+          ∙ ap (λ (amounts : List ℤ). value_after (folded custom spec.fold) amounts None) (has_all found.0.part found.0 found.1 refl) in
+          reached custom done c key (base (folded custom spec.fold) done c key) (planned_parts t) (part_by c spec.kind spec.fold found.0.part) each_part (has_planned t c found.0.part component spec there body within) value
 
 -- ---- the parts over their stores
 
 -- the maps of the parts, and what they have for each key
-record Maps {S : Type 0} (tells : S → CellMap → Type 0) (done : List Write) (parts : List (StatePart S)) : Type 0 where
+record Maps {S : Type 0} (tells : S → CellMap → Type 0) (custom : Custom) (done : List Write) (parts : List (StatePart S)) : Type 0 where
   maps : List CellMap
   told : Tell tells parts maps
-  values : (c : ℕ) (key : List ℕ) → value_among c (components_of parts) maps key ≡ together done c key (plans_of parts)
+  values : (c : ℕ) (key : List ℕ) → value_among c (components_of parts) maps key ≡ together custom done c key (plans_of parts)
 
 -- what a state's number says
-record IsState (t : Topology) (s : StateOf) : Type 0 where
+record IsState (t : Topology) (custom : Custom) (s : StateOf) : Type 0 where
   component : Component
   spec : StateSpec
   there : slice_get t.components s.number ≡ Some component
   body : component.body ≡ State spec
-  by_is : s.by ≡ spec.fold
+  by_is : s.by ≡ folded custom spec.fold
 
-module _ {S : Type 0} (tells : S → CellMap → Type 0) (t : Topology) (n : ℕ) (done next : List Write) where
-  key_value : (kind : Kind) (by : Fold) (v : Option ℤ) (amounts : List ℤ) (held : Option (List ℕ)) → KeyStands kind by n v amounts held → ((cell : Cell) → Holds kind held (Some cell) → cell.txid ≤ n) → value_in held ≡ v
+module _ {S : Type 0} (tells : S → CellMap → Type 0) (t : Topology) (custom : Custom) (n : ℕ) (done next : List Write) where
+  key_value : (kind : Kind) (by : Folding) (v : Option ℤ) (amounts : List ℤ) (held : Option (List ℕ)) → KeyStands kind by n v amounts held → ((cell : Cell) → Holds kind held (Some cell) → cell.txid ≤ n) → value_in held ≡ v
   key_value kind by v amounts held stands within = cases held stands.cell stands.is stands.stands within
     where
       cases : (h : Option (List ℕ)) (cell : Option Cell) → Holds kind h cell → CellStands kind by n v amounts cell → ((c : Cell) → Holds kind h (Some c) → c.txid ≤ n) → value_in h ≡ v
@@ -347,55 +348,55 @@ module _ {S : Type 0} (tells : S → CellMap → Type 0) (t : Topology) (n : ℕ
       cases (Some bytes) (Some cell) is (inl at) low = ap (λ (d : Cell). d.value) (read_of-bytes cell bytes is.good.is is.bytes) ∙ at.1
       cases (Some bytes) (Some cell) is (inr later) low = absurd (let small = low cell is in let high = later.0 in omega arith)
 
-  maps_of : (parts : List (StatePart S)) → AllAreAt tells t n done next parts → Maps tells done parts
+  maps_of : (parts : List (StatePart S)) → AllAreAt tells t custom n done next parts → Maps tells custom done parts
   maps_of [] are = record { maps = []; told = tt; values = λ c key. refl }
   maps_of (at ∷ parts) are =
-      let rest = maps_of parts (All-tail (PartIsAt tells t n done next) at parts are) in
-      let here = All-head (PartIsAt tells t n done next) at parts are in
+      let rest = maps_of parts (All-tail (PartIsAt tells t custom n done next) at parts are) in
+      let here = All-head (PartIsAt tells t custom n done next) at parts are in
       record {
         maps = here.cells ∷ rest.maps;
         told = (here.told, rest.told);
         values = λ c key.
-            let value : value_in (cell_at here.cells key) ≡ value_after at.over.by (amounts_at (own_writes done at) key) None =
-            key_value at.over.kind at.over.by (value_after at.over.by (amounts_at (own_writes done at) key) None) (amounts_at (own_writes next at) key) (cell_at here.cells key) (here.stands.keys key) (λ cell holds. here.within key cell holds) in
+            let value : value_in (cell_at here.cells key) ≡ value_after (folded custom at.over.by) (amounts_at (own_writes done at) key) None =
+            key_value at.over.kind (folded custom at.over.by) (value_after (folded custom at.over.by) (amounts_at (own_writes done at) key) None) (amounts_at (own_writes next at) key) (cell_at here.cells key) (here.stands.keys key) (λ cell holds. here.within key cell holds) in
             ap (λ (o : Option ℤ). option_or o (value_for c at.component here.cells key)) (rest.values c key)
-            ∙ ap (λ (o : Option ℤ). option_or (together done c key (plans_of parts)) (cond (at.component == c) o None)) value;
+            ∙ ap (λ (o : Option ℤ). option_or (together custom done c key (plans_of parts)) (cond (at.component == c) o None)) value;
       }
 
-  state_numbered : (a m : ℕ) (s : StateOf) → IsIn s (filter_map (state_at t) (range_with_len a m)) → state_at t s.number ≡ Some s
+  state_numbered : (a m : ℕ) (s : StateOf) → IsIn s (filter_map (state_at t custom) (range_with_len a m)) → state_at t custom s.number ≡ Some s
   state_numbered a zero s is = absurd is
-  state_numbered a (suc m) s is = cases (state_at t a) refl is (state_numbered (a + 1) m s)
+  state_numbered a (suc m) s is = cases (state_at t custom a) refl is (state_numbered (a + 1) m s)
     where
-      number_by : (k : ℕ) (component : Component) (body : Body) (x : StateOf) → state_by k component body ≡ Some x → x.number ≡ k
+      number_by : (k : ℕ) (component : Component) (body : Body) (x : StateOf) → state_by custom k component body ≡ Some x → x.number ≡ k
       number_by k component (Bolt op) x found = absurd (none-some x found)
       number_by k component (State spec) x found = ap (λ (s : StateOf). s.number) (sym (same_Some _ _ found))
 
-      number_at : (o : Option Component) (k : ℕ) (x : StateOf) → option_and_then (λ (component : Component). state_by k component component.body) o ≡ Some x → x.number ≡ k
+      number_at : (o : Option Component) (k : ℕ) (x : StateOf) → option_and_then (λ (component : Component). state_by custom k component component.body) o ≡ Some x → x.number ≡ k
       number_at None k x found = absurd (none-some x found)
       number_at (Some component) k x found = number_by k component component.body x found
 
-      cases : (o : Option StateOf) → state_at t a ≡ o → IsIn s (cons_option o (filter_map (state_at t) (range_with_len (a + 1) m))) → (IsIn s (filter_map (state_at t) (range_with_len (a + 1) m)) → state_at t s.number ≡ Some s) → state_at t s.number ≡ Some s
+      cases : (o : Option StateOf) → state_at t custom a ≡ o → IsIn s (cons_option o (filter_map (state_at t custom) (range_with_len (a + 1) m))) → (IsIn s (filter_map (state_at t custom) (range_with_len (a + 1) m)) → state_at t custom s.number ≡ Some s) → state_at t custom s.number ≡ Some s
       cases None at is rest = rest is
-      cases (Some x) at (inl same) rest = ap (state_at t) (ap (λ (y : StateOf). y.number) same ∙ number_at (slice_get t.components a) a x at) ∙ at ∙ ap Some (sym same)
+      cases (Some x) at (inl same) rest = ap (state_at t custom) (ap (λ (y : StateOf). y.number) same ∙ number_at (slice_get t.components a) a x at) ∙ at ∙ ap Some (sym same)
       cases (Some x) at (inr later) rest = rest later
 
-  state_is : (s : StateOf) → state_at t s.number ≡ Some s → IsState t s
+  state_is : (s : StateOf) → state_at t custom s.number ≡ Some s → IsState t custom s
   state_is s found = cases (slice_get t.components s.number) refl found
     where
-      body_is : (component : Component) (body : Body) → slice_get t.components s.number ≡ Some component → component.body ≡ body → state_by s.number component body ≡ Some s → IsState t s
+      body_is : (component : Component) (body : Body) → slice_get t.components s.number ≡ Some component → component.body ≡ body → state_by custom s.number component body ≡ Some s → IsState t custom s
       body_is component (Bolt op) there same at = absurd (none-some s at)
       body_is component (State spec) there same at = record { component = component; spec = spec; there = there; body = same; by_is = ap (λ (x : StateOf). x.by) (sym (same_Some _ _ at)) }
 
-      cases : (o : Option Component) → slice_get t.components s.number ≡ o → option_and_then (λ (component : Component). state_by s.number component component.body) o ≡ Some s → IsState t s
+      cases : (o : Option Component) → slice_get t.components s.number ≡ o → option_and_then (λ (component : Component). state_by custom s.number component component.body) o ≡ Some s → IsState t custom s
       cases None there at = absurd (none-some s at)
       cases (Some component) there at = body_is component component.body there refl at
 
   -- the tables of parts that stand are those of the writes
-  pub tables_are : (parts : List (StatePart S)) (tables : List Table) → IsWired t → AreParts t parts → ArePlaced t done → HaveOnePart done → AllAreAt tells t n done next parts
-      → AllZip (IsTableOver tells parts) (states_of t) tables → AreTables t done tables
-  tables_are parts tables wired planned placed one are zipped = zip_weaker (IsTableOver tells parts) (IsTableOf done) (states_of t) tables each zipped
+  pub tables_are : (parts : List (StatePart S)) (tables : List Table) → IsWired t → AreParts t parts → ArePlaced t done → HaveOnePart done → AllAreAt tells t custom n done next parts
+      → AllZip (IsTableOver tells parts) (states_of t custom) tables → AreTables t custom done tables
+  tables_are parts tables wired planned placed one are zipped = zip_weaker (IsTableOver tells parts) (IsTableOf done) (states_of t custom) tables each zipped
     where
-      each : (s : StateOf) (table : Table) → IsIn s (states_of t) → IsTableOver tells parts s table → IsTableOf done s table
+      each : (s : StateOf) (table : Table) → IsIn s (states_of t custom) → IsTableOver tells parts s table → IsTableOf done s table
       each s table listed over =
           let of = state_is s (state_numbered 0 (length t.components) s listed) in
           record {
@@ -405,8 +406,8 @@ module _ {S : Type 0} (tells : S → CellMap → Type 0) (t : Topology) (n : ℕ
               values = λ key.
                   over.values (maps_of parts are).maps (maps_of parts are).told key
                   ∙ (maps_of parts are).values s.number key
-                  ∙ ap (together done s.number key) planned
-                  ∙ together_is t done wired placed one s.number key of.component of.spec of.there of.body
-                  ∙ ap (λ (f : Fold). base f done s.number key) (sym of.by_is);
+                  ∙ ap (together custom done s.number key) planned
+                  ∙ together_is t custom done wired placed one s.number key of.component of.spec of.there of.body
+                  ∙ ap (λ (f : Folding). base f done s.number key) (sym of.by_is);
             };
           }

@@ -15,6 +15,7 @@ use Rattle.std.specs.Map.{keys_of, lookup, update}
 use Rattle.std.specs.Option.{option_and_then, option_map, option_or}
 use Rattle.std.specs.Ordering.{nat_cmp}
 use Rattle.std.specs.Str.{bytes_eq}
+use Rattle.tree_model.specs.bolt_ops.RowOp.{Custom}
 use Rattle.tree_model.specs.storm_values.Counts.{raised}
 use Rattle.storm_stores.specs.CellMaps.{CellMap, cell_at}
 use Rattle.tree_model.specs.topology_plan.declared.parts.Component.{Component}
@@ -374,11 +375,11 @@ module _ {S : Type 0} (tells : S → CellMap → Type 0) (count : S → ℕ) whe
   one_more n = sym (map-id (range_with_len 0 (n + 1))) ∙ map-range_with_len_more (λ (k : ℕ). k) 0 n n (omega arith) ∙ ap (λ (ks : List ℕ). ks ++ n ∷ []) (map-id (range_with_len 0 n))
 
   -- one more component in the list of tables
-  pub tables_more : (t : Topology) (old now : List (StatePart S)) (n : ℕ) (component : Component) (before after : List Table) → slice_get t.components n ≡ Some component → AreRead tells count old now
-      → AddsTableOver tells now (state_by n component component.body) before after → AllZip (IsTableOver tells old) (filter_map (state_at t) (range_with_len 0 n)) before
-      → AllZip (IsTableOver tells old) (filter_map (state_at t) (range_with_len 0 (n + 1))) after
-  tables_more t old now n component before after there all adds zipped =
-      let at : state_at t n ≡ state_by n component component.body = ap (option_and_then (λ (c : Component). state_by n c c.body)) there in
-      let more : filter_map (state_at t) (range_with_len 0 (n + 1)) ≡ filter_map (state_at t) (range_with_len 0 n) ++ cons_option (state_at t n) [] =
-      ap (filter_map (state_at t)) (one_more n) ∙ filter_map-append (state_at t) (range_with_len 0 n) (n ∷ []) in
-      rw more (zip_added old now (state_at t n) (filter_map (state_at t) (range_with_len 0 n)) before after all (rw at adds) zipped)
+  pub tables_more : (t : Topology) (custom : Custom) (old now : List (StatePart S)) (n : ℕ) (component : Component) (before after : List Table) → slice_get t.components n ≡ Some component → AreRead tells count old now
+      → AddsTableOver tells now (state_by custom n component component.body) before after → AllZip (IsTableOver tells old) (filter_map (state_at t custom) (range_with_len 0 n)) before
+      → AllZip (IsTableOver tells old) (filter_map (state_at t custom) (range_with_len 0 (n + 1))) after
+  tables_more t custom old now n component before after there all adds zipped =
+      let at : state_at t custom n ≡ state_by custom n component component.body = ap (option_and_then (λ (c : Component). state_by custom n c c.body)) there in
+      let more : filter_map (state_at t custom) (range_with_len 0 (n + 1)) ≡ filter_map (state_at t custom) (range_with_len 0 n) ++ cons_option (state_at t custom n) [] =
+      ap (filter_map (state_at t custom)) (one_more n) ∙ filter_map-append (state_at t custom) (range_with_len 0 n) (n ∷ []) in
+      rw more (zip_added old now (state_at t custom n) (filter_map (state_at t custom) (range_with_len 0 n)) before after all (rw at adds) zipped)

@@ -12,7 +12,8 @@ use Rattle.tree_model.specs.storm_values.declared.value.Root.{Root}
 use Rattle.tree_model.specs.storm_values.Lines.{first_some}
 use Rattle.tree_model.specs.storm_values.Counts.{raised}
 use Rattle.storm_stores.specs.CellMaps.{CellMap, cell_at}
-use Rattle.tree_model.specs.topology_plan.declared.parts.Fold.{Fold}
+use Rattle.tree_model.specs.bolt_ops.RowOp.{Custom}
+use Rattle.tree_model.specs.Tables.{Folding, folded}
 use Rattle.tree_model.specs.topology_plan.declared.parts.Kind.{Kind}
 use Rattle.cell_format.specs.Commits.{IsDone, IsPerhapsDone, amounts_at}
 use Rattle.cell_format.proofs.CommitLemmas.{perhaps_if_done}
@@ -118,7 +119,7 @@ part_there xs ys c p b a told =
 -- ---- the trial of a part
 
 -- The amounts that are written for a key are those of the part's own writes.
-module _ {S : Type 0} (tells : S → CellMap → Type 0) (root : Root) (kind : Kind) (by : Fold) (written : List ℕ → List ℤ) (own : List Write) (same : (key : List ℕ) → written key ≡ amounts_at own key) (a b : S) where
+module _ {S : Type 0} (tells : S → CellMap → Type 0) (root : Root) (kind : Kind) (by : Folding) (written : List ℕ → List ℤ) (own : List Write) (same : (key : List ℕ) → written key ≡ amounts_at own key) (a b : S) where
   done_own : Turns tells (λ key. IsDone kind by root (written key)) a b → Turns tells (λ key. IsDone kind by root (amounts_at own key)) a b
   done_own turns = record {
     to = λ cells told.
@@ -145,18 +146,18 @@ module _ {S : Type 0} (tells : S → CellMap → Type 0) (root : Root) (kind : K
   kept_own (Ok done) ok err = done_perhaps (done_own ok)
   kept_own (Err fault) ok err = broken_own err
 
-module _ {S : Type 0} (tells : S → CellMap → Type 0) (count : S → ℕ) (root : Root) (written : List ℕ → List ℤ) (own : List Write) (same : (key : List ℕ) → written key ≡ amounts_at own key) (old new : StatePart S) (answer : Result (Unit {0}) PartFault) where
+module _ {S : Type 0} (tells : S → CellMap → Type 0) (custom : Custom) (count : S → ℕ) (root : Root) (written : List ℕ → List ℤ) (own : List Write) (same : (key : List ℕ) → written key ≡ amounts_at own key) (old new : StatePart S) (answer : Result (Unit {0}) PartFault) where
   pub trial_own : plan_of new ≡ plan_of old
-      → OnOk answer (Turns tells (λ key. IsDone old.over.kind old.over.by root (written key)) old.over.store new.over.store)
-      → OnErr answer (Turns tells (λ key. IsPerhapsDone old.over.kind old.over.by root (written key)) old.over.store new.over.store)
+      → OnOk answer (Turns tells (λ key. IsDone old.over.kind (folded custom old.over.by) root (written key)) old.over.store new.over.store)
+      → OnErr answer (Turns tells (λ key. IsPerhapsDone old.over.kind (folded custom old.over.by) root (written key)) old.over.store new.over.store)
       → (IsErrOf answer fault.Store → count new.over.store ≡ raised (count old.over.store))
       → ((IsErrOf answer fault.Store → ⊥) → count new.over.store ≡ count old.over.store)
       → ((key : List ℕ) → IsErrOf answer (fault.BadCell key) → (cells : CellMap) → tells old.over.store cells → IsBad old.over.kind (cell_at cells key))
-      → count old.over.store ≤ count new.over.store → IsTrial tells count root own (record { old = old; new = new; answer = answer })
+      → count old.over.store ≤ count new.over.store → IsTrial tells custom count root own (record { old = old; new = new; answer = answer })
   trial_own plan ok err failed quiet bad up = record {
     plan = plan;
-    done = on_ok_weaker answer (λ turns. record { plan = plan; turns = done_own tells root old.over.kind old.over.by written own same old.over.store new.over.store turns }) ok;
-    kept = record { plan = plan; turns = kept_own tells root old.over.kind old.over.by written own same old.over.store new.over.store answer ok err };
+    done = on_ok_weaker answer (λ turns. record { plan = plan; turns = done_own tells root old.over.kind (folded custom old.over.by) written own same old.over.store new.over.store turns }) ok;
+    kept = record { plan = plan; turns = kept_own tells root old.over.kind (folded custom old.over.by) written own same old.over.store new.over.store answer ok err };
     failed = failed;
     quiet = quiet;
     bad = bad;
@@ -164,24 +165,24 @@ module _ {S : Type 0} (tells : S → CellMap → Type 0) (count : S → ℕ) (ro
   }
 
 -- the first i parts were tried, and the others are as they were
-pub record Trying {S : Type 0} (tells : S → CellMap → Type 0) (count : S → ℕ) (root : Root) (writes : List Write) (i : ℕ) (old now : List (StatePart S)) (tally : Tally) : Type 0 where
+pub record Trying {S : Type 0} (tells : S → CellMap → Type 0) (custom : Custom) (count : S → ℕ) (root : Root) (writes : List Write) (i : ℕ) (old now : List (StatePart S)) (tally : Tally) : Type 0 where
   pub trials : List (Trial S)
-  pub each : All (λ trial. IsTrial tells count root (own_writes writes trial.old) trial) trials
+  pub each : All (λ trial. IsTrial tells custom count root (own_writes writes trial.old) trial) trials
   pub many : length trials ≡ i
   pub olds : map (λ (trial : Trial S). trial.old) trials ++ drop i old ≡ old
   pub news : map (λ (trial : Trial S). trial.new) trials ++ drop i old ≡ now
   pub tally_is : tally ≡ tally_of count trials
 
-module _ {S : Type 0} (tells : S → CellMap → Type 0) (count : S → ℕ) (root : Root) where
+module _ {S : Type 0} (tells : S → CellMap → Type 0) (custom : Custom) (count : S → ℕ) (root : Root) where
   -- ---- the loop over the parts
 
   module _ (writes : List Write) where
-    pub trying_first : (parts : List (StatePart S)) (tally : Tally) → tally ≡ record { no_memory = false; bad = None; failed = None } → Trying tells count root writes 0 parts parts tally
-    trying_first parts tally is = record { trials = []; each = All-nil (λ trial. IsTrial tells count root (own_writes writes trial.old) trial); many = refl; olds = refl; news = refl; tally_is = is }
+    pub trying_first : (parts : List (StatePart S)) (tally : Tally) → tally ≡ record { no_memory = false; bad = None; failed = None } → Trying tells custom count root writes 0 parts parts tally
+    trying_first parts tally is = record { trials = []; each = All-nil (λ trial. IsTrial tells custom count root (own_writes writes trial.old) trial); many = refl; olds = refl; news = refl; tally_is = is }
 
     pub trying_more : (i : ℕ) (old now : List (StatePart S)) (dealt : List GroupedWrites) (own : GroupedWrites) (was is : StatePart S) (before after : Tally) → i < length old → was ≡ get_or now i was
-        → AreDealt writes old dealt → own ≡ get_or dealt i own → ((ws : List Write) → IsGrouped ws own → Tries tells count root ws was is before after) → Trying tells count root writes i old now before
-        → Trying tells count root writes (i + 1) old (set now i is) after
+        → AreDealt writes old dealt → own ≡ get_or dealt i own → ((ws : List Write) → IsGrouped ws own → Tries tells custom count root ws was is before after) → Trying tells custom count root writes i old now before
+        → Trying tells custom count root writes (i + 1) old (set now i is) after
     trying_more i old now dealt own was is before after within read all own_read tried trying =
         let rest : drop i old ≡ get_or old i was ∷ drop (i + 1) old = drop_more old i was within in
         let olds_long : length (map (λ (trial : Trial S). trial.old) trying.trials) ≡ i = length-map trying.trials (λ (trial : Trial S). trial.old) ∙ trying.many in
@@ -191,14 +192,14 @@ module _ {S : Type 0} (tells : S → CellMap → Type 0) (count : S → ℕ) (ro
         let there : IsGrouped (own_writes writes (get_or old i was)) (get_or dealt i own) = zip_at (λ (at : StatePart S) (grouped : GroupedWrites). IsGrouped (own_writes writes at) grouped) old dealt i was own all within in
         let grouped : IsGrouped (own_writes writes was) own =
         subst (λ (g : GroupedWrites). IsGrouped (own_writes writes was) g) (sym own_read) (subst (λ (at : StatePart S). IsGrouped (own_writes writes at) (get_or dealt i own)) (sym same) there) in
-        let tries : Tries tells count root (own_writes writes was) was is before after = tried (own_writes writes was) grouped in
-        let here : IsTrial tells count root (own_writes writes was) (record { old = was; new = is; answer = tries.answer }) = tries.trial in
+        let tries : Tries tells custom count root (own_writes writes was) was is before after = tried (own_writes writes was) grouped in
+        let here : IsTrial tells custom count root (own_writes writes was) (record { old = was; new = is; answer = tries.answer }) = tries.trial in
         let old_rest : was ∷ drop (i + 1) old ≡ drop i old = ap (λ x. x ∷ drop (i + 1) old) same ∙ sym rest in
         let set_is : set now i is ≡ map (λ (trial : Trial S). trial.new) trying.trials ++ is ∷ drop (i + 1) old =
         ap (λ xs. set xs i is) now_is ∙ set_at (map (λ (trial : Trial S). trial.new) trying.trials) (get_or old i was) (drop (i + 1) old) is i news_long in
         record {
           trials = trying.trials ++ record { old = was; new = is; answer = tries.answer } ∷ [];
-          each = All-push (λ trial. IsTrial tells count root (own_writes writes trial.old) trial) trying.trials (record { old = was; new = is; answer = tries.answer }) trying.each here;
+          each = All-push (λ trial. IsTrial tells custom count root (own_writes writes trial.old) trial) trying.trials (record { old = was; new = is; answer = tries.answer }) trying.each here;
           many = length_push trying.trials (record { old = was; new = is; answer = tries.answer }) ∙ ap (λ (n : ℕ). n + 1) trying.many;
           olds = ap (λ xs. xs ++ drop (i + 1) old) (map-append (λ (t : Trial S). t.old) trying.trials (record { old = was; new = is; answer = tries.answer } ∷ []))
               ∙ append_assoc (map (λ (t : Trial S). t.old) trying.trials) (was ∷ []) (drop (i + 1) old)
@@ -210,7 +211,7 @@ module _ {S : Type 0} (tells : S → CellMap → Type 0) (count : S → ℕ) (ro
               ∙ noted_more count trying.trials (record { old = was; new = is; answer = tries.answer });
         }
 
-    pub trying_last : (i : ℕ) (old now : List (StatePart S)) (tally : Tally) → length old ≤ i → Trying tells count root writes i old now tally → AreTried tells count root writes old now tally
+    pub trying_last : (i : ℕ) (old now : List (StatePart S)) (tally : Tally) → length old ≤ i → Trying tells custom count root writes i old now tally → AreTried tells custom count root writes old now tally
     trying_last i old now tally past trying =
         let none : drop i old ≡ [] = drop_all i old past in
         record {
@@ -222,26 +223,26 @@ module _ {S : Type 0} (tells : S → CellMap → Type 0) (count : S → ℕ) (ro
         }
 
     -- parts that were lent, and what was left of them
-    pub tried_lent : (old lent new : List (StatePart S)) (n : ℕ) (tally : Tally) → lent ≡ old → n ≡ length old → length new ≡ length lent → AreTried tells count root writes lent new tally
-        → AreTried tells count root writes old (take n (new ++ drop (length new) old)) tally
+    pub tried_lent : (old lent new : List (StatePart S)) (n : ℕ) (tally : Tally) → lent ≡ old → n ≡ length old → length new ≡ length lent → AreTried tells custom count root writes lent new tally
+        → AreTried tells custom count root writes old (take n (new ++ drop (length new) old)) tally
     tried_lent old lent new n tally is many long tried =
         let same : length new ≡ length old = long ∙ ap length is in
         let left : take n (new ++ drop (length new) old) ≡ new =
         ap (λ (xs : List (StatePart S)). take n (new ++ xs)) (drop_all (length new) old (omega arith)) ∙ ap (take n) (append-nil new) ∙ take_all n new (omega arith) in
-        subst (λ (xs : List (StatePart S)). AreTried tells count root writes xs (take n (new ++ drop (length new) old)) tally) is (subst (λ (ys : List (StatePart S)). AreTried tells count root writes lent ys tally) (sym left) tried)
+        subst (λ (xs : List (StatePart S)). AreTried tells custom count root writes xs (take n (new ++ drop (length new) old)) tally) is (subst (λ (ys : List (StatePart S)). AreTried tells custom count root writes lent ys tally) (sym left) tried)
 
     -- ---- what follows of all answers
 
     abbrev Each : List (Trial S) → Type 0
-    Each trials = All (λ trial. IsTrial tells count root (own_writes writes trial.old) trial) trials
+    Each trials = All (λ trial. IsTrial tells custom count root (own_writes writes trial.old) trial) trials
 
-    head : (trial : Trial S) (trials : List (Trial S)) → Each (trial ∷ trials) → IsTrial tells count root (own_writes writes trial.old) trial
-    head trial trials each = All-head (λ trial. IsTrial tells count root (own_writes writes trial.old) trial) trial trials each
+    head : (trial : Trial S) (trials : List (Trial S)) → Each (trial ∷ trials) → IsTrial tells custom count root (own_writes writes trial.old) trial
+    head trial trials each = All-head (λ trial. IsTrial tells custom count root (own_writes writes trial.old) trial) trial trials each
 
     tail : (trial : Trial S) (trials : List (Trial S)) → Each (trial ∷ trials) → Each trials
-    tail trial trials each = All-tail (λ trial. IsTrial tells count root (own_writes writes trial.old) trial) trial trials each
+    tail trial trials each = All-tail (λ trial. IsTrial tells custom count root (own_writes writes trial.old) trial) trial trials each
 
-    trials_kept : (trials : List (Trial S)) → Each trials → ArePerhapsCommitted tells root writes (map (λ (t : Trial S). t.old) trials) (map (λ (t : Trial S). t.new) trials)
+    trials_kept : (trials : List (Trial S)) → Each trials → ArePerhapsCommitted tells custom root writes (map (λ (t : Trial S). t.old) trials) (map (λ (t : Trial S). t.new) trials)
     trials_kept [] each = tt
     trials_kept (trial ∷ trials) each = ((head trial trials each).kept, trials_kept trials (tail trial trials each))
 
@@ -272,10 +273,10 @@ module _ {S : Type 0} (tells : S → CellMap → Type 0) (count : S → ℕ) (ro
         not_done false is = cc
     one_done P (Err fault.Memory) c p b a lacks bads faileds ok is = absurd cc
 
-    trials_done : (trials : List (Trial S)) → Each trials → answer_of (tally_of count trials) ≡ Ok Done → AreCommitted tells root writes (map (λ (t : Trial S). t.old) trials) (map (λ (t : Trial S). t.new) trials)
+    trials_done : (trials : List (Trial S)) → Each trials → answer_of (tally_of count trials) ≡ Ok Done → AreCommitted tells custom root writes (map (λ (t : Trial S). t.old) trials) (map (λ (t : Trial S). t.new) trials)
     trials_done [] each is = tt
     trials_done (trial ∷ trials) each is =
-        let x = one_done (Committed tells root (own_writes writes trial.old) trial.old trial.new) trial.answer trial.old.component trial.old.part (count trial.old.over.store) (count trial.new.over.store)
+        let x = one_done (Committed tells custom root (own_writes writes trial.old) trial.old trial.new) trial.answer trial.old.component trial.old.part (count trial.old.over.store) (count trial.new.over.store)
         (list_any (λ (t : Trial S). wants_memory t.answer) trials) (map (λ (t : Trial S). bad_key t.answer) trials) (map (failure_of count) trials) (head trial trials each).done is in
         (x.0, trials_done trials (tail trial trials each) x.1)
 
@@ -314,7 +315,7 @@ module _ {S : Type 0} (tells : S → CellMap → Type 0) (count : S → ℕ) (ro
           rose = sym four ∙ rose ∙ ap raised three;
         }
 
-    one_failed : (trial : Trial S) (xs ys : List (StatePart S)) (lacks : Bool) (bads : List (Option (List ℕ))) (faileds : List (Option CommitOutcome)) (c p b a : ℕ) → IsTrial tells count root (own_writes writes trial.old) trial
+    one_failed : (trial : Trial S) (xs ys : List (StatePart S)) (lacks : Bool) (bads : List (Option (List ℕ))) (faileds : List (Option CommitOutcome)) (c p b a : ℕ) → IsTrial tells custom count root (own_writes writes trial.old) trial
         → (answer_by lacks (first_some bads) (first_some faileds) ≡ Ok (Failed c p b a) → IsFailedPart count xs ys c p b a) → (answer : Result (Unit {0}) PartFault) → trial.answer ≡ answer
         → answer_by (wants_memory answer || lacks) (first_some (bad_key answer ∷ bads)) (first_some (failure_by trial.old.component trial.old.part (count trial.old.over.store) (count trial.new.over.store) answer ∷ faileds)) ≡ Ok (Failed c p b a)
         → IsFailedPart count (trial.old ∷ xs) (trial.new ∷ ys) c p b a
@@ -341,7 +342,7 @@ module _ {S : Type 0} (tells : S → CellMap → Type 0) (count : S → ℕ) (ro
 
     -- ---- how the counts went
 
-    once : (trial : Trial S) → IsTrial tells count root (own_writes writes trial.old) trial → (answer : Result (Unit {0}) PartFault) → trial.answer ≡ answer → FailedOnceAtMost (count trial.old.over.store) (count trial.new.over.store)
+    once : (trial : Trial S) → IsTrial tells custom count root (own_writes writes trial.old) trial → (answer : Result (Unit {0}) PartFault) → trial.answer ≡ answer → FailedOnceAtMost (count trial.old.over.store) (count trial.new.over.store)
     once trial is (Ok done) same = inl (is.quiet (λ failed. cc))
     once trial is (Err fault.Store) same = inr (is.failed same)
     once trial is (Err (fault.BadCell key)) same = inl (is.quiet (λ failed. cc))
@@ -418,7 +419,7 @@ module _ {S : Type 0} (tells : S → CellMap → Type 0) (count : S → ℕ) (ro
     any_failure false (Some k) f g key is = is
     any_failure false None f g key is = absurd cc
 
-    one_bad : (trial : Trial S) (xs : List (StatePart S)) (lacks : Bool) (bads : List (Option (List ℕ))) (faileds : List (Option CommitOutcome)) (key : List ℕ) → IsTrial tells count root (own_writes writes trial.old) trial
+    one_bad : (trial : Trial S) (xs : List (StatePart S)) (lacks : Bool) (bads : List (Option (List ℕ))) (faileds : List (Option CommitOutcome)) (key : List ℕ) → IsTrial tells custom count root (own_writes writes trial.old) trial
         → (answer_by lacks (first_some bads) (first_some faileds) ≡ Err (BadCell key) → IsBadAt tells xs key) → (answer : Result (Unit {0}) PartFault) → trial.answer ≡ answer
         → answer_by (wants_memory answer || lacks) (first_some (bad_key answer ∷ bads)) (first_some (failure_by trial.old.component trial.old.part (count trial.old.over.store) (count trial.new.over.store) answer ∷ faileds)) ≡ Err (BadCell key)
         → IsBadAt tells (trial.old ∷ xs) key
@@ -442,12 +443,12 @@ module _ {S : Type 0} (tells : S → CellMap → Type 0) (count : S → ℕ) (ro
 
     -- ---- of all parts
 
-    module _ (old new : List (StatePart S)) (tally : Tally) (tried : AreTried tells count root writes old new tally) where
+    module _ (old new : List (StatePart S)) (tally : Tally) (tried : AreTried tells custom count root writes old new tally) where
       carried : (P : List (StatePart S) → List (StatePart S) → Type 0) → P (map (λ (t : Trial S). t.old) tried.trials) (map (λ (t : Trial S). t.new) tried.trials) → P old new
       carried P p = subst (λ (xs : List (StatePart S)). P xs new) tried.olds (subst (λ (ys : List (StatePart S)). P (map (λ (t : Trial S). t.old) tried.trials) ys) tried.news p)
 
-      pub tried_kept : ArePerhapsCommitted tells root writes old new
-      tried_kept = carried (λ xs ys. ArePerhapsCommitted tells root writes xs ys) (trials_kept tried.trials tried.each)
+      pub tried_kept : ArePerhapsCommitted tells custom root writes old new
+      tried_kept = carried (λ xs ys. ArePerhapsCommitted tells custom root writes xs ys) (trials_kept tried.trials tried.each)
 
       pub tried_up : NoCountFell count old new
       tried_up = carried (λ xs ys. NoCountFell count xs ys) (trials_up tried.trials tried.each)
@@ -455,8 +456,8 @@ module _ {S : Type 0} (tells : S → CellMap → Type 0) (count : S → ℕ) (ro
       pub tried_plans : plans_of new ≡ plans_of old
       tried_plans = carried (λ xs ys. plans_of ys ≡ plans_of xs) (trials_plans tried.trials tried.each)
 
-      pub tried_done : answer_of tally ≡ Ok Done → AreCommitted tells root writes old new
-      tried_done is = carried (λ xs ys. AreCommitted tells root writes xs ys) (trials_done tried.trials tried.each (ap answer_of (sym tried.tally_is) ∙ is))
+      pub tried_done : answer_of tally ≡ Ok Done → AreCommitted tells custom root writes old new
+      tried_done is = carried (λ xs ys. AreCommitted tells custom root writes xs ys) (trials_done tried.trials tried.each (ap answer_of (sym tried.tally_is) ∙ is))
 
       pub tried_failed : (c p b a : ℕ) → answer_of tally ≡ Ok (Failed c p b a) → IsFailedPart count old new c p b a
       tried_failed c p b a is = carried (λ xs ys. IsFailedPart count xs ys c p b a) (trials_failed tried.trials tried.each c p b a (ap answer_of (sym tried.tally_is) ∙ is))
@@ -471,7 +472,7 @@ module _ {S : Type 0} (tells : S → CellMap → Type 0) (count : S → ℕ) (ro
       tried_bad key is = carried (λ xs ys. IsBadAt tells xs key) (trials_bad tried.trials tried.each key (ap answer_of (sym tried.tally_is) ∙ is))
 
     -- where no part was tried
-    pub untried_kept : (parts : List (StatePart S)) → ArePerhapsCommitted tells root writes parts parts
+    pub untried_kept : (parts : List (StatePart S)) → ArePerhapsCommitted tells custom root writes parts parts
     untried_kept [] = tt
     untried_kept (at ∷ parts) = (record { plan = refl; turns = record { to = λ cells told. (cells, told, λ key. inl refl) } }, untried_kept parts)
 

@@ -2,6 +2,7 @@
 use Rattle.std.specs.Prelude.{◌≡◌, ◌||◌, ℕ, true, List, Some, Result, Ok, Err}
 use Rattle.std.specs.Option.{option_or}
 use Rattle.storm_stores.specs.CellMaps.{CellMap}
+use Rattle.tree_model.specs.bolt_ops.RowOp.{Custom}
 use Rattle.tree_model.specs.storm_values.declared.value.Root.{Root}
 use Rattle.tree_model.specs.declared.write.Write.{Write}
 use Rattle.state_cells.specs.declared.fault.PartFault.{PartFault}
@@ -30,9 +31,9 @@ joined first later = record {
 }
 
 -- a part was tried, and what it answered is noted
-pub record Tries {S : Type 0} (tells : S → CellMap → Type 0) (count : S → ℕ) (root : Root)
+pub record Tries {S : Type 0} (tells : S → CellMap → Type 0) (custom : Custom) (count : S → ℕ) (root : Root)
     (own : List Write) (old new : StatePart S) (before after : Tally) : Type 0 where
   pub answer : Result (Unit {0}) PartFault
-  pub trial : IsTrial tells count root own (record { old = old; new = new; answer = answer })
+  pub trial : IsTrial tells custom count root own (record { old = old; new = new; answer = answer })
   pub notes : after ≡ noted before answer
       (Failed old.component old.part (count old.over.store) (count new.over.store))

@@ -5,6 +5,8 @@ use Rattle.tree_model.specs.storm_values.declared.value.Root.{Root}
 use Rattle.tree_model.specs.storm_values.Lines.{first_some}
 use Rattle.tree_model.specs.storm_values.Counts.{raised}
 use Rattle.storm_stores.specs.CellMaps.{CellMap, cell_at}
+use Rattle.tree_model.specs.bolt_ops.RowOp.{Custom}
+use Rattle.tree_model.specs.Tables.{folded}
 use Rattle.tree_model.specs.declared.write.Write.{Write}
 use Rattle.cell_format.specs.Commits.{IsDone, IsPerhapsDone, amounts_at}
 use Rattle.state_cells.specs.declared.fault.PartFault.{PartFault}
@@ -32,32 +34,32 @@ own_writes writes at = filter (is_for_part at.component at.part) writes
 
 -- A part as it was, and as it is after a commit of these writes of its own, or of none: the
 -- store's cells are those of the whole commit.
-pub record Committed {S : Type 0} (tells : S → CellMap → Type 0) (root : Root) (own : List Write)
+pub record Committed {S : Type 0} (tells : S → CellMap → Type 0) (custom : Custom) (root : Root) (own : List Write)
     (old new : StatePart S) : Type 0 where
   pub plan : plan_of new ≡ plan_of old
   pub turns : Turns tells
-      (λ key. IsDone old.over.kind old.over.by root (amounts_at own key))
+      (λ key. IsDone old.over.kind (folded custom old.over.by) root (amounts_at own key))
       old.over.store new.over.store
 
 -- the same where the commit may have been broken off: each key has its old cell or the commit's
-pub record PerhapsCommitted {S : Type 0} (tells : S → CellMap → Type 0) (root : Root)
+pub record PerhapsCommitted {S : Type 0} (tells : S → CellMap → Type 0) (custom : Custom) (root : Root)
     (own : List Write) (old new : StatePart S) : Type 0 where
   pub plan : plan_of new ≡ plan_of old
   pub turns : Turns tells
-      (λ key. IsPerhapsDone old.over.kind old.over.by root (amounts_at own key))
+      (λ key. IsPerhapsDone old.over.kind (folded custom old.over.by) root (amounts_at own key))
       old.over.store new.over.store
 
 -- each part is committed with its writes of the batch
-abbrev pub AreCommitted : {S : Type 0} → (S → CellMap → Type 0) → Root → List Write
+abbrev pub AreCommitted : {S : Type 0} → (S → CellMap → Type 0) → Custom → Root → List Write
     → List (StatePart S) → List (StatePart S) → Type 0
-AreCommitted tells root writes old new =
-    AllZip (λ was is. Committed tells root (own_writes writes was) was is) old new
+AreCommitted tells custom root writes old new =
+    AllZip (λ was is. Committed tells custom root (own_writes writes was) was is) old new
 
 -- each part is committed so, or its commit was broken off
-abbrev pub ArePerhapsCommitted : {S : Type 0} → (S → CellMap → Type 0) → Root → List Write
+abbrev pub ArePerhapsCommitted : {S : Type 0} → (S → CellMap → Type 0) → Custom → Root → List Write
     → List (StatePart S) → List (StatePart S) → Type 0
-ArePerhapsCommitted tells root writes old new =
-    AllZip (λ was is. PerhapsCommitted tells root (own_writes writes was) was is) old new
+ArePerhapsCommitted tells custom root writes old new =
+    AllZip (λ was is. PerhapsCommitted tells custom root (own_writes writes was) was is) old new
 
 -- no part's store has fewer faults than before
 abbrev pub NoCountFell : {S : Type 0} → (S → ℕ) → List (StatePart S) → List (StatePart S) → Type 0
@@ -108,11 +110,11 @@ pub record Trial (S : Type 0) : Type 0 where
   pub answer : Result (Unit {0}) PartFault
 
 -- a part's commit came to this
-pub record IsTrial {S : Type 0} (tells : S → CellMap → Type 0) (count : S → ℕ) (root : Root)
+pub record IsTrial {S : Type 0} (tells : S → CellMap → Type 0) (custom : Custom) (count : S → ℕ) (root : Root)
     (own : List Write) (trial : Trial S) : Type 0 where
   pub plan : plan_of trial.new ≡ plan_of trial.old
-  pub done : OnOk trial.answer (Committed tells root own trial.old trial.new)
-  pub kept : PerhapsCommitted tells root own trial.old trial.new
+  pub done : OnOk trial.answer (Committed tells custom root own trial.old trial.new)
+  pub kept : PerhapsCommitted tells custom root own trial.old trial.new
   pub failed : IsErrOf trial.answer fault.Store
       → count trial.new.over.store ≡ raised (count trial.old.over.store)
   pub quiet : (IsErrOf trial.answer fault.Store → ⊥)
@@ -170,21 +172,21 @@ answer_of tally = answer_by tally.no_memory tally.bad tally.failed
 
 -- Each part was tried, one after another, each with its writes of the batch, and their answers
 -- came to this.
-pub record AreTried {S : Type 0} (tells : S → CellMap → Type 0) (count : S → ℕ) (root : Root)
+pub record AreTried {S : Type 0} (tells : S → CellMap → Type 0) (custom : Custom) (count : S → ℕ) (root : Root)
     (writes : List Write) (old new : List (StatePart S)) (tally : Tally) : Type 0 where
   pub trials : List (Trial S)
-  pub each : All (λ trial. IsTrial tells count root (own_writes writes trial.old) trial) trials
+  pub each : All (λ trial. IsTrial tells custom count root (own_writes writes trial.old) trial) trials
   pub olds : map (λ (trial : Trial S). trial.old) trials ≡ old
   pub news : map (λ (trial : Trial S). trial.new) trials ≡ new
   pub tally_is : tally ≡ tally_of count trials
 
 -- the answer of a commit that did not want memory: every part was tried, and this follows of
 -- what they answered
-pub record Comes {S : Type 0} (tells : S → CellMap → Type 0) (count : S → ℕ) (root : Root)
+pub record Comes {S : Type 0} (tells : S → CellMap → Type 0) (custom : Custom) (count : S → ℕ) (root : Root)
     (writes : List Write) (old new : List (StatePart S))
     (result : Result CommitOutcome CommitFault) : Type 0 where
   pub tally : Tally
-  pub tried : AreTried tells count root writes old new tally
+  pub tried : AreTried tells custom count root writes old new tally
   pub result_is : result ≡ answer_of tally
 
 -- ---- each answer alone
@@ -215,13 +217,13 @@ pub record IsBadAt {S : Type 0} (tells : S → CellMap → Type 0) (old : List (
 -- ---- all that is said of a commit
 
 -- a commit of these writes to all parts came to this answer
-pub record IsCommit {S : Type 0} (tells : S → CellMap → Type 0) (count : S → ℕ) (root : Root)
+pub record IsCommit {S : Type 0} (tells : S → CellMap → Type 0) (custom : Custom) (count : S → ℕ) (root : Root)
     (writes : List Write) (old new : List (StatePart S))
     (result : Result CommitOutcome CommitFault) : Type 0 where
   pub plans : plans_of new ≡ plans_of old
-  pub comes : (result ≡ Err Memory → ⊥) → Comes tells count root writes old new result
-  pub done : result ≡ Ok Done → AreCommitted tells root writes old new
-  pub kept : ArePerhapsCommitted tells root writes old new
+  pub comes : (result ≡ Err Memory → ⊥) → Comes tells custom count root writes old new result
+  pub done : result ≡ Ok Done → AreCommitted tells custom root writes old new
+  pub kept : ArePerhapsCommitted tells custom root writes old new
   pub failed : (component part before after : ℕ)
       → result ≡ Ok (Failed component part before after)
       → IsFailedPart count old new component part before after

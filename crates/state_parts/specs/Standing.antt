@@ -1,6 +1,8 @@
 -- When all parts stand at a number of commits. This project's own.
 use Rattle.std.specs.Prelude.{◌≡◌, ℕ, List, [], All, Contains}
+use Rattle.tree_model.specs.bolt_ops.RowOp.{Custom}
 use Rattle.tree_model.specs.topology_plan.Topology.{Topology, tasks_of}
+use Rattle.tree_model.specs.Tables.{folded}
 use Rattle.tree_model.specs.declared.write.Write.{Write}
 use Rattle.storm_stores.specs.CellMaps.{CellMap, cell_at}
 use Rattle.cell_format.specs.Standing.{IsKeyOf, IsWithin, Stands}
@@ -22,31 +24,31 @@ HaveOnePart writes =
 
 -- A part tells cells that stand at n, where `done` are the writes of the batches 1 to n and `next`
 -- those of batch n + 1, of all parts.
-pub record PartStands {S : Type 0} (tells : S → CellMap → Type 0) (t : Topology) (n : ℕ)
+pub record PartStands {S : Type 0} (tells : S → CellMap → Type 0) (t : Topology) (custom : Custom) (n : ℕ)
     (done next : List Write) (at : StatePart S) : Type 0 where
   pub cells : CellMap
   pub told : tells at.over.store cells
-  pub stands : Stands at.over.kind at.over.by (tasks_of t at.component) at.part n
+  pub stands : Stands at.over.kind (folded custom at.over.by) (tasks_of t at.component) at.part n
       (own_writes done at) (own_writes next at) (cell_at cells)
 
 -- the same where no cell has a larger transaction
-pub record PartIsAt {S : Type 0} (tells : S → CellMap → Type 0) (t : Topology) (n : ℕ)
+pub record PartIsAt {S : Type 0} (tells : S → CellMap → Type 0) (t : Topology) (custom : Custom) (n : ℕ)
     (done next : List Write) (at : StatePart S) : Type 0 where
   pub cells : CellMap
   pub told : tells at.over.store cells
-  pub stands : Stands at.over.kind at.over.by (tasks_of t at.component) at.part n
+  pub stands : Stands at.over.kind (folded custom at.over.by) (tasks_of t at.component) at.part n
       (own_writes done at) (own_writes next at) (cell_at cells)
   pub within : IsWithin at.over.kind n (cell_at cells)
 
 -- all parts stand at n
-abbrev pub AllStand : {S : Type 0} → (S → CellMap → Type 0) → Topology → ℕ → List Write
+abbrev pub AllStand : {S : Type 0} → (S → CellMap → Type 0) → Topology → Custom → ℕ → List Write
     → List Write → List (StatePart S) → Type 0
-AllStand tells t n done next parts = All (PartStands tells t n done next) parts
+AllStand tells t custom n done next parts = All (PartStands tells t custom n done next) parts
 
 -- all parts stand at n, and no cell has a larger transaction
-abbrev pub AllAreAt : {S : Type 0} → (S → CellMap → Type 0) → Topology → ℕ → List Write
+abbrev pub AllAreAt : {S : Type 0} → (S → CellMap → Type 0) → Topology → Custom → ℕ → List Write
     → List Write → List (StatePart S) → Type 0
-AllAreAt tells t n done next parts = All (PartIsAt tells t n done next) parts
+AllAreAt tells t custom n done next parts = All (PartIsAt tells t custom n done next) parts
 
 -- a part's store tells that it has no cell
 abbrev pub IsEmpty : {S : Type 0} → (S → CellMap → Type 0) → StatePart S → Type 0

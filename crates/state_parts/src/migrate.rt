@@ -11,6 +11,7 @@ ghost use Rattle.state_parts.specs.Commits.{SameCounts};
 ghost use Rattle.state_parts.specs.Migrate.{AreKept, AreMigrated, IsBrokenOff, IsMigrated, StopAt, StopsBefore, old_sum};
 ghost use Rattle.state_parts.specs.PartPlans.{plans_of};
 ghost use Rattle.state_parts.specs.PartTables.{IsBadRowAt, IsTableOver, OneRaised, Tell};
+ghost use Rattle.tree_model.specs.bolt_ops.RowOp.{Custom};
 ghost use Rattle.state_parts.specs.Standing.{AllAreAt, AllStand};
 ghost use Rattle.state_parts.specs.declared.parts.StatePart.{StatePart};
 
@@ -72,10 +73,12 @@ pub(crate) fn migrate_parts<C: CellStore>(parts: &mut Vec<StatePart<C>>) -> Resu
 /// A law: parts that have the same cells as before stand at the number of commits at which they
 /// stood.
 pub fn parts_with_the_same_cells_stand<C: CellStore>()
-    ensures stand { (t : Topology) (n : ℕ) (done next : List Write) (old new : List (StatePart C))
-        → AreKept C.tells C.fault_count old new → AllStand C.tells t n done next old
-        → AllStand C.tells t n done next new }
-    ensures are_at { (t : Topology) (n : ℕ) (done next : List Write) (old new : List (StatePart C))
-        → AreKept C.tells C.fault_count old new → AllAreAt C.tells t n done next old
-        → AllAreAt C.tells t n done next new }
+    ensures stand { (t : Topology) (custom : Custom) (n : ℕ) (done next : List Write)
+        (old new : List (StatePart C))
+        → AreKept C.tells C.fault_count old new → AllStand C.tells t custom n done next old
+        → AllStand C.tells t custom n done next new }
+    ensures are_at { (t : Topology) (custom : Custom) (n : ℕ) (done next : List Write)
+        (old new : List (StatePart C))
+        → AreKept C.tells C.fault_count old new → AllAreAt C.tells t custom n done next old
+        → AllAreAt C.tells t custom n done next new }
 {}

@@ -24,6 +24,7 @@ use std::marker::{Model, Send, Sync};
 use std::thread::Threads;
 use storm_stores::{CellStore, StoreMaker};
 use tree_model::Tables;
+use tree_model::bolt_ops::RowOp;
 use tree_model::storm_values::Memory;
 use tree_model::topology_plan::Plan;
 
@@ -100,13 +101,17 @@ impl<C: CellStore> Parts<C> {
     /// none, in time linear in the writes and the parts beside what the parts take. Want of memory
     /// goes before a bad cell, a bad cell before a failed store; of parts the first is told. After
     /// any fault each key of each part has its old cell or the commit's.
-    pub fn commit_all(&mut self, commit: Commit) -> Result<CommitOutcome, CommitFault>
+    pub fn commit_all<O: RowOp>(
+        &mut self,
+        commit: Commit,
+        custom: &O,
+    ) -> Result<CommitOutcome, CommitFault>
         ensures plans { plans_of self.new ≡ plans_of self.old }
         ensures comes { (result ≡ Err CommitFault.Memory → ⊥) →
-            Comes C.tells C.fault_count commit.root commit.writes self.old self.new result }
+            Comes C.tells (O.meaning custom.now) C.fault_count commit.root commit.writes self.old self.new result }
         ensures done { result ≡ Ok CommitOutcome.Done →
-            AreCommitted C.tells commit.root commit.writes self.old self.new }
-        ensures kept { ArePerhapsCommitted C.tells commit.root commit.writes
+            AreCommitted C.tells (O.meaning custom.now) commit.root commit.writes self.old self.new }
+        ensures kept { ArePerhapsCommitted C.tells (O.meaning custom.now) commit.root commit.writes
             self.old self.new }
         ensures failed { (component part before after : ℕ) →
             result ≡ Ok (CommitOutcome.Failed component part before after) →
@@ -118,14 +123,15 @@ impl<C: CellStore> Parts<C> {
             CountsFollow C.fault_count how self.old self.new }
         ensures at_most_once { FailOnceAtMost C.fault_count self.old self.new }
     {
-        commit_parts(self.alloc, &self.firsts, &mut self.parts, commit)
+        commit_parts(self.alloc, &self.firsts, &mut self.parts, commit, custom)
     }
 
     /// The tables of the plan's states, in order: of each state the keys with a value in one of its
     /// parts, with one look at each key.
     pub fn tables(&mut self, plan: &Plan) -> Result<Tables, PartFault>
         ensures tables { IfOk result
-            (AllZip (IsTableOver C.tells self.old) (states_of plan.now)) }
+            (λ tables. (custom : Custom) →
+            AllZip (IsTableOver C.tells self.old) (states_of plan.now custom) tables) }
         ensures plans { plans_of self.new ≡ plans_of self.old }
         ensures read { AreRead C.tells C.fault_count self.old self.new }
         ensures failed { IsErrOf result PartFault.Store →
@@ -188,18 +194,19 @@ impl<C: CellStore + Send> Parts<C> {
     /// Commits a batch as `commit_all` does, with runs of the parts side by side, in so many
     /// threads at most, of which the caller's is one. With few writes, or no two threads, the parts
     /// are tried one after another. The answer is by the order of the parts, whichever ends first.
-    pub fn commit_beside<R: Threads + Sync>(
+    pub fn commit_beside<R: Threads + Sync, O: RowOp>(
         &mut self,
         rt: &R,
         threads: usize,
         commit: Commit,
+        custom: &O,
     ) -> Result<CommitOutcome, CommitFault>
         ensures plans { plans_of self.new ≡ plans_of self.old }
         ensures comes { (result ≡ Err CommitFault.Memory → ⊥) →
-            Comes C.tells C.fault_count commit.root commit.writes self.old self.new result }
+            Comes C.tells (O.meaning custom.now) C.fault_count commit.root commit.writes self.old self.new result }
         ensures done { result ≡ Ok CommitOutcome.Done →
-            AreCommitted C.tells commit.root commit.writes self.old self.new }
-        ensures kept { ArePerhapsCommitted C.tells commit.root commit.writes
+            AreCommitted C.tells (O.meaning custom.now) commit.root commit.writes self.old self.new }
+        ensures kept { ArePerhapsCommitted C.tells (O.meaning custom.now) commit.root commit.writes
             self.old self.new }
         ensures failed { (component part before after : ℕ) →
             result ≡ Ok (CommitOutcome.Failed component part before after) →
@@ -220,6 +227,7 @@ impl<C: CellStore + Send> Parts<C> {
             &self.firsts,
             &mut self.parts,
             commit,
+            custom,
         )
     }
 }

@@ -4,6 +4,7 @@ ghost use Rattle.std.specs.Cmp.Lexicographic.{slice_cmp};
 ghost use Rattle.std.specs.List.{AllZip};
 ghost use Rattle.std.specs.Option.{option_or};
 ghost use Rattle.std.specs.Ordering.{nat_cmp};
+ghost use Rattle.tree_model.specs.bolt_ops.RowOp.{Custom};
 ghost use Rattle.tree_model.specs.storm_values.Counts.{raised};
 ghost use Rattle.storm_stores.specs.CellMaps.{CellMap, cell_at};
 ghost use Rattle.state_parts.specs.Gathered.{pairs_of, value_of};
@@ -160,8 +161,8 @@ fn add_table<C: CellStore>(
     component: &Component,
     tables: &mut Tables,
 ) -> Result<(), PartFault>
-    ensures added { OnOk result (AddsTableOver C.tells parts.old.items
-        (state_by number component.now component.now.body) tables.old tables.new) }
+    ensures added { OnOk result ((custom : Custom) → AddsTableOver C.tells parts.old.items
+        (state_by custom number component.now component.now.body) tables.old tables.new) }
     ensures read { AreRead C.tells C.fault_count parts.old.items parts.new.items }
     ensures failed { IsErrOf result PartFault.Store →
         OneRaised C.fault_count parts.old.items parts.new.items }
@@ -183,7 +184,8 @@ pub(crate) fn tables_of<C: CellStore>(
     plan: &Plan,
 ) -> Result<Tables, PartFault>
     ensures tables { IfOk result
-        (AllZip (IsTableOver C.tells parts.old.items) (states_of plan.now)) }
+        (λ tables. (custom : Custom) →
+        AllZip (IsTableOver C.tells parts.old.items) (states_of plan.now custom) tables) }
     ensures plans { plans_of parts.new.items ≡ plans_of parts.old.items }
     ensures read { AreRead C.tells C.fault_count parts.old.items parts.new.items }
     ensures failed { IsErrOf result PartFault.Store →

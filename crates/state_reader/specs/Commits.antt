@@ -3,6 +3,7 @@ use Rattle.std.specs.Prelude.{ℕ, ℤ, ◌+◌, Option, option_and_then, List, 
 use Rattle.tree_model.specs.topology_plan.declared.parts.Fold.{Fold}
 use Rattle.tree_model.specs.declared.write.Write.{Write}
 use Rattle.tree_model.specs.Tables.{base}
+use Rattle.state_reader.specs.Totals.{folding}
 use Rattle.state_reader.specs.declared.change.Change.{Change}
 use Rattle.state_reader.specs.declared.change.Change.TheVariants as change
 
@@ -17,7 +18,7 @@ writes_of_all (c ∷ commits) = c ++ writes_of_all commits
 
 -- the value of a key of a state after some writes by a fold, if there is one
 abbrev pub value_by : Option Fold → List Write → ℕ → List ℕ → Option ℤ
-value_by by writes state key = option_and_then (λ fold. base fold writes state key) by
+value_by by writes state key = option_and_then (λ fold. base (folding fold) writes state key) by
 
 -- the value of a key of a state after some commits
 abbrev pub value_after : Option Fold → List Commit → ℕ → List ℕ → Option ℤ

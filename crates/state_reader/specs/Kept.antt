@@ -7,7 +7,7 @@ use Rattle.tree_model.specs.declared.write.Write.{Write}
 use Rattle.tree_model.specs.Tables.{base}
 use Rattle.state_reader.specs.declared.totals.Total.{Total}
 use Rattle.state_reader.specs.declared.totals.Totals.{Totals}
-use Rattle.state_reader.specs.Totals.{entries_at, total_by}
+use Rattle.state_reader.specs.Totals.{entries_at, folding, total_by}
 
 -- the total of a key of a state
 abbrev pub total_at : Totals → ℕ → List ℕ → Option Total
@@ -17,7 +17,7 @@ total_at totals state key = lookup (bytes_eq key) (entries_at totals.states.item
 abbrev pub AreTotals : List Write → Totals → Type 0
 AreTotals writes totals =
     (by : Fold) (state : ℕ) (key : List ℕ)
-    → option_map (total_by by) (total_at totals state key) ≡ base by writes state key
+    → option_map (total_by by) (total_at totals state key) ≡ base (folding by) writes state key
 
 -- each state has the same entries in both
 abbrev pub AreAlike : Totals → Totals → Type 0

@@ -4,6 +4,7 @@ ghost use Rattle.tree_model.specs.Tables.{base, state_at};
 ghost use Rattle.tree_model.specs.topology_plan.Topology.{Topology};
 ghost use Rattle.state_reader.specs.Commits.{value_after, writes_of_all, Commit};
 ghost use Rattle.state_reader.specs.Folds.{fold_at, folds_in};
+ghost use Rattle.state_reader.specs.Totals.{rows_alone};
 ghost use Rattle.state_reader.specs.Views.{Begins};
 
 /// A law: once a list that was told is a prefix of the reader's book, each earlier book that is no
@@ -17,7 +18,7 @@ pub fn earlier_books_begin_what_was_told()
 /// of all their writes for it, as in the state's table.
 pub fn values_are_folds_of_writes()
     ensures { (t : Topology) (number : ℕ) (commits : List Commit) (key : List ℕ)
-        → IfSome (state_at t number)
+        → IfSome (state_at t rows_alone number)
         (λ state. value_after (fold_at (folds_in t) number) commits number key
         ≡ base state.by (writes_of_all commits) number key) }
 {}

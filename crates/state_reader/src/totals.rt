@@ -4,7 +4,7 @@ ghost use Rattle.std.specs.Map.{lookup};
 ghost use Rattle.std.specs.Str.{bytes_eq};
 ghost use Rattle.tree_model.specs.Tables.{base};
 ghost use Rattle.tree_model.specs.declared.write.Write.{Write};
-ghost use Rattle.state_reader.specs.Totals.{entries_at, grown, total_by};
+ghost use Rattle.state_reader.specs.Totals.{entries_at, folding, grown, total_by};
 ghost use Rattle.state_reader.specs.Kept.{AreTotals, AreAlike, total_at};
 
 use crate::key_text::KeyText;
@@ -62,7 +62,7 @@ impl Totals {
     /// A key's value by the fold of its state, where something is written for it.
     pub fn value(&self, by: Fold, state: u32, key: &str) -> Option<i128>
         ensures { (writes : List Write) → AreTotals writes self.now
-            → result ≡ base by writes state key.now }
+            → result ≡ base (folding by) writes state key.now }
     {
         Some(self.total(state, key)?.by(by))
     }
@@ -97,7 +97,7 @@ impl Total {
     {
         match by {
             Fold::Count | Fold::Sum => self.sum,
-            Fold::Last => i128::from(self.last),
+            Fold::Last | Fold::Custom => i128::from(self.last),
             Fold::Max => i128::from(self.max),
         }
     }

@@ -1,6 +1,7 @@
 //! A part over a store with given cells, of which a call may fail: what it commits, and the cells
 //! that this is to make.
 use cell_format::{CELL_BYTES, Cell, encode_cell};
+use sample_operations::First;
 use state_cells::{GroupedWrites, Part, PartFault};
 use std::alloc::Global;
 use storm_stores::{CallKind, CellStore, FailAt, MemStore, StoreFault};
@@ -151,7 +152,7 @@ pub fn commit(
         txid,
         attempt: ATTEMPT,
     };
-    part.commit(root, &grouped)
+    part.commit(root, &grouped, &First)
 }
 
 fn take_step(alloc: Global, part: &mut Part<MemStore>, step: &Step) -> Result<(), Trouble> {

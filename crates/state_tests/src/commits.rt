@@ -135,6 +135,39 @@ fn an_older_transaction_is_committed(rt: HostRuntime) -> Result<(), Trouble> {
     check(rt.alloc(), &OLDER_TRANSACTION)
 }
 
+// The operation of the scenes keeps the first amount.
+const FIRST_AMOUNTS: Scene = Scene {
+    kind: Kind::Transactional,
+    by: Fold::Custom,
+    from: &[(b"x", 1, Some(2), None)],
+    steps: &[
+        (2, &[("x", 5), ("y", 7), ("y", 3)], Done),
+        (3, &[("x", 3)], Done),
+    ],
+    faults: 0,
+    want: &[(b"x", 3, Some(2), None), (b"y", 2, Some(7), None)],
+};
+
+#[test]
+fn a_custom_fold_goes_by_the_operation(rt: HostRuntime) -> Result<(), Trouble> {
+    check(rt.alloc(), &FIRST_AMOUNTS)
+}
+
+// Tried again, the first key begins anew, and the second goes on from its value before.
+const FIRST_AMOUNTS_AGAIN: Scene = Scene {
+    kind: Kind::Opaque,
+    by: Fold::Custom,
+    from: &[(b"x", 2, Some(4), None), (b"y", 2, Some(4), Some(1))],
+    steps: &[(2, &[("x", 6), ("x", 8), ("y", 6)], Done)],
+    faults: 0,
+    want: &[(b"x", 2, Some(6), None), (b"y", 2, Some(1), Some(1))],
+};
+
+#[test]
+fn a_custom_fold_is_tried_again(rt: HostRuntime) -> Result<(), Trouble> {
+    check(rt.alloc(), &FIRST_AMOUNTS_AGAIN)
+}
+
 // 2^127 - 1 and -2^127
 const MOST: i128 = 170141183460469231731687303715884105727;
 

@@ -121,9 +121,9 @@ module _ {S M : Type 0} {tells : S → CellMap → Type 0} {count : S → ℕ}
         (are_empty tells count holds made faults t old new parts lent.planned lent.began empty)
 
     tables_by : (tables : List Table) → answer ≡ Ok ended.All
-        → AllZip (IsTableOver tells ran) (states_of t) tables
+        → AllZip (IsTableOver tells ran) (states_of t custom) tables
         → BeganEmpty t (maker_use tells count holds made faults old new)
-        → AreTables t (writes t custom cut.records) tables
+        → AreTables t custom (writes t custom cut.records) tables
     tables_by tables is read empty =
         laws.tables ran tables input.wired (some_size t cut input)
         (lent.kept.plans ∙ lent.planned)
@@ -135,7 +135,7 @@ module _ {S M : Type 0} {tells : S → CellMap → Type 0} {count : S → ℕ}
     end_comes : (ending : RunEnd) → ClosesAs ending
         → EndComes t custom cut ticks (maker_use tells count holds made faults old new) fates ending
     end_comes (end.All tables) closes =
-        (whole_by closes.0, λ empty. tables_by tables closes.0 closes.1 empty)
+        (whole_by closes.0, λ empty. tables_by tables closes.0 (closes.1 custom) empty)
     end_comes (end.Exhausted txid) closes =
         subst (λ (r : Result Ended Stop). Answers t cut ticks fates r) closes run.told_so.answers
     end_comes (end.Unfinished k) closes =

@@ -4,6 +4,7 @@ use Rattle.std.specs.List.{AllByRecursion, AllZip}
 use Rattle.std.proofs.lemmas.Bool.{cases_eq}
 use Rattle.std.proofs.lemmas.List.Elements.{All-from_recursion, All-weaker, recursion_from_All}
 use Rattle.batch_commits.specs.Standing.{HasStrangeAt, IsStrange, PartsStand, batches_in, writes_at, writes_to}
+use Rattle.event_worlds.specs.tree_model.Tables.{folded}
 use Rattle.event_worlds.specs.bolt_ops.RowOp.{Custom}
 use Rattle.cell_format.proofs.CommitLemmas.{Stands-none}
 use Rattle.cell_format.specs.Standing.{Stands}
@@ -219,7 +220,7 @@ module _ {S M : Type 0} (tells : S → CellMap → Type 0) (count : S → ℕ)
 
   module _ (custom : Custom) (cut : Cut) (n : ℕ) where
     one_stands : (y z : StatePart S) → plan_of z ≡ plan_of y
-        → PartStands tells t n (writes_to t custom cut n) (writes_at t custom cut (n + 1)) y
+        → PartStands tells t custom n (writes_to t custom cut n) (writes_at t custom cut (n + 1)) y
         → IsRead tells count y z → PartCameBack tells holds new z → (n ≡ batches_in cut → ⊥)
         → StandsAt t custom cut n (holds new) (plan_of y)
     one_stands y z plan at read back fewer = record {
@@ -231,7 +232,7 @@ module _ {S M : Type 0} (tells : S → CellMap → Type 0) (count : S → ℕ)
     }
 
     one_ends : (y z : StatePart S) → plan_of z ≡ plan_of y
-        → PartIsAt tells t n (writes_to t custom cut n) (writes_at t custom cut (n + 1)) y
+        → PartIsAt tells t custom n (writes_to t custom cut n) (writes_at t custom cut (n + 1)) y
         → IsRead tells count y z → PartCameBack tells holds new z
         → StandsAt t custom cut n (holds new) (plan_of y)
     one_ends y z plan at read back = record {
@@ -244,7 +245,7 @@ module _ {S M : Type 0} (tells : S → CellMap → Type 0) (count : S → ℕ)
 
     stand_each : (ys zs : List (StatePart S)) → plans_of zs ≡ plans_of ys
         → AllByRecursion
-        (PartStands tells t n (writes_to t custom cut n) (writes_at t custom cut (n + 1))) ys
+        (PartStands tells t custom n (writes_to t custom cut n) (writes_at t custom cut (n + 1))) ys
         → AllZip (IsRead tells count) ys zs → AllByRecursion (PartCameBack tells holds new) zs
         → (n ≡ batches_in cut → ⊥)
         → AllByRecursion (λ (y : StatePart S). StandsAt t custom cut n (holds new) (plan_of y)) ys
@@ -259,7 +260,7 @@ module _ {S M : Type 0} (tells : S → CellMap → Type 0) (count : S → ℕ)
 
     end_each : (ys zs : List (StatePart S)) → plans_of zs ≡ plans_of ys
         → AllByRecursion
-        (PartIsAt tells t n (writes_to t custom cut n) (writes_at t custom cut (n + 1))) ys
+        (PartIsAt tells t custom n (writes_to t custom cut n) (writes_at t custom cut (n + 1))) ys
         → AllZip (IsRead tells count) ys zs → AllByRecursion (PartCameBack tells holds new) zs
         → AllByRecursion (λ (y : StatePart S). StandsAt t custom cut n (holds new) (plan_of y)) ys
     end_each [] zs same at read back = tt
@@ -287,12 +288,12 @@ module _ {S M : Type 0} (tells : S → CellMap → Type 0) (count : S → ℕ)
         by (inl all) =
             end_each ran closed lent.plans
             (recursion_from_All
-            (PartIsAt tells t n (writes_to t custom cut n) (writes_at t custom cut (n + 1))) ran
+            (PartIsAt tells t custom n (writes_to t custom cut n) (writes_at t custom cut (n + 1))) ran
             (stands.at_end all)) lent.read back_each
         by (inr fewer) =
             stand_each ran closed lent.plans
             (recursion_from_All
-            (PartStands tells t n (writes_to t custom cut n) (writes_at t custom cut (n + 1))) ran
+            (PartStands tells t custom n (writes_to t custom cut n) (writes_at t custom cut (n + 1))) ran
             stands.stand) lent.read back_each fewer
 
 -- ---- where no run was begun
@@ -317,10 +318,10 @@ module _ {S M : Type 0} (tells : S → CellMap → Type 0) (count : S → ℕ)
     stands =
         subst
         (λ (done : List Write).
-        Stands part.kind part.by (tasks_of t part.component) part.part 0 (writes_of_part part done)
+        Stands part.kind (folded custom part.by) (tasks_of t part.component) part.part 0 (writes_of_part part done)
         (writes_of_part part (writes_at t custom cut 1)) (cell_at []))
         (sym none_written)
-        (Stands-none part.kind part.by (tasks_of t part.component) part.part
+        (Stands-none part.kind (folded custom part.by) (tasks_of t part.component) part.part
         (writes_of_part part (writes_at t custom cut 1)));
     within = λ all key cell is. absurd is.bytes;
   }

@@ -10,6 +10,7 @@ use Rattle.event_worlds.specs.state_parts.PartTables.{IsBadRowAt, IsTableOver, O
 use Rattle.storm_stores.specs.CellMaps.{CellMap}
 use Rattle.stored_runs.specs.declared.ending.RunEnd.{RunEnd}
 use Rattle.stored_runs.specs.declared.ending.RunEnd.TheVariants as end
+use Rattle.event_worlds.specs.bolt_ops.RowOp.{Custom}
 use Rattle.event_worlds.specs.topology_plan.Topology.{Topology}
 use Rattle.event_worlds.specs.tree_model.Tables.{states_of}
 
@@ -18,7 +19,8 @@ use Rattle.event_worlds.specs.tree_model.Tables.{states_of}
 abbrev pub Closes : {S E : Type 0} → (S → CellMap → Type 0) → (S → ℕ) → Topology
     → Result Ended Stop → List (StatePart S) → List (StatePart S) → Result RunEnd E → Type 0
 Closes tells count t answer old new (Ok (end.All tables)) =
-    (answer ≡ Ok ended.All) × AllZip (IsTableOver tells old) (states_of t) tables
+    (answer ≡ Ok ended.All)
+    × ((custom : Custom) → AllZip (IsTableOver tells old) (states_of t custom) tables)
 Closes tells count t answer old new (Ok (end.Exhausted txid)) = answer ≡ Err (stop.Exhausted txid)
 Closes tells count t answer old new (Ok (end.Unfinished k)) = answer ≡ Ok (ended.Unfinished k)
 Closes tells count t answer old new (Ok end.StoreFault) =

@@ -54,8 +54,8 @@ pub record PartLaws {S : Type 0} (tells : S → CellMap → Type 0) (count : S �
       → IsPart t component part → IsOneOf (plans_of parts) component part
   pub tables : (parts : List (StatePart S)) (tables : List Table) → IsWired t → 0 < cut.size
       → AreParts t parts → PartsStand tells t custom cut (batches_in cut) parts
-      → AllZip (IsTableOver tells parts) (states_of t) tables
-      → AreTables t (writes t custom cut.records) tables
+      → AllZip (IsTableOver tells parts) (states_of t custom) tables
+      → AreTables t custom (writes t custom cut.records) tables
   pub bad_cell : (parts : List (StatePart S)) (key : List ℕ) → IsBadAt tells parts key
       → HasStrangeAt tells parts key
   pub bad_row : (parts : List (StatePart S)) (key : List ℕ) → IsBadRowAt tells parts key

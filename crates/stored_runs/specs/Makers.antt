@@ -11,6 +11,7 @@ use Rattle.event_worlds.specs.state_parts.PartPlans.{IsOneOf, PartPlan, planned_
 use Rattle.storm_stores.specs.CellMaps.{CellMap, cell_at}
 use Rattle.event_worlds.specs.storm_values.Counts.{raised_by}
 use Rattle.event_worlds.specs.topology_plan.Topology.{Topology, tasks_of}
+use Rattle.event_worlds.specs.tree_model.Tables.{folded}
 use Rattle.event_worlds.specs.tree_model.declared.write.Write.{Write}
 use Rattle.event_worlds.specs.trident_batches.Batches.{Cut}
 use Rattle.std.specs.Prelude.{filter}
@@ -76,7 +77,7 @@ pub record StandsAt (t : Topology) (custom : Custom) (cut : Cut) (n : ℕ)
     (holds : ℕ → ℕ → CellMap → Type 0) (part : PartPlan) : Type 0 where
   pub cells : CellMap
   pub told : holds part.component part.part cells
-  pub stands : Stands part.kind part.by (tasks_of t part.component) part.part n
+  pub stands : Stands part.kind (folded custom part.by) (tasks_of t part.component) part.part n
       (writes_of_part part (writes_to t custom cut n))
       (writes_of_part part (writes_at t custom cut (n + 1))) (cell_at cells)
   pub within : n ≡ batches_in cut → IsWithin part.kind n (cell_at cells)

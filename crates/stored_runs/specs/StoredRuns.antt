@@ -31,7 +31,7 @@ use Rattle.event_worlds.specs.trident_batches.Batches.{Cut}
 abbrev pub EndComes : Topology → Custom → Cut → ℕ → MakerUse → List Attempt → RunEnd → Type 0
 EndComes t custom cut ticks maker fates (end.All tables) =
     IsWhole (length cut.records) cut.size ticks fates
-    × (BeganEmpty t maker → AreTables t (writes t custom cut.records) tables)
+    × (BeganEmpty t maker → AreTables t custom (writes t custom cut.records) tables)
 EndComes t custom cut ticks maker fates (end.Exhausted txid) = HasRunOut t txid fates
 EndComes t custom cut ticks maker fates (end.Unfinished k) =
     (committed_count fates ≡ k) × (k < batches_in cut)

@@ -57,7 +57,7 @@ module _ (custom : Custom) (plan : Topology) (records : List (List Value)) (base
         printed =
             subst (λ (n : ℕ). IsEndText plan n (batch_count (length records) plan.batch) fates (end.All tables) text) r_is
             (subst (λ (n : ℕ). IsEndText plan r n fates (end.All tables) text) b_is printed);
-        of_commits = λ empty. subst (λ (rs : List (List Value)). AreTables plan (writes plan custom rs) tables) (sym (records_are_all records plan.batch ticks fates whole)) (run.comes.1 empty);
+        of_commits = λ empty. subst (λ (rs : List (List Value)). AreTables plan custom (writes plan custom rs) tables) (sym (records_are_all records plan.batch ticks fates whole)) (run.comes.1 empty);
         whole = whole;
         acked = acked_all run.caused.by_some.1.each;
         caused = run.caused;

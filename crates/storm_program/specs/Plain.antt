@@ -22,7 +22,7 @@ use Rattle.stored_runs.specs.Makers.{IsUntouched, MakerUse}
 pub record IsPlainReport (custom : Custom) (plan : Topology) (records : List (List Value))
     (text : List ℕ) : Type 0 where
   pub tables : List Table
-  pub of_records : AreTables plan (writes plan custom records) tables
+  pub of_records : AreTables plan custom (writes plan custom records) tables
   pub printed : text ≡ report_text (record {
     attempts = [];
     cells = cells_of tables;

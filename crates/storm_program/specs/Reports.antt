@@ -58,7 +58,7 @@ pub record IsReport (custom : Custom) (plan : Topology) (records : List (List Va
       (ok (length records) (batch_count (length records) plan.batch)) text
   -- over stores that began empty they are those of one machine, in transaction order
   pub of_commits : BeganEmpty plan base.stores
-      → AreTables plan (writes plan custom (committed_records records fates)) tables
+      → AreTables plan custom (writes plan custom (committed_records records fates)) tables
   -- every record stands in exactly one committed batch
   pub whole : IsWhole (length records) plan.batch ticks fates
   -- each committed attempt's whole tuple tree was acked

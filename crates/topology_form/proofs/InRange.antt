@@ -63,6 +63,7 @@ amount_reads Count = reads (had _ refl)
 amount_reads Sum = reads (first (a_member _ any_of) (λ amount _. had _ refl))
 amount_reads Last = reads (first (a_member _ any_of) (λ amount _. had _ refl))
 amount_reads Max = reads (first (a_member _ any_of) (λ amount _. had _ refl))
+amount_reads fold_of.Custom = reads (first (a_member _ any_of) (λ amount _. had _ refl))
 
 all_grouped : (P : Input → Type 0) (key names : List (List ℕ)) → ((from : List ℕ) → P (record { from = from; grouping = said.Fields key })) → All P (grouped_by key names)
 all_grouped P key [] each = All-nil P

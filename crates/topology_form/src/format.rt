@@ -132,7 +132,9 @@ fn amount_from(object: &mut Object, fold: Fold) -> Result<Option<Txt>, TopoFault
 {
     match fold {
         Fold::Count => Ok(None),
-        Fold::Sum | Fold::Last | Fold::Max => Ok(Some(object.required("amount", &Name)?)),
+        Fold::Sum | Fold::Last | Fold::Max | Fold::Custom => Ok(Some(object.required(
+            "amount", &Name,
+        )?)),
     }
 }
 

@@ -9,6 +9,7 @@ use Rattle.topology_plan.specs.declared.parts.Body.TheVariants.{Bolt, State}
 use Rattle.topology_plan.specs.declared.parts.Component.{Component}
 use Rattle.topology_plan.specs.declared.parts.Fold.{Fold}
 use Rattle.topology_plan.specs.declared.parts.Fold.TheVariants.{Count, Sum, Last, Max}
+use Rattle.topology_plan.specs.declared.parts.Fold.TheVariants as fold_of
 use Rattle.topology_plan.specs.declared.parts.Grouping.{Grouping}
 use Rattle.topology_plan.specs.declared.parts.Grouping.TheVariants as grouping
 use Rattle.topology_plan.specs.declared.parts.Kind.TheVariants.{Opaque}
@@ -66,6 +67,7 @@ HasAmount Count amount n = amount ≡ None
 HasAmount Sum amount n = IsSome amount × IfSome amount (λ field. field < n)
 HasAmount Last amount n = IsSome amount × IfSome amount (λ field. field < n)
 HasAmount Max amount n = IsSome amount × IfSome amount (λ field. field < n)
+HasAmount fold_of.Custom amount n = IsSome amount × IfSome amount (λ field. field < n)
 
 -- ---- subscriptions
 

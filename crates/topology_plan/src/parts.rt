@@ -20,6 +20,8 @@ pub enum Fold {
     Sum,
     Last,
     Max,
+    /// What the user-supplied operation combines. No topology file has it yet.
+    Custom,
 }
 
 /// A source of rows, by its component number where it is a bolt.

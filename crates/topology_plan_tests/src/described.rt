@@ -91,6 +91,7 @@ fn write_state(text: &mut String, spec: &StateSpec) -> Result<(), Memory> {
         Fold::Sum => "sum",
         Fold::Last => "last",
         Fold::Max => "max",
+        Fold::Custom => "custom",
     };
     write!(
         text,

@@ -9,6 +9,7 @@ use Rattle.topology_form.specs.declared.parts.StatePart.{StatePart}
 use Rattle.topology_plan.specs.declared.parts.Component.{Component}
 use Rattle.topology_plan.specs.declared.parts.Fold.{Fold}
 use Rattle.topology_plan.specs.declared.parts.Fold.TheVariants.{Count, Sum, Last, Max}
+use Rattle.topology_plan.specs.declared.parts.Fold.TheVariants as fold_of
 use Rattle.topology_plan.specs.declared.parts.Grouping.TheVariants as grouping
 use Rattle.topology_plan.specs.declared.function.Leaves.TheVariants as leaves
 use Rattle.topology_plan.specs.declared.parts.Origin.TheVariants as origin
@@ -85,6 +86,7 @@ amount_planned fields Count amount said there = ap (option_map (number_of fields
 amount_planned fields Sum amount said there = some_amount fields amount said there
 amount_planned fields Last amount said there = some_amount fields amount said there
 amount_planned fields Max amount said there = some_amount fields amount said there
+amount_planned fields fold_of.Custom amount said there = some_amount fields amount said there
 
 -- ---- what comes to a component
 

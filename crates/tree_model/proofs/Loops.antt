@@ -1,9 +1,9 @@
--- A loop over the items of a vector, and what a call that failed leaves.
-use Rattle.std.proofs.Common.{◌≡◌, ℕ, ◌<◌, min, List, length, take, get_or, Option, Some, None, Result, Ok, Err, OnErr, Vec, vec_len, sym, ap, ◌∙◌, arith}
+-- A loop over numbers beside the items of a vector.
+use Rattle.std.proofs.Common.{◌≡◌, ℕ, ◌<◌, min, List, length, get_or, Option, Some, None, Vec, vec_len, ap, ◌∙◌, arith}
 use Rattle.std.proofs.lemmas.Iterator.{YieldsList, YieldsList-from_range, YieldsList-from_zip, zips}
 use Rattle.std.proofs.lemmas.Iterator.Adapters.{YieldsList-from_vec}
-use Rattle.std.proofs.lemmas.Iterator.Consumers.{YieldsList-so_far, YieldsList-turn, YieldsList-end}
-use Rattle.std.proofs.lemmas.List.{map-id, get_or_default}
+use Rattle.std.proofs.lemmas.Iterator.Consumers.{YieldsList-turn, YieldsList-end}
+use Rattle.std.proofs.lemmas.List.{get_or_default}
 use Rattle.std.proofs.lemmas.List.FromFn.{length-range_with_len, get_or-range_with_len}
 use Rattle.std.proofs.lemmas.Slice.Zip.{length-zip, get_or-zip}
 use Rattle.std.specs.Iterator.{Yields}
@@ -14,19 +14,6 @@ use Rattle.std.specs.declared.iter.Zip.{Zip}
 use Rattle.std.specs.declared.ops.Range.{Range}
 use Rattle.std.specs.declared.vec.IntoIter.{IntoIter}
 use Rattle.std.specs.Vec.Iter.{into_iter_items, into_iter_len, into_iter_steps}
-
-module _ {A Z : Type 0} (items : List A) (s t : IntoIter A Z) (start : into_iter_items s ≡ items) (whole : into_iter_len s ≡ length items) (seen : List A) (yielded_by : Yields (into_iter_steps {X = A} {Z = Z}) s seen t) where
-  -- the items so far are the first ones
-  pub seen_so_far : seen ≡ take (length seen) items
-  seen_so_far = sym (map-id seen) ∙ YieldsList-so_far (YieldsList-from_vec items start whole) seen t yielded_by
-
-  -- at the end they are all
-  pub seen_all : (r : Option A) (u : IntoIter A Z) → r ≡ None → into_iter_steps t r u → seen ≡ items
-  seen_all r u none step = sym (map-id seen) ∙ (YieldsList-end (YieldsList-from_vec items start whole) seen t yielded_by r u none step).0
-
-pub OnErr-from : {T E P : Type 0} (r : Result T E) → P → OnErr r P
-OnErr-from (Ok x) p = tt
-OnErr-from (Err e) p = p
 
 -- a loop over numbers from 0 beside the items of a vector
 module _ {A Z : Type 0} (n : ℕ) (v : Vec A Z) (made s t : Zip (Range ℕ) (IntoIter A Z)) (begun : s ≡ made) (first : zip_first made ≡ record { start = 0; end = n }) (second : into_iter_items (zip_second made) ≡ v.items) (whole : into_iter_len (zip_second made) ≡ vec_len v) (seen : List (ℕ × A)) (yielded_by : Yields (zips nat_range_steps (into_iter_steps {X = A} {Z = Z})) s seen t) where

@@ -14,10 +14,9 @@ use Rattle.std.specs.Ordering.{nat_cmp}
 use Rattle.std.specs.Str.{bytes_eq}
 use Rattle.indexmap.specs.IndexMap.{IndexMap, IsReordered, IsUnique, get, insert_entry, keys}
 use Rattle.indexmap.proofs.CallerLemmas.{insert_entry-new}
-use Rattle.topology_plan.specs.declared.parts.Fold.{Fold}
 use Rattle.tree_model.specs.declared.write.Pair.{Pair}
 use Rattle.tree_model.specs.Inside.{entries_of}
-use Rattle.tree_model.specs.Tables.{folded, tallied, value_at, AreInOrder, AreSorted}
+use Rattle.tree_model.specs.Tables.{Folding, tallied, value_at, AreInOrder, AreSorted}
 
 -- an entry, whose key is the bytes of a text
 abbrev Entry : Type 0
@@ -44,11 +43,11 @@ set_step f old true entry entries sets rest tally there more = ap (λ v. record 
 set_step f old false entry entries sets rest tally there more = ap (λ pairs. pair_of entry ∷ pairs) (more there)
 
 -- a new value of a key that is there
-tallied-set : (by : Fold) (key : List ℕ) (amount old : ℤ) (entries : List Entry) → lookup (bytes_eq key) entries ≡ Some old
-    → map pair_of (set_value (bytes_eq key) entries (folded by (Some old) amount)) ≡ tallied by (map pair_of entries) key amount
+tallied-set : (by : Folding) (key : List ℕ) (amount old : ℤ) (entries : List Entry) → lookup (bytes_eq key) entries ≡ Some old
+    → map pair_of (set_value (bytes_eq key) entries (by (Some old) amount)) ≡ tallied by (map pair_of entries) key amount
 tallied-set by key amount old [] there = absurd (none-some old there)
 tallied-set by key amount old (entry ∷ entries) there =
-    set_step (λ v. folded by (Some v) amount) old (bytes_eq key entry.0) entry entries (set_value (bytes_eq key) entries (folded by (Some old) amount)) (lookup (bytes_eq key) entries) (tallied by (map pair_of entries) key amount) there (tallied-set by key amount old entries)
+    set_step (λ v. by (Some v) amount) old (bytes_eq key entry.0) entry entries (set_value (bytes_eq key) entries (by (Some old) amount)) (lookup (bytes_eq key) entries) (tallied by (map pair_of entries) key amount) there (tallied-set by key amount old entries)
 
 new_step : (f : ℤ → ℤ) (b : Bool) (entry new : Entry) (entries : List Entry) (rest : Option ℤ) (tally : List Pair) → cond b (Some entry.1) rest ≡ None → (rest ≡ None → map pair_of (entries ++ new ∷ []) ≡ tally)
     → map pair_of (entry ∷ entries ++ new ∷ []) ≡ cond b (record { key = entry.0; value = f entry.1 } ∷ map pair_of entries) (pair_of entry ∷ tally)
@@ -56,23 +55,23 @@ new_step f true entry new entries rest tally none more = absurd (none-some entry
 new_step f false entry new entries rest tally none more = ap (λ pairs. pair_of entry ∷ pairs) (more none)
 
 -- a key that is not there comes last
-tallied-new : (by : Fold) (key : List ℕ) (amount : ℤ) (entries : List Entry) → lookup (bytes_eq key) entries ≡ None
-    → map pair_of (entries ++ (key, folded by None amount) ∷ []) ≡ tallied by (map pair_of entries) key amount
+tallied-new : (by : Folding) (key : List ℕ) (amount : ℤ) (entries : List Entry) → lookup (bytes_eq key) entries ≡ None
+    → map pair_of (entries ++ (key, by None amount) ∷ []) ≡ tallied by (map pair_of entries) key amount
 tallied-new by key amount [] none = refl
 tallied-new by key amount (entry ∷ entries) none =
-    new_step (λ v. folded by (Some v) amount) (bytes_eq key entry.0) entry (key, folded by None amount) entries (lookup (bytes_eq key) entries) (tallied by (map pair_of entries) key amount) none (tallied-new by key amount entries)
+    new_step (λ v. by (Some v) amount) (bytes_eq key entry.0) entry (key, by None amount) entries (lookup (bytes_eq key) entries) (tallied by (map pair_of entries) key amount) none (tallied-new by key amount entries)
 
-module _ {S : Type 0} (old new : IndexMap (List ℕ) ℤ S) (by : Fold) (key : List ℕ) (amount : ℤ) where
+module _ {S : Type 0} (old new : IndexMap (List ℕ) ℤ S) (by : Folding) (key : List ℕ) (amount : ℤ) where
   -- what a write through a key's value leaves
-  pub pairs-set : (value : ℤ) → get bytes_eq old key ≡ Some value → new.entries ≡ set_value (bytes_eq key) old.entries (folded by (Some value) amount)
+  pub pairs-set : (value : ℤ) → get bytes_eq old key ≡ Some value → new.entries ≡ set_value (bytes_eq key) old.entries (by (Some value) amount)
       → entries_of new ≡ tallied by (entries_of old) key amount
   pairs-set value there is = ap (map pair_of) is ∙ tallied-set by key amount value old.entries there
 
   -- what an insert of a new key leaves
-  pub pairs-new : get bytes_eq old key ≡ None → new.entries ≡ insert_entry bytes_eq old.entries key (folded by None amount)
+  pub pairs-new : get bytes_eq old key ≡ None → new.entries ≡ insert_entry bytes_eq old.entries key (by None amount)
       → entries_of new ≡ tallied by (entries_of old) key amount
   pairs-new none is =
-      ap (map pair_of) (is ∙ insert_entry-new bytes_eq old key (folded by None amount) none)
+      ap (map pair_of) (is ∙ insert_entry-new bytes_eq old key (by None amount) none)
       ∙ tallied-new by key amount old.entries none
 
 -- ---- the order of keys

@@ -1,20 +1,18 @@
 -- Plain keys in the place of the JSON texts that they stand for.
-use Rattle.std.proofs.Common.{◌≡◌, ℕ, Bool, true, false, cond, ℤ, List, [], ◌∷◌, ◌++◌, map, Some, None, refl, sym, ap, subst, ◌∙◌}
+use Rattle.std.proofs.Common.{◌≡◌, ℕ, Bool, true, false, cond, ℤ, List, [], ◌∷◌, ◌++◌, map, Some, refl, sym, ap, subst, ◌∙◌}
 use Rattle.std.proofs.lemmas.Bool.{cond-false}
 use Rattle.std.proofs.lemmas.Cmp.{nat_list_eq_equiv}
 use Rattle.std.proofs.lemmas.List.{append_assoc, append_cancel_right}
 use Rattle.std.specs.Cmp.Lexicographic.{bytes_decides}
 use Rattle.std.specs.List.{AllByRecursion, IsDistinct}
 use Rattle.std.specs.Map.{keys_of}
-use Rattle.std.specs.Map.Iter.{deref_pair}
 use Rattle.std.specs.Str.{bytes_eq}
-use Rattle.indexmap.specs.IndexMap.{IndexMap, IsUnique, insert_entry}
+use Rattle.indexmap.specs.IndexMap.{IndexMap, insert_entry}
 use Rattle.storm_values.specs.Keys.{quoted}
-use Rattle.topology_plan.specs.declared.parts.Fold.{Fold}
 use Rattle.tree_model.specs.declared.write.Pair.{Pair}
 use Rattle.tree_model.specs.declared.running.Values.{Values}
 use Rattle.tree_model.specs.Inside.{entries_of, pairs_of, quoted_entry, whole_pairs}
-use Rattle.tree_model.specs.Tables.{folded, tallied}
+use Rattle.tree_model.specs.Tables.{Folding, tallied}
 
 -- an entry, whose key is the bytes of a text
 abbrev Entry : Type 0
@@ -41,11 +39,11 @@ tally_step true found pair pairs tally whole is = refl
 tally_step false found pair pairs tally whole is = ap (λ rest. record { key = quoted pair.key; value = pair.value } ∷ rest) is
 
 -- one more amount for a plain key is one more for its JSON text
-pub tallied-quoted : (by : Fold) (pairs : List Pair) (key : List ℕ) (amount : ℤ) → tallied by (whole_pairs true pairs) (quoted key) amount ≡ whole_pairs true (tallied by pairs key amount)
+pub tallied-quoted : (by : Folding) (pairs : List Pair) (key : List ℕ) (amount : ℤ) → tallied by (whole_pairs true pairs) (quoted key) amount ≡ whole_pairs true (tallied by pairs key amount)
 tallied-quoted by [] key amount = refl
 tallied-quoted by (pair ∷ pairs) key amount =
     rw bytes_eq-quoted
-    (tally_step (bytes_eq key pair.key) (record { key = pair.key; value = folded by (Some pair.value) amount }) pair pairs (tallied by pairs key amount) (tallied by (whole_pairs true pairs) (quoted key) amount) (tallied-quoted by pairs key amount))
+    (tally_step (bytes_eq key pair.key) (record { key = pair.key; value = by (Some pair.value) amount }) pair pairs (tallied by pairs key amount) (tallied by (whole_pairs true pairs) (quoted key) amount) (tallied-quoted by pairs key amount))
 
 -- ---- the entries of a map, one by one
 
@@ -97,7 +95,7 @@ module _ (old new : Values) (stays : new.plain ≡ old.plain) where
   pub pairs_of-same : entries_of new.entries ≡ entries_of old.entries → pairs_of new ≡ pairs_of old
   pairs_of-same same = ap (λ plain. whole_pairs plain (entries_of new.entries)) stays ∙ ap (whole_pairs old.plain) same
 
-  module _ (by : Fold) (key : List ℕ) (amount : ℤ) where
+  module _ (by : Folding) (key : List ℕ) (amount : ℤ) where
     -- where the keys are JSON texts, the entries are the pairs
     pub pairs_of-whole : old.plain ≡ false → entries_of new.entries ≡ tallied by (entries_of old.entries) key amount → pairs_of new ≡ tallied by (pairs_of old) key amount
     pairs_of-whole whole puts =

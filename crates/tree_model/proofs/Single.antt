@@ -10,12 +10,12 @@ use Rattle.std.specs.FinMap.Entries as entry
 use Rattle.std.specs.Option.{option_map}
 use Rattle.std.specs.Ordering.{nat_cmp, is_lt}
 use Rattle.std.specs.Str.{bytes_eq}
-use Rattle.topology_plan.specs.declared.parts.Fold.{Fold}
+use Rattle.bolt_ops.specs.RowOp.{Custom}
 use Rattle.topology_plan.specs.Topology.{Topology}
 use Rattle.tree_model.specs.declared.write.Pair.{Pair}
 use Rattle.tree_model.specs.declared.write.Table.{Table}
 use Rattle.tree_model.specs.declared.write.Write.{Write}
-use Rattle.tree_model.specs.Tables.{StateOf, states_of, value_at, IsTable, IsTableOf, AreTables}
+use Rattle.tree_model.specs.Tables.{Folding, StateOf, states_of, value_at, IsTable, IsTableOf, AreTables}
 
 abbrev entry_of : Pair → List ℕ × ℤ
 entry_of pair = (pair.key, pair.value)
@@ -54,7 +54,7 @@ unfolding IsStrictlySortedBy
 ordered_entries [] sorted = tt
 ordered_entries (pair ∷ pairs) sorted = both_hold _ _ (above pair.key pairs sorted.0) (ordered_entries pairs sorted.1)
 
-pairs_same : (by : Fold) (writes : List Write) (state : ℕ) (a b : List Pair) → IsTable by writes state a → IsTable by writes state b → a ≡ b
+pairs_same : (by : Folding) (writes : List Write) (state : ℕ) (a b : List Pair) → IsTable by writes state a → IsTable by writes state b → a ≡ b
 pairs_same by writes state a b first second =
     let entries : map entry_of a ≡ map entry_of b =
     entry.same_entries (slice_cmp nat_cmp) nat_list_cmp_total exact_bytes (map entry_of a) (map entry_of b) (ordered_entries a first.ordered) (ordered_entries b second.ordered)
@@ -75,5 +75,5 @@ all_same writes (state ∷ states) (x ∷ xs) [] first second = absurd second
 all_same writes (state ∷ states) (x ∷ xs) (y ∷ ys) first second =
     ap (λ z. z ∷ xs) (table_same writes state x y first.0 second.0) ∙ ap (λ zs. y ∷ zs) (all_same writes states xs ys first.1 second.1)
 
-pub tables_same : (t : Topology) (writes : List Write) (a b : List Table) → AreTables t writes a → AreTables t writes b → a ≡ b
-tables_same t writes a b first second = all_same writes (states_of t) a b first second
+pub tables_same : (t : Topology) (custom : Custom) (writes : List Write) (a b : List Table) → AreTables t custom writes a → AreTables t custom writes b → a ≡ b
+tables_same t custom writes a b first second = all_same writes (states_of t custom) a b first second

@@ -14,14 +14,14 @@ use Rattle.storm_values.specs.declared.value.Value.{Value}
 use Rattle.topology_plan.specs.declared.parts.Body.{Body}
 use Rattle.topology_plan.specs.declared.parts.Body.TheVariants.{Bolt, State}
 use Rattle.topology_plan.specs.declared.parts.Component.{Component}
-use Rattle.topology_plan.specs.declared.parts.Fold.{Fold}
 use Rattle.topology_plan.specs.declared.parts.Origin.TheVariants as origin
 use Rattle.topology_plan.specs.Topology.{Topology}
+use Rattle.tree_model.specs.declared.running.Filling.{Filling}
 use Rattle.tree_model.specs.declared.running.Values.{Values}
 use Rattle.tree_model.specs.declared.write.Pair.{Pair}
 use Rattle.tree_model.specs.declared.write.Table.{Table}
 use Rattle.tree_model.specs.declared.write.Write.{Write}
-use Rattle.tree_model.specs.Tables.{StateOf, tallied, with_amount, written, state_by, state_at, IsTally, IsTableOf, AreRunningTables, AddsTable}
+use Rattle.tree_model.specs.Tables.{Folding, StateOf, tallied, with_amount, written, state_by, state_at, IsTally, IsTableOf, AreRunningTables, AddsTable}
 use Rattle.tree_model.specs.Inside.{pairs_of, pairs_by}
 use Rattle.tree_model.specs.Trees.{Node, kids, nodes_from, nodes_of, write_of, writes}
 use Rattle.tree_model.proofs.Folding.{IsTally-push, IsTally-other}
@@ -35,62 +35,62 @@ IfSome-at : {X : Type 0} (P : X → Type 0) (o : Option X) (x : X) → o ≡ Som
 IfSome-at P o x some holds = rw some at holds
 
 -- one more write
-module _ (t : Topology) (before : List Write) (write : Write) (tables : List (List Pair)) (is : AreRunningTables t before tables) where
+module _ (t : Topology) (custom : Custom) (before : List Write) (write : Write) (tables : List (List Pair)) (is : AreRunningTables t custom before tables) where
   -- its state is a component, so it has pairs
-  state_within : (state : StateOf) → state_at t write.state ≡ Some state → write.state < length tables
-  state_within state found = rw is.count (⊎_elim (λ there. there.1) (λ past. absurd (none-some state (ap (option_and_then (λ (component : Component). state_by write.state component component.body)) (sym past.1) ∙ found))) (slice_get_cases t.components write.state).1)
+  state_within : (state : StateOf) → state_at t custom write.state ≡ Some state → write.state < length tables
+  state_within state found = rw is.count (⊎_elim (λ there. there.1) (λ past. absurd (none-some state (ap (option_and_then (λ (component : Component). state_by custom write.state component component.body)) (sym past.1) ∙ found))) (slice_get_cases t.components write.state).1)
 
-  own : (state : StateOf) → state_at t write.state ≡ Some state → IsTally state.by (before ++ write ∷ []) write.state (get_or (set tables write.state (tallied state.by (get_or tables write.state []) write.key write.amount)) write.state [])
+  own : (state : StateOf) → state_at t custom write.state ≡ Some state → IsTally state.by (before ++ write ∷ []) write.state (get_or (set tables write.state (tallied state.by (get_or tables write.state []) write.key write.amount)) write.state [])
   own state found =
       rw (get_or-set_same tables write.state (tallied state.by (get_or tables write.state []) write.key write.amount) [] (state_within state found))
-      (IsTally-push state.by before write write.state (get_or tables write.state []) (eq-eqb _ _ refl) (IfSome-at (λ here. IsTally here.by before write.state (get_or tables write.state [])) (state_at t write.state) state found (is.tables write.state)))
+      (IsTally-push state.by before write write.state (get_or tables write.state []) (eq-eqb _ _ refl) (IfSome-at (λ here. IsTally here.by before write.state (get_or tables write.state [])) (state_at t custom write.state) state found (is.tables write.state)))
 
   others : (number : ℕ) → (write.state ≡ number → ⊥) → (state : StateOf) → IsTally state.by before number (get_or tables number []) → IsTally state.by (before ++ write ∷ []) number (get_or tables number [])
   others number differs state = IsTally-other state.by before write number (get_or tables number []) (ne_eqb _ _ differs)
 
   -- what a write for no state leaves
-  ignored : state_at t write.state ≡ None → AreRunningTables t (before ++ write ∷ []) tables
+  ignored : state_at t custom write.state ≡ None → AreRunningTables t custom (before ++ write ∷ []) tables
   ignored none = record {
     count = is.count;
-    tables = λ number. IfSome_with (state_at t number) (is.tables number) (λ state found tally. others number (λ same. none-some state (sym none ∙ ap (state_at t) same ∙ found)) state tally);
+    tables = λ number. IfSome_with (state_at t custom number) (is.tables number) (λ state found tally. others number (λ same. none-some state (sym none ∙ ap (state_at t custom) same ∙ found)) state tally);
   }
 
   -- what a write for a state leaves
-  put : (state : StateOf) → state_at t write.state ≡ Some state → AreRunningTables t (before ++ write ∷ []) (set tables write.state (tallied state.by (get_or tables write.state []) write.key write.amount))
+  put : (state : StateOf) → state_at t custom write.state ≡ Some state → AreRunningTables t custom (before ++ write ∷ []) (set tables write.state (tallied state.by (get_or tables write.state []) write.key write.amount))
   put state found = record {
     count = length-set tables write.state pairs ∙ is.count;
-    tables = λ number. IfSome_with (state_at t number) (is.tables number) (λ here found_here tally. at number here found_here tally (cases_eq write.state number));
+    tables = λ number. IfSome_with (state_at t custom number) (is.tables number) (λ here found_here tally. at number here found_here tally (cases_eq write.state number));
   }
     where
       pairs : List Pair
       pairs = tallied state.by (get_or tables write.state []) write.key write.amount
 
-      at : (number : ℕ) (here : StateOf) → state_at t number ≡ Some here → IsTally here.by before number (get_or tables number []) → (write.state ≡ number) ⊎ (write.state ≡ number → ⊥) → IsTally here.by (before ++ write ∷ []) number (get_or (set tables write.state pairs) number [])
+      at : (number : ℕ) (here : StateOf) → state_at t custom number ≡ Some here → IsTally here.by before number (get_or tables number []) → (write.state ≡ number) ⊎ (write.state ≡ number → ⊥) → IsTally here.by (before ++ write ∷ []) number (get_or (set tables write.state pairs) number [])
       at number here found_here tally (inl same) =
-          let one : state ≡ here = same_Some _ _ (sym found ∙ ap (state_at t) same ∙ found_here) in
+          let one : state ≡ here = same_Some _ _ (sym found ∙ ap (state_at t custom) same ∙ found_here) in
           subst (λ n. IsTally here.by (before ++ write ∷ []) n (get_or (set tables write.state pairs) n [])) same
           (subst (λ (s : StateOf). IsTally s.by (before ++ write ∷ []) write.state (get_or (set tables write.state pairs) write.state [])) one (own state found))
       at number here found_here tally (inr differs) =
           rw (get_or-set_other tables write.state number pairs [] (λ e. differs (sym e))) (others number differs here tally)
 
   -- the running tables with the write are those of the writes with it
-  pub AreRunningTables-written : AreRunningTables t (before ++ write ∷ []) (written t tables write)
-  AreRunningTables-written = at (state_at t write.state) refl
+  pub AreRunningTables-written : AreRunningTables t custom (before ++ write ∷ []) (written t custom tables write)
+  AreRunningTables-written = at (state_at t custom write.state) refl
     where
-      at : (o : Option StateOf) → state_at t write.state ≡ o → AreRunningTables t (before ++ write ∷ []) (option_map_or (λ (state : StateOf). set tables write.state (tallied state.by (get_or tables write.state []) write.key write.amount)) o tables)
+      at : (o : Option StateOf) → state_at t custom write.state ≡ o → AreRunningTables t custom (before ++ write ∷ []) (option_map_or (λ (state : StateOf). set tables write.state (tallied state.by (get_or tables write.state []) write.key write.amount)) o tables)
       at None none = ignored none
       at (Some state) found = put state found
 
 -- and so for many writes
-pub AreRunningTables-fold : (t : Topology) (before writes : List Write) (tables : List (List Pair)) → AreRunningTables t before tables → AreRunningTables t (before ++ writes) (fold (written t) tables writes)
-AreRunningTables-fold t before [] tables is = rw append-nil is
-AreRunningTables-fold t before (write ∷ writes) tables is =
-    subst (λ all. AreRunningTables t all (fold (written t) tables (write ∷ writes))) (append_assoc before (write ∷ []) writes)
-    (AreRunningTables-fold t (before ++ write ∷ []) writes (written t tables write) (AreRunningTables-written t before write tables is))
+pub AreRunningTables-fold : (t : Topology) (custom : Custom) (before writes : List Write) (tables : List (List Pair)) → AreRunningTables t custom before tables → AreRunningTables t custom (before ++ writes) (fold (written t custom) tables writes)
+AreRunningTables-fold t custom before [] tables is = rw append-nil is
+AreRunningTables-fold t custom before (write ∷ writes) tables is =
+    subst (λ all. AreRunningTables t custom all (fold (written t custom) tables (write ∷ writes))) (append_assoc before (write ∷ []) writes)
+    (AreRunningTables-fold t custom (before ++ write ∷ []) writes (written t custom tables write) (AreRunningTables-written t custom before write tables is))
 
 -- ---- the maps behind the tables
 
-module _ (olds : List Values) (state : ℕ) (by : Fold) (key : List ℕ) (amount : ℤ) where
+module _ (olds : List Values) (state : ℕ) (by : Folding) (key : List ℕ) (amount : ℤ) where
   -- the map of a state has the amount folded in
   pub pairs_by-put : (old new : Values) → state < length olds → old ≡ get_or olds state old → pairs_of new ≡ tallied by (pairs_of old) key amount
       → pairs_by (set olds state new) ≡ with_amount (pairs_by olds) state by key amount
@@ -104,25 +104,41 @@ pairs_by-set_same olds i old new read same = map-set_same pairs_of olds i new ol
 
 -- ---- a walk that adds each node's write
 
-abbrev pub at_node : Topology → List (List Pair) → Node → List (List Pair)
-at_node t tables node = option_map_or (written t tables) (write_of t node) tables
+abbrev pub at_node : Topology → Custom → List (List Pair) → Node → List (List Pair)
+at_node t custom tables node = option_map_or (written t custom tables) (write_of t node) tables
 
-fold-at_node : (t : Topology) (nodes : List Node) (tables : List (List Pair)) → fold (at_node t) tables nodes ≡ fold (written t) tables (filter_map (write_of t) nodes)
-fold-at_node t [] tables = refl
-fold-at_node t (node ∷ nodes) tables = fold-at_node t nodes (at_node t tables node) ∙ at (write_of t node)
+fold-at_node : (t : Topology) (custom : Custom) (nodes : List Node) (tables : List (List Pair)) → fold (at_node t custom) tables nodes ≡ fold (written t custom) tables (filter_map (write_of t) nodes)
+fold-at_node t custom [] tables = refl
+fold-at_node t custom (node ∷ nodes) tables = fold-at_node t custom nodes (at_node t custom tables node) ∙ at (write_of t node)
   where
-    at : (o : Option Write) → fold (written t) (option_map_or (written t tables) o tables) (filter_map (write_of t) nodes) ≡ fold (written t) tables (cons_option o (filter_map (write_of t) nodes))
+    at : (o : Option Write) → fold (written t custom) (option_map_or (written t custom tables) o tables) (filter_map (write_of t) nodes) ≡ fold (written t custom) tables (cons_option o (filter_map (write_of t) nodes))
     at None = refl
     at (Some write) = refl
 
+-- the same where the tables stand beside their folds
+module _ {F : Type 0} (meaning : F → Custom) (t : Topology) where
+  abbrev pub filled : Filling F → Node → Filling F
+  filled filling node = record filling { tables = option_map_or (written t (meaning filling.folds) filling.tables) (write_of t node) filling.tables }
+
+  pub fold-filled : (nodes : List Node) (filling : Filling F) → (fold filled filling nodes).tables ≡ fold (at_node t (meaning filling.folds)) filling.tables nodes
+  fold-filled [] filling = refl
+  fold-filled (node ∷ nodes) filling = fold-filled nodes (filled filling node)
+
 -- it leaves the tables of the writes of the whole tree
-pub tables_from_walk : (t : Topology) (custom : Custom) (rows : List (List Value)) (levels : ℕ) (start made : List (List Pair)) → AreRunningTables t [] start → levels ≡ length t.components → made ≡ fold (at_node t) start (flat_map (nodes_from levels t custom) (kids t origin.Spout rows)) → AreRunningTables t (writes t custom rows) made
+pub tables_from_walk : (t : Topology) (custom : Custom) (rows : List (List Value)) (levels : ℕ) (start made : List (List Pair)) → AreRunningTables t custom [] start → levels ≡ length t.components → made ≡ fold (at_node t custom) start (flat_map (nodes_from levels t custom) (kids t origin.Spout rows)) → AreRunningTables t custom (writes t custom rows) made
 unfolding nodes_of
 tables_from_walk t custom rows levels start made empty all walk =
-    rw (walk ∙ fold-at_node t (flat_map (nodes_from levels t custom) (kids t origin.Spout rows)) start, all) (AreRunningTables-fold t [] (writes t custom rows) start empty)
+    rw (walk ∙ fold-at_node t custom (flat_map (nodes_from levels t custom) (kids t origin.Spout rows)) start, all) (AreRunningTables-fold t custom [] (writes t custom rows) start empty)
+
+pub tables_from_filling : {F : Type 0} (meaning : F → Custom) (t : Topology) (custom : Custom) (rows : List (List Value)) (levels : ℕ) (start made : Filling F) → meaning start.folds ≡ custom → AreRunningTables t custom [] start.tables → levels ≡ length t.components
+    → made ≡ fold (filled meaning t) start (flat_map (nodes_from levels t custom) (kids t origin.Spout rows)) → AreRunningTables t custom (writes t custom rows) made.tables
+tables_from_filling {F} meaning t custom rows levels start made by empty all walk =
+    tables_from_walk t custom rows levels start.tables made.tables empty all
+    (ap (λ (f : Filling F). f.tables) walk ∙ fold-filled meaning t (flat_map (nodes_from levels t custom) (kids t origin.Spout rows)) start
+    ∙ ap (λ (c : Custom). fold (at_node t c) start.tables (flat_map (nodes_from levels t custom) (kids t origin.Spout rows))) by)
 
 -- no write is in empty tables
-IsTally-none : (by : Fold) (state : ℕ) → IsTally by [] state []
+IsTally-none : (by : Folding) (state : ℕ) → IsTally by [] state []
 IsTally-none by state = λ key. refl
 
 IfSome-always : {X : Type 0} {P : X → Type 0} (o : Option X) → ((x : X) → P x) → IfSome o P
@@ -134,21 +150,21 @@ get_or-replicate_same zero i x = refl
 get_or-replicate_same (suc n) zero x = refl
 get_or-replicate_same (suc n) (suc i) x = get_or-replicate_same n i x
 
-pub AreRunningTables-none : (t : Topology) → AreRunningTables t [] (replicate (length t.components) [])
-AreRunningTables-none t = record {
+pub AreRunningTables-none : (t : Topology) (custom : Custom) → AreRunningTables t custom [] (replicate (length t.components) [])
+AreRunningTables-none t custom = record {
   count = length-replicate (length t.components) [];
-  tables = λ number. IfSome-always (state_at t number) (λ state. rw (get_or-replicate_same {X = List Pair} (length t.components) number []) (IsTally-none state.by number));
+  tables = λ number. IfSome-always (state_at t custom number) (λ state. rw (get_or-replicate_same {X = List Pair} (length t.components) number []) (IsTally-none state.by number));
 }
 
 range_with_len_more : (n : ℕ) → range_with_len 0 (n + 1) ≡ range_with_len 0 n ++ n ∷ []
 range_with_len_more n = sym (map-id (range_with_len 0 (n + 1))) ∙ map-range_with_len_more (λ (k : ℕ). k) 0 n n (omega arith) ∙ ap (λ ks. ks ++ n ∷ []) (map-id (range_with_len 0 n))
 
-state_by-number : (n : ℕ) (component : Component) (body : Body) (state : StateOf) → state_by n component body ≡ Some state → state.number ≡ n
-state_by-number n component (Bolt op) state found = absurd (none-some state found)
-state_by-number n component (State spec) state found = ap (λ (s : StateOf). s.number) (sym (same_Some _ _ found))
+state_by-number : (custom : Custom) (n : ℕ) (component : Component) (body : Body) (state : StateOf) → state_by custom n component body ≡ Some state → state.number ≡ n
+state_by-number custom n component (Bolt op) state found = absurd (none-some state found)
+state_by-number custom n component (State spec) state found = ap (λ (s : StateOf). s.number) (sym (same_Some _ _ found))
 
-state_at-number : (t : Topology) (n : ℕ) (state : StateOf) → state_at t n ≡ Some state → state.number ≡ n
-state_at-number t n state found = option_and_then_some (λ (component : Component). state_by n component component.body) (slice_get t.components n) state found (λ component there is. state_by-number n component component.body state is)
+state_at-number : (t : Topology) (custom : Custom) (n : ℕ) (state : StateOf) → state_at t custom n ≡ Some state → state.number ≡ n
+state_at-number t custom n state found = option_and_then_some (λ (component : Component). state_by custom n component component.body) (slice_get t.components n) state found (λ component there is. state_by-number custom n component component.body state is)
 
 AllZip-table : (writes : List Write) (o : Option StateOf) (pairs : List Pair) (states : List StateOf) (old new : List Table) → AllZip (IsTableOf writes) states old → IfSome o (λ state. IsTally state.by writes state.number pairs) → AddsTable o pairs old new → AllZip (IsTableOf writes) (states ++ cons_option o []) new
 AllZip-table writes None pairs states old new all table adds = rw (append-nil states, adds) all
@@ -156,12 +172,12 @@ AllZip-table writes (Some state) pairs states old new all tally adds =
     rw adds.2 (all_zipped_more (IsTableOf writes) states old state (record { name = state.name; pairs = adds.0 }) all (record { name = refl; pairs = record { ordered = adds.1.ordered; values = λ key. adds.1.values key ∙ tally key } }))
 
 -- one more component in a list of tables
-pub tables_more : (t : Topology) (writes : List Write) (tables : List (List Pair)) (n : ℕ) (component : Component) (pairs : List Pair) (old new : List Table) → slice_get t.components n ≡ Some component → pairs ≡ get_or tables n [] → AreRunningTables t writes tables
-    → AddsTable (state_by n component component.body) pairs old new → AllZip (IsTableOf writes) (filter_map (state_at t) (range_with_len 0 n)) old → AllZip (IsTableOf writes) (filter_map (state_at t) (range_with_len 0 (n + 1))) new
-tables_more t writes tables n component pairs old new there same is adds all =
-    let at : state_at t n ≡ state_by n component component.body = ap (option_and_then (λ (c : Component). state_by n c c.body)) there in
-    let tally : IfSome (state_at t n) (λ state. IsTally state.by writes state.number pairs) =
-    IfSome_with (state_at t n) (is.tables n) (λ state found tally. rw (state_at-number t n state found, same) tally) in
-    let more : filter_map (state_at t) (range_with_len 0 (n + 1)) ≡ filter_map (state_at t) (range_with_len 0 n) ++ cons_option (state_at t n) [] =
-    ap (filter_map (state_at t)) (range_with_len_more n) ∙ filter_map-append (state_at t) (range_with_len 0 n) (n ∷ []) in
-    rw more (AllZip-table writes (state_at t n) pairs (filter_map (state_at t) (range_with_len 0 n)) old new all tally (rw at adds))
+pub tables_more : (t : Topology) (custom : Custom) (writes : List Write) (tables : List (List Pair)) (n : ℕ) (component : Component) (pairs : List Pair) (old new : List Table) → slice_get t.components n ≡ Some component → pairs ≡ get_or tables n [] → AreRunningTables t custom writes tables
+    → AddsTable (state_by custom n component component.body) pairs old new → AllZip (IsTableOf writes) (filter_map (state_at t custom) (range_with_len 0 n)) old → AllZip (IsTableOf writes) (filter_map (state_at t custom) (range_with_len 0 (n + 1))) new
+tables_more t custom writes tables n component pairs old new there same is adds all =
+    let at : state_at t custom n ≡ state_by custom n component component.body = ap (option_and_then (λ (c : Component). state_by custom n c c.body)) there in
+    let tally : IfSome (state_at t custom n) (λ state. IsTally state.by writes state.number pairs) =
+    IfSome_with (state_at t custom n) (is.tables n) (λ state found tally. rw (state_at-number t custom n state found, same) tally) in
+    let more : filter_map (state_at t custom) (range_with_len 0 (n + 1)) ≡ filter_map (state_at t custom) (range_with_len 0 n) ++ cons_option (state_at t custom n) [] =
+    ap (filter_map (state_at t custom)) (range_with_len_more n) ∙ filter_map-append (state_at t custom) (range_with_len 0 n) (n ∷ []) in
+    rw more (AllZip-table writes (state_at t custom n) pairs (filter_map (state_at t custom) (range_with_len 0 n)) old new all tally (rw at adds))

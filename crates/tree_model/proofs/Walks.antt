@@ -9,7 +9,6 @@ use Rattle.std.proofs.lemmas.List.Elements.{All-from_recursion, recursion_from_A
 use Rattle.std.specs.Option.{option_to_list}
 use Rattle.storm_values.specs.declared.value.Value.{Value}
 use Rattle.bolt_ops.specs.RowOp.{Custom}
-use Rattle.topology_plan.specs.declared.parts.Component.{Component}
 use Rattle.topology_plan.specs.declared.parts.Origin.TheVariants as origin
 use Rattle.topology_plan.specs.Topology.{Topology}
 use Rattle.tree_model.specs.declared.plain.NodeCounter.{NodeCounter}

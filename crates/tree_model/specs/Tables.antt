@@ -8,11 +8,13 @@ use Rattle.std.specs.Cmp.Lexicographic.{slice_cmp}
 use Rattle.std.specs.Ordering.{nat_cmp}
 use Rattle.std.specs.Int.{int_max, saturate_signed, w128}
 use Rattle.std.specs.Str.{bytes_eq}
+use Rattle.bolt_ops.specs.RowOp.{Custom}
 use Rattle.topology_plan.specs.declared.parts.Body.{Body}
 use Rattle.topology_plan.specs.declared.parts.Body.TheVariants.{Bolt, State}
 use Rattle.topology_plan.specs.declared.parts.Component.{Component}
 use Rattle.topology_plan.specs.declared.parts.Fold.{Fold}
 use Rattle.topology_plan.specs.declared.parts.Fold.TheVariants.{Count, Sum, Last, Max}
+use Rattle.topology_plan.specs.declared.parts.Fold.TheVariants as fold_of
 use Rattle.topology_plan.specs.Topology.{Topology}
 use Rattle.tree_model.specs.declared.write.Write.{Write}
 use Rattle.tree_model.specs.declared.write.Pair.{Pair}
@@ -20,14 +22,21 @@ use Rattle.tree_model.specs.declared.write.Table.{Table}
 
 -- ---- the value of a key
 
--- A key's value after one more amount, from its value before, if it has one. Sums end
--- at the ends of 128 bits.
-abbrev pub folded : Fold → Option ℤ → ℤ → ℤ
-folded Count old amount = saturate_signed w128 (unwrap_or old (pos 0) +ℤ amount)
-folded Sum old amount = saturate_signed w128 (unwrap_or old (pos 0) +ℤ amount)
-folded Last old amount = amount
-folded Max None amount = amount
-folded Max (Some old) amount = int_max old amount
+-- What a fold does: a key's value after one more amount, from its value before, if it has one.
+abbrev pub Folding : Type 0
+Folding = Option ℤ → ℤ → ℤ
+
+-- What a topology's fold does, `custom` being what the user-supplied operation means. Sums end at
+-- the ends of 128 bits. A custom fold begins with `one` of the first amount, and combines the
+-- value with `one` of each further amount.
+abbrev pub folded : Custom → Fold → Option ℤ → ℤ → ℤ
+folded custom Count old amount = saturate_signed w128 (unwrap_or old (pos 0) +ℤ amount)
+folded custom Sum old amount = saturate_signed w128 (unwrap_or old (pos 0) +ℤ amount)
+folded custom Last old amount = amount
+folded custom Max None amount = amount
+folded custom Max (Some old) amount = int_max old amount
+folded custom fold_of.Custom None amount = custom.one amount
+folded custom fold_of.Custom (Some old) amount = custom.combine old (custom.one amount)
 
 -- the amounts that are written for a key of a state, in order
 abbrev pub amounts_of : List Write → ℕ → List ℕ → List ℤ
@@ -36,9 +45,9 @@ amounts_of writes state key =
     (filter (λ (write : Write). (write.state == state) && bytes_eq write.key key) writes)
 
 -- the value of a key of a state, where something is written for it
-abbrev pub base : Fold → List Write → ℕ → List ℕ → Option ℤ
+abbrev pub base : Folding → List Write → ℕ → List ℕ → Option ℤ
 base by writes state key =
-    fold (λ old amount. Some (folded by old amount)) None (amounts_of writes state key)
+    fold (λ old amount. Some (by old amount)) None (amounts_of writes state key)
 
 -- ---- tables
 
@@ -53,36 +62,36 @@ AreInOrder pairs =
     IsStrictlySortedBy (slice_cmp nat_cmp) (map (λ (pair : Pair). pair.key) pairs)
 
 -- the pairs have each key that is written for a state, with its value
-abbrev pub IsTally : Fold → List Write → ℕ → List Pair → Type 0
+abbrev pub IsTally : Folding → List Write → ℕ → List Pair → Type 0
 IsTally by writes state pairs =
     (key : List ℕ) → value_at pairs key ≡ base by writes state key
 
 -- the pairs have each key that is written for a state, once and in the order of
 -- their bytes, with its value
-pub record IsTable (by : Fold) (writes : List Write) (state : ℕ) (pairs : List Pair) : Type 0 where
+pub record IsTable (by : Folding) (writes : List Write) (state : ℕ) (pairs : List Pair) : Type 0 where
   pub ordered : AreInOrder pairs
   pub values : IsTally by writes state pairs
 
--- a state by its component number, with its name and its fold
+-- a state by its component number, with its name and what its fold does
 pub record StateOf : Type 0 where
   pub number : ℕ
   pub name : List ℕ
-  pub by : Fold
+  pub by : Folding
 
-abbrev pub state_by : ℕ → Component → Body → Option StateOf
-state_by number component (Bolt op) = None
-state_by number component (State spec) =
-    Some (record { number = number; name = component.name; by = spec.fold })
+abbrev pub state_by : Custom → ℕ → Component → Body → Option StateOf
+state_by custom number component (Bolt op) = None
+state_by custom number component (State spec) =
+    Some (record { number = number; name = component.name; by = folded custom spec.fold })
 
 -- the state of a component number
-abbrev pub state_at : Topology → ℕ → Option StateOf
-state_at t number =
-    option_and_then (λ (component : Component). state_by number component component.body)
+abbrev pub state_at : Topology → Custom → ℕ → Option StateOf
+state_at t custom number =
+    option_and_then (λ (component : Component). state_by custom number component component.body)
     (slice_get t.components number)
 
 -- the states of a topology, in the order of their numbers
-abbrev pub states_of : Topology → List StateOf
-states_of t = filter_map (state_at t) (range_with_len 0 (length t.components))
+abbrev pub states_of : Topology → Custom → List StateOf
+states_of t custom = filter_map (state_at t custom) (range_with_len 0 (length t.components))
 
 -- the table of one state
 pub record IsTableOf (writes : List Write) (state : StateOf) (table : Table) : Type 0 where
@@ -90,38 +99,38 @@ pub record IsTableOf (writes : List Write) (state : StateOf) (table : Table) : T
   pub pairs : IsTable state.by writes state.number table.pairs
 
 -- the tables of all states, in order
-abbrev pub AreTables : Topology → List Write → List Table → Type 0
-AreTables t writes tables = AllZip (IsTableOf writes) (states_of t) tables
+abbrev pub AreTables : Topology → Custom → List Write → List Table → Type 0
+AreTables t custom writes tables = AllZip (IsTableOf writes) (states_of t custom) tables
 
 -- ---- running tables
 
 -- The pairs of a state after one more amount for a key: the key's pair has it folded in, and a
 -- key that has no pair gets one at the end. So the keys stand in the order in which they came.
-abbrev pub tallied : Fold → List Pair → List ℕ → ℤ → List Pair
-tallied by [] key amount = record { key = key; value = folded by None amount } ∷ []
+abbrev pub tallied : Folding → List Pair → List ℕ → ℤ → List Pair
+tallied by [] key amount = record { key = key; value = by None amount } ∷ []
 tallied by (pair ∷ pairs) key amount =
     cond (bytes_eq key pair.key)
-    (record { key = pair.key; value = folded by (Some pair.value) amount } ∷ pairs)
+    (record { key = pair.key; value = by (Some pair.value) amount } ∷ pairs)
     (pair ∷ tallied by pairs key amount)
 
 -- the pairs of each component, with one more amount for a key of a state
-abbrev pub with_amount : List (List Pair) → ℕ → Fold → List ℕ → ℤ → List (List Pair)
+abbrev pub with_amount : List (List Pair) → ℕ → Folding → List ℕ → ℤ → List (List Pair)
 with_amount running state by key amount =
     set running state (tallied by (slice_index_or running state []) key amount)
 
 -- the pairs of each component after one more write, which changes those of its state
-abbrev pub written : Topology → List (List Pair) → Write → List (List Pair)
-written t running write =
+abbrev pub written : Topology → Custom → List (List Pair) → Write → List (List Pair)
+written t custom running write =
     option_map_or
     (λ (state : StateOf). with_amount running write.state state.by write.key write.amount)
-    (state_at t write.state) running
+    (state_at t custom write.state) running
 
 -- the pairs of each component, where a state's have each key that was written for it
-pub record AreRunningTables (t : Topology) (writes : List Write)
+pub record AreRunningTables (t : Topology) (custom : Custom) (writes : List Write)
     (running : List (List Pair)) : Type 0 where
   pub count : length running ≡ length t.components
   pub tables : (number : ℕ)
-      → IfSome (state_at t number)
+      → IfSome (state_at t custom number)
       (λ state. IsTally state.by writes number (slice_index_or running number []))
 
 -- the same pairs in the order of their keys

@@ -15,6 +15,7 @@ use Rattle.topology_plan.specs.declared.parts.Body.TheVariants.{Bolt, State}
 use Rattle.topology_plan.specs.declared.parts.Component.{Component}
 use Rattle.topology_plan.specs.declared.parts.Fold.{Fold}
 use Rattle.topology_plan.specs.declared.parts.Fold.TheVariants.{Count, Sum, Last, Max}
+use Rattle.topology_plan.specs.declared.parts.Fold.TheVariants as fold_of
 use Rattle.topology_plan.specs.declared.parts.Origin.{Origin}
 use Rattle.topology_plan.specs.declared.parts.Origin.TheVariants as origin
 use Rattle.topology_plan.specs.declared.parts.StateSpec.{StateSpec}
@@ -119,6 +120,7 @@ amount_by Count field = pos 1
 amount_by Sum field = int_of field
 amount_by Last field = int_of field
 amount_by Max field = int_of field
+amount_by fold_of.Custom field = int_of field
 
 -- what a state with this many parts is to add for a row
 abbrev pub write_by : ℕ → ℕ → Body → List Value → Option Write

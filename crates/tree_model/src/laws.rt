@@ -54,8 +54,8 @@ pub fn children_are_made_of_rows()
 
 /// A law: writes leave one list of tables alone.
 pub fn tables_are_one()
-    ensures { (t : Topology) (made : List Write) (a b : List Table)
-        → AreTables t made a → AreTables t made b → a ≡ b }
+    ensures { (t : Topology) (custom : Custom) (made : List Write) (a b : List Table)
+        → AreTables t custom made a → AreTables t custom made b → a ≡ b }
 {}
 
 /// A law: a path of one number leads to a node that the rows make, and one more number leads

@@ -4,6 +4,7 @@
 //! lists this one alone.
 #![tactic(auto)]
 
+mod fold;
 mod laws;
 mod messages;
 mod packed;
@@ -14,6 +15,7 @@ mod write;
 
 pub use bolt_ops;
 pub use counted_items;
+pub use fold::fold_amount;
 pub use laws::{
     children_are_made_of_rows, nodes_of_joined_rows, paths_lead_to_children,
     rows_of_nodes_are_within_limits, tables_are_one, true_lists_say_what_is_true,
@@ -22,7 +24,6 @@ pub use laws::{
 pub use messages::{AckMsg, Done, Draw, FailNote, Init, Parcel, Parcels, Tuple};
 pub use packed::{LentWrite, PackedWrites};
 pub use plain::{count_nodes, plain_tables};
-pub use running::RunningTables;
 pub use storm_values;
 pub use topology_plan;
 pub use tuple_tickets;

@@ -4,7 +4,8 @@ ghost use Rattle.topology_plan.specs.Wired.{width_of};
 ghost use Rattle.tree_model.specs.Tables.{AreTables};
 ghost use Rattle.tree_model.specs.Trees.{node_count, writes};
 
-use crate::running::RunningTables;
+use crate::fold::FoldsOf;
+use crate::running::{Filling, RunningTables};
 use crate::tree::{Tree, Visitor};
 use crate::write::Tables;
 use bolt_ops::RowOp;
@@ -22,21 +23,24 @@ pub fn plain_tables<O: RowOp>(
 ) -> Result<Tables, Memory>
     requires { All (IsRow (width_of plan.now Origin.Spout)) rows.now }
     ensures { IfOk result
-        (AreTables plan.now (writes plan.now (O.meaning custom.now) rows.now)) }
+        (AreTables plan.now (O.meaning custom.now) (writes plan.now (O.meaning custom.now) rows.now)) }
 {
-    let mut running = RunningTables::new(alloc, plan)?;
+    let mut filling = Filling {
+        tables: RunningTables::new(alloc, plan)?,
+        folds: FoldsOf { custom },
+    };
     let tree = Tree {
         alloc,
         plan,
         custom,
     };
     tree.visit_rows(
-        &mut running,
+        &mut filling,
         plan.components(),
         Origin::Spout,
         rows.as_slice(),
     )?;
-    running.tables(alloc, plan)
+    filling.tables.tables(alloc, plan)
 }
 
 /// How many nodes the rows' tuple tree has, or `u64::MAX` where there are more.

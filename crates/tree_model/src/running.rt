@@ -1,12 +1,15 @@
-ghost use Rattle.std.specs.Prelude.{◌≡◌, ℕ, List, [], ◌∷◌, ◌++◌, map, take, fold, true, false, slice_get, option_and_then, option_map, IfOk, IfSome, OnOk, OnErr};
+ghost use Rattle.std.specs.Prelude.{◌≡◌, ℕ, List, [], map, true, false, slice_get, option_and_then, IfOk, IfSome, OnOk, OnErr};
 ghost use Rattle.storm_values.specs.Keys.{text_of, quoted};
 ghost use Rattle.storm_values.specs.Rows.{values_in};
+ghost use Rattle.bolt_ops.specs.RowOp.{Custom};
+ghost use Rattle.tree_model.specs.declared.write.Write.{Write};
 ghost use Rattle.tree_model.specs.Inside.{entries_of, pairs_of, pairs_by, quoted_entry};
 ghost use Rattle.tree_model.specs.Trees.{amount_by, key_of};
-ghost use Rattle.tree_model.specs.Tables.{AddsTable, AreSorted, AreTables, AreRunningTables, folded, tallied, with_amount, written, state_at, state_by};
+ghost use Rattle.tree_model.specs.Tables.{AddsTable, AreSorted, AreTables, AreRunningTables, folded, tallied, with_amount, state_by};
 
+use crate::fold::Folds;
 use crate::tree::Visitor;
-use crate::write::{Pair, Pairs, Table, Tables, Write, Writes, amount};
+use crate::write::{Pair, Pairs, Table, Tables, amount};
 use indexmap::IndexMap;
 use std::alloc::Global;
 use std::marker::Model;
@@ -27,7 +30,7 @@ struct Values {
 
 /// The tables of the states so far.
 #[derive(Debug, Drop)]
-pub struct RunningTables {
+pub(crate) struct RunningTables {
     values: Vec<Values>,
     // where the next key is written
     room: String,
@@ -39,6 +42,7 @@ impl Model for RunningTables {
 
     ghost Value = { List (List Pair) };
 
+    ghost use Rattle.bolt_ops.specs.RowOp.{Custom};
     ghost use Rattle.tree_model.specs.Inside.{pairs_by};
 
     ghost view = { λ tables. pairs_by tables.values.items };
@@ -46,8 +50,9 @@ impl Model for RunningTables {
 
 impl RunningTables {
     /// The tables before any write.
-    pub fn new(alloc: Global, plan: &Plan) -> Result<Self, Memory>
-        ensures { IfOk result (AreRunningTables plan.now []) }
+    pub(crate) fn new(alloc: Global, plan: &Plan) -> Result<Self, Memory>
+        ensures { IfOk result
+            (λ tables. (custom : Custom) → AreRunningTables plan.now custom [] tables) }
     {
         let mut values = Vec::new(alloc);
         for _ in 0..plan.components() {
@@ -57,23 +62,12 @@ impl RunningTables {
         Ok(RunningTables { values, room })
     }
 
-    /// Folds the amounts of some writes in, in order. Without memory a first part of the writes is
-    /// in.
-    pub fn add(&mut self, plan: &Plan, writes: Writes) -> Result<(), Memory>
-        ensures ok { OnOk result ((before : List Write) → AreRunningTables plan.now before self.old
-            → AreRunningTables plan.now (before ++ writes) self.new) }
-        ensures err { OnErr result
-            ((before : List Write) → AreRunningTables plan.now before self.old
-            → (done : ℕ) × AreRunningTables plan.now (before ++ take done writes) self.new) }
-    {
-        add_all(&mut self.values, plan, writes.into_vec())
-    }
-
     /// The tables of the states, whose keys are sorted here, once.
-    pub fn tables(self, alloc: Global, plan: &Plan) -> Result<Tables, Memory>
+    pub(crate) fn tables(self, alloc: Global, plan: &Plan) -> Result<Tables, Memory>
         ensures { IfOk result
-            (λ tables. (writes : List Write) → AreRunningTables plan.now writes self
-            → AreTables plan.now writes tables) }
+            (λ tables. (custom : Custom) (writes : List Write)
+            → AreRunningTables plan.now custom writes self
+            → AreTables plan.now custom writes tables) }
     {
         let mut tables = Seq::new(alloc);
         for (number, values) in (0..plan.components()).zip(self.values) {
@@ -83,12 +77,22 @@ impl RunningTables {
     }
 }
 
-impl Visitor for RunningTables {
+/// The tables so far, and the folds by which amounts go in.
+#[derive(Drop)]
+pub(crate) struct Filling<F> {
+    pub(crate) tables: RunningTables,
+    pub(crate) folds: F,
+}
+
+impl<F: Folds> Visitor for Filling<F> {
     ghost use Rattle.std.specs.Option.{option_map_or};
     ghost use Rattle.tree_model.specs.Tables.{written};
     ghost use Rattle.tree_model.specs.Trees.{write_of};
 
-    ghost visited = { λ t tables node. option_map_or (written t tables) (write_of t node) tables };
+    ghost visited = { λ t filling node. record filling {
+      tables = option_map_or (written t (F.meaning filling.folds) filling.tables)
+          (write_of t node) filling.tables;
+    } };
 
     fn visit(
         &mut self,
@@ -100,8 +104,9 @@ impl Visitor for RunningTables {
         if let Body::State(spec) = &plan.component(component).body {
             add_row(
                 alloc,
-                &mut self.values,
-                &mut self.room,
+                &mut self.tables.values,
+                &mut self.tables.room,
+                &self.folds,
                 component,
                 spec,
                 row,
@@ -119,9 +124,9 @@ fn add_table(
     values: Values,
 ) -> Result<(), Memory>
     ensures { OnOk result
-        ((number : ℕ)
-        → AddsTable (state_by number component.now component.now.body) (pairs_of values) tables.old
-        tables.new) }
+        ((custom : Custom) (number : ℕ)
+        → AddsTable (state_by custom number component.now component.now.body) (pairs_of values)
+        tables.old tables.new) }
 {
     if let Body::State(_) = component.body {
         let name = component.name.copy()?;
@@ -157,83 +162,26 @@ fn pairs(alloc: Global, entries: Entries) -> Result<Pairs, Memory>
     Ok(Seq::from_vec(pairs))
 }
 
-/// Adds writes to the maps of the components, in order.
-fn add_all(values: &mut Vec<Values>, plan: &Plan, writes: Vec<Write>) -> Result<(), Memory>
-    ensures ok { OnOk result (pairs_by values.new.items
-        ≡ fold (written plan.now) (pairs_by values.old.items) writes.items) }
-    ensures err { OnErr result ((done : ℕ) × (pairs_by values.new.items
-        ≡ fold (written plan.now) (pairs_by values.old.items) (take done writes.items))) }
-{
-    for write in writes {
-        add_one(values, plan, &write)?;
-    }
-    Ok(())
-}
-
-/// Adds a write to the map of its state.
-fn add_one(values: &mut Vec<Values>, plan: &Plan, write: &Write) -> Result<(), Memory>
-    ensures ok { OnOk result
-        (pairs_by values.new.items ≡ written plan.now (pairs_by values.old.items) write.now) }
-    ensures err { OnErr result (pairs_by values.new.items ≡ pairs_by values.old.items) }
-{
-    match fold_of(plan, write.state) {
-        Some(by) => add_amount(values, write.state, by, &write.key, write.amount),
-        None => Ok(()),
-    }
-}
-
-/// Folds an amount into the map of a state, if there is one.
-fn add_amount(
-    values: &mut Vec<Values>,
-    state: u32,
-    by: Fold,
-    key: &Txt,
-    amount: i64,
-) -> Result<(), Memory>
-    ensures ok { OnOk result (pairs_by values.new.items
-        ≡ with_amount (pairs_by values.old.items) state by key.now amount) }
-    ensures err { OnErr result (pairs_by values.new.items ≡ pairs_by values.old.items) }
-{
-    let state = state as usize;
-    if state < values.len() {
-        put_key(&mut values[state], by, key, amount)
-    } else {
-        Ok(())
-    }
-}
-
 /// Folds what a row is to add into the map of a state, if there is one.
-fn add_row(
+fn add_row<F: Folds>(
     alloc: Global,
     values: &mut Vec<Values>,
     room: &mut String,
+    folds: &F,
     state: u32,
     spec: &StateSpec,
     row: &Row,
 ) -> Result<(), Memory>
     ensures { OnOk result (pairs_by values.new.items
-        ≡ with_amount (pairs_by values.old.items) state spec.now.fold
-        (text_of (key_of spec.now row.now))
+        ≡ with_amount (pairs_by values.old.items) state
+        (folded (F.meaning folds.now) spec.now.fold) (text_of (key_of spec.now row.now))
         (amount_by spec.now.fold (option_and_then (slice_get row.now) spec.now.amount))) }
 {
     let state = state as usize;
     if state < values.len() {
-        put_row(alloc, &mut values[state], room, spec, row)
+        put_row(alloc, &mut values[state], room, folds, spec, row)
     } else {
         Ok(())
-    }
-}
-
-/// The fold of a component that is a state.
-fn fold_of(plan: &Plan, number: u32) -> Option<Fold>
-    ensures { result ≡ option_map (λ state. state.by) (state_at plan.now number) }
-{
-    if number >= plan.components() {
-        return None;
-    }
-    match &plan.component(number).body {
-        Body::State(spec) => Some(spec.fold),
-        Body::Bolt(_) => None,
     }
 }
 
@@ -248,23 +196,25 @@ fn no_values(alloc: Global) -> Values
 
 /// Folds what a row is to add into the value of its key. A key that is kept plain is neither made
 /// nor copied, but where it is new.
-fn put_row(
+fn put_row<F: Folds>(
     alloc: Global,
     values: &mut Values,
     room: &mut String,
+    folds: &F,
     spec: &StateSpec,
     row: &Row,
 ) -> Result<(), Memory>
     ensures { OnOk result (pairs_of values.new
-        ≡ tallied spec.now.fold (pairs_of values.old) (text_of (key_of spec.now row.now))
+        ≡ tallied (folded (F.meaning folds.now) spec.now.fold) (pairs_of values.old)
+        (text_of (key_of spec.now row.now))
         (amount_by spec.now.fold (option_and_then (slice_get row.now) spec.now.amount))) }
 {
     let (fields, added) = (spec.key.as_slice(), amount(spec, row));
     match kept_plain(values.plain, row.as_slice(), fields) {
-        Some(text) => put(&mut values.entries, spec.fold, text, added),
+        Some(text) => put(&mut values.entries, folds, spec.fold, text, added),
         None => {
             let key = key_text_in(alloc, room, row.as_slice(), fields)?;
-            put_key(values, spec.fold, &key, added)
+            put_key(values, folds, spec.fold, &key, added)
         }
     }
 }
@@ -279,13 +229,19 @@ fn kept_plain<'r>(plain: bool, row: &'r [Value], fields: &[u32]) -> Option<&'r T
 }
 
 /// Folds an amount into the value of a key's JSON text, which takes the place of plain keys.
-fn put_key(values: &mut Values, by: Fold, key: &Txt, amount: i64) -> Result<(), Memory>
-    ensures ok { OnOk result
-        (pairs_of values.new ≡ tallied by (pairs_of values.old) key.now amount) }
+fn put_key<F: Folds>(
+    values: &mut Values,
+    folds: &F,
+    by: Fold,
+    key: &Txt,
+    amount: i64,
+) -> Result<(), Memory>
+    ensures ok { OnOk result (pairs_of values.new
+        ≡ tallied (folded (F.meaning folds.now) by) (pairs_of values.old) key.now amount) }
     ensures err { OnErr result (pairs_of values.new ≡ pairs_of values.old) }
 {
     make_whole(values)?;
-    put(&mut values.entries, by, key, amount)
+    put(&mut values.entries, folds, by, key, amount)
 }
 
 /// Puts the JSON texts of the keys in the place of plain keys.
@@ -317,31 +273,25 @@ fn quoted_entries(entries: &Entries) -> Result<Entries, Memory>
 
 /// Folds an amount into the value of a text, with one search where the key has one. A new text
 /// is copied.
-fn put(entries: &mut Entries, by: Fold, key: &Txt, amount: i64) -> Result<(), Memory>
-    ensures ok { OnOk result
-        (entries_of entries.new ≡ tallied by (entries_of entries.old) key.now amount) }
+fn put<F: Folds>(
+    entries: &mut Entries,
+    folds: &F,
+    by: Fold,
+    key: &Txt,
+    amount: i64,
+) -> Result<(), Memory>
+    ensures ok { OnOk result (entries_of entries.new
+        ≡ tallied (folded (F.meaning folds.now) by) (entries_of entries.old) key.now amount) }
     ensures err { OnErr result (entries_of entries.new ≡ entries_of entries.old) }
 {
     match entries.get_mut(key) {
         Some(value) => {
-            *value = folded(by, Some(*value), amount);
+            *value = folds.fold(by, Some(*value), amount);
             Ok(())
         }
         None => {
-            entries.insert(key.copy()?, folded(by, None, amount))?;
+            entries.insert(key.copy()?, folds.fold(by, None, amount))?;
             Ok(())
         }
-    }
-}
-
-/// A key's value after one more amount.
-fn folded(by: Fold, old: Option<i128>, amount: i64) -> i128
-    ensures { result ≡ folded by old amount }
-{
-    let amount = i128::from(amount);
-    match by {
-        Fold::Count | Fold::Sum => old.unwrap_or(0).saturating_add(amount),
-        Fold::Last => amount,
-        Fold::Max => old.map_or(amount, |old| old.max(amount)),
     }
 }

@@ -126,7 +126,7 @@ pub(crate) fn amount(spec: &StateSpec, row: &Row) -> i64
 {
     match spec.fold {
         Fold::Count => 1,
-        Fold::Sum | Fold::Last | Fold::Max => number_at(row, spec.amount),
+        Fold::Sum | Fold::Last | Fold::Max | Fold::Custom => number_at(row, spec.amount),
     }
 }
 

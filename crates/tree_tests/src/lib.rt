@@ -7,4 +7,6 @@ mod copies;
 #[cfg(test)]
 mod edges;
 #[cfg(test)]
+mod folds;
+#[cfg(test)]
 mod trees;

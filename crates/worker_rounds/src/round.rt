@@ -152,7 +152,7 @@ pub fn caller_round<R: Threads + Wait + Sync, I: Ids, C: CellStore + Send, O: Ro
     laws_of_rounds();
     open_round(rt, posts.plan, engine, custom, gate)?;
     tick_board(board, seat, passed);
-    close_round_beside(rt, engine, parts, threads, passed)?;
+    close_round_beside(rt, engine, parts, custom, threads, passed)?;
     sweep(rt, alloc, posts, row, engine)?;
     Ok(())
 }

@@ -6,24 +6,27 @@ use Rattle.event_worlds.specs.topology_plan.Topology.{Topology}
 use Rattle.schedule_core.proofs.beside.close_round_beside.Goals as goal
 
 pub returns-in_err-coordinate_beside-clause-bad : goal.returns-in_err-coordinate_beside-clause-bad
-returns-in_err-coordinate_beside-clause-bad g c = λ custom key is.
+returns-in_err-coordinate_beside-clause-bad g c = λ key is.
+    let custom = g.O.RowOp.meaning c.args.custom.now in
     let old = c.args.engine.now in
     let laws = c.laws_of_steps.ensures (topology_in old) custom (cut_in old) in
     let ticked = c.tick_on.ensures in
     breaks_on g.I.Ids.tells g.C.CellStore.tells g.C.CellStore.fault_count custom (λ (u : Topology). replicate c.args.passed of_tick) (λ (u : Topology). coordinator_steps) old c.tick_on.new.engine c.coordinate_beside.new.engine c.args.parts.now c.coordinate_beside.new.parts laws ticked.same_run (ticked.goes custom) ticked.still key
-    (c.coordinate_beside.ensures.bad custom key (handed_on c.from_residual.result c.coordinate_beside.result _ _ c.from_residual.ensures.1 c.in_err-coordinate_beside.was is))
+    (c.coordinate_beside.ensures.bad key (handed_on c.from_residual.result c.coordinate_beside.result _ _ c.from_residual.ensures.1 c.in_err-coordinate_beside.was is))
 
 pub returns-in_err-coordinate_beside-clause-short : goal.returns-in_err-coordinate_beside-clause-short
-returns-in_err-coordinate_beside-clause-short g c = λ custom is.
+returns-in_err-coordinate_beside-clause-short g c = λ is.
+    let custom = g.O.RowOp.meaning c.args.custom.now in
     let old = c.args.engine.now in
     let laws = c.laws_of_steps.ensures (topology_in old) custom (cut_in old) in
     let ticked = c.tick_on.ensures in
     wants_on g.I.Ids.tells g.C.CellStore.tells g.C.CellStore.fault_count custom (λ (u : Topology). replicate c.args.passed of_tick) old c.tick_on.new.engine c.coordinate_beside.new.engine.fates c.args.parts.now c.coordinate_beside.new.parts laws ticked.same_run (ticked.goes custom) ticked.still
-    (c.coordinate_beside.ensures.short custom (handed_on c.from_residual.result c.coordinate_beside.result _ _ c.from_residual.ensures.1 c.in_err-coordinate_beside.was is))
+    (c.coordinate_beside.ensures.short (handed_on c.from_residual.result c.coordinate_beside.result _ _ c.from_residual.ensures.1 c.in_err-coordinate_beside.was is))
 
 pub returns-clause-drives : goal.returns-clause-drives
-returns-clause-drives g c = λ custom.
+returns-clause-drives g c =
+    let custom = g.O.RowOp.meaning c.args.custom.now in
     let old = c.args.engine.now in
     let laws = c.laws_of_steps.ensures (topology_in old) custom (cut_in old) in
     let ticked = c.tick_on.ensures in
-    drives_on g.I.Ids.tells g.C.CellStore.tells g.C.CellStore.fault_count custom (λ (u : Topology). replicate c.args.passed of_tick) (λ (u : Topology). coordinator_steps) old c.tick_on.new.engine c.coordinate_beside.new.engine c.args.parts.now c.coordinate_beside.new.parts laws ticked.same_run (ticked.goes custom) ticked.still (c.in_ok-coordinate_beside.ensures.drives custom)
+    drives_on g.I.Ids.tells g.C.CellStore.tells g.C.CellStore.fault_count custom (λ (u : Topology). replicate c.args.passed of_tick) (λ (u : Topology). coordinator_steps) old c.tick_on.new.engine c.coordinate_beside.new.engine c.args.parts.now c.coordinate_beside.new.parts laws ticked.same_run (ticked.goes custom) ticked.still (c.in_ok-coordinate_beside.ensures.drives)

@@ -12,7 +12,7 @@ returns-in_err-coordinate-in-Coord-clause-bad g c = λ key is.
     let old = c.args.engine.now in
     let custom = g.O.RowOp.meaning c.args.custom.now in
     breaks_as g.I.Ids.tells g.C.CellStore.tells g.C.CellStore.fault_count custom (topology_in old) (cut_in old) c.args.event _ key old c.coordinate.new.engine c.args.parts.now c.coordinate.new.parts c.in-Coord.is
-    (c.coordinate.ensures.bad custom key (handed_on c.from_residual-in_err-coordinate-in-Coord.result c.coordinate.result _ _ c.from_residual-in_err-coordinate-in-Coord.ensures.1 c.in_err-coordinate-in-Coord.was is))
+    (c.coordinate.ensures.bad key (handed_on c.from_residual-in_err-coordinate-in-Coord.result c.coordinate.result _ _ c.from_residual-in_err-coordinate-in-Coord.ensures.1 c.in_err-coordinate-in-Coord.was is))
 
 pub returns-in_err-rounds-in-Rounds-clause-bad : goal.returns-in_err-rounds-in-Rounds-clause-bad
 returns-in_err-rounds-in-Rounds-clause-bad g c = λ key is.
@@ -24,7 +24,7 @@ returns-in_err-rounds-in-Rounds-clause-bad g c = λ key is.
 pub returns-in_err-coordinate-in-Coord-clause-short : goal.returns-in_err-coordinate-in-Coord-clause-short
 returns-in_err-coordinate-in-Coord-clause-short g c = λ is.
     let custom = g.O.RowOp.meaning c.args.custom.now in
-    c.coordinate.ensures.short custom (handed_on c.from_residual-in_err-coordinate-in-Coord.result c.coordinate.result _ _ c.from_residual-in_err-coordinate-in-Coord.ensures.1 c.in_err-coordinate-in-Coord.was is)
+    c.coordinate.ensures.short (handed_on c.from_residual-in_err-coordinate-in-Coord.result c.coordinate.result _ _ c.from_residual-in_err-coordinate-in-Coord.ensures.1 c.in_err-coordinate-in-Coord.was is)
 
 pub returns-in_err-rounds-in-Rounds-clause-short : goal.returns-in_err-rounds-in-Rounds-clause-short
 returns-in_err-rounds-in-Rounds-clause-short g c = λ is.
@@ -106,7 +106,7 @@ returns-clause-drives g c =
           (drives-still tells holds count t custom cut laws (of_acker w.in-Acker.n ∷ []) old w.acker.new.self parts (now.goes custom) w.acker.ensures.still)
       | in-Coord+in_ok-coordinate-in-Coord w ↦
           let now = w.in_ok-coordinate-in-Coord.ensures in
-          drives_as tells holds count custom t cut c.args.event _ old w.coordinate.new.engine c.match-event.engine parts w.coordinate.new.parts c.match-event.parts w.in-Coord.is w.engine-is w.parts-is (now.drives custom)
+          drives_as tells holds count custom t cut c.args.event _ old w.coordinate.new.engine c.match-event.engine parts w.coordinate.new.parts c.match-event.parts w.in-Coord.is w.engine-is w.parts-is now.drives
       | in-Tick w ↦
           drives_as tells holds count custom t cut c.args.event _ old w.tick.new.self c.match-event.engine parts parts c.match-event.parts w.in-Tick.is w.engine-is w.parts-is
           (drives-still tells holds count t custom cut laws (of_tick ∷ []) old w.tick.new.self parts (w.tick.ensures.goes custom) w.tick.ensures.still)

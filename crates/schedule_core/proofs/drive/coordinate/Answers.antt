@@ -6,7 +6,8 @@ use Rattle.event_worlds.specs.state_parts.declared.answer.Commit.{Commit}
 use Rattle.schedule_core.proofs.drive.coordinate.Goals as goal
 
 pub returns-in_default-clause-drives : goal.returns-in_default-clause-drives
-returns-in_default-clause-drives g c = λ custom.
+returns-in_default-clause-drives g c =
+    let custom = g.O.RowOp.meaning c.args.custom.now in
     let t = topology_in c.args.engine.now in
     let cut = cut_in c.args.engine.now in
     let laws = c.laws_of_steps.ensures t custom cut in
@@ -15,7 +16,8 @@ returns-in_default-clause-drives g c = λ custom.
     (subst (λ (o : Option Commit). Answers {I = g.row.I.Denot} {g = g.I.Ids} o c.turn.new.self) c.in_default.is c.in_ok-commit.ensures.answers)
 
 pub returns-in_err-how-clause-bad : goal.returns-in_err-how-clause-bad
-returns-in_err-how-clause-bad g c = λ custom key is.
+returns-in_err-how-clause-bad g c = λ key is.
+    let custom = g.O.RowOp.meaning c.args.custom.now in
     let t = topology_in c.args.engine.now in
     let cut = cut_in c.args.engine.now in
     let laws = c.laws_of_steps.ensures t custom cut in
@@ -26,7 +28,8 @@ returns-in_err-how-clause-bad g c = λ custom key is.
     c.keys_are_texts.ensures c.in_err-how.ensures.kept c.in_err-how.ensures.at_most_once bad
 
 pub returns-in_err-how-clause-short : goal.returns-in_err-how-clause-short
-returns-in_err-how-clause-short g c = λ custom is.
+returns-in_err-how-clause-short g c = λ is.
+    let custom = g.O.RowOp.meaning c.args.custom.now in
     let t = topology_in c.args.engine.now in
     let cut = cut_in c.args.engine.now in
     let laws = c.laws_of_steps.ensures t custom cut in
@@ -36,7 +39,8 @@ returns-in_err-how-clause-short g c = λ custom is.
     c.keys_are_texts.ensures c.in_err-how.ensures.kept c.in_err-how.ensures.at_most_once
 
 pub returns-in_err-commit-clause-short : goal.returns-in_err-commit-clause-short
-returns-in_err-commit-clause-short g c = λ custom is.
+returns-in_err-commit-clause-short g c = λ is.
+    let custom = g.O.RowOp.meaning c.args.custom.now in
     let t = topology_in c.args.engine.now in
     let cut = cut_in c.args.engine.now in
     let laws = c.laws_of_steps.ensures t custom cut in
@@ -45,12 +49,13 @@ returns-in_err-commit-clause-short g c = λ custom is.
     wants-turn g.I.Ids.tells g.C.CellStore.tells g.C.CellStore.fault_count t custom cut laws more c.args.engine.now c.turn.new.self.fates c.args.parts.now short.verdict short.ticks short.some
 
 pub returns-in_err-decide-clause-short : goal.returns-in_err-decide-clause-short
-returns-in_err-decide-clause-short g c = λ custom is.
+returns-in_err-decide-clause-short g c = λ is.
+    let custom = g.O.RowOp.meaning c.args.custom.now in
     let t = topology_in c.args.engine.now in
     let cut = cut_in c.args.engine.now in
     let laws = c.laws_of_steps.ensures t custom cut in
     let more = c.laws_of_commits.ensures t custom cut in
-    let comes : CommitComes g.C.CellStore.tells g.C.CellStore.fault_count c.in-Some.commit.root c.in-Some.commit.writes c.in_ok-how.how c.args.parts.now c.commit_all.new.self = record {
+    let comes : CommitComes g.C.CellStore.tells custom g.C.CellStore.fault_count c.in-Some.commit.root c.in-Some.commit.writes c.in_ok-how.how c.args.parts.now c.commit_all.new.self = record {
       plans = c.in_ok-how.ensures.plans;
       done = λ is. c.in_ok-how.ensures.done (ap Ok is);
       kept = c.in_ok-how.ensures.kept;
@@ -62,12 +67,13 @@ returns-in_err-decide-clause-short g c = λ custom is.
     c.keys_are_texts.ensures comes c.in_ok-how.ensures.at_most_once c.in_err-decide.ensures.short
 
 pub returns-clause-drives : goal.returns-clause-drives
-returns-clause-drives g c = λ custom.
+returns-clause-drives g c =
+    let custom = g.O.RowOp.meaning c.args.custom.now in
     let t = topology_in c.args.engine.now in
     let cut = cut_in c.args.engine.now in
     let laws = c.laws_of_steps.ensures t custom cut in
     let more = c.laws_of_commits.ensures t custom cut in
-    let comes : CommitComes g.C.CellStore.tells g.C.CellStore.fault_count c.in-Some.commit.root c.in-Some.commit.writes c.in_ok-how.how c.args.parts.now c.commit_all.new.self = record {
+    let comes : CommitComes g.C.CellStore.tells custom g.C.CellStore.fault_count c.in-Some.commit.root c.in-Some.commit.writes c.in_ok-how.how c.args.parts.now c.commit_all.new.self = record {
       plans = c.in_ok-how.ensures.plans;
       done = λ is. c.in_ok-how.ensures.done (ap Ok is);
       kept = c.in_ok-how.ensures.kept;
@@ -86,12 +92,12 @@ returns-in_default-clause-kept g c = kept-none g.C.CellStore.tells c.args.parts.
 
 pub returns-in_err-how-clause-kept : goal.returns-in_err-how-clause-kept
 returns-in_err-how-clause-kept g c =
-    kept-committed g.C.CellStore.tells c.in-Some.commit.root c.in-Some.commit.writes c.args.parts.now c.commit_all.new.self c.in_err-how.ensures.plans c.in_err-how.ensures.kept
+    kept-committed g.C.CellStore.tells (g.O.RowOp.meaning c.args.custom.now) c.in-Some.commit.root c.in-Some.commit.writes c.args.parts.now c.commit_all.new.self c.in_err-how.ensures.plans c.in_err-how.ensures.kept
 
 pub returns-in_err-decide-clause-kept : goal.returns-in_err-decide-clause-kept
 returns-in_err-decide-clause-kept g c =
-    kept-committed g.C.CellStore.tells c.in-Some.commit.root c.in-Some.commit.writes c.args.parts.now c.commit_all.new.self c.in_ok-how.ensures.plans c.in_ok-how.ensures.kept
+    kept-committed g.C.CellStore.tells (g.O.RowOp.meaning c.args.custom.now) c.in-Some.commit.root c.in-Some.commit.writes c.args.parts.now c.commit_all.new.self c.in_ok-how.ensures.plans c.in_ok-how.ensures.kept
 
 pub returns-clause-kept : goal.returns-clause-kept
 returns-clause-kept g c =
-    kept-committed g.C.CellStore.tells c.in-Some.commit.root c.in-Some.commit.writes c.args.parts.now c.commit_all.new.self c.in_ok-how.ensures.plans c.in_ok-how.ensures.kept
+    kept-committed g.C.CellStore.tells (g.O.RowOp.meaning c.args.custom.now) c.in-Some.commit.root c.in-Some.commit.writes c.args.parts.now c.commit_all.new.self c.in_ok-how.ensures.plans c.in_ok-how.ensures.kept

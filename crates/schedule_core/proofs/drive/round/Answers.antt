@@ -17,7 +17,7 @@ returns-in_err-coordinate-clause-bad g c = λ key is.
     let laws = c.laws_of_steps.ensures (topology_in old) custom (cut_in old) in
     let opened = c.in_ok-open_round.ensures in
     breaks_on g.I.Ids.tells g.C.CellStore.tells g.C.CellStore.fault_count custom opening_steps (λ (u : Topology). coordinator_steps) old c.open_round.new.engine c.coordinate.new.engine c.args.parts.now c.coordinate.new.parts laws opened.same_run opened.goes c.open_round.ensures.still key
-    (c.coordinate.ensures.bad custom key (handed_on c.from_residual-in_err-coordinate.result c.coordinate.result _ _ c.from_residual-in_err-coordinate.ensures.1 c.in_err-coordinate.was is))
+    (c.coordinate.ensures.bad key (handed_on c.from_residual-in_err-coordinate.result c.coordinate.result _ _ c.from_residual-in_err-coordinate.ensures.1 c.in_err-coordinate.was is))
 
 pub returns-in_err-coordinate-clause-short : goal.returns-in_err-coordinate-clause-short
 returns-in_err-coordinate-clause-short g c = λ is.
@@ -26,7 +26,7 @@ returns-in_err-coordinate-clause-short g c = λ is.
     let laws = c.laws_of_steps.ensures (topology_in old) custom (cut_in old) in
     let opened = c.in_ok-open_round.ensures in
     wants_on g.I.Ids.tells g.C.CellStore.tells g.C.CellStore.fault_count custom opening_steps old c.open_round.new.engine c.coordinate.new.engine.fates c.args.parts.now c.coordinate.new.parts laws opened.same_run opened.goes c.open_round.ensures.still
-    (c.coordinate.ensures.short custom (handed_on c.from_residual-in_err-coordinate.result c.coordinate.result _ _ c.from_residual-in_err-coordinate.ensures.1 c.in_err-coordinate.was is))
+    (c.coordinate.ensures.short (handed_on c.from_residual-in_err-coordinate.result c.coordinate.result _ _ c.from_residual-in_err-coordinate.ensures.1 c.in_err-coordinate.was is))
 
 pub returns-in_err-open_round-clause-short : goal.returns-in_err-open_round-clause-short
 returns-in_err-open_round-clause-short g c = λ is.
@@ -41,4 +41,4 @@ returns-clause-drives g c =
     let custom = g.O.RowOp.meaning c.args.custom.now in
     let laws = c.laws_of_steps.ensures (topology_in old) custom (cut_in old) in
     let opened = c.in_ok-open_round.ensures in
-    drives_on g.I.Ids.tells g.C.CellStore.tells g.C.CellStore.fault_count custom opening_steps (λ (u : Topology). coordinator_steps) old c.open_round.new.engine c.coordinate.new.engine c.args.parts.now c.coordinate.new.parts laws opened.same_run opened.goes c.open_round.ensures.still (c.in_ok-coordinate.ensures.drives custom)
+    drives_on g.I.Ids.tells g.C.CellStore.tells g.C.CellStore.fault_count custom opening_steps (λ (u : Topology). coordinator_steps) old c.open_round.new.engine c.coordinate.new.engine c.args.parts.now c.coordinate.new.parts laws opened.same_run opened.goes c.open_round.ensures.still (c.in_ok-coordinate.ensures.drives)

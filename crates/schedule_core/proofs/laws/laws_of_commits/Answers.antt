@@ -4,8 +4,8 @@ pub returns : goal.returns
 returns g c = λ t custom cut. record {
   done = c.commits_of_batches_move_parts.ensures.done t custom cut;
   broken_off = c.commits_of_batches_move_parts.ensures.broken_off t custom cut;
-  strange = c.strange_cells_were_there.ensures.commit;
-  bad = c.strange_cells_were_there.ensures.bad_before;
+  strange = c.strange_cells_were_there.ensures.commit custom;
+  bad = c.strange_cells_were_there.ensures.bad_before custom;
   decided_counts = c.failures_of_commits_are_counted.ensures.decided t cut;
   quiet_counts = c.counts_run_on.ensures.quiet;
   last_counts = c.counts_run_on.ensures.last;

@@ -24,7 +24,7 @@ loop-preserved g c =
     let closed = c.in_ok-close_round.ensures in
     turning-then g.I.Ids.tells g.C.CellStore.tells g.C.CellStore.fault_count g.T.Ticks.handed_out g.T.Ticks.tells custom c.args.engine.now c.args.parts.now c.args.ticks.now (λ (t : Topology) (cut : Cut). c.laws_of_steps.ensures t custom cut) c.loop.engine c.loop.parts c.loop.ticks c.loop.invariant
     c.open_boosted.new.engine c.passed-passed.result c.passed-passed.new.self behind.quiet behind.none opened.same_run behind.goes c.open_boosted.ensures.still asked.counted asked.told asked.tells_the_rest
-    c.close_round.new.engine c.close_round.new.parts closed.at_rest closed.same_run (closed.drives custom) c.close_round.ensures.kept
+    c.close_round.new.engine c.close_round.new.parts closed.at_rest closed.same_run closed.drives c.close_round.ensures.kept
 
 pub returns-in_err-close_round-clause-comes : goal.returns-in_err-close_round-clause-comes
 returns-in_err-close_round-clause-comes g c =
@@ -37,8 +37,8 @@ returns-in_err-close_round-clause-comes g c =
     turned-bad g.I.Ids.tells g.C.CellStore.tells g.C.CellStore.fault_count g.T.Ticks.handed_out g.T.Ticks.tells custom c.args.engine.now c.args.parts.now c.args.ticks.now (λ (t : Topology) (cut : Cut). c.laws_of_steps.ensures t custom cut) c.loop.engine c.loop.parts c.loop.ticks c.loop.invariant
     c.open_boosted.new.engine c.passed-passed.result c.passed-passed.new.self behind.quiet behind.none opened.same_run behind.goes c.open_boosted.ensures.still asked.counted asked.told asked.tells_the_rest
     c.close_round.new.engine c.close_round.new.parts exits.result _ exits.ensures.1
-    (λ key is. c.close_round.ensures.bad custom key (handed_on exits.result c.close_round.result _ (fault.BadCell key) exits.ensures.1 c.in_err-close_round.was is))
-    (λ is. c.close_round.ensures.short custom (handed_on exits.result c.close_round.result _ fault.Memory exits.ensures.1 c.in_err-close_round.was is))
+    (λ key is. c.close_round.ensures.bad key (handed_on exits.result c.close_round.result _ (fault.BadCell key) exits.ensures.1 c.in_err-close_round.was is))
+    (λ is. c.close_round.ensures.short (handed_on exits.result c.close_round.result _ fault.Memory exits.ensures.1 c.in_err-close_round.was is))
 
 pub returns-in_err-open_boosted-clause-comes : goal.returns-in_err-open_boosted-clause-comes
 returns-in_err-open_boosted-clause-comes g c =

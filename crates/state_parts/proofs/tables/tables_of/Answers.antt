@@ -3,14 +3,14 @@ use Rattle.state_parts.proofs.TableLemmas.{all_read, all_read_on, bad_before, co
 use Rattle.state_parts.proofs.tables.tables_of.Goals as goal
 
 pub loop-number-init : goal.loop-number-init
-loop-number-init g c = record { read = all_read g.C.CellStore.tells g.C.CellStore.fault_count c.args.parts.now.items; counts = counts_same g.C.CellStore.fault_count c.args.parts.now.items; tables = rw c.new-tables.ensures tt }
+loop-number-init g c = record { read = all_read g.C.CellStore.tells g.C.CellStore.fault_count c.args.parts.now.items; counts = counts_same g.C.CellStore.fault_count c.args.parts.now.items; tables = λ custom. rw c.new-tables.ensures tt }
 
 pub loop-number-preserved : goal.loop-number-preserved
 loop-number-preserved g c = record {
   read = all_read_on g.C.CellStore.tells g.C.CellStore.fault_count c.args.parts.now.items c.loop-number.parts.items c.add_table.new.parts.items c.loop-number.invariant.read c.add_table.ensures.read;
   counts = counts_on g.C.CellStore.fault_count c.args.parts.now.items c.loop-number.parts.items c.add_table.new.parts.items c.loop-number.invariant.counts (c.in-Ok.ensures.quiet (λ is. cc));
-  tables = tables_more g.C.CellStore.tells g.C.CellStore.fault_count c.args.plan.now c.args.parts.now.items c.loop-number.parts.items c.loop-number.number c.component.result.now c.loop-number.tables c.add_table.new.tables
-      c.component.ensures.value c.loop-number.invariant.read c.in-Ok.ensures.added c.loop-number.invariant.tables;
+  tables = λ custom. tables_more g.C.CellStore.tells g.C.CellStore.fault_count c.args.plan.now custom c.args.parts.now.items c.loop-number.parts.items c.loop-number.number c.component.result.now c.loop-number.tables c.add_table.new.tables
+      c.component.ensures.value c.loop-number.invariant.read (c.in-Ok.ensures.added custom) (c.loop-number.invariant.tables custom);
 }
 
 pub returns-in-Err-clause-read : goal.returns-in-Err-clause-read

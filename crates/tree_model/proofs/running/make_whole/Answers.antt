@@ -1,4 +1,4 @@
-use Rattle.std.proofs.Common.{◌≡◌, true, ap, sym, ◌∙◌, refl}
+use Rattle.std.proofs.Common.{ap, sym, ◌∙◌}
 use Rattle.tree_model.specs.Inside.{entries_of, whole_pairs}
 use Rattle.tree_model.proofs.Quoted.{entries-quoted}
 use Rattle.tree_model.proofs.running.make_whole.Goals as goal

@@ -40,7 +40,7 @@ returns-clause-gathered g c =
     let was = c.requires.gathered in
     let steps_laws = c.laws_of_steps.ensures t custom cut in
     let ready = ready-closed t cut opened closed c.in_ok-open_round.ensures.ready c.in_ok-close_round_beside.ensures.same_run c.in_ok-close_round_beside.ensures.at_rest in
-    let drives = drives-round g.I.Ids.tells g.C.CellStore.tells g.C.CellStore.fault_count t custom cut steps_laws c.args.passed old opened c.in_ok-open_round.ensures.ready c.in_ok-open_round.ensures.goes c.open_round.ensures.still c.args.parts.now closed c.close_round_beside.new.parts (c.in_ok-close_round_beside.ensures.drives custom) in record {
+    let drives = drives-round g.I.Ids.tells g.C.CellStore.tells g.C.CellStore.fault_count t custom cut steps_laws c.args.passed old opened c.in_ok-open_round.ensures.ready c.in_ok-open_round.ensures.goes c.open_round.ensures.still c.args.parts.now closed c.close_round_beside.new.parts (c.in_ok-close_round_beside.ensures.drives) in record {
       ready = ready-after t cut closed end ready c.in_ok-sweep.ensures.ready;
       idle = idle-still closed end c.sweep.ensures.still c.in_ok-close_round_beside.ensures.at_rest.idle;
       swept = c.in_ok-sweep.ensures.swept;
@@ -62,7 +62,7 @@ returns-clause-ticked g c =
     let closed = c.close_round_beside.new.engine in
     let was = c.requires.gathered in
     let steps_laws = c.laws_of_steps.ensures t custom cut in
-    let drives = drives-round g.I.Ids.tells g.C.CellStore.tells g.C.CellStore.fault_count t custom cut steps_laws c.args.passed old opened c.in_ok-open_round.ensures.ready c.in_ok-open_round.ensures.goes c.open_round.ensures.still c.args.parts.now closed c.close_round_beside.new.parts (c.in_ok-close_round_beside.ensures.drives custom) in
+    let drives = drives-round g.I.Ids.tells g.C.CellStore.tells g.C.CellStore.fault_count t custom cut steps_laws c.args.passed old opened c.in_ok-open_round.ensures.ready c.in_ok-open_round.ensures.goes c.open_round.ensures.still c.args.parts.now closed c.close_round_beside.new.parts (c.in_ok-close_round_beside.ensures.drives) in
     c.in_ok-sweep.ensures.carries.carries.arranged.tick ∙ ticked g.I.Ids.tells t custom cut c.args.passed old closed was.ready c.requires.goes_on (let e = was.in_time in omega arith) drives.goes
 
 pub returns-clause-runs : goal.returns-clause-runs
@@ -86,7 +86,7 @@ returns-clause-runs g c =
     let round_laws = c.laws_of_rounds.ensures t custom cut in
     let ready = ready-closed t cut opened closed c.in_ok-open_round.ensures.ready c.in_ok-close_round_beside.ensures.same_run c.in_ok-close_round_beside.ensures.at_rest in
     let ready_end = ready-after t cut closed end ready c.in_ok-sweep.ensures.ready in
-    let drives = drives-round tells holds count t custom cut steps_laws c.args.passed old opened c.in_ok-open_round.ensures.ready c.in_ok-open_round.ensures.goes c.open_round.ensures.still parts closed new_parts (c.in_ok-close_round_beside.ensures.drives custom) in
+    let drives = drives-round tells holds count t custom cut steps_laws c.args.passed old opened c.in_ok-open_round.ensures.ready c.in_ok-open_round.ensures.goes c.open_round.ensures.still parts closed new_parts (c.in_ok-close_round_beside.ensures.drives) in
     runs-then tells holds count t custom cut steps_laws 1 0 old closed end row row swept_row parts new_parts new_parts
     (runs-round tells t custom cut round_laws old closed row was.ready was.swept was.empty holds count c.args.passed parts new_parts ready c.requires.goes_on (let e = was.in_time in omega arith) drives)
     (runs-quiet tells holds count t custom cut steps_laws 0 closed end row swept_row new_parts c.sweep.ensures.still (goes-carried tells t custom cut closed end row swept_row ready_end.orderly c.in_ok-sweep.ensures.carries))
@@ -107,7 +107,7 @@ returns-in_err-close_round_beside-clause-bad g c = λ key is.
     let exits = c.from_residual-in_err-close_round_beside in
     broken-round tells holds count t custom cut (c.laws_of_rounds.ensures t custom cut) old closed c.args.row.now.items was.ready was.swept was.empty c.args.passed c.args.parts.now c.close_round_beside.new.parts key
     (breaks-round tells holds count t custom cut steps_laws c.args.passed old opened c.in_ok-open_round.ensures.ready c.in_ok-open_round.ensures.goes c.open_round.ensures.still c.args.parts.now key closed c.close_round_beside.new.parts
-    (c.close_round_beside.ensures.bad custom key (handed-on exits.result c.close_round_beside.result _ (fault.BadCell key) exits.ensures.1 c.in_err-close_round_beside.was is)))
+    (c.close_round_beside.ensures.bad key (handed-on exits.result c.close_round_beside.result _ (fault.BadCell key) exits.ensures.1 c.in_err-close_round_beside.was is)))
 
 pub returns-in_err-open_round-clause-short : goal.returns-in_err-open_round-clause-short
 returns-in_err-open_round-clause-short g c = λ is.
@@ -123,7 +123,7 @@ returns-in_err-close_round_beside-clause-short g c = λ is.
     let custom = g.O.RowOp.meaning c.args.custom.now in
     let exits = c.from_residual-in_err-close_round_beside in
     wants-closed g.I.Ids.tells g.C.CellStore.tells g.C.CellStore.fault_count t custom (cut_in old) (c.laws_of_steps.ensures t custom (cut_in old)) c.args.passed old c.open_round.new.engine c.in_ok-open_round.ensures.ready c.in_ok-open_round.ensures.goes c.open_round.ensures.still c.args.parts.now c.close_round_beside.new.engine.fates c.close_round_beside.new.parts
-    (c.close_round_beside.ensures.short custom (handed-on exits.result c.close_round_beside.result _ fault.Memory exits.ensures.1 c.in_err-close_round_beside.was is))
+    (c.close_round_beside.ensures.short (handed-on exits.result c.close_round_beside.result _ fault.Memory exits.ensures.1 c.in_err-close_round_beside.was is))
 
 pub returns-in_err-sweep-clause-short : goal.returns-in_err-sweep-clause-short
 returns-in_err-sweep-clause-short g c = λ is.
@@ -137,7 +137,7 @@ returns-in_err-sweep-clause-short g c = λ is.
     let laws = c.laws_of_steps.ensures t custom cut in
     let closed = c.close_round_beside.new.engine in
     wants-swept tells holds count t custom cut laws (round_with t c.args.passed) old closed c.sweep.new.engine c.args.parts.now c.close_round_beside.new.parts
-    (drives-round tells holds count t custom cut laws c.args.passed old c.open_round.new.engine c.in_ok-open_round.ensures.ready c.in_ok-open_round.ensures.goes c.open_round.ensures.still c.args.parts.now closed c.close_round_beside.new.parts (c.in_ok-close_round_beside.ensures.drives custom))
+    (drives-round tells holds count t custom cut laws c.args.passed old c.open_round.new.engine c.in_ok-open_round.ensures.ready c.in_ok-open_round.ensures.goes c.open_round.ensures.still c.args.parts.now closed c.close_round_beside.new.parts (c.in_ok-close_round_beside.ensures.drives))
     c.sweep.ensures.still
 
 pub returns-in_err-open_round-clause-once : goal.returns-in_err-open_round-clause-once

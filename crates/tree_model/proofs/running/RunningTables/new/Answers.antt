@@ -5,4 +5,4 @@ use Rattle.tree_model.proofs.running.RunningTables.new.Goals as goal
 pub returns : goal.returns
 returns c =
     let all : c.loop.counter ≡ length c.args.plan.now.components = omega (arith, c.components-end.ensures) in
-    rw (c.loop.invariant, all) (AreRunningTables-none c.args.plan.now)
+    λ custom. rw (c.loop.invariant, all) (AreRunningTables-none c.args.plan.now custom)

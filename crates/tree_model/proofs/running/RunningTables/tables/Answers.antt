@@ -15,23 +15,23 @@ component-requires c =
 
 -- the pairs are those of the component whose number comes next
 pub loop-number-preserved : goal.loop-number-preserved
-loop-number-preserved c = λ writes is.
+loop-number-preserved c = λ custom writes is.
     let z = c.zip-number-items.ensures in
     let turn = numbered_turn c.components.result c.self.inside.values c.zip-number-items.result c.into_iter-number-iterator.result c.loop-number.number-iterator c.into_iter-number-iterator.ensures.into_iter_gives z.first z.second.0 z.second.1 c.loop-number.yielded c.loop-number.yielded_by c.next.result c.next.new.self (c.in-Some.number, c.in-Some.values) c.in-Some.is c.next.ensures.steps in
     let pairs : pairs_of c.in-Some.values ≡ get_or c.args.self c.in-Some.number [] =
     ap pairs_of (turn.3 c.in-Some.values) ∙ sym (get_or-map pairs_of c.self.inside.values.items (length c.loop-number.yielded) c.in-Some.values [] turn.1)
     ∙ ap (λ tables. get_or tables (length c.loop-number.yielded) []) c.self.view_is ∙ ap (λ n. get_or c.args.self n []) (sym turn.2) in
-    let before : AllZip (IsTableOf writes) (filter_map (state_at c.args.plan.now) (range_with_len 0 c.in-Some.number)) c.loop-number.tables = rw turn.2 (c.loop-number.invariant writes is) in
+    let before : AllZip (IsTableOf writes) (filter_map (state_at c.args.plan.now custom) (range_with_len 0 c.in-Some.number)) c.loop-number.tables = rw turn.2 (c.loop-number.invariant custom writes is) in
     let count : length (c.loop-number.yielded ++ (c.in-Some.number, c.in-Some.values) ∷ []) ≡ c.in-Some.number + 1 = length_push _ _ ∙ ap (λ n. n + 1) (sym turn.2) in
     rw count
-    (tables_more c.args.plan.now writes c.args.self c.in-Some.number c.component.result.now (pairs_of c.in-Some.values) c.loop-number.tables c.add_table.new.tables c.component.ensures.value pairs is (c.in_ok-add_table.ensures c.in-Some.number) before)
+    (tables_more c.args.plan.now custom writes c.args.self c.in-Some.number c.component.result.now (pairs_of c.in-Some.values) c.loop-number.tables c.add_table.new.tables c.component.ensures.value pairs is (c.in_ok-add_table.ensures custom c.in-Some.number) before)
 
 -- at the end each component has been
 pub returns : goal.returns
-returns c = λ writes is.
+returns c = λ custom writes is.
     let z = c.zip-number-items.ensures in
     let all = numbered_end c.components.result c.self.inside.values c.zip-number-items.result c.into_iter-number-iterator.result c.loop-number.number-iterator c.into_iter-number-iterator.ensures.into_iter_gives z.first z.second.0 z.second.1 c.loop-number.yielded c.loop-number.yielded_by c.next.result c.next.new.self c.in-None.is c.next.ensures.steps in
     let maps : length c.self.inside.values.items ≡ length c.args.plan.now.components =
     sym (length-map c.self.inside.values.items pairs_of) ∙ ap length c.self.view_is ∙ is.count in
     let count : length c.loop-number.yielded ≡ length c.args.plan.now.components = omega (arith, all, maps, c.components.ensures) in
-    rw (← count) (c.loop-number.invariant writes is)
+    rw (← count) (c.loop-number.invariant custom writes is)

@@ -1,4 +1,4 @@
-use Rattle.std.proofs.Common.{rules, ◌≡◌, [], ◌∷◌, All, Ok, Err, lit<, refl, ap, sym, ◌∙◌, fold}
+use Rattle.std.proofs.Common.{rules, [], ◌∷◌, All, lit<, refl}
 use Rattle.std.proofs.lemmas.Iterator.Consumers.{YieldsList-end, YieldsList-turn}
 use Rattle.std.proofs.lemmas.Iterator.Splits.{YieldsList-from_str_split}
 use Rattle.bolt_ops.specs.Operations.{out, pieces}
