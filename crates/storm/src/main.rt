@@ -6,7 +6,7 @@
 #![tactic(auto)]
 
 ghost use Rattle.std.specs.Prelude.{◌≡◌, map, replicate, string_bytes};
-ghost use Rattle.bolt_ops.specs.RowOp.{reversed};
+ghost use Rattle.bolt_ops.specs.RowOp.{reversed, reversed_rows};
 ghost use Rattle.bolt_ops.specs.Stored.{Keeps};
 ghost use Rattle.storm_program.specs.Outside.{run_use, shelf_use, sink_use, ticks_use};
 ghost use Rattle.storm_program.specs.Storm.{Exits};
@@ -81,7 +81,7 @@ fn status_over<
 where
     N::I: Send,
     M::C: Send,
-    requires { Keeps reversed (F.may_make turn) (F.makes turn) }
+    requires { Keeps reversed_rows (F.may_make turn) (F.makes turn) }
     ensures { Exits reversed (map string_bytes words.now)
         (shelf_use H.holds H.ready H.fetches H.faults shelf.old shelf.new)
         (sink_use K.taken K.faults out.old out.new)
