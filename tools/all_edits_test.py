@@ -171,9 +171,10 @@ class Edits(unittest.TestCase):
         self.assertEqual([it[:2] for it in self.told], [("0.edit", tool.UNSURE)])
 
     def test_words(self):
-        for words in (["--jobs", "0"], ["--strange"], ["--log"], ["--whole", "--log", "f"], ["no_such_crate"]):
+        for words in (["--jobs", "0"], ["--strange"], ["--log"], ["--whole", "--log", "f"], ["--gate", "--must-fail"], ["no_such_crate"]):
             ran = subprocess.run([TOOL, *words], capture_output=True, text=True)
             self.assertEqual(ran.returncode, 2, words)
+        self.assertEqual([tool.Words(it).folders for it in (["--must-fail"], [])], [("must-fail",), tool.FOLDERS])
         self.assertEqual(subprocess.run([TOOL, "--help"], capture_output=True, text=True).stdout.strip(), tool.__doc__.strip())
 
 
