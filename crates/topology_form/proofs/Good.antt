@@ -3,7 +3,7 @@ use Rattle.std.proofs.Common.{◌≡◌, ℕ, ◌&&◌, ℤ, pos, negsuc, List, 
 use Rattle.std.proofs.lemmas.Bool.Decides.{nat_tests}
 use Rattle.std.proofs.lemmas.List.Elements.{All-nil, All-cons}
 use Rattle.std.specs.Option.{option_map_or}
-use Rattle.topology_form.specs.Prelude.{Data, Items, no_items, item, Members, no_members, member, is_name, IsName, TopoFault, Missing, WrongKind, OutOfRange, get_member, as_str, as_number, as_array, as_object, as_i64, items_len, Value}
+use Rattle.topology_form.specs.Prelude.{Data, Items, no_items, item, Members, no_members, member, is_name, IsName, TopoFault, Missing, WrongKind, OutOfRange, get_member, as_str, as_number, as_array, as_object, as_i64, items_len, Value, most_constant_bytes}
 use Rattle.storm_values.specs.Json.{value_of}
 use Rattle.storm_values.specs.declared.value.Value.TheVariants.{Int, Text}
 use Rattle.topology_plan.specs.Valid.{IsBetween}
@@ -139,7 +139,7 @@ objects_of {A} {P} {least} {most} {form} good = record {
 
 short_is : (name : List ℕ) (value : Value) → IfOk (short name value) IsConstant
 short_is name (Int number) = tt
-short_is name (Text text) = within_makes IsConstant name 0 256 (length text) (Ok (Text text)) (λ is. is.1)
+short_is name (Text text) = within_makes IsConstant name 0 most_constant_bytes (length text) (Ok (Text text)) (λ is. is.1)
 
 pub constant_of : IsOf IsConstant a_constant
 constant_of = record { holds = λ name value. of_kind_makes IsConstant name (value_of value) (short name) (short_is name) }

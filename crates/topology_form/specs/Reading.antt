@@ -6,7 +6,7 @@ use Rattle.std.specs.Ordering.{nat_cmp, is_eq}
 use Rattle.std.specs.Cmp.Lexicographic.{slice_cmp}
 use Rattle.std.specs.Option.{option_map_or}
 use Rattle.std.specs.Str.{bytes_eq}
-use Rattle.topology_form.specs.Prelude.{Data, Items, no_items, item, Members, no_members, member, is_name, TopoFault, Missing, WrongKind, UnknownName, OutOfRange, Memory, get_member, as_str, as_number, as_array, as_object, as_i64, items_len, Value, members_view}
+use Rattle.topology_form.specs.Prelude.{Data, Items, no_items, item, Members, no_members, member, is_name, TopoFault, Missing, WrongKind, UnknownName, OutOfRange, Memory, get_member, as_str, as_number, as_array, as_object, as_i64, items_len, Value, members_view, most_constant_bytes}
 use Rattle.topology_form.specs.declared.object.Object.{Object}
 use Rattle.storm_values.specs.Json.{value_of}
 use Rattle.storm_values.specs.declared.value.Value.TheVariants.{Int, Text}
@@ -81,10 +81,10 @@ some_names least most name value =
     (λ items. and_then (each a_name name items)
     (λ names. within name least most (pos (length names)) (Ok names)))
 
--- a number, or a text of at most 256 bytes
+-- a number, or a text of at most `most_constant_bytes`
 abbrev pub short : List ℕ → Value → Result Value TopoFault
 short name (Int number) = Ok (Int number)
-short name (Text text) = within name 0 256 (pos (length text)) (Ok (Text text))
+short name (Text text) = within name 0 most_constant_bytes (pos (length text)) (Ok (Text text))
 
 abbrev pub a_constant : Form Value
 a_constant name value = of_kind name (value_of value) (short name)

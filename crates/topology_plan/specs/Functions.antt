@@ -1,5 +1,5 @@
 -- What an operation reads and leaves, by its function, whatever the values are. This project's own.
-use Rattle.std.specs.Prelude.{◌≡◌, ◌≢◌, ℕ, ◌+◌, ◌≤◌, List, length, Bool, true, false, AllPairs, slice_index_or}
+use Rattle.std.specs.Prelude.{◌≢◌, ℕ, ◌+◌, ◌≤◌, List, length, true, false, AllPairs, slice_index_or}
 use Rattle.storm_values.specs.Limits.{most_fields, most_constant_bytes, most_below}
 use Rattle.storm_values.specs.declared.value.Value.{Value}
 use Rattle.storm_values.specs.declared.value.Value.TheVariants.{Int, Text}
@@ -73,18 +73,3 @@ width_left More read n = n + 1
 abbrev pub AreLeftOnce : Leaves → List ℕ → Type 0
 AreLeftOnce Read reads = AllPairs (λ a b. a ≢ b) reads
 AreLeftOnce _ reads = Unit {0}
-
--- where the fields that are read are left, they are 1 to 8
-abbrev pub AreSomeRead : Leaves → ℕ → ℕ → Type 0
-AreSomeRead Read least most = (1 ≤ least) × (most ≤ most_fields)
-AreSomeRead _ least most = Unit {0}
-
--- an operation that chooses tasks reads a field, and leaves the fields that came
-abbrev pub IsChoice : Bool → ℕ → Leaves → Type 0
-IsChoice true least leaves = (1 ≤ least) × (leaves ≡ Same)
-IsChoice false least leaves = Unit {0}
-
--- what every shape keeps
-pub record IsShape (s : Shape) : Type 0 where
-  pub read : AreSomeRead s.leaves s.least s.most
-  pub choice : IsChoice s.chooses s.least s.leaves

@@ -1,6 +1,6 @@
 -- The fields of the sources where a file has no fault: each source has one to eight fields, none twice, that its operation makes of the fields of its sources.
 use Rattle.std.proofs.Common.{◌≡◌, ℕ, zero, suc, ◌+◌, ◌<◌, ◌≤◌, ◌==◌, pos, List, [], ◌∷◌, ◌++◌, length, map, slice_index, All, false, not, Option, Some, None, option_to_list, option_and_then, is_none, codes, inl, inr, refl, sym, ◌∙◌, ap, subst, arith}
-use Rattle.topology_reader.proofs.Common.{values_of, at_depth, get_or-map-range_with_len, length-map-range_with_len, range_with_len, list_any, bytes_eq, Origin, TopoFault, Twice, NoSource, NoField, FieldsDiffer, Input, Operation, shape, Leaves, HasInto, IsShape, AreSomeRead, shape_fits, false≢true, read_left, one_more_fault, more_fault, fields_left, BodyPart, Bolt, State, ComponentPart, components_of, FileParts, first_some, IsBetween, IsInRange, IsOperationInRange, IsBodyInRange, IsComponentInRange, feeds_at, value_in, value_of, Feed, pointwise, pointwise_decides, true≢false, cases_Bool, cond-true, cond-false, both_ways, eq-eqb, not-false, All-nil, All-cons, All-append, none-some, same_Some, slice_get_within, depth_at, by_depth, depth_rule, depth_at_within, is_among, range_fault, first_again, again_fault, key_of, own_key, projected, component_twice, twice_fault, nameless_fault, source_fault, cycle_fault, differ_fault, field_fault, direct_fault, input_fault, fields_read, added_fault, component_fault, fields_fault, component_names, name_at, source_of, inputs_at, sources_at, fields_after, fields_of, fields_to, graph_of, IsSource}
+use Rattle.topology_reader.proofs.Common.{most_fields, values_of, at_depth, get_or-map-range_with_len, length-map-range_with_len, range_with_len, list_any, bytes_eq, Origin, TopoFault, Twice, NoSource, NoField, FieldsDiffer, Input, Operation, shape, Leaves, HasInto, IsShape, AreSomeRead, shape_fits, false≢true, read_left, one_more_fault, more_fault, fields_left, BodyPart, Bolt, State, ComponentPart, components_of, FileParts, first_some, IsBetween, IsInRange, IsOperationInRange, IsBodyInRange, IsComponentInRange, feeds_at, value_in, value_of, Feed, pointwise, pointwise_decides, true≢false, cases_Bool, cond-true, cond-false, both_ways, eq-eqb, not-false, All-nil, All-cons, All-append, none-some, same_Some, slice_get_within, depth_at, by_depth, depth_rule, depth_at_within, is_among, range_fault, first_again, again_fault, key_of, own_key, projected, component_twice, twice_fault, nameless_fault, source_fault, cycle_fault, differ_fault, field_fault, direct_fault, input_fault, fields_read, added_fault, component_fault, fields_fault, component_names, name_at, source_of, inputs_at, sources_at, fields_after, fields_of, fields_to, graph_of, IsSource}
 use Rattle.std.specs.List.{find}
 use Rattle.std.proofs.lemmas.List.{length-append}
 use Rattle.topology_plan.specs.declared.function.Leaves.TheVariants as leaves
@@ -129,20 +129,20 @@ module _ (p : FileParts) (none : twice_fault p ≡ None) where
   pub projected_once : (part : ComponentPart) → IsIn part (components_of p) → AreApart (projected part.body)
   projected_once part at = apart_from_none (projected part.body) (none_in part at).1.1.1.0
 
--- ---- one to eight names of fields, none twice
+-- ---- one to most_fields names of fields, none twice
 
 pub record AreFields (fields : List (List ℕ)) : Type 0 where
-  pub count : IsBetween (length fields) 1 8
+  pub count : IsBetween (length fields) 1 most_fields
   pub apart : AreApart fields
   pub named : All IsName fields
 
 fields_with : (fields : List (List ℕ)) (into : List ℕ) → IsName into → one_more_fault fields into ≡ None → AreFields fields → AreFields (fields ++ into ∷ [])
 fields_with fields into name none were =
-    let counted = range_fault (codes "fields") 1 8 (pos (length fields + 1)) in
+    let counted = range_fault (codes "fields") 1 most_fields (pos (length fields + 1)) in
     elim (cases_Bool (is_among fields into)) [
       | inl again ↦ absurd (none-some (Twice into) (sym none ∙ cond-true (is_among fields into) (Some (Twice into)) counted again))
       | inr new ↦
-          let count : IsBetween (length fields + 1) 1 8 = between_from_range (codes "fields") (length fields + 1) 1 8 (sym (cond-false (is_among fields into) (Some (Twice into)) counted new) ∙ none) in
+          let count : IsBetween (length fields + 1) 1 most_fields = between_from_range (codes "fields") (length fields + 1) 1 most_fields (sym (cond-false (is_among fields into) (Some (Twice into)) counted new) ∙ none) in
           record {
             count = (omega (arith, length-append fields (into ∷ []), count.0), omega (arith, length-append fields (into ∷ []), count.1));
             apart = apart_push fields into were.apart (not_among fields into new);

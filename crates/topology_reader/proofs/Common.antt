@@ -25,8 +25,8 @@ pub use Rattle.topology_graph.specs.Graph.{value_in, values_of, IsThere, depth_r
 unfoldable pub use Rattle.topology_graph.specs.Graph.{value_of, by_depth}
 pub use Rattle.topology_plan.specs.Topology.{tasks_of, copies_by, copies_of, origins, inputs_of, subs_of, greatest, depth_within, weight_end, ended_sum, tuples_within}
 unfoldable pub use Rattle.topology_plan.specs.Topology.{depth_of as plan_depth, weight_of as plan_weight}
-pub use Rattle.topology_plan.proofs.Functions.{shape_fits}
-pub use Rattle.topology_plan.specs.Functions.{first_field, AreRead, width_left, AreLeftOnce, AreSomeRead, IsChoice, IsShape}
+pub use Rattle.topology_plan.proofs.Functions.{AreSomeRead, IsChoice, IsShape, shape_fits}
+pub use Rattle.topology_plan.specs.Functions.{first_field, AreRead, width_left, AreLeftOnce}
 pub use Rattle.topology_plan.specs.Valid.{IsTarget, IsRanked}
 pub use Rattle.topology_plan.specs.Wired.{IsWired, fields_of as plan_fields, width_of, AreWithin, IsRouteOf, IsFrom, fields_to as plan_fields_to, IsFed, width_after, IsWithin, HasAmount, IsComponent, IsPlaced, IsLaidOut, MayFollowOpaque}
 pub use Rattle.topology_plan.specs.declared.parts.Kind.{Kind}
@@ -38,7 +38,7 @@ pub use Rattle.topology_reader.specs.FirstFault.{is_among, size_fault, first_aga
 unfoldable pub use Rattle.topology_reader.specs.FirstFault.{meaning_fault}
 pub use Rattle.topology_reader.specs.Planned.{planned_subs, planned_component, is_origin, planned_grouping, subs_of_component, number_of, numbers_of, planned_operation, planned_body, route_field, first_task_of}
 unfoldable pub use Rattle.topology_reader.specs.Planned.{plan_of}
-pub use Rattle.topology_reader.specs.Prelude.{range_fault, first_some, FileParts, TopoFault, IsValid, IsInRange, Topology, tasks_in_all, range_with_len, list_any, bytes_eq, Origin, Twice, NoSource, NoField, FieldsDiffer, Input, Operation, shape, Leaves, BodyPart, Bolt, State, ComponentPart, components_of, IsBetween, feeds_at, Feed, Cycle, TooLong, option_map_or, fed, IsClosed, IsSettled, filter_map, flat_map, enumerate_from, Contains, WrongKind, NotExactlyOnce, Weight, GroupingPart}
+pub use Rattle.topology_reader.specs.Prelude.{range_fault, most_fields, most_tasks_in_all, most_weight, first_some, FileParts, TopoFault, IsValid, IsInRange, Topology, tasks_in_all, range_with_len, list_any, bytes_eq, Origin, Twice, NoSource, NoField, FieldsDiffer, Input, Operation, shape, Leaves, BodyPart, Bolt, State, ComponentPart, components_of, IsBetween, feeds_at, Feed, Cycle, TooLong, option_map_or, fed, IsClosed, IsSettled, filter_map, flat_map, enumerate_from, Contains, WrongKind, NotExactlyOnce, Weight, GroupingPart}
 pub use Rattle.topology_reader.specs.Wiring.{IsPath, IsPathThrough}
 pub use Rattle.topology_reader.specs.Steps.{IsMade, has, AreReached, led, place_in, with_sub, with_inputs, items_by}
 pub use Rattle.topology_reader.specs.ValidFile.{IsValidFile, HasFields, IsValidInput, IsValidComponent, IsNumbered}

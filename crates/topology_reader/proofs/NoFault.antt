@@ -1,6 +1,6 @@
 -- A file that says what is valid has no fault in what it says.
 use Rattle.std.proofs.Common.{if◌then◌else◌, ◌≡◌, ◌≢◌, ◌↔◌, ℕ, zero, suc, ◌+◌, ◌<◌, ◌≤◌, ◌==◌, ◌&&◌, ◌∷◌, List, [], ◌++◌, pos, length, map, slice_index, All, AllPairs, true, false, not, nat_lt, int_le, Option, Some, None, IfSome, option_map, option_to_list, option_and_then, slice_get, is_none, codes, inl, inr, refl, sym, ◌∙◌, ap, subst, arith}
-use Rattle.topology_reader.proofs.Common.{values_of, value_of, at_depth, depth_rule, length-map-range_with_len, Contains, list_any, range_with_len, option_map_or, bytes_eq, first_some, Origin, tasks_in_all, IsBetween, WrongKind, OutOfRange, Twice, NoSource, FieldsDiffer, NoField, NotExactlyOnce, Weight, GroupingPart, Input, Operation, shape, Leaves, fields_left, read_left, more_fault, BodyPart, Bolt, State, ComponentPart, components_of, FileParts, IsInRange, IsBodyInRange, IsComponentInRange, is_bolt, feeds_at, Feed, pointwise, pointwise_decides, cond-true, cond-false, false≢true, false_from_ne_true, and_from, eqb-true, le-leb, le-ltb, map-id, same_Some, slice_get_within, Kind, Transactional, Opaque, by_depth, is_among, range_fault, first_again, again_fault, key_of, own_key, projected, component_twice, twice_fault, nameless_fault, source_fault, cycle_fault, differ_fault, field_fault, is_route, chooses, direct_fault, input_fault, fields_read, added_fault, component_fault, fields_fault, keeps_exact, replay_fault, meaning_fault, size_fault, component_names, component_count, name_at, source_of, inputs_at, sources_at, is_component, feeds, fields_after, fields_of, fields_to, body_of, graph_of, plan_of, IsPathThrough, AreDistinct, HasFields, IsValidInput, IsValidComponent, IsValidFile, list_any_none}
+use Rattle.topology_reader.proofs.Common.{most_fields, most_tasks_in_all, most_weight, values_of, value_of, at_depth, depth_rule, length-map-range_with_len, Contains, list_any, range_with_len, option_map_or, bytes_eq, first_some, Origin, tasks_in_all, IsBetween, WrongKind, OutOfRange, Twice, NoSource, FieldsDiffer, NoField, NotExactlyOnce, Weight, GroupingPart, Input, Operation, shape, Leaves, fields_left, read_left, more_fault, BodyPart, Bolt, State, ComponentPart, components_of, FileParts, IsInRange, IsBodyInRange, IsComponentInRange, is_bolt, feeds_at, Feed, pointwise, pointwise_decides, cond-true, cond-false, false≢true, false_from_ne_true, and_from, eqb-true, le-leb, le-ltb, map-id, same_Some, slice_get_within, Kind, Transactional, Opaque, by_depth, is_among, range_fault, first_again, again_fault, key_of, own_key, projected, component_twice, twice_fault, nameless_fault, source_fault, cycle_fault, differ_fault, field_fault, is_route, chooses, direct_fault, input_fault, fields_read, added_fault, component_fault, fields_fault, keeps_exact, replay_fault, meaning_fault, size_fault, component_names, component_count, name_at, source_of, inputs_at, sources_at, is_component, feeds, fields_after, fields_of, fields_to, body_of, graph_of, plan_of, IsPathThrough, AreDistinct, HasFields, IsValidInput, IsValidComponent, IsValidFile, list_any_none}
 use Rattle.topology_plan.specs.Topology.{weight_of}
 use Rattle.std.proofs.lemmas.List.{length-append}
 use Rattle.topology_plan.specs.declared.function.Leaves.TheVariants as leaves
@@ -218,22 +218,22 @@ new_last (first ∷ names) name apart at =
     last_in [] name = inl refl
     last_in (first ∷ names) name = inr (last_in names name)
 
-one_more_none : (fields come : List (List ℕ)) (into : Option (List ℕ)) → fields ≡ come ++ option_to_list into → AreDistinct fields → IsBetween (length fields) 1 8 → more_fault leaves.More come into ≡ None
+one_more_none : (fields come : List (List ℕ)) (into : Option (List ℕ)) → fields ≡ come ++ option_to_list into → AreDistinct fields → IsBetween (length fields) 1 most_fields → more_fault leaves.More come into ≡ None
 one_more_none fields come None is distinct count = refl
 one_more_none fields come (Some into) is distinct count =
     let apart : AreApart (come ++ into ∷ []) = apart_from_distinct (come ++ into ∷ []) (subst AreDistinct is distinct) in
     let new : is_among come into ≡ false = false_from_ne_true (is_among come into) (λ among. new_last come into apart (among_in come into among)) in
     let more : length fields ≡ length come + 1 = ap (λ (names : List (List ℕ)). length names) is ∙ length-append come (into ∷ []) in
-    cond-false (is_among come into) (Some (Twice into)) (range_fault (codes "fields") 1 8 (pos (length come + 1))) new
-    ∙ within_range (codes "fields") (length come + 1) 1 8 (subst (λ n. IsBetween n 1 8) more count)
+    cond-false (is_among come into) (Some (Twice into)) (range_fault (codes "fields") 1 most_fields (pos (length come + 1))) new
+    ∙ within_range (codes "fields") (length come + 1) 1 most_fields (subst (λ n. IsBetween n 1 most_fields) more count)
 
-more_none : (l : Leaves) (operation : Operation) (fields come : List (List ℕ)) → fields ≡ fields_left l operation come → AreDistinct fields → IsBetween (length fields) 1 8 → more_fault l come operation.into ≡ None
+more_none : (l : Leaves) (operation : Operation) (fields come : List (List ℕ)) → fields ≡ fields_left l operation come → AreDistinct fields → IsBetween (length fields) 1 most_fields → more_fault l come operation.into ≡ None
 more_none leaves.Same operation fields come is distinct count = refl
 more_none leaves.Read operation fields come is distinct count = refl
 more_none leaves.Made operation fields come is distinct count = refl
 more_none leaves.More operation fields come is distinct count = one_more_none fields come operation.into is distinct count
 
-added_none : (fields come : List (List ℕ)) (body : BodyPart) → fields ≡ fields_after body come → (is_bolt body ≡ true → AreDistinct fields × IsBetween (length fields) 1 8) → added_fault come body ≡ None
+added_none : (fields come : List (List ℕ)) (body : BodyPart) → fields ≡ fields_after body come → (is_bolt body ≡ true → AreDistinct fields × IsBetween (length fields) 1 most_fields) → added_fault come body ≡ None
 added_none fields come (Bolt operation) is has = more_none (shape operation.function).leaves operation fields come is (has refl).0 (has refl).1
 added_none fields come (State state) is has = refl
 
@@ -278,15 +278,15 @@ module _ (p : FileParts) (valid : IsValidFile p) where
       (find_none (λ (part : ComponentPart). keeps_exact part.body) p.states
       (λ part at. All-at_in (λ (state : ComponentPart). keeps_exact state.body ≡ false) p.states (valid.replays is) part at))
 
-light : (weight : ℕ) → weight ≤ 4096 → (if nat_lt 4096 weight then Some (Weight weight) else None) ≡ None
-light weight few = cond-false (nat_lt 4096 weight) (Some (Weight weight)) None (le-ltb 4096 weight few)
+light : (weight : ℕ) → weight ≤ most_weight → (if nat_lt most_weight weight then Some (Weight weight) else None) ≡ None
+light weight few = cond-false (nat_lt most_weight weight) (Some (Weight weight)) None (le-ltb most_weight weight few)
 
 pub none_of_valid : (p : FileParts) → IsValidFile p → meaning_fault p ≡ None
 unfolding meaning_fault
 none_of_valid p valid =
-    let tasks = within_range (codes "tasks in all") (tasks_in_all (plan_of p)) 1 1024 (subst (λ n. IsBetween n 1 1024) (sum_of_tasks p) valid.tasks) in
+    let tasks = within_range (codes "tasks in all") (tasks_in_all (plan_of p)) 1 most_tasks_in_all (subst (λ n. IsBetween n 1 most_tasks_in_all) (sum_of_tasks p) valid.tasks) in
     let size =
-    none_first (range_fault (codes "tasks in all") 1 1024 (pos (tasks_in_all (plan_of p))) ∷ (if nat_lt 4096 (weight_of (plan_of p)) then Some (Weight (weight_of (plan_of p))) else None) ∷ [])
+    none_first (range_fault (codes "tasks in all") 1 most_tasks_in_all (pos (tasks_in_all (plan_of p))) ∷ (if nat_lt most_weight (weight_of (plan_of p)) then Some (Weight (weight_of (plan_of p))) else None) ∷ [])
     (tasks, (light (weight_of (plan_of p)) valid.weight, tt))
     in
     none_first (twice_fault p ∷ source_fault p ∷ cycle_fault p ∷ fields_fault p ∷ replay_fault p p.spout.kind ∷ size_fault (tasks_in_all (plan_of p)) (weight_of (plan_of p)) ∷ [])

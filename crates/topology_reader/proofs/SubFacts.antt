@@ -1,6 +1,6 @@
 -- The subscriptions of the plan of a file without a fault: at most one of a component to a source, with a grouping by fields that are there.
 use Rattle.std.proofs.Common.{◌≡◌, ◌≢◌, ℕ, ◌+◌, ◌<◌, ◌≤◌, List, [], ◌∷◌, ◌++◌, length, map, filter, All, AllPairs, Bool, true, false, Option, Some, None, option_map, option_and_then, slice_get, unwrap_or, codes, ◌⊎◌, inl, inr, refl, sym, ◌∙◌, ap, subst, arith}
-use Rattle.topology_reader.proofs.Common.{enumerate_from, flat_map, option_map_or, Origin, WrongKind, GroupingPart, Input, Operation, shape, Leaves, IsShape, IsChoice, shape_fits, first_field, IsOperationInRange, IsBodyInRange, fields_left, BodyPart, Bolt, State, ComponentPart, components_of, FileParts, IsBetween, IsInRange, IsGroupingInRange, IsComponentInRange, cases_Bool, cases_lt, cond-true, cond-false, false≢true, false_from_ne_true, length-map, map-id, none-some, same_Some, slice_get_within, Sub, subs_of, plan_fields, width_of, AreWithin, IsRouteOf, IsFrom, source_of, inputs_by_component, inputs_at, sources_at, fields_after, fields_of, fields_to, body_of, number_of, numbers_of, planned_body, route_field, planned_grouping, is_from, subs_of_component, planned_subs, planned_component, plan_of, key_of, is_route, chooses, direct_fault, fields_read, twice_fault, IsSource}
+use Rattle.topology_reader.proofs.Common.{most_fields, enumerate_from, flat_map, option_map_or, Origin, WrongKind, GroupingPart, Input, Operation, shape, Leaves, IsShape, IsChoice, shape_fits, first_field, IsOperationInRange, IsBodyInRange, fields_left, BodyPart, Bolt, State, ComponentPart, components_of, FileParts, IsBetween, IsInRange, IsGroupingInRange, IsComponentInRange, cases_Bool, cases_lt, cond-true, cond-false, false≢true, false_from_ne_true, length-map, map-id, none-some, same_Some, slice_get_within, Sub, subs_of, plan_fields, width_of, AreWithin, IsRouteOf, IsFrom, source_of, inputs_by_component, inputs_at, sources_at, fields_after, fields_of, fields_to, body_of, number_of, numbers_of, planned_body, route_field, planned_grouping, is_from, subs_of_component, planned_subs, planned_component, plan_of, key_of, is_route, chooses, direct_fault, fields_read, twice_fault, IsSource}
 use Rattle.std.specs.List.Sorted.{IsStrictlyIncreasing}
 use Rattle.topology_plan.specs.declared.parts.Component.{Component}
 use Rattle.topology_plan.specs.declared.function.Leaves.TheVariants as leaves
@@ -111,7 +111,7 @@ pub numbers_once : (fields names : List (List ℕ)) → AreApart names → ((nam
 numbers_once fields names apart there =
     AllPairs-from_apart (λ (n : ℕ). n) (numbers_of fields names) (subst AreApart (sym (map-id (numbers_of fields names))) (numbers_apart fields names apart there))
 
-pub numbers_within : (fields names : List (List ℕ)) → IsBetween (length names) 1 8 → AreApart names → ((name : List ℕ) → IsIn name names → IsIn name fields) → AreWithin (numbers_of fields names) (length fields)
+pub numbers_within : (fields names : List (List ℕ)) → IsBetween (length names) 1 most_fields → AreApart names → ((name : List ℕ) → IsIn name names → IsIn name fields) → AreWithin (numbers_of fields names) (length fields)
 numbers_within fields names count apart there = (
   (omega (arith, length-map names (number_of fields), count.0), omega (arith, length-map names (number_of fields), count.1)),
   numbers_there fields names there,

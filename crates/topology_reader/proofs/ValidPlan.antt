@@ -1,6 +1,6 @@
 -- A file without a fault has a valid plan.
 use Rattle.std.proofs.Common.{if◌then◌else◌, ◌≡◌, ℕ, ◌<◌, ◌≤◌, ◌&&◌, pos, List, [], ◌∷◌, length, map, filter, All, true, false, nat_lt, int_le, Option, Some, None, slice_get, codes, zero-add, inl, inr, refl, sym, ◌∙◌, ap, subst, arith, IfSome}
-use Rattle.topology_reader.proofs.Common.{enumerate_from, option_map_or, Origin, OutOfRange, Weight, Input, FileParts, ComponentPart, components_of, component_count, tasks_in_all, subs_of, IsBetween, IsValid, IsTarget, IsRanked, IsInRange, cases_Bool, cases_lt, cond-true, cond-false, and_parts, ltb-false, eqb-true, eq-eqb, false≢true, leb-true, length-map, get_or-map, get_or_past, length-enumerate_from, get_or-enumerate_from, none-some, slice_get_within, slice_get_past, Sub, range_fault, twice_fault, source_fault, cycle_fault, fields_fault, replay_fault, meaning_fault, size_fault, source_of, inputs_by_component, sources_at, is_origin, is_from, planned_grouping, subs_of_component, planned_subs, planned_component, plan_of}
+use Rattle.topology_reader.proofs.Common.{most_tasks_in_all, most_weight, enumerate_from, option_map_or, Origin, OutOfRange, Weight, Input, FileParts, ComponentPart, components_of, component_count, tasks_in_all, subs_of, IsBetween, IsValid, IsTarget, IsRanked, IsInRange, cases_Bool, cases_lt, cond-true, cond-false, and_parts, ltb-false, eqb-true, eq-eqb, false≢true, leb-true, length-map, get_or-map, get_or_past, length-enumerate_from, get_or-enumerate_from, none-some, slice_get_within, slice_get_past, Sub, range_fault, twice_fault, source_fault, cycle_fault, fields_fault, replay_fault, meaning_fault, size_fault, source_of, inputs_by_component, sources_at, is_origin, is_from, planned_grouping, subs_of_component, planned_subs, planned_component, plan_of}
 use Rattle.topology_plan.specs.Topology.{weight_of}
 use Rattle.topology_plan.specs.declared.parts.Origin.TheVariants as origin
 use Rattle.topology_reader.proofs.Ranks.{rank, rank_grows}
@@ -18,15 +18,15 @@ pub record HasNoFault (p : FileParts) : Type 0 where
   pub cycle : cycle_fault p ≡ None
   pub fields : fields_fault p ≡ None
   pub replay : replay_fault p p.spout.kind ≡ None
-  pub tasks : range_fault (codes "tasks in all") 1 1024 (pos (tasks_in_all (plan_of p))) ≡ None
-  pub weight : (if nat_lt 4096 (weight_of (plan_of p)) then Some (Weight (weight_of (plan_of p))) else None) ≡ None
+  pub tasks : range_fault (codes "tasks in all") 1 most_tasks_in_all (pos (tasks_in_all (plan_of p))) ≡ None
+  pub weight : (if nat_lt most_weight (weight_of (plan_of p)) then Some (Weight (weight_of (plan_of p))) else None) ≡ None
 
 pub no_fault : (p : FileParts) → meaning_fault p ≡ None → HasNoFault p
 unfolding meaning_fault
 no_fault p none =
-    let tasks = range_fault (codes "tasks in all") 1 1024 (pos (tasks_in_all (plan_of p))) in
+    let tasks = range_fault (codes "tasks in all") 1 most_tasks_in_all (pos (tasks_in_all (plan_of p))) in
     let each = none_each (twice_fault p ∷ source_fault p ∷ cycle_fault p ∷ fields_fault p ∷ replay_fault p p.spout.kind ∷ size_fault (tasks_in_all (plan_of p)) (weight_of (plan_of p)) ∷ []) none in
-    let size = none_each (tasks ∷ (if nat_lt 4096 (weight_of (plan_of p)) then Some (Weight (weight_of (plan_of p))) else None) ∷ []) each.1.1.1.1.1.0 in
+    let size = none_each (tasks ∷ (if nat_lt most_weight (weight_of (plan_of p)) then Some (Weight (weight_of (plan_of p))) else None) ∷ []) each.1.1.1.1.1.0 in
     record { twice = each.0; sources = each.1.0; cycle = each.1.1.0; fields = each.1.1.1.0; replay = each.1.1.1.1.0; tasks = size.0; weight = size.1.0 }
 
 -- ---- numbers
@@ -40,11 +40,11 @@ between_from_range name n least most none =
       | inr without ↦ absurd (none-some (OutOfRange name (pos n) least most) (sym none ∙ cond-false (int_le (pos least) (pos n) && int_le (pos n) (pos most)) None (Some (OutOfRange name (pos n) least most)) without))
     ]
 
-most_from_weight : (weight : ℕ) → (if nat_lt 4096 weight then Some (Weight weight) else None) ≡ None → weight ≤ 4096
+most_from_weight : (weight : ℕ) → (if nat_lt most_weight weight then Some (Weight weight) else None) ≡ None → weight ≤ most_weight
 most_from_weight weight none =
-    elim (cases_Bool (nat_lt 4096 weight)) [
-      | inl more ↦ absurd (none-some (Weight weight) (sym none ∙ cond-true (nat_lt 4096 weight) (Some (Weight weight)) None more))
-      | inr fits ↦ ltb-false 4096 weight fits
+    elim (cases_Bool (nat_lt most_weight weight)) [
+      | inl more ↦ absurd (none-some (Weight weight) (sym none ∙ cond-true (nat_lt most_weight weight) (Some (Weight weight)) None more))
+      | inr fits ↦ ltb-false most_weight weight fits
     ]
 
 -- ---- sources
@@ -186,7 +186,7 @@ valid_plan p range none =
       buckets = range.buckets;
       attempts = range.attempts;
       components = (omega (arith, length_components p, count_parts p, range.states.0), omega (arith, length_components p, count_parts p, range.states.1, range.bolts));
-      tasks = between_from_range (codes "tasks in all") (tasks_in_all (plan_of p)) 1 1024 faultless.tasks;
+      tasks = between_from_range (codes "tasks in all") (tasks_in_all (plan_of p)) 1 most_tasks_in_all faultless.tasks;
       sources = length_sources p;
       targets = targets_planned p;
       ranked = ranked_planned p faultless.cycle;

@@ -1,7 +1,7 @@
 -- Which fault a topology file has first, and which plan it has where it has none. This project's
 -- own.
 use Rattle.std.specs.Prelude.{◌≡◌, ℕ, ◌+◌, pos, List, [], ◌∷◌, ◌++◌, length, map, Bool, true, false, not, nat_lt, if◌then◌else◌, Option, Some, None, option_map, option_and_then, is_none, codes}
-use Rattle.topology_reader.specs.Prelude.{pointwise, find, range_fault, Data, json_of, most_topology_bytes, TooLong, NotJson, form_fault, parts_said, Topology, list_any, range_with_len, option_map_or, option_to_list, bytes_eq, first_some, most_tasks_in_all, most_weight, GroupingPart, Input, shape, Leaves, BodyPart, Bolt, State, ComponentPart, FileParts, components_of, TopoFault, WrongKind, Twice, NoSource, Cycle, FieldsDiffer, NoField, NotExactlyOnce, Weight, Kind, Transactional, Opaque, tasks_in_all, weight_of, Feed, feeds_at, by_depth}
+use Rattle.topology_reader.specs.Prelude.{pointwise, find, range_fault, Data, json_of, most_topology_bytes, most_fields, TooLong, NotJson, form_fault, parts_said, Topology, list_any, range_with_len, option_map_or, option_to_list, bytes_eq, first_some, most_tasks_in_all, most_weight, GroupingPart, Input, shape, Leaves, BodyPart, Bolt, State, ComponentPart, FileParts, components_of, TopoFault, WrongKind, Twice, NoSource, Cycle, FieldsDiffer, NoField, NotExactlyOnce, Weight, Kind, Transactional, Opaque, tasks_in_all, weight_of, Feed, feeds_at, by_depth}
 use Rattle.topology_form.specs.declared.parts.GroupingPart.TheVariants as said
 use Rattle.topology_plan.specs.declared.function.Leaves.TheVariants as leaves
 use Rattle.topology_reader.specs.Wiring.{component_names, name_at, source_of, graph_of, reaches, fields_of, fields_to, body_of, component_at}
@@ -119,11 +119,11 @@ abbrev pub fields_read : BodyPart → List (List ℕ)
 fields_read (Bolt operation) = operation.reads
 fields_read (State state) = state.key ++ option_to_list state.amount
 
--- a field that is made beside these is there already, or there are eight without it
+-- a field that is made beside these is there already, or there are `most_fields` without it
 abbrev pub one_more_fault : List (List ℕ) → List ℕ → Option TopoFault
 one_more_fault fields into =
     if is_among fields into then Some (Twice into)
-    else range_fault (codes "fields") 1 8 (pos (length fields + 1))
+    else range_fault (codes "fields") 1 most_fields (pos (length fields + 1))
 
 -- the same of an operation that leaves these fields and makes this one
 abbrev pub more_fault : Leaves → List (List ℕ) → Option (List ℕ) → Option TopoFault

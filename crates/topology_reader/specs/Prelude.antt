@@ -4,7 +4,7 @@ pub use Rattle.std.specs.Option.{option_map_or, option_to_list, option_copied}
 pub use Rattle.std.specs.Str.{bytes_eq}
 pub use Rattle.std.specs.Cmp.Lexicographic.{pointwise}
 pub use Rattle.storm_values.specs.Json.{json_of}
-pub use Rattle.storm_values.specs.Limits.{most_topology_bytes, most_tasks_in_all, most_weight}
+pub use Rattle.storm_values.specs.Limits.{most_topology_bytes, most_fields, most_bolts, most_tasks_in_all, most_weight}
 pub use Rattle.storm_values.specs.Lines.{first_some}
 pub use Rattle.topology_form.specs.Prelude.{Data, view, Kind, Transactional, Opaque}
 pub use Rattle.topology_form.specs.declared.fault.TopoFault.{TopoFault}

@@ -1,7 +1,7 @@
 -- What a file says that has no fault, in its own names. Components are the bolts and then the
 -- states, each in file order. This project's own.
 use Rattle.std.specs.Prelude.{◌≡◌, ◌≢◌, ◌<◌, ◌≤◌, ℕ, List, ◌∷◌, length, All, AllPairs, Some, IfSome, sum_by, true, false}
-use Rattle.topology_reader.specs.Prelude.{Opaque, Contains, most_tasks_in_all, most_weight, Input, ComponentPart, FileParts, Origin, weight_of, IsThere, IsBetween, IsInRange, components_of, option_map_or}
+use Rattle.topology_reader.specs.Prelude.{Opaque, Contains, most_fields, most_tasks_in_all, most_weight, Input, ComponentPart, FileParts, Origin, weight_of, IsThere, IsBetween, IsInRange, components_of, option_map_or}
 use Rattle.topology_plan.specs.declared.parts.Origin.TheVariants as origin
 use Rattle.topology_plan.specs.Texts.{IsName}
 use Rattle.topology_form.specs.declared.parts.GroupingPart.TheVariants as said
@@ -11,9 +11,9 @@ use Rattle.topology_reader.specs.FirstFault.{key_of, fields_read, is_route, keep
 
 -- ---- sources
 
--- a source has 1 to 8 fields, which are names, none twice
+-- a source has 1 to `most_fields` fields, which are names, none twice
 pub record HasFields (p : FileParts) (from : Origin) : Type 0 where
-  pub count : IsBetween (length (fields_of p from)) 1 8
+  pub count : IsBetween (length (fields_of p from)) 1 most_fields
   pub named : All IsName (fields_of p from)
   pub distinct : AllPairs ◌≢◌ (fields_of p from)
 

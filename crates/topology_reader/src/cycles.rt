@@ -1,7 +1,7 @@
 //! Bolts that can be reached from themselves, and states that an opaque spout does not allow.
 
 ghost use Rattle.std.specs.Prelude.{◌≡◌, ◌≤◌, ◌<◌, ℕ, length, map, slice_index, IfOk};
-ghost use Rattle.topology_reader.specs.Prelude.{Checks, list_any};
+ghost use Rattle.topology_reader.specs.Prelude.{Checks, list_any, most_bolts};
 ghost use Rattle.topology_reader.specs.FirstFault.{cycle_fault, keeps_exact, replay_fault};
 ghost use Rattle.topology_reader.specs.Steps.{has, led, AreReached};
 ghost use Rattle.topology_reader.specs.Wiring.{is_component, sources_among};
@@ -13,7 +13,7 @@ use topology_form::{BodyPart, FileParts, Input, TopoFault};
 use topology_plan::{Kind, Origin};
 
 pub(crate) fn check_cycles(sources: &Sources<'_>) -> Result<(), TopoFault>
-    requires few { length sources.now.bolts ≤ 32 }
+    requires few { length sources.now.bolts ≤ most_bolts }
     ensures { Checks result (cycle_fault sources.now) }
 {
     let sets = reach_sets(sources)?;
@@ -28,7 +28,7 @@ pub(crate) fn check_cycles(sources: &Sources<'_>) -> Result<(), TopoFault>
 /// For each bolt the set of the bolts from which it can be reached. After the look-up of each input
 /// it takes as many steps as the square of the number of bolts.
 fn reach_sets(sources: &Sources<'_>) -> Result<Vec<u64>, Memory>
-    requires few { length sources.now.bolts ≤ 32 }
+    requires few { length sources.now.bolts ≤ most_bolts }
     ensures { IfOk result (λ sets. AreReached (length sources.now.bolts) sources.now sets.items) }
 {
     let mut sets = direct_sources(sources)?;
@@ -53,7 +53,7 @@ fn led_through(alloc: Global, sets: &[u64], n: usize) -> Result<Vec<u64>, Memory
 
 /// For each bolt the set of the bolts that feed it.
 fn direct_sources(sources: &Sources<'_>) -> Result<Vec<u64>, Memory>
-    requires few { length sources.now.bolts ≤ 32 }
+    requires few { length sources.now.bolts ≤ most_bolts }
     ensures { IfOk result (λ sets. AreReached 0 sources.now sets.items) }
 {
     let bolts = sources.parts().bolts.len();
@@ -66,7 +66,7 @@ fn direct_sources(sources: &Sources<'_>) -> Result<Vec<u64>, Memory>
 }
 
 fn bolt_sources(sources: &Sources<'_>, inputs: &[Input]) -> u64
-    requires few { length sources.now.bolts ≤ 32 }
+    requires few { length sources.now.bolts ≤ most_bolts }
     ensures { (a : ℕ)
         → has result a ≡ list_any (is_component a) (sources_among sources.now inputs.now) }
 {

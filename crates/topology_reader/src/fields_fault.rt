@@ -8,7 +8,7 @@ use crate::names::key_of;
 use crate::wiring::Wiring;
 use std::alloc::Global;
 use std::slice::from_ref;
-use storm_values::Txt;
+use storm_values::{MOST_FIELDS, Txt};
 use topology_form::{BodyPart, ComponentPart, GroupingPart, Input, TopoFault, within};
 use topology_graph::by_depth;
 use topology_plan::Leaves;
@@ -151,5 +151,5 @@ fn check_one_more(alloc: Global, fields: &[Txt], into: &Txt) -> Result<(), TopoF
     if is_among(fields, into) {
         return Err(TopoFault::Twice(into.copy()?));
     }
-    within(alloc, "fields", (fields.len() + 1) as i64, 1, 8)
+    within(alloc, "fields", (fields.len() + 1) as i64, 1, MOST_FIELDS)
 }

@@ -1,7 +1,7 @@
 //! From the bytes of a topology file to its plan.
 
 ghost use Rattle.std.specs.Prelude.{◌≡◌, ◌≢◌, ◌≤◌, length, Some, None, IfOk, IfErr};
-ghost use Rattle.topology_reader.specs.Prelude.{Checks, view, json_of, IsValid, IsWired, IsInRange};
+ghost use Rattle.topology_reader.specs.Prelude.{Checks, view, json_of, IsValid, IsWired, IsInRange, most_bolts};
 ghost use Rattle.topology_reader.specs.FirstFault.{twice_fault, source_fault, cycle_fault, size_fault, meaning_fault, first_fault, IsFilePlan};
 ghost use Rattle.topology_reader.specs.Planned.{plan_of};
 ghost use Rattle.topology_reader.specs.Steps.{IsMade, names_fault};
@@ -21,8 +21,7 @@ use topology_plan::{Made, Plan};
 /// The plan of a topology file, or the file's first fault: its length, JSON, its
 /// form, and then what it says.
 ///
-/// Time is linear in the bytes; the search for a cycle takes a step for each two of the at most 32
-/// bolts besides.
+/// Time is linear in the bytes; the search for a cycle takes a step for each two bolts besides.
 pub fn read_topology(alloc: Global, bytes: &[u8]) -> Result<Plan, TopoFault>
     ensures plan { IfOk result (λ plan. IsFilePlan bytes.now plan) }
     ensures valid { IfOk result (λ plan. IsValid plan) }
@@ -69,7 +68,7 @@ fn plan_from(sources: &Sources<'_>) -> Result<Plan, TopoFault>
 }
 
 fn check_names(sources: &Sources<'_>) -> Result<(), TopoFault>
-    requires few { length sources.now.bolts ≤ 32 }
+    requires few { length sources.now.bolts ≤ most_bolts }
     ensures { Checks result (names_fault sources.now) }
 {
     check_twice(sources)?;
