@@ -57,7 +57,8 @@ pub(crate) fn known_after(
     work: Work,
 ) -> Option<Known>
     ensures { IfSome result
-        (IsAfter batch.kind batch.root.txid work.is_newest (jobs_of groups.now work.restores.items)) }
+        (IsAfter batch.kind batch.root.txid work.is_newest
+        (jobs_of groups.now work.restores.items)) }
 {
     let Work {
         restores,

@@ -119,8 +119,8 @@ pub(crate) fn migrate<C: CellStore>(
     Ok(migrated)
 }
 
-/// A law: the bytes of a cell are brought to those that are written for the same cell, which are not
-/// of format 1; and bytes that are no cell of format 1 stay.
+/// A law: the bytes of a cell are brought to those that are written for the same cell, which are
+/// not of format 1. Bytes of another length than that of format 1 stay, be they a cell or none.
 pub fn cells_are_brought_to_format_2()
     ensures same { (cell : Cell) (bytes : List ℕ) → IsCell cell → AreBytesOf cell bytes
         → migrated bytes ≡ bytes_of cell }

@@ -38,7 +38,8 @@ fn commit_halves<'w, C: CellStore + Send, R: Threads + Sync, O: RowOp>(
 ) -> Tally
     requires { length dealt.now ≡ length parts.old }
     ensures { (writes : List Write) → AreDealt writes parts.old dealt.now →
-        AreTried C.tells (O.meaning custom.now) C.fault_count root writes parts.old parts.new result }
+        AreTried C.tells (O.meaning custom.now) C.fault_count root writes
+        parts.old parts.new result }
 {
     if threads < 2 || parts.len() < 2 {
         return commit_run(parts, root, dealt, custom);
@@ -78,7 +79,8 @@ fn both_halves<'w, C: CellStore + Send, R: Threads + Sync, O: RowOp>(
     requires front { length first.now ≡ length front.old }
     requires back { length rest.now ≡ length back.old }
     ensures { (writes : List Write) → AreDealt writes front.old first.now →
-        AreDealt writes back.old rest.now → AreTried C.tells (O.meaning custom.now) C.fault_count root writes
+        AreDealt writes back.old rest.now →
+        AreTried C.tells (O.meaning custom.now) C.fault_count root writes
         (front.old ++ back.old) (front.new ++ back.new) result }
 {
     let same = root;

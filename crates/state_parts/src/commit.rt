@@ -23,7 +23,8 @@ fn commit_part<C: CellStore, O: RowOp>(
     tally: &mut Tally,
 )
     ensures { (own : List Write) → IsGrouped own writes.now →
-        Tries C.tells (O.meaning custom.now) C.fault_count root own at.old at.new tally.old tally.new }
+        Tries C.tells (O.meaning custom.now) C.fault_count root own
+        at.old at.new tally.old tally.new }
 {
     let before = at.over.faults();
     let answer = at.over.commit(root, writes, custom);
@@ -48,7 +49,8 @@ pub(crate) fn commit_run<C: CellStore, O: RowOp>(
 ) -> Tally
     requires { length dealt.now ≡ length parts.old }
     ensures { (writes : List Write) → AreDealt writes parts.old dealt.now →
-        AreTried C.tells (O.meaning custom.now) C.fault_count root writes parts.old parts.new result }
+        AreTried C.tells (O.meaning custom.now) C.fault_count root writes
+        parts.old parts.new result }
 {
     let mut tally = Tally::new();
     for i in 0..parts.len() {
@@ -66,7 +68,8 @@ fn commit_each<C: CellStore, O: RowOp>(
 ) -> Tally
     requires { length dealt.now ≡ length parts.old.items }
     ensures { (writes : List Write) → AreDealt writes parts.old.items dealt.now →
-        AreTried C.tells (O.meaning custom.now) C.fault_count root writes parts.old.items parts.new.items result }
+        AreTried C.tells (O.meaning custom.now) C.fault_count root writes
+        parts.old.items parts.new.items result }
 {
     commit_run(parts, root, dealt, custom)
 }
@@ -85,7 +88,8 @@ pub(crate) fn commit_parts<C: CellStore, O: RowOp>(
         Comes C.tells (O.meaning custom.now) C.fault_count commit.root commit.writes
         parts.old.items parts.new.items result }
     ensures done { result ≡ Ok CommitOutcome.Done →
-        AreCommitted C.tells (O.meaning custom.now) commit.root commit.writes parts.old.items parts.new.items }
+        AreCommitted C.tells (O.meaning custom.now) commit.root commit.writes
+        parts.old.items parts.new.items }
     ensures kept { ArePerhapsCommitted C.tells (O.meaning custom.now) commit.root commit.writes
         parts.old.items parts.new.items }
     ensures failed { (component part before after : ℕ) →

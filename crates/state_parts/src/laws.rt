@@ -27,8 +27,8 @@ pub fn parts_over_empty_stores_begin<C: CellStore>()
 /// n + 1, and no cell has a larger transaction then; and one that was broken off, in whatever part,
 /// leaves each part at n.
 pub fn commits_move_all_parts_on<C: CellStore>()
-    ensures moved { (t : Topology) (custom : Custom) (n : ℕ) (root : Root) (done next more : List Write)
-        (old new : List (StatePart C))
+    ensures moved { (t : Topology) (custom : Custom) (n : ℕ) (root : Root)
+        (done next more : List Write) (old new : List (StatePart C))
         → root.txid ≡ n + 1 → AllStand C.tells t custom n done next old → ArePlaced t next
         → AreCommitted C.tells custom root next old new
         → AllAreAt C.tells t custom (n + 1) (done ++ next) more new }
@@ -37,18 +37,21 @@ pub fn commits_move_all_parts_on<C: CellStore>()
         → root.txid ≡ n + 1 → AllStand C.tells t custom n done next old → ArePlaced t next
         → ArePerhapsCommitted C.tells custom root next old new
         → AllStand C.tells t custom n done next new }
-    ensures stand { (t : Topology) (custom : Custom) (n : ℕ) (done next : List Write) (parts : List (StatePart C))
-        → AllAreAt C.tells t custom n done next parts → AllStand C.tells t custom n done next parts }
+    ensures stand { (t : Topology) (custom : Custom) (n : ℕ) (done next : List Write)
+        (parts : List (StatePart C))
+        → AllAreAt C.tells t custom n done next parts
+        → AllStand C.tells t custom n done next parts }
 {}
 
 /// A law: where each part stands at n and no cell has a larger transaction, the tables of the parts
 /// are those of the writes of the batches 1 to n.
 pub fn tables_of_parts_are_tables_of_writes<C: CellStore>()
-    ensures { (t : Topology) (custom : Custom) (n : ℕ) (done next : List Write) (parts : List (StatePart C))
-        (tables : List Table)
+    ensures { (t : Topology) (custom : Custom) (n : ℕ) (done next : List Write)
+        (parts : List (StatePart C)) (tables : List Table)
         → IsWired t → AreParts t parts → ArePlaced t done → HaveOnePart done
         → AllAreAt C.tells t custom n done next parts
-        → AllZip (IsTableOver C.tells parts) (states_of t custom) tables → AreTables t custom done tables }
+        → AllZip (IsTableOver C.tells parts) (states_of t custom) tables
+        → AreTables t custom done tables }
 {}
 
 /// A law: the writes of the tree of some rows go to the parts that the hashes of their keys choose,

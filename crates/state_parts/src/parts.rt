@@ -108,9 +108,11 @@ impl<C: CellStore> Parts<C> {
     ) -> Result<CommitOutcome, CommitFault>
         ensures plans { plans_of self.new ≡ plans_of self.old }
         ensures comes { (result ≡ Err CommitFault.Memory → ⊥) →
-            Comes C.tells (O.meaning custom.now) C.fault_count commit.root commit.writes self.old self.new result }
+            Comes C.tells (O.meaning custom.now) C.fault_count commit.root commit.writes
+            self.old self.new result }
         ensures done { result ≡ Ok CommitOutcome.Done →
-            AreCommitted C.tells (O.meaning custom.now) commit.root commit.writes self.old self.new }
+            AreCommitted C.tells (O.meaning custom.now) commit.root commit.writes
+            self.old self.new }
         ensures kept { ArePerhapsCommitted C.tells (O.meaning custom.now) commit.root commit.writes
             self.old self.new }
         ensures failed { (component part before after : ℕ) →
@@ -203,9 +205,11 @@ impl<C: CellStore + Send> Parts<C> {
     ) -> Result<CommitOutcome, CommitFault>
         ensures plans { plans_of self.new ≡ plans_of self.old }
         ensures comes { (result ≡ Err CommitFault.Memory → ⊥) →
-            Comes C.tells (O.meaning custom.now) C.fault_count commit.root commit.writes self.old self.new result }
+            Comes C.tells (O.meaning custom.now) C.fault_count commit.root commit.writes
+            self.old self.new result }
         ensures done { result ≡ Ok CommitOutcome.Done →
-            AreCommitted C.tells (O.meaning custom.now) commit.root commit.writes self.old self.new }
+            AreCommitted C.tells (O.meaning custom.now) commit.root commit.writes
+            self.old self.new }
         ensures kept { ArePerhapsCommitted C.tells (O.meaning custom.now) commit.root commit.writes
             self.old self.new }
         ensures failed { (component part before after : ℕ) →

@@ -9,10 +9,11 @@ ghost use Rattle.topology_plan.specs.Valid.{IsValid};
 ghost use Rattle.topology_plan.specs.Wired.{IsWired, width_of, width_to};
 ghost use Rattle.bolt_ops.specs.RowOp.{Custom, IsCustom};
 ghost use Rattle.storm_values.specs.Rows.{IsRow};
+ghost use Rattle.counted_items.specs.Weights.{weigh};
 ghost use Rattle.tuple_tickets.specs.Lists as tickets;
 ghost use Rattle.tree_model.specs.declared.messages.AckMsg.{AckMsg};
 ghost use Rattle.tree_model.specs.Courses.{growth_of};
-ghost use Rattle.tree_model.specs.Lists.{all_said, AreTrueOf};
+ghost use Rattle.tree_model.specs.Lists.{all_said, is_init, is_failed, consumes, AreTrueOf};
 ghost use Rattle.tree_model.specs.Paths.{ArePathsOf, write_at};
 ghost use Rattle.tree_model.specs.Tables.{AreTables};
 ghost use Rattle.tree_model.specs.Trees.{Node, exec_at, kids, kids_of, node_at, node_count, writes};
@@ -85,10 +86,17 @@ pub fn writes_stand_in_path_order()
 {}
 
 /// A law: what a true list says is true of its root's tree, as that grows from these rows. So the
-/// laws of lists in `tuple_tickets` hold of what it says.
+/// laws of lists in `tuple_tickets` hold of what it says. What a list says has as many inits and
+/// failures as the list has, and consumes each path as often.
 pub fn true_lists_say_what_is_true()
-    ensures { (t : Topology) (custom : Custom) (rows : List (List Value)) (root : Root)
+    ensures says_true { (t : Topology) (custom : Custom) (rows : List (List Value)) (root : Root)
         (list : List AckMsg)
         → AreTrueOf t custom rows root list
         → tickets.AreTrueOf (growth_of t custom (λ r. rows)) root (all_said list) }
+    ensures inits { (list : List AckMsg)
+        → weigh tickets.is_init (all_said list) ≡ weigh is_init list }
+    ensures failures { (list : List AckMsg)
+        → weigh tickets.is_failed (all_said list) ≡ weigh is_failed list }
+    ensures consumed { (list : List AckMsg) (path : List ℕ)
+        → weigh (tickets.consumes path) (all_said list) ≡ weigh (consumes path) list }
 {}

@@ -23,7 +23,8 @@ pub fn plain_tables<O: RowOp>(
 ) -> Result<Tables, Memory>
     requires { All (IsRow (width_of plan.now Origin.Spout)) rows.now }
     ensures { IfOk result
-        (AreTables plan.now (O.meaning custom.now) (writes plan.now (O.meaning custom.now) rows.now)) }
+        (AreTables plan.now (O.meaning custom.now)
+        (writes plan.now (O.meaning custom.now) rows.now)) }
 {
     let mut filling = Filling {
         tables: RunningTables::new(alloc, plan)?,

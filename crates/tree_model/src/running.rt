@@ -42,7 +42,6 @@ impl Model for RunningTables {
 
     ghost Value = { List (List Pair) };
 
-    ghost use Rattle.bolt_ops.specs.RowOp.{Custom};
     ghost use Rattle.tree_model.specs.Inside.{pairs_by};
 
     ghost view = { λ tables. pairs_by tables.values.items };
