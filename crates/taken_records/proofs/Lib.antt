@@ -1,0 +1,7 @@
+pub mod Batching
+pub mod Fronting
+pub mod Leaving
+pub mod Marking
+pub mod Returning
+pub mod Running
+pub mod Taking
