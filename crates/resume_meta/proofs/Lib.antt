@@ -1,0 +1,2 @@
+mod SpansRead
+mod TextsRead

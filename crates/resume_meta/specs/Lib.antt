@@ -1,0 +1,4 @@
+pub mod Keepers
+pub mod MemoryKeeper
+pub mod Meta
+pub mod steps
