@@ -1,0 +1,5 @@
+pub mod Joining
+mod Keyed
+mod Loops
+mod Running
+mod Pieces
