@@ -1,6 +1,7 @@
 // Attempts in flight.
-use replay_pending::{BeginFault, Pending, Roots};
-use std::alloc::AllocError;
+use record_spans::{Span, Spans};
+use replay_pending::{BeginFault, Entry, Pending};
+use std::alloc::{AllocError, Global};
 use std::test::Fail;
 use storm_values::{Memory, Root};
 
@@ -22,7 +23,7 @@ enum Answer {
     /// The call may not be made.
     NotNext,
     Was(bool),
-    /// The first two roots that a tick told.
+    /// The roots of the first two attempts that a tick told.
     Told(Option<Root>, Option<Root>),
     Count(u32),
 }
@@ -31,37 +32,61 @@ fn try_of(txid: u64, attempt: u32) -> Root {
     Root { txid, attempt }
 }
 
-fn begin(pending: &mut Pending, root: Root) -> Result<Answer, Memory> {
+// The span of one record, with the number of the transaction.
+fn spans_of(alloc: Global, root: Root) -> Result<Spans, Memory> {
+    let mut spans = Spans::new(alloc);
+    spans.push(Span {
+        first: root.txid,
+        last: root.txid,
+    })?;
+    Ok(spans)
+}
+
+fn begin(alloc: Global, pending: &mut Pending<u64>, root: Root) -> Result<Answer, Memory> {
     if !pending.is_next(root) {
         return Ok(Answer::NotNext);
     }
-    match pending.begin(root) {
+    match pending.begin(root, spans_of(alloc, root)?) {
         Ok(()) => Ok(Answer::Begun),
         Err(BeginFault::AtCap(cap)) => Ok(Answer::AtCap(cap)),
         Err(BeginFault::Memory) => Err(AllocError),
     }
 }
 
-fn first_two(told: &Roots) -> Answer {
-    let told = told.as_slice();
-    Answer::Told(told.get(0).copied(), told.get(1).copied())
+fn root_at(told: &[Entry<u64>], place: usize) -> Option<Root> {
+    match told.get(place) {
+        Some(entry) => Some(entry.root),
+        None => None,
+    }
+}
+
+fn tick(pending: &mut Pending<u64>) -> Result<Answer, Memory> {
+    if pending.tick_number() == u64::MAX {
+        return Ok(NONE);
+    }
+    let told = pending.tick()?;
+    Ok(Answer::Told(root_at(&told, 0), root_at(&told, 1)))
 }
 
 // Makes a call.
-fn make(pending: &mut Pending, call: Call) -> Result<Answer, Memory> {
+fn make(alloc: Global, pending: &mut Pending<u64>, call: Call) -> Result<Answer, Memory> {
     match call {
-        Call::Begin(root) => begin(pending, root),
-        Call::Settle(root) => Ok(Answer::Was(pending.settle(root))),
-        Call::End(root) => Ok(Answer::Was(pending.end(root))),
-        Call::Tick => Ok(first_two(&pending.tick()?)),
+        Call::Begin(root) => begin(alloc, pending, root),
+        Call::Settle(root) => Ok(Answer::Was(pending.settle(root, 7))),
+        Call::End(root) => Ok(Answer::Was(pending.end(root).is_some())),
+        Call::Tick => tick(pending),
         Call::Attempts(txid) => Ok(Answer::Count(pending.attempts(txid))),
     }
 }
 
 // Whether each call, one after another, has its answer.
-fn answers(pending: &mut Pending, table: &[(Call, Answer)]) -> Result<bool, Memory> {
+fn answers(
+    alloc: Global,
+    pending: &mut Pending<u64>,
+    table: &[(Call, Answer)],
+) -> Result<bool, Memory> {
     for (call, want) in table {
-        if make(pending, *call)? != *want {
+        if make(alloc, pending, *call)? != *want {
             return Ok(false);
         }
     }
@@ -70,7 +95,7 @@ fn answers(pending: &mut Pending, table: &[(Call, Answer)]) -> Result<bool, Memo
 
 #[test]
 fn one_root_at_a_time(rt: HostRuntime) -> Result<(), Fail> {
-    let mut pending = Pending::new(rt.alloc(), 1, 3)?;
+    let mut pending = Pending::new(rt.alloc(), 1, 3);
     let table = [
         (Call::Begin(try_of(1, 1)), Answer::Begun),
         (Call::Begin(try_of(2, 1)), Answer::AtCap(1)),
@@ -80,13 +105,13 @@ fn one_root_at_a_time(rt: HostRuntime) -> Result<(), Fail> {
         (Call::Attempts(1), Answer::Count(1)),
         (Call::Attempts(3), Answer::Count(0)),
     ];
-    assert!(rt; answers(&mut pending, &table)?);
+    assert!(rt; answers(rt.alloc(), &mut pending, &table)?);
     Ok(())
 }
 
 #[test]
 fn a_root_is_told_at_the_third_tick_of_three_buckets(rt: HostRuntime) -> Result<(), Fail> {
-    let mut pending = Pending::new(rt.alloc(), 1, 3)?;
+    let mut pending = Pending::new(rt.alloc(), 1, 3);
     let table = [
         (Call::Begin(try_of(1, 1)), Answer::Begun),
         (Call::Tick, NONE),
@@ -95,13 +120,13 @@ fn a_root_is_told_at_the_third_tick_of_three_buckets(rt: HostRuntime) -> Result<
         (Call::Tick, NONE),
         (Call::End(try_of(1, 1)), Answer::Was(false)),
     ];
-    assert!(rt; answers(&mut pending, &table)?);
+    assert!(rt; answers(rt.alloc(), &mut pending, &table)?);
     Ok(())
 }
 
 #[test]
 fn roots_are_told_in_the_order_of_their_begins(rt: HostRuntime) -> Result<(), Fail> {
-    let mut pending = Pending::new(rt.alloc(), 3, 2)?;
+    let mut pending = Pending::new(rt.alloc(), 3, 2);
     let table = [
         (Call::Begin(try_of(7, 1)), Answer::Begun),
         (Call::Begin(try_of(2, 1)), Answer::Begun),
@@ -113,13 +138,13 @@ fn roots_are_told_in_the_order_of_their_begins(rt: HostRuntime) -> Result<(), Fa
         ),
         (Call::Tick, Answer::Told(Some(try_of(3, 1)), None)),
     ];
-    assert!(rt; answers(&mut pending, &table)?);
+    assert!(rt; answers(rt.alloc(), &mut pending, &table)?);
     Ok(())
 }
 
 #[test]
 fn a_settled_root_is_not_told(rt: HostRuntime) -> Result<(), Fail> {
-    let mut pending = Pending::new(rt.alloc(), 2, 2)?;
+    let mut pending = Pending::new(rt.alloc(), 2, 2);
     let table = [
         (Call::Begin(try_of(1, 1)), Answer::Begun),
         (Call::Begin(try_of(2, 1)), Answer::Begun),
@@ -130,13 +155,13 @@ fn a_settled_root_is_not_told(rt: HostRuntime) -> Result<(), Fail> {
         (Call::End(try_of(1, 1)), Answer::Was(true)),
         (Call::End(try_of(2, 1)), Answer::Was(false)),
     ];
-    assert!(rt; answers(&mut pending, &table)?);
+    assert!(rt; answers(rt.alloc(), &mut pending, &table)?);
     Ok(())
 }
 
 #[test]
 fn a_verdict_of_another_attempt_changes_nothing(rt: HostRuntime) -> Result<(), Fail> {
-    let mut pending = Pending::new(rt.alloc(), 2, 2)?;
+    let mut pending = Pending::new(rt.alloc(), 2, 2);
     let table = [
         (Call::Begin(try_of(1, 1)), Answer::Begun),
         (Call::End(try_of(1, 1)), Answer::Was(true)),
@@ -149,6 +174,39 @@ fn a_verdict_of_another_attempt_changes_nothing(rt: HostRuntime) -> Result<(), F
         (Call::Tick, NONE),
         (Call::Tick, Answer::Told(Some(try_of(1, 2)), None)),
     ];
-    assert!(rt; answers(&mut pending, &table)?);
+    assert!(rt; answers(rt.alloc(), &mut pending, &table)?);
+    Ok(())
+}
+
+// What an attempt that moved out is: its root, its first record, the tick of its begin and what it
+// was settled with.
+fn parts_of(entry: Option<Entry<u64>>) -> Option<(Root, Option<u64>, u64, Option<u64>)> {
+    match entry {
+        Some(entry) => {
+            let first = entry.spans.as_slice().first().map(|span| span.first);
+            Some((entry.root, first, entry.start, entry.settled))
+        }
+        None => None,
+    }
+}
+
+#[test]
+fn an_attempt_moves_out_with_what_it_has(rt: HostRuntime) -> Result<(), Fail> {
+    let mut pending = Pending::new(rt.alloc(), 2, 3);
+    let table = [
+        (Call::Tick, NONE),
+        (Call::Begin(try_of(5, 1)), Answer::Begun),
+        (Call::Settle(try_of(5, 1)), Answer::Was(true)),
+    ];
+    assert!(rt; answers(rt.alloc(), &mut pending, &table)?);
+    assert!(rt; pending.timed(try_of(5, 1)).is_none());
+    assert!(rt; pending.settled_after(4).is_some());
+    assert!(rt; pending.has_txid(5));
+    assert_eq!(rt; pending.len(), 1);
+    assert_eq!(rt;
+        parts_of(pending.end(try_of(5, 1))),
+        Some((try_of(5, 1), Some(5), 1, Some(7)))
+    );
+    assert_eq!(rt; pending.len(), 0);
     Ok(())
 }

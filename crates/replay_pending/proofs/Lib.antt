@@ -1,7 +1,5 @@
-mod Lists
 mod CountLemmas
-mod BeginLemmas
-mod SettleLemmas
-mod TickLemmas
-mod StandLemmas
+pub mod Lists
+pub mod Found
+mod Late
 mod CallLemmas

@@ -1,120 +1,175 @@
-ghost use Rattle.std.specs.Prelude.{◌≡◌, ◌≤◌, ◌<◌, ◌+◌, ◌↔◌, ◌∷◌, ◌++◌, [], None, false, length, vec_len, vec_capacity, IsTrue, IfOk, IfErr, OnOk, OnErr};
+ghost use Rattle.std.specs.Prelude.{◌≡◌, ◌≢◌, ◌≤◌, ◌<◌, ◌+◌, ◌-◌, ◌^◌, ◌↔◌, ◌∷◌, ◌++◌, [], None, false, is_some, length, option_copied, IsTrue, IfOk, IfErr, OnOk, OnErr};
 ghost use Rattle.std.specs.FinMap as fin_map;
-ghost use Rattle.rotating_ledger.specs.Held.{value_of};
 ghost use Rattle.replay_pending.specs.Faults.{IsCauseOf};
-ghost use Rattle.replay_pending.specs.InFlight.{AreDistinct, IsNext, attempts_of, begun, due, ended, is_pending, is_timed, none_in_flight, settled, ticked};
-ghost use Rattle.replay_pending.specs.Places.{roots_of, timed_item};
+ghost use Rattle.replay_pending.specs.InFlight.{AreDistinct, IsNext, attempts_of, begun, due, ended, entry_of, has_txid, none_in_flight, settled, settled_after, ticked, timed_of};
 
 use crate::attempts::Attempts;
+use crate::entry::Entry;
 use crate::fault::BeginFault;
-use crate::roots::{has_txid, is_among, remove_root, remove_roots};
-use rotating_ledger::{Dropped, Rotating};
-use std::alloc::{AllocError, Global};
+use crate::places;
+use record_spans::Spans;
+use std::alloc::Global;
 use std::marker::Model;
-use storm_values::{Memory, Root, Seq};
+use storm_values::{Memory, Root};
 
-/// A list of roots.
-pub type Roots = Seq<Root>;
-
-/// The roots in flight: at most so many are pending, in the order of their begins. A root is timed
-/// until it is settled. A timed root ends at the tick that has the number of buckets since its
-/// begin.
+/// The attempts in flight: at most so many are pending, in the order of their begins. An attempt is
+/// timed until it is settled. A timed one ends at the tick that has the number of buckets since its
+/// begin. A call takes time in proportion to the attempts that are pending, of which there are at
+/// most 64; a tick does so for each attempt that it ends.
 #[derive(Drop)]
-pub struct Pending {
+pub struct Pending<L> {
     cap: u32,
-    // all that are pending, in the order of their begins
-    roots: Vec<Root>,
-    timed: Rotating<()>,
+    buckets: u32,
+    tick: u64,
+    // in the order of their begins
+    entries: Vec<Entry<L>>,
     attempts: Attempts,
 }
 
-impl Model for Pending {
+impl<L> Model for Pending<L> {
     ghost use Rattle.replay_pending.specs.InFlight.{InFlight, in_flight_code};
 
-    ghost Value = { InFlight };
+    ghost Value = { InFlight L };
 
-    ghost coded = { in_flight_code };
+    ghost coded = { in_flight_code L.code };
 
-    ghost use Rattle.replay_pending.specs.Places.{flight, joined, Stands};
+    ghost use Rattle.replay_pending.specs.InFlight.{AreFew};
 
-    ghost view = { λ p. flight p.cap p.timed p.roots.items p.attempts };
+    ghost view = { λ p. record {
+      cap = p.cap;
+      buckets = p.buckets;
+      tick = p.tick;
+      pending = p.entries.items;
+      attempts = p.attempts;
+    } };
 
-    ghost invariant = { λ p. Stands p.cap p.timed.held p.roots.items
-        (joined p.roots.items p.timed.held) };
+    ghost invariant = { λ p. AreFew p.cap p.entries.items };
 }
 
-impl Pending {
-    /// No root is pending. The most that may be is `cap`.
-    pub fn new(alloc: Global, cap: u32, buckets: u32) -> Result<Self, Memory>
+impl<L: Drop> Pending<L> {
+    /// Nothing is pending, at tick 0. The most that may be is `cap`. It takes no memory.
+    pub fn new(alloc: Global, cap: u32, buckets: u32) -> Self
         requires least { 1 ≤ cap }
         requires most { cap ≤ 64 }
         requires least_buckets { 2 ≤ buckets }
         requires most_buckets { buckets ≤ 16 }
-        ensures { IfOk result (λ made. made ≡ none_in_flight cap buckets) }
+        ensures { result ≡ none_in_flight cap buckets }
     {
-        Ok(Pending {
+        Pending {
             cap,
-            roots: Vec::new(alloc),
-            timed: Rotating::new(alloc, buckets)?,
+            buckets,
+            tick: 0,
+            entries: Vec::new(alloc),
             attempts: Attempts::new(alloc),
-        })
+        }
     }
 
-    /// A root begins, timed from now on. Without memory all stays.
-    pub fn begin(&mut self, root: Root) -> Result<(), BeginFault>
+    /// An attempt begins with its records, timed from this tick on. Where as many are pending as
+    /// may be, or without memory, all stays, and the spans are dropped.
+    pub fn begin(&mut self, root: Root, spans: Spans) -> Result<(), BeginFault>
         requires { IsNext root self.old }
-        ensures ok { OnOk result (self.new ≡ begun root self.old) }
+        ensures ok { OnOk result (self.new ≡ begun root spans self.old) }
         ensures room { OnOk result (length self.old.pending < self.old.cap) }
         ensures cause { IfErr result (IsCauseOf self.old) }
         ensures err { OnErr result (self.new ≡ self.old) }
     {
-        if self.roots.len() >= self.cap as usize {
+        if self.entries.len() >= self.cap as usize {
             return Err(BeginFault::AtCap(self.cap));
         }
-        match add_root(&mut self.roots, &mut self.timed, &mut self.attempts, root) {
+        let entry = Entry {
+            root,
+            spans,
+            start: self.tick,
+            settled: None,
+        };
+        match add_entry(&mut self.entries, &mut self.attempts, entry) {
             Ok(()) => Ok(()),
             Err(_) => Err(BeginFault::Memory),
         }
     }
 
-    /// A root stays pending and is no longer timed. It answers whether the root was timed, and
-    /// takes no memory.
-    pub fn settle(&mut self, root: Root) -> bool
-        ensures timed { result ≡ is_timed root self.old.pending }
-        ensures settled { self.new
-            ≡ record self.old { pending = settled root self.old.pending } }
+    /// A timed attempt is settled with a list: it stays pending and is no longer timed. It answers
+    /// whether the attempt was timed, else the list is dropped. It takes no memory.
+    pub fn settle(&mut self, root: Root, list: L) -> bool
+        ensures timed { result ≡ is_some (timed_of root self.old.pending) }
+        ensures settled { IsTrue result
+            → self.new ≡ record self.old { pending = settled root list self.old.pending } }
         ensures same { result ≡ false → self.new ≡ self.old }
     {
-        self.timed.take(root).is_some()
+        match places::timed_place(&self.entries, root) {
+            Some(place) => {
+                self.entries[place].settled = Some(list);
+                true
+            }
+            None => false,
+        }
     }
 
-    /// A root is no longer pending. It answers whether it was, and takes no memory.
-    pub fn end(&mut self, root: Root) -> bool
-        ensures pending { result ≡ is_pending root self.old.pending }
+    /// An attempt is no longer pending, and is moved out, where it was. It takes no memory.
+    pub fn end(&mut self, root: Root) -> Option<Entry<L>>
+        ensures entry { result ≡ entry_of root self.old.pending }
         ensures ended { self.new ≡ record self.old { pending = ended root self.old.pending } }
-        ensures same { result ≡ false → self.new ≡ self.old }
+        ensures same { result ≡ None → self.new ≡ self.old }
     {
-        let pending = is_among(&self.roots, root);
-        remove_root(&mut self.roots, root);
-        self.timed.take(root);
-        pending
+        match places::place_of(&self.entries, root) {
+            Some(place) => Some(self.entries.remove(place)),
+            None => None,
+        }
     }
 
-    /// One tick: answers the timed roots that are due, in the order of their begins, and ends them.
-    /// Without memory all stays. Its time grows with the roots that are pending alone.
-    pub fn tick(&mut self) -> Result<Roots, Memory>
-        ensures told { IfOk result (λ told. told ≡ due self.old.buckets self.old.pending) }
-        ensures ok { OnOk result (self.new
-            ≡ record self.old { pending = ticked self.old.buckets self.old.pending }) }
+    /// One tick: the timed attempts that are due end, and are moved out in the order of their
+    /// begins. Without memory all stays. Where none is due it takes no memory. Ticks end at the
+    /// number 2^64 - 1, at which none may be asked for.
+    pub fn tick(&mut self) -> Result<Vec<Entry<L>>, Memory>
+        requires { self.old.tick ≢ 2 ^ 64 - 1 }
+        ensures told { IfOk result (λ told. told.items ≡ due self.old) }
+        ensures ok { OnOk result (self.new ≡ ticked self.old) }
         ensures err { OnErr result (self.new ≡ self.old) }
     {
-        let mut told = Vec::with_capacity(*self.roots.allocator(), self.roots.len())?;
-        add_dropped(&mut told, self.timed.rotate());
-        remove_roots(&mut self.roots, &told);
-        Ok(Roots::from_vec(told))
+        let tick = self.tick + 1;
+        let count = places::late_count(&self.entries, self.buckets, tick);
+        let mut told = Vec::with_capacity(*self.entries.allocator(), count)?;
+        places::move_late(&mut self.entries, &mut told, self.buckets, tick);
+        self.tick = tick;
+        Ok(told)
     }
 
-    /// How many attempts of a transaction were begun. It takes no memory.
+    /// The number of the tick.
+    pub fn tick_number(&self) -> u64
+        ensures { result ≡ self.now.tick }
+    {
+        self.tick
+    }
+
+    /// How many attempts are pending.
+    pub fn len(&self) -> usize
+        ensures { result ≡ length self.now.pending }
+    {
+        self.entries.len()
+    }
+
+    /// Whether an attempt of a transaction is pending.
+    pub fn has_txid(&self, txid: u64) -> bool
+        ensures { result ≡ has_txid txid self.now.pending }
+    {
+        places::has_txid(&self.entries, txid)
+    }
+
+    /// The timed attempt of a root.
+    pub fn timed(&self, root: Root) -> Option<&Entry<L>>
+        ensures { option_copied result ≡ timed_of root self.now.pending }
+    {
+        places::timed(&self.entries, root)
+    }
+
+    /// The settled attempt of the transaction after this one.
+    pub fn settled_after(&self, before: u64) -> Option<&Entry<L>>
+        ensures { option_copied result ≡ settled_after before self.now.pending }
+    {
+        places::settled_after(&self.entries, before)
+    }
+
+    /// How many attempts of a transaction were begun.
     pub fn attempts(&self, txid: u64) -> u32
         ensures { result ≡ attempts_of txid self.now.attempts }
     {
@@ -125,71 +180,34 @@ impl Pending {
     pub fn is_next(&self, root: Root) -> bool
         ensures { IsTrue result ↔ IsNext root self.now }
     {
-        let fresh = !has_txid(&self.roots, root.txid);
+        let fresh = !places::has_txid(&self.entries, root.txid);
         let next = u64::from(self.attempts.of(root.txid)) + 1 == u64::from(root.attempt);
         fresh & next
     }
 
-    /// No more roots are pending than may be, and none twice.
+    /// No more attempts are pending than may be, and none twice.
     pub fn pending_are_few(&self)
         ensures most { length self.now.pending ≤ self.now.cap }
         ensures once { AreDistinct self.now.pending }
     {
-        let _ = &self.roots;
+        let _ = &self.entries;
     }
 }
 
-// Adds a root that begins to all three, or to none.
-fn add_root(
-    roots: &mut Vec<Root>,
-    timed: &mut Rotating<()>,
+// Adds and counts an attempt that begins, or does neither.
+fn add_entry<L: Drop>(
+    entries: &mut Vec<Entry<L>>,
     attempts: &mut Attempts,
-    root: Root,
+    entry: Entry<L>,
 ) -> Result<(), Memory>
-    requires { value_of root timed.old.held ≡ None }
-    ensures placed { OnOk result (roots.new.items ≡ roots.old.items ++ root ∷ []) }
-    ensures in_time { OnOk result (timed.new
-        ≡ record timed.old { held = timed.old.held ++ timed_item 0 root ∷ [] }) }
+    ensures placed { OnOk result (entries.new.items ≡ entries.old.items ++ entry ∷ []) }
     ensures counted { OnOk result
-        (attempts.new ≡ fin_map.insert attempts.old root.txid root.attempt) }
-    ensures roots_stay { OnErr result (roots.new.items ≡ roots.old.items) }
-    ensures times_stay { OnErr result (timed.new ≡ timed.old) }
+        (attempts.new ≡ fin_map.insert attempts.old entry.root.txid entry.root.attempt) }
+    ensures entries_stay { OnErr result (entries.new.items ≡ entries.old.items) }
     ensures counts_stay { OnErr result (attempts.new ≡ attempts.old) }
 {
-    roots.reserve(1)?;
-    time_root(timed, attempts, root)?;
-    roots.push_reserved(root);
+    entries.reserve(1)?;
+    attempts.set(entry.root.txid, entry.root.attempt)?;
+    entries.push_reserved(entry);
     Ok(())
-}
-
-// Times and counts a root that begins, or does neither.
-fn time_root(timed: &mut Rotating<()>, attempts: &mut Attempts, root: Root) -> Result<(), Memory>
-    requires { value_of root timed.old.held ≡ None }
-    ensures in_time { OnOk result (timed.new
-        ≡ record timed.old { held = timed.old.held ++ timed_item 0 root ∷ [] }) }
-    ensures counted { OnOk result
-        (attempts.new ≡ fin_map.insert attempts.old root.txid root.attempt) }
-    ensures times_stay { OnErr result (timed.new ≡ timed.old) }
-    ensures counts_stay { OnErr result (attempts.new ≡ attempts.old) }
-{
-    match timed.put(root, ()) {
-        Ok(()) => match attempts.set(root.txid, root.attempt) {
-            Ok(()) => Ok(()),
-            Err(fault) => {
-                timed.take(root);
-                Err(fault)
-            }
-        },
-        Err(()) => Err(AllocError),
-    }
-}
-
-// Adds the roots that a rotation took away, for which there is room.
-fn add_dropped(told: &mut Vec<Root>, dropped: Dropped<()>)
-    requires { vec_len told.old + length dropped ≤ vec_capacity told.old }
-    ensures { told.new.items ≡ told.old.items ++ roots_of dropped }
-{
-    for (root, _) in dropped {
-        told.push_reserved(root);
-    }
 }

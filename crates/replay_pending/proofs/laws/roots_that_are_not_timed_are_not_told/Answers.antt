@@ -2,4 +2,4 @@ use Rattle.replay_pending.proofs.CallLemmas.{silent_untimed}
 use Rattle.replay_pending.proofs.laws.roots_that_are_not_timed_are_not_told.Goals as goal
 
 pub returns : goal.returns
-returns c = silent_untimed
+returns g c = silent_untimed

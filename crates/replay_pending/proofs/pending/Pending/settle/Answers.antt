@@ -1,25 +1,33 @@
-use Rattle.std.proofs.Common.{refl, ap, sym, ◌∙◌}
+use Rattle.std.proofs.Common.{ap, sym}
 use Rattle.std.specs.Prelude.{is_some}
-use Rattle.replay_pending.specs.Places.{joined}
-use Rattle.replay_pending.proofs.SettleLemmas.{settled-same}
-use Rattle.replay_pending.proofs.StandLemmas.{made, settle_call, timed-told}
+use Rattle.replay_pending.specs.InFlight.{is_timed_of}
+use Rattle.replay_pending.proofs.Found.{found_by, none_by, settled_there}
+use Rattle.replay_pending.proofs.Lists.{few-settled}
 use Rattle.replay_pending.proofs.pending.Pending.settle.Goals as goal
 
 pub invariant_of-self : goal.invariant_of-self
-invariant_of-self c =
-    (settle_call c.self.inside.cap c.self.inside.timed c.take.new.self c.self.inside.roots.items c.self.inside.roots.items
-    c.self.inside.attempts c.self.inside.attempts c.args.root c.self.invariant c.take.ensures.others refl refl).0
-
-pub returns : goal.returns
-returns c =
+invariant_of-self g c =
     let f = c.self.inside in
-    let ws = joined f.roots.items f.timed.held in
-    let called =
-    (settle_call f.cap f.timed c.take.new.self f.roots.items f.roots.items f.attempts f.attempts c.args.root c.self.invariant c.take.ensures.others refl refl).1 in
-    let told = c.is_some.ensures ∙ ap is_some c.take.ensures.value ∙ timed-told c.self.invariant c.args.root in
-    rw (← c.self.view_is)
-    (record {
-      timed = told;
-      settled = called;
-      same = λ off. called ∙ ap (λ vs. made f.cap f.timed.buckets vs f.attempts) (settled-same c.args.root ws (sym told ∙ off));
-    })
+    let at = found_by (is_timed_of c.args.root) f.entries.items c.deref.result.now c.timed_place.result c.in-Some.place c.timed_place.ensures c.deref.ensures.value c.in-Some.is in
+    rw (settled_there c.args.root c.args.list f.entries.items c.in-Some.place c.index_mut.result.now c.self.invariant.once at c.index_mut.ensures.value)
+    (few-settled f.cap f.entries.items c.args.root c.args.list c.self.invariant)
+
+pub returns-in-Some-clause-timed : goal.returns-in-Some-clause-timed
+returns-in-Some-clause-timed g c =
+    let f = c.self.inside in
+    let at = found_by (is_timed_of c.args.root) f.entries.items c.deref.result.now c.timed_place.result c.in-Some.place c.timed_place.ensures c.deref.ensures.value c.in-Some.is in
+    rw (← c.self.view_is) (sym (ap is_some at.2))
+
+pub returns-in-Some-clause-settled : goal.returns-in-Some-clause-settled
+returns-in-Some-clause-settled g c =
+    let f = c.self.inside in
+    let at = found_by (is_timed_of c.args.root) f.entries.items c.deref.result.now c.timed_place.result c.in-Some.place c.timed_place.ensures c.deref.ensures.value c.in-Some.is in
+    λ on. rw (← c.self.view_is)
+    (ap (λ es. record { cap = f.cap; buckets = f.buckets; tick = f.tick; pending = es; attempts = f.attempts })
+    (settled_there c.args.root c.args.list f.entries.items c.in-Some.place c.index_mut.result.now c.self.invariant.once at c.index_mut.ensures.value))
+
+pub returns-in-None-clause-timed : goal.returns-in-None-clause-timed
+returns-in-None-clause-timed g c =
+    let f = c.self.inside in
+    let none = none_by (is_timed_of c.args.root) f.entries.items c.deref.result.now c.timed_place.result c.timed_place.ensures c.deref.ensures.value c.in-None.is in
+    rw (← c.self.view_is) (sym (ap is_some none))
