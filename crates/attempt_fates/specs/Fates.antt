@@ -1,7 +1,9 @@
 -- When each record stands in exactly one committed batch (Storm's documentation, "Trident Spouts").
-use Rattle.std.specs.Prelude.{◌≡◌, ◌≢◌, ◌≤◌, ℕ, ◌+◌, ◌-◌, List, length, take, drop, map, filter, All, AllPairs, Bool, true, false, IsTrue, ◌==◌}
+use Rattle.std.specs.Prelude.{◌≡◌, ◌≢◌, ◌≤◌, ℕ, ◌-◌, List, [], ◌∷◌, length, take, drop, map, filter, All, AllPairs, Bool, true, false, IsTrue, ◌==◌}
 use Rattle.std.specs.List.{range_with_len, flat_map, list_any}
 use Rattle.std.specs.List.Sorted.{IsNonDecreasing}
+use Rattle.record_spans.specs.declared.span.Span.{Span}
+use Rattle.record_spans.specs.Spans.{records_of}
 use Rattle.trident_batches.specs.Batches.{batch_count, first_of, last_of}
 use Rattle.attempt_fates.specs.declared.fates.Attempt.{Attempt}
 use Rattle.attempt_fates.specs.declared.fates.End.{End}
@@ -11,7 +13,7 @@ use Rattle.attempt_fates.specs.declared.fates.End.TheVariants.{Committed, Failed
 
 -- the numbers of an attempt's records, counted from 1, in order
 abbrev pub record_numbers : Attempt → List ℕ
-record_numbers a = range_with_len a.first (a.last + 1 - a.first)
+record_numbers a = records_of a.spans
 
 abbrev pub is_committed : End → Bool
 is_committed (Committed list) = true
@@ -32,6 +34,10 @@ committed_numbers fates = flat_map record_numbers (committed fates)
 abbrev pub record_at : {R : Type 0} → List R → ℕ → List R
 record_at records number = take 1 (drop (number - 1) records)
 
+-- the records of some spans, in their order
+abbrev pub records_in : {R : Type 0} → List R → List Span → List R
+records_in records spans = flat_map (record_at records) (records_of spans)
+
 -- the records of the committed attempts, in the order of the commits
 abbrev pub committed_records : {R : Type 0} → List R → List Attempt → List R
 committed_records records fates = flat_map (record_at records) (committed_numbers fates)
@@ -47,11 +53,15 @@ abbrev pub attempt_numbers : ℕ → List Attempt → List ℕ
 attempt_numbers txid fates =
     map (λ (a : Attempt). a.root.attempt) (filter (λ (a : Attempt). a.root.txid == txid) fates)
 
+-- the batch of a transaction as spans
+abbrev pub batch_spans : ℕ → ℕ → ℕ → List Span
+batch_spans n size txid =
+    record { first = first_of size txid; last = last_of n size txid } ∷ []
+
 -- the attempt is of a batch that is there, and of its records
 pub record IsOfBatch (n size : ℕ) (a : Attempt) : Type 0 where
   pub is_there : (1 ≤ a.root.txid) × (a.root.txid ≤ batch_count n size)
-  pub first : a.first ≡ first_of size a.root.txid
-  pub last : a.last ≡ last_of n size a.root.txid
+  pub records : a.spans ≡ batch_spans n size a.root.txid
 
 -- where one attempt was committed, the other is none of the same transaction
 abbrev pub IsNoneAfterCommit : Attempt → Attempt → Type 0

@@ -1,4 +1,5 @@
 use message_lists::Notes;
+use record_spans::Spans;
 use tree_model::storm_values::{Path, Root, Seq};
 
 /// How an attempt of a batch ended.
@@ -22,12 +23,12 @@ pub enum End {
     },
 }
 
-/// One attempt of one batch. Records are counted from 1, and ticks are the coordinator's.
+/// One attempt of one batch. Its records are those of its spans, counted from 1, and ticks are the
+/// coordinator's.
 #[derive(Debug, Drop)]
 pub struct Attempt {
     pub root: Root,
-    pub first: u64,
-    pub last: u64,
+    pub spans: Spans,
     pub start: u64,
     pub finish: u64,
     pub end: End,

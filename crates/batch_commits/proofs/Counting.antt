@@ -49,7 +49,7 @@ module _ {S : Type 0} (count : S → ℕ) where
   pub decided_counted : (t : Topology) (cut : Cut) (d : Desk) (w : Wait) (how : CommitOutcome) (old new : List (StatePart S)) → next_to_commit t cut d ≡ Some w → CountsFollow count how old new → FailuresAreCounted count (decided t cut how d).ended old new
   decided_counted t cut d w how old new next follow =
       subst (λ (o : Option Wait). FailuresAreCounted count (decided_by t cut how o d).ended old new) (sym next)
-      (ended_counted t cut (ended_at cut d.tick (end_by t cut how w.settled) w) how w.settled old new follow refl)
+      (ended_counted t cut (ended_at d.tick (end_by t cut how w.settled) w) how w.settled old new follow refl)
 
   module _ (t : Topology) (old new : List (StatePart S)) (planned : AreParts t old) where
     outcome_of_part : (c p before after : ℕ) → IsFailedPart count old new c p before after → IsPart t c p × Rose before after

@@ -20,9 +20,9 @@ failed_of xs = filter (λ (a : Attempt). is_failed_commit a.end) xs
 none_in_both : (xs ys : List Attempt) → failed_of xs ≡ [] → failed_of ys ≡ [] → failed_of (xs ++ ys) ≡ []
 none_in_both xs ys one two = filter-append (λ (a : Attempt). is_failed_commit a.end) xs ys ∙ ap (λ (zs : List Attempt). zs ++ failed_of ys) one ∙ two
 
-none_late : (cut : Cut) (tick : ℕ) (ws : List Wait) → failed_of (map (ended_at cut tick end.TimedOut) ws) ≡ []
-none_late cut tick [] = refl
-none_late cut tick (w ∷ ws) = none_late cut tick ws
+none_late : (tick : ℕ) (ws : List Wait) → failed_of (map (ended_at tick end.TimedOut) ws) ≡ []
+none_late tick [] = refl
+none_late tick (w ∷ ws) = none_late tick ws
 
 module _ (t : Topology) (cut : Cut) where
   none_ticked : (n : ℕ) (d : Desk) → failed_of (ticked t cut n d).ended ≡ []
@@ -32,7 +32,7 @@ module _ (t : Topology) (cut : Cut) where
       at : (b : Bool) → failed_of (ticked t cut n (one_tick t cut d).desk).ended ≡ [] → failed_of (cond b (still d) (and_then t cut (one_tick t cut d) (ticked t cut n (one_tick t cut d).desk))).ended ≡ []
       at true rest = refl
       at false rest =
-          none_in_both (one_tick t cut d).ended (ticked t cut n (one_tick t cut d).desk).ended (none_late cut (d.tick + 1) (filter (is_late t.buckets (d.tick + 1)) d.pending)) rest
+          none_in_both (one_tick t cut d).ended (ticked t cut n (one_tick t cut d).desk).ended (none_late (d.tick + 1) (filter (is_late t.buckets (d.tick + 1)) d.pending)) rest
 
   none_completed : (list : List AckMsg) (closed : Bool) (o : Option Wait) (d : Desk) → failed_of (complete_timed t cut list closed o d).ended ≡ []
   none_completed list closed None d = refl

@@ -11,7 +11,7 @@ use Rattle.event_worlds.specs.bolt_ops.RowOp.{Custom}
 use Rattle.box_account.specs.Hearing.{HeardBeforeFailing, HeardComplete}
 use Rattle.box_account.specs.Inboxes.{weigh_acker_inboxes, weigh_inboxes, weigh_task_inboxes}
 use Rattle.event_worlds.specs.commit_turns.declared.wait.Wait.{Wait}
-use Rattle.event_worlds.specs.commit_turns.Account.{desk_of, ends_of, rows_in, waits_of}
+use Rattle.event_worlds.specs.commit_turns.Account.{desk_of, ends_of, waits_of}
 use Rattle.event_worlds.specs.commit_turns.Desks.{Desk}
 use Rattle.event_worlds.specs.commit_turns.Kept.{is_failed_commit}
 use Rattle.event_worlds.specs.commit_turns.Turns.{decided_by, next_to_commit}
@@ -112,7 +112,7 @@ found_settled count w (x ∷ ws) found = by ((x.root.txid == count) && is_some x
     by true is at later = subst (λ (y : Wait). is_some y.settled ≡ true) (ap some_or at) (and_parts (x.root.txid == count) (is_some x.settled) is).1
     by false is at later = later at
 
-module _ (t : Topology) (cut : Cut) (h : History) (d : Desk) (fates : List Attempt) (fits : Fits t (rows_in cut) (desk_of d) (ends_of fates) h) where
+module _ (t : Topology) (cut : Cut) (h : History) (d : Desk) (fates : List Attempt) (fits : Fits t (desk_of d) (ends_of fates) h) where
   -- the attempt that is next to be committed was heard of
   next_heard : (w : Wait) → next_to_commit t cut d ≡ Some w → HeardComplete h w.root
   next_heard w at = by w.settled refl (found_settled (d.committed + 1) w d.pending at)

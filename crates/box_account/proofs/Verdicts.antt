@@ -113,7 +113,7 @@ module _ (t : Topology) (custom : Custom) (h : History) (b : Station) (reached :
 
   -- ---- ends
 
-  module _ (batch : ℕ → List (List Value)) (desk : Desk) (fates : List Attempt) (fits : Fits t batch desk (ends_of fates) h) (failed : HeardBeforeFailing h fates) where
+  module _ (desk : Desk) (fates : List Attempt) (fits : Fits t desk (ends_of fates) h) (failed : HeardBeforeFailing h fates) where
     abbrev HeardOf : Attempt → Type 0
     HeardOf a = AllByRecursion Heard (verdicts_by a.root (ending_of a.end))
 

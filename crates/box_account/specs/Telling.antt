@@ -9,7 +9,7 @@ use Rattle.event_worlds.specs.attempt_fates.declared.fates.End.TheVariants as en
 use Rattle.event_worlds.specs.bolt_ops.RowOp.{Custom}
 use Rattle.box_account.specs.Taken.{WasHeard, WasTaken, all_packets}
 use Rattle.box_rows.specs.declared.mail.Mail.{Mail}
-use Rattle.event_worlds.specs.commit_turns.Account.{rows_in}
+use Rattle.event_worlds.specs.commit_turns.Account.{rows_at}
 use Rattle.event_worlds.specs.counted_items.Weights.{weigh}
 use Rattle.event_worlds.specs.storm_values.declared.value.Root.{Root}
 use Rattle.event_worlds.specs.storm_values.declared.value.Value.{Value}
@@ -70,8 +70,8 @@ module _ (t : Topology) (custom : Custom) (row : List (Pass Mail)) (rows : List 
   TellsEnd (end.CommitFailed component part before after) =
       (list : List AckMsg) × TellsComplete list
 
--- taken lists tell so of each attempt, with the rows of its batch
+-- taken lists tell so of each attempt, with its records
 abbrev pub BoxesTell : Topology → Custom → Cut → List (Pass Mail) → List Attempt → Type 0
 BoxesTell t custom cut row fates =
     AllByRecursion
-    (λ (a : Attempt). TellsEnd t custom row (rows_in cut a.root.txid) a.root a.end) fates
+    (λ (a : Attempt). TellsEnd t custom row (rows_at cut a.spans) a.root a.end) fates

@@ -1,21 +1,19 @@
 -- Attempts that end, are settled or begin, as steps of what is known.
-use Rattle.std.proofs.Common.{◌≡◌, ◌≢◌, ◌≤◌, ◌<◌, ℕ, zero, suc, ◌+◌, ◌-◌, ◌%◌, ◌==◌, ◌&&◌, Bool, true, false, not, cond, nat_lt, Option, Some, None, List, [], ◌∷◌, ◌++◌, length, refl, sym, ap, ap₂, ◌∙◌, arith}
-use Rattle.std.specs.Prelude.{if◌then◌else◌, is_some, slice_get, IsSome, OnOk, OnErr, Result, Ok, Err}
-use Rattle.std.specs.List.{AllByRecursion, find, list_all, position, range_with_len}
+use Rattle.std.proofs.Common.{◌≡◌, ◌≢◌, ◌≤◌, ◌<◌, ℕ, zero, suc, ◌+◌, ◌-◌, ◌%◌, ◌==◌, ◌&&◌, Bool, true, false, not, cond, nat_lt, Option, Some, None, List, [], ◌∷◌, ◌++◌, length, refl, sym, ap, ◌∙◌, arith}
+use Rattle.std.specs.Prelude.{if◌then◌else◌, is_some, IsSome, OnOk, OnErr, Result, Ok, Err}
+use Rattle.std.specs.List.{find, list_all, range_with_len}
 use Rattle.std.proofs.lemmas.Bool.Decides.{nat_tests}
 use Rattle.std.proofs.lemmas.List.{append-nil}
 use Rattle.attempt_fates.specs.declared.fates.Attempt.{Attempt}
 use Rattle.attempt_fates.specs.declared.fates.End.{End}
-use Rattle.commit_order.proofs.Places.{found, none_found, passes, true_false, first_of_two}
-use Rattle.commit_order.proofs.Steps.{office_by}
-use Rattle.commit_order.specs.Offices.{GoesOn, IsBatch, IsFoundAt, IsInTime, Office, counted_by, is_settled_after, is_timed_of, try_of}
-use Rattle.commit_turns.specs.Desks.{Desk, ended_at, has_txid, is_timed, still, timed_of, without}
-use Rattle.commit_turns.specs.Turns.{decided, end_by, end_timed, free_txid, is_closed, next_by, next_root, next_to_commit}
+use Rattle.commit_order.proofs.Steps.{is_next}
+use Rattle.commit_order.specs.Offices.{GoesOn, IsBatch, Office, counted_by, try_of}
+use Rattle.commit_turns.specs.Desks.{Desk, ended_at, has_txid, settled, still, timed_of, without}
+use Rattle.commit_turns.specs.Turns.{complete_timed, decided, end_by, end_timed, free_txid, is_closed, next_by, next_root, next_to_commit}
 use Rattle.commit_turns.specs.declared.wait.Wait.{Wait}
-use Rattle.replay_pending.specs.InFlight as flight
-use Rattle.replay_pending.specs.InFlight.{InFlight, attempts_of}
-use Rattle.tuple_account.specs.rotating_ledger.Held.{root_eq}
-use Rattle.tuple_account.proofs.rotating_ledger.RootLemmas.{root_eq-same}
+use Rattle.replay_pending.specs.InFlight.{attempts_of}
+use Rattle.replay_pending.proofs.Found.{first_of_two, passes}
+use Rattle.replay_pending.proofs.Lists.{true_false}
 use Rattle.state_parts.specs.declared.answer.CommitOutcome.{CommitOutcome}
 use Rattle.state_parts.specs.declared.answer.CommitOutcome.TheVariants as outcome
 use Rattle.tuple_account.specs.storm_values.Lines.{first_some}
@@ -23,58 +21,23 @@ use Rattle.tuple_account.specs.storm_values.declared.value.Root.{Root}
 use Rattle.tuple_account.specs.topology_plan.Topology.{Topology}
 use Rattle.tuple_account.specs.tree_model.Lists.{IsClosed, occurrences}
 use Rattle.tuple_account.specs.tree_model.declared.messages.AckMsg.{AckMsg}
-use Rattle.trident_batches.specs.Batches.{Cut, batch_count, first_of, last_of}
+use Rattle.trident_batches.specs.Batches.{Cut, batch_count}
 use Rattle.tuple_account.specs.tuple_tickets.Edges.{edge_eq, is_edge, times}
 use Rattle.tuple_account.specs.tuple_tickets.declared.edge.Edge.{Edge}
 use Rattle.tuple_account.proofs.tuple_tickets.Toggles.{same_edge, edge_itself}
 use Rattle.tuple_account.specs.acker_core.Edges.{AreLeft}
 
--- ---- what a search comes to
-
-pub found_by : (p : Wait → Bool) (ws slice : List Wait) (r : Option ℕ) (place : ℕ) → r ≡ position p slice → slice ≡ ws → r ≡ Some place
-    → IsFoundAt p ws place
-found_by p ws slice r place is same some = found p ws place (sym (is ∙ ap (position p) same) ∙ some)
-
-pub none_by : (p : Wait → Bool) (ws slice : List Wait) (r : Option ℕ) → r ≡ position p slice → slice ≡ ws → r ≡ None → find p ws ≡ None
-none_by p ws slice r is same none = none_found p ws (sym (is ∙ ap (position p) same) ∙ none)
-
-pub item_of : (P : Wait → Type 0) (ws : List Wait) (i : ℕ) (w : Wait) → AllByRecursion P ws → slice_get ws i ≡ Some w → P w
-item_of P [] i w each at = absurd (none_is w at)
-  where
-    none_is : (w : Wait) → None ≡ Some w → ⊥
-    none_is w e = cc
-item_of P (v ∷ ws) zero w each at = move (ap by at) each.0
-  where
-    by : Option Wait → Wait
-    by None = v
-    by (Some z) = z
-
-    move : v ≡ w → P v → P w
-    move e here = rw (← e) here
-item_of P (v ∷ ws) (suc i) w each at = item_of P ws i w each.1 at
-
--- the batch of a root that was found is there
-pub batch_of_found : (cut : Cut) (buckets tick : ℕ) (ws : List Wait) (root : Root) (place : ℕ) → AllByRecursion (IsInTime cut buckets tick) ws
-    → IsFoundAt (is_timed_of root) ws place → IsBatch cut root.txid
-batch_of_found cut buckets tick ws root place each at =
-    let same = root_eq-same root at.0.root (first_of_two (root_eq root at.0.root) (is_timed at.0) at.3) in
-    rw same (item_of (IsInTime cut buckets tick) ws place at.0 each at.1).there
-
--- a timed attempt that was found, by its parts
-pub timed_record : (ws : List Wait) (root : Root) (w : Wait) (start : ℕ) → find (is_timed_of root) ws ≡ Some w → root ≡ w.root → start ≡ w.start
-    → timed_of root ws ≡ Some (record { root = root; start = start; settled = w.settled })
-timed_record ws root w start at same began =
-    at ∙ ap₂ (λ r s. Some (record { root = r; start = s; settled = w.settled })) (sym same) (sym began)
+-- ---- an attempt that was found
 
 -- the attempt that was found is settled
-pub second_is_some : (before : ℕ) (w : Wait) → is_settled_after before w ≡ true → IsSome w.settled
+pub second_is_some : (before : ℕ) (w : Wait) → is_next before w ≡ true → IsSome w.settled
 second_is_some before w on = second (w.root.txid == before + 1) (is_some w.settled) on
   where
     second : (a b : Bool) → (a && b) ≡ true → b ≡ true
     second true b on = on
     second false b on = absurd (true_false (sym on))
 
-pub next_txid : (before : ℕ) (w : Wait) → is_settled_after before w ≡ true → w.root.txid ≡ before + 1
+pub next_txid : (before : ℕ) (w : Wait) → is_next before w ≡ true → w.root.txid ≡ before + 1
 next_txid before w on = by (first_of_two (w.root.txid == before + 1) (is_some w.settled) on)
   where
     by : (w.root.txid == before + 1) ≡ true → w.root.txid ≡ before + 1
@@ -101,19 +64,26 @@ one_some : {X : Type 0} (o : Option X) → first_some (o ∷ []) ≡ o
 one_some None = refl
 one_some (Some x) = refl
 
-module _ (t : Topology) (cut : Cut) (tick committed : ℕ) (p q : InFlight) (ws : List Wait) (out : Bool) (exhausted : Option ℕ) where
-  pub ended_timed : (how : End) (root : Root) (start first last : ℕ) (settled : Option (List AckMsg)) (fates : List Attempt) (stop : Option ℕ)
-      → timed_of root ws ≡ Some (record { root = root; start = start; settled = settled })
-      → first ≡ first_of cut.size root.txid → last ≡ last_of (length cut.records) cut.size root.txid
-      → q ≡ record p { pending = flight.ended root p.pending } → stop ≡ try_of t root
-      → GoesOn (end_timed t cut how (timed_of root ws) (office_by t cut tick committed p ws out exhausted).desk)
-      (office_by t cut tick committed p ws out exhausted) (office_by t cut tick committed q (without root ws) out stop) fates
-      (fates ++ record { root = root; first = first; last = last; start = start; finish = tick; end = how } ∷ [])
-  ended_timed how root start first last settled fates stop at one two is last_is =
-      rw (at, one, two, is, last_is) (record {
-        office = ap (office_by t cut tick committed p (without root ws) out) (sym (one_some (try_of t root)));
-        fates = refl;
-      })
+-- the attempt was taken out, and counts as the last of its transaction where it was
+pub ended_timed : (o taken : Office) (how : End) (root : Root) (w : Wait) (stop : Option ℕ) (tick : ℕ) (item : Attempt) (fates tells : List Attempt)
+    → timed_of root o.desk.pending ≡ Some w → w.root ≡ root
+    → taken ≡ record o { desk = record o.desk { pending = without root o.desk.pending } }
+    → stop ≡ try_of taken.topology root → tick ≡ taken.desk.tick → item ≡ ended_at tick how w → tells ≡ fates ++ item ∷ []
+    → GoesOn (end_timed o.topology o.cut how (timed_of root o.desk.pending) o.desk) o (record taken { desk = record taken.desk { exhausted = stop } }) fates tells
+ended_timed o taken how root w stop tick item fates tells at same is last now what adds =
+    rw (at, adds, what, now, last, is, ← same) (record {
+      office = ap (λ e. record o { desk = record o.desk { pending = without w.root o.desk.pending; exhausted = e } }) (sym (one_some (try_of o.topology w.root)));
+      fates = refl;
+    })
+
+-- ---- a timed attempt is settled
+
+pub settles : (o new : Office) (root : Root) (w : Wait) (list : List AckMsg) (fates : List Attempt)
+    → timed_of root o.desk.pending ≡ Some w → w.root ≡ root → is_closed list ≡ true
+    → new ≡ record o { desk = record o.desk { pending = settled root list o.desk.pending } }
+    → GoesOn (complete_timed o.topology o.cut list (is_closed list) (timed_of root o.desk.pending) o.desk) o new fates fates
+settles o new root w list fates at same closed is =
+    rw (at, closed, is, ← same) (record { office = refl; fates = sym (append-nil fates) })
 
 -- ---- the outcome of a commit
 
@@ -121,15 +91,14 @@ pub counted_tick : (t : Topology) (how : CommitOutcome) (root : Root) (d : Desk)
 counted_tick t outcome.Done root d = refl
 counted_tick t (outcome.Failed component part before after) root d = refl
 
-pub item_is : (cut : Cut) (tick : ℕ) (w : Wait) (first last finish : ℕ) (end end_is : End)
-    → first ≡ first_of cut.size w.root.txid → last ≡ last_of (length cut.records) cut.size w.root.txid → finish ≡ tick → end ≡ end_is
-    → record { root = w.root; first = first; last = last; start = w.start; finish = finish; end = end } ≡ ended_at cut tick end_is w
-item_is cut tick w first last finish end end_is one two three four = rw (one, two, three, four) refl
+pub item_is : (tick : ℕ) (w : Wait) (finish : ℕ) (end end_is : End) → finish ≡ tick → end ≡ end_is
+    → record { root = w.root; spans = w.spans; start = w.start; finish = finish; end = end } ≡ ended_at tick end_is w
+item_is tick w finish end end_is now same = rw (now, same) refl
 
 pub decided_goes : (o : Office) (how : CommitOutcome) (w : Wait) (item : Attempt) (new : Office) (fates : List Attempt)
     → next_to_commit o.topology o.cut o.desk ≡ Some w
     → new ≡ record o { desk = counted_by o.topology how w.root (record o.desk { out = false; pending = without w.root o.desk.pending }) }
-    → item ≡ ended_at o.cut o.desk.tick (end_by o.topology o.cut how w.settled) w
+    → item ≡ ended_at o.desk.tick (end_by o.topology o.cut how w.settled) w
     → GoesOn (decided o.topology o.cut how o.desk) o new fates (fates ++ item ∷ [])
 decided_goes o outcome.Done w item new fates next is what = rw (next, is, what) (record { office = refl; fates = refl })
 decided_goes o (outcome.Failed component part before after) w item new fates next is what = rw (next, is, what) (record { office = refl; fates = refl })
@@ -220,6 +189,13 @@ module _ (t : Topology) (cut : Cut) (d : Desk) where
       let more : e - b ≡ suc (e - (b + 1)) = omega arith in
       ap (λ n. find (λ (txid : ℕ). not (has_txid txid d.pending)) (range_with_len (b + 1) n)) more
       ∙ ap (λ c. cond (not c) (Some (b + 1)) (find (λ (txid : ℕ). not (has_txid txid d.pending)) (range_with_len (b + 1 + 1) (e - (b + 1))))) on
+
+  pub find_here : (b e : ℕ) → b < e → has_txid (b + 1) d.pending ≡ false
+      → find (λ (txid : ℕ). not (has_txid txid d.pending)) (range_with_len (b + 1) (e - b)) ≡ Some (b + 1)
+  find_here b e below off =
+      let more : e - b ≡ suc (e - (b + 1)) = omega arith in
+      ap (λ n. find (λ (txid : ℕ). not (has_txid txid d.pending)) (range_with_len (b + 1) n)) more
+      ∙ ap (λ c. cond (not c) (Some (b + 1)) (find (λ (txid : ℕ). not (has_txid txid d.pending)) (range_with_len (b + 1 + 1) (e - (b + 1))))) off
 
   -- the root that begins next
   pub record IsNextRoot (root : Root) : Type 0 where

@@ -1,6 +1,4 @@
-pub mod Places
 pub mod Steps
-pub mod TickLemmas
 pub mod Ending
 pub mod Passing
 pub mod Opening

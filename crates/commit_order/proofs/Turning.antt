@@ -8,10 +8,10 @@ use Rattle.commit_order.specs.Orders.{Begins, TurnsTo, collector_of, cut_of, des
 use Rattle.commit_order.specs.declared.coordinator.Coordinator.{Coordinator}
 use Rattle.commit_order.specs.declared.coordinator.Orders.{Orders}
 use Rattle.commit_turns.specs.Desks.{Desk, Progress}
-use Rattle.commit_turns.specs.Turns.{begun, fill_more, filled, heard, next_root, next_to_commit, ordered, passed, turned, turned_by}
-use Rattle.tuple_account.specs.storm_values.declared.value.Root.{Root}
+use Rattle.commit_turns.specs.Turns.{begun, fill_more, filled, heard, next_to_commit, ordered, passed, turned, turned_by, next_wait}
 use Rattle.tuple_account.specs.topology_plan.Topology.{Topology}
 use Rattle.trident_batches.specs.Batches.{Cut}
+use Rattle.commit_turns.specs.declared.wait.Wait.{Wait}
 
 pub ok_of : {X E A : Type 0} (r : Result X E) → is_err r ≡ false → OnOk r A → A
 ok_of (Ok x) ok a = a
@@ -24,15 +24,15 @@ pub has_memory_by : (b : Bool) (o : Option ℕ) → stop_by b o ≡ None → b �
 has_memory_by true o is = absurd (some_none _ is)
 has_memory_by false o is = refl
 
--- beginning roots does not stop the coordinator
+-- beginning attempts does not stop the coordinator
 filled-exhausted : (t : Topology) (cut : Cut) (n : ℕ) (d : Desk) → (filled t cut n d).desk.exhausted ≡ d.exhausted
 filled-exhausted t cut zero d = refl
-filled-exhausted t cut (suc n) d = by (next_root t cut d) (λ root. filled-exhausted t cut n (begun t cut root d))
+filled-exhausted t cut (suc n) d = by (next_wait t cut d) (λ w. filled-exhausted t cut n (begun t cut w d))
   where
-    by : (o : Option Root) → ((root : Root) → (filled t cut n (begun t cut root d)).desk.exhausted ≡ d.exhausted)
+    by : (o : Option Wait) → ((w : Wait) → (filled t cut n (begun t cut w d)).desk.exhausted ≡ d.exhausted)
         → (fill_more t cut (filled t cut n) d o).desk.exhausted ≡ d.exhausted
     by None more = refl
-    by (Some root) more = more root
+    by (Some w) more = more w
 
 module _ {I : Type 0} (tells : I → (ℕ → ℕ) → ℕ → Type 0) (verdict : Option Verdict) (ticks : ℕ) where
   pub turns_to : (old new : Coordinator I) (o : Office) (orders : Orders) → stop_of old ≡ None
@@ -40,7 +40,7 @@ module _ {I : Type 0} (tells : I → (ℕ → ℕ) → ℕ → Type 0) (verdict 
       → o.desk.exhausted ≡ None
       → office_of new ≡ record o { desk = (filled o.topology o.cut o.topology.pending (ordered o.topology o.cut o.desk)).desk }
       → IsCommitOf (next_to_commit o.topology o.cut o.desk) orders.commit
-      → Begins tells o.cut (collector_of old) (collector_of new) (filled o.topology o.cut o.topology.pending (ordered o.topology o.cut o.desk)).roots orders.parcels
+      → Begins tells o.cut (collector_of old) (collector_of new) (filled o.topology o.cut o.topology.pending (ordered o.topology o.cut o.desk)).begun orders.parcels
       → wanted_memory new ≡ wanted_memory old
       → TurnsTo tells (plan_of old) (cut_of old) (turned (plan_of old) (cut_of old) verdict ticks (desk_of old)) old new orders
   turns_to old new o orders goes is none to commit begun memory =

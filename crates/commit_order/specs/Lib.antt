@@ -8,6 +8,7 @@ pub use Rattle.tuple_account.specs.counted_items as counted_items
 pub use Rattle.tuple_account.specs.message_lists as message_lists
 pub use Rattle.output_collector.specs as output_collector
 pub use Rattle.tuple_account.specs.rotating_ledger as rotating_ledger
+pub use Rattle.record_spans.specs as record_spans
 pub use Rattle.state_parts.specs as state_parts
 pub use Rattle.storm_ids.specs as storm_ids
 pub use Rattle.tuple_account.specs.storm_values as storm_values

@@ -1,6 +1,6 @@
--- What a turn orders: the first tuples and the init of each root that begins, and a commit. This
+-- What a turn orders: the first tuples and the init of each attempt that begins, and a commit. This
 -- project's own.
-use Rattle.std.specs.Prelude.{◌≡◌, ℕ, ◌++◌, Bool, true, false, List, [], ◌∷◌, length, map, Option, None, Some}
+use Rattle.std.specs.Prelude.{◌≡◌, ℕ, ◌++◌, Bool, true, false, List, [], ◌∷◌, length, Option, None, Some}
 use Rattle.std.specs.List.{flat_map}
 use Rattle.attempt_fates.specs.declared.fates.Attempt.{Attempt}
 use Rattle.commit_order.specs.Offices.{AddsSome, IsCommitOf, Office}
@@ -8,14 +8,14 @@ use Rattle.commit_order.specs.declared.coordinator.Coordinator.{Coordinator}
 use Rattle.commit_order.specs.declared.coordinator.Orders.{Orders}
 use Rattle.commit_order.specs.declared.stop.Stop.{Stop}
 use Rattle.commit_order.specs.declared.stop.Stop.TheVariants.{Exhausted, Memory}
-use Rattle.commit_turns.specs.Account.{rows_in}
+use Rattle.commit_turns.specs.Account.{rows_at}
+use Rattle.commit_turns.specs.declared.wait.Wait.{Wait}
 use Rattle.commit_turns.specs.Desks.{Desk, Progress, first_desk}
 use Rattle.commit_turns.specs.Turns.{Turned, filled}
 use Rattle.output_collector.specs.Collectors.{IsStarted, given_by, ids_in, outlet_of, source_of}
 use Rattle.output_collector.specs.Draws.{Draws, given_after}
 use Rattle.output_collector.specs.Outlets.{Outlet, after_rows, tasks_for}
 use Rattle.output_collector.specs.declared.collector.Collector.{Collector}
-use Rattle.tuple_account.specs.storm_values.declared.value.Root.{Root}
 use Rattle.tuple_account.specs.topology_plan.Topology.{Topology, tasks_in_all}
 use Rattle.tuple_account.specs.topology_plan.declared.parts.Origin.TheVariants as origin
 use Rattle.tuple_account.specs.tree_model.Trees.{kids}
@@ -23,17 +23,17 @@ use Rattle.tuple_account.specs.tree_model.declared.messages.Parcel.{Parcel}
 use Rattle.trident_batches.specs.Batches.{Cut}
 use Rattle.tuple_account.specs.Histories.{Opening, opening_parcels}
 
--- a root begins with the records of its batch and these ids, the first of which is at this place
-abbrev pub opening_of : Cut → Outlet → ℕ → ℕ → Root → List ℕ → Opening
-opening_of cut outlet source given root ids = record {
+-- an attempt begins with its records and these ids, the first of which is at this place
+abbrev pub opening_of : Cut → Outlet → ℕ → ℕ → Wait → List ℕ → Opening
+opening_of cut outlet source given w ids = record {
   begun = record {
-    root = root;
-    rows = rows_in cut root.txid;
+    root = w.root;
+    rows = rows_at cut w.spans;
     ids = ids;
     source = source;
     at = given;
   };
-  targets = tasks_for outlet.lanes (rows_in cut root.txid);
+  targets = tasks_for outlet.lanes (rows_at cut w.spans);
 }
 
 -- what the openings are made with: where rows go, and how many words were given
@@ -50,33 +50,34 @@ stand_after o s = record {
   given = given_after s.given (length o.begun.ids);
 }
 
--- roots begin one after another, each with an id for each of its first tuples
-abbrev pub OpenFrom : Cut → ℕ → Stand → List Opening → Stand → Type 0
-OpenFrom cut source s [] end = end ≡ s
-OpenFrom cut source s (o ∷ openings) end =
-    (o ≡ opening_of cut s.outlet source s.given o.begun.root o.begun.ids)
+-- attempts begin one after another, each with an id for each of its first tuples
+abbrev pub OpenFrom : Cut → ℕ → Stand → List Wait → List Opening → Stand → Type 0
+OpenFrom cut source s [] [] end = end ≡ s
+OpenFrom cut source s [] (o ∷ openings) end = ⊥
+OpenFrom cut source s (w ∷ begun) [] end = ⊥
+OpenFrom cut source s (w ∷ begun) (o ∷ openings) end =
+    (o ≡ opening_of cut s.outlet source s.given w o.begun.ids)
     × (length o.begun.ids ≡ length (kids s.outlet.topology s.outlet.from o.begun.rows))
-    × OpenFrom cut source (stand_after o s) openings end
+    × OpenFrom cut source (stand_after o s) begun openings end
 
 abbrev pub ids_drawn : List Opening → List ℕ
 ids_drawn openings = flat_map (λ (o : Opening). o.begun.ids) openings
 
--- these roots begin with the next ids, and these are their parcels
+-- these attempts begin with the next ids, and these are their parcels
 pub record Begins {I : Type 0} (tells : I → (ℕ → ℕ) → ℕ → Type 0) (cut : Cut)
-    (old new : Collector I) (roots : List Root) (parcels : List Parcel) : Type 0 where
+    (old new : Collector I) (begun : List Wait) (parcels : List Parcel) : Type 0 where
   pub openings : List Opening
-  pub begun : map (λ (o : Opening). o.begun.root) openings ≡ roots
-  pub opened : OpenFrom cut (source_of old) (stand_of old) openings (stand_of new)
+  pub opened : OpenFrom cut (source_of old) (stand_of old) begun openings (stand_of new)
   pub drawn : Draws tells (ids_in old) (ids_drawn openings) (ids_in new)
   pub sent : parcels ≡ flat_map (opening_parcels (outlet_of old).topology) openings
   pub source : source_of new ≡ source_of old
 
--- one more root begins, and its parcels are added
-pub record AddsOpening {I : Type 0} (tells : I → (ℕ → ℕ) → ℕ → Type 0) (cut : Cut) (root : Root)
+-- one more attempt begins, and its parcels are added
+pub record AddsOpening {I : Type 0} (tells : I → (ℕ → ℕ) → ℕ → Type 0) (cut : Cut) (w : Wait)
     (old new : Collector I) (told adds : List Parcel) : Type 0 where
   pub opening : Opening
-  pub of_root : opening.begun.root ≡ root
-  pub opened : OpenFrom cut (source_of old) (stand_of old) (opening ∷ []) (stand_of new)
+  pub opened : OpenFrom cut (source_of old) (stand_of old) (w ∷ []) (opening ∷ [])
+      (stand_of new)
   pub drawn : Draws tells (ids_in old) opening.begun.ids (ids_in new)
   pub sent : adds ≡ told ++ opening_parcels (outlet_of old).topology opening
   pub source : source_of new ≡ source_of old
@@ -169,19 +170,20 @@ module _ {I : Type 0} where
     pub fates : tells ≡ told ++ to.ended
     pub has_memory : wanted_memory new ≡ false
 
-  -- Roots begin so far, and in so many places at most more begin: all of them are what began, and
-  -- then the rest.
+  -- Attempts begin so far, and in so many places at most more begin: all of them are what began,
+  -- and then the rest.
   pub record Fills (tells : I → (ℕ → ℕ) → ℕ → Type 0) (places left : ℕ) (old new : Coordinator I)
       (parcels : List Parcel) : Type 0 where
-    pub roots : List Root
+    pub so_far : List Wait
     pub own : IsOwn new
     pub office : office_of new ≡ comes_to (desk_of new) old
-    pub begun : Begins tells (cut_of old) (collector_of old) (collector_of new) roots parcels
+    pub begun : Begins tells (cut_of old) (collector_of old) (collector_of new) so_far
+        parcels
     pub has_memory : wanted_memory new ≡ wanted_memory old
     pub desk : (filled (plan_of old) (cut_of old) places (desk_of old)).desk
         ≡ (filled (plan_of old) (cut_of old) left (desk_of new)).desk
-    pub all : (filled (plan_of old) (cut_of old) places (desk_of old)).roots
-        ≡ roots ++ (filled (plan_of old) (cut_of old) left (desk_of new)).roots
+    pub all : (filled (plan_of old) (cut_of old) places (desk_of old)).begun
+        ≡ so_far ++ (filled (plan_of old) (cut_of old) left (desk_of new)).begun
 
   -- a turn may come: no ordered commit is out, or the coordinator stopped
   abbrev pub MayTurn : Coordinator I → Type 0

@@ -1,23 +1,21 @@
 ghost use Rattle.std.specs.Prelude.{◌≡◌, None, Some, Ok, OnOk};
-ghost use Rattle.commit_turns.specs.Turns.{begun, free_txid, next_root};
+ghost use Rattle.commit_turns.specs.Turns.{begun, free_txid, fresh, next_root};
 ghost use Rattle.commit_order.specs.Offices.{IsBatch};
 
 use crate::office::Office;
-use crate::waiting::Waiting;
-use crate::waits::is_pending;
 use std::alloc::AllocError;
 use tuple_account::storm_values::{Memory, Root};
 
 impl<'p> Office<'p> {
-    /// The next root begins, where one may.
+    /// The next attempt begins, where one may.
     pub fn begin_next(&mut self) -> Result<Option<Root>, Memory>
         ensures none { result ≡ Ok None → self.new ≡ self.old
             × (next_root self.old.topology self.old.cut self.old.desk ≡ None) }
         ensures some { (root : Root) → result ≡ Ok (Some root)
             → (next_root self.old.topology self.old.cut self.old.desk ≡ Some root)
             × (self.new ≡ record self.old {
-              desk = begun
-                  self.old.topology self.old.cut root self.old.desk;
+              desk = begun self.old.topology self.old.cut
+                  (fresh self.old.topology self.old.cut self.old.desk root) self.old.desk;
             }) }
     {
         let Some(root) = self.next_root() else {
@@ -27,29 +25,26 @@ impl<'p> Office<'p> {
         Ok(Some(root))
     }
 
-    // A root is pending, and timed from this tick on.
+    // The attempt of a root is pending, and timed from this tick on.
     fn begin(&mut self, root: Root) -> Result<(), Memory>
         requires { next_root self.old.topology self.old.cut self.old.desk ≡ Some root }
         ensures { OnOk result (self.new ≡ record self.old {
-          desk = begun
-              self.old.topology self.old.cut root self.old.desk;
+          desk = begun self.old.topology self.old.cut
+              (fresh self.old.topology self.old.cut self.old.desk root) self.old.desk;
         }) }
     {
-        self.plan.facts();
-        self.waits.reserve(1)?;
-        match self.flight.begin(root) {
-            Ok(()) => {}
-            Err(_) => return Err(AllocError),
+        let spans = self.spans(root.txid)?;
+        match self.flight.begin(root, spans) {
+            Ok(()) => Ok(()),
+            Err(_) => Err(AllocError),
         }
-        self.waits.push_reserved(Waiting::new(root, self.tick));
-        Ok(())
     }
 
     // The root that begins next, while fewer are pending than may be.
     fn next_root(&self) -> Option<Root>
         ensures { result ≡ next_root self.now.topology self.now.cut self.now.desk }
     {
-        if self.waits.len() >= self.plan.pending() as usize {
+        if self.flight.len() >= self.plan.pending() as usize {
             return None;
         }
         let txid = self.free_txid()?;
@@ -70,7 +65,7 @@ impl<'p> Office<'p> {
         ensures { result ≡ free_txid self.now.topology self.now.cut self.now.desk }
     {
         for before in self.committed..self.batches.count() {
-            if !is_pending(&self.waits, before + 1) {
+            if !self.flight.has_txid(before + 1) {
                 return Some(before + 1);
             }
         }

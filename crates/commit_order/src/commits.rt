@@ -1,13 +1,14 @@
-ghost use Rattle.std.specs.Prelude.{◌≡◌, ◌+◌, ◌<◌, length, slice_get, Some, IsSome, IfOk, OnOk, OnErr};
-ghost use Rattle.commit_order.specs.Offices.{AddsSome, GoesOn, IsCommitOf, counted_by};
-ghost use Rattle.commit_turns.specs.Desks.{without};
+ghost use Rattle.std.specs.Prelude.{◌≡◌, ◌+◌, Some, IsSome, IfOk, OnOk, OnErr};
+ghost use Rattle.std.specs.Option.{option_map};
+ghost use Rattle.commit_order.specs.Offices.{AddsSome, GoesOn, IsCommitOf, counted_by, wait_of};
+ghost use Rattle.commit_turns.specs.declared.wait.Wait.{Wait};
 ghost use Rattle.commit_turns.specs.Turns.{decided, end_by, next_to_commit, ordered};
 
 use crate::office::Office;
-use crate::waiting::Waiting;
-use crate::waits::settled_place;
+use crate::settled::Settled;
 use attempt_fates::{Attempt, End, Fates};
 use commit_turns::Wait;
+use replay_pending::Entry;
 use state_parts::{Commit, CommitOutcome};
 use std::alloc::Global;
 use tuple_account::message_lists::Notes;
@@ -22,11 +23,11 @@ impl<'p> Office<'p> {
         ensures ok { OnOk result (self.new ≡ record self.old
             { desk = ordered self.old.topology self.old.cut self.old.desk }) }
     {
-        let Some(place) = settled_place(&self.waits, self.committed) else {
+        let Some(entry) = self.flight.settled_after(self.committed) else {
             self.out = false;
             return Ok(None);
         };
-        let commit = commit_of(self.alloc, &self.waits[place])?;
+        let commit = commit_of(self.alloc, entry)?;
         self.out = true;
         Ok(Some(commit))
     }
@@ -41,40 +42,37 @@ impl<'p> Office<'p> {
             fates.old fates.new) }
     {
         self.out = false;
-        let Some(place) = settled_place(&self.waits, self.committed) else {
+        let Some(root) = self.next_to_commit() else {
             return Ok(());
         };
-        let (first, last) = self.records(self.waits[place].root().txid);
+        let Some(wait) = self.take(root) else {
+            unreachable!()
+        };
         let Wait {
             root,
+            spans,
             start,
             settled,
-        } = self.take(place);
+        } = wait;
         let end = self.end_by(root, how, settled);
         fates.push(Attempt {
             root,
-            first,
-            last,
+            spans,
             start,
-            finish: self.tick,
+            finish: self.flight.tick_number(),
             end,
         })
     }
 
-    // The pending attempt at a place, which is pending no longer.
-    fn take(&mut self, place: usize) -> Wait
-        requires { place < length self.old.desk.pending }
-        ensures taken { slice_get self.old.desk.pending place ≡ Some result }
-        ensures left { self.new ≡ record self.old {
-          desk = record self.old.desk
-              { pending = without result.root self.old.desk.pending };
-        } }
+    // The root of the attempt that is committed next.
+    fn next_to_commit(&self) -> Option<Root>
+        ensures { result ≡ option_map (λ (w : Wait). w.root)
+            (next_to_commit self.now.topology self.now.cut self.now.desk) }
     {
-        self.flight.pending_are_few();
-        let waiting = self.waits.remove(place);
-        let wait = waiting.into_wait();
-        self.flight.end(wait.root);
-        wait
+        match self.flight.settled_after(self.committed) {
+            Some(entry) => Some(entry.root),
+            None => None,
+        }
     }
 
     // The end of an attempt whose commit came to this, which counts.
@@ -110,16 +108,16 @@ impl<'p> Office<'p> {
 }
 
 // The commit of a pending attempt that is settled.
-fn commit_of(alloc: Global, wait: &Waiting) -> Result<Commit, Memory>
-    requires { IsSome wait.now.settled }
-    ensures { IfOk result (λ commit. IsCommitOf (Some wait.now) (Some commit)) }
+fn commit_of(alloc: Global, entry: &Entry<Settled>) -> Result<Commit, Memory>
+    requires { IsSome entry.now.settled }
+    ensures { IfOk result (λ commit. IsCommitOf (Some (wait_of entry.now)) (Some commit)) }
 {
-    let Some(settled) = wait.settled() else {
+    let Some(settled) = entry.settled.as_ref() else {
         unreachable!()
     };
     let writes = settled.writes(alloc)?;
     Ok(Commit {
-        root: wait.root(),
+        root: entry.root,
         writes,
     })
 }

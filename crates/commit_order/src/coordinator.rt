@@ -1,9 +1,11 @@
-ghost use Rattle.std.specs.Prelude.{◌≡◌, ◌++◌, ℕ, List, true, false, None, Some, Err, IfOk, OnOk};
+ghost use Rattle.std.specs.Prelude.{◌≡◌, ◌++◌, ℕ, List, length, true, false, None, Some, Err, IfOk, OnOk};
 ghost use Rattle.commit_order.specs.Offices.{IsBatch, IsCommitOf};
 ghost use Rattle.commit_order.specs.Orders.{AddsOpening, Begins, DecidesTo, IsFirst, IsOwn, MayDecide, MayTurn, RunsShort, StaysOwn, StopsAt, TurnsTo, collector_of, comes_to, cut_of, desk_of, office_of, plan_of, stop_of, wanted_memory};
 ghost use Rattle.commit_order.specs.declared.stop.Stop.{Stop};
 ghost use Rattle.commit_order.specs.declared.stop.Stop.TheVariants as stop;
-ghost use Rattle.commit_turns.specs.Account.{rows_in};
+ghost use Rattle.attempt_fates.specs.Fates.{batch_spans};
+ghost use Rattle.commit_turns.specs.Account.{rows_at};
+ghost use Rattle.commit_turns.specs.declared.wait.Wait.{Wait};
 ghost use Rattle.commit_turns.specs.Turns.{decided, filled, is_finished, next_to_commit, ordered, turned};
 
 use crate::office::Office;
@@ -44,7 +46,7 @@ impl<'p, I: Ids> Coordinator<'p, I> {
         ensures first { IfOk result (IsFirst I.tells plan.now batches ids) }
         ensures own { IfOk result IsOwn }
     {
-        let office = Office::new(alloc, plan, batches)?;
+        let office = Office::new(alloc, plan, batches);
         let collector = Collector::new(alloc, plan, Origin::Spout, plan.tasks(), ids)?;
         Ok(Coordinator {
             alloc,
@@ -184,7 +186,7 @@ impl<'p, I: Ids> Coordinator<'p, I> {
         Stop::Memory
     }
 
-    // A commit is ordered, and roots begin.
+    // A commit is ordered, and attempts begin.
     fn order_and_fill(&mut self) -> Result<Orders, Memory>
         requires { IsOwn self.old }
         ensures own { OnOk result (IsOwn self.new) }
@@ -197,7 +199,7 @@ impl<'p, I: Ids> Coordinator<'p, I> {
         ensures begun { IfOk result (λ orders. Begins I.tells (cut_of self.old)
             (collector_of self.old) (collector_of self.new)
             (filled (plan_of self.old) (cut_of self.old) (plan_of self.old).pending
-            (ordered (plan_of self.old) (cut_of self.old) (desk_of self.old))).roots
+            (ordered (plan_of self.old) (cut_of self.old) (desk_of self.old))).begun
             orders.parcels) }
         ensures has_memory { OnOk result (wanted_memory self.new ≡ wanted_memory self.old) }
     {
@@ -206,7 +208,7 @@ impl<'p, I: Ids> Coordinator<'p, I> {
         Ok(Orders { parcels, commit })
     }
 
-    // Roots begin until as many are pending as may be.
+    // Attempts begin until as many are pending as may be.
     fn fill(&mut self) -> Result<Parcels, Memory>
         requires { IsOwn self.old }
         ensures own { OnOk result (IsOwn self.new) }
@@ -216,7 +218,7 @@ impl<'p, I: Ids> Coordinator<'p, I> {
         ensures begun { IfOk result (Begins I.tells (cut_of self.old)
             (collector_of self.old) (collector_of self.new)
             (filled (plan_of self.old) (cut_of self.old) (plan_of self.old).pending
-            (desk_of self.old)).roots) }
+            (desk_of self.old)).begun) }
         ensures has_memory { OnOk result (wanted_memory self.new ≡ wanted_memory self.old) }
     {
         let mut parcels = Parcels::new(self.alloc);
@@ -229,14 +231,17 @@ impl<'p, I: Ids> Coordinator<'p, I> {
         Ok(parcels)
     }
 
-    // The first tuples of a root that begins, and then its init.
+    // The first tuples of an attempt that begins, and then its init.
     fn open(&mut self, root: Root, into: &mut Parcels) -> Result<(), Memory>
         requires batch { IsBatch (cut_of self.old) root.txid }
         requires own { IsOwn self.old }
         ensures own { OnOk result (IsOwn self.new) }
         ensures office { office_of self.new ≡ office_of self.old }
         ensures has_memory { OnOk result (wanted_memory self.new ≡ wanted_memory self.old) }
-        ensures begun { OnOk result (AddsOpening I.tells (cut_of self.old) root
+        ensures begun { OnOk result ((w : Wait) → w.root ≡ root
+            → w.spans ≡ batch_spans
+            (length (cut_of self.old).records) (cut_of self.old).size root.txid
+            → AddsOpening I.tells (cut_of self.old) w
             (collector_of self.old) (collector_of self.new) into.old into.new) }
     {
         let rows = self.copied_batch(root.txid)?;
@@ -254,7 +259,8 @@ impl<'p, I: Ids> Coordinator<'p, I> {
 
     fn copied_batch(&self, txid: u64) -> Result<Rows, Memory>
         requires { IsBatch (cut_of self.now) txid }
-        ensures { IfOk result (λ rows. rows ≡ rows_in (cut_of self.now) txid) }
+        ensures { IfOk result (λ rows. rows ≡ rows_at (cut_of self.now)
+            (batch_spans (length (cut_of self.now).records) (cut_of self.now).size txid)) }
     {
         match self.office.batch(txid) {
             Some(batch) => copied_rows(self.alloc, batch),

@@ -1,17 +1,15 @@
-ghost use Rattle.std.specs.Prelude.{◌≡◌, ◌≤◌, length, OnOk, OnErr};
-ghost use Rattle.attempt_fates.specs.declared.fates.Attempt.{Attempt};
-ghost use Rattle.trident_batches.specs.Batches.{batch_count, first_of, last_of};
-ghost use Rattle.commit_turns.specs.Desks.{settled, timed_of};
-ghost use Rattle.commit_turns.specs.Turns.{complete_timed, end_timed, heard, is_closed, last_try};
-ghost use Rattle.commit_writes.specs.Writes.{IsPathOrderOf};
-ghost use Rattle.commit_order.specs.Offices.{AddsSome, GoesOn, IsBatch, IsFoundAt, is_timed_of, try_of};
+ghost use Rattle.std.specs.Prelude.{◌≡◌, OnOk, OnErr};
+ghost use Rattle.commit_turns.specs.Desks.{timed_of};
+ghost use Rattle.commit_turns.specs.Turns.{complete_timed, end_timed, heard, is_closed};
+ghost use Rattle.commit_order.specs.Offices.{AddsSome, GoesOn, try_of};
 
+use crate::ends::ended;
 use crate::office::Office;
-use crate::waits::{remove, timed_place};
-use attempt_fates::{Attempt, End, Fates};
+use crate::settled::Settled;
+use attempt_fates::{End, Fates};
 use tuple_account::acker_core::{Check, Verdict, check_list};
 use tuple_account::message_lists::Notes;
-use tuple_account::storm_values::{Memory, Root, Seq};
+use tuple_account::storm_values::{Memory, Root};
 
 impl<'p> Office<'p> {
     /// A verdict is heard.
@@ -40,30 +38,16 @@ impl<'p> Office<'p> {
             (timed_of root self.old.desk.pending) self.old.desk).ended
             fates.old fates.new) }
     {
-        let Some(place) = timed_place(&self.waits, root) else {
+        let Some(_) = self.flight.timed(root) else {
             return Ok(());
         };
         match check_list(self.alloc, &list)? {
             Check::Closed(order) => {
-                self.settle(place, root, list, order);
+                self.flight.settle(root, Settled::new(list, order));
                 Ok(())
             }
             Check::Left(_) => self.end_timed(root, End::Coincided(list), fates),
         }
-    }
-
-    // The timed attempt at a place is settled.
-    fn settle(&mut self, place: usize, root: Root, list: Notes, order: Seq<usize>)
-        requires found { IsFoundAt (is_timed_of root) self.old.desk.pending place }
-        requires order { IsPathOrderOf list order }
-        ensures { self.new ≡ record self.old {
-          desk = record self.old.desk
-              { pending = settled root list self.old.desk.pending };
-        } }
-    {
-        self.flight.pending_are_few();
-        self.flight.settle(root);
-        self.waits[place].settle(list, order);
     }
 
     // A timed attempt ends, where it is one.
@@ -77,22 +61,14 @@ impl<'p> Office<'p> {
             (timed_of root self.old.desk.pending) self.old.desk).ended
             fates.old fates.new) }
     {
-        let Some(place) = timed_place(&self.waits, root) else {
+        let Some(_) = self.flight.timed(root) else {
             return Ok(());
         };
-        let start = self.waits[place].start();
-        let (first, last) = self.records(root.txid);
-        self.flight.end(root);
-        remove(&mut self.waits, root);
+        let Some(wait) = self.take(root) else {
+            unreachable!()
+        };
         self.exhausted = self.last_try(root);
-        fates.push(Attempt {
-            root,
-            first,
-            last,
-            start,
-            finish: self.tick,
-            end,
-        })
+        fates.push(ended(wait, self.flight.tick_number(), end))
     }
 
     // The transaction of an attempt that was the last of those that the plan allows.

@@ -8,12 +8,12 @@
 mod begins;
 mod commits;
 mod coordinator;
+mod ends;
 mod hear;
 mod office;
+mod settled;
 mod stop;
 mod ticks;
-mod waiting;
-mod waits;
 mod writes;
 
 pub use attempt_fates;
@@ -22,6 +22,7 @@ pub use commit_turns;
 pub use commit_writes;
 pub use coordinator::{Coordinator, Orders};
 pub use output_collector;
+pub use record_spans;
 pub use state_parts;
 pub use state_parts::{Commit, CommitOutcome, Parts};
 pub use stop::Stop;

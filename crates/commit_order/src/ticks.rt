@@ -1,14 +1,15 @@
-ghost use Rattle.std.specs.Prelude.{◌≡◌, ◌++◌, [], ◌∷◌, false, map, OnOk, OnErr};
+ghost use Rattle.std.specs.Prelude.{◌≡◌, ◌++◌, false, map, OnOk, OnErr};
 ghost use Rattle.tuple_account.specs.storm_values.Lines.{first_some};
 ghost use Rattle.commit_turns.specs.Turns.{has_no_tick, heard, one_tick, passed, ticked};
-ghost use Rattle.commit_order.specs.Offices.{AddsSome, AreBatches, GoesOn, IsBatch, timed_out, try_of};
+ghost use Rattle.commit_order.specs.Offices.{AddsSome, GoesOn, timed_out, try_at};
 
+use crate::ends::{ended, into_wait};
 use crate::office::Office;
-use crate::waits::remove_late;
-use attempt_fates::{Attempt, End, Fates};
-use replay_pending::Roots;
+use crate::settled::Settled;
+use attempt_fates::{End, Fates};
+use replay_pending::Entry;
 use tuple_account::acker_core::Verdict;
-use tuple_account::storm_values::{Memory, Root};
+use tuple_account::storm_values::Memory;
 
 impl<'p> Office<'p> {
     /// A verdict is heard, if there is one, and then the ticks pass.
@@ -55,7 +56,7 @@ impl<'p> Office<'p> {
     fn has_no_tick(&self) -> bool
         ensures { result ≡ has_no_tick self.now.topology self.now.cut self.now.desk }
     {
-        self.exhausted.is_some() || self.tick == u64::MAX
+        self.exhausted.is_some() || self.flight.tick_number() == u64::MAX
     }
 
     // One tick passes: the attempts that are late end, in the order of their begins.
@@ -69,18 +70,16 @@ impl<'p> Office<'p> {
             fates.old fates.new) }
     {
         let late = self.flight.tick()?;
-        self.tick += 1;
-        remove_late(&mut self.waits, self.plan.buckets(), self.tick);
         self.exhausted = self.first_last_try(&late);
-        self.time_out(&late, fates)
+        self.time_out(late, fates)
     }
 
-    // The first root that is the last attempt of those that the plan allows.
-    fn first_last_try(&self, roots: &Roots) -> Option<u64>
-        ensures { result ≡ first_some (map (try_of self.now.topology) roots.now) }
+    // The first attempt that is the last one of those that the plan allows.
+    fn first_last_try(&self, late: &[Entry<Settled>]) -> Option<u64>
+        ensures { result ≡ first_some (map (try_at self.now.topology) late.now) }
     {
-        for root in roots.as_slice() {
-            let last = self.last_try(*root);
+        for entry in late {
+            let last = self.last_try(entry.root);
             if last.is_some() {
                 return last;
             }
@@ -88,36 +87,16 @@ impl<'p> Office<'p> {
         None
     }
 
-    // The roots end at the present tick.
-    fn time_out(&self, roots: &Roots, fates: &mut Fates) -> Result<(), Memory>
-        requires { AreBatches self.now.cut roots.now }
-        ensures ok { OnOk result (fates.new ≡ fates.old ++ map
-            (timed_out self.now.cut self.now.topology.buckets self.now.desk.tick) roots.now) }
-        ensures err { OnErr result (AddsSome (map
-            (timed_out self.now.cut self.now.topology.buckets self.now.desk.tick) roots.now)
-            fates.old fates.new) }
+    // The attempts end at the present tick.
+    fn time_out(&self, late: Vec<Entry<Settled>>, fates: &mut Fates) -> Result<(), Memory>
+        ensures ok { OnOk result (fates.new
+            ≡ fates.old ++ map (timed_out self.now.desk.tick) late.items) }
+        ensures err { OnErr result (AddsSome
+            (map (timed_out self.now.desk.tick) late.items) fates.old fates.new) }
     {
-        for root in roots.as_slice() {
-            self.time_out_one(*root, fates)?;
+        for entry in late {
+            fates.push(ended(into_wait(entry), self.flight.tick_number(), End::TimedOut))?;
         }
         Ok(())
-    }
-
-    // A root ends at the present tick.
-    fn time_out_one(&self, root: Root, fates: &mut Fates) -> Result<(), Memory>
-        requires { IsBatch self.now.cut root.txid }
-        ensures ok { OnOk result (fates.new ≡ fates.old ++ timed_out self.now.cut
-            self.now.topology.buckets self.now.desk.tick root ∷ []) }
-        ensures err { OnErr result (fates.new ≡ fates.old) }
-    {
-        let (first, last) = self.records(root.txid);
-        fates.push(Attempt {
-            root,
-            first,
-            last,
-            start: self.tick.saturating_sub(u64::from(self.plan.buckets())),
-            finish: self.tick,
-            end: End::TimedOut,
-        })
     }
 }

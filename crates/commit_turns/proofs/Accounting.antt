@@ -4,7 +4,7 @@ use Rattle.std.specs.Prelude.{is_some}
 use Rattle.std.specs.List.{AllByRecursion}
 use Rattle.std.specs.Option.{option_to_list}
 use Rattle.std.proofs.lemmas.Bool.{and_cases, and_parts}
-use Rattle.std.proofs.lemmas.List.{append-nil, append_assoc}
+use Rattle.std.proofs.lemmas.List.{append-nil, append_assoc, map-append}
 use Rattle.tuple_account.specs.acker_core.declared.verdict.Verdict.{Verdict}
 use Rattle.tuple_account.specs.acker_core.declared.verdict.Verdict.TheVariants.{Complete, Fails}
 use Rattle.attempt_fates.specs.declared.fates.Attempt.{Attempt}
@@ -28,8 +28,8 @@ use Rattle.state_parts.specs.declared.answer.CommitOutcome.TheVariants as outcom
 use Rattle.commit_turns.specs.declared.wait.Wait.{Wait}
 use Rattle.commit_turns.specs.Account.{ended_of, ending_of}
 use Rattle.commit_turns.specs.Desks.{Desk, ended_at, is_late, is_of_root, is_timed, settled, timed_of, without}
-use Rattle.commit_turns.specs.Outcomes.{IsOutcome}
-use Rattle.commit_turns.specs.Turns.{begun, complete_timed, decided, decided_by, end_by, end_timed, filled, heard, is_closed, last_try, next_root, next_to_commit, one_tick, ordered, turned}
+use Rattle.commit_turns.specs.Outcomes.{IsOutcome, roots_begun}
+use Rattle.commit_turns.specs.Turns.{begun, complete_timed, decided, decided_by, end_by, end_timed, filled, heard, is_closed, last_try, next_to_commit, one_tick, ordered, turned, next_wait}
 use Rattle.commit_turns.proofs.Booking.{Books, IsChecked, IsUnheard, books_begun, books_commit, books_fall, books_heard, books_settled, books_told, unheard_beside, is_root, not_begun}
 use Rattle.commit_turns.proofs.Closing.{closed_off}
 use Rattle.commit_turns.proofs.Deciding.{is_next, turn_of}
@@ -39,7 +39,7 @@ use Rattle.commit_turns.proofs.Keeping.{IsGoing}
 use Rattle.commit_turns.proofs.Lists.{Found, found, none_found}
 use Rattle.commit_turns.proofs.Passing.{all_begun, all_late, all_turned}
 use Rattle.commit_turns.proofs.Tallies.{other-root, others-beside, settled-split, tally}
-use Rattle.commit_turns.proofs.Turning.{begins, going_heard, going_tick, is_timed_of, next_root_is}
+use Rattle.commit_turns.proofs.Turning.{begins, going_heard, going_tick, is_timed_of, next_wait_is}
 
 -- the account at a desk
 abbrev pub HasBooks : Topology → Desk → List Attempt → List Root → List Verdict → Type 0
@@ -47,11 +47,16 @@ HasBooks t d fates roots heard = Books t d.committed d.attempts d.pending fates 
 
 -- ---- of others nothing is heard
 
+-- one more attempt begins
+pub begun_push : (roots : List Root) (new : List Wait) (w : Wait) → (roots ++ roots_begun new) ++ w.root ∷ [] ≡ roots ++ roots_begun (new ++ w ∷ [])
+begun_push roots new w =
+    append_assoc roots (roots_begun new) (w.root ∷ []) ∙ ap (λ (rs : List Root). roots ++ rs) (sym (map-append (λ (v : Wait). v.root) new (w ∷ [])))
+
 module _ (v : Verdict) (root : Root) (about : (r : Root) → is_about r v ≡ is_root r root) (heard : List Verdict) where
   quiet_of : (w : Wait) → is_about w.root v ≡ 0 → IsUnheard heard w → IsUnheard (heard ++ v ∷ []) w
   quiet_of w none before timed = let e = before timed in let p = weigh-push (is_about w.root) heard v in omega arith
 
-  other_is : (r : Root) → is_of_root root (record { root = r; start = 0; settled = None }) ≡ false → is_about r v ≡ 0
+  other_is : (r : Root) → is_of_root root (record { root = r; spans = []; start = 0; settled = None }) ≡ false → is_about r v ≡ 0
   other_is r off = about r ∙ ap (λ (c : Bool). cond {A = ℕ} c 1 0) off
 
   unheard_others : (ws : List Wait) → AllByRecursion (λ (w : Wait). w.root.txid ≢ root.txid) ws → AllByRecursion (IsUnheard heard) ws → AllByRecursion (IsUnheard (heard ++ v ∷ [])) ws
@@ -101,10 +106,10 @@ module _ (t : Topology) (cut : Cut) (d : Desk) (fates : List Attempt) (going : I
       unheard : AllByRecursion (IsUnheard (told ++ v ∷ [])) (at.before ++ at.behind)
       unheard = unheard_others v root about told (at.before ++ at.behind) beside (unheard_beside t cut d.committed d.attempts d.tick at.before at.behind w fates roots told split)
 
-      books_end_now : (how : End) → commits_by (ending_of how) ≡ 0 → ((f : Verdict → ℕ) → weigh f (verdicts_by w.root (ending_of how)) ≡ f v) → IsChecked t (ended_at cut d.tick how w)
-          → HasBooks t (record d { pending = without w.root d.pending }) (fates ++ ended_at cut d.tick how w ∷ []) roots (told ++ v ∷ [])
+      books_end_now : (how : End) → commits_by (ending_of how) ≡ 0 → ((f : Verdict → ℕ) → weigh f (verdicts_by w.root (ending_of how)) ≡ f v) → IsChecked t (ended_at d.tick how w)
+          → HasBooks t (record d { pending = without w.root d.pending }) (fates ++ ended_at d.tick how w ∷ []) roots (told ++ v ∷ [])
       books_end_now how free says checked =
-          subst (λ (ps : List Wait). Books t d.committed d.attempts ps (fates ++ ended_at cut d.tick how w ∷ []) roots (told ++ v ∷ [])) (left t cut d fates going none (is_timed_of root) w at)
+          subst (λ (ps : List Wait). Books t d.committed d.attempts ps (fates ++ ended_at d.tick how w ∷ []) roots (told ++ v ∷ [])) (left t cut d fates going none (is_timed_of root) w at)
           (books_told t cut d.committed d.attempts d.tick at.before at.behind w fates roots told split how free v says checked unheard)
 
       books_settle_now : (list : List AckMsg) → ((f : Verdict → ℕ) → weigh f (verdicts_settled w.root (Some list)) ≡ f v) → HasBooks t (record d { pending = settled w.root list d.pending }) fates roots (told ++ v ∷ [])
@@ -151,39 +156,39 @@ module _ (t : Topology) (cut : Cut) (roots : List Root) (told : List Verdict) wh
     Ticking ps e done = Books t d.committed d.attempts ps (fates ++ done) roots told
 
     falls : (before behind : List Wait) (w : Wait) (e : Option ℕ) (done : List Attempt) → is_late t.buckets (d.tick + 1) w ≡ true → Ticking (before ++ w ∷ behind) e done
-        → Ticking (before ++ behind) (or_else e (last_try t cut (ended_at cut (d.tick + 1) end.TimedOut w))) (done ++ ended_at cut (d.tick + 1) end.TimedOut w ∷ [])
+        → Ticking (before ++ behind) (or_else e (last_try t cut (ended_at (d.tick + 1) end.TimedOut w))) (done ++ ended_at (d.tick + 1) end.TimedOut w ∷ [])
     falls before behind w e done late now =
-        subst (λ (ended : List Attempt). Books t d.committed d.attempts (before ++ behind) ended roots told) (append_assoc fates done (ended_at cut (d.tick + 1) end.TimedOut w ∷ []))
+        subst (λ (ended : List Attempt). Books t d.committed d.attempts (before ++ behind) ended roots told) (append_assoc fates done (ended_at (d.tick + 1) end.TimedOut w ∷ []))
         (books_fall t cut d.committed d.attempts (d.tick + 1) before behind w (fates ++ done) roots told now end.TimedOut refl (λ f. refl)
         (sym (eqb-true (w.start + t.buckets) (d.tick + 1) (and_parts (is_timed w) (w.start + t.buckets == d.tick + 1) late).1)))
 
     pub tick_books : HasBooks t (one_tick t cut d).desk (fates ++ (one_tick t cut d).ended) roots told
     tick_books = all_late t cut (d.tick + 1) Ticking falls [] d.pending None [] (subst (λ (ended : List Attempt). HasBooks t d ended roots told) (sym (append-nil fates)) b)
 
-  -- ---- roots begin
+  -- ---- attempts begin
 
   module _ (valid : IsValid t) (fates : List Attempt) (quiet : (root : Root) → weigh (is_about root) told ≤ weigh (is_root root) roots) where
-    record IsFilling (d : Desk) (new : List Root) : Type 0 where
+    record IsFilling (d : Desk) (new : List Wait) : Type 0 where
       going : IsGoing t cut d fates
       none : d.exhausted ≡ None
-      books : HasBooks t d fates (roots ++ new) told
+      books : HasBooks t d fates (roots ++ roots_begun new) told
 
-    one_begins : (d : Desk) (new : List Root) (root : Root) → next_root t cut d ≡ Some root → IsFilling d new → IsFilling (begun t cut root d) (new ++ root ∷ [])
-    one_begins d new root some filling =
-        let n = next_root_is t cut d filling.going.holds.one root some in
-        let z = not_begun d.attempts root n.next (roots ++ new) filling.books.numbered in
-        let a = weigh-append (is_root root) roots new in
-        let q = quiet root in
-        let both = begins t cut valid fates d new root some (filling.going, filling.none) in
+    one_begins : (d : Desk) (new : List Wait) (w : Wait) → next_wait t cut d ≡ Some w → IsFilling d new → IsFilling (begun t cut w d) (new ++ w ∷ [])
+    one_begins d new w some filling =
+        let is = next_wait_is t cut d filling.going.holds.one w some in
+        let z = not_begun d.attempts w.root is.root.next (roots ++ roots_begun new) filling.books.numbered in
+        let a = weigh-append (is_root w.root) roots (roots_begun new) in
+        let q = quiet w.root in
+        let both = begins t cut valid fates d new w some (filling.going, filling.none) in
         record {
           going = both.0;
           none = both.1;
-          books = subst (λ (rs : List Root). HasBooks t (begun t cut root d) fates rs told) (append_assoc roots new (root ∷ []))
-              (books_begun t d.committed d.attempts d.tick d.pending fates (roots ++ new) told filling.books root n.next (omega arith));
+          books = subst (λ (rs : List Root). HasBooks t (begun t cut w d) fates rs told) (begun_push roots new w)
+              (books_begun t d.committed d.attempts d.tick d.pending fates (roots ++ roots_begun new) told filling.books w is.timed is.root.next (omega arith));
         }
 
     pub fill_books : (d : Desk) → d.exhausted ≡ None → IsGoing t cut d fates → HasBooks t d fates roots told
-        → IsGoing t cut (filled t cut t.pending (ordered t cut d)).desk fates × HasBooks t (filled t cut t.pending (ordered t cut d)).desk fates (roots ++ (filled t cut t.pending (ordered t cut d)).roots) told
+        → IsGoing t cut (filled t cut t.pending (ordered t cut d)).desk fates × HasBooks t (filled t cut t.pending (ordered t cut d)).desk fates (roots ++ roots_begun (filled t cut t.pending (ordered t cut d)).begun) told
     fill_books d none going b =
         let f = all_begun t cut IsFilling one_begins t.pending (ordered t cut d) []
         (record { going = going_out t cut d fates (ordered t cut d).out going; none = none; books = subst (λ (rs : List Root). HasBooks t d fates rs told) (sym (append-nil roots)) b }) in
@@ -194,11 +199,11 @@ module _ (t : Topology) (cut : Cut) (roots : List Root) (told : List Verdict) wh
 pub turn_books : (t : Topology) (cut : Cut) → IsValid t → (d : Desk) (fates : List Attempt) → d.exhausted ≡ None → IsGoing t cut d fates → (roots : List Root) (told : List Verdict) → HasBooks t d fates roots told
     → (verdict : Option Verdict) (ticks : ℕ) → ((root : Root) → weigh (is_about root) (told ++ option_to_list verdict) ≤ weigh (is_root root) roots)
     → IsGoing t cut (turned t cut verdict ticks d).desk (fates ++ (turned t cut verdict ticks d).ended)
-    × HasBooks t (turned t cut verdict ticks d).desk (fates ++ (turned t cut verdict ticks d).ended) (roots ++ (turned t cut verdict ticks d).begun) (told ++ option_to_list verdict)
+    × HasBooks t (turned t cut verdict ticks d).desk (fates ++ (turned t cut verdict ticks d).ended) (roots ++ roots_begun (turned t cut verdict ticks d).begun) (told ++ option_to_list verdict)
 turn_books t cut valid d fates none going roots told b verdict ticks quiet =
     all_turned t cut verdict ticks d fates
     (λ e ended. IsGoing t cut e ended × HasBooks t e ended roots (told ++ option_to_list verdict))
-    (λ e ended new. IsGoing t cut e ended × HasBooks t e ended (roots ++ new) (told ++ option_to_list verdict))
+    (λ e ended new. IsGoing t cut e ended × HasBooks t e ended (roots ++ roots_begun new) (told ++ option_to_list verdict))
     (going_heard t cut d fates going none verdict, hears_books t cut d fates going none roots told b verdict)
     (λ e ended goes both. (going_tick t cut e ended goes both.0, tick_books t cut roots (told ++ option_to_list verdict) e ended both.1))
     (λ e ended txid is both. (both.0, subst (λ (rs : List Root). HasBooks t e ended rs (told ++ option_to_list verdict)) (sym (append-nil roots)) both.1))
@@ -240,11 +245,11 @@ module _ (t : Topology) (cut : Cut) (d : Desk) (fates : List Attempt) (going : I
 
     decide_one : (how : CommitOutcome) → IsOutcome t how → HasBooks t (decided_by t cut how (Some w) d).desk (fates ++ (decided_by t cut how (Some w) d).ended) roots told
     decide_one outcome.Done is =
-        subst (λ (ps : List Wait). Books t (d.committed + 1) d.attempts ps (fates ++ ended_at cut d.tick (end_by t cut outcome.Done w.settled) w ∷ []) roots told) leave
+        subst (λ (ps : List Wait). Books t (d.committed + 1) d.attempts ps (fates ++ ended_at d.tick (end_by t cut outcome.Done w.settled) w ∷ []) roots told) leave
         (books_commit t cut d.committed d.attempts d.tick at.before at.behind w fates roots told split_one (end_by t cut outcome.Done w.settled) (counts_one w.settled) (turn_of t cut d w at)
-        (λ f. says f w.settled is_there) (is_checked w.settled is_there its_list (ended_of (ended_at cut d.tick (end_by t cut outcome.Done w.settled) w))))
+        (λ f. says f w.settled is_there) (is_checked w.settled is_there its_list (ended_of (ended_at d.tick (end_by t cut outcome.Done w.settled) w))))
     decide_one (outcome.Failed component part before after) is =
-        subst (λ (ps : List Wait). Books t d.committed d.attempts ps (fates ++ ended_at cut d.tick (end.CommitFailed component part before after) w ∷ []) roots told) leave
+        subst (λ (ps : List Wait). Books t d.committed d.attempts ps (fates ++ ended_at d.tick (end.CommitFailed component part before after) w ∷ []) roots told) leave
         (books_fall t cut d.committed d.attempts d.tick at.before at.behind w fates roots told split_one (end.CommitFailed component part before after) refl (λ f. refl) is)
 
   pub decide_books : (how : CommitOutcome) → IsOutcome t how → HasBooks t (decided t cut how d).desk (fates ++ (decided t cut how d).ended) roots told

@@ -1,5 +1,5 @@
 -- The coordinator's account, by weights, and each small step of it.
-use Rattle.std.proofs.Common.{◌≡◌, ℕ, ◌+◌, ◌≤◌, ◌==◌, ◌&&◌, nat_lt, inl, inr, Bool, true, false, cond, None, Some, List, [], ◌∷◌, ◌++◌, refl, sym, ap, subst, ◌∙◌, arith}
+use Rattle.std.proofs.Common.{◌≡◌, ℕ, ◌+◌, ◌≤◌, ◌==◌, ◌&&◌, nat_lt, inl, inr, Bool, true, false, cond, None, Some, List, [], ◌∷◌, ◌++◌, refl, sym, ap, subst, ◌∙◌, arith, Option}
 use Rattle.std.specs.FinMap as fin_map
 use Rattle.std.specs.List.{AllByRecursion}
 use Rattle.std.proofs.lemmas.Bool.{cases_eq, eq-eqb, ne_eqb, and_right, le-ltb}
@@ -75,20 +75,20 @@ weigh-split f before behind x =
 module _ (t : Topology) (cut : Cut) (committed : ℕ) (attempts : Counts) (tick : ℕ) (before behind : List Wait) (w : Wait) (fates : List Attempt) (roots : List Root) (heard : List Verdict)
     (b : Books t committed attempts (before ++ w ∷ behind) fates roots heard) where
   module _ (how : End) (now : ℕ) (later : List Verdict) (had : (f : Verdict → ℕ) → weigh f (verdicts_by w.root (ending_of how)) + weigh f heard ≤ settled_by f w + weigh f later)
-      (unheard : AllByRecursion (IsUnheard later) (before ++ behind)) (checked : IsChecked t (ended_at cut tick how w))
-      (counts : (txid : ℕ) → is_first committed txid + commits_at txid (ended_at cut tick how w) ≡ is_first now txid) where
-    pub books_end : Books t now attempts (before ++ behind) (fates ++ ended_at cut tick how w ∷ []) roots later
+      (unheard : AllByRecursion (IsUnheard later) (before ++ behind)) (checked : IsChecked t (ended_at tick how w))
+      (counts : (txid : ℕ) → is_first committed txid + commits_at txid (ended_at tick how w) ≡ is_first now txid) where
+    pub books_end : Books t now attempts (before ++ behind) (fates ++ ended_at tick how w ∷ []) roots later
     books_end = record {
-      begun = λ f. (let e = b.begun f in let p = weigh-push (λ (a : Attempt). f a.root) fates (ended_at cut tick how w) in let s = weigh-split (λ (v : Wait). f v.root) before behind w in omega arith);
+      begun = λ f. (let e = b.begun f in let p = weigh-push (λ (a : Attempt). f a.root) fates (ended_at tick how w) in let s = weigh-split (λ (v : Wait). f v.root) before behind w in omega arith);
       numbered = b.numbered;
-      heard_all = λ f. (let e = b.heard_all f in let p = weigh-push (ended_by f) fates (ended_at cut tick how w) in let s = weigh-split (settled_by f) before behind w in let k = had f in omega arith);
+      heard_all = λ f. (let e = b.heard_all f in let p = weigh-push (ended_by f) fates (ended_at tick how w) in let s = weigh-split (settled_by f) before behind w in let k = had f in omega arith);
       unheard = unheard;
-      checked = each-append (IsChecked t) fates (ended_at cut tick how w ∷ []) b.checked (checked, tt);
-      once = λ txid. (let e = b.once txid in let p = weigh-push (commits_at txid) fates (ended_at cut tick how w) in let k = counts txid in omega arith);
+      checked = each-append (IsChecked t) fates (ended_at tick how w ∷ []) b.checked (checked, tt);
+      once = λ txid. (let e = b.once txid in let p = weigh-push (commits_at txid) fates (ended_at tick how w) in let k = counts txid in omega arith);
     }
 
   -- without a commit
-  none_more : (how : End) → commits_by (ending_of how) ≡ 0 → (txid : ℕ) → is_first committed txid + commits_at txid (ended_at cut tick how w) ≡ is_first committed txid
+  none_more : (how : End) → commits_by (ending_of how) ≡ 0 → (txid : ℕ) → is_first committed txid + commits_at txid (ended_at tick how w) ≡ is_first committed txid
   none_more how none txid = let e = by (w.root.txid == txid) in omega arith
     where
       by : (c : Bool) → cond c (commits_by (ending_of how)) 0 ≡ 0
@@ -100,25 +100,25 @@ module _ (t : Topology) (cut : Cut) (committed : ℕ) (attempts : Counts) (tick 
       each-append (IsUnheard heard) before behind (each-front (IsUnheard heard) before (w ∷ behind) b.unheard) (each-back (IsUnheard heard) before (w ∷ behind) b.unheard).1
 
   -- and without a verdict
-  pub books_fall : (how : End) → commits_by (ending_of how) ≡ 0 → ((f : Verdict → ℕ) → weigh f (verdicts_by w.root (ending_of how)) ≡ 0) → IsChecked t (ended_at cut tick how w)
-      → Books t committed attempts (before ++ behind) (fates ++ ended_at cut tick how w ∷ []) roots heard
+  pub books_fall : (how : End) → commits_by (ending_of how) ≡ 0 → ((f : Verdict → ℕ) → weigh f (verdicts_by w.root (ending_of how)) ≡ 0) → IsChecked t (ended_at tick how w)
+      → Books t committed attempts (before ++ behind) (fates ++ ended_at tick how w ∷ []) roots heard
   books_fall how none silent checked = books_end how committed heard (λ f. (let s = silent f in omega arith)) unheard_beside checked (none_more how none)
 
   -- by a verdict that is heard now
-  pub books_told : (how : End) → commits_by (ending_of how) ≡ 0 → (v : Verdict) → ((f : Verdict → ℕ) → weigh f (verdicts_by w.root (ending_of how)) ≡ f v) → IsChecked t (ended_at cut tick how w)
-      → AllByRecursion (IsUnheard (heard ++ v ∷ [])) (before ++ behind) → Books t committed attempts (before ++ behind) (fates ++ ended_at cut tick how w ∷ []) roots (heard ++ v ∷ [])
+  pub books_told : (how : End) → commits_by (ending_of how) ≡ 0 → (v : Verdict) → ((f : Verdict → ℕ) → weigh f (verdicts_by w.root (ending_of how)) ≡ f v) → IsChecked t (ended_at tick how w)
+      → AllByRecursion (IsUnheard (heard ++ v ∷ [])) (before ++ behind) → Books t committed attempts (before ++ behind) (fates ++ ended_at tick how w ∷ []) roots (heard ++ v ∷ [])
   books_told how none v says checked unheard =
       books_end how committed (heard ++ v ∷ []) (λ f. (let s = says f in let p = weigh-push f heard v in omega arith)) unheard checked (none_more how none)
 
   one_first : (txid other : ℕ) → other ≡ committed + 1 → is_first committed txid + own txid other ≡ is_first (committed + 1) txid
   one_first txid other is = grind (arith, nat_tests)
 
-  one_more : (how : End) → commits_by (ending_of how) ≡ 1 → w.root.txid ≡ committed + 1 → (txid : ℕ) → is_first committed txid + commits_at txid (ended_at cut tick how w) ≡ is_first (committed + 1) txid
+  one_more : (how : End) → commits_by (ending_of how) ≡ 1 → w.root.txid ≡ committed + 1 → (txid : ℕ) → is_first committed txid + commits_at txid (ended_at tick how w) ≡ is_first (committed + 1) txid
   one_more how one is txid = ap (λ (k : ℕ). is_first committed txid + cond (w.root.txid == txid) k 0) one ∙ one_first txid w.root.txid is
 
   -- by a commit
-  pub books_commit : (how : End) → commits_by (ending_of how) ≡ 1 → w.root.txid ≡ committed + 1 → ((f : Verdict → ℕ) → weigh f (verdicts_by w.root (ending_of how)) ≡ settled_by f w) → IsChecked t (ended_at cut tick how w)
-      → Books t (committed + 1) attempts (before ++ behind) (fates ++ ended_at cut tick how w ∷ []) roots heard
+  pub books_commit : (how : End) → commits_by (ending_of how) ≡ 1 → w.root.txid ≡ committed + 1 → ((f : Verdict → ℕ) → weigh f (verdicts_by w.root (ending_of how)) ≡ settled_by f w) → IsChecked t (ended_at tick how w)
+      → Books t (committed + 1) attempts (before ++ behind) (fates ++ ended_at tick how w ∷ []) roots heard
   books_commit how one is same checked = books_end how (committed + 1) heard (λ f. (let s = same f in omega arith)) unheard_beside checked (one_more how one is)
 
   -- ---- an attempt is settled, by a verdict that is heard now
@@ -185,16 +185,19 @@ module _ (attempts : Counts) (root : Root) (next : root.attempt ≡ attempts_of 
     not_begun = numbered root ∙ ap (λ (c : Bool). cond {A = ℕ} c 1 0) (and_right (nat_lt 0 root.attempt) (nat_lt root.attempt (attempts_of root.txid attempts + 1)) (le-ltb root.attempt (attempts_of root.txid attempts + 1) (omega arith)))
 
 module _ (t : Topology) (committed : ℕ) (attempts : Counts) (tick : ℕ) (pending : List Wait) (fates : List Attempt) (roots : List Root) (heard : List Verdict)
-    (b : Books t committed attempts pending fates roots heard) (root : Root) (next : root.attempt ≡ attempts_of root.txid attempts + 1) where
-  abbrev fresh : Wait
-  fresh = record { root = root; start = tick; settled = None }
+    (b : Books t committed attempts pending fates roots heard) (fresh : Wait) (timed : fresh.settled ≡ None) (next : fresh.root.attempt ≡ attempts_of fresh.root.txid attempts + 1) where
+  abbrev root : Root
+  root = fresh.root
+
+  silent_one : (f : Verdict → ℕ) → settled_by f fresh ≡ 0
+  silent_one f = ap (λ (s : Option (List AckMsg)). weigh f (verdicts_settled fresh.root s)) timed
 
   pub books_begun : weigh (is_about root) heard ≡ 0 → Books t committed (fin_map.insert attempts root.txid root.attempt) (pending ++ fresh ∷ []) fates (roots ++ root ∷ []) heard
   books_begun silent = record {
     begun = λ f. (let e = b.begun f in let x = weigh-push f roots root in let y = weigh-push (λ (w : Wait). f w.root) pending fresh in omega arith);
     numbered = numbered_begun attempts root next roots b.numbered;
-    heard_all = λ f. (let e = b.heard_all f in let y = weigh-push (settled_by f) pending fresh in omega arith);
-    unheard = each-append (IsUnheard heard) pending (fresh ∷ []) b.unheard ((λ timed. silent), tt);
+    heard_all = λ f. (let e = b.heard_all f in let y = weigh-push (settled_by f) pending fresh in let z = silent_one f in omega arith);
+    unheard = each-append (IsUnheard heard) pending (fresh ∷ []) b.unheard ((λ unsettled. silent), tt);
     checked = b.checked;
     once = b.once;
   }

@@ -8,6 +8,7 @@ use Rattle.attempt_fates.specs.declared.fates.End.TheVariants as end
 use Rattle.commit_turns.specs.declared.wait.Wait.{Wait}
 use Rattle.commit_turns.specs.Desks.{Desk}
 use Rattle.commit_turns.specs.Turns.{decided, free_txid, heard, is_finished, turned}
+use Rattle.record_spans.specs.declared.span.Span.{Span}
 use Rattle.state_parts.specs.declared.answer.CommitOutcome.TheVariants as outcome
 use Rattle.tuple_account.specs.storm_values.declared.value.Root.{Root}
 use Rattle.tuple_account.specs.topology_plan.Topology.{Topology}
@@ -38,13 +39,17 @@ two = record { records = [] ∷ [] ∷ []; size = 1 }
 abbrev root : ℕ → ℕ → Root
 root txid attempt = record { txid = txid; attempt = attempt }
 
+-- the batch of a transaction
+abbrev one : ℕ → List Span
+one txid = record { first = txid; last = txid } ∷ []
+
 -- an attempt that began at a tick
 abbrev timed : ℕ → ℕ → ℕ → Wait
-timed txid attempt start = record { root = root txid attempt; start = start; settled = None }
+timed txid attempt start = record { root = root txid attempt; spans = one txid; start = start; settled = None }
 
 -- one that was settled with no message
 abbrev done : ℕ → ℕ → Wait
-done txid attempt = record { root = root txid attempt; start = 0; settled = Some [] }
+done txid attempt = record { root = root txid attempt; spans = one txid; start = 0; settled = Some [] }
 
 abbrev desk : ℕ → ℕ → List Wait → Desk
 desk tick committed pending = record {
@@ -59,8 +64,7 @@ desk tick committed pending = record {
 abbrev ended : ℕ → ℕ → ℕ → ℕ → End → Attempt
 ended txid attempt start finish how = record {
   root = root txid attempt;
-  first = txid;
-  last = txid;
+  spans = one txid;
   start = start;
   finish = finish;
   end = how;
@@ -142,7 +146,7 @@ fails_first : (turned (plan 2 1) two (Some (Fails (root 2 1) (0 ∷ []))) 5 (des
 fails_first = refl
 
 -- a verdict is heard before the ticks
-just_in_time : (turned (plan 2 2) two (Some (Complete (root 2 1) [])) 1 (desk 2 1 (timed 2 1 0 ∷ []))).commit ≡ Some (record { root = root 2 1; start = 0; settled = Some [] })
+just_in_time : (turned (plan 2 2) two (Some (Complete (root 2 1) [])) 1 (desk 2 1 (timed 2 1 0 ∷ []))).commit ≡ Some (done 2 1)
 just_in_time = refl
 
 -- at the last number ticks change nothing

@@ -13,10 +13,9 @@ use Rattle.trident_batches.specs.Batches.{Cut}
 use Rattle.tuple_account.specs.Ends.{Ended, Waits, commits, verdicts_by, verdicts_of_ends, verdicts_of_waits, verdicts_settled}
 use Rattle.tuple_account.specs.Fits.{Fits, IsEnd, IsWaiting}
 use Rattle.tuple_account.specs.Histories.{History, Opening}
-use Rattle.tuple_account.specs.Moves.{AreRows}
 use Rattle.tuple_account.specs.Sound.{is_about}
 use Rattle.commit_turns.specs.declared.wait.Wait.{Wait}
-use Rattle.commit_turns.specs.Account.{desk_of, ended_of, ends_of, rows_in, waits_of}
+use Rattle.commit_turns.specs.Account.{desk_of, ended_of, ends_of, waits_of}
 use Rattle.commit_turns.specs.Desks.{Desk}
 use Rattle.commit_turns.proofs.Accounting.{HasBooks}
 use Rattle.commit_turns.proofs.Booking.{IsChecked, ended_by, is_root, settled_by}
@@ -38,7 +37,7 @@ waits_weight f ws =
     ∙ weigh-map (λ (w : Waits). weigh f (verdicts_settled w.root w.settled)) waits_of ws
 
 module _ (t : Topology) (cut : Cut) (d : Desk) (fates : List Attempt) (h : History) where
-  pub books_of : Fits t (rows_in cut) (desk_of d) (ends_of fates) h → HasBooks t d fates (roots_of h.begun) h.heard
+  pub books_of : Fits t (desk_of d) (ends_of fates) h → HasBooks t d fates (roots_of h.begun) h.heard
   books_of fits = record {
     begun = λ f.
         (let e = fits.begun f in
@@ -56,16 +55,14 @@ module _ (t : Topology) (cut : Cut) (d : Desk) (fates : List Attempt) (h : Histo
     once = λ txid. sym (weigh-map (commits txid) ended_of fates) ∙ fits.once txid;
   }
 
-  pub fits_of : IsGoing t cut d fates → HasBooks t d fates (roots_of h.begun) h.heard → AreRows (λ root. rows_in cut root.txid) h.begun
-      → Fits t (rows_in cut) (desk_of d) (ends_of fates) h
-  fits_of going b rows = record {
+  pub fits_of : IsGoing t cut d fates → HasBooks t d fates (roots_of h.begun) h.heard → Fits t (desk_of d) (ends_of fates) h
+  fits_of going b = record {
     begun = λ f.
         (let e = b.begun f in
         let o = weigh-map f (λ (o : Opening). o.begun.root) h.begun in
         let a = weigh-map (λ (a : Ended). f a.root) ended_of fates in
         let w = weigh-map (λ (w : Waits). f w.root) waits_of d.pending in omega arith);
     numbered = λ root. sym (weigh-map (is_root root) (λ (o : Opening). o.begun.root) h.begun) ∙ b.numbered root;
-    rows = rows;
     heard = λ f.
         (let e = b.heard_all f in
         let p = weigh-append f (verdicts_of_ends (ends_of fates)) (verdicts_of_waits (map waits_of d.pending)) in

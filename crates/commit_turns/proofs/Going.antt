@@ -4,10 +4,9 @@ use Rattle.std.specs.Prelude.{IsTrue}
 use Rattle.std.specs.List.{AllByRecursion}
 use Rattle.attempt_fates.specs.declared.fates.Attempt.{Attempt}
 use Rattle.attempt_fates.specs.declared.fates.End.{End}
-use Rattle.attempt_fates.specs.Fates.{is_committed}
+use Rattle.attempt_fates.specs.Fates.{batch_spans, is_committed}
 use Rattle.tuple_account.proofs.counted_items.Each.{each-append, each-front, each-back}
 use Rattle.replay_pending.specs.InFlight.{attempts_of}
-use Rattle.tuple_account.specs.storm_values.declared.value.Root.{Root}
 use Rattle.tuple_account.specs.storm_values.Lines.{first_some}
 use Rattle.tuple_account.specs.topology_plan.Topology.{Topology}
 use Rattle.tuple_account.specs.tree_model.Lists.{IsClosed}
@@ -60,22 +59,22 @@ module _ (t : Topology) (cut : Cut) (d : Desk) (fates : List Attempt) (going : I
 
     -- an attempt ends without a commit
     pub going_end : (how : End) → is_committed how ≡ false → (IsTrue (is_failed_commit how) → w.root.txid ≡ d.committed + 1)
-        → IsGoing t cut (stopped_by t cut (ended_at cut d.tick how w ∷ []) (record d { pending = without w.root d.pending })) (fates ++ ended_at cut d.tick how w ∷ [])
+        → IsGoing t cut (stopped_by t cut (ended_at d.tick how w ∷ []) (record d { pending = without w.root d.pending })) (fates ++ ended_at d.tick how w ∷ [])
     going_end how is failed = record {
-      holds = subst (λ (e : Option ℕ). Holds t cut (record d { pending = without w.root d.pending; exhausted = e }) (fates ++ ended_at cut d.tick how w ∷ [])) last
-          (subst (λ (ps : List Wait). Holds t cut (record d { pending = ps; exhausted = or_else d.exhausted (last_try t cut (ended_at cut d.tick how w)) }) (fates ++ ended_at cut d.tick how w ∷ [])) left
+      holds = subst (λ (e : Option ℕ). Holds t cut (record d { pending = without w.root d.pending; exhausted = e }) (fates ++ ended_at d.tick how w ∷ [])) last
+          (subst (λ (ps : List Wait). Holds t cut (record d { pending = ps; exhausted = or_else d.exhausted (last_try t cut (ended_at d.tick how w)) }) (fates ++ ended_at d.tick how w ∷ [])) left
           (holds_end t cut d fates found.before found.behind w split_holds how is failed));
       timely = subst (AllByRecursion (IsTimely t.buckets d.tick)) left timely_beside;
     }
       where
-        last : or_else d.exhausted (last_try t cut (ended_at cut d.tick how w)) ≡ first_some (last_try t cut (ended_at cut d.tick how w) ∷ [])
-        last = ap (λ (e : Option ℕ). or_else e (last_try t cut (ended_at cut d.tick how w))) none ∙ sym (first_one (last_try t cut (ended_at cut d.tick how w)))
+        last : or_else d.exhausted (last_try t cut (ended_at d.tick how w)) ≡ first_some (last_try t cut (ended_at d.tick how w) ∷ [])
+        last = ap (λ (e : Option ℕ). or_else e (last_try t cut (ended_at d.tick how w))) none ∙ sym (first_one (last_try t cut (ended_at d.tick how w)))
 
     -- the attempt of the next transaction is committed
     pub going_commit : (how : End) → is_committed how ≡ true → w.root.txid ≡ d.committed + 1
-        → IsGoing t cut (record d { committed = d.committed + 1; pending = without w.root d.pending; out = false }) (fates ++ ended_at cut d.tick how w ∷ [])
+        → IsGoing t cut (record d { committed = d.committed + 1; pending = without w.root d.pending; out = false }) (fates ++ ended_at d.tick how w ∷ [])
     going_commit how is turn = record {
-      holds = subst (λ (ps : List Wait). Holds t cut (record d { committed = d.committed + 1; pending = ps; out = false }) (fates ++ ended_at cut d.tick how w ∷ [])) left
+      holds = subst (λ (ps : List Wait). Holds t cut (record d { committed = d.committed + 1; pending = ps; out = false }) (fates ++ ended_at d.tick how w ∷ [])) left
           (holds_commit t cut d fates found.before found.behind w split_holds how is turn none);
       timely = subst (AllByRecursion (IsTimely t.buckets d.tick)) left timely_beside;
     }
@@ -96,10 +95,11 @@ module _ (t : Topology) (cut : Cut) (d : Desk) (fates : List Attempt) (going : I
         never : Some list ≡ None → ⊥
         never e = cc
 
-  -- a root begins
-  pub going_begun : (root : Root) → 1 ≤ t.buckets → tally root.txid d.pending ≡ 0 → root.attempt ≡ attempts_of root.txid d.attempts + 1 → root.attempt ≤ t.attempts
-      → length d.pending < t.pending → d.committed < root.txid → root.txid ≤ batch_count (length cut.records) cut.size → root.txid ≤ d.committed + t.pending → IsGoing t cut (begun t cut root d) fates
-  going_begun root some free next allowed room after there near = record {
-    holds = holds_begun t cut d fates root going.holds none free next allowed room after there near;
-    timely = each-append (IsTimely t.buckets d.tick) d.pending (record { root = root; start = d.tick; settled = None } ∷ []) going.timely ((λ timed. omega arith), tt);
+  -- an attempt begins
+  pub going_begun : (w : Wait) → 1 ≤ t.buckets → tally w.root.txid d.pending ≡ 0 → w.root.attempt ≡ attempts_of w.root.txid d.attempts + 1 → w.root.attempt ≤ t.attempts
+      → length d.pending < t.pending → d.committed < w.root.txid → w.root.txid ≤ batch_count (length cut.records) cut.size → w.root.txid ≤ d.committed + t.pending
+      → w.spans ≡ batch_spans (length cut.records) cut.size w.root.txid → w.start ≡ d.tick → w.settled ≡ None → IsGoing t cut (begun t cut w d) fates
+  going_begun w some free next allowed room after there near records now timed = record {
+    holds = holds_begun t cut d fates w going.holds none free next allowed room after there near records now timed;
+    timely = each-append (IsTimely t.buckets d.tick) d.pending (w ∷ []) going.timely ((λ unsettled. omega arith), tt);
   }

@@ -7,7 +7,7 @@ use Rattle.std.proofs.lemmas.List.{length-append}
 use Rattle.std.proofs.lemmas.Bool.{ltb-false, ltb-true, cases_eq}
 use Rattle.attempt_fates.specs.declared.fates.Attempt.{Attempt}
 use Rattle.attempt_fates.specs.declared.fates.End.{End}
-use Rattle.attempt_fates.specs.Fates.{IsOfBatch, attempt_numbers, is_committed}
+use Rattle.attempt_fates.specs.Fates.{IsOfBatch, attempt_numbers, batch_spans, is_committed}
 use Rattle.tuple_account.proofs.counted_items.Each.{each-append, each-front, each-back, each-weaker, each-both}
 use Rattle.tuple_account.proofs.counted_items.Weighing.{weigh-append}
 use Rattle.replay_pending.specs.InFlight.{Counts, attempts_of}
@@ -29,6 +29,7 @@ pub record IsBegun (t : Topology) (cut : Cut) (attempts : Counts) (committed tic
   pub later : committed < w.root.txid
   pub there : w.root.txid ≤ batch_count (length cut.records) cut.size
   pub near : w.root.txid ≤ committed + t.pending
+  pub records : w.spans ≡ batch_spans (length cut.records) cut.size w.root.txid
   pub starts : w.start ≤ tick
   pub closed : (list : List AckMsg) → w.settled ≡ Some list → IsClosed list
 
@@ -126,25 +127,26 @@ module _ (t : Topology) (cut : Cut) (d : Desk) (fates : List Attempt) (before be
         later = itself.later;
         there = itself.there;
         near = itself.near;
+        records = itself.records;
         starts = itself.starts;
         closed = λ other is. subst IsClosed (same_some list other is) closed;
       }
 
   module _ (how : End) where
-    its_batch : IsOfBatch (length cut.records) cut.size (ended_at cut d.tick how w)
+    its_batch : IsOfBatch (length cut.records) cut.size (ended_at d.tick how w)
     its_batch =
         let later = itself.later in
         let there = itself.there in
-        let least : 1 ≤ w.root.txid = omega arith in record { is_there = (least, there); first = refl; last = refl }
+        let least : 1 ≤ w.root.txid = omega arith in record { is_there = (least, there); records = itself.records }
 
     told_one : (b : Bool) → is_committed how ≡ b → (b ≡ true → w.root.txid ≡ d.committed + 1) → (IsTrue (is_failed_commit how) → w.root.txid ≡ d.committed + 1)
-        → Told (length cut.records) cut.size (one_more b d.committed) d.tick (fates ++ ended_at cut d.tick how w ∷ [])
-    told_one b is by_turn failed = told_push (length cut.records) cut.size d.committed d.tick fates h.told (ended_at cut d.tick how w) its_batch itself.starts refl next itself.later b is by_turn failed
+        → Told (length cut.records) cut.size (one_more b d.committed) d.tick (fates ++ ended_at d.tick how w ∷ [])
+    told_one b is by_turn failed = told_push (length cut.records) cut.size d.committed d.tick fates h.told (ended_at d.tick how w) its_batch itself.starts refl next itself.later b is by_turn failed
 
-    begun_one : (txid : ℕ) → attempts_of txid d.attempts ≡ length (attempt_numbers txid (fates ++ ended_at cut d.tick how w ∷ [])) + tally txid (before ++ behind)
+    begun_one : (txid : ℕ) → attempts_of txid d.attempts ≡ length (attempt_numbers txid (fates ++ ended_at d.tick how w ∷ [])) + tally txid (before ++ behind)
     begun_one txid =
         let e = h.begun txid in
-        let c = count_push txid fates (ended_at cut d.tick how w) in
+        let c = count_push txid fates (ended_at d.tick how w) in
         let s = tally-split txid before behind w in omega arith
 
     one_less : (txid : ℕ) → tally txid (before ++ behind) ≤ 1
@@ -154,42 +156,42 @@ module _ (t : Topology) (cut : Cut) (d : Desk) (fates : List Attempt) (before be
     fewer = let f = h.few in let l = length-split before behind w in omega arith
 
     -- it is the last one of its transaction that was begun
-    tried_all : attempts_of w.root.txid d.attempts ≡ length (attempt_numbers w.root.txid (fates ++ ended_at cut d.tick how w ∷ []))
+    tried_all : attempts_of w.root.txid d.attempts ≡ length (attempt_numbers w.root.txid (fates ++ ended_at d.tick how w ∷ []))
     tried_all =
         let n = itself.number in
-        let c = count_push w.root.txid fates (ended_at cut d.tick how w) in
+        let c = count_push w.root.txid fates (ended_at d.tick how w) in
         let i = own-itself w.root.txid w.root.txid refl in
         let x = next in omega arith
 
-    goes_after : (e : Option ℕ) → e ≡ d.exhausted → or_else e (last_try t cut (ended_at cut d.tick how w)) ≡ None → (txid : ℕ) → d.committed < txid → tally txid (before ++ behind) ≡ 0
+    goes_after : (e : Option ℕ) → e ≡ d.exhausted → or_else e (last_try t cut (ended_at d.tick how w)) ≡ None → (txid : ℕ) → d.committed < txid → tally txid (before ++ behind) ≡ 0
         → attempts_of txid d.attempts < t.attempts
     goes_after (Some x) same none txid later free = absurd (some_none x none)
     goes_after None same none txid later free =
         elim (cases_eq w.root.txid txid) [
-          | inl on ↦ subst (λ (k : ℕ). attempts_of k d.attempts < t.attempts) on (let l = last_none t cut (ended_at cut d.tick how w) none in let n = itself.number in omega arith)
+          | inl on ↦ subst (λ (k : ℕ). attempts_of k d.attempts < t.attempts) on (let l = last_none t cut (ended_at d.tick how w) none in let n = itself.number in omega arith)
           | inr off ↦ h.goes_on (sym same) txid later (let s = tally-split txid before behind w in let o = own-other txid w.root.txid off in omega arith)
         ]
 
-    ran_after : (e : Option ℕ) → e ≡ d.exhausted → (txid : ℕ) → or_else e (last_try t cut (ended_at cut d.tick how w)) ≡ Some txid
-        → (length (attempt_numbers txid (fates ++ ended_at cut d.tick how w ∷ [])) ≡ t.attempts) × (d.committed < txid)
+    ran_after : (e : Option ℕ) → e ≡ d.exhausted → (txid : ℕ) → or_else e (last_try t cut (ended_at d.tick how w)) ≡ Some txid
+        → (length (attempt_numbers txid (fates ++ ended_at d.tick how w ∷ [])) ≡ t.attempts) × (d.committed < txid)
     ran_after (Some x) same txid is =
         let r = h.ran_out txid (sym same ∙ is) in
         let b = begun_one txid in
-        let c = count_push txid fates (ended_at cut d.tick how w) in
+        let c = count_push txid fates (ended_at d.tick how w) in
         let m = h.most txid in
         (omega arith, r.1)
     ran_after None same txid is =
-        let l = last_some t cut (ended_at cut d.tick how w) txid is in
+        let l = last_some t cut (ended_at d.tick how w) txid is in
         let n = itself.number in
         let m = h.most w.root.txid in
         let x = tried_all in
-        let all : length (attempt_numbers w.root.txid (fates ++ ended_at cut d.tick how w ∷ [])) ≡ t.attempts = omega arith in
+        let all : length (attempt_numbers w.root.txid (fates ++ ended_at d.tick how w ∷ [])) ≡ t.attempts = omega arith in
         let after = itself.later in
-        (subst (λ (k : ℕ). length (attempt_numbers k (fates ++ ended_at cut d.tick how w ∷ [])) ≡ t.attempts) l.0 all, omega arith)
+        (subst (λ (k : ℕ). length (attempt_numbers k (fates ++ ended_at d.tick how w ∷ [])) ≡ t.attempts) l.0 all, omega arith)
 
     -- an attempt ends, without a commit
     pub holds_end : is_committed how ≡ false → (IsTrue (is_failed_commit how) → w.root.txid ≡ d.committed + 1)
-        → Holds t cut (record d { pending = before ++ behind; exhausted = or_else d.exhausted (last_try t cut (ended_at cut d.tick how w)) }) (fates ++ ended_at cut d.tick how w ∷ [])
+        → Holds t cut (record d { pending = before ++ behind; exhausted = or_else d.exhausted (last_try t cut (ended_at d.tick how w)) }) (fates ++ ended_at d.tick how w ∷ [])
     holds_end is failed = record {
       told = told_one false is (λ on. absurd (elsewhere on)) failed;
       begun = begun_one;
@@ -206,7 +208,7 @@ module _ (t : Topology) (cut : Cut) (d : Desk) (fates : List Attempt) (before be
 
     -- the attempt of the next transaction is committed
     pub holds_commit : is_committed how ≡ true → w.root.txid ≡ d.committed + 1 → d.exhausted ≡ None
-        → Holds t cut (record d { pending = before ++ behind; committed = d.committed + 1; out = false }) (fates ++ ended_at cut d.tick how w ∷ [])
+        → Holds t cut (record d { pending = before ++ behind; committed = d.committed + 1; out = false }) (fates ++ ended_at d.tick how w ∷ [])
     holds_commit is turn none = record {
       told = told_one true is (λ on. turn) (λ fell. turn);
       begun = begun_one;
@@ -226,6 +228,7 @@ module _ (t : Topology) (cut : Cut) (d : Desk) (fates : List Attempt) (before be
           later = (let l = both.0.later in let o : v.root.txid ≢ d.committed + 1 = (λ same. both.1 (same ∙ sym turn)) in omega arith);
           there = both.0.there;
           near = (let n = both.0.near in omega arith);
+          records = both.0.records;
           starts = both.0.starts;
           closed = both.0.closed;
         }
@@ -249,18 +252,20 @@ holds_tick t cut d fates h = record {
       later = is.later;
       there = is.there;
       near = is.near;
+      records = is.records;
       starts = (let s = is.starts in omega arith);
       closed = is.closed;
     }
 
-module _ (t : Topology) (cut : Cut) (d : Desk) (fates : List Attempt) (root : Root) (h : Holds t cut d fates) (none : d.exhausted ≡ None) (free : tally root.txid d.pending ≡ 0)
-    (next_one : root.attempt ≡ attempts_of root.txid d.attempts + 1) (allowed : root.attempt ≤ t.attempts) (room : length d.pending < t.pending) (after : d.committed < root.txid)
-    (there : root.txid ≤ batch_count (length cut.records) cut.size) (near : root.txid ≤ d.committed + t.pending) where
+module _ (t : Topology) (cut : Cut) (d : Desk) (fates : List Attempt) (fresh : Wait) (h : Holds t cut d fates) (none : d.exhausted ≡ None) (free : tally fresh.root.txid d.pending ≡ 0)
+    (next_one : fresh.root.attempt ≡ attempts_of fresh.root.txid d.attempts + 1) (allowed : fresh.root.attempt ≤ t.attempts) (room : length d.pending < t.pending) (after : d.committed < fresh.root.txid)
+    (there : fresh.root.txid ≤ batch_count (length cut.records) cut.size) (near : fresh.root.txid ≤ d.committed + t.pending)
+    (records : fresh.spans ≡ batch_spans (length cut.records) cut.size fresh.root.txid) (now : fresh.start ≡ d.tick) (timed : fresh.settled ≡ None) where
+  abbrev root : Root
+  root = fresh.root
+
   abbrev counts : Counts
   counts = fin_map.insert d.attempts root.txid root.attempt
-
-  abbrev fresh : Wait
-  fresh = record { root = root; start = d.tick; settled = None }
 
   tally_fresh : (txid : ℕ) → tally txid (d.pending ++ fresh ∷ []) ≡ tally txid d.pending + own txid root.txid
   tally_fresh txid = let e = weigh-append (λ (v : Wait). own txid v.root.txid) d.pending (fresh ∷ []) in omega arith
@@ -314,6 +319,7 @@ module _ (t : Topology) (cut : Cut) (d : Desk) (fates : List Attempt) (root : Ro
     later = both.0.later;
     there = both.0.there;
     near = both.0.near;
+    records = both.0.records;
     starts = both.0.starts;
     closed = both.0.closed;
   }
@@ -324,12 +330,13 @@ module _ (t : Topology) (cut : Cut) (d : Desk) (fates : List Attempt) (root : Ro
     later = after;
     there = there;
     near = near;
+    records = records;
     starts = omega arith;
-    closed = λ list is. absurd (none_some list is);
+    closed = λ list is. absurd (none_some list (sym timed ∙ is));
   }
 
-  -- a root begins
-  pub holds_begun : Holds t cut (begun t cut root d) fates
+  -- an attempt begins
+  pub holds_begun : Holds t cut (begun t cut fresh d) fates
   holds_begun = record {
     told = h.told;
     begun = begun_more;

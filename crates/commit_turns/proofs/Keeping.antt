@@ -69,7 +69,7 @@ module _ (t : Topology) (cut : Cut) (d : Desk) (fates : List Attempt) where
       begun = λ txid. kept.begun txid ∙ ap (λ (k : ℕ). length (attempt_numbers txid fates) + k) (has-tally txid d.pending (few txid));
       one = few;
       waits = each-weaker (IsWaiting t cut d) (IsBegun t cut d.attempts d.committed d.tick)
-          (λ w is. record { number = is.number; later = is.later; there = is.there; near = is.near; starts = is.starts; closed = is.closed }) d.pending waits;
+          (λ w is. record { number = is.number; later = is.later; there = is.there; near = is.near; records = is.records; starts = is.starts; closed = is.closed }) d.pending waits;
       few = kept.few;
       most = kept.most;
       goes_on = λ none txid later free. kept.goes_on none txid later (none-has txid d.pending free);
@@ -116,6 +116,7 @@ module _ (t : Topology) (cut : Cut) (d : Desk) (fates : List Attempt) where
         later = both.0.later;
         there = both.0.there;
         near = both.0.near;
+        records = both.0.records;
         starts = both.0.starts;
         not_late = both.1;
         closed = both.0.closed;

@@ -1,7 +1,7 @@
 -- What the laws say.
 use Rattle.std.proofs.Common.{◌≡◌, ℕ, ◌+◌, ◌<◌, ◌≤◌, Bool, true, false, cond, Option, None, Some, List, [], ◌∷◌, ◌++◌, length, refl, sym, ap, subst, ◌∙◌, arith}
 use Rattle.std.specs.Option.{option_to_list}
-use Rattle.std.proofs.lemmas.List.{append-nil, append_assoc, map-append}
+use Rattle.std.proofs.lemmas.List.{append-nil, map-append}
 use Rattle.std.proofs.lemmas.List.Elements.{All-nil}
 use Rattle.tuple_account.specs.acker_core.declared.verdict.Verdict.{Verdict}
 use Rattle.tuple_account.specs.acker_core.declared.verdict.Verdict.TheVariants.{Complete, Fails}
@@ -22,12 +22,12 @@ use Rattle.tuple_account.specs.Histories.{History, Opening, joined, nothing, ope
 use Rattle.tuple_account.specs.Sound.{is_about}
 use Rattle.state_parts.specs.declared.answer.CommitOutcome.{CommitOutcome}
 use Rattle.commit_turns.specs.declared.wait.Wait.{Wait}
-use Rattle.commit_turns.specs.Account.{desk_of, ends_of, rows_in}
+use Rattle.commit_turns.specs.Account.{desk_of, ends_of}
 use Rattle.commit_turns.specs.Desks.{Desk, first_desk, timed_of}
 use Rattle.commit_turns.specs.Kept.{IsKept, IsWaiting}
-use Rattle.commit_turns.specs.Outcomes.{Begin, IsOutcome, hears}
-use Rattle.commit_turns.specs.Turns.{begun, complete_timed, decided, end_timed, heard, is_closed, next_root, ordered, turned}
-use Rattle.commit_turns.proofs.Accounting.{HasBooks, decide_books, turn_books}
+use Rattle.commit_turns.specs.Outcomes.{Begin, IsOutcome, hears, roots_begun}
+use Rattle.commit_turns.specs.Turns.{begun, complete_timed, decided, end_timed, heard, is_closed, ordered, turned, next_wait}
+use Rattle.commit_turns.proofs.Accounting.{HasBooks, decide_books, turn_books, begun_push}
 use Rattle.commit_turns.proofs.Booking.{IsNumbered, is_root, numbered_begun}
 use Rattle.commit_turns.proofs.Deciding.{going_decided}
 use Rattle.commit_turns.proofs.Fitting.{books_of, fits_of, roots_of}
@@ -36,7 +36,7 @@ use Rattle.commit_turns.proofs.Keeping.{IsGoing, going, kept_of}
 use Rattle.commit_turns.proofs.Lists.{no_end}
 use Rattle.commit_turns.proofs.Passing.{all_begun, all_turned}
 use Rattle.commit_turns.proofs.Tallies.{attempts-empty}
-use Rattle.commit_turns.proofs.Turning.{begins, going_heard, going_tick, going_turned, next_root_is}
+use Rattle.commit_turns.proofs.Turning.{begins, going_heard, going_tick, going_turned, next_wait_is}
 
 -- ---- what is kept
 
@@ -66,10 +66,10 @@ first_kept t cut valid = record {
     never : (txid : ℕ) → None ≡ Some txid → ⊥
     never txid e = cc
 
-pub first_account : (t : Topology) (cut : Cut) → Fits t (rows_in cut) (desk_of first_desk) (ends_of []) nothing
-first_account t cut =
-    subst (λ (tries : ℕ → ℕ). Fits t (rows_in cut) (record { tick = 0; committed = 0; tries = tries; pending = [] }) [] nothing) (λ i txid. sym (attempts-empty txid) i)
-    (fits_first t (rows_in cut))
+pub first_account : (t : Topology) → Fits t (desk_of first_desk) (ends_of []) nothing
+first_account t =
+    subst (λ (tries : ℕ → ℕ). Fits t (record { tick = 0; committed = 0; tries = tries; pending = [] }) [] nothing) (λ i txid. sym (attempts-empty txid) i)
+    (fits_first t)
 
 module _ (t : Topology) (cut : Cut) (d : Desk) (fates : List Attempt) (valid : IsValid t) (none : d.exhausted ≡ None) (kept : IsKept t cut d fates) where
   pub turn_kept : 0 < cut.size → (verdict : Option Verdict) (ticks : ℕ) → IsKept t cut (turned t cut verdict ticks d).desk (fates ++ (turned t cut verdict ticks d).ended)
@@ -82,43 +82,42 @@ module _ (t : Topology) (cut : Cut) (d : Desk) (fates : List Attempt) (valid : I
 
   -- ---- the account
 
-  module _ (h : History) (fits : Fits t (rows_in cut) (desk_of d) (ends_of fates) h) where
-    pub outcome_fits : (how : CommitOutcome) → IsOutcome t how → Fits t (rows_in cut) (desk_of (decided t cut how d).desk) (ends_of (fates ++ (decided t cut how d).ended)) h
+  module _ (h : History) (fits : Fits t (desk_of d) (ends_of fates) h) where
+    pub outcome_fits : (how : CommitOutcome) → IsOutcome t how → Fits t (desk_of (decided t cut how d).desk) (ends_of (fates ++ (decided t cut how d).ended)) h
     outcome_fits how is =
         fits_of t cut (decided t cut how d).desk (fates ++ (decided t cut how d).ended) h (going_decided t cut d fates (going t cut d fates kept) none how)
-        (decide_books t cut d fates (going t cut d fates kept) none (roots_of h.begun) h.heard (books_of t cut d fates h fits) how is) fits.rows
+        (decide_books t cut d fates (going t cut d fates kept) none (roots_of h.begun) h.heard (books_of t cut d fates h fits) how is)
 
-    new_roots : (verdict : Option Verdict) (ticks : ℕ) (openings : List Opening) → Begin t cut openings (turned t cut verdict ticks d).begun
-        → roots_of h.begun ++ (turned t cut verdict ticks d).begun ≡ roots_of (h.begun ++ openings)
+    new_roots : (verdict : Option Verdict) (ticks : ℕ) (openings : List Opening) → Begin openings (turned t cut verdict ticks d).begun
+        → roots_of h.begun ++ roots_begun (turned t cut verdict ticks d).begun ≡ roots_of (h.begun ++ openings)
     new_roots verdict ticks openings begin =
-        ap (λ (rs : List Root). roots_of h.begun ++ rs) (sym begin.same) ∙ sym (map-append (λ (o : Opening). o.begun.root) h.begun openings)
+        ap (λ (rs : List Root). roots_of h.begun ++ rs) (sym begin) ∙ sym (map-append (λ (o : Opening). o.begun.root) h.begun openings)
 
-    pub turn_fits : (verdict : Option Verdict) (ticks : ℕ) (openings : List Opening) → Begin t cut openings (turned t cut verdict ticks d).begun
+    pub turn_fits : (verdict : Option Verdict) (ticks : ℕ) (openings : List Opening) → Begin openings (turned t cut verdict ticks d).begun
         → ((root : Root) → weigh (is_about root) (h.heard ++ option_to_list verdict) ≤ weigh (opens root) h.begun)
-        → Fits t (rows_in cut) (desk_of (turned t cut verdict ticks d).desk) (ends_of (fates ++ (turned t cut verdict ticks d).ended)) (joined h (hears verdict openings))
+        → Fits t (desk_of (turned t cut verdict ticks d).desk) (ends_of (fates ++ (turned t cut verdict ticks d).ended)) (joined h (hears verdict openings))
     turn_fits verdict ticks openings begin quiet =
         let few : (root : Root) → weigh (is_about root) (h.heard ++ option_to_list verdict) ≤ weigh (is_root root) (roots_of h.begun) =
         (λ root. subst (λ (n : ℕ). weigh (is_about root) (h.heard ++ option_to_list verdict) ≤ n) (sym (weigh-map (is_root root) (λ (o : Opening). o.begun.root) h.begun)) (quiet root)) in
         let both = turn_books t cut valid d fates none (going t cut d fates kept) (roots_of h.begun) h.heard (books_of t cut d fates h fits) verdict ticks few in
         fits_of t cut (turned t cut verdict ticks d).desk (fates ++ (turned t cut verdict ticks d).ended) (joined h (hears verdict openings)) both.0
         (subst (λ (rs : List Root). HasBooks t (turned t cut verdict ticks d).desk (fates ++ (turned t cut verdict ticks d).ended) rs (h.heard ++ option_to_list verdict)) (new_roots verdict ticks openings begin) both.1)
-        (each-append (λ (o : Opening). o.begun.rows ≡ rows_in cut o.begun.root.txid) h.begun openings fits.rows begin.rows)
 
     -- ---- no root begins twice
 
-    record IsFilling (ended : List Attempt) (e : Desk) (new : List Root) : Type 0 where
+    record IsFilling (ended : List Attempt) (e : Desk) (new : List Wait) : Type 0 where
       still : IsGoing t cut e ended
       none_out : e.exhausted ≡ None
-      numbered : IsNumbered e.attempts (roots_of h.begun ++ new)
+      numbered : IsNumbered e.attempts (roots_of h.begun ++ roots_begun new)
 
-    one_begins : (ended : List Attempt) (e : Desk) (new : List Root) (root : Root) → next_root t cut e ≡ Some root → IsFilling ended e new → IsFilling ended (begun t cut root e) (new ++ root ∷ [])
-    one_begins ended e new root some filling =
-        let both = begins t cut valid ended e new root some (filling.still, filling.none_out) in
+    one_begins : (ended : List Attempt) (e : Desk) (new : List Wait) (w : Wait) → next_wait t cut e ≡ Some w → IsFilling ended e new → IsFilling ended (begun t cut w e) (new ++ w ∷ [])
+    one_begins ended e new w some filling =
+        let both = begins t cut valid ended e new w some (filling.still, filling.none_out) in
         record {
           still = both.0;
           none_out = both.1;
-          numbered = subst (IsNumbered (begun t cut root e).attempts) (append_assoc (roots_of h.begun) new (root ∷ []))
-              (numbered_begun e.attempts root (next_root_is t cut e filling.still.holds.one root some).next (roots_of h.begun ++ new) filling.numbered);
+          numbered = subst (IsNumbered (begun t cut w e).attempts) (begun_push (roots_of h.begun) new w)
+              (numbered_begun e.attempts w.root (next_wait_is t cut e filling.still.holds.one w some).root.next (roots_of h.begun ++ roots_begun new) filling.numbered);
         }
 
     -- a verdict begins nothing
@@ -136,10 +135,10 @@ module _ (t : Topology) (cut : Cut) (d : Desk) (fates : List Attempt) (valid : I
         by None = refl
         by (Some w) = refl
 
-    new_numbered : (verdict : Option Verdict) (ticks : ℕ) → IsNumbered (turned t cut verdict ticks d).desk.attempts (roots_of h.begun ++ (turned t cut verdict ticks d).begun)
+    new_numbered : (verdict : Option Verdict) (ticks : ℕ) → IsNumbered (turned t cut verdict ticks d).desk.attempts (roots_of h.begun ++ roots_begun (turned t cut verdict ticks d).begun)
     new_numbered verdict ticks =
         all_turned t cut verdict ticks d fates
-        (λ e ended. IsGoing t cut e ended × IsNumbered e.attempts (roots_of h.begun)) (λ e ended new. IsNumbered e.attempts (roots_of h.begun ++ new)) (
+        (λ e ended. IsGoing t cut e ended × IsNumbered e.attempts (roots_of h.begun)) (λ e ended new. IsNumbered e.attempts (roots_of h.begun ++ roots_begun new)) (
           going_heard t cut d fates (going t cut d fates kept) none verdict,
           subst (λ (c : Counts). IsNumbered c (roots_of h.begun)) (sym (heard_attempts verdict)) (books_of t cut d fates h fits).numbered,
         )
@@ -148,7 +147,7 @@ module _ (t : Topology) (cut : Cut) (d : Desk) (fates : List Attempt) (valid : I
         (λ e ended still_none both. (all_begun t cut (IsFilling ended) (one_begins ended) t.pending (ordered t cut e) []
         (record { still = going_out t cut e ended (ordered t cut e).out both.0; none_out = still_none; numbered = subst (IsNumbered e.attempts) (sym (append-nil (roots_of h.begun))) both.1 })).numbered)
 
-    pub turn_roots : (verdict : Option Verdict) (ticks : ℕ) (openings : List Opening) → Begin t cut openings (turned t cut verdict ticks d).begun
+    pub turn_roots : (verdict : Option Verdict) (ticks : ℕ) (openings : List Opening) → Begin openings (turned t cut verdict ticks d).begun
         → (root : Root) → weigh (opens root) h.begun + weigh (opens root) openings ≤ 1
     turn_roots verdict ticks openings begin root =
         let n = new_numbered verdict ticks root in

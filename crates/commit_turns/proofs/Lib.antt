@@ -17,3 +17,4 @@ mod Lowest
 mod LawLemmas
 mod Ordered
 mod Examples
+pub mod Carrying

@@ -1,5 +1,6 @@
 -- After a turn an attempt of the lowest transaction that is not committed is pending.
 use Rattle.std.proofs.Common.{◌≡◌, ◌≢◌, ℕ, zero, suc, ◌+◌, ◌-◌, ◌<◌, ◌≤◌, Bool, true, false, cond, not, nat_lt, Option, None, Some, List, [], ◌∷◌, length, refl, sym, ap, ◌∙◌, arith}
+use Rattle.std.specs.Option.{option_map}
 use Rattle.std.specs.List.{find, range_with_len}
 use Rattle.std.proofs.lemmas.Bool.{le-ltb, lt-ltb, ltb-false}
 use Rattle.std.proofs.lemmas.List.{length-append}
@@ -14,7 +15,7 @@ use Rattle.trident_batches.specs.Batches.{Cut, batch_count}
 use Rattle.commit_turns.specs.declared.wait.Wait.{Wait}
 use Rattle.commit_turns.specs.Desks.{Desk, has_txid}
 use Rattle.commit_turns.specs.Kept.{HasLowest}
-use Rattle.commit_turns.specs.Turns.{begun, fill_more, filled, free_txid, next_attempt, next_by, next_root, ordered, turned}
+use Rattle.commit_turns.specs.Turns.{begun, fill_more, filled, free_txid, fresh, next_attempt, next_by, next_root, next_wait, ordered, turned}
 use Rattle.commit_turns.proofs.Counting.{few_within}
 use Rattle.commit_turns.proofs.Going.{going_out}
 use Rattle.commit_turns.proofs.Holding.{IsBegun}
@@ -32,22 +33,22 @@ none_some x e = cc
 module _ (t : Topology) (cut : Cut) where
   -- ---- filling goes on until no root begins
 
-  full : (d : Desk) → t.pending ≤ length d.pending → next_root t cut d ≡ None
-  full d many = ap (λ (b : Bool). cond b (next_by t cut d (free_txid t cut d)) None) (le-ltb (length d.pending) t.pending many)
+  full : (d : Desk) → t.pending ≤ length d.pending → next_wait t cut d ≡ None
+  full d many = ap (λ (b : Bool). option_map (fresh t cut d) (cond b (next_by t cut d (free_txid t cut d)) None)) (le-ltb (length d.pending) t.pending many)
 
-  pub fills_up : (places : ℕ) (d : Desk) → t.pending ≤ length d.pending + places → next_root t cut (filled t cut places d).desk ≡ None
+  pub fills_up : (places : ℕ) (d : Desk) → t.pending ≤ length d.pending + places → next_wait t cut (filled t cut places d).desk ≡ None
   fills_up zero d many = full d (omega arith)
-  fills_up (suc places) d many = by (next_root t cut d) refl (λ root more. fills_up places (begun t cut root d) more)
+  fills_up (suc places) d many = by (next_wait t cut d) refl (λ w more. fills_up places (begun t cut w d) more)
     where
-      by : (o : Option Root) → next_root t cut d ≡ o
-          → ((root : Root) → t.pending ≤ length (begun t cut root d).pending + places → next_root t cut (filled t cut places (begun t cut root d)).desk ≡ None)
-          → next_root t cut (fill_more t cut (filled t cut places) d o).desk ≡ None
+      by : (o : Option Wait) → next_wait t cut d ≡ o
+          → ((w : Wait) → t.pending ≤ length (begun t cut w d).pending + places → next_wait t cut (filled t cut places (begun t cut w d)).desk ≡ None)
+          → next_wait t cut (fill_more t cut (filled t cut places) d o).desk ≡ None
       by None none later = none
-      by (Some root) some later = later root (let l = length-append d.pending (record { root = root; start = d.tick; settled = None } ∷ []) in omega arith)
+      by (Some w) some later = later w (let l = length-append d.pending (w ∷ []) in omega arith)
 
   -- ---- where no root begins
 
-  module _ (valid : IsValid t) (d : Desk) (fates : List Attempt) (going : IsGoing t cut d fates) (none : d.exhausted ≡ None) (more : d.committed < batch_count (length cut.records) cut.size) (stuck : next_root t cut d ≡ None) where
+  module _ (valid : IsValid t) (d : Desk) (fates : List Attempt) (going : IsGoing t cut d fates) (none : d.exhausted ≡ None) (more : d.committed < batch_count (length cut.records) cut.size) (stuck : next_wait t cut d ≡ None) where
     -- the lowest one would be next
     would_be : tally (d.committed + 1) d.pending ≡ 0 → has_txid (d.committed + 1) d.pending ≡ false → free_txid t cut d ≡ Some (d.committed + 1)
     would_be free off = by (batch_count (length cut.records) cut.size - d.committed) refl
@@ -70,7 +71,7 @@ module _ (t : Topology) (cut : Cut) where
         by true on =
             let e : next_root t cut d ≡ next_by t cut d (free_txid t cut d) = ap (λ (b : Bool). cond b (next_by t cut d (free_txid t cut d)) None) on in
             let f : next_by t cut d (free_txid t cut d) ≡ next_by t cut d (Some (d.committed + 1)) = ap (next_by t cut d) (would_be free off) in
-            absurd (some_none (record { txid = d.committed + 1; attempt = attempts_of (d.committed + 1) d.attempts + 1 }) (sym (may_begin free) ∙ sym f ∙ sym e ∙ stuck))
+            absurd (some_none (fresh t cut d (record { txid = d.committed + 1; attempt = attempts_of (d.committed + 1) d.attempts + 1 })) (sym (ap (option_map (fresh t cut d)) (e ∙ f ∙ may_begin free)) ∙ stuck))
         by false off_room = ltb-false (length d.pending) t.pending off_room
 
     within : (w : Wait) → IsBegun t cut d.attempts d.committed d.tick w × (w.root.txid ≢ d.committed + 1) → (d.committed + 2 ≤ w.root.txid) × (w.root.txid < d.committed + 2 + (t.pending - 1))

@@ -1,6 +1,7 @@
 -- The commit that a turn orders is the one whose outcome is told next.
 use Rattle.std.proofs.Common.{◌≡◌, ℕ, ◌+◌, ◌==◌, Bool, true, false, cond, Option, None, Some, List, [], ◌∷◌, ◌++◌, refl, sym, ap, ◌∙◌}
 use Rattle.std.specs.Prelude.{is_some}
+use Rattle.std.specs.Option.{option_map}
 use Rattle.std.specs.List.{find}
 use Rattle.std.proofs.lemmas.Bool.{and_right}
 use Rattle.tuple_account.specs.acker_core.declared.verdict.Verdict.{Verdict}
@@ -12,7 +13,7 @@ use Rattle.tuple_account.specs.topology_plan.Topology.{Topology}
 use Rattle.trident_batches.specs.Batches.{Cut}
 use Rattle.commit_turns.specs.declared.wait.Wait.{Wait}
 use Rattle.commit_turns.specs.Desks.{Desk, Progress, timed_of}
-use Rattle.commit_turns.specs.Turns.{begun, complete_timed, end_timed, filled, heard, is_closed, next_root, next_to_commit, ordered, passed, turned, turned_by}
+use Rattle.commit_turns.specs.Turns.{begun, complete_timed, end_timed, filled, fresh, heard, is_closed, next_root, next_to_commit, next_wait, ordered, passed, turned, turned_by}
 use Rattle.commit_turns.proofs.Deciding.{is_next}
 use Rattle.commit_turns.proofs.Passing.{all_begun, all_ticks}
 
@@ -27,17 +28,31 @@ module _ (t : Topology) (cut : Cut) where
   -- ---- roots that begin are not settled
 
   module _ (d : Desk) where
-    record IsSame (e : Desk) (new : List Root) : Type 0 where
+    record IsSame (e : Desk) (new : List Wait) : Type 0 where
       next : next_to_commit t cut e ≡ next_to_commit t cut d
       out : e.out ≡ is_some (next_to_commit t cut d)
 
-    stays : (e : Desk) (new : List Root) (root : Root) → next_root t cut e ≡ Some root → IsSame e new → IsSame (begun t cut root e) (new ++ root ∷ [])
-    stays e new root some same = record {
-      next = find_push (is_next e) e.pending (record { root = root; start = e.tick; settled = None }) (and_right (root.txid == e.committed + 1) false refl) ∙ same.next;
+    -- an attempt that begins is timed
+    is_timed : (e : Desk) (w : Wait) → next_wait t cut e ≡ Some w → is_some w.settled ≡ false
+    is_timed e w some = by (next_root t cut e) some
+      where
+        never : None ≡ Some w → ⊥
+        never e = cc
+
+        same : (v : Wait) → Some v ≡ Some w → v ≡ w
+        same v is = cc
+
+        by : (o : Option Root) → option_map (fresh t cut e) o ≡ Some w → is_some w.settled ≡ false
+        by None none = absurd (never none)
+        by (Some root) is = sym (ap (λ (v : Wait). is_some v.settled) (same (fresh t cut e root) is))
+
+    stays : (e : Desk) (new : List Wait) (w : Wait) → next_wait t cut e ≡ Some w → IsSame e new → IsSame (begun t cut w e) (new ++ w ∷ [])
+    stays e new w some same = record {
+      next = find_push (is_next e) e.pending w (and_right (w.root.txid == e.committed + 1) (is_some w.settled) (is_timed e w some)) ∙ same.next;
       out = same.out;
     }
 
-    after_fill : IsSame (filled t cut t.pending (ordered t cut d)).desk (filled t cut t.pending (ordered t cut d)).roots
+    after_fill : IsSame (filled t cut t.pending (ordered t cut d)).desk (filled t cut t.pending (ordered t cut d)).begun
     after_fill = all_begun t cut IsSame stays t.pending (ordered t cut d) [] (record { next = refl; out = refl })
 
   -- ---- until then no commit is ordered

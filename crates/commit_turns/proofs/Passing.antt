@@ -4,13 +4,12 @@ use Rattle.std.proofs.lemmas.List.{append-nil, append_assoc}
 use Rattle.attempt_fates.specs.declared.fates.Attempt.{Attempt}
 use Rattle.attempt_fates.specs.declared.fates.End.TheVariants as end
 use Rattle.tuple_account.specs.acker_core.declared.verdict.Verdict.{Verdict}
-use Rattle.tuple_account.specs.storm_values.declared.value.Root.{Root}
 use Rattle.tuple_account.specs.storm_values.Lines.{first_some}
 use Rattle.tuple_account.specs.topology_plan.Topology.{Topology}
 use Rattle.trident_batches.specs.Batches.{Cut}
 use Rattle.commit_turns.specs.declared.wait.Wait.{Wait}
 use Rattle.commit_turns.specs.Desks.{Desk, ended_at, is_late, still}
-use Rattle.commit_turns.specs.Turns.{begun, fill_more, filled, has_no_tick, heard, last_try, late_at, next_root, one_tick, ordered, passed, ticked, turned, turned_by}
+use Rattle.commit_turns.specs.Turns.{begun, fill_more, filled, has_no_tick, heard, last_try, late_at, one_tick, ordered, passed, ticked, turned, turned_by, next_wait}
 use Rattle.commit_turns.proofs.Holding.{or_else}
 
 module _ (t : Topology) (cut : Cut) where
@@ -34,25 +33,25 @@ module _ (t : Topology) (cut : Cut) where
 
   module _ (tick : ℕ) (P : List Wait → Option ℕ → List Attempt → Type 0)
       (step : (before behind : List Wait) (w : Wait) (e : Option ℕ) (done : List Attempt) → is_late t.buckets tick w ≡ true → P (before ++ w ∷ behind) e done
-      → P (before ++ behind) (or_else e (last_try t cut (ended_at cut tick end.TimedOut w))) (done ++ ended_at cut tick end.TimedOut w ∷ [])) where
+      → P (before ++ behind) (or_else e (last_try t cut (ended_at tick end.TimedOut w))) (done ++ ended_at tick end.TimedOut w ∷ [])) where
     pub all_late : (before rest : List Wait) (e : Option ℕ) (done : List Attempt) → P (before ++ rest) e done
         → P (before ++ filter (λ (w : Wait). not (is_late t.buckets tick w)) rest) (or_all e (late_at t cut tick rest)) (done ++ late_at t cut tick rest)
     all_late before [] e done p = subst (P (before ++ []) e) (sym (append-nil done)) p
     all_late before (w ∷ rest) e done p =
-        by (is_late t.buckets tick w) refl (λ q. all_late before rest (or_else e (last_try t cut (ended_at cut tick end.TimedOut w))) (done ++ ended_at cut tick end.TimedOut w ∷ []) q)
+        by (is_late t.buckets tick w) refl (λ q. all_late before rest (or_else e (last_try t cut (ended_at tick end.TimedOut w))) (done ++ ended_at tick end.TimedOut w ∷ []) q)
         (λ q. all_late (before ++ w ∷ []) rest e done q)
       where
         by : (b : Bool) → is_late t.buckets tick w ≡ b
-            → (P (before ++ rest) (or_else e (last_try t cut (ended_at cut tick end.TimedOut w))) (done ++ ended_at cut tick end.TimedOut w ∷ [])
-            → P (before ++ filter (λ (v : Wait). not (is_late t.buckets tick v)) rest) (or_all (or_else e (last_try t cut (ended_at cut tick end.TimedOut w))) (late_at t cut tick rest))
-            ((done ++ ended_at cut tick end.TimedOut w ∷ []) ++ late_at t cut tick rest))
+            → (P (before ++ rest) (or_else e (last_try t cut (ended_at tick end.TimedOut w))) (done ++ ended_at tick end.TimedOut w ∷ [])
+            → P (before ++ filter (λ (v : Wait). not (is_late t.buckets tick v)) rest) (or_all (or_else e (last_try t cut (ended_at tick end.TimedOut w))) (late_at t cut tick rest))
+            ((done ++ ended_at tick end.TimedOut w ∷ []) ++ late_at t cut tick rest))
             → (P ((before ++ w ∷ []) ++ rest) e done → P ((before ++ w ∷ []) ++ filter (λ (v : Wait). not (is_late t.buckets tick v)) rest) (or_all e (late_at t cut tick rest)) (done ++ late_at t cut tick rest))
             → P (before ++ cond (not b) (w ∷ filter (λ (v : Wait). not (is_late t.buckets tick v)) rest) (filter (λ (v : Wait). not (is_late t.buckets tick v)) rest))
-            (or_all e (map (ended_at cut tick end.TimedOut) (cond b (w ∷ filter (is_late t.buckets tick) rest) (filter (is_late t.buckets tick) rest))))
-            (done ++ map (ended_at cut tick end.TimedOut) (cond b (w ∷ filter (is_late t.buckets tick) rest) (filter (is_late t.buckets tick) rest)))
+            (or_all e (map (ended_at tick end.TimedOut) (cond b (w ∷ filter (is_late t.buckets tick) rest) (filter (is_late t.buckets tick) rest))))
+            (done ++ map (ended_at tick end.TimedOut) (cond b (w ∷ filter (is_late t.buckets tick) rest) (filter (is_late t.buckets tick) rest)))
         by true late ends stays =
-            subst (P (before ++ filter (λ (v : Wait). not (is_late t.buckets tick v)) rest) (or_all (or_else e (last_try t cut (ended_at cut tick end.TimedOut w))) (late_at t cut tick rest)))
-            (append_assoc done (ended_at cut tick end.TimedOut w ∷ []) (late_at t cut tick rest)) (ends (step before rest w e done late p))
+            subst (P (before ++ filter (λ (v : Wait). not (is_late t.buckets tick v)) rest) (or_all (or_else e (last_try t cut (ended_at tick end.TimedOut w))) (late_at t cut tick rest)))
+            (append_assoc done (ended_at tick end.TimedOut w ∷ []) (late_at t cut tick rest)) (ends (step before rest w e done late p))
         by false early ends stays =
             subst (λ (ws : List Wait). P ws (or_all e (late_at t cut tick rest)) (done ++ late_at t cut tick rest))
             (append_assoc before (w ∷ []) (filter (λ (v : Wait). not (is_late t.buckets tick v)) rest))
@@ -74,27 +73,27 @@ module _ (t : Topology) (cut : Cut) where
         by false goes later =
             subst (P (ticked t cut n (one_tick t cut d).desk).desk) (append_assoc fates (one_tick t cut d).ended (ticked t cut n (one_tick t cut d).desk).ended) (later (step d fates goes p))
 
-  -- ---- roots that begin
+  -- ---- attempts that begin
 
-  module _ (P : Desk → List Root → Type 0) (step : (d : Desk) (roots : List Root) (root : Root) → next_root t cut d ≡ Some root → P d roots → P (begun t cut root d) (roots ++ root ∷ [])) where
-    pub all_begun : (places : ℕ) (d : Desk) (roots : List Root) → P d roots → P (filled t cut places d).desk (roots ++ (filled t cut places d).roots)
-    all_begun zero d roots p = subst (P d) (sym (append-nil roots)) p
-    all_begun (suc places) d roots p = by (next_root t cut d) refl (λ root q. all_begun places (begun t cut root d) (roots ++ root ∷ []) q)
+  module _ (P : Desk → List Wait → Type 0) (step : (d : Desk) (new : List Wait) (w : Wait) → next_wait t cut d ≡ Some w → P d new → P (begun t cut w d) (new ++ w ∷ [])) where
+    pub all_begun : (places : ℕ) (d : Desk) (new : List Wait) → P d new → P (filled t cut places d).desk (new ++ (filled t cut places d).begun)
+    all_begun zero d new p = subst (P d) (sym (append-nil new)) p
+    all_begun (suc places) d new p = by (next_wait t cut d) refl (λ w q. all_begun places (begun t cut w d) (new ++ w ∷ []) q)
       where
-        by : (o : Option Root) → next_root t cut d ≡ o
-            → ((root : Root) → P (begun t cut root d) (roots ++ root ∷ []) → P (filled t cut places (begun t cut root d)).desk ((roots ++ root ∷ []) ++ (filled t cut places (begun t cut root d)).roots))
-            → P (fill_more t cut (filled t cut places) d o).desk (roots ++ (fill_more t cut (filled t cut places) d o).roots)
-        by None none later = subst (P d) (sym (append-nil roots)) p
-        by (Some root) some later =
-            subst (P (filled t cut places (begun t cut root d)).desk) (append_assoc roots (root ∷ []) (filled t cut places (begun t cut root d)).roots) (later root (step d roots root some p))
+        by : (o : Option Wait) → next_wait t cut d ≡ o
+            → ((w : Wait) → P (begun t cut w d) (new ++ w ∷ []) → P (filled t cut places (begun t cut w d)).desk ((new ++ w ∷ []) ++ (filled t cut places (begun t cut w d)).begun))
+            → P (fill_more t cut (filled t cut places) d o).desk (new ++ (fill_more t cut (filled t cut places) d o).begun)
+        by None none later = subst (P d) (sym (append-nil new)) p
+        by (Some w) some later =
+            subst (P (filled t cut places (begun t cut w d)).desk) (append_assoc new (w ∷ []) (filled t cut places (begun t cut w d)).begun) (later w (step d new w some p))
 
   -- ---- a turn
 
-  module _ (verdict : Option Verdict) (ticks : ℕ) (d : Desk) (fates : List Attempt) (P : Desk → List Attempt → Type 0) (Q : Desk → List Attempt → List Root → Type 0)
+  module _ (verdict : Option Verdict) (ticks : ℕ) (d : Desk) (fates : List Attempt) (P : Desk → List Attempt → Type 0) (Q : Desk → List Attempt → List Wait → Type 0)
       (hear : P (heard t cut verdict d).desk (fates ++ (heard t cut verdict d).ended))
       (step : (e : Desk) (ended : List Attempt) → has_no_tick t cut e ≡ false → P e ended → P (one_tick t cut e).desk (ended ++ (one_tick t cut e).ended))
       (stop : (e : Desk) (ended : List Attempt) (txid : ℕ) → e.exhausted ≡ Some txid → P e ended → Q e ended [])
-      (fill : (e : Desk) (ended : List Attempt) → e.exhausted ≡ None → P e ended → Q (filled t cut t.pending (ordered t cut e)).desk ended (filled t cut t.pending (ordered t cut e)).roots) where
+      (fill : (e : Desk) (ended : List Attempt) → e.exhausted ≡ None → P e ended → Q (filled t cut t.pending (ordered t cut e)).desk ended (filled t cut t.pending (ordered t cut e)).begun) where
     after_ticks : P (passed t cut ticks (heard t cut verdict d)).desk (fates ++ (passed t cut ticks (heard t cut verdict d)).ended)
     after_ticks =
         subst (P (passed t cut ticks (heard t cut verdict d)).desk) (append_assoc fates (heard t cut verdict d).ended (ticked t cut ticks (heard t cut verdict d).desk).ended)

@@ -9,7 +9,8 @@ use Rattle.std.proofs.lemmas.List.{append-nil, length-map}
 use Rattle.std.proofs.lemmas.List.Elements.{All-filter, recursion_from_All}
 use Rattle.attempt_fates.specs.declared.fates.Attempt.{Attempt}
 use Rattle.attempt_fates.specs.Fates.{IsOfBatch, committed, committed_numbers, committed_txids, is_committed, record_numbers}
-use Rattle.trident_batches.specs.Batches.{batch_count}
+use Rattle.record_spans.specs.Spans.{records_of}
+use Rattle.trident_batches.specs.Batches.{batch_count, first_of, last_of}
 use Rattle.commit_turns.proofs.Lists.{InOrder, in_order_of}
 
 range_append : (a n m : ℕ) → range_with_len a (n + m) ≡ range_with_len a n ++ range_with_len (a + n) m
@@ -44,9 +45,10 @@ module _ (n size : ℕ) (some : 0 < size) where
 
   own : (k : ℕ) (c : Attempt) → IsOfBatch n size c → c.root.txid ≡ k + 1 → record_numbers c ≡ range_with_len (k * size + 1) (min ((k + 1) * size) n + 1 - (k * size + 1))
   own k c of is =
-      let f : c.first ≡ k * size + 1 = of.first ∙ ap (λ (j : ℕ). (j - 1) * size + 1) is ∙ ap (λ (j : ℕ). j * size + 1) (one_less k) in
-      let l : c.last ≡ min ((k + 1) * size) n = of.last ∙ ap (λ (j : ℕ). min (j * size) n) is in
-      λ i. range_with_len (f i) (l i + 1 - f i)
+      let f : first_of size c.root.txid ≡ k * size + 1 = ap (λ (j : ℕ). (j - 1) * size + 1) is ∙ ap (λ (j : ℕ). j * size + 1) (one_less k) in
+      let l : last_of n size c.root.txid ≡ min ((k + 1) * size) n = ap (λ (j : ℕ). min (j * size) n) is in
+      ap records_of of.records ∙ append-nil (range_with_len (first_of size c.root.txid) (last_of n size c.root.txid + 1 - first_of size c.root.txid))
+      ∙ (λ i. range_with_len (f i) (l i + 1 - f i))
     where
       one_less : (k : ℕ) → k + 1 - 1 ≡ k
       one_less k = omega arith

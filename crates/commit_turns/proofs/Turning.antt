@@ -2,6 +2,7 @@
 use Rattle.std.proofs.Common.{◌≡◌, ℕ, ◌+◌, ◌-◌, ◌<◌, ◌≤◌, ◌&&◌, ◌==◌, Bool, true, false, cond, not, nat_lt, Option, None, Some, List, [], ◌∷◌, ◌++◌, length, filter, refl, sym, ap, subst, ◌∙◌, arith, eq-eqb}
 use Rattle.std.specs.Prelude.{is_some}
 use Rattle.std.specs.List.{AllByRecursion, range_with_len}
+use Rattle.std.specs.Option.{option_map}
 use Rattle.std.proofs.lemmas.Bool.{ltb-true, and_from, not-true}
 use Rattle.std.proofs.lemmas.List.{append-nil, append_assoc}
 use Rattle.tuple_account.specs.acker_core.declared.verdict.Verdict.{Verdict}
@@ -9,7 +10,7 @@ use Rattle.tuple_account.specs.acker_core.declared.verdict.Verdict.TheVariants.{
 use Rattle.attempt_fates.specs.declared.fates.Attempt.{Attempt}
 use Rattle.attempt_fates.specs.declared.fates.End.{End}
 use Rattle.attempt_fates.specs.declared.fates.End.TheVariants as end
-use Rattle.attempt_fates.specs.Fates.{is_committed}
+use Rattle.attempt_fates.specs.Fates.{batch_spans, is_committed}
 use Rattle.tuple_account.proofs.counted_items.Each.{each-back}
 use Rattle.replay_pending.specs.InFlight.{attempts_of}
 use Rattle.tuple_account.specs.storm_values.declared.value.Root.{Root}
@@ -20,7 +21,7 @@ use Rattle.trident_batches.specs.Batches.{Cut, batch_count}
 use Rattle.commit_turns.specs.declared.wait.Wait.{Wait}
 use Rattle.commit_turns.specs.Desks.{Desk, ended_at, has_txid, is_late, is_of_root, is_timed, timed_of}
 use Rattle.commit_turns.specs.Kept.{is_failed_commit}
-use Rattle.commit_turns.specs.Turns.{begun, complete_timed, end_timed, filled, free_txid, has_no_tick, heard, is_closed, last_tick, last_try, late_at, next_attempt, next_by, next_root, one_tick, ordered, turned}
+use Rattle.commit_turns.specs.Turns.{begun, complete_timed, end_timed, filled, free_txid, fresh, has_no_tick, heard, is_closed, last_tick, last_try, late_at, next_attempt, next_by, next_root, next_wait, one_tick, ordered, turned}
 use Rattle.commit_turns.proofs.Closing.{closed_on}
 use Rattle.commit_turns.proofs.Going.{going_begun, going_end, going_out, going_settled}
 use Rattle.commit_turns.proofs.Holding.{Holds, holds_end, holds_tick, or_else}
@@ -108,10 +109,10 @@ module _ (t : Topology) (cut : Cut) where
     Ticking ps e done = Holds t cut (record d { tick = d.tick + 1; pending = ps; exhausted = e }) (fates ++ done)
 
     ends_late : (before behind : List Wait) (w : Wait) (e : Option ℕ) (done : List Attempt) → is_late t.buckets (d.tick + 1) w ≡ true → Ticking (before ++ w ∷ behind) e done
-        → Ticking (before ++ behind) (or_else e (last_try t cut (ended_at cut (d.tick + 1) end.TimedOut w))) (done ++ ended_at cut (d.tick + 1) end.TimedOut w ∷ [])
+        → Ticking (before ++ behind) (or_else e (last_try t cut (ended_at (d.tick + 1) end.TimedOut w))) (done ++ ended_at (d.tick + 1) end.TimedOut w ∷ [])
     ends_late before behind w e done late h =
-        subst (Holds t cut (record d { tick = d.tick + 1; pending = before ++ behind; exhausted = or_else e (last_try t cut (ended_at cut (d.tick + 1) end.TimedOut w)) }))
-        (append_assoc fates done (ended_at cut (d.tick + 1) end.TimedOut w ∷ []))
+        subst (Holds t cut (record d { tick = d.tick + 1; pending = before ++ behind; exhausted = or_else e (last_try t cut (ended_at (d.tick + 1) end.TimedOut w)) }))
+        (append_assoc fates done (ended_at (d.tick + 1) end.TimedOut w ∷ []))
         (holds_end t cut (record d { tick = d.tick + 1; exhausted = e }) (fates ++ done) before behind w h end.TimedOut refl (λ on. absurd (never on)))
       where
         never : false ≡ true → ⊥
@@ -195,14 +196,33 @@ module _ (t : Topology) (cut : Cut) where
         by true on e = at (ltb-true (length d.pending) t.pending on) (free_txid t cut d) refl e
         by false off e = absurd (none_some root e)
 
-  module _ (valid : IsValid t) (fates : List Attempt) where
-    abbrev Filling : Desk → List Root → Type 0
-    Filling d roots = IsGoing t cut d fates × (d.exhausted ≡ None)
+  -- the attempt that begins next
+  pub record IsNextWait (d : Desk) (w : Wait) : Type 0 where
+    pub root : IsNextRoot d w.root
+    pub records : w.spans ≡ batch_spans (length cut.records) cut.size w.root.txid
+    pub now : w.start ≡ d.tick
+    pub timed : w.settled ≡ None
 
-    pub begins : (d : Desk) (roots : List Root) (root : Root) → next_root t cut d ≡ Some root → Filling d roots → Filling (begun t cut root d) (roots ++ root ∷ [])
-    begins d roots root some going =
-        let n = next_root_is d going.0.holds.one root some in
-        (going_begun t cut d fates going.0 going.1 root (let b = valid.buckets.0 in omega arith) n.free n.next n.allowed n.room n.after n.there n.near, going.1)
+  pub next_wait_is : (d : Desk) → ((txid : ℕ) → tally txid d.pending ≤ 1) → (w : Wait) → next_wait t cut d ≡ Some w → IsNextWait d w
+  next_wait_is d few w some = by (next_root t cut d) refl some
+    where
+      same : (v : Wait) → Some v ≡ Some w → v ≡ w
+      same v e = cc
+
+      by : (o : Option Root) → next_root t cut d ≡ o → option_map (fresh t cut d) o ≡ Some w → IsNextWait d w
+      by None none e = absurd (none_some w e)
+      by (Some root) is e =
+          subst (IsNextWait d) (same (fresh t cut d root) e) (record { root = next_root_is d few root is; records = refl; now = refl; timed = refl })
+
+  module _ (valid : IsValid t) (fates : List Attempt) where
+    abbrev Filling : Desk → List Wait → Type 0
+    Filling d new = IsGoing t cut d fates × (d.exhausted ≡ None)
+
+    pub begins : (d : Desk) (new : List Wait) (w : Wait) → next_wait t cut d ≡ Some w → Filling d new → Filling (begun t cut w d) (new ++ w ∷ [])
+    begins d new w some going =
+        let is = next_wait_is d going.0.holds.one w some in
+        let n = is.root in
+        (going_begun t cut d fates going.0 going.1 w (let b = valid.buckets.0 in omega arith) n.free n.next n.allowed n.room n.after n.there n.near is.records is.now is.timed, going.1)
 
     pub going_filled : (d : Desk) → d.exhausted ≡ None → IsGoing t cut d fates → IsGoing t cut (filled t cut t.pending (ordered t cut d)).desk fates
     going_filled d none going = (all_begun t cut Filling begins t.pending (ordered t cut d) [] (going_out t cut d fates (ordered t cut d).out going, none)).0

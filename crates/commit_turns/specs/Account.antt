@@ -3,8 +3,10 @@ use Rattle.std.specs.Prelude.{ℕ, List, map}
 use Rattle.attempt_fates.specs.declared.fates.Attempt.{Attempt}
 use Rattle.attempt_fates.specs.declared.fates.End.{End}
 use Rattle.attempt_fates.specs.declared.fates.End.TheVariants as end
+use Rattle.attempt_fates.specs.Fates.{records_in}
 use Rattle.commit_turns.specs.declared.wait.Wait.{Wait}
 use Rattle.commit_turns.specs.Desks.{Desk}
+use Rattle.record_spans.specs.declared.span.Span.{Span}
 use Rattle.replay_pending.specs.InFlight.{attempts_of}
 use Rattle.tuple_account.specs.storm_values.declared.value.Value.{Value}
 use Rattle.trident_batches.specs.Batches.{Cut, batch_of}
@@ -36,6 +38,10 @@ desk_of d = record {
   tries = λ txid. attempts_of txid d.attempts;
   pending = map waits_of d.pending;
 }
+
+-- the rows of some spans
+abbrev pub rows_at : Cut → List Span → List (List Value)
+rows_at cut spans = records_in cut.records spans
 
 -- the rows of the batch of a transaction
 abbrev pub rows_in : Cut → ℕ → List (List Value)

@@ -1,6 +1,6 @@
 -- What the coordinator knows. Pending attempts and their cap after Storm's documentation,
 -- "Concepts" (max spout pending); that a settled attempt is not timed is this project's own.
-use Rattle.std.specs.Prelude.{ℕ, ◌+◌, ◌==◌, ◌&&◌, not, Bool, false, if◌then◌else◌, Option, None, Some, is_some, List, [], map, filter, length}
+use Rattle.std.specs.Prelude.{ℕ, ◌+◌, ◌==◌, ◌&&◌, not, Bool, false, if◌then◌else◌, Option, None, Some, is_some, List, [], map, filter}
 use Rattle.std.specs.FinMap as fin_map
 use Rattle.std.specs.List.{find, list_any}
 use Rattle.attempt_fates.specs.declared.fates.Attempt.{Attempt}
@@ -10,7 +10,6 @@ use Rattle.replay_pending.specs.InFlight.{Counts}
 use Rattle.tuple_account.specs.rotating_ledger.Held.{root_eq}
 use Rattle.tuple_account.specs.storm_values.declared.value.Root.{Root}
 use Rattle.tuple_account.specs.tree_model.declared.messages.AckMsg.{AckMsg}
-use Rattle.trident_batches.specs.Batches.{Cut, first_of, last_of}
 
 -- The ticks that were counted, how many batches were committed, how many attempts of each
 -- transaction were begun, the pending attempts in the order of their begins, whether a commit was
@@ -69,11 +68,10 @@ is_late buckets tick w = is_timed w && (w.start + buckets == tick)
 -- ---- ends
 
 -- a pending attempt that ended at a tick
-abbrev pub ended_at : Cut → ℕ → End → Wait → Attempt
-ended_at cut finish end w = record {
+abbrev pub ended_at : ℕ → End → Wait → Attempt
+ended_at finish end w = record {
   root = w.root;
-  first = first_of cut.size w.root.txid;
-  last = last_of (length cut.records) cut.size w.root.txid;
+  spans = w.spans;
   start = w.start;
   finish = finish;
   end = end;

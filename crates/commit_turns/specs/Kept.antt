@@ -1,13 +1,16 @@
 -- What the coordinator keeps from call to call: each batch is committed once at most and in order,
 -- and the attempts of a transaction run one after another. This project's own.
 use Rattle.std.specs.Prelude.{◌≡◌, ◌≢◌, ◌≤◌, ◌<◌, ℕ, ◌+◌, Bool, true, false, IsTrue, if◌then◌else◌, None, Some, List, ◌∷◌, ◌++◌, length, All, AllPairs}
+use Rattle.std.specs.List.{AllByRecursion}
 use Rattle.attempt_fates.specs.declared.fates.Attempt.{Attempt}
 use Rattle.attempt_fates.specs.declared.fates.End.{End}
 use Rattle.attempt_fates.specs.declared.fates.End.TheVariants as end
-use Rattle.attempt_fates.specs.Fates.{IsOnce, attempt_numbers, committed, committed_txids}
+use Rattle.attempt_fates.specs.Fates.{IsOnce, attempt_numbers, batch_spans, committed, committed_txids}
 use Rattle.commit_turns.specs.declared.wait.Wait.{Wait}
 use Rattle.commit_turns.specs.Desks.{Desk, has_txid}
+use Rattle.record_spans.specs.declared.span.Span.{Span}
 use Rattle.replay_pending.specs.InFlight.{attempts_of}
+use Rattle.tuple_account.specs.storm_values.declared.value.Root.{Root}
 use Rattle.tuple_account.specs.topology_plan.Topology.{Topology}
 use Rattle.tuple_account.specs.tree_model.Lists.{IsClosed}
 use Rattle.tuple_account.specs.tree_model.declared.messages.AckMsg.{AckMsg}
@@ -27,13 +30,14 @@ FailsInTurn fates =
     → IsTrue (is_failed_commit a.end) → a.root.txid ≡ length (committed earlier) + 1
 
 -- A pending attempt is the last one that was begun of a batch that is there and not committed, and
--- that is near the next one to be committed. It began at a tick, and is not late. A list that it
--- was settled with is closed.
+-- that is near the next one to be committed, and has its records. It began at a tick, and is not
+-- late. A list that it was settled with is closed.
 pub record IsWaiting (t : Topology) (cut : Cut) (d : Desk) (w : Wait) : Type 0 where
   pub number : w.root.attempt ≡ attempts_of w.root.txid d.attempts
   pub later : d.committed < w.root.txid
   pub there : w.root.txid ≤ batch_count (length cut.records) cut.size
   pub near : w.root.txid ≤ d.committed + t.pending
+  pub records : w.spans ≡ batch_spans (length cut.records) cut.size w.root.txid
   pub starts : w.start ≤ d.tick
   pub not_late : w.settled ≡ None → d.tick < w.start + t.buckets
   pub closed : (list : List AckMsg) → w.settled ≡ Some list → IsClosed list
@@ -59,6 +63,12 @@ pub record IsKept (t : Topology) (cut : Cut) (d : Desk) (fates : List Attempt) :
   -- it stops where all attempts of a transaction ended, none by a commit
   pub ran_out : (txid : ℕ) → d.exhausted ≡ Some txid
       → (length (attempt_numbers txid fates) ≡ t.attempts) × (d.committed < txid)
+
+-- all attempts have such spans, those that are pending and those that ended
+pub record HaveSpans (R : Root → List Span → Type 0) (d : Desk) (fates : List Attempt)
+    : Type 0 where
+  pub waits : AllByRecursion (λ (w : Wait). R w.root w.spans) d.pending
+  pub ends : AllByRecursion (λ (a : Attempt). R a.root a.spans) fates
 
 -- Unless the coordinator stopped or every batch is committed, an attempt of the lowest transaction
 -- that is not committed is pending.

@@ -4,11 +4,13 @@
 use Rattle.std.specs.Prelude.{ℕ, zero, suc, ◌+◌, ◌-◌, ◌^◌, ◌==◌, ◌&&◌, nat_lt, ◌%◌, not, Bool, true, false, if◌then◌else◌, Option, None, Some, is_some, List, [], ◌∷◌, ◌++◌, map, filter, length}
 use Rattle.std.specs.FinMap as fin_map
 use Rattle.std.specs.List.{find, list_all, range_with_len}
+use Rattle.std.specs.Option.{option_map}
 use Rattle.tuple_account.specs.acker_core.declared.verdict.Verdict.{Verdict}
 use Rattle.tuple_account.specs.acker_core.declared.verdict.Verdict.TheVariants.{Complete, Fails}
 use Rattle.attempt_fates.specs.declared.fates.Attempt.{Attempt}
 use Rattle.attempt_fates.specs.declared.fates.End.{End}
 use Rattle.attempt_fates.specs.declared.fates.End.TheVariants as end
+use Rattle.attempt_fates.specs.Fates.{batch_spans}
 use Rattle.commit_turns.specs.declared.wait.Wait.{Wait}
 use Rattle.commit_turns.specs.Desks.{Desk, Progress, still, ended_at, has_txid, is_late, settled, timed_of, without}
 use Rattle.replay_pending.specs.InFlight.{attempts_of}
@@ -50,9 +52,9 @@ module _ (t : Topology) (cut : Cut) where
   abbrev pub end_timed : End → Option Wait → Desk → Progress
   end_timed how None d = still d
   end_timed how (Some w) d = record {
-    desk = stopped_by (ended_at cut d.tick how w ∷ [])
+    desk = stopped_by (ended_at d.tick how w ∷ [])
         (record d { pending = without w.root d.pending });
-    ended = ended_at cut d.tick how w ∷ [];
+    ended = ended_at d.tick how w ∷ [];
   }
 
   -- a timed attempt with a complete verdict is settled where its list is closed, and ends else
@@ -74,7 +76,7 @@ module _ (t : Topology) (cut : Cut) where
   -- the timed attempts that end at a tick, in the order of their begins
   abbrev pub late_at : ℕ → List Wait → List Attempt
   late_at tick pending =
-      map (ended_at cut tick end.TimedOut) (filter (is_late t.buckets tick) pending)
+      map (ended_at tick end.TimedOut) (filter (is_late t.buckets tick) pending)
 
   -- the tick number rises, and the attempts that are late end
   abbrev pub one_tick : Desk → Progress
@@ -130,46 +132,59 @@ module _ (t : Topology) (cut : Cut) where
   abbrev pub next_root : Desk → Option Root
   next_root d = if nat_lt (length d.pending) t.pending then next_by d (free_txid d) else None
 
-  -- a root is pending, and timed from this tick on
-  abbrev pub begun : Root → Desk → Desk
-  begun root d = record d {
-    attempts = fin_map.insert d.attempts root.txid root.attempt;
-    pending = d.pending ++ record { root = root; start = d.tick; settled = None } ∷ [];
+  -- the attempt of a root that begins, with the records of its batch, timed from this tick on
+  abbrev pub fresh : Desk → Root → Wait
+  fresh d root = record {
+    root = root;
+    spans = batch_spans (length cut.records) cut.size root.txid;
+    start = d.tick;
+    settled = None;
   }
 
-  -- what the coordinator knows, and the roots that it began, in order
+  -- the attempt that begins next
+  abbrev pub next_wait : Desk → Option Wait
+  next_wait d = option_map (fresh d) (next_root d)
+
+  -- it is pending
+  abbrev pub begun : Wait → Desk → Desk
+  begun w d = record d {
+    attempts = fin_map.insert d.attempts w.root.txid w.root.attempt;
+    pending = d.pending ++ w ∷ [];
+  }
+
+  -- what the coordinator knows, and the attempts that it began, in order
   pub record Filled : Type 0 where
     pub desk : Desk
-    pub roots : List Root
+    pub begun : List Wait
 
-  abbrev pub fill_more : (Desk → Filled) → Desk → Option Root → Filled
-  fill_more more d None = record { desk = d; roots = [] }
-  fill_more more d (Some root) = record {
-    desk = (more (begun root d)).desk;
-    roots = root ∷ (more (begun root d)).roots;
+  abbrev pub fill_more : (Desk → Filled) → Desk → Option Wait → Filled
+  fill_more more d None = record { desk = d; begun = [] }
+  fill_more more d (Some w) = record {
+    desk = (more (begun w d)).desk;
+    begun = w ∷ (more (begun w d)).begun;
   }
 
-  -- roots begin until as many are pending as may be
+  -- attempts begin until as many are pending as may be
   abbrev pub filled : ℕ → Desk → Filled
-  filled zero d = record { desk = d; roots = [] }
-  filled (suc places) d = fill_more (filled places) d (next_root d)
+  filled zero d = record { desk = d; begun = [] }
+  filled (suc places) d = fill_more (filled places) d (next_wait d)
 
   -- ---- a turn
 
   -- A verdict is heard, the ticks pass, and unless the coordinator stopped a commit is ordered and
-  -- roots begin.
+  -- attempts begin.
   pub record Turned : Type 0 where
     pub desk : Desk
     pub ended : List Attempt
     pub commit : Option Wait
-    pub begun : List Root
+    pub begun : List Wait
 
   abbrev pub ordered_and_filled : Desk → List Attempt → Filled → Turned
   ordered_and_filled d ended f = record {
     desk = f.desk;
     ended = ended;
     commit = next_to_commit d;
-    begun = f.roots;
+    begun = f.begun;
   }
 
   abbrev pub turned_by : Option ℕ → Progress → Turned
@@ -200,14 +215,14 @@ module _ (t : Topology) (cut : Cut) where
     out = false;
   }
   decided_desk (outcome.Failed component part before after) w d =
-      stopped_by (ended_at cut d.tick (end.CommitFailed component part before after) w ∷ [])
+      stopped_by (ended_at d.tick (end.CommitFailed component part before after) w ∷ [])
       (record d { pending = without w.root d.pending; out = false })
 
   abbrev pub decided_by : CommitOutcome → Option Wait → Desk → Progress
   decided_by how None d = still (record d { out = false })
   decided_by how (Some w) d = record {
     desk = decided_desk how w d;
-    ended = ended_at cut d.tick (end_by how w.settled) w ∷ [];
+    ended = ended_at d.tick (end_by how w.settled) w ∷ [];
   }
 
   -- the attempt whose commit was ordered ends

@@ -3,7 +3,7 @@ ghost use Rattle.std.specs.Option.{option_to_list};
 ghost use Rattle.tuple_account.specs.acker_core.declared.verdict.Verdict.{Verdict};
 ghost use Rattle.attempt_fates.specs.declared.fates.Attempt.{Attempt};
 ghost use Rattle.tuple_account.specs.bolt_ops.RowOp.{Custom};
-ghost use Rattle.commit_turns.specs.Account.{desk_of, ends_of, rows_in};
+ghost use Rattle.commit_turns.specs.Account.{desk_of, ends_of};
 ghost use Rattle.commit_turns.specs.Desks.{Desk, first_desk};
 ghost use Rattle.commit_turns.specs.Kept.{IsKept, HasLowest};
 ghost use Rattle.commit_turns.specs.Outcomes.{IsOutcome, Begin, hears};
@@ -35,31 +35,30 @@ pub fn desks_are_kept()
 {}
 
 /// A law: the coordinator's account fits what happened at first, and after each turn, with the
-/// verdict that it heard and the roots that it began, and after each outcome of a commit.
+/// verdict that it heard and the attempts that it began, and after each outcome of a commit.
 pub fn accounts_stay_fit()
-    ensures first { (t : Topology) (cut : Cut)
-        → Fits t (rows_in cut) (desk_of first_desk) (ends_of []) nothing }
+    ensures first { (t : Topology) → Fits t (desk_of first_desk) (ends_of []) nothing }
     ensures turn { (t : Topology) (cut : Cut) (d : Desk) (fates : List Attempt) (h : History)
         → IsValid t → d.exhausted ≡ None → IsKept t cut d fates
-        → Fits t (rows_in cut) (desk_of d) (ends_of fates) h
+        → Fits t (desk_of d) (ends_of fates) h
         → (verdict : Option Verdict) (ticks : ℕ) (openings : List Opening)
-        → Begin t cut openings (turned t cut verdict ticks d).begun
+        → Begin openings (turned t cut verdict ticks d).begun
         → ((root : Root) → weigh (is_about root) (h.heard ++ option_to_list verdict)
         ≤ weigh (opens root) h.begun)
-        → Fits t (rows_in cut) (desk_of (turned t cut verdict ticks d).desk)
+        → Fits t (desk_of (turned t cut verdict ticks d).desk)
         (ends_of (fates ++ (turned t cut verdict ticks d).ended))
         (joined h (hears verdict openings)) }
     ensures outcome { (t : Topology) (cut : Cut) (d : Desk) (fates : List Attempt) (h : History)
         → IsValid t → d.exhausted ≡ None → IsKept t cut d fates
-        → Fits t (rows_in cut) (desk_of d) (ends_of fates) h
+        → Fits t (desk_of d) (ends_of fates) h
         → (how : CommitOutcome) → IsOutcome t how
-        → Fits t (rows_in cut) (desk_of (decided t cut how d).desk)
+        → Fits t (desk_of (decided t cut how d).desk)
         (ends_of (fates ++ (decided t cut how d).ended)) h }
     ensures roots { (t : Topology) (cut : Cut) (d : Desk) (fates : List Attempt) (h : History)
         → IsValid t → d.exhausted ≡ None → IsKept t cut d fates
-        → Fits t (rows_in cut) (desk_of d) (ends_of fates) h
+        → Fits t (desk_of d) (ends_of fates) h
         → (verdict : Option Verdict) (ticks : ℕ) (openings : List Opening)
-        → Begin t cut openings (turned t cut verdict ticks d).begun
+        → Begin openings (turned t cut verdict ticks d).begun
         → (root : Root) → weigh (opens root) h.begun + weigh (opens root) openings ≤ 1 }
 {}
 

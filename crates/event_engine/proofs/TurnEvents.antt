@@ -82,7 +82,7 @@ module _ {I : Type 0} {g : Ghosts I} (tells : I → (ℕ → ℕ) → ℕ → Ty
     pub ackers : new.ackers ≡ old.ackers
 
   module _ (t : Topology) (cut : Cut) (old new : Engine I g) where
-    -- a turn, with the openings of its roots
+    -- a turn, with the openings of its attempts
     pub turn_happens : (to : Turned t cut) (parcels : List Parcel) → length old.tasks.items ≡ tasks_in_all t → old.orders.items ≡ [] → turned_in t cut (shape old) ≡ to
         → (outlet_of (collector_of old.coordinator)).topology ≡ t → (outlet_of (collector_of old.coordinator)).from ≡ origin.Spout → source_of (collector_of old.coordinator) ≡ tasks_in_all t
         → Begins tells cut (collector_of old.coordinator) (collector_of new.coordinator) to.begun parcels → Leaves t cut to parcels old new
@@ -91,12 +91,11 @@ module _ {I : Type 0} {g : Ghosts I} (tells : I → (ℕ → ℕ) → ℕ → Ty
         let s = stand_of (collector_of old.coordinator) in
         let end = stand_of (collector_of new.coordinator) in
         let ids : List ℕ = ids_drawn begins.openings in
-        let roots : List Root = map (λ (o : Opening). o.begun.root) begins.openings in
-        let are : AreOf t cut s begins.openings end = openings_are t cut begins.openings s end topology from (subst (λ (n : ℕ). OpenFrom cut n s begins.openings end) source begins.opened) in
-        let opens : opened t cut s to.begun ids ≡ begins.openings = ap (λ rs. opened t cut s rs ids) (sym begins.begun) ∙ are.same in
+        let are : AreOf t cut s to.begun begins.openings end = openings_are t cut to.begun begins.openings s end topology from (subst (λ (n : ℕ). OpenFrom cut n s to.begun begins.openings end) source begins.opened) in
+        let opens : opened t cut s to.begun ids ≡ begins.openings = are.same in
         record {
           ids = ids;
-          enough = are.many ∙ ap (λ rs. sum (map (first_needs t cut) rs)) begins.begun ∙ ap (λ (u : Turned t cut). sum (map (first_needs t cut) u.begun)) (sym is) ∙ ap (turn_needs_past t cut (shape old)) (sym empty);
+          enough = are.many ∙ ap (λ (u : Turned t cut). sum (map (first_needs t cut) u.begun)) (sym is) ∙ ap (turn_needs_past t cut (shape old)) (sym empty);
           drawn = last_draws (tasks_in_all t) ids old new count leaves.tasks begins.drawn;
           same =
               (λ i. record {
@@ -116,7 +115,7 @@ module _ {I : Type 0} {g : Ghosts I} (tells : I → (ℕ → ℕ) → ℕ → Ty
           added = leaves.fates;
         }
 
-    -- a turn that stops begins no root
+    -- a turn that stops begins no attempt
     pub stopped_happens : (to : Turned t cut) → length old.tasks.items ≡ tasks_in_all t → old.orders.items ≡ [] → turned_in t cut (shape old) ≡ to
         → (outlet_of (collector_of old.coordinator)).topology ≡ t → (outlet_of (collector_of old.coordinator)).from ≡ origin.Spout → source_of (collector_of old.coordinator) ≡ tasks_in_all t
         → to.begun ≡ [] → collector_of new.coordinator ≡ collector_of old.coordinator → Leaves t cut to [] old new
@@ -125,8 +124,7 @@ module _ {I : Type 0} {g : Ghosts I} (tells : I → (ℕ → ℕ) → ℕ → Ty
         turn_happens to [] count empty is topology from source
         (record {
           openings = [];
-          begun = sym none;
-          opened = ap stand_of collector;
+          opened = subst (λ (ws : List Wait). OpenFrom cut (source_of (collector_of old.coordinator)) (stand_of (collector_of old.coordinator)) ws [] (stand_of (collector_of new.coordinator))) (sym none) (ap stand_of collector);
           drawn = subst (λ (c : Collector I). Draws tells (ids_in (collector_of old.coordinator)) [] (ids_in c)) (sym collector) (draws-none tells (ids_in (collector_of old.coordinator)));
           sent = refl;
           source = ap source_of collector;

@@ -9,7 +9,7 @@ use Rattle.event_worlds.specs.attempt_fates.declared.fates.End.TheVariants as en
 use Rattle.event_worlds.specs.commit_order.Orders.{stop_by}
 use Rattle.event_worlds.specs.commit_turns.declared.wait.Wait.{Wait}
 use Rattle.event_worlds.specs.commit_turns.Desks.{Desk, Progress, still, timed_of}
-use Rattle.event_worlds.specs.commit_turns.Turns.{and_then, begun, complete_timed, decided, decided_by, end_by, end_timed, fill_more, filled, has_no_tick, heard, is_closed, last_tick, next_root, next_to_commit, one_tick, ordered, passed, ticked, turned, turned_by}
+use Rattle.event_worlds.specs.commit_turns.Turns.{and_then, begun, complete_timed, decided, decided_by, end_by, end_timed, fill_more, filled, has_no_tick, heard, is_closed, last_tick, next_to_commit, one_tick, ordered, passed, ticked, turned, turned_by, next_wait}
 use Rattle.event_engine.proofs.GoesLemmas.{outcomes-append}
 use Rattle.event_worlds.specs.Worlds.{outcome_by, outcomes_of}
 use Rattle.event_worlds.specs.state_parts.declared.answer.CommitOutcome.{CommitOutcome}
@@ -69,7 +69,7 @@ module _ (t : Topology) (cut : Cut) where
       by true stays rest = passes-none d
       by false goes rest = record { committed = rest.committed; ticks = λ few. rest.ticks (below_last d.exhausted d.tick goes few) }
 
-  -- beginning roots leaves all else as it is
+  -- beginning attempts leaves all else as it is
   record Fills (d e : Desk) : Type 0 where
     committed : e.committed ≡ d.committed
     ticks : e.tick ≡ d.tick
@@ -77,11 +77,11 @@ module _ (t : Topology) (cut : Cut) where
 
   filled_fills : (places : ℕ) (d : Desk) → Fills d (filled t cut places d).desk
   filled_fills zero d = record { committed = refl; ticks = refl; exhausted = refl }
-  filled_fills (suc places) d = by (next_root t cut d) (λ root. filled_fills places (begun t cut root d))
+  filled_fills (suc places) d = by (next_wait t cut d) (λ w. filled_fills places (begun t cut w d))
     where
-      by : (o : Option Root) → ((root : Root) → Fills (begun t cut root d) (filled t cut places (begun t cut root d)).desk) → Fills d (fill_more t cut (filled t cut places) d o).desk
+      by : (o : Option Wait) → ((w : Wait) → Fills (begun t cut w d) (filled t cut places (begun t cut w d)).desk) → Fills d (fill_more t cut (filled t cut places) d o).desk
       by None more = record { committed = refl; ticks = refl; exhausted = refl }
-      by (Some root) more = record { committed = (more root).committed; ticks = (more root).ticks; exhausted = (more root).exhausted }
+      by (Some w) more = record { committed = (more w).committed; ticks = (more w).ticks; exhausted = (more w).exhausted }
 
   turned_by_passes : (d : Desk) (o : Option ℕ) (p : Progress) → Passes d p.desk → Passes d (turned_by t cut o p).desk
   turned_by_passes d (Some txid) p passes = passes

@@ -32,6 +32,7 @@ use Rattle.commit_order.specs.tuple_account.Parts.{meeting, telling_by, weigh_en
 use Rattle.commit_order.proofs.tuple_account.Entering.{met-weight, rotated-weight, telling_told}
 use Rattle.commit_order.specs.tuple_account.Places.{HasWords}
 use Rattle.commit_order.proofs.tuple_account.Moving.{drawn-both}
+use Rattle.event_worlds.proofs.Spans.{spans-alike}
 
 -- ---- entries
 
@@ -95,7 +96,8 @@ module _ (t : Topology) (custom : Custom) (cut : Cut) (words : ℕ → ℕ → �
     orderly = fit;
     counted = record { tasks = led.counted.tasks; spout = led.counted.spout };
     kept = led.kept;
-    fits = fits-alike t _ _ _ h (joined h more) (sym (ap (λ xs. h.begun ++ xs) none_begun ∙ append-nil h.begun)) (sym (ap (λ xs. h.heard ++ xs) none_heard ∙ append-nil h.heard)) led.fits;
+    fits = fits-alike t _ _ h (joined h more) (sym (ap (λ xs. h.begun ++ xs) none_begun ∙ append-nil h.begun)) (sym (ap (λ xs. h.heard ++ xs) none_heard ∙ append-nil h.heard)) led.fits;
+    spans = spans-alike cut _ _ h.begun (joined h more).begun (sym (ap (λ xs. h.begun ++ xs) none_begun ∙ append-nil h.begun)) led.spans;
     silent = each-set (λ (s : AckerSide). AreSilent s.entries) w.ackers n a.side led.silent silent;
     ticks = led.ticks;
     unheard = led.unheard;

@@ -5,10 +5,9 @@ use Rattle.commit_order.specs.acker_core.declared.verdict.Verdict.TheVariants.{C
 use Rattle.commit_order.specs.attempt_fates.declared.fates.End.{End}
 use Rattle.commit_order.specs.commit_turns.declared.wait.Wait.{Wait}
 use Rattle.commit_order.specs.commit_turns.Desks.{Desk, Progress, still, timed_of}
-use Rattle.commit_order.specs.commit_turns.Turns.{and_then, begun, complete_timed, decided, decided_by, end_timed, fill_more, filled, has_no_tick, heard, is_closed, next_root, next_to_commit, one_tick, ordered, passed, ticked, turned, turned_by}
+use Rattle.commit_order.specs.commit_turns.Turns.{and_then, begun, complete_timed, decided, decided_by, end_timed, fill_more, filled, has_no_tick, heard, is_closed, next_to_commit, one_tick, ordered, passed, ticked, turned, turned_by, next_wait}
 use Rattle.commit_order.specs.state_parts.declared.answer.CommitOutcome.{CommitOutcome}
 use Rattle.commit_order.specs.state_parts.declared.answer.CommitOutcome.TheVariants.{Done, Failed}
-use Rattle.commit_order.specs.storm_values.declared.value.Root.{Root}
 use Rattle.commit_order.specs.topology_plan.Topology.{Topology}
 use Rattle.commit_order.specs.tree_model.declared.messages.AckMsg.{AckMsg}
 use Rattle.commit_order.specs.trident_batches.Batches.{Cut}
@@ -40,11 +39,11 @@ module _ (t : Topology) (cut : Cut) where
 
   filled-committed : (places : ℕ) (d : Desk) → (filled t cut places d).desk.committed ≡ d.committed
   filled-committed zero d = refl
-  filled-committed (suc places) d = by (next_root t cut d) (λ root. filled-committed places (begun t cut root d))
+  filled-committed (suc places) d = by (next_wait t cut d) (λ w. filled-committed places (begun t cut w d))
     where
-      by : (next : Option Root) → ((root : Root) → (filled t cut places (begun t cut root d)).desk.committed ≡ d.committed) → (fill_more t cut (filled t cut places) d next).desk.committed ≡ d.committed
+      by : (next : Option Wait) → ((w : Wait) → (filled t cut places (begun t cut w d)).desk.committed ≡ d.committed) → (fill_more t cut (filled t cut places) d next).desk.committed ≡ d.committed
       by None more = refl
-      by (Some root) more = more root
+      by (Some w) more = more w
 
   turned_by-committed : (stopped : Option ℕ) (p : Progress) → (turned_by t cut stopped p).desk.committed ≡ p.desk.committed
   turned_by-committed (Some txid) p = refl

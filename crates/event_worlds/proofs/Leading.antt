@@ -4,11 +4,11 @@ use Rattle.std.specs.List.{AllByRecursion}
 use Rattle.std.proofs.lemmas.List.{append-nil, get_or-set_same, get_or-set_other}
 use Rattle.commit_order.specs.acker_core.Entries.{AreSilent}
 use Rattle.commit_order.specs.bolt_ops.RowOp.{Custom}
-use Rattle.commit_order.specs.commit_turns.Account.{desk_of, ends_of, rows_in}
-use Rattle.commit_order.specs.commit_turns.Kept.{IsKept}
+use Rattle.commit_order.specs.commit_turns.Account.{desk_of, ends_of}
+use Rattle.commit_order.specs.commit_turns.Kept.{IsKept, HaveSpans}
 use Rattle.commit_order.specs.counted_items.Weights.{weigh, Within}
 use Rattle.commit_order.proofs.counted_items.Weighing.{weigh-append}
-use Rattle.event_worlds.specs.Accounted.{IsCounted, LedTo, station_of}
+use Rattle.event_worlds.specs.Accounted.{IsCounted, LedTo, station_of, BeganWith}
 use Rattle.event_worlds.specs.Orderly.{FitsParcel, IsOrderly}
 use Rattle.event_worlds.specs.Worlds.{AckerSide, Known, TaskSide, World, acker_at, delivered, drew, ended, gets_message, gets_tuple, no_acker, no_task, task_at, with_task}
 use Rattle.event_worlds.proofs.Waiting.{ackers-set, each-at, each-set, tasks-set, weigh-set}
@@ -23,7 +23,7 @@ use Rattle.commit_order.specs.tuple_account.Drawn.{started}
 use Rattle.commit_order.specs.tuple_account.Ends.{Desk, Ended, Waits, verdicts_of_ends, verdicts_of_waits}
 use Rattle.commit_order.specs.tuple_account.Fits.{Fits}
 use Rattle.commit_order.specs.tuple_account.Histories.{History, Opening, Start, joined, nothing, of_parcel, opens}
-use Rattle.commit_order.specs.tuple_account.Moves.{AreRows, HasDrawn, IsAlike, Moves, Reached, Station, beside, empty}
+use Rattle.commit_order.specs.tuple_account.Moves.{HasDrawn, IsAlike, Moves, Reached, Station, beside, empty}
 use Rattle.commit_order.specs.tuple_account.Parts.{holding, weigh_entries}
 use Rattle.commit_order.specs.tuple_account.Places.{before, spans}
 use Rattle.commit_order.specs.tuple_account.Sound.{is_about}
@@ -52,12 +52,11 @@ starts-more h more none few s =
     subst (λ (xs : List Start). weigh weight xs ≤ 40) (sym e) (few s)
 
 -- the coordinator's account looks at what was begun and heard alone
-pub fits-alike : (t : Topology) (batch : ℕ → List (List Value)) (desk : Desk) (fates : List Ended) (h k : History) → h.begun ≡ k.begun → h.heard ≡ k.heard
-    → Fits t batch desk fates h → Fits t batch desk fates k
-fits-alike t batch desk fates h k b v fits = record {
+pub fits-alike : (t : Topology) (desk : Desk) (fates : List Ended) (h k : History) → h.begun ≡ k.begun → h.heard ≡ k.heard
+    → Fits t desk fates h → Fits t desk fates k
+fits-alike t desk fates h k b v fits = record {
   begun = λ f. ap (weigh (λ (o : Opening). f o.begun.root)) (sym b) ∙ fits.begun f;
   numbered = λ root. ap (weigh (opens root)) (sym b) ∙ fits.numbered root;
-  rows = subst (AreRows (λ root. batch root.txid)) b fits.rows;
   heard = subst (Within (verdicts_of_ends fates ++ verdicts_of_waits desk.pending)) v fits.heard;
   unheard = subst (λ (vs : List Verdict). AllByRecursion (λ (w : Waits). w.settled ≡ None → weigh (is_about w.root) vs ≡ 0) desk.pending) v fits.unheard;
   ends = fits.ends;
@@ -136,7 +135,8 @@ pub record LedWith (t : Topology) (custom : Custom) (cut : Cut) (words : ℕ →
   pub ackers : length k.world.ackers ≡ t.ackers
   pub counted : IsCounted t k
   pub kept : IsKept t cut k.world.desk k.world.fates
-  pub fits : Fits t (rows_in cut) (desk_of k.world.desk) (ends_of k.world.fates) h
+  pub fits : Fits t (desk_of k.world.desk) (ends_of k.world.fates) h
+  pub spans : HaveSpans (BeganWith cut h.begun) k.world.desk k.world.fates
   pub silent : AllByRecursion (λ (side : AckerSide). AreSilent side.entries) k.world.ackers
   pub ticks : k.world.desk.tick ≤ k.world.tick
   pub unheard : ended (k.world.desk.tick + k.world.unheard) ≤ k.world.tick
@@ -172,6 +172,7 @@ module _ (t : Topology) (custom : Custom) (cut : Cut) (words : ℕ → ℕ → �
     counted = counted-delivered t w c (ToTask n tuple) led.tasks fits led.counted;
     kept = led.kept;
     fits = led.fits;
+    spans = led.spans;
     silent = led.silent;
     ticks = led.ticks;
     unheard = led.unheard;
@@ -185,6 +186,7 @@ module _ (t : Topology) (custom : Custom) (cut : Cut) (words : ℕ → ℕ → �
     counted = counted-delivered t w c (ToAcker n m) led.tasks fits led.counted;
     kept = led.kept;
     fits = led.fits;
+    spans = led.spans;
     silent = each-set (λ (side : AckerSide). AreSilent side.entries) w.ackers n (gets_message m (acker_at n w)) led.silent (each-at (λ (side : AckerSide). AreSilent side.entries) w.ackers n no_acker led.silent tt);
     ticks = led.ticks;
     unheard = led.unheard;

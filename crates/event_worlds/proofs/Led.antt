@@ -7,7 +7,7 @@ use Rattle.std.proofs.lemmas.List.Elements.{recursion_from_All}
 use Rattle.commit_order.specs.acker_core.declared.verdict.Verdict.{Verdict}
 use Rattle.commit_order.specs.attempt_fates.declared.fates.Attempt.{Attempt}
 use Rattle.commit_order.specs.bolt_ops.RowOp.{Custom, IsCustom}
-use Rattle.commit_order.specs.commit_turns.Account.{desk_of, ends_of, rows_in}
+use Rattle.commit_order.specs.commit_turns.Account.{desk_of, ends_of}
 use Rattle.commit_order.specs.commit_turns.Desks.{Desk, first_desk}
 use Rattle.commit_order.specs.commit_turns.Kept.{IsKept}
 use Rattle.commit_order.specs.commit_turns.Outcomes.{Begin, IsOutcome, hears}
@@ -35,6 +35,7 @@ use Rattle.commit_order.specs.tuple_account.Fits.{Fits}
 use Rattle.commit_order.specs.tuple_account.Histories.{History, Opening, Packet, joined, nothing, opens}
 use Rattle.commit_order.specs.tuple_account.Moves.{Station, beside}
 use Rattle.commit_order.specs.tuple_account.Sound.{is_about}
+use Rattle.commit_order.proofs.commit_turns.Carrying.{carries_turned}
 
 -- What the laws of the coordinator's turns say.
 pub record TurnLaws (t : Topology) (cut : Cut) : Type 0 where
@@ -43,15 +44,15 @@ pub record TurnLaws (t : Topology) (cut : Cut) : Type 0 where
       → IsKept t cut (turned t cut verdict ticks d).desk (fates ++ (turned t cut verdict ticks d).ended)
   pub kept_outcome : (d : Desk) (fates : List Attempt) → IsValid t → 0 < cut.size → d.exhausted ≡ None → IsKept t cut d fates → (how : CommitOutcome)
       → IsKept t cut (decided t cut how d).desk (fates ++ (decided t cut how d).ended)
-  pub fits_first : Fits t (rows_in cut) (desk_of first_desk) (ends_of []) nothing
-  pub fits_turn : (d : Desk) (fates : List Attempt) (h : History) → IsValid t → d.exhausted ≡ None → IsKept t cut d fates → Fits t (rows_in cut) (desk_of d) (ends_of fates) h
-      → (verdict : Option Verdict) (ticks : ℕ) (openings : List Opening) → Begin t cut openings (turned t cut verdict ticks d).begun
+  pub fits_first : Fits t (desk_of first_desk) (ends_of []) nothing
+  pub fits_turn : (d : Desk) (fates : List Attempt) (h : History) → IsValid t → d.exhausted ≡ None → IsKept t cut d fates → Fits t (desk_of d) (ends_of fates) h
+      → (verdict : Option Verdict) (ticks : ℕ) (openings : List Opening) → Begin openings (turned t cut verdict ticks d).begun
       → ((root : Root) → weigh (is_about root) (h.heard ++ option_to_list verdict) ≤ weigh (opens root) h.begun)
-      → Fits t (rows_in cut) (desk_of (turned t cut verdict ticks d).desk) (ends_of (fates ++ (turned t cut verdict ticks d).ended)) (joined h (hears verdict openings))
-  pub fits_outcome : (d : Desk) (fates : List Attempt) (h : History) → IsValid t → d.exhausted ≡ None → IsKept t cut d fates → Fits t (rows_in cut) (desk_of d) (ends_of fates) h
-      → (how : CommitOutcome) → IsOutcome t how → Fits t (rows_in cut) (desk_of (decided t cut how d).desk) (ends_of (fates ++ (decided t cut how d).ended)) h
-  pub roots_turn : (d : Desk) (fates : List Attempt) (h : History) → IsValid t → d.exhausted ≡ None → IsKept t cut d fates → Fits t (rows_in cut) (desk_of d) (ends_of fates) h
-      → (verdict : Option Verdict) (ticks : ℕ) (openings : List Opening) → Begin t cut openings (turned t cut verdict ticks d).begun
+      → Fits t (desk_of (turned t cut verdict ticks d).desk) (ends_of (fates ++ (turned t cut verdict ticks d).ended)) (joined h (hears verdict openings))
+  pub fits_outcome : (d : Desk) (fates : List Attempt) (h : History) → IsValid t → d.exhausted ≡ None → IsKept t cut d fates → Fits t (desk_of d) (ends_of fates) h
+      → (how : CommitOutcome) → IsOutcome t how → Fits t (desk_of (decided t cut how d).desk) (ends_of (fates ++ (decided t cut how d).ended)) h
+  pub roots_turn : (d : Desk) (fates : List Attempt) (h : History) → IsValid t → d.exhausted ≡ None → IsKept t cut d fates → Fits t (desk_of d) (ends_of fates) h
+      → (verdict : Option Verdict) (ticks : ℕ) (openings : List Opening) → Begin openings (turned t cut verdict ticks d).begun
       → (root : Root) → weigh (opens root) h.begun + weigh (opens root) openings ≤ 1
 
 none_if : {X : Type 0} (o : Option X) (finished : Bool) → cond (is_some o) true finished ≡ false → o ≡ None
@@ -89,11 +90,12 @@ module _ (t : Topology) (custom : Custom) (cut : Cut) (words : ℕ → ℕ → �
             (subst (λ (v : World). LedTo t custom cut words h (record { world = v; counts = drew n (task_needs t custom (task_at t n w)) c })) (sym still.0)
             (subst (λ (d : ℕ → ℕ). LedTo t custom cut words h (record { world = w; counts = d })) (λ i s. sym (counts s) i) all))
 
-    turns-well : w.desk.exhausted ≡ None → TurnsWell t cut h w.fates w.tick (slice_get w.verdicts 0) (turned_in t cut w)
+    turns-well : w.desk.exhausted ≡ None → TurnsWell t cut h w.fates w.tick w.desk (slice_get w.verdicts 0) (turned_in t cut w)
     turns-well none = record {
       kept = laws.kept_turn w.desk w.fates input.valid some_rows none led.kept (slice_get w.verdicts 0) w.unheard;
       fits = laws.fits_turn w.desk w.fates h input.valid none led.kept led.fits (slice_get w.verdicts 0) w.unheard;
       roots = laws.roots_turn w.desk w.fates h input.valid none led.kept led.fits (slice_get w.verdicts 0) w.unheard;
+      spans = λ R have new. carries_turned R t cut w.desk w.fates have (slice_get w.verdicts 0) w.unheard new;
       ticks = turned-tick t cut w.tick led.last (slice_get w.verdicts 0) w.unheard w.desk led.ticks led.unheard;
     }
 
@@ -130,11 +132,12 @@ module _ (t : Topology) (custom : Custom) (cut : Cut) (words : ℕ → ℕ → �
   rows_there : 0 < cut.size
   rows_there = let s = input.size in let b = input.valid.batch.0 in omega arith
 
-  turns-well-on : w.desk.exhausted ≡ None → TurnsWell t cut h w.fates w.tick (slice_get w.verdicts 0) (turned_in t cut w)
+  turns-well-on : w.desk.exhausted ≡ None → TurnsWell t cut h w.fates w.tick w.desk (slice_get w.verdicts 0) (turned_in t cut w)
   turns-well-on none = record {
     kept = laws.kept_turn w.desk w.fates input.valid rows_there none led.kept (slice_get w.verdicts 0) w.unheard;
     fits = laws.fits_turn w.desk w.fates h input.valid none led.kept led.fits (slice_get w.verdicts 0) w.unheard;
     roots = laws.roots_turn w.desk w.fates h input.valid none led.kept led.fits (slice_get w.verdicts 0) w.unheard;
+    spans = λ R have new. carries_turned R t cut w.desk w.fates have (slice_get w.verdicts 0) w.unheard new;
     ticks = turned-tick t cut w.tick led.last (slice_get w.verdicts 0) w.unheard w.desk led.ticks led.unheard;
   }
 

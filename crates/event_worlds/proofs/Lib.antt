@@ -11,3 +11,4 @@ pub mod Turning
 pub mod Starting
 pub mod Ending
 pub mod Led
+pub mod Spans

@@ -8,14 +8,14 @@ use Rattle.std.proofs.lemmas.Option.{slice_get-get_or}
 use Rattle.commit_order.specs.bolt_ops.RowOp.{Custom, IsCustom}
 use Rattle.bolt_task.specs.Executing.{rows_of}
 use Rattle.commit_order.specs.Orders.{OpenFrom, Stand, ids_drawn, opening_of, stand_after}
-use Rattle.commit_order.specs.commit_turns.Account.{rows_in}
+use Rattle.commit_order.specs.commit_turns.Account.{rows_at}
 use Rattle.commit_order.specs.commit_turns.Desks.{Progress}
 use Rattle.commit_order.specs.commit_turns.Turns.{Turned, decided}
 use Rattle.commit_order.proofs.counted_items.Each.{each-append, each-any, each-to_map}
 use Rattle.event_worlds.specs.Accounted.{IsInput}
 use Rattle.event_worlds.specs.Orderly.{AreTasksOrderly, FitsParcel, IsForTask, IsOrderly, IsStandOf, IsTaskOrderly}
 use Rattle.event_worlds.specs.Worlds.{Acted, AckerSide, TaskSide, World, acker_at, acker_step, acted, acted_past, answered, delivered, executed, execution_by, first_needs, first_stand, first_task, first_world, gets_message, gets_tuple, needed_by, needed_past, no_acker, no_task, opened, outcome_step, sent, stand_moved, stand_past, task_at, task_needs, task_step, tick_step, tuples_made, turn_needs, turn_needs_past, turn_past, turn_step, turned_in, with_acker, with_progress, with_task, with_turn}
-use Rattle.event_worlds.proofs.Rows.{HasRow, batch_has_rows, children_have_rows, first_lanes_are_sound, go_by_component}
+use Rattle.event_worlds.proofs.Rows.{HasRow, children_have_rows, first_lanes_are_sound, go_by_component, spans_have_rows}
 use Rattle.commit_order.specs.output_collector.Outlets.{AreLanesOf, after_rows}
 use Rattle.commit_order.proofs.output_collector.Lanes.{All-after, AreLanesOf-after, AreLanesOf-started}
 use Rattle.commit_order.proofs.output_collector.Targets.{go_to}
@@ -38,6 +38,8 @@ use Rattle.commit_order.specs.tuple_account.Histories.{Execution, GoTo, IsExecut
 use Rattle.commit_order.specs.tuple_account.Issued.{children_of, course_of_run, first_tuples, init_of, node_of, notes_of, tuples_from}
 use Rattle.commit_order.specs.tuple_tickets.Tickets.{made_by}
 use Rattle.commit_order.specs.tuple_tickets.Trees.{Course, goes, fails, mute}
+use Rattle.commit_order.specs.commit_turns.declared.wait.Wait.{Wait}
+use Rattle.commit_order.specs.commit_turns.Outcomes.{Begin}
 
 -- ---- parcels
 
@@ -130,65 +132,62 @@ module _ (t : Topology) (custom : Custom) (valid : IsValid t) (wired : IsWired t
     stand_on t (origin.Component (component_of t n)) s (rows_of t custom tuple) _ stand,
   )
 
--- ---- roots that begin
+-- ---- attempts that begin
 
--- Roots begin well one after another: all that is sent fits, each opening is well made, with an id
--- for each first tuple of its root, and the spout keeps its own lanes.
-pub record AreOpened (t : Topology) (cut : Cut) (s : Stand) (roots : List Root) (ids : List ℕ) (openings : List Opening) (end : Stand) : Type 0 where
+-- Attempts begin well one after another: all that is sent fits, each opening is well made, and the
+-- spout keeps its own lanes.
+pub record AreOpened (t : Topology) (cut : Cut) (s : Stand) (begins : List Wait) (ids : List ℕ) (openings : List Opening) (end : Stand) : Type 0 where
   pub fit : AllByRecursion (FitsParcel t) (flat_map (opening_parcels t) openings)
   pub well : AllByRecursion (IsOpening t) openings
   pub stand : IsStandOf t origin.Spout end
-  pub begun : map (λ (o : Opening). o.begun.root) openings ≡ roots
-  pub opened : OpenFrom cut (tasks_in_all t) s openings end
-  pub needs : AllByRecursion (λ (o : Opening). length o.begun.ids ≡ first_needs t cut o.begun.root) openings
+  pub begun : Begin openings begins
+  pub opened : OpenFrom cut (tasks_in_all t) s begins openings end
   pub drawn : ids_drawn openings ≡ ids
 
 module _ (t : Topology) (cut : Cut) (input : IsInput t cut) where
-  -- what one root's beginning sends
-  opening_well : (s : Stand) (root : Root) (ids : List ℕ) → IsStandOf t origin.Spout s → length ids ≡ first_needs t cut root
-      → IsOpening t (opening_of cut s.outlet (tasks_in_all t) s.given root ids)
-  opening_well s root ids is enough = record {
+  -- what one attempt's beginning sends
+  opening_well : (s : Stand) (w : Wait) (ids : List ℕ) → IsStandOf t origin.Spout s → length ids ≡ first_needs t cut w
+      → IsOpening t (opening_of cut s.outlet (tasks_in_all t) s.given w ids)
+  opening_well s w ids is enough = record {
     source = refl;
     ids = enough;
-    sent = go_to t origin.Spout s.outlet.lanes input.valid input.wired (own_lanes t origin.Spout s is) is.sound root [] (rows_in cut root.txid) ids enough;
+    sent = go_to t origin.Spout s.outlet.lanes input.valid input.wired (own_lanes t origin.Spout s is) is.sound w.root [] (rows_at cut w.spans) ids enough;
   }
 
-  opening_fits : (s : Stand) (root : Root) (ids : List ℕ) → IsStandOf t origin.Spout s → length ids ≡ first_needs t cut root
-      → AllByRecursion (FitsParcel t) (opening_parcels t (opening_of cut s.outlet (tasks_in_all t) s.given root ids))
-  opening_fits s root ids is enough =
-      let o : Opening = opening_of cut s.outlet (tasks_in_all t) s.given root ids in
+  opening_fits : (s : Stand) (w : Wait) (ids : List ℕ) → IsStandOf t origin.Spout s → length ids ≡ first_needs t cut w
+      → AllByRecursion (FitsParcel t) (opening_parcels t (opening_of cut s.outlet (tasks_in_all t) s.given w ids))
+  opening_fits s w ids is enough =
+      let o : Opening = opening_of cut s.outlet (tasks_in_all t) s.given w ids in
       each-append (FitsParcel t) (to_tasks (first_tuples t o.begun) o.targets) (to_acker t (init_of t o.begun) ∷ [])
-      (tuples_fit t (first_tuples t o.begun) o.targets (opening_well s root ids is enough).sent
-      (rows_of_tuples t root [] 0 (kids t origin.Spout (rows_in cut root.txid)) ids (batch_has_rows t input.valid input.wired cut input.rows root.txid)))
+      (tuples_fit t (first_tuples t o.begun) o.targets (opening_well s w ids is enough).sent
+      (rows_of_tuples t w.root [] 0 (kids t origin.Spout (rows_at cut w.spans)) ids (spans_have_rows t input.valid input.wired cut input.rows w.spans)))
       (message_fits t input.valid (init_of t o.begun), tt)
 
-  pub opened-fits : (s : Stand) (roots : List Root) (ids : List ℕ) → IsStandOf t origin.Spout s → length ids ≡ sum (map (first_needs t cut) roots)
-      → AreOpened t cut s roots ids (opened t cut s roots ids) (stand_past t cut (opened t cut s roots ids) s)
+  pub opened-fits : (s : Stand) (begun : List Wait) (ids : List ℕ) → IsStandOf t origin.Spout s → length ids ≡ sum (map (first_needs t cut) begun)
+      → AreOpened t cut s begun ids (opened t cut s begun ids) (stand_past t cut (opened t cut s begun ids) s)
   opened-fits s [] ids is enough = record {
     fit = tt;
     well = tt;
     stand = is;
     begun = refl;
     opened = refl;
-    needs = tt;
     drawn = sym (nil_from_length ids enough);
   }
-  opened-fits s (root ∷ roots) ids is enough =
-      let need : ℕ = first_needs t cut root in
-      let all : length ids ≡ need + sum (map (first_needs t cut) roots) = enough ∙ sum_by-cons (λ n. n) need (map (first_needs t cut) roots) in
+  opened-fits s (w ∷ begun) ids is enough =
+      let need : ℕ = first_needs t cut w in
+      let all : length ids ≡ need + sum (map (first_needs t cut) begun) = enough ∙ sum_by-cons (λ n. n) need (map (first_needs t cut) begun) in
       let own : length (take need ids) ≡ need = length-take-le need ids (omega arith) in
-      let left : length (drop need ids) ≡ sum (map (first_needs t cut) roots) = omega (arith, length-drop need ids) in
-      let o : Opening = opening_of cut s.outlet (tasks_in_all t) s.given root (take need ids) in
-      let next : IsStandOf t origin.Spout (stand_after o s) = stand_on t origin.Spout s (rows_in cut root.txid) _ is in
-      let rest = opened-fits (stand_after o s) roots (drop need ids) next left in
-      let first_kids : kids t origin.Spout (rows_in cut root.txid) ≡ kids s.outlet.topology s.outlet.from (rows_in cut root.txid) = λ i. kids (sym is.topology i) (sym is.of_source i) (rows_in cut root.txid) in
+      let left : length (drop need ids) ≡ sum (map (first_needs t cut) begun) = omega (arith, length-drop need ids) in
+      let o : Opening = opening_of cut s.outlet (tasks_in_all t) s.given w (take need ids) in
+      let next : IsStandOf t origin.Spout (stand_after o s) = stand_on t origin.Spout s (rows_at cut w.spans) _ is in
+      let rest = opened-fits (stand_after o s) begun (drop need ids) next left in
+      let first_kids : kids t origin.Spout (rows_at cut w.spans) ≡ kids s.outlet.topology s.outlet.from (rows_at cut w.spans) = λ i. kids (sym is.topology i) (sym is.of_source i) (rows_at cut w.spans) in
       record {
-        fit = each-append (FitsParcel t) (opening_parcels t o) _ (opening_fits s root (take need ids) is own) rest.fit;
-        well = (opening_well s root (take need ids) is own, rest.well);
+        fit = each-append (FitsParcel t) (opening_parcels t o) _ (opening_fits s w (take need ids) is own) rest.fit;
+        well = (opening_well s w (take need ids) is own, rest.well);
         stand = rest.stand;
-        begun = ap (λ rs. root ∷ rs) rest.begun;
+        begun = ap (λ (rs : List Root). w.root ∷ rs) rest.begun;
         opened = (refl, own ∙ ap length first_kids, rest.opened);
-        needs = (own, rest.needs);
         drawn = ap (λ xs. take need ids ++ xs) rest.drawn ∙ take-append-drop need ids;
       }
 

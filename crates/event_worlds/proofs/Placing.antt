@@ -3,7 +3,7 @@ use Rattle.std.proofs.Common.{◌≡◌, ℕ, ◌+◌, List, [], ◌∷◌, ◌+
 use Rattle.std.specs.List.{AllByRecursion, range_with_len}
 use Rattle.std.proofs.lemmas.List.{length-append}
 use Rattle.commit_order.specs.Orders.{OpenFrom, Stand, ids_drawn, stand_after}
-use Rattle.commit_order.specs.commit_turns.Account.{rows_in}
+use Rattle.commit_order.specs.commit_turns.declared.wait.Wait.{Wait}
 use Rattle.commit_order.specs.counted_items.Weights.{weigh}
 use Rattle.event_worlds.specs.Added.{placed}
 use Rattle.event_worlds.specs.Worlds.{ended}
@@ -12,7 +12,6 @@ use Rattle.commit_order.specs.topology_plan.Topology.{Topology}
 use Rattle.commit_order.specs.tree_model.declared.messages.AckMsg.TheVariants as msg
 use Rattle.commit_order.specs.trident_batches.Batches.{Cut}
 use Rattle.commit_order.specs.tuple_account.Histories.{IsOpening, Opening, opening_parcels, opening_spans, to_acker, to_tasks}
-use Rattle.commit_order.specs.tuple_account.Moves.{AreRows}
 use Rattle.commit_order.specs.tuple_account.Places.{HasWords, spans}
 use Rattle.commit_order.proofs.tuple_account.Placing.{spans-more}
 use Rattle.commit_order.specs.tuple_account.Issued.{edges_of, first_tuples}
@@ -72,22 +71,21 @@ placed-spans n at s j (o ∷ openings) of_source =
     let e = ap (λ (a : ℕ). spans n 0 a s j) (let f : (at + count) + length (ids_drawn openings) ≡ at + length (ids_drawn (o ∷ openings)) = omega arith in f) in omega arith
 
 module _ (t : Topology) (cut : Cut) (source : ℕ) where
-  pub placed-rows : (at : ℕ) (s end : Stand) (openings : List Opening) → OpenFrom cut source s openings end → AreRows (λ root. rows_in cut root.txid) (placed at openings)
-  placed-rows at s end [] from = tt
-  placed-rows at s end (o ∷ openings) from =
-      (ap (λ (x : Opening). x.begun.rows) from.0, placed-rows (at + length o.begun.ids) (stand_after o s) end openings from.2)
-
-  pub placed-parcels : (at : ℕ) (s end : Stand) (openings : List Opening) → s.given ≡ ended at → OpenFrom cut source s openings end
+  pub placed-parcels : (at : ℕ) (s end : Stand) (begun : List Wait) (openings : List Opening) → s.given ≡ ended at → OpenFrom cut source s begun openings end
       → flat_map (opening_parcels t) (placed at openings) ≡ flat_map (opening_parcels t) openings
-  placed-parcels at s end [] given from = refl
-  placed-parcels at s end (o ∷ openings) given from =
+  placed-parcels at s end [] [] given from = refl
+  placed-parcels at s end [] (o ∷ openings) given from = absurd from
+  placed-parcels at s end (w ∷ begun) [] given from = absurd from
+  placed-parcels at s end (w ∷ begun) (o ∷ openings) given from =
       let place : o.begun.at ≡ s.given = ap (λ (x : Opening). x.begun.at) from.0 in
       let here = shown_opening t o at o.begun.at (let e : ended at ≡ ended o.begun.at = omega arith in e) in
-      let later = placed-parcels (at + length o.begun.ids) (stand_after o s) end openings (omega arith) from.2 in
+      let later = placed-parcels (at + length o.begun.ids) (stand_after o s) end begun openings (omega arith) from.2 in
       λ i. here i ++ later i
 
-  pub given-past : (at : ℕ) (s end : Stand) (openings : List Opening) → s.given ≡ ended at → OpenFrom cut source s openings end → end.given ≡ ended (at + length (ids_drawn openings))
-  given-past at s end [] given from = let e = ap (λ (x : Stand). x.given) from in omega arith
-  given-past at s end (o ∷ openings) given from =
+  pub given-past : (at : ℕ) (s end : Stand) (begun : List Wait) (openings : List Opening) → s.given ≡ ended at → OpenFrom cut source s begun openings end → end.given ≡ ended (at + length (ids_drawn openings))
+  given-past at s end [] [] given from = let e = ap (λ (x : Stand). x.given) from in omega arith
+  given-past at s end [] (o ∷ openings) given from = absurd from
+  given-past at s end (w ∷ begun) [] given from = absurd from
+  given-past at s end (w ∷ begun) (o ∷ openings) given from =
       let size = length-append o.begun.ids (ids_drawn openings) in
-      let later = given-past (at + length o.begun.ids) (stand_after o s) end openings (omega arith) from.2 in omega arith
+      let later = given-past (at + length o.begun.ids) (stand_after o s) end begun openings (omega arith) from.2 in omega arith

@@ -1,6 +1,6 @@
 -- Rows of a plan: each node's is within limits and as wide as its component takes, and where its
 -- tuples go.
-use Rattle.std.proofs.Common.{◌≡◌, ℕ, zero, suc, ◌≤◌, List, [], ◌∷◌, length, map, take, replicate, sum, sum_by, All, Option, Some, None, IfSome, slice_get, get_or, sym, subst, refl, ap, ◌∙◌, mod-lt, arith}
+use Rattle.std.proofs.Common.{◌≡◌, ℕ, zero, suc, ◌≤◌, List, [], ◌∷◌, length, map, take, replicate, sum, sum_by, All, Option, Some, None, IfSome, slice_get, get_or, sym, subst, refl, ap, ◌∙◌, mod-lt, arith, ◌-◌}
 use Rattle.std.specs.List.{AllByRecursion}
 use Rattle.std.specs.Option.{option_map_or}
 use Rattle.std.proofs.lemmas.List.{take-map}
@@ -13,8 +13,8 @@ use Rattle.commit_order.specs.bolt_ops.declared.operation.Outcome.TheVariants as
 use Rattle.commit_order.proofs.bolt_ops.Lengths.{out-within}
 use Rattle.commit_order.proofs.bolt_ops.Outcomes.{rows_from_exec_of}
 use Rattle.bolt_task.specs.Executing.{answered}
-use Rattle.commit_order.specs.commit_turns.Account.{rows_in}
-use Rattle.commit_order.proofs.counted_items.Each.{each-flat_map, each-weaker}
+use Rattle.commit_order.specs.commit_turns.Account.{rows_at}
+use Rattle.commit_order.proofs.counted_items.Each.{each-flat_map, each-weaker, each-any}
 use Rattle.groupings.specs.declared.lane.Lane.{Lane}
 use Rattle.groupings.specs.Allowed.{IsLane}
 use Rattle.groupings.specs.Routing.{first_task_of, lane_of, lanes_of}
@@ -41,6 +41,9 @@ use Rattle.commit_order.specs.tuple_account.Histories.{GoTo}
 use Rattle.commit_order.specs.tuple_account.Issued.{tuples_from}
 use Rattle.commit_order.specs.tuple_tickets.Tickets.{made_by}
 use Rattle.commit_order.specs.tuple_tickets.Trees.{mute}
+use Rattle.commit_order.specs.attempt_fates.Fates.{record_at}
+use Rattle.commit_order.specs.record_spans.declared.span.Span.{Span}
+use Rattle.commit_order.specs.record_spans.Spans.{records_of}
 
 -- ---- nodes with good rows
 
@@ -85,12 +88,17 @@ module _ (t : Topology) (valid : IsValid t) (wired : IsWired t) where
   pub children_have_rows : (custom : Custom) → IsCustom custom → (node : Node) → HasRow t node → AllByRecursion (HasRow t) (kids_of t custom node)
   children_have_rows custom keeps node has = by_component custom keeps node (slice_get t.components node.component) refl has
 
-  -- the first nodes of a batch
-  pub batch_has_rows : (cut : Cut) → All (IsRow (width_of t origin.Spout)) cut.records → (txid : ℕ) → AllByRecursion (HasRow t) (kids t origin.Spout (rows_in cut txid))
-  batch_has_rows cut all txid =
-      kids_have_rows origin.Spout (rows_in cut txid)
-      (recursion_from_All (IsRow (width_of t origin.Spout)) (rows_in cut txid)
-      (All-take (IsRow (width_of t origin.Spout)) cut.size _ (All-drop (IsRow (width_of t origin.Spout)) _ cut.records all)))
+  -- the first nodes of an attempt
+  pub spans_have_rows : (cut : Cut) → All (IsRow (width_of t origin.Spout)) cut.records → (spans : List Span) → AllByRecursion (HasRow t) (kids t origin.Spout (rows_at cut spans))
+  spans_have_rows cut all spans =
+      kids_have_rows origin.Spout (rows_at cut spans)
+      (each-flat_map (IsRow (width_of t origin.Spout)) (record_at cut.records) (records_of spans)
+      (each-any (λ (n : ℕ). AllByRecursion (IsRow (width_of t origin.Spout)) (record_at cut.records n)) of_record (records_of spans)))
+    where
+      of_record : (n : ℕ) → AllByRecursion (IsRow (width_of t origin.Spout)) (record_at cut.records n)
+      of_record n =
+          recursion_from_All (IsRow (width_of t origin.Spout)) (record_at cut.records n)
+          (All-take (IsRow (width_of t origin.Spout)) 1 _ (All-drop (IsRow (width_of t origin.Spout)) (n - 1) cut.records all))
 
 -- ---- where the tuples of an execution go
 

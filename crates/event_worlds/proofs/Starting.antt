@@ -4,7 +4,7 @@ use Rattle.std.specs.List.{AllByRecursion, range_with_len}
 use Rattle.std.proofs.lemmas.List.FromFn.{get_or-map-range_with_len, map-range_with_len_more}
 use Rattle.commit_order.specs.acker_core.Entries.{AreSilent}
 use Rattle.commit_order.specs.bolt_ops.RowOp.{Custom}
-use Rattle.commit_order.specs.commit_turns.Account.{desk_of, ends_of, rows_in}
+use Rattle.commit_order.specs.commit_turns.Account.{desk_of, ends_of}
 use Rattle.commit_order.specs.commit_turns.Desks.{first_desk}
 use Rattle.commit_order.specs.commit_turns.Kept.{IsKept}
 use Rattle.commit_order.specs.counted_items.Weights.{weigh}
@@ -139,7 +139,7 @@ module _ (t : Topology) (custom : Custom) (cut : Cut) (words : ℕ → ℕ → �
       let c = few_first s in omega arith
 
   -- start words alone led to the first world
-  pub led-first : IsKept t cut first_desk [] → Fits t (rows_in cut) (desk_of first_desk) (ends_of []) nothing → LedTo t custom cut words (first_history t words) (first_known t words)
+  pub led-first : IsKept t cut first_desk [] → Fits t (desk_of first_desk) (ends_of []) nothing → LedTo t custom cut words (first_history t words) (first_known t words)
   led-first kept fits = record {
     reached = record { moves = moves; once = λ root. omega arith };
     drawn = record { of_begun = tt; of_runs = tt };
@@ -147,7 +147,8 @@ module _ (t : Topology) (custom : Custom) (cut : Cut) (words : ℕ → ℕ → �
     orderly = orderly-first t cut input words;
     counted = counted;
     kept = kept;
-    fits = fits-alike t (rows_in cut) (desk_of first_desk) (ends_of []) nothing (first_history t words) refl refl fits;
+    fits = fits-alike t (desk_of first_desk) (ends_of []) nothing (first_history t words) refl refl fits;
+    spans = record { waits = tt; ends = tt };
     silent = all_silent t.ackers;
     ticks = omega arith;
     unheard = omega arith;

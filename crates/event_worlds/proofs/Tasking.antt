@@ -30,6 +30,7 @@ use Rattle.commit_order.proofs.tuple_account.Moving.{drawn-both}
 use Rattle.commit_order.specs.tuple_account.Issued.{Run, children_of, course_of_run, edges_of, node_of, notes_by}
 use Rattle.commit_order.specs.tuple_tickets.Trees.{Course, fails, goes, mute}
 use Rattle.std.specs.Option.{option_to_list}
+use Rattle.event_worlds.proofs.Spans.{spans-alike}
 
 -- ---- places up to 2^64 - 1
 
@@ -104,6 +105,7 @@ module _ (t : Topology) (custom : Custom) (cut : Cut) (words : ℕ → ℕ → �
         counted = counted-same t (with_task n y w) c now same (counted-set t w c n y below refl led.counted);
         kept = led.kept;
         fits = led.fits;
+        spans = led.spans;
         silent = led.silent;
         ticks = led.ticks;
         unheard = led.unheard;
@@ -128,6 +130,7 @@ module _ (t : Topology) (custom : Custom) (cut : Cut) (words : ℕ → ℕ → �
         counted = counted-same t (with_task n side w) c now same (counted-set t w c n side below refl led.counted);
         kept = led.kept;
         fits = led.fits;
+        spans = led.spans;
         silent = led.silent;
         ticks = led.ticks;
         unheard = led.unheard;
@@ -193,7 +196,8 @@ module _ (t : Topology) (custom : Custom) (cut : Cut) (words : ℕ → ℕ → �
       orderly = fit;
       counted = counted;
       kept = led.kept;
-      fits = fits-alike t _ _ _ h (joined h (executing e)) (sym (append-nil h.begun)) (sym (append-nil h.heard)) led.fits;
+      fits = fits-alike t _ _ h (joined h (executing e)) (sym (append-nil h.begun)) (sym (append-nil h.heard)) led.fits;
+      spans = spans-alike cut _ _ h.begun (joined h (executing e)).begun (sym (append-nil h.begun)) led.spans;
       silent = led.silent;
       ticks = led.ticks;
       unheard = led.unheard;

@@ -6,11 +6,10 @@ use Rattle.commit_order.specs.acker_core.declared.verdict.Verdict.TheVariants.{C
 use Rattle.commit_order.specs.attempt_fates.declared.fates.End.TheVariants as end
 use Rattle.commit_order.specs.commit_turns.declared.wait.Wait.{Wait}
 use Rattle.commit_order.specs.commit_turns.Desks.{Desk, still, timed_of}
-use Rattle.commit_order.specs.commit_turns.Turns.{begun, complete_timed, decided, decided_by, end_timed, fill_more, filled, has_no_tick, heard, is_closed, last_tick, next_root, next_to_commit, one_tick, ordered, passed, ticked, turned, turned_by}
+use Rattle.commit_order.specs.commit_turns.Turns.{begun, complete_timed, decided, decided_by, end_timed, fill_more, filled, has_no_tick, heard, is_closed, last_tick, next_to_commit, one_tick, ordered, passed, ticked, turned, turned_by, next_wait}
 use Rattle.event_worlds.specs.Worlds.{ended}
 use Rattle.commit_order.specs.state_parts.declared.answer.CommitOutcome.{CommitOutcome}
 use Rattle.commit_order.specs.state_parts.declared.answer.CommitOutcome.TheVariants.{Done, Failed}
-use Rattle.commit_order.specs.storm_values.declared.value.Root.{Root}
 use Rattle.commit_order.specs.topology_plan.Topology.{Topology}
 use Rattle.commit_order.specs.trident_batches.Batches.{Cut}
 
@@ -51,9 +50,9 @@ module _ (t : Topology) (cut : Cut) where
 
   filled-tick : (places : ℕ) (d : Desk) → (filled t cut places d).desk.tick ≡ d.tick
   filled-tick zero d = refl
-  filled-tick (suc places) d = by (next_root t cut d) (λ root. filled-tick places (begun t cut root d))
+  filled-tick (suc places) d = by (next_wait t cut d) (λ w. filled-tick places (begun t cut w d))
     where
-      by : (o : Option Root) → ((root : Root) → (filled t cut places (begun t cut root d)).desk.tick ≡ d.tick) → (fill_more t cut (filled t cut places) d o).desk.tick ≡ d.tick
+      by : (o : Option Wait) → ((w : Wait) → (filled t cut places (begun t cut w d)).desk.tick ≡ d.tick) → (fill_more t cut (filled t cut places) d o).desk.tick ≡ d.tick
       by None later = refl
       by (Some root) later = later root
 

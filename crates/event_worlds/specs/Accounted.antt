@@ -1,12 +1,12 @@
 -- What led to a world: the account of tuples and the coordinator's own account fit it.
 -- This project's own.
-use Rattle.std.specs.Prelude.{◌≡◌, ◌≤◌, ◌<◌, ◌^◌, ℕ, ◌+◌, ◌-◌, ◌*◌, List, [], ◌∷◌, All, length}
+use Rattle.std.specs.Prelude.{◌≡◌, ◌≤◌, ◌<◌, ◌^◌, ℕ, ◌+◌, ◌-◌, ◌*◌, if◌then◌else◌, List, [], ◌∷◌, All, length}
 use Rattle.std.specs.List.{AllByRecursion}
 use Rattle.commit_order.specs.acker_core.Entries.{AreSilent}
 use Rattle.commit_order.specs.attempt_fates.declared.fates.Attempt.{Attempt}
 use Rattle.commit_order.specs.bolt_ops.RowOp.{Custom}
-use Rattle.commit_order.specs.commit_turns.Account.{desk_of, ends_of, rows_in}
-use Rattle.commit_order.specs.commit_turns.Kept.{IsKept}
+use Rattle.commit_order.specs.commit_turns.Account.{desk_of, ends_of, ended_of, ending_of, rows_at}
+use Rattle.commit_order.specs.commit_turns.Kept.{IsKept, HaveSpans}
 use Rattle.commit_order.specs.counted_items.Weights.{weigh}
 use Rattle.event_worlds.specs.Orderly.{IsOrderly}
 use Rattle.event_worlds.specs.Worlds.{AckerSide, Known, TaskSide, ended, task_at}
@@ -20,12 +20,15 @@ use Rattle.commit_order.specs.tree_model.declared.messages.Parcel.TheVariants.{T
 use Rattle.commit_order.specs.tree_model.Trees.{node_count}
 use Rattle.commit_order.specs.trident_batches.Batches.{Cut}
 use Rattle.commit_order.specs.tuple_account.Drawn.{AreDrawn, started}
-use Rattle.commit_order.specs.tuple_account.Ends.{HasCause, lists_of}
+use Rattle.commit_order.specs.tuple_account.Ends.{lists_of, CauseBy}
 use Rattle.commit_order.specs.tuple_account.Fits.{Fits}
-use Rattle.commit_order.specs.tuple_account.Histories.{History, Packet, of_parcel, of_verdict, weigh_parcels}
+use Rattle.commit_order.specs.tuple_account.Histories.{History, Packet, of_parcel, of_verdict, weigh_parcels, Opening, rows_in}
 use Rattle.commit_order.specs.tuple_account.Moves.{HasDrawn, Reached, Station}
 use Rattle.commit_order.specs.tuple_account.Parts.{weigh_entries}
 use Rattle.commit_order.specs.tuple_account.Places.{before}
+use Rattle.commit_order.specs.record_spans.declared.span.Span.{Span}
+use Rattle.commit_order.specs.rotating_ledger.Held.{root_eq}
+use Rattle.commit_order.specs.storm_values.declared.value.Value.{Value}
 
 -- ---- what waits
 
@@ -71,6 +74,10 @@ pub record IsCounted (t : Topology) (k : Known) : Type 0 where
       → (task_at t n k.world).stand.given ≡ ended (k.counts n)
   pub spout : k.world.spout.given ≡ ended (k.counts (tasks_in_all t))
 
+-- an attempt of a root has these spans: their records are the rows that the root was begun with
+abbrev pub BeganWith : Cut → List Opening → Root → List Span → Type 0
+BeganWith cut begun root spans = rows_at cut spans ≡ rows_in begun root
+
 -- A history led to a world, where sources have these words and all that waits is this: what waits
 -- in the world, or more beside it.
 pub record LedAt (t : Topology) (custom : Custom) (cut : Cut) (words : ℕ → ℕ → ℕ) (all : Station)
@@ -81,7 +88,8 @@ pub record LedAt (t : Topology) (custom : Custom) (cut : Cut) (words : ℕ → �
   pub orderly : IsOrderly t k.world
   pub counted : IsCounted t k
   pub kept : IsKept t cut k.world.desk k.world.fates
-  pub fits : Fits t (rows_in cut) (desk_of k.world.desk) (ends_of k.world.fates) h
+  pub fits : Fits t (desk_of k.world.desk) (ends_of k.world.fates) h
+  pub spans : HaveSpans (BeganWith cut h.begun) k.world.desk k.world.fates
   pub silent : AllByRecursion (λ (side : AckerSide). AreSilent side.entries) k.world.ackers
   -- the coordinator counted no ticks but those that were handed out, and counts no more of them
   pub ticks : k.world.desk.tick ≤ k.world.tick
@@ -102,11 +110,23 @@ Accounted t custom cut words k = (h : History) × LedTo t custom cut words h k
 abbrev pub most_words : Topology → Custom → Cut → List Attempt → ℕ
 most_words t custom cut fates = 40 + (length fates + 64) * node_count t custom cut.records
 
+-- the attempt's end has its cause in the attempt's own records
+abbrev pub IsCausedEnd : Topology → Custom → Cut → ℕ → Attempt → Type 0
+IsCausedEnd t custom cut ticks a =
+    CauseBy t custom (rows_at cut a.spans) ticks (ended_of a) (ending_of a.end)
+
+-- The records of the first of these attempts that is of a root, and none where there is none. The
+-- lists of sound ends have no messages of other roots.
+abbrev pub rows_by : Cut → List Attempt → Root → List (List Value)
+rows_by cut [] root = []
+rows_by cut (a ∷ fates) root =
+    if root_eq a.root root then rows_at cut a.spans else rows_by cut fates root
+
 -- each attempt's end has its cause, where so many ticks were handed out, and the ids of all lists
 -- are drawn: words of their sources, each in one message only
 pub record AreCaused (t : Topology) (custom : Custom) (cut : Cut) (ticks : ℕ)
     (words : ℕ → ℕ → ℕ) (fates : List Attempt) : Type 0 where
-  pub each : AllByRecursion (HasCause t custom (rows_in cut) ticks) (ends_of fates)
+  pub each : AllByRecursion (IsCausedEnd t custom cut ticks) fates
   pub drawn : most_words t custom cut fates < 2 ^ 64
-      → AreDrawn t custom (λ (root : Root). rows_in cut root.txid) words
-      (most_words t custom cut fates) (lists_of (ends_of fates))
+      → AreDrawn t custom (rows_by cut fates) words (most_words t custom cut fates)
+      (lists_of (ends_of fates))

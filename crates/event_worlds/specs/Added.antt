@@ -65,7 +65,7 @@ placed at (o ∷ openings) =
     record o { begun = record o.begun { at = at } } ∷ placed (at + length o.begun.ids) openings
 
 module _ (t : Topology) (cut : Cut) where
-  -- the front verdict is heard, and roots begin
+  -- the front verdict is heard, and attempts begin
   abbrev pub turn_adds_past : ℕ → List ℕ → World → List Parcel → History
   turn_adds_past at ids w (parcel ∷ rest) = nothing
   turn_adds_past at ids w [] =

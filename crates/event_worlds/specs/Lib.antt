@@ -14,6 +14,7 @@ pub use Rattle.commit_order.specs.counted_items as counted_items
 pub use Rattle.groupings.specs as groupings
 pub use Rattle.commit_order.specs.output_collector as output_collector
 pub use Rattle.commit_order.specs.rotating_ledger as rotating_ledger
+pub use Rattle.commit_order.specs.record_spans as record_spans
 pub use Rattle.commit_order.specs.state_parts as state_parts
 pub use Rattle.commit_order.specs.storm_ids as storm_ids
 pub use Rattle.commit_order.specs.storm_values as storm_values

@@ -12,7 +12,7 @@ use Rattle.commit_order.specs.attempt_fates.declared.fates.End.TheVariants as en
 use Rattle.commit_order.specs.bolt_ops.RowOp.{Custom}
 use Rattle.bolt_task.specs.Executing.{rows_of}
 use Rattle.commit_order.specs.Orders.{Stand, opening_of, stand_after}
-use Rattle.commit_order.specs.commit_turns.Account.{rows_in}
+use Rattle.commit_order.specs.commit_turns.Account.{rows_at}
 use Rattle.commit_order.specs.commit_turns.Desks.{Desk, Progress, first_desk}
 use Rattle.commit_order.specs.commit_turns.Turns.{Turned, decided, is_finished, turned}
 use Rattle.groupings.specs.Routing.{lanes_of}
@@ -21,7 +21,6 @@ use Rattle.commit_order.specs.output_collector.Outlets.{after_rows, tasks_for}
 use Rattle.commit_order.specs.rotating_ledger.Held.{Held, rotated}
 use Rattle.commit_order.specs.state_parts.declared.answer.CommitOutcome.{CommitOutcome}
 use Rattle.commit_order.specs.state_parts.declared.answer.CommitOutcome.TheVariants.{Done, Failed}
-use Rattle.commit_order.specs.storm_values.declared.value.Root.{Root}
 use Rattle.commit_order.specs.storm_values.declared.value.Value.{Value}
 use Rattle.commit_order.specs.topology_plan.declared.parts.Origin.{Origin}
 use Rattle.commit_order.specs.topology_plan.declared.parts.Origin.TheVariants as origin
@@ -36,6 +35,7 @@ use Rattle.commit_order.specs.trident_batches.Batches.{Cut}
 use Rattle.commit_order.specs.tuple_account.Issued.{node_of}
 use Rattle.commit_order.specs.tuple_tickets.Tickets.{made_by}
 use Rattle.commit_order.specs.tuple_account.Histories.{Execution, Opening, execution_parcels, opening_parcels}
+use Rattle.commit_order.specs.commit_turns.declared.wait.Wait.{Wait}
 
 -- ---- who has what
 
@@ -224,19 +224,19 @@ acker_step t n w = record w {
 -- ---- the coordinator
 
 module _ (t : Topology) (cut : Cut) where
-  -- how many tuples a root begins with, each of which needs an id
-  abbrev pub first_needs : Root → ℕ
-  first_needs root = length (kids t origin.Spout (rows_in cut root.txid))
+  -- how many tuples an attempt begins with, each of which needs an id
+  abbrev pub first_needs : Wait → ℕ
+  first_needs w = length (kids t origin.Spout (rows_at cut w.spans))
 
-  -- roots begin one after another, each with the next of these ids
-  abbrev pub opened : Stand → List Root → List ℕ → List Opening
+  -- attempts begin one after another, each with the next of these ids
+  abbrev pub opened : Stand → List Wait → List ℕ → List Opening
   opened s [] ids = []
-  opened s (root ∷ roots) ids =
-      opening_of cut s.outlet (tasks_in_all t) s.given root (take (first_needs root) ids)
+  opened s (w ∷ begun) ids =
+      opening_of cut s.outlet (tasks_in_all t) s.given w (take (first_needs w) ids)
       ∷ opened
       (stand_after
-      (opening_of cut s.outlet (tasks_in_all t) s.given root (take (first_needs root) ids)) s)
-      roots (drop (first_needs root) ids)
+      (opening_of cut s.outlet (tasks_in_all t) s.given w (take (first_needs w) ids)) s)
+      begun (drop (first_needs w) ids)
 
   -- where rows go, and how many words were given, after these openings
   abbrev pub stand_past : List Opening → Stand → Stand

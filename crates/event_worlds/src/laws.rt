@@ -1,7 +1,7 @@
 ghost use Rattle.std.specs.Prelude.{◌≡◌, ℕ, List, Some, All, slice_get};
 ghost use Rattle.commit_order.specs.bolt_ops.RowOp.{Custom, IsCustom};
 ghost use Rattle.commit_order.specs.commit_turns.declared.wait.Wait.{Wait};
-ghost use Rattle.commit_order.specs.commit_turns.Account.{rows_in};
+ghost use Rattle.commit_order.specs.commit_turns.Account.{rows_at, rows_in};
 ghost use Rattle.commit_order.specs.commit_turns.Outcomes.{IsOutcome};
 ghost use Rattle.event_worlds.specs.Accounted.{Accounted, AreCaused, IsInput, LedAt, LedTo};
 ghost use Rattle.event_worlds.specs.Beside.{IsFreeStep, LedBeside};
@@ -13,9 +13,10 @@ ghost use Rattle.commit_order.specs.tree_model.declared.messages.AckMsg.{AckMsg}
 ghost use Rattle.commit_order.specs.tree_model.Lists.{Covers, IsClosed};
 ghost use Rattle.commit_order.specs.trident_batches.Batches.{Cut};
 ghost use Rattle.commit_order.specs.tuple_account.Histories.{History, Packet, joined};
-ghost use Rattle.commit_order.specs.tuple_account.Moves.{Station};
+ghost use Rattle.commit_order.specs.tuple_account.Moves.{AreRows, Station};
 ghost use Rattle.commit_order.specs.tuple_account.Sound.{IsSound};
 
+use commit_order::attempt_fates::batches_are_the_records_of_their_spans;
 use commit_order::commit_turns::{accounts_stay_fit, desks_are_kept};
 use commit_order::tree_model::nodes_of_joined_rows;
 
@@ -76,18 +77,29 @@ pub fn ends_of_worlds_have_causes()
         → IsInput t cut → Accounted t custom cut words k
         → AreCaused t custom cut k.world.desk.tick words k.world.fates }
 {
+    batches_are_the_records_of_their_spans();
     nodes_of_joined_rows();
 }
 
+/// A law: what led to a world began each root with the rows of its batch.
+pub fn roots_begin_with_their_batches()
+    ensures { (t : Topology) (custom : Custom) (cut : Cut) (words : ℕ → ℕ → ℕ) (all : Station)
+        (h : History) (k : Known)
+        → IsInput t cut → LedAt t custom cut words all h k
+        → AreRows (λ root. rows_in cut root.txid) h.begun }
+{
+    batches_are_the_records_of_their_spans();
+}
+
 /// A law: in each such world a list that a pending attempt was settled with is true, single, steady
-/// and closed, and covers the tuple tree of its batch.
+/// and closed, and covers the tuple tree of its records.
 pub fn settled_lists_are_whole()
     ensures { (t : Topology) (custom : Custom) (cut : Cut) (words : ℕ → ℕ → ℕ) (k : Known)
         → IsInput t cut → Accounted t custom cut words k
         → (i : ℕ) (w : Wait) (list : List AckMsg)
         → slice_get k.world.desk.pending i ≡ Some w → w.settled ≡ Some list
-        → IsSound t custom (rows_in cut w.root.txid) w.root list × IsClosed list
-        × Covers t custom (rows_in cut w.root.txid) list }
+        → IsSound t custom (rows_at cut w.spans) w.root list × IsClosed list
+        × Covers t custom (rows_at cut w.spans) list }
 {}
 
 /// A law: what holds of ends and of settled lists in such worlds holds too where packets wait
@@ -102,8 +114,9 @@ pub fn worlds_with_others_are_accounted()
         → IsInput t cut → LedAt t custom cut words all h k
         → (i : ℕ) (w : Wait) (list : List AckMsg)
         → slice_get k.world.desk.pending i ≡ Some w → w.settled ≡ Some list
-        → IsSound t custom (rows_in cut w.root.txid) w.root list × IsClosed list
-        × Covers t custom (rows_in cut w.root.txid) list }
+        → IsSound t custom (rows_at cut w.spans) w.root list × IsClosed list
+        × Covers t custom (rows_at cut w.spans) list }
 {
+    batches_are_the_records_of_their_spans();
     nodes_of_joined_rows();
 }

@@ -10,10 +10,11 @@ use Rattle.std.proofs.lemmas.Bool.Decides.{nat_tests}
 use Rattle.std.proofs.lemmas.Fmt.{decimal_is_IsNumeral_wide}
 use Rattle.std.proofs.lemmas.List.{take_all, drop_all}
 use Rattle.std.proofs.lemmas.Str.Parse.{digit_at}
+use Rattle.record_spans.specs.declared.span.Span.{Span}
 use Rattle.topology_plan.specs.Texts.{IsName, is_name, is_name_byte, is_between, is_letter, begins_with_letter}
-use Rattle.report_grammar.specs.Report.{EdgeText, edge_text, edges_text, hex_digit, hex_text, path_text}
-use Rattle.report_grammar.specs.WellFormed.{IsEdge, IsPath}
-use Rattle.report_grammar.specs.steps.Lists.{behind, front_of, pieces, pieces_left, rest_of}
+use Rattle.report_grammar.specs.Report.{EdgeText, edge_text, edges_text, hex_digit, hex_text, path_text, span_text, spans_text}
+use Rattle.report_grammar.specs.WellFormed.{IsEdge, IsPath, IsSpan}
+use Rattle.report_grammar.specs.steps.Lists.{behind, from_byte, front_of, pieces, pieces_left, rest_of}
 use Rattle.report_grammar.proofs.NumbersRead.{front_len}
 use Rattle.report_grammar.proofs.Pieces.{one_piece}
 
@@ -37,9 +38,13 @@ pub front_there : (byte : ℕ) (xs rest : List ℕ) → (byte == byte) ≡ true 
 front_there byte xs rest same lacks =
     ap (λ k. take k (xs ++ byte ∷ rest)) (seam_len byte xs rest same lacks) ∙ take-append_seam xs (byte ∷ rest)
 
+pub from_there : (byte : ℕ) (xs rest : List ℕ) → (byte == byte) ≡ true → Lacks byte xs → from_byte byte (xs ++ byte ∷ rest) ≡ byte ∷ rest
+from_there byte xs rest same lacks =
+    ap (λ k. drop k (xs ++ byte ∷ rest)) (seam_len byte xs rest same lacks) ∙ drop-append_seam xs (byte ∷ rest)
+
 pub rest_there : (byte : ℕ) (xs rest : List ℕ) → (byte == byte) ≡ true → Lacks byte xs → rest_of byte (xs ++ byte ∷ rest) ≡ Some rest
 rest_there byte xs rest same lacks =
-    ap (λ k. behind (drop k (xs ++ byte ∷ rest))) (seam_len byte xs rest same lacks) ∙ ap behind (drop-append_seam xs (byte ∷ rest))
+    ap behind (from_there byte xs rest same lacks)
 
 pub pieces_more : (byte : ℕ) (xs rest : List ℕ) → (byte == byte) ≡ true → Lacks byte xs → pieces byte (xs ++ byte ∷ rest) ≡ xs ∷ pieces byte rest
 pieces_more byte xs rest same lacks =
@@ -128,6 +133,19 @@ hex_high (suc digits) n = high-append (hex_text digits (n / 16)) _ (hex_high dig
 pub edge_high : (edge : EdgeText) → IsEdge edge → High (edge_text edge)
 edge_high edge is =
     high-append (path_text edge.path) _ (path_high edge.path is.path.each) (omega arith, hex_high 16 edge.id)
+
+-- ---- spans
+
+pub span_high : (span : Span) → IsSpan span → High (span_text span)
+span_high span is =
+    high-append (decimal span.first) _ (decimal_high span.first (omega (arith, is.first))) (omega arith, decimal_high span.last (omega (arith, is.last)))
+
+pub spans_lack : (byte : ℕ) → byte < 44 → (spans : List Span) → AllByRecursion IsSpan spans → Lacks byte (spans_text spans)
+spans_lack byte low [] are = refl
+spans_lack byte low (span ∷ []) are = high_lacks byte (omega arith) (span_text span) (span_high span are.0)
+spans_lack byte low (span ∷ next ∷ spans) are =
+    lacks-append byte (span_text span) (44 ∷ spans_text (next ∷ spans)) (high_lacks byte (omega arith) (span_text span) (span_high span are.0))
+    (and_from _ _ (ap not (ne_eqb 44 byte (λ same. omega arith))) (spans_lack byte low (next ∷ spans) are.1))
 
 -- ---- names
 

@@ -12,25 +12,25 @@ use Rattle.std.proofs.lemmas.Option.{none-some, same_Some}
 use Rattle.std.proofs.lemmas.Str.Parse.{digit_at}
 use Rattle.key_texts.proofs.KeysRead.{text_is_one_line}
 use Rattle.report_grammar.specs.Lines.{IsLine, LineText, attempt, cell, tail, line_text}
-use Rattle.report_grammar.specs.Report.{EndText, committed, failed, timed_out, coincided, commit_failed, end_text, EdgeText, edge_text, edges_text, path_text, AttemptText, CellText, cell_text, TailText, ok, exhausted, unfinished}
+use Rattle.report_grammar.specs.Report.{EndText, committed, failed, timed_out, coincided, commit_failed, end_text, EdgeText, edge_text, edges_text, path_text, spans_text, AttemptText, CellText, cell_text, TailText, ok, exhausted, unfinished}
 use Rattle.report_grammar.specs.WellFormed.{IsAttempt, IsCell, IsEdge, IsEnd, IsTail}
-use Rattle.report_grammar.specs.steps.Parsed.{an_exhausted, an_ok, an_unfinished, a_heading, attempt_in, body_of, Cell, cell_in, tail_in}
+use Rattle.report_grammar.specs.steps.Parsed.{an_exhausted, an_ok, an_unfinished, a_heading, a_root, attempt_in, body_of, Cell, cell_in, tail_in}
 use Rattle.report_grammar.specs.steps.Reading.{a_word, after_word}
-use Rattle.report_grammar.proofs.Lacking.{High, Lacks, decimal_high, edge_high, high-append, high_lacks, lacks-append, name_high, path_high, signed_high}
+use Rattle.report_grammar.proofs.Lacking.{High, Lacks, decimal_high, edge_high, high-append, high_lacks, lacks-append, name_high, path_high, signed_high, spans_lack}
 use Rattle.report_grammar.proofs.LinesRead.{attempt_body, attempt_reads, attempt_shape, body_is, cell_body, cell_parts, cell_reads, cell_shape, tail_body, tail_reads, tail_shape}
 
 -- ---- words of one kind of line are none of another
 
 no_heading_ok : (rest : List ℕ) → attempt_in (codes "ok " ++ rest) ≡ None
-unfolding attempt_in a_heading a_word
+unfolding attempt_in a_heading a_root a_word
 no_heading_ok rest = refl
 
 no_heading_exhausted : (rest : List ℕ) → attempt_in (codes "exhausted " ++ rest) ≡ None
-unfolding attempt_in a_heading a_word
+unfolding attempt_in a_heading a_root a_word
 no_heading_exhausted rest = refl
 
 no_heading_unfinished : (rest : List ℕ) → attempt_in (codes "unfinished " ++ rest) ≡ None
-unfolding attempt_in a_heading a_word
+unfolding attempt_in a_heading a_root a_word
 no_heading_unfinished rest = refl
 
 pub no_attempt_tail : (t : TailText) → attempt_in (tail_body t) ≡ None
@@ -39,7 +39,7 @@ no_attempt_tail (exhausted txid) = no_heading_exhausted _
 no_attempt_tail (unfinished committed_count) = no_heading_unfinished _
 
 pub no_attempt_cell : (c : CellText) → attempt_in (cell_body c) ≡ None
-unfolding attempt_in a_heading a_word
+unfolding attempt_in a_heading a_root a_word
 no_attempt_cell c = refl
 
 pub no_tail_cell : (c : CellText) → tail_in (cell_body c) ≡ None
@@ -146,8 +146,8 @@ tail_line (unfinished committed_count) is = number_then committed_count [] is re
 
 attempt_line : (a : AttemptText) → IsAttempt a → Lacks 10 (attempt_body a)
 attempt_line a is =
-    number_then a.txid _ is.txid (number_then a.attempt _ (omega (arith, is.attempt)) (number_then a.first _ is.first (number_then a.last _ is.last
-    (number_then a.start _ is.start (number_then a.finish _ is.finish (end_line a.ending is.ending))))))
+    number_then a.txid _ is.txid (number_then a.attempt _ (omega (arith, is.attempt)) (lacks-append 10 (spans_text a.spans) _ (spans_lack 10 (omega arith) a.spans is.spans.each)
+    (number_then a.start _ is.start (number_then a.finish _ is.finish (end_line a.ending is.ending)))))
 
 cell_line : (c : CellText) → IsCell c → Lacks 10 (cell_body c)
 cell_line c is =

@@ -7,15 +7,16 @@ use Rattle.std.specs.Str.{IsUtf8, is_utf8}
 use Rattle.std.proofs.Math.Seq.{take-append_seam, drop-append_seam}
 use Rattle.std.proofs.lemmas.Slice.Eq.{bytes_eq-Decides}
 use Rattle.std.proofs.lemmas.Str.{is_utf8-from_IsUtf8, IsUtf8-from_ascii, IsUtf8-from_is_utf8}
+use Rattle.record_spans.specs.declared.span.Span.{Span}
 use Rattle.topology_plan.specs.Texts.{IsName}
 use Rattle.key_texts.proofs.KeysRead.{text_is_utf8}
-use Rattle.report_grammar.specs.Report.{EndText, committed, failed, timed_out, coincided, commit_failed, end_text, path_text, edges_text, AttemptText, attempt_text, CellText, cell_text, TailText, ok, exhausted, unfinished, tail_text}
-use Rattle.report_grammar.specs.WellFormed.{IsEnd, IsAttempt, IsCell, IsTail}
-use Rattle.report_grammar.specs.steps.Lists.{front_of, last_of, number_of, pieces, rest_of}
+use Rattle.report_grammar.specs.Report.{EndText, committed, failed, timed_out, coincided, commit_failed, end_text, path_text, edges_text, spans_text, AttemptText, attempt_text, CellText, cell_text, TailText, ok, exhausted, unfinished, tail_text}
+use Rattle.report_grammar.specs.WellFormed.{AreSpans, IsEnd, IsAttempt, IsCell, IsTail}
+use Rattle.report_grammar.specs.steps.Lists.{front_of, last_of, number_of, pieces, rest_of, spans_of}
 use Rattle.report_grammar.specs.steps.Reading.{Reader, ◌>>=◌, a_number, a_word}
-use Rattle.report_grammar.specs.steps.Parsed.{a_heading, an_exhausted, an_ok, an_unfinished, attempt_in, attempt_with, before_space, behind_space, body_of, Cell, cell_in, coincided_in, commit_failed_in, end_in, failed_in, Heading, listed_in, most_u32, most_u64, tail_in, text_in}
-use Rattle.report_grammar.proofs.Lacking.{Lacks, front_there, high_lacks, name_ascii, name_high, pieces_one, rest_there, signed_high}
-use Rattle.report_grammar.proofs.Lists.{edges_read, number_of_reads, path_reads}
+use Rattle.report_grammar.specs.steps.Parsed.{a_heading, a_root, an_exhausted, an_ok, an_unfinished, attempt_in, attempt_with, before_space, behind_space, body_of, Cell, cell_in, coincided_in, commit_failed_in, end_in, failed_in, Heading, listed_in, most_u32, most_u64, some_spans, tail_in, text_in, two_ticks}
+use Rattle.report_grammar.proofs.Lacking.{Lacks, from_there, front_there, high_lacks, name_ascii, name_high, pieces_one, rest_there, signed_high, spans_lack}
+use Rattle.report_grammar.proofs.Lists.{edges_read, number_of_reads, path_reads, spans_read}
 use Rattle.report_grammar.proofs.NumbersRead.{number_reads}
 
 -- ---- one step after another
@@ -161,34 +162,55 @@ end_reads (commit_failed state part) is =
 -- without its byte 10
 abbrev pub attempt_body : AttemptText → List ℕ
 attempt_body a =
-    codes "attempt " ++ (decimal a.txid ++ (codes "." ++ (decimal a.attempt ++ (codes " records " ++ (decimal a.first ++ (codes "-"
-    ++ (decimal a.last ++ (codes " ticks " ++ (decimal a.start ++ (codes "-" ++ (decimal a.finish ++ (codes " " ++ end_text a.ending))))))))))))
+    codes "attempt " ++ (decimal a.txid ++ (codes "." ++ (decimal a.attempt ++ (codes " records " ++ (spans_text a.spans
+    ++ (codes " ticks " ++ (decimal a.start ++ (codes "-" ++ (decimal a.finish ++ (codes " " ++ end_text a.ending))))))))))
 
 pub attempt_shape : (a : AttemptText) → attempt_text a ≡ attempt_body a ++ 10 ∷ []
 attempt_shape a = simp append_assoc refl
 
-heading_reads : (a : AttemptText) → IsAttempt a → a_heading (attempt_body a) ≡ Some (record { txid = a.txid; attempt = a.attempt; first = a.first; last = a.last; start = a.start; finish = a.finish }, end_text a.ending)
+root_reads : (txid attempt : ℕ) (rest : List ℕ) → txid < 2 ^ 64 → attempt < 2 ^ 32
+    → a_root (codes "attempt " ++ (decimal txid ++ (codes "." ++ (decimal attempt ++ (codes " records " ++ rest))))) ≡ Some (record { txid = txid; attempt = attempt }, rest)
+unfolding a_root
+root_reads txid attempt rest wide small =
+    bind_reads (a_word (codes "attempt ")) _ _ tt _ (word_reads (codes "attempt ") _)
+    ∙ bind_reads (a_number most_u64) _ _ txid _ (number_reads most_u64 txid _ wide (omega arith) refl)
+    ∙ bind_reads (a_word (codes ".")) _ _ tt _ (word_reads (codes ".") _)
+    ∙ bind_reads (a_number most_u32) _ _ attempt _ (number_reads most_u32 attempt _ (omega arith) (omega arith) refl)
+    ∙ bind_reads (a_word (codes " records ")) _ _ tt _ (word_reads (codes " records ") rest)
+
+spans_then : (spans : List Span) (rest : List ℕ) → AreSpans spans → some_spans (spans_text spans ++ 32 ∷ rest) ≡ Some (spans, 32 ∷ rest)
+unfolding some_spans
+spans_then spans rest are =
+    let text : List ℕ = spans_text spans in
+    let lacks : Lacks 32 text = spans_lack 32 (omega arith) spans are.each in
+    ap₂ (λ front left. option_map (λ s. (s, left)) (spans_of front)) (front_there 32 text rest refl lacks) (from_there 32 text rest refl lacks)
+    ∙ ap (option_map (λ s. (s, 32 ∷ rest))) (spans_read spans are)
+
+ticks_read : (start finish : ℕ) (rest : List ℕ) → start < 2 ^ 64 → finish < 2 ^ 64
+    → two_ticks (codes " ticks " ++ (decimal start ++ (codes "-" ++ (decimal finish ++ (codes " " ++ rest))))) ≡ Some ((start, finish), rest)
+unfolding two_ticks
+ticks_read start finish rest begins ends =
+    bind_reads (a_word (codes " ticks ")) _ _ tt _ (word_reads (codes " ticks ") _)
+    ∙ bind_reads (a_number most_u64) _ _ start _ (number_reads most_u64 start _ begins (omega arith) refl)
+    ∙ bind_reads (a_word (codes "-")) _ _ tt _ (word_reads (codes "-") _)
+    ∙ bind_reads (a_number most_u64) _ _ finish _ (number_reads most_u64 finish _ ends (omega arith) refl)
+    ∙ bind_reads (a_word (codes " ")) _ _ tt _ (word_reads (codes " ") rest)
+
+abbrev heading_of : AttemptText → Heading
+heading_of a = record { root = record { txid = a.txid; attempt = a.attempt }; spans = a.spans; start = a.start; finish = a.finish }
+
+heading_reads : (a : AttemptText) → IsAttempt a → a_heading (attempt_body a) ≡ Some (heading_of a, end_text a.ending)
 unfolding a_heading
 heading_reads a is =
-    bind_reads (a_word (codes "attempt ")) _ _ tt _ (word_reads (codes "attempt ") _)
-    ∙ bind_reads (a_number most_u64) _ _ a.txid _ (number_reads most_u64 a.txid _ is.txid (omega (arith, is.txid)) refl)
-    ∙ bind_reads (a_word (codes ".")) _ _ tt _ (word_reads (codes ".") _)
-    ∙ bind_reads (a_number most_u32) _ _ a.attempt _ (number_reads most_u32 a.attempt _ (omega (arith, is.attempt)) (omega (arith, is.attempt)) refl)
-    ∙ bind_reads (a_word (codes " records ")) _ _ tt _ (word_reads (codes " records ") _)
-    ∙ bind_reads (a_number most_u64) _ _ a.first _ (number_reads most_u64 a.first _ is.first (omega (arith, is.first)) refl)
-    ∙ bind_reads (a_word (codes "-")) _ _ tt _ (word_reads (codes "-") _)
-    ∙ bind_reads (a_number most_u64) _ _ a.last _ (number_reads most_u64 a.last _ is.last (omega (arith, is.last)) refl)
-    ∙ bind_reads (a_word (codes " ticks ")) _ _ tt _ (word_reads (codes " ticks ") _)
-    ∙ bind_reads (a_number most_u64) _ _ a.start _ (number_reads most_u64 a.start _ is.start (omega (arith, is.start)) refl)
-    ∙ bind_reads (a_word (codes "-")) _ _ tt _ (word_reads (codes "-") _)
-    ∙ bind_reads (a_number most_u64) _ _ a.finish _ (number_reads most_u64 a.finish _ is.finish (omega (arith, is.finish)) refl)
-    ∙ bind_reads (a_word (codes " ")) _ _ tt _ (word_reads (codes " ") _)
+    bind_reads a_root _ _ (record { txid = a.txid; attempt = a.attempt }) _ (root_reads a.txid a.attempt _ is.txid is.attempt)
+    ∙ bind_reads some_spans _ _ a.spans _ (spans_then a.spans _ is.spans)
+    ∙ bind_reads two_ticks _ _ (a.start, a.finish) _ (ticks_read a.start a.finish (end_text a.ending) is.start is.finish)
 
 pub attempt_reads : (a : AttemptText) → IsAttempt a → attempt_in (attempt_body a) ≡ Some a
 unfolding attempt_in
 attempt_reads a is =
     ap (option_and_then (λ h. option_map (attempt_with h.0) (end_in h.1))) (heading_reads a is)
-    ∙ ap (option_map (attempt_with (record { txid = a.txid; attempt = a.attempt; first = a.first; last = a.last; start = a.start; finish = a.finish }))) (end_reads a.ending is.ending)
+    ∙ ap (option_map (attempt_with (heading_of a))) (end_reads a.ending is.ending)
 
 -- ---- a cell's line
 

@@ -1,4 +1,4 @@
--- Paths, ids and edges are read where their texts stand.
+-- Paths, ids, edges and spans are read where their texts stand.
 use Rattle.std.proofs.Common.{◌≡◌, ℕ, zero, suc, ◌<◌, ◌^◌, ◌≤◌, Bool, true, cond, List, [], ◌∷◌, ◌++◌, length, map, Option, Some, None, option_map, refl, ap, sym, ◌∙◌, arith}
 use Rattle.std.specs.Prelude.{option_and_then}
 use Rattle.std.specs.Fmt.{decimal}
@@ -9,12 +9,13 @@ use Rattle.std.proofs.lemmas.Nat.{from_be_bytes-to_be_bytes_8}
 use Rattle.std.proofs.lemmas.Fmt.{digits_decimal}
 use Rattle.hex.specs.Hex.{IsBytes, decode_sized, encode_lower}
 use Rattle.hex.proofs.HexLemmas.{decode_sized-encode_lower}
-use Rattle.report_grammar.specs.Report.{EdgeText, edge_text, edges_text, hex_text, path_text}
-use Rattle.report_grammar.specs.WellFormed.{IsEdge, IsPath}
-use Rattle.report_grammar.specs.steps.Lists.{each, edge_of, edge_with, edges_of, front_of, id_of, number_of, path_of, pieces, rest_of}
+use Rattle.record_spans.specs.declared.span.Span.{Span}
+use Rattle.report_grammar.specs.Report.{EdgeText, edge_text, edges_text, hex_text, path_text, span_text, spans_text}
+use Rattle.report_grammar.specs.WellFormed.{AreSpans, IsEdge, IsPath, IsSpan}
+use Rattle.report_grammar.specs.steps.Lists.{each, edge_of, edge_with, edges_of, front_of, id_of, number_of, path_of, pieces, rest_of, span_of, span_with, spans_of, wide_number_of}
 use Rattle.report_grammar.specs.steps.Reading.{number_in}
 use Rattle.report_grammar.proofs.Hex.{digits_of_bytes}
-use Rattle.report_grammar.proofs.Lacking.{AreSmall, Lacks, decimal_lacks, edge_high, front_there, high_lacks, path_lacks_colon, pieces_more, pieces_one, rest_there}
+use Rattle.report_grammar.proofs.Lacking.{AreSmall, Lacks, decimal_lacks, edge_high, front_there, high_lacks, path_lacks_colon, pieces_more, pieces_one, rest_there, span_high}
 use Rattle.report_grammar.proofs.NumbersRead.{in_of_decimal, own}
 
 pub number_of_reads : (most n : ℕ) → n < 2 ^ 64 → n ≤ most → number_of most (decimal n) ≡ Some n
@@ -81,3 +82,30 @@ pub edges_read : (edges : List EdgeText) → 0 < length edges → AllByRecursion
 unfolding edges_of
 edges_read [] some are = absurd (omega arith)
 edges_read (edge ∷ edges) some are = edges_each edge edges are
+
+wide_number_reads : (n : ℕ) → n < 2 ^ 64 → wide_number_of (decimal n) ≡ Some n
+wide_number_reads n small = number_of_reads 18446744073709551615 n small (omega arith)
+
+span_reads : (span : Span) → IsSpan span → span_of (span_text span) ≡ Some span
+unfolding span_of
+span_reads span is =
+    let text : List ℕ = decimal span.first in
+    let digits : List ℕ = decimal span.last in
+    let lacks : Lacks 45 text = decimal_lacks 45 span.first (omega (arith, is.first)) (λ least most. omega arith) in
+    ap (option_and_then (λ ds. option_and_then (λ last. span_with (wide_number_of (front_of 45 (text ++ 45 ∷ digits))) last) (wide_number_of ds))) (rest_there 45 text digits refl lacks)
+    ∙ ap (option_and_then (λ last. span_with (wide_number_of (front_of 45 (text ++ 45 ∷ digits))) last)) (wide_number_reads span.last is.last)
+    ∙ ap (λ t. span_with (wide_number_of t) span.last) (front_there 45 text digits refl lacks)
+    ∙ ap (λ first. span_with first span.last) (wide_number_reads span.first is.first)
+
+spans_each : (span : Span) (spans : List Span) → AllByRecursion IsSpan (span ∷ spans) → each span_of (pieces 44 (spans_text (span ∷ spans))) ≡ Some (span ∷ spans)
+spans_each span [] are =
+    ap (each span_of) (pieces_one 44 (span_text span) (high_lacks 44 (omega arith) (span_text span) (span_high span are.0)))
+    ∙ each_cons span_of (span_text span) [] span [] (span_reads span are.0) refl
+spans_each span (next ∷ spans) are =
+    ap (each span_of) (pieces_more 44 (span_text span) (spans_text (next ∷ spans)) refl (high_lacks 44 (omega arith) (span_text span) (span_high span are.0)))
+    ∙ each_cons span_of (span_text span) (pieces 44 (spans_text (next ∷ spans))) span (next ∷ spans) (span_reads span are.0) (spans_each next spans are.1)
+
+pub spans_read : (spans : List Span) → AreSpans spans → spans_of (spans_text spans) ≡ Some spans
+unfolding spans_of
+spans_read [] are = absurd (omega (arith, are.some))
+spans_read (span ∷ spans) are = spans_each span spans are.each

@@ -2,6 +2,7 @@
 use Rattle.std.specs.Prelude.{ℕ, zero, suc, ◌+◌, ◌/◌, ◌%◌, ℤ, List, [], ◌∷◌, ◌++◌, codes, decimal, if◌then◌else◌, nat_lt}
 use Rattle.std.specs.List.{flat_map}
 use Rattle.std.specs.Fmt.{signed_decimal}
+use Rattle.record_spans.specs.declared.span.Span.{Span}
 
 -- an edge of a tuple tree: a path, and the id of its tuple
 pub record EdgeText : Type 0 where
@@ -19,8 +20,7 @@ pub data EndText : Type 0 where
 pub record AttemptText : Type 0 where
   pub txid : ℕ
   pub attempt : ℕ
-  pub first : ℕ
-  pub last : ℕ
+  pub spans : List Span
   pub start : ℕ
   pub finish : ℕ
   pub ending : EndText
@@ -65,6 +65,15 @@ edges_text [] = []
 edges_text (edge ∷ []) = edge_text edge
 edges_text (edge ∷ next ∷ edges) = edge_text edge ++ 32 ∷ edges_text (next ∷ edges)
 
+abbrev pub span_text : Span → List ℕ
+span_text span = decimal span.first ++ 45 ∷ decimal span.last
+
+-- spans joined by commas
+abbrev pub spans_text : List Span → List ℕ
+spans_text [] = []
+spans_text (span ∷ []) = span_text span
+spans_text (span ∷ next ∷ spans) = span_text span ++ 44 ∷ spans_text (next ∷ spans)
+
 abbrev pub end_text : EndText → List ℕ
 end_text committed = codes "committed"
 end_text (failed path) = codes "failed " ++ path_text path
@@ -72,11 +81,11 @@ end_text timed_out = codes "timed out"
 end_text (coincided edges) = codes "coincided " ++ edges_text edges
 end_text (commit_failed state part) = codes "commit failed " ++ state ++ 32 ∷ decimal part
 
--- attempt TXID.ATTEMPT records FIRST-LAST ticks START-FINISH, and how it ended
+-- attempt TXID.ATTEMPT records FIRST-LAST,FIRST-LAST .. ticks START-FINISH, and how it ended
 abbrev pub attempt_text : AttemptText → List ℕ
 attempt_text a =
     codes "attempt " ++ decimal a.txid ++ codes "." ++ decimal a.attempt
-    ++ codes " records " ++ decimal a.first ++ codes "-" ++ decimal a.last
+    ++ codes " records " ++ spans_text a.spans
     ++ codes " ticks " ++ decimal a.start ++ codes "-" ++ decimal a.finish
     ++ codes " " ++ end_text a.ending ++ codes "\n"
 

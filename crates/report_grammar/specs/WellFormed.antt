@@ -2,6 +2,7 @@
 use Rattle.std.specs.Prelude.{◌≡◌, ◌<◌, ◌^◌, ℕ, List, [], length, FitsSigned}
 use Rattle.std.specs.Int.{w128}
 use Rattle.std.specs.List.{AllByRecursion}
+use Rattle.record_spans.specs.declared.span.Span.{Span}
 use Rattle.topology_plan.specs.Texts.{IsName}
 use Rattle.key_texts.specs.KeyTexts.{IsKeyText}
 use Rattle.report_grammar.specs.Report.{EdgeText, EndText, committed, failed, timed_out, coincided, commit_failed, AttemptText, CellText, TailText, ok, exhausted, unfinished, ReportText}
@@ -23,11 +24,20 @@ IsEnd timed_out = Unit {0}
 IsEnd (coincided edges) = (0 < length edges) × AllByRecursion IsEdge edges
 IsEnd (commit_failed state part) = IsName state × (part < 2 ^ 32)
 
+-- a first and a last number of 64 bits
+pub record IsSpan (span : Span) : Type 0 where
+  pub first : span.first < 2 ^ 64
+  pub last : span.last < 2 ^ 64
+
+-- one span at least
+pub record AreSpans (spans : List Span) : Type 0 where
+  pub some : 0 < length spans
+  pub each : AllByRecursion IsSpan spans
+
 pub record IsAttempt (a : AttemptText) : Type 0 where
   pub txid : a.txid < 2 ^ 64
   pub attempt : a.attempt < 2 ^ 32
-  pub first : a.first < 2 ^ 64
-  pub last : a.last < 2 ^ 64
+  pub spans : AreSpans a.spans
   pub start : a.start < 2 ^ 64
   pub finish : a.finish < 2 ^ 64
   pub ending : IsEnd a.ending

@@ -22,8 +22,7 @@ abbrev pub attempt_told : AttemptLine → AttemptText
 attempt_told a = record {
   txid = a.root.txid;
   attempt = a.root.attempt;
-  first = a.first;
-  last = a.last;
+  spans = a.spans;
   start = a.start;
   finish = a.finish;
   ending = end_told a.end;

@@ -4,10 +4,11 @@ ghost use Rattle.std.specs.List.{AllByRecursion, list_all};
 ghost use Rattle.topology_plan.specs.Texts.{IsName, is_name, is_name_byte};
 ghost use Rattle.report_grammar.specs.Lines.{IsLine};
 ghost use Rattle.report_lines.specs.Told.{attempt_told, cell_told, edge_told, end_told, line_told, tail_told};
-ghost use Rattle.report_grammar.specs.WellFormed.{IsAttempt, IsCell, IsEdge, IsEnd, IsPath, IsTail};
+ghost use Rattle.report_grammar.specs.WellFormed.{AreSpans, IsAttempt, IsCell, IsEdge, IsEnd, IsPath, IsSpan, IsTail};
 
 use crate::report::{AttemptLine, CellLine, EndLine, Line, Tail};
 use key_texts::is_key_text;
+use record_spans::Span;
 use std::alloc::Global;
 use storm_values::{MOST_NAME_BYTES, Memory, Path};
 use tuple_tickets::Edge;
@@ -27,11 +28,38 @@ fn is_attempt(line: &AttemptLine) -> bool
 {
     let _txid = line.root.txid;
     let _attempt = line.root.attempt;
-    let _first = line.first;
-    let _last = line.last;
     let _start = line.start;
     let _finish = line.finish;
-    is_end(&line.end)
+    are_some_spans(line.spans.as_slice()) && is_end(&line.end)
+}
+
+/// Whether they are spans, and not none.
+fn are_some_spans(spans: &[Span]) -> bool
+    ensures { IsTrue result ↔ AreSpans spans.now }
+{
+    if spans.is_empty() {
+        return false;
+    }
+    are_spans(spans)
+}
+
+fn are_spans(spans: &[Span]) -> bool
+    ensures { IsTrue result ↔ AllByRecursion IsSpan spans.now }
+{
+    for span in spans {
+        if !is_span(span) {
+            return false;
+        }
+    }
+    true
+}
+
+fn is_span(span: &Span) -> bool
+    ensures { IsTrue result ↔ IsSpan span.now }
+{
+    let _first = span.first;
+    let _last = span.last;
+    true
 }
 
 fn is_end(end: &EndLine) -> bool

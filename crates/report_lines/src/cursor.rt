@@ -1,7 +1,8 @@
-ghost use Rattle.std.specs.Prelude.{◌≡◌, ◌≤◌, ◌==◌, IfSome, IsTrue, drop, length};
+ghost use Rattle.std.specs.Prelude.{◌≡◌, ◌≤◌, ◌==◌, IfSome, IsTrue, drop, length, not};
 ghost use Rattle.std.specs.Char.{is_ascii_digit};
 ghost use Rattle.std.specs.List.{list_all, prefix_len};
 ghost use Rattle.std.specs.Str.Parse.{digits_value};
+ghost use Rattle.report_grammar.specs.steps.Lists.{from_byte, front_of};
 ghost use Rattle.report_grammar.specs.steps.Reading.{Takes, a_number, a_word, digits_of, is_numeral, number_in};
 
 /// What is left of a text.
@@ -36,6 +37,16 @@ impl<'a> Cursor<'a> {
         Some(number)
     }
 
+    /// Takes the text up to a byte.
+    pub fn up_to(&mut self, byte: u8) -> &'a [u8]
+        ensures front { result.now ≡ front_of byte self.old.rest.now }
+        ensures rest { self.new.rest.now ≡ from_byte byte self.old.rest.now }
+    {
+        let (front, rest) = split_before(self.rest, byte);
+        self.rest = rest;
+        front
+    }
+
     /// What is left.
     pub fn rest(&self) -> &'a [u8]
         ensures { result.now ≡ self.now.rest.now }
@@ -68,6 +79,30 @@ fn digit_count(text: &[u8]) -> usize
     let mut count = 0;
     for byte in text {
         if !byte.is_ascii_digit() {
+            return count;
+        }
+        count += 1;
+    }
+    count
+}
+
+/// The text up to a byte, and the text from that byte on.
+pub(crate) fn split_before(text: &[u8], byte: u8) -> (&[u8], &[u8])
+    ensures front { result.0.now ≡ front_of byte text.now }
+    ensures back { result.1.now ≡ from_byte byte text.now }
+    ensures within { length result.1.now ≤ length text.now }
+{
+    text.split_at(length_before(text, byte))
+}
+
+/// How many bytes stand before this one.
+fn length_before(text: &[u8], byte: u8) -> usize
+    ensures count { result ≡ prefix_len (λ b. not (b == byte)) text.now }
+    ensures within { result ≤ length text.now }
+{
+    let mut count = 0;
+    for found in text {
+        if *found == byte {
             return count;
         }
         count += 1;

@@ -3,13 +3,15 @@ ghost use Rattle.std.specs.Prelude.{◌≡◌, IfNone, IfOk, IfSome, OnOk, Some,
 ghost use Rattle.report_grammar.specs.Lines.{IsLine, LineText, line_text};
 ghost use Rattle.report_lines.specs.Told.{attempt_told, line_told, tail_told};
 ghost use Rattle.report_lines.specs.steps.Headings.{heading_told};
-ghost use Rattle.report_grammar.specs.steps.Parsed.{a_heading, an_exhausted, an_ok, an_unfinished, attempt_in, body_of, most_u32, read_of, tail_in};
+ghost use Rattle.report_grammar.specs.steps.Parsed.{a_heading, a_root, an_exhausted, an_ok, an_unfinished, attempt_in, body_of, most_u32, read_of, some_spans, tail_in, two_ticks};
 ghost use Rattle.report_grammar.specs.steps.Reading.{Takes, a_number};
 
 use crate::cells::read_cell;
 use crate::cursor::Cursor;
 use crate::ends::read_end;
+use crate::lists::spans_of;
 use crate::report::{AttemptLine, Line, Tail};
+use record_spans::Spans;
 use std::alloc::Global;
 use storm_values::{Memory, Root};
 
@@ -97,12 +99,10 @@ fn read_unfinished(text: &[u8]) -> Option<Tail>
 }
 
 /// An attempt's line up to how it ended.
-#[derive(Clone, Copy)]
+#[derive(Drop)]
 pub struct Heading {
-    txid: u64,
-    attempt: u32,
-    first: u64,
-    last: u64,
+    root: Root,
+    spans: Spans,
     start: u64,
     finish: u64,
 }
@@ -113,19 +113,15 @@ fn read_attempt(alloc: Global, text: &[u8]) -> Result<Option<AttemptLine>, Memor
     ensures { IfOk result (λ read. option_map attempt_told read ≡ attempt_in text.now) }
 {
     let mut cursor = Cursor::new(text);
-    let Some(heading) = read_heading(&mut cursor) else {
+    let Some(heading) = read_heading(alloc, &mut cursor)? else {
         return Ok(None);
     };
     let Some(end) = read_end(alloc, cursor.rest())? else {
         return Ok(None);
     };
     Ok(Some(AttemptLine {
-        root: Root {
-            txid: heading.txid,
-            attempt: heading.attempt,
-        },
-        first: heading.first,
-        last: heading.last,
+        root: heading.root,
+        spans: heading.spans,
         start: heading.start,
         finish: heading.finish,
         end,
@@ -134,31 +130,60 @@ fn read_attempt(alloc: Global, text: &[u8]) -> Result<Option<AttemptLine>, Memor
 
 /// The front of an attempt's line, which is taken off.
 #[tactic(auto, unfolding(report_grammar::specs::steps::Parsed::a_heading))]
-fn read_heading(cursor: &mut Cursor<'_>) -> Option<Heading>
-    ensures { Takes (option_map heading_told result) cursor.new.rest.now
-        (a_heading cursor.old.rest.now) }
+fn read_heading(alloc: Global, cursor: &mut Cursor<'_>) -> Result<Option<Heading>, Memory>
+    ensures { IfOk result (λ read. Takes (option_map heading_told read) cursor.new.rest.now
+        (a_heading cursor.old.rest.now)) }
+{
+    let Some(root) = read_root(cursor) else {
+        return Ok(None);
+    };
+    let Some(spans) = read_spans(alloc, cursor)? else {
+        return Ok(None);
+    };
+    let Some((start, finish)) = read_ticks(cursor) else {
+        return Ok(None);
+    };
+    Ok(Some(Heading {
+        root,
+        spans,
+        start,
+        finish,
+    }))
+}
+
+#[tactic(auto, unfolding(report_grammar::specs::steps::Parsed::a_root))]
+fn read_root(cursor: &mut Cursor<'_>) -> Option<Root>
+    ensures { Takes result cursor.new.rest.now (a_root cursor.old.rest.now) }
 {
     cursor.word(b"attempt ")?;
     let txid = cursor.number(u64::MAX)?;
     cursor.word(b".")?;
     let attempt = small_number(cursor)?;
     cursor.word(b" records ")?;
-    let first = cursor.number(u64::MAX)?;
-    cursor.word(b"-")?;
-    let last = cursor.number(u64::MAX)?;
+    Some(Root { txid, attempt })
+}
+
+/// The spans up to a space.
+#[tactic(auto, unfolding(report_grammar::specs::steps::Parsed::some_spans))]
+fn read_spans(alloc: Global, cursor: &mut Cursor<'_>) -> Result<Option<Spans>, Memory>
+    ensures { IfOk result (λ read. Takes read cursor.new.rest.now
+        (some_spans cursor.old.rest.now)) }
+{
+    let text = cursor.up_to(b' ');
+    spans_of(alloc, text)
+}
+
+/// The ticks of a begin and of an end.
+#[tactic(auto, unfolding(report_grammar::specs::steps::Parsed::two_ticks))]
+fn read_ticks(cursor: &mut Cursor<'_>) -> Option<(u64, u64)>
+    ensures { Takes result cursor.new.rest.now (two_ticks cursor.old.rest.now) }
+{
     cursor.word(b" ticks ")?;
     let start = cursor.number(u64::MAX)?;
     cursor.word(b"-")?;
     let finish = cursor.number(u64::MAX)?;
     cursor.word(b" ")?;
-    Some(Heading {
-        txid,
-        attempt,
-        first,
-        last,
-        start,
-        finish,
-    })
+    Some((start, finish))
 }
 
 fn small_number(cursor: &mut Cursor<'_>) -> Option<u32>

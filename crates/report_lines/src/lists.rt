@@ -1,11 +1,11 @@
-// Paths, ids and edges, as they are read.
-ghost use Rattle.std.specs.Prelude.{◌≡◌, ◌∷◌, ◌==◌, ◌≤◌, ◌+◌, IfOk, IfSome, length, map, not, option_map};
-ghost use Rattle.std.specs.List.{prefix_len};
+// Paths, ids, edges and spans, as they are read.
+ghost use Rattle.std.specs.Prelude.{◌≡◌, ◌∷◌, ◌≤◌, ◌+◌, IfOk, IfSome, length, map, option_map};
 ghost use Rattle.report_lines.specs.Told.{edge_told};
-ghost use Rattle.report_grammar.specs.steps.Lists.{edge_of, edges_of, front_of, id_of, last_of, number_of, path_of, pieces, pieces_left, rest_of};
+ghost use Rattle.report_grammar.specs.steps.Lists.{edge_of, edges_of, front_of, id_of, last_of, number_of, path_of, pieces, pieces_left, rest_of, span_of, spans_of, wide_number_of};
 
-use crate::cursor::{are_digits, number_in};
+use crate::cursor::{are_digits, number_in, split_before};
 use hex::FromHex;
+use record_spans::{Span, Spans};
 use std::alloc::Global;
 use storm_values::{Memory, Path};
 use tuple_tickets::{Edge, Edges};
@@ -44,26 +44,11 @@ pub fn halves(text: &[u8], byte: u8) -> (&[u8], Option<&[u8]>)
     ensures rest { option_map (λ s. s.now) result.1 ≡ rest_of byte text.now }
     ensures shorter { IfSome result.1 (λ rest. length rest.now + 1 ≤ length text.now) }
 {
-    let (piece, rest) = text.split_at(length_before(text, byte));
+    let (piece, rest) = split_before(text, byte);
     match rest.split_first() {
         Some((_, others)) => (piece, Some(others)),
         None => (piece, None),
     }
-}
-
-/// How many bytes stand before this one.
-fn length_before(text: &[u8], byte: u8) -> usize
-    ensures count { result ≡ prefix_len (λ b. not (b == byte)) text.now }
-    ensures within { result ≤ length text.now }
-{
-    let mut count = 0;
-    for found in text {
-        if *found == byte {
-            return count;
-        }
-        count += 1;
-    }
-    count
 }
 
 /// What follows the last byte that is this one.
@@ -87,6 +72,16 @@ pub fn number_of(text: &[u8], most: u32) -> Option<u32>
     }
     let number = number_in(text, u64::from(most))?;
     Some(number as u32)
+}
+
+/// The number of 64 bits that a text is.
+fn wide_number_of(text: &[u8]) -> Option<u64>
+    ensures { result ≡ wide_number_of text.now }
+{
+    if !are_digits(text) {
+        return None;
+    }
+    number_in(text, u64::MAX)
 }
 
 /// The edges of a text, if it is some joined by spaces.
@@ -131,4 +126,32 @@ fn id_of(text: &[u8]) -> Option<u64>
 {
     let bytes = <[u8; 8] as FromHex>::from_hex(text).ok()?;
     Some(u64::from_be_bytes(bytes))
+}
+
+/// The spans of a text, if it is some joined by commas.
+#[tactic(auto, using(crate::proofs::Pieces::one_more, crate::proofs::Pieces::none_there), unfolding(report_grammar::specs::steps::Lists::spans_of))]
+pub fn spans_of(alloc: Global, text: &[u8]) -> Result<Option<Spans>, Memory>
+    ensures { IfOk result (λ read. read ≡ spans_of text.now) }
+{
+    let mut spans = Spans::new(alloc);
+    let mut rest = Some(text);
+    while let Some(left) = rest {
+        let (piece, others) = cut(left, b',');
+        let Some(span) = span_of(piece) else {
+            return Ok(None);
+        };
+        spans.push(span)?;
+        rest = others;
+    }
+    Ok(Some(spans))
+}
+
+#[tactic(auto, unfolding(report_grammar::specs::steps::Lists::span_of))]
+fn span_of(text: &[u8]) -> Option<Span>
+    ensures { result ≡ span_of text.now }
+{
+    let (first, last) = halves(text, b'-');
+    let last = wide_number_of(last?)?;
+    let first = wide_number_of(first)?;
+    Some(Span { first, last })
 }

@@ -7,7 +7,7 @@ ghost use Rattle.report_lines.specs.Told.{attempt_told, cell_told, edge_told, en
 ghost use Rattle.report_lines.specs.steps.Printed.{heading_text};
 
 use crate::report::{AttemptLine, CellLine, EndLine, Line, Report, Tail};
-use crate::texts::{push_edges, push_path};
+use crate::texts::{push_edges, push_path, push_spans};
 use std::alloc::Global;
 use std::fmt::Write;
 use storm_values::{Memory, Path};
@@ -62,9 +62,8 @@ fn push_heading(text: &mut String, line: &AttemptLine) -> Result<(), Memory>
         (string_bytes text.new ≡ string_bytes text.old ++ heading_text (attempt_told line.now)) }
 {
     let (txid, attempt) = (line.root.txid, line.root.attempt);
-    write!(text, "attempt {txid}.{attempt}")?;
-    let (first, last) = (line.first, line.last);
-    write!(text, " records {first}-{last}")?;
+    write!(text, "attempt {txid}.{attempt} records ")?;
+    push_spans(text, line.spans.as_slice())?;
     let (start, finish) = (line.start, line.finish);
     write!(text, " ticks {start}-{finish} ")?;
     Ok(())

@@ -1,3 +1,4 @@
+use record_spans::Spans;
 use storm_values::{Path, Root, Seq, Txt};
 use tuple_tickets::Edges;
 
@@ -12,12 +13,12 @@ pub enum EndLine {
     CommitFailed(Txt, u32),
 }
 
-/// The end of an attempt of a batch. Records and ticks are the first and the last.
+/// The end of an attempt of a batch. Its records are those of its spans, and ticks are the first
+/// and the last.
 #[derive(Drop)]
 pub struct AttemptLine {
     pub root: Root,
-    pub first: u64,
-    pub last: u64,
+    pub spans: Spans,
     pub start: u64,
     pub finish: u64,
     pub end: EndLine,

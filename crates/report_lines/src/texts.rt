@@ -1,8 +1,9 @@
-// Texts of paths and of edges.
+// Texts of paths, of edges and of spans.
 ghost use Rattle.std.specs.Prelude.{◌≡◌, ◌++◌, map, IfOk, OnOk, string_bytes};
-ghost use Rattle.report_grammar.specs.Report.{edge_text, edges_text, hex_text, path_text};
+ghost use Rattle.report_grammar.specs.Report.{edge_text, edges_text, hex_text, path_text, span_text, spans_text};
 ghost use Rattle.report_lines.specs.Told.{edge_told};
 
+use record_spans::Span;
 use std::alloc::Global;
 use std::fmt::Write;
 use storm_values::{Memory, Path};
@@ -53,4 +54,29 @@ fn hex_of(alloc: Global, id: u64) -> Result<String, Memory>
     ensures { IfOk result (λ text. string_bytes text ≡ hex_text 16 id) }
 {
     hex::encode(alloc, id.to_be_bytes())
+}
+
+/// Adds spans, joined by commas.
+pub fn push_spans(text: &mut String, spans: &[Span]) -> Result<(), Memory>
+    ensures { OnOk result
+        (string_bytes text.new ≡ string_bytes text.old ++ spans_text spans.now) }
+{
+    let Some((first, others)) = spans.split_first() else {
+        return Ok(());
+    };
+    push_span(text, first)?;
+    for span in others {
+        text.push_str(",")?;
+        push_span(text, span)?;
+    }
+    Ok(())
+}
+
+fn push_span(text: &mut String, span: &Span) -> Result<(), Memory>
+    ensures { OnOk result
+        (string_bytes text.new ≡ string_bytes text.old ++ span_text span.now) }
+{
+    let (first, last) = (span.first, span.last);
+    write!(text, "{first}-{last}")?;
+    Ok(())
 }

@@ -9,7 +9,7 @@ attempt 1.2 records 1-2 ticks 0-1 failed 0.12.3
 attempt 1.3 records 1-2 ticks 1-4 timed out
 attempt 1.4 records 1-2 ticks 4-5 coincided 0.0:0000000000000009 0.1:fedcba9876543210
 attempt 1.5 records 1-2 ticks 5-6 commit failed counts 0
-attempt 1.6 records 1-2 ticks 6-8 committed
+attempt 1.6 records 1-1,3-3 ticks 6-8 committed
 cell counts [\"cow\"] 2
 cell counts [\"moon\",-7] -7
 ok 2 records 1 batches

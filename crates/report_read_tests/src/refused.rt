@@ -1,5 +1,7 @@
 // Lines that are near to a report's.
 use crate::read::{check_refusals, check_reports};
+use std::alloc::Global;
+use storm_values::Memory;
 use test_kit::Mismatch;
 
 // The least and the greatest numbers, the longest name, and keys of each kind.
@@ -59,6 +61,64 @@ const NUMBERS: [(&str, u64); 14] = [
 #[test]
 fn numbers_in_other_forms(rt: HostRuntime) -> Result<(), Mismatch> {
     check_refusals(rt.alloc(), &NUMBERS)
+}
+
+// A report whose second line has these spans.
+fn with_spans(alloc: Global, spans: &str) -> Result<String, Memory> {
+    let first = "attempt 1.1 records 1-1 ticks 0-0 timed out";
+    let tail = "ticks 0-0 committed\nunfinished 1";
+    format!(in alloc; "{first}\nattempt 1.2 records {spans} {tail}\n")
+}
+
+// Neither their order nor whether they are apart is looked at.
+const SPANS: [&str; 6] = [
+    "1-1,3-3,5-9",
+    "1-1,3-3",
+    "5-1",
+    "2-2,2-2,1-1",
+    "0-0,0-0",
+    "18446744073709551615-0,0-18446744073709551615",
+];
+
+#[test]
+fn one_span_and_more(rt: HostRuntime) -> Result<(), Mismatch> {
+    let alloc = rt.alloc();
+    for spans in SPANS {
+        let text = with_spans(alloc, spans)?;
+        check_reports(alloc, &[text.as_str()])?;
+    }
+    Ok(())
+}
+
+const NO_SPANS: [&str; 18] = [
+    "",
+    ",",
+    "1-1,",
+    ",1-1",
+    "1-1,,3-3",
+    "1-1, 3-3",
+    "1-1 ,3-3",
+    "1-1;3-3",
+    "1",
+    "1,3-3",
+    "1-1,3",
+    "1-2-3",
+    "1--2",
+    "1-",
+    "-1",
+    "01-1",
+    "1-1,3-03",
+    "1-1,3-18446744073709551616",
+];
+
+#[test]
+fn spans_in_other_forms(rt: HostRuntime) -> Result<(), Mismatch> {
+    let alloc = rt.alloc();
+    for spans in NO_SPANS {
+        let text = with_spans(alloc, spans)?;
+        check_refusals(alloc, &[(text.as_str(), 2)])?;
+    }
+    Ok(())
 }
 
 const PATHS: [(&str, u64); 13] = [

@@ -1,6 +1,7 @@
 // Attempts with every end, and tables.
 use attempt_fates::{Attempt, End, Fates};
 use message_lists::Notes;
+use record_spans::{Span, Spans};
 use run_report::{Tail, print_report, report_of, report_text};
 use std::alloc::Global;
 use test_kit::{Mismatch, compare};
@@ -20,9 +21,12 @@ pub enum How {
     CommitFailed(u32, u32),
 }
 
-/// An attempt of the first transaction: its number, the ticks of its begin and its end, and how it
-/// ended.
-pub type Ended = (u32, u64, u64, How);
+/// The first and the last number of each span of records.
+pub type Records = &'static [(u64, u64)];
+
+/// An attempt of the first transaction: its number, its records, the ticks of its begin and its
+/// end, and how it ended.
+pub type Ended = (u32, Records, u64, u64, How);
 
 /// A key of the state, with its value.
 pub type Cell = (&'static str, i128);
@@ -89,16 +93,26 @@ fn end_of(alloc: Global, how: How) -> Result<End, Mismatch> {
     }
 }
 
+fn spans_of(alloc: Global, records: Records) -> Result<Spans, Mismatch> {
+    let mut spans = Spans::new(alloc);
+    for (first, last) in records {
+        spans.push(Span {
+            first: *first,
+            last: *last,
+        })?;
+    }
+    Ok(spans)
+}
+
 fn fates_of(alloc: Global, attempts: &[Ended]) -> Result<Fates, Mismatch> {
     let mut fates = Fates::new(alloc);
-    for (attempt, start, finish, how) in attempts {
+    for (attempt, records, start, finish, how) in attempts {
         fates.push(Attempt {
             root: Root {
                 txid: 1,
                 attempt: *attempt,
             },
-            first: 1,
-            last: 2,
+            spans: spans_of(alloc, records)?,
             start: *start,
             finish: *finish,
             end: end_of(alloc, *how)?,

@@ -1,21 +1,24 @@
 // Reports, by hand.
-use crate::ends::{Ended, How, check_report};
+use crate::ends::{Ended, How, Records, check_report};
 use run_report::Tail;
 use test_kit::Mismatch;
 
+const BATCH: Records = &[(1, 2)];
+
 // The list names its edges out of order, and one of them twice.
 const EVERY_END: [Ended; 6] = [
-    (1, 0, 0, How::Failed(&[0])),
-    (2, 0, 1, How::Failed(&[0, 12, 3])),
-    (3, 1, 4, How::TimedOut),
+    (1, BATCH, 0, 0, How::Failed(&[0])),
+    (2, BATCH, 0, 1, How::Failed(&[0, 12, 3])),
+    (3, BATCH, 1, 4, How::TimedOut),
     (
         4,
+        BATCH,
         4,
         5,
         How::Coincided(&[(&[0, 1], 9), (&[0], 5), (&[0, 0], 9), (&[0], 5)]),
     ),
-    (5, 5, 6, How::CommitFailed(1, 0)),
-    (6, 6, 8, How::Committed),
+    (5, BATCH, 5, 6, How::CommitFailed(1, 0)),
+    (6, BATCH, 6, 8, How::Committed),
 ];
 
 #[test]
@@ -50,6 +53,7 @@ fn ends_of_an_exhausted_transaction(rt: HostRuntime) -> Result<(), Mismatch> {
         &[
             (
                 1,
+                BATCH,
                 0,
                 3,
                 How::Coincided(&[
@@ -57,8 +61,8 @@ fn ends_of_an_exhausted_transaction(rt: HostRuntime) -> Result<(), Mismatch> {
                     (&[7], 0xfedcba9876543210),
                 ]),
             ),
-            (2, 3, 3, How::Coincided(&[])),
-            (3, 3, 4, How::CommitFailed(2, 5)),
+            (2, BATCH, 3, 3, How::Coincided(&[])),
+            (3, BATCH, 3, 4, How::CommitFailed(2, 5)),
         ],
         &[],
         Tail::Exhausted(u64::MAX),
@@ -72,4 +76,23 @@ exhausted 18446744073709551615
 #[test]
 fn nothing_was_committed(rt: HostRuntime) -> Result<(), Mismatch> {
     check_report(rt.alloc(), &[], &[], Tail::Unfinished(0), "unfinished 0\n")
+}
+
+#[test]
+fn records_of_one_span_and_more(rt: HostRuntime) -> Result<(), Mismatch> {
+    check_report(
+        rt.alloc(),
+        &[
+            (1, &[(1, 1), (3, 3), (5, 9)], 0, 3, How::TimedOut),
+            (2, &[(1, 1), (3, 3)], 3, 3, How::Failed(&[0])),
+            (3, &[(1, u64::MAX)], 3, 3, How::Committed),
+        ],
+        &[],
+        Tail::Unfinished(1),
+        "attempt 1.1 records 1-1,3-3,5-9 ticks 0-3 timed out
+attempt 1.2 records 1-1,3-3 ticks 3-3 failed 0
+attempt 1.3 records 1-18446744073709551615 ticks 3-3 committed
+unfinished 1
+",
+    )
 }

@@ -45,8 +45,7 @@ abbrev pub line_with : Attempt → EndText → AttemptText
 line_with a told = record {
   txid = a.root.txid;
   attempt = a.root.attempt;
-  first = a.first;
-  last = a.last;
+  spans = a.spans;
   start = a.start;
   finish = a.finish;
   ending = told;

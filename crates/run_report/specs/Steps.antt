@@ -6,13 +6,13 @@ use Rattle.tree_model.specs.declared.messages.AckMsg.{AckMsg}
 use Rattle.attempt_fates.specs.declared.fates.Attempt.{Attempt}
 use Rattle.attempt_fates.specs.declared.fates.End.{End}
 use Rattle.run_report.specs.Fated.{AreOpenOf, IsEndOf, IsLineOf, AreLinesOf}
-use Rattle.report_grammar.specs.Report.{EdgeText, edges_text, EndText, coincided, end_text, AttemptText, attempt_text}
+use Rattle.report_grammar.specs.Report.{EdgeText, edges_text, EndText, coincided, end_text, AttemptText, attempt_text, spans_text}
 
 -- an attempt's line up to how it ended
 unfoldable pub heading_of : Attempt → List ℕ
 heading_of a =
     codes "attempt " ++ decimal a.root.txid ++ codes "." ++ decimal a.root.attempt
-    ++ codes " records " ++ decimal a.first ++ codes "-" ++ decimal a.last
+    ++ codes " records " ++ spans_text a.spans
     ++ codes " ticks " ++ decimal a.start ++ codes "-" ++ decimal a.finish ++ codes " "
 
 -- the open edges of a list were added to a text

@@ -7,7 +7,7 @@ ghost use Rattle.run_report.specs.Steps.{heading_of, AddsCoincided, AddsEnd, Add
 use crate::edges::push_open;
 use attempt_fates::{Attempt, End};
 use message_lists::Notes;
-use report_lines::push_path;
+use report_lines::{push_path, push_spans};
 use std::alloc::Global;
 use std::fmt::Write;
 use tree_model::storm_values::{Memory, Path};
@@ -49,9 +49,8 @@ fn push_heading(text: &mut String, attempt: &Attempt) -> Result<(), Memory>
         (string_bytes text.new ≡ string_bytes text.old ++ heading_of attempt.now) }
 {
     let (txid, number) = (attempt.root.txid, attempt.root.attempt);
-    write!(text, "attempt {txid}.{number}")?;
-    let (first, last) = (attempt.first, attempt.last);
-    write!(text, " records {first}-{last}")?;
+    write!(text, "attempt {txid}.{number} records ")?;
+    push_spans(text, attempt.spans.as_slice())?;
     let (start, finish) = (attempt.start, attempt.finish);
     write!(text, " ticks {start}-{finish} ")?;
     Ok(())

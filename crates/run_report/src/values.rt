@@ -16,8 +16,8 @@ use tree_model::topology_plan::Plan;
 use tree_model::tuple_tickets::Edges;
 use tree_model::{Pair, Table};
 
-/// The report whose text `report_text` makes. It copies the names and keys of all lines, and takes
-/// time in proportion to them, and besides to n log n for the n edges of each attempt that
+/// The report whose text `report_text` makes. It copies the spans, names and keys of all lines, and
+/// takes time in proportion to them, and besides to n log n for the n edges of each attempt that
 /// coincided.
 pub fn report_of(
     alloc: Global,
@@ -51,8 +51,7 @@ fn line_of(alloc: Global, plan: &Plan, attempt: &Attempt) -> Result<AttemptLine,
     let end = end_of(alloc, plan, &attempt.end)?;
     Ok(AttemptLine {
         root: attempt.root,
-        first: attempt.first,
-        last: attempt.last,
+        spans: attempt.spans.copy()?,
         start: attempt.start,
         finish: attempt.finish,
         end,

@@ -14,7 +14,7 @@ use Rattle.event_worlds.specs.attempt_fates.Fates.{committed_txids}
 use Rattle.batch_commits.specs.Standing.{FailuresAreCounted, HasTextKey, PartsStand, TellsFailedPart, batches_in, failed_commits, writes_at}
 use Rattle.event_worlds.specs.bolt_ops.RowOp.{Custom}
 use Rattle.event_worlds.specs.commit_order.Offices.{AddsSome, IsCommitOf}
-use Rattle.event_worlds.specs.commit_turns.Account.{rows_in}
+use Rattle.event_worlds.specs.commit_turns.Account.{rows_at}
 use Rattle.event_worlds.specs.commit_turns.declared.wait.Wait.{Wait}
 use Rattle.event_worlds.specs.commit_turns.Desks.{Desk, ended_at}
 use Rattle.event_worlds.specs.commit_turns.Kept.{IsWaiting}
@@ -46,6 +46,7 @@ use Rattle.event_worlds.specs.tree_model.declared.write.Write.{Write}
 use Rattle.event_worlds.specs.trident_batches.Batches.{Cut}
 use Rattle.event_worlds.specs.tuple_account.Histories.{History}
 use Rattle.event_worlds.specs.tuple_account.Moves.{Station}
+use Rattle.event_worlds.specs.tree_model.Trees.{writes}
 
 -- ---- lists
 
@@ -110,11 +111,18 @@ module _ {S : Type 0} (holds : S → CellMap → Type 0) (count : S → ℕ) (t 
       let waits : IsWaiting t cut k.world.desk w = subst (IsWaiting t cut k.world.desk) (get_or_from_slice_get k.world.desk.pending found.0 w w found.1) (led.kept.waits found.0 w (slice_get_within k.world.desk.pending found.0 w found.1)) in
       (by w.settled refl settled found.0 found.1, waits.there)
     where
+      its : (i : ℕ) → slice_get k.world.desk.pending i ≡ Some w → IsWaiting t cut k.world.desk w
+      its i at = subst (IsWaiting t cut k.world.desk) (get_or_from_slice_get k.world.desk.pending i w w at) (led.kept.waits i w (slice_get_within k.world.desk.pending i w at))
+
+      some_rows : 0 < cut.size
+      some_rows = let s = input.size in let b = input.valid.batch.0 in omega arith
+
       by : (o : Option (List AckMsg)) → w.settled ≡ o → is_some o ≡ true → (i : ℕ) → slice_get k.world.desk.pending i ≡ Some w → commit.writes ≡ writes_at t custom cut w.root.txid
       by None same some i at = absurd (true≢false (sym some))
       by (Some list) same some i at =
           let whole = more.settled words all h k input led i w list at same in
-          whole_writes t custom (rows_in cut w.root.txid) w.root list commit.writes input.valid whole.0.is_true whole.0.is_single whole.2 (is.1 list same)
+          whole_writes t custom (rows_at cut w.spans) w.root list commit.writes input.valid whole.0.is_true whole.0.is_single whole.2 (is.1 list same)
+          ∙ ap (writes t custom) (ap (rows_at cut) (its i at).records ∙ more.batched cut.records cut.size w.root.txid (let l = (its i at).later in omega arith) (its i at).there some_rows)
 
 module _ {I S : Type 0} {g : Ghosts I} (tells : I → (ℕ → ℕ) → ℕ → Type 0) (holds : S → CellMap → Type 0) (count : S → ℕ) (t : Topology) (custom : Custom) (cut : Cut) where
   -- by some words, an engine goes as a world does
@@ -225,7 +233,7 @@ module _ {I S : Type 0} {g : Ghosts I} (tells : I → (ℕ → ℕ) → ℕ → 
         decided_commits h None = omega arith
         decided_commits Done (Some x) = settled x.settled
           where
-            settled : (list : Option (List AckMsg)) → committed_by mid + 1 ≡ committed_by mid + length (committed_txids (ended_at cut (shape mid).desk.tick (end_by t cut Done list) x ∷ []))
+            settled : (list : Option (List AckMsg)) → committed_by mid + 1 ≡ committed_by mid + length (committed_txids (ended_at (shape mid).desk.tick (end_by t cut Done list) x ∷ []))
             settled None = refl
             settled (Some list) = refl
         decided_commits (Failed component part before after) (Some x) = omega arith
@@ -233,10 +241,10 @@ module _ {I S : Type 0} {g : Ghosts I} (tells : I → (ℕ → ℕ) → ℕ → 
     -- memory was wanted where the outcome was to be told: a fate tells of it or none does
     leaves-undecided : (how : CommitOutcome) (fates : List Attempt) → AddsSome (decided t cut how (shape mid).desk).ended mid.fates fates → CommitComes holds custom count commit.root commit.writes how was is → FailOnceAtMost count was is → Leaves holds count t custom cut mid fates was is
     leaves-undecided how fates some comes once =
-        let ended_is : (decided t cut how (shape mid).desk).ended ≡ ended_at cut (shape mid).desk.tick (end_by t cut how w.settled) w ∷ [] = ap (λ (o : Option Wait). (decided_by t cut how o (shape mid).desk).ended) next in
+        let ended_is : (decided t cut how (shape mid).desk).ended ≡ ended_at (shape mid).desk.tick (end_by t cut how w.settled) w ∷ [] = ap (λ (o : Option Wait). (decided_by t cut how o (shape mid).desk).ended) next in
         ⊎_elim (λ (none : some.done ≡ []). leaves-broken fates (some.added ∙ ap (λ (xs : List Attempt). mid.fates ++ xs) none ∙ append-nil mid.fates) once)
-        (λ (told : some.done ≡ ended_at cut (shape mid).desk.tick (end_by t cut how w.settled) w ∷ []). leaves-told how fates (some.added ∙ ap (λ (xs : List Attempt). mid.fates ++ xs) (told ∙ sym ended_is)) comes)
-        (one_or_none some.done some.rest (ended_at cut (shape mid).desk.tick (end_by t cut how w.settled) w) (sym ended_is ∙ some.are_first))
+        (λ (told : some.done ≡ ended_at (shape mid).desk.tick (end_by t cut how w.settled) w ∷ []). leaves-told how fates (some.added ∙ ap (λ (xs : List Attempt). mid.fates ++ xs) (told ∙ sym ended_is)) comes)
+        (one_or_none some.done some.rest (ended_at (shape mid).desk.tick (end_by t cut how w.settled) w) (sym ended_is ∙ some.are_first))
 
   -- what an outcome makes of an engine
   outcome_is : (mid new : Engine I g) (how : CommitOutcome) → is_over t cut (shape mid) ≡ false → (shape mid).desk.out ≡ true → outcomes_of new.fates ≡ outcomes_of mid.fates ++ how ∷ [] → Goes tells t custom cut (of_outcome ∷ []) mid new

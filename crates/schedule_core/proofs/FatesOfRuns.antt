@@ -5,7 +5,7 @@ use Rattle.std.specs.Prelude.{min}
 use Rattle.std.specs.List.{AllByRecursion, flat_map, range_with_len}
 use Rattle.std.proofs.lemmas.Bool.{eqb-false, eqb-true}
 use Rattle.std.proofs.lemmas.Grind.{div_ceil_times}
-use Rattle.std.proofs.lemmas.List.{length-append, length-map}
+use Rattle.std.proofs.lemmas.List.{length-append, length-map, append-nil}
 use Rattle.std.proofs.lemmas.List.Elements.{All-filter, recursion_from_All}
 use Rattle.std.proofs.lemmas.List.FromFn.{length-range_with_len}
 use Rattle.event_worlds.specs.attempt_fates.declared.fates.Attempt.{Attempt}
@@ -14,7 +14,9 @@ use Rattle.event_worlds.specs.commit_turns.Desks.{Desk}
 use Rattle.event_worlds.specs.commit_turns.Kept.{IsKept}
 use Rattle.event_worlds.specs.commit_turns.Turns.{is_finished}
 use Rattle.event_worlds.specs.topology_plan.Topology.{Topology}
-use Rattle.event_worlds.specs.trident_batches.Batches.{Cut, batch_count}
+use Rattle.event_worlds.specs.trident_batches.Batches.{Cut, batch_count, first_of, last_of}
+use Rattle.event_worlds.specs.record_spans.declared.span.Span.{Span}
+use Rattle.event_worlds.specs.record_spans.Spans.{records_of}
 
 -- more ticks may have been handed out
 pub once-later : (n size a b : ℕ) (fates : List Attempt) → IsOnce n size a fates → a ≤ b
@@ -85,11 +87,14 @@ module _ (n size : ℕ) where
       → length (record_numbers c) ≡ min ((k + 1) * size) n - min (k * size) n
   own-many k c of is =
       let less : k + 1 - 1 ≡ k = omega arith in
-      let f : c.first ≡ k * size + 1 = of.first ∙ ap (λ (j : ℕ). (j - 1) * size + 1) is
+      let first : ℕ = first_of size c.root.txid in
+      let last : ℕ = last_of n size c.root.txid in
+      let f : first ≡ k * size + 1 = ap (λ (j : ℕ). (j - 1) * size + 1) is
       ∙ ap (λ (j : ℕ). j * size + 1) less in
-      let l : c.last ≡ min ((k + 1) * size) n =
-      of.last ∙ ap (λ (j : ℕ). min (j * size) n) is in
-      let many = length-range_with_len c.first (c.last + 1 - c.first) in
+      let l : last ≡ min ((k + 1) * size) n = ap (λ (j : ℕ). min (j * size) n) is in
+      let many = ap (λ (spans : List Span). length (records_of spans)) of.records
+      ∙ ap length (append-nil (range_with_len first (last + 1 - first)))
+      ∙ length-range_with_len first (last + 1 - first) in
       let more : (k + 1) * size ≡ k * size + size = omega arith in omega arith
 
   -- they have the records from those of the first k batches on to those of the last

@@ -73,9 +73,9 @@ some_none ended old new none some =
     first_none (outcomes_of some.done) (outcomes_of some.rest)
     (sym (outcomes-append some.done some.rest) ∙ sym (ap outcomes_of some.are_first) ∙ none)
 
-none_late : (cut : Cut) (tick : ℕ) (ws : List Wait) → outcomes_of (map (ended_at cut tick end.TimedOut) ws) ≡ []
-none_late cut tick [] = refl
-none_late cut tick (w ∷ ws) = none_late cut tick ws
+none_late : (tick : ℕ) (ws : List Wait) → outcomes_of (map (ended_at tick end.TimedOut) ws) ≡ []
+none_late tick [] = refl
+none_late tick (w ∷ ws) = none_late tick ws
 
 module _ (t : Topology) (cut : Cut) where
   none_ticked : (n : ℕ) (d : Desk) → outcomes_of (ticked t cut n d).ended ≡ []
@@ -84,7 +84,7 @@ module _ (t : Topology) (cut : Cut) where
     where
       at : (b : Bool) → outcomes_of (ticked t cut n (one_tick t cut d).desk).ended ≡ [] → outcomes_of (cond b (still d) (and_then t cut (one_tick t cut d) (ticked t cut n (one_tick t cut d).desk))).ended ≡ []
       at true rest = refl
-      at false rest = none_in_both (one_tick t cut d).ended (ticked t cut n (one_tick t cut d).desk).ended (none_late cut (d.tick + 1) (filter (is_late t.buckets (d.tick + 1)) d.pending)) rest
+      at false rest = none_in_both (one_tick t cut d).ended (ticked t cut n (one_tick t cut d).desk).ended (none_late (d.tick + 1) (filter (is_late t.buckets (d.tick + 1)) d.pending)) rest
 
   none_completed : (list : List AckMsg) (closed : Bool) (o : Option Wait) (d : Desk) → outcomes_of (complete_timed t cut list closed o d).ended ≡ []
   none_completed list closed None d = refl

@@ -4,10 +4,10 @@ use Rattle.std.proofs.lemmas.List.{length-append}
 use Rattle.std.proofs.lemmas.List.Elements.{filter-append}
 use Rattle.event_worlds.specs.attempt_fates.declared.fates.Attempt.{Attempt}
 use Rattle.event_worlds.specs.bolt_ops.RowOp.{Custom}
-use Rattle.event_worlds.specs.commit_turns.Account.{ends_of, rows_in}
+use Rattle.event_worlds.specs.commit_turns.Account.{ended_of, ending_of, rows_at}
 use Rattle.event_worlds.specs.commit_turns.Turns.{decided}
 use Rattle.event_worlds.proofs.counted_items.Each.{each-weaker}
-use Rattle.event_worlds.specs.Accounted.{Accounted, AreCaused}
+use Rattle.event_worlds.specs.Accounted.{Accounted, AreCaused, IsCausedEnd}
 use Rattle.event_worlds.specs.Rounds.{is_tick, ticks_in}
 use Rattle.event_worlds.specs.Worlds.{Acted, Known, Step, World, acted, delivered, ended, first_known, is_over, next, next_outcome, next_words, of_acker, of_outcome, of_task, of_tick, of_turn, run, sent, step, task_at, task_needs, turn_needs, turn_past, with_progress, with_task, world_after}
 use Rattle.event_worlds.specs.state_parts.declared.answer.CommitOutcome.{CommitOutcome}
@@ -15,7 +15,8 @@ use Rattle.event_worlds.specs.topology_plan.Topology.{Topology, tasks_in_all}
 use Rattle.event_worlds.specs.tree_model.declared.messages.Parcel.{Parcel}
 use Rattle.event_worlds.specs.tree_model.declared.messages.Parcel.TheVariants.{ToAcker, ToTask}
 use Rattle.event_worlds.specs.trident_batches.Batches.{Cut}
-use Rattle.event_worlds.specs.tuple_account.Ends.{CauseBy, Ended, Ending, HasCause, committed, failed, timed_out, coincided, commit_failed}
+use Rattle.event_worlds.specs.tuple_account.Ends.{CauseBy, Ended, Ending, committed, failed, timed_out, coincided, commit_failed}
+use Rattle.event_worlds.specs.storm_values.declared.value.Value.{Value}
 
 -- ---- numbers
 
@@ -113,27 +114,16 @@ pub desk-tick : (t : Topology) (custom : Custom) (cut : Cut) (words : ℕ → �
     → Accounted t custom cut words k → k.world.desk.tick ≤ k.world.tick
 desk-tick t custom cut words k accounted = accounted.1.ticks
 
--- nor, from the start on, but those among the steps
-pub desk-ticks : (t : Topology) (custom : Custom) (cut : Cut) (words : ℕ → ℕ → ℕ)
-    (outcomes : List CommitOutcome) (steps : List Step)
-    → Accounted t custom cut words (run t custom cut words outcomes steps (first_known t words))
-    → (world_after t custom cut words outcomes steps).desk.tick ≤ ticks_in steps
-desk-ticks t custom cut words outcomes steps accounted =
-    let last : Known = run t custom cut words outcomes steps (first_known t words) in
-    from-none _ _ (ticks_in steps) (desk-tick t custom cut words last accounted)
-    (run-tick t custom cut words outcomes steps (first_known t words))
-
 -- ---- causes
 
 module _ (t : Topology) (custom : Custom) (cut : Cut) (a b : ℕ) (later : a ≤ b) where
-  cause-later : (e : Ended) (ending : Ending)
-      → CauseBy t custom (rows_in cut e.root.txid) a e ending
-      → CauseBy t custom (rows_in cut e.root.txid) b e ending
-  cause-later e (committed list) cause = cause
-  cause-later e (failed path) cause = cause
-  cause-later e timed_out cause = (cause.0, up-to e.finish a b cause.1 later)
-  cause-later e (coincided list) cause = cause
-  cause-later e (commit_failed component part before after) cause = cause
+  cause-later : (rows : List (List Value)) (e : Ended) (ending : Ending)
+      → CauseBy t custom rows a e ending → CauseBy t custom rows b e ending
+  cause-later rows e (committed list) cause = cause
+  cause-later rows e (failed path) cause = cause
+  cause-later rows e timed_out cause = (cause.0, up-to e.finish a b cause.1 later)
+  cause-later rows e (coincided list) cause = cause
+  cause-later rows e (commit_failed component part before after) cause = cause
 
 -- more ticks may have been handed out
 pub caused-later : (t : Topology) (custom : Custom) (cut : Cut) (a b : ℕ) (words : ℕ → ℕ → ℕ)
@@ -141,8 +131,8 @@ pub caused-later : (t : Topology) (custom : Custom) (cut : Cut) (a b : ℕ) (wor
     → AreCaused t custom cut b words fates
 caused-later t custom cut a b words fates caused later = record {
   each =
-      each-weaker (HasCause t custom (rows_in cut) a) (HasCause t custom (rows_in cut) b)
-      (λ e cause. cause-later t custom cut a b later e e.ending cause) (ends_of fates)
-      caused.each;
+      each-weaker (IsCausedEnd t custom cut a) (IsCausedEnd t custom cut b)
+      (λ x cause. cause-later t custom cut a b later (rows_at cut x.spans) (ended_of x) (ending_of x.end) cause)
+      fates caused.each;
   drawn = caused.drawn;
 }

@@ -1,10 +1,10 @@
 -- The laws of worlds and of parts that runs rest on. This project's own.
-use Rattle.std.specs.Prelude.{◌≡◌, ◌<◌, ℕ, ◌+◌, List, [], ◌++◌, All, Some, slice_get}
+use Rattle.std.specs.Prelude.{◌≡◌, ◌<◌, ℕ, ◌+◌, List, [], ◌++◌, All, Some, slice_get, ◌≤◌, length}
 use Rattle.event_worlds.specs.storm_values.declared.value.Root.{Root}
 use Rattle.event_worlds.specs.attempt_fates.declared.fates.Attempt.{Attempt}
 use Rattle.batch_commits.specs.Standing.{AllButLastAreCounted, FailuresAreCounted, HasStrangeAt, HasTextKey, PartsStand, TellsFailedPart, batches_in, failed_commits, writes_at}
 use Rattle.event_worlds.specs.bolt_ops.RowOp.{Custom, IsCustom}
-use Rattle.event_worlds.specs.commit_turns.Account.{rows_in}
+use Rattle.event_worlds.specs.commit_turns.Account.{rows_at}
 use Rattle.event_worlds.specs.commit_turns.declared.wait.Wait.{Wait}
 use Rattle.event_worlds.specs.commit_turns.Desks.{Desk}
 use Rattle.event_worlds.specs.commit_turns.Outcomes.{IsOutcome}
@@ -21,10 +21,12 @@ use Rattle.event_worlds.specs.topology_plan.Topology.{Topology}
 use Rattle.event_worlds.specs.tree_model.declared.messages.AckMsg.{AckMsg}
 use Rattle.event_worlds.specs.tree_model.declared.write.Write.{Write}
 use Rattle.event_worlds.specs.tree_model.Lists.{Covers, IsClosed}
-use Rattle.event_worlds.specs.trident_batches.Batches.{Cut}
+use Rattle.event_worlds.specs.trident_batches.Batches.{Cut, batch_count, batch_of}
 use Rattle.event_worlds.specs.tuple_account.Histories.{History}
 use Rattle.event_worlds.specs.tuple_account.Moves.{Station}
 use Rattle.event_worlds.specs.tuple_account.Sound.{IsSound}
+use Rattle.event_worlds.specs.attempt_fates.Fates.{batch_spans, records_in}
+use Rattle.event_worlds.specs.storm_values.declared.value.Value.{Value}
 
 -- what steps rest on
 pub record Laws {S : Type 0} (count : S → ℕ) (t : Topology) (custom : Custom) (cut : Cut)
@@ -71,8 +73,11 @@ pub record CommitLaws {S : Type 0} (holds : S → CellMap → Type 0) (count : S
   pub settled : (words : ℕ → ℕ → ℕ) (all : Station) (h : History) (k : Known) → IsInput t cut
       → LedAt t custom cut words all h k → (i : ℕ) (w : Wait) (list : List AckMsg)
       → slice_get k.world.desk.pending i ≡ Some w → w.settled ≡ Some list
-      → IsSound t custom (rows_in cut w.root.txid) w.root list × IsClosed list
-      × Covers t custom (rows_in cut w.root.txid) list
+      → IsSound t custom (rows_at cut w.spans) w.root list × IsClosed list
+      × Covers t custom (rows_at cut w.spans) list
+  pub batched : (records : List (List Value)) (size txid : ℕ) → 1 ≤ txid
+      → txid ≤ batch_count (length records) size → 0 < size
+      → records_in records (batch_spans (length records) size txid) ≡ batch_of size txid records
 
 -- what a run from its start rests on
 pub record WorldLaws {S : Type 0} (holds : S → CellMap → Type 0) (count : S → ℕ) (t : Topology)

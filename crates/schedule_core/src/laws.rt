@@ -8,6 +8,7 @@ use batch_commits::{
     commits_of_batches_move_parts, counts_run_on, failures_of_commits_are_counted,
     strange_cells_were_there,
 };
+use event_worlds::attempt_fates::batches_are_the_records_of_their_spans;
 use event_worlds::{
     ends_of_worlds_have_causes, worlds_are_accounted, worlds_with_others_are_accounted,
 };
@@ -26,6 +27,7 @@ pub fn laws_of_commits<C: CellStore>()
     ensures { (t : Topology) (custom : Custom) (cut : Cut)
         → CommitLaws C.tells C.fault_count t custom cut }
 {
+    batches_are_the_records_of_their_spans();
     worlds_with_others_are_accounted();
     commits_of_batches_move_parts::<C>();
     strange_cells_were_there::<C>();

@@ -9,9 +9,8 @@ use Rattle.event_worlds.specs.attempt_fates.declared.fates.End.{End}
 use Rattle.event_worlds.specs.attempt_fates.declared.fates.End.TheVariants as end
 use Rattle.batch_commits.specs.Standing.{AllButLastAreCounted, CountsRun, FailsAtOneOf, FailuresAreCounted, failed_commits}
 use Rattle.event_worlds.specs.bolt_ops.RowOp.{Custom}
-use Rattle.event_worlds.specs.commit_turns.Account.{ended_of, ending_of, rows_in}
-use Rattle.event_worlds.proofs.counted_items.Each.{each-map}
-use Rattle.event_worlds.specs.Accounted.{AreCaused}
+use Rattle.event_worlds.specs.commit_turns.Account.{ended_of, ending_of, rows_at}
+use Rattle.event_worlds.specs.Accounted.{AreCaused, IsCausedEnd}
 use Rattle.schedule_core.specs.Driving.{StillTells}
 use Rattle.event_worlds.specs.state_parts.Commits.{FailedOnceAtMost, SameCounts}
 use Rattle.event_worlds.specs.state_parts.declared.parts.StatePart.{StatePart}
@@ -24,7 +23,7 @@ use Rattle.storm_stores.specs.CellMaps.{CellMap}
 use Rattle.event_worlds.specs.storm_values.Counts.{raised, raised_by}
 use Rattle.event_worlds.specs.topology_plan.Topology.{Topology}
 use Rattle.event_worlds.specs.trident_batches.Batches.{Cut}
-use Rattle.event_worlds.specs.tuple_account.Ends.{CauseBy, HasCause, IsPart}
+use Rattle.event_worlds.specs.tuple_account.Ends.{CauseBy, IsPart}
 
 -- ---- each part
 
@@ -159,16 +158,16 @@ module _ {S : Type 0} (tells : S → CellMap → Type 0) (count : S → ℕ) whe
 
 -- an attempt whose commit failed, failed at a part of a state
 fails_at : (t : Topology) (custom : Custom) (cut : Cut) (ticks : ℕ) (a : Attempt)
-    → HasCause t custom (rows_in cut) ticks (ended_of a) → (c p before after : ℕ)
+    → IsCausedEnd t custom cut ticks a → (c p before after : ℕ)
     → a.end ≡ end.CommitFailed c p before after → IsPart t c p
 fails_at t custom cut ticks a cause c p before after is =
-    (subst (λ (e : End). CauseBy t custom (rows_in cut a.root.txid) ticks (ended_of a) (ending_of e))
+    (subst (λ (e : End). CauseBy t custom (rows_at cut a.spans) ticks (ended_of a) (ending_of e))
     is cause).0
 
 fails_each : {S : Type 0} (t : Topology) (custom : Custom) (cut : Cut) (ticks : ℕ)
     (parts : List (StatePart S))
     → ((c p : ℕ) → IsPart t c p → IsOneOf (plans_of parts) c p) → (fates : List Attempt)
-    → AllByRecursion (λ (a : Attempt). HasCause t custom (rows_in cut) ticks (ended_of a)) fates
+    → AllByRecursion (IsCausedEnd t custom cut ticks) fates
     → AllByRecursion (FailsAtOneOf (plans_of parts)) fates
 fails_each t custom cut ticks parts one [] each = tt
 fails_each t custom cut ticks parts one (a ∷ fates) each = (
@@ -183,8 +182,7 @@ pub fail_at_parts : {S : Type 0} (t : Topology) (custom : Custom) (cut : Cut) (t
     → AreCaused t custom cut ticks words fates → All (FailsAtOneOf (plans_of parts)) fates
 fail_at_parts t custom cut ticks words parts one fates caused =
     All-from_recursion (FailsAtOneOf (plans_of parts)) fates
-    (fails_each t custom cut ticks parts one fates
-    (each-map (HasCause t custom (rows_in cut) ticks) ended_of fates caused.each))
+    (fails_each t custom cut ticks parts one fates caused.each)
 
 -- ---- the maker
 

@@ -6,11 +6,11 @@ use Rattle.std.proofs.lemmas.List.FromFn.{length-range_with_len}
 use Rattle.event_worlds.proofs.attempt_fates.RecordLemmas.{records_are_all}
 use Rattle.event_worlds.specs.attempt_fates.declared.fates.Attempt.{Attempt}
 use Rattle.event_worlds.specs.attempt_fates.declared.fates.End.{End}
-use Rattle.event_worlds.specs.attempt_fates.Fates.{IsOnce}
+use Rattle.event_worlds.specs.attempt_fates.Fates.{IsOnce, records_in}
 use Rattle.event_worlds.specs.bolt_ops.RowOp.{Custom}
-use Rattle.event_worlds.specs.commit_turns.Account.{ended_of, ending_of, ends_of, rows_in}
+use Rattle.event_worlds.specs.commit_turns.Account.{ended_of, ending_of}
 use Rattle.event_worlds.specs.commit_turns.Turns.{last_tick}
-use Rattle.event_worlds.proofs.counted_items.Each.{each-map, each-weaker}
+use Rattle.event_worlds.proofs.counted_items.Each.{each-weaker}
 use Rattle.schedule_core.specs.Runs.{committed_count}
 use Rattle.schedule_core.specs.Schedules.{all_steps}
 use Rattle.schedule_reader.specs.declared.event.Event.{Event}
@@ -34,17 +34,17 @@ use Rattle.event_worlds.specs.topology_plan.Topology.{Topology}
 use Rattle.event_worlds.specs.tree_model.Tables.{AreTables}
 use Rattle.event_worlds.specs.tree_model.Trees.{writes}
 use Rattle.event_worlds.specs.trident_batches.Batches.{Cut, batch_count}
-use Rattle.event_worlds.specs.tuple_account.Ends.{CauseBy, HasCause}
+use Rattle.event_worlds.specs.tuple_account.Ends.{CauseBy}
+use Rattle.event_worlds.specs.Accounted.{IsCausedEnd}
 
 module _ (custom : Custom) (plan : Topology) (records : List (List Value)) (base : RunUse) (ticks : ℕ) (fates : List Attempt) where
   -- a committed attempt's cause is that its tree was acked
-  acked_by : (a : Attempt) → HasCause plan custom (rows_in (cut_by plan records)) ticks (ended_of a) → WasAcked plan custom records a
-  acked_by a cause list is = subst (λ (e : End). CauseBy plan custom (rows_in (cut_by plan records) a.root.txid) ticks (ended_of a) (ending_of e)) is cause
+  acked_by : (a : Attempt) → IsCausedEnd plan custom (cut_by plan records) ticks a → WasAcked plan custom records a
+  acked_by a cause list is = subst (λ (e : End). CauseBy plan custom (records_in records a.spans) ticks (ended_of a) (ending_of e)) is cause
 
-  acked_all : AllByRecursion (HasCause plan custom (rows_in (cut_by plan records)) ticks) (ends_of fates) → All (WasAcked plan custom records) fates
+  acked_all : AllByRecursion (IsCausedEnd plan custom (cut_by plan records) ticks) fates → All (WasAcked plan custom records) fates
   acked_all causes =
-      let each = each-map (HasCause plan custom (rows_in (cut_by plan records)) ticks) ended_of fates causes in
-      All-from_recursion (WasAcked plan custom records) fates (each-weaker (λ (a : Attempt). HasCause plan custom (rows_in (cut_by plan records)) ticks (ended_of a)) (WasAcked plan custom records) acked_by fates each)
+      All-from_recursion (WasAcked plan custom records) fates (each-weaker (IsCausedEnd plan custom (cut_by plan records) ticks) (WasAcked plan custom records) acked_by fates causes)
 
   -- all batches committed: the report
   report_of : (r b : ℕ) → r ≡ length records → b ≡ batch_count (length records) plan.batch → (ending : RunEnd) (text : List ℕ) → IsAll ending → IsEndText plan r b fates ending text → IsRun base.words plan custom (cut_by plan records) ticks base.stores fates ending → CameBack plan base.stores

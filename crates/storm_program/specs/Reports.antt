@@ -3,9 +3,8 @@
 use Rattle.std.specs.Prelude.{◌≡◌, ℕ, List, [], All, length}
 use Rattle.event_worlds.specs.attempt_fates.declared.fates.Attempt.{Attempt}
 use Rattle.event_worlds.specs.attempt_fates.declared.fates.End.TheVariants as end
-use Rattle.event_worlds.specs.attempt_fates.Fates.{committed_records, IsWhole}
+use Rattle.event_worlds.specs.attempt_fates.Fates.{committed_records, IsWhole, records_in}
 use Rattle.event_worlds.specs.bolt_ops.RowOp.{Custom}
-use Rattle.event_worlds.specs.commit_turns.Account.{rows_in}
 use Rattle.event_worlds.specs.commit_turns.Kept.{FailsInTurn}
 use Rattle.run_report.specs.Cells.{cells_of}
 use Rattle.run_report.specs.Fated.{AreLinesOf}
@@ -38,12 +37,12 @@ pub record IsTextOf (plan : Topology) (fates : List Attempt) (cells : List CellT
   pub printed : text ≡ report_text (record { attempts = lines; cells = cells; tail = tail })
 
 -- The whole tuple tree of a committed attempt was acked: the list of its acker that was checked
--- before the commit is true, single, steady and closed, and covers the tree of its batch.
+-- before the commit is true, single, steady and closed, and covers the tree of its records.
 abbrev pub WasAcked : Topology → Custom → List (List Value) → Attempt → Type 0
 WasAcked plan custom records a =
     (list : List AckMsg) → a.end ≡ end.Committed list
-    → IsSound plan custom (rows_in (cut_by plan records) a.root.txid) a.root list × IsClosed list
-    × Covers plan custom (rows_in (cut_by plan records) a.root.txid) list
+    → IsSound plan custom (records_in records a.spans) a.root list × IsClosed list
+    × Covers plan custom (records_in records a.spans) list
 
 -- The report of a plan and the records of an input, with the operation that was handed in, where so
 -- many ticks were handed out: the printed tables are those of one machine that takes the committed

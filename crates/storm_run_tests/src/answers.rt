@@ -233,6 +233,7 @@ fn committed(txid: u64, first: u64, last: u64) -> Fate {
         root: Root { txid, attempt: 1 },
         first,
         last,
+        spans: 1,
         start: 0,
         finish: 0,
         committed: true,

@@ -16,8 +16,10 @@ use test_kit::{Mismatch, compare, lines_without};
 #[derive(Clone, Copy, Debug, PartialEq, Eq)]
 pub struct Fate {
     pub root: Root,
+    // of the first and of the last of so many spans
     pub first: u64,
     pub last: u64,
+    pub spans: usize,
     pub start: u64,
     pub finish: u64,
     pub committed: bool,
@@ -123,10 +125,12 @@ fn fates_told(alloc: Global, fates: &Fates) -> Result<Seq<Fate>, Memory> {
 }
 
 fn fate_of(attempt: &Attempt) -> Fate {
+    let spans = attempt.spans.as_slice();
     Fate {
         root: attempt.root,
-        first: attempt.first,
-        last: attempt.last,
+        first: spans.first().map_or(0, |span| span.first),
+        last: spans.last().map_or(0, |span| span.last),
+        spans: spans.len(),
         start: attempt.start,
         finish: attempt.finish,
         committed: matches!(attempt.end, End::Committed(_)),

@@ -1,6 +1,5 @@
 -- The coordinator's account fits at first.
-use Rattle.std.proofs.Common.{◌≡◌, ℕ, ◌&&◌, nat_lt, Bool, true, false, cond, List, [], refl, ltb-true, arith}
-use Rattle.tree_model.specs.storm_values.declared.value.Value.{Value}
+use Rattle.std.proofs.Common.{◌≡◌, ℕ, ◌&&◌, nat_lt, Bool, true, false, cond, [], refl, ltb-true, arith}
 use Rattle.tree_model.specs.topology_plan.Topology.{Topology}
 use Rattle.tuple_account.specs.Ends.{first_desk}
 use Rattle.tuple_account.specs.Fits.{Fits}
@@ -14,11 +13,10 @@ none_between n = cases (nat_lt 0 n) (nat_lt n 1) refl refl
     cases true false above below = refl
     cases false c above below = refl
 
-pub fits_first : (t : Topology) (batch : ℕ → List (List Value)) → Fits t batch first_desk [] nothing
-fits_first t batch = record {
+pub fits_first : (t : Topology) → Fits t first_desk [] nothing
+fits_first t = record {
   begun = λ f. omega arith;
   numbered = λ root. none_between root.attempt;
-  rows = tt;
   heard = λ f. omega arith;
   unheard = tt;
   ends = tt;

@@ -22,7 +22,7 @@ use Rattle.tuple_account.specs.Drawn.{AreDrawn, started}
 use Rattle.tuple_account.specs.Ends.{Ending, committed, failed, timed_out, coincided, commit_failed, Ended, Desk, verdicts_by, verdicts_of_ends, verdicts_of_waits, list_in, lists_of, CauseBy, HasCause}
 use Rattle.tuple_account.specs.Fits.{CheckedBy, IsEnd, Fits}
 use Rattle.tuple_account.specs.Histories.{Opening, Receipt, Told, History, IsTold}
-use Rattle.tuple_account.specs.Moves.{Station, Reached, HasDrawn}
+use Rattle.tuple_account.specs.Moves.{Station, Reached, AreRows, HasDrawn}
 use Rattle.tuple_account.specs.Places.{before}
 use Rattle.tuple_account.specs.Sound.{IsCaused}
 use Rattle.tuple_account.proofs.Counting.{few_words}
@@ -56,10 +56,7 @@ ends_weight g fates =
     one root (coincided list) = omega arith
     one root (commit_failed component part first last) = refl
 
-module _ (t : Topology) (custom : Custom) (h : History) (b : Station) (reached : Reached t custom h b) (batch : ℕ → List (List Value)) (desk : Desk) (fates : List Ended) (fits : Fits t batch desk fates h) where
-  abbrev rows_of : Root → List (List Value)
-  rows_of root = batch root.txid
-
+module _ (t : Topology) (custom : Custom) (h : History) (b : Station) (reached : Reached t custom h b) (rows_of : Root → List (List Value)) (rows : AreRows rows_of h.begun) (desk : Desk) (fates : List Ended) (fits : Fits t desk fates h) where
   abbrev AreCaused : Ended → Type 0
   AreCaused a = AllByRecursion (IsCaused t custom rows_of) (verdicts_by a.root a.ending)
 
@@ -67,9 +64,9 @@ module _ (t : Topology) (custom : Custom) (h : History) (b : Station) (reached :
   ends_caused =
       each-parts (IsCaused t custom rows_of) (λ (a : Ended). verdicts_by a.root a.ending) fates
       (each-front (IsCaused t custom rows_of) (verdicts_of_ends fates) (verdicts_of_waits desk.pending)
-      (each-within verdict_code (IsCaused t custom rows_of) (verdicts_of_ends fates ++ verdicts_of_waits desk.pending) h.heard fits.heard (heard_causes t custom h b reached rows_of fits.rows)))
+      (each-within verdict_code (IsCaused t custom rows_of) (verdicts_of_ends fates ++ verdicts_of_waits desk.pending) h.heard fits.heard (heard_causes t custom h b reached rows_of rows)))
 
-  cause_of : (a : Ended) → AreCaused a → IsEnd t desk.tick a → HasCause t custom batch desk.tick a
+  cause_of : (a : Ended) → AreCaused a → IsEnd t desk.tick a → HasCause t custom rows_of desk.tick a
   cause_of a caused is = by a.ending caused is.checked
     where
       by : (e : Ending) → AllByRecursion (IsCaused t custom rows_of) (verdicts_by a.root e) → CheckedBy t a e → CauseBy t custom (rows_of a.root) desk.tick a e
@@ -84,8 +81,8 @@ module _ (t : Topology) (custom : Custom) (h : History) (b : Station) (reached :
       by (commit_failed component part first last) all checked = checked
 
   -- each end has its cause
-  pub causes : AllByRecursion (HasCause t custom batch desk.tick) fates
-  causes = each-weaker (λ (a : Ended). AreCaused a × IsEnd t desk.tick a) (HasCause t custom batch desk.tick) (λ a both. cause_of a both.0 both.1) fates (each-both AreCaused (IsEnd t desk.tick) fates ends_caused fits.ends)
+  pub causes : AllByRecursion (HasCause t custom rows_of desk.tick) fates
+  causes = each-weaker (λ (a : Ended). AreCaused a × IsEnd t desk.tick a) (HasCause t custom rows_of desk.tick) (λ a both. cause_of a both.0 both.1) fates (each-both AreCaused (IsEnd t desk.tick) fates ends_caused fits.ends)
 
   -- ---- drawn
 
@@ -119,4 +116,4 @@ module _ (t : Topology) (custom : Custom) (h : History) (b : Station) (reached :
 
     -- the ids of all lists in the fates are drawn
     pub ends_drawn : (words : ℕ → ℕ → ℕ) → HasDrawn words h → AreDrawn t custom rows_of words (40 + (length fates + 64) * most) (lists_of fates)
-    ends_drawn words has = list_drawn t custom h b reached rows_of fits.rows counts given (40 + (length fates + 64) * most) few_given small (lists_of fates) lists_met words has
+    ends_drawn words has = list_drawn t custom h b reached rows_of rows counts given (40 + (length fates + 64) * most) few_given small (lists_of fates) lists_met words has

@@ -9,7 +9,6 @@ use Rattle.tree_model.proofs.counted_items.Each.{each-weaker, each-both}
 use Rattle.tree_model.proofs.counted_items.Weighing.{weigh-zero, weigh-le_each, each-weighs}
 use Rattle.rotating_ledger.specs.Held.{Held}
 use Rattle.tree_model.specs.storm_values.declared.value.Root.{Root}
-use Rattle.tree_model.specs.storm_values.declared.value.Value.{Value}
 use Rattle.tree_model.specs.topology_plan.Topology.{Topology}
 use Rattle.tree_model.specs.tuple_tickets.Roots.{root_eq}
 use Rattle.tree_model.proofs.tuple_tickets.Roots.{root_itself}
@@ -32,7 +31,7 @@ tells_about root x is = by x.verdict (says x is)
     by (Complete r l) s = let e : is_about root (Complete r l) ≡ tells root x = ap (λ (q : Root). cond {A = ℕ} (root_eq q root) 1 0) s.0 in omega arith
     by (Fails r path) s = let e : is_about root (Fails r path) ≡ tells root x = ap (λ (q : Root). cond {A = ℕ} (root_eq q root) 1 0) s.0 in omega arith
 
-module _ (t : Topology) (custom : Custom) (h : History) (b : Station) (reached : Reached t custom h b) (entries : List (Held (List AckMsg))) (stuck : IsStuck t custom h b entries) (batch : ℕ → List (List Value)) (desk : Desk) (fates : List Ended) (fits : Fits t batch desk fates h) where
+module _ (t : Topology) (custom : Custom) (h : History) (b : Station) (reached : Reached t custom h b) (entries : List (Held (List AckMsg))) (stuck : IsStuck t custom h b entries) (desk : Desk) (fates : List Ended) (fits : Fits t desk fates h) where
   -- all that was told was heard
   heard_all : (f : Verdict → ℕ) → weigh f h.heard ≡ weigh (λ (x : Told). f x.verdict) h.told
   heard_all f =

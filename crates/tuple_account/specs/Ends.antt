@@ -119,6 +119,6 @@ module _ (t : Topology) (custom : Custom) (rows : List (List Value)) where
   CauseBy tick a (commit_failed component part before after) =
       IsPart t component part × Rose before after
 
--- the attempt's end has its cause, where batches have these rows and so many ticks were counted
-abbrev pub HasCause : Topology → Custom → (ℕ → List (List Value)) → ℕ → Ended → Type 0
-HasCause t custom batch tick a = CauseBy t custom (batch a.root.txid) tick a a.ending
+-- the attempt's end has its cause, where roots have these rows and so many ticks were counted
+abbrev pub HasCause : Topology → Custom → (Root → List (List Value)) → ℕ → Ended → Type 0
+HasCause t custom rows_of tick a = CauseBy t custom (rows_of a.root) tick a a.ending

@@ -5,13 +5,11 @@ use Rattle.std.specs.List.{AllByRecursion}
 use Rattle.tree_model.specs.counted_items.Weights.{weigh, Within}
 use Rattle.tree_model.specs.storm_values.Counts.{Rose}
 use Rattle.tree_model.specs.storm_values.declared.value.Root.{Root}
-use Rattle.tree_model.specs.storm_values.declared.value.Value.{Value}
 use Rattle.tree_model.specs.topology_plan.Topology.{Topology}
 use Rattle.tree_model.specs.Lists.{IsClosed}
 use Rattle.tree_model.specs.declared.messages.AckMsg.{AckMsg}
 use Rattle.tuple_account.specs.Ends.{Ending, committed, failed, timed_out, coincided, commit_failed, Ended, Waits, Desk, IsPart, verdicts_of_ends, verdicts_of_waits, commits}
 use Rattle.tuple_account.specs.Histories.{Opening, History, opens}
-use Rattle.tuple_account.specs.Moves.{AreRows}
 use Rattle.tuple_account.specs.Sound.{is_about}
 
 -- what the coordinator tests of an end
@@ -40,9 +38,8 @@ pub record IsWaiting (desk : Desk) (w : Waits) : Type 0 where
 abbrev pub is_tried : (ℕ → ℕ) → Root → Bool
 is_tried tries root = nat_lt 0 root.attempt && nat_lt root.attempt (tries root.txid + 1)
 
--- Of the attempts that were begun, with the rows of their batches, each ended or is pending.
-pub record Fits (t : Topology) (batch : ℕ → List (List Value)) (desk : Desk) (fates : List Ended)
-    (h : History) : Type 0 where
+-- Of the attempts that were begun each ended or is pending.
+pub record Fits (t : Topology) (desk : Desk) (fates : List Ended) (h : History) : Type 0 where
   -- as often as a root was begun it ended or is pending
   pub begun : (f : Root → ℕ)
       → weigh (λ (o : Opening). f o.begun.root) h.begun
@@ -51,7 +48,6 @@ pub record Fits (t : Topology) (batch : ℕ → List (List Value)) (desk : Desk)
   -- the attempts of a transaction that were begun have the numbers from 1 on, each once
   pub numbered : (root : Root)
       → weigh (opens root) h.begun ≡ (if is_tried desk.tries root then 1 else 0)
-  pub rows : AreRows (λ root. batch root.txid) h.begun
   -- each end by a verdict, and each settled list, has a verdict of its own that was heard
   pub heard : Within (verdicts_of_ends fates ++ verdicts_of_waits desk.pending) h.heard
   -- nothing was heard of a pending attempt that is not settled

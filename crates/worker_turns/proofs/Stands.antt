@@ -10,13 +10,13 @@ use Rattle.event_worlds.specs.commit_order.declared.coordinator.Coordinator.{Coo
 use Rattle.event_worlds.specs.commit_order.Orders.{Stand, cut_of, desk_of, plan_of}
 use Rattle.event_worlds.specs.commit_turns.Account as account
 use Rattle.event_worlds.specs.commit_turns.Desks.{Desk}
-use Rattle.event_worlds.specs.commit_turns.Kept.{IsKept}
+use Rattle.event_worlds.specs.commit_turns.Kept.{IsKept, HaveSpans}
 use Rattle.event_worlds.specs.counted_items.Weights.{weigh}
 use Rattle.event_worlds.proofs.counted_items.Each.{each-map, each-to_map}
 use Rattle.event_worlds.proofs.counted_items.Weighing.{weigh-map, weigh-ones}
 use Rattle.worker_stretches.specs.event_engine.declared.engine.Engine.{Engine}
 use Rattle.worker_stretches.specs.event_engine.Engines.{IsIdle, IsStill, has_ended, shape}
-use Rattle.event_worlds.specs.Accounted.{station_of}
+use Rattle.event_worlds.specs.Accounted.{station_of, BeganWith}
 use Rattle.event_worlds.specs.Beside.{LedBeside, waits}
 use Rattle.event_worlds.specs.Orderly.{IsOrderly}
 use Rattle.event_worlds.specs.Worlds.{AckerSide, Known, TaskSide, World, acker_at, is_over, no_acker, no_task}
@@ -107,8 +107,10 @@ module _ (t : Topology) (old new : World) (same : IsRearranged old new) where
         spout = ap (λ (s : Stand). s.given) same.spout ∙ led.counted.spout;
       };
       kept = subst (λ (d : Desk). IsKept t cut d new.fates) (sym same.desk) (subst (IsKept t cut old.desk) (sym same.fates) led.kept);
-      fits = subst (λ (d : Desk). Fits t (account.rows_in cut) (account.desk_of d) (account.ends_of new.fates) h) (sym same.desk)
-          (subst (λ (fs : List Attempt). Fits t (account.rows_in cut) (account.desk_of old.desk) (account.ends_of fs) h) (sym same.fates) led.fits);
+      fits = subst (λ (d : Desk). Fits t (account.desk_of d) (account.ends_of new.fates) h) (sym same.desk)
+          (subst (λ (fs : List Attempt). Fits t (account.desk_of old.desk) (account.ends_of fs) h) (sym same.fates) led.fits);
+      spans = subst (λ (d : Desk). HaveSpans (BeganWith cut h.begun) d new.fates) (sym same.desk)
+          (subst (HaveSpans (BeganWith cut h.begun) old.desk) (sym same.fates) led.spans);
       silent = each-map AreSilent entries_in new.ackers (subst (AllByRecursion AreSilent) (sym same.entries) (each-to_map AreSilent entries_in old.ackers led.silent));
       ticks = let d = ap (λ (d : Desk). d.tick) same.desk in let k = same.tick in let l = led.ticks in omega arith;
       unheard = let d = ap (λ (d : Desk). d.tick) same.desk in let k = same.tick in let u = same.unheard in let l = led.unheard in omega arith;

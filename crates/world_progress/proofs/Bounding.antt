@@ -23,7 +23,7 @@ use Rattle.event_worlds.specs.tree_model.Trees.{node_count}
 use Rattle.event_worlds.specs.trident_batches.Batches.{Cut, batch_count, batches_joined}
 use Rattle.event_worlds.specs.tuple_account.Ends.{Ended}
 use Rattle.event_worlds.specs.tuple_account.Histories.{Execution, History, Opening, Receipt, Told, on_tuple, opens}
-use Rattle.event_worlds.specs.tuple_account.Moves.{Reached, Station, account_of}
+use Rattle.event_worlds.specs.tuple_account.Moves.{Reached, Station, account_of, AreRows}
 use Rattle.event_worlds.specs.tuple_account.Sound.{tells}
 use Rattle.event_worlds.proofs.tuple_account.Reading.{few, messages_weight, notes_are, packets, tuples_weight}
 use Rattle.event_worlds.proofs.tuple_account.Sending.{issued_verdicts, on_message, on_verdict}
@@ -150,10 +150,14 @@ filter_few test (x ∷ xs) = by (test x) (filter_few test xs)
     by true rest = omega arith
     by false rest = omega arith
 
-module _ (t : Topology) (custom : Custom) (cut : Cut) (words : ℕ → ℕ → ℕ) (adds : NodesAdd) (batches_are : BatchesAreAll) (input : IsInput t cut) (h : History) (k : Known) (led : LedTo t custom cut words h k) where
+-- what led to a world began each root with the rows of its batch
+abbrev pub BeginWithBatches : Topology → Custom → Cut → (ℕ → ℕ → ℕ) → Type 0
+BeginWithBatches t custom cut words = (h : History) (k : Known) → LedTo t custom cut words h k → AreRows (λ root. rows_in cut root.txid) h.begun
+
+module _ (t : Topology) (custom : Custom) (cut : Cut) (words : ℕ → ℕ → ℕ) (adds : NodesAdd) (batches_are : BatchesAreAll) (input : IsInput t cut) (h : History) (k : Known) (led : LedTo t custom cut words h k) (rows_are : AreRows (λ root. rows_in cut root.txid) h.begun) where
   tuples_all : length (tuples.issued t custom (account_of h (station_of k))) ≤ t.attempts * node_count t custom cut.records
   tuples_all =
-      let f = tuples_few t custom h (station_of k) led.reached input.valid (rows_in cut) led.fits.rows in
+      let f = tuples_few t custom h (station_of k) led.reached input.valid (rows_in cut) rows_are in
       let w = by_txid (batch_count (length cut.records) cut.size) t.attempts h.begun (within t cut k.world.desk k.world.fates h led.kept led.fits led.reached.once) (λ (i : ℕ). node_count t custom (rows_in cut i)) in
       let some : zero < cut.size = (let s = input.size in let v = input.valid.batch.0 in omega arith) in
       let n = nodes_joined adds t custom (rows_in cut) (range_with_len 1 (batch_count (length cut.records) cut.size)) (no_nodes t custom) in

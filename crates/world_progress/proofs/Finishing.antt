@@ -14,25 +14,24 @@ use Rattle.event_worlds.specs.attempt_fates.Fates.{IsOfBatch, attempt_numbers, c
 use Rattle.event_worlds.specs.bolt_ops.Operations.{fails_at, is_mute_at, out}
 use Rattle.event_worlds.specs.bolt_ops.RowOp.{Custom}
 use Rattle.event_worlds.specs.bolt_ops.declared.operation.Outcome.TheVariants as outcome
-use Rattle.event_worlds.specs.commit_turns.Account.{desk_of, ended_of, ending_of, ends_of, rows_in}
+use Rattle.event_worlds.specs.commit_turns.Account.{ended_of, ending_of, rows_at}
 use Rattle.event_worlds.specs.commit_turns.Desks.{Desk}
 use Rattle.event_worlds.specs.commit_turns.Kept.{IsKept, is_failed_commit}
 use Rattle.event_worlds.specs.commit_turns.Turns.{is_finished}
-use Rattle.event_worlds.proofs.counted_items.Each.{each-both, each-map, each-to_map, each-weaker}
-use Rattle.event_worlds.specs.Accounted.{station_of}
+use Rattle.event_worlds.proofs.counted_items.Each.{each-both, each-to_map, each-weaker, each-map}
+use Rattle.event_worlds.specs.Accounted.{station_of, IsCausedEnd, IsInput}
 use Rattle.event_worlds.specs.Worlds.{Known, is_over}
 use Rattle.event_worlds.specs.storm_values.declared.value.Value.{Value}
 use Rattle.event_worlds.specs.topology_plan.declared.parts.Body.{Body}
 use Rattle.event_worlds.specs.topology_plan.declared.parts.Body.TheVariants.{Bolt, State}
 use Rattle.event_worlds.specs.topology_plan.declared.parts.Component.{Component}
 use Rattle.event_worlds.specs.topology_plan.Topology.{Topology}
-use Rattle.event_worlds.specs.topology_plan.Valid.{IsValid}
 use Rattle.event_worlds.specs.tree_model.Courses.{course_at, course_by, course_of}
 use Rattle.event_worlds.specs.tree_model.Trees.{Node}
 use Rattle.event_worlds.specs.trident_batches.Batches.{Cut, batch_count}
-use Rattle.event_worlds.specs.tuple_account.Ends.{CauseBy, HasCause}
+use Rattle.event_worlds.specs.tuple_account.Ends.{CauseBy}
 use Rattle.event_worlds.specs.tuple_account.Histories.{History}
-use Rattle.event_worlds.proofs.tuple_account.Ending as ending
+use Rattle.event_worlds.proofs.Ending.{own-causes}
 use Rattle.event_worlds.specs.tuple_tickets.Trees.{fails, goes, mute}
 use Rattle.event_worlds.specs.Rounds.{CanFinish, DoesNotCoincide, EndsByBody}
 use Rattle.world_progress.specs.Lasting.{IsFine, Lasting}
@@ -135,10 +134,10 @@ passes t custom can attempt node last = by t.components can
 
 -- ---- no transaction runs out of attempts
 
-module _ (t : Topology) (custom : Custom) (cut : Cut) (words : ℕ → ℕ → ℕ) (valid : IsValid t) (can : CanFinish t) (h : History) (k : Known) (last : Lasting t custom cut words h k) (short : k.world.tick < t.buckets)
+module _ (t : Topology) (custom : Custom) (cut : Cut) (words : ℕ → ℕ → ℕ) (input : IsInput t cut) (can : CanFinish t) (h : History) (k : Known) (last : Lasting t custom cut words h k) (short : k.world.tick < t.buckets)
     (apart : All DoesNotCoincide k.world.fates) where
   record MayBeLast (a : Attempt) : Type 0 where
-    cause : CauseBy t custom (rows_in cut a.root.txid) k.world.desk.tick (ended_of a) (ending_of a.end)
+    cause : IsCausedEnd t custom cut k.world.desk.tick a
     fine : IsFine a
     early : is_committed a.end ≡ true → a.root.txid ≤ k.world.desk.committed
     own : DoesNotCoincide a
@@ -146,11 +145,10 @@ module _ (t : Topology) (custom : Custom) (cut : Cut) (words : ℕ → ℕ → �
   fates_are : AllByRecursion MayBeLast k.world.fates
   fates_are =
       each-weaker
-      (λ (a : Attempt). (HasCause t custom (rows_in cut) k.world.desk.tick (ended_of a) × IsFine a) × ((is_committed a.end ≡ true → a.root.txid ≤ k.world.desk.committed) × DoesNotCoincide a)) MayBeLast
+      (λ (a : Attempt). (IsCausedEnd t custom cut k.world.desk.tick a × IsFine a) × ((is_committed a.end ≡ true → a.root.txid ≤ k.world.desk.committed) × DoesNotCoincide a)) MayBeLast
       (λ a is. record { cause = is.0.0; fine = is.0.1; early = is.1.0; own = is.1.1 }) k.world.fates
-      (each-both (λ (a : Attempt). HasCause t custom (rows_in cut) k.world.desk.tick (ended_of a) × IsFine a) (λ (a : Attempt). (is_committed a.end ≡ true → a.root.txid ≤ k.world.desk.committed) × DoesNotCoincide a) k.world.fates
-      (each-both (λ (a : Attempt). HasCause t custom (rows_in cut) k.world.desk.tick (ended_of a)) IsFine k.world.fates
-      (each-map (HasCause t custom (rows_in cut) k.world.desk.tick) ended_of k.world.fates (ending.causes t custom h (station_of k) last.led.reached (rows_in cut) (desk_of k.world.desk) (ends_of k.world.fates) last.led.fits)) last.fine)
+      (each-both (λ (a : Attempt). IsCausedEnd t custom cut k.world.desk.tick a × IsFine a) (λ (a : Attempt). (is_committed a.end ≡ true → a.root.txid ≤ k.world.desk.committed) × DoesNotCoincide a) k.world.fates
+      (each-both (IsCausedEnd t custom cut k.world.desk.tick) IsFine k.world.fates (own-causes t custom cut words input h k (station_of k) last.led) last.fine)
       (each-both (λ (a : Attempt). is_committed a.end ≡ true → a.root.txid ≤ k.world.desk.committed) DoesNotCoincide k.world.fates (committed_early t cut k.world.desk k.world.fates last.led.kept)
       (recursion_from_All DoesNotCoincide k.world.fates apart)))
 
@@ -160,7 +158,7 @@ module _ (t : Topology) (custom : Custom) (cut : Cut) (words : ℕ → ℕ → �
       never : true ≡ false → ⊥
       never e = cc
 
-      by : (e : End) → a.end ≡ e → CauseBy t custom (rows_in cut a.root.txid) k.world.desk.tick (ended_of a) (ending_of e) → is_failed_commit e ≡ false → (is_committed e ≡ true → a.root.txid ≤ k.world.desk.committed) → ⊥
+      by : (e : End) → a.end ≡ e → CauseBy t custom (rows_at cut a.spans) k.world.desk.tick (ended_of a) (ending_of e) → is_failed_commit e ≡ false → (is_committed e ≡ true → a.root.txid ≤ k.world.desk.committed) → ⊥
       by (end.Committed list) same cause fine early = let l = early refl in absurd (omega arith)
       by (end.Failed path) same cause fine early = passes t custom can a.root.attempt cause.0 enough cause.2
       by end.TimedOut same cause fine early = let x = cause.0 in let y = cause.1 in let z = last.led.ticks in absurd (omega arith)
@@ -171,7 +169,7 @@ module _ (t : Topology) (custom : Custom) (cut : Cut) (words : ℕ → ℕ → �
   never_out txid out =
       let r = last.led.kept.ran_out txid out in
       let e = last.led.kept.once.numbered txid ∙ ap (range_with_len 1) r.0 in
-      let some = valid.attempts.0 in
+      let some = input.valid.attempts.0 in
       range_lacks t.attempts 1 t.attempts (subst (AllByRecursion (λ (n : ℕ). n ≢ t.attempts)) e others) some (omega arith)
     where
       others : AllByRecursion (λ (n : ℕ). n ≢ t.attempts) (attempt_numbers txid k.world.fates)

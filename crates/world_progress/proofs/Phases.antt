@@ -17,7 +17,6 @@ use Rattle.event_worlds.specs.Added.{step_adds}
 use Rattle.event_worlds.specs.Worlds.{AckerSide, Known, Step, TaskSide, World, coordinator_steps, no_acker, no_task, next_words, of_acker, of_outcome, of_task, of_tick, of_turn, opened, outcome_step, outcomes_of, step, task_at, task_needs, turn_needs, turn_past, turn_step, turned_in}
 use Rattle.event_worlds.specs.state_parts.declared.answer.CommitOutcome.{CommitOutcome}
 use Rattle.event_worlds.specs.state_parts.declared.answer.CommitOutcome.TheVariants as outcome
-use Rattle.event_worlds.specs.storm_values.declared.value.Root.{Root}
 use Rattle.event_worlds.specs.topology_plan.Topology.{Topology, tasks_in_all}
 use Rattle.event_worlds.specs.topology_plan.Valid.{IsValid}
 use Rattle.event_worlds.specs.tree_model.declared.messages.Parcel.{Parcel}
@@ -90,7 +89,7 @@ turned_so t cut ids w is = by w.orders is.orders
       tasks = refl;
       ackers = refl;
       verdicts = ap (drop 1) is.verdicts;
-      orders = ap (λ (roots : List Root). flat_map (opening_parcels t) (opened t cut w.spout roots ids)) is.begun;
+      orders = ap (λ (begins : List Wait). flat_map (opening_parcels t) (opened t cut w.spout begins ids)) is.begun;
       desk = refl;
     }
 

@@ -11,7 +11,7 @@ use Rattle.event_worlds.specs.bolt_ops.Operations.{fails_at, is_failing, is_mute
 use Rattle.event_worlds.specs.bolt_ops.RowOp.{Custom}
 use Rattle.event_worlds.specs.bolt_ops.declared.operation.Outcome.TheVariants as outcome
 use Rattle.event_worlds.specs.commit_turns.declared.wait.Wait.{Wait}
-use Rattle.event_worlds.specs.commit_turns.Account.{desk_of, ends_of, rows_in, waits_of}
+use Rattle.event_worlds.specs.commit_turns.Account.{desk_of, ends_of, waits_of}
 use Rattle.event_worlds.specs.counted_items.Weights.{weigh}
 use Rattle.event_worlds.proofs.counted_items.Each.{each-both, each-flat_map, each-map, each-weaker}
 use Rattle.event_worlds.proofs.counted_items.Weighing.{each-weighs, weigh-flat_map, weigh-map, weigh-le_each, weigh-zero}
@@ -264,4 +264,4 @@ module _ (t : Topology) (custom : Custom) (cut : Cut) (words : ℕ → ℕ → �
     pub all_settled : AllByRecursion (λ (w : Wait). w.settled ≢ None) k.world.desk.pending
     all_settled =
         each-map (λ (w : Waits). w.settled ≢ None) waits_of k.world.desk.pending
-        (settling.settled t custom h b last.led.reached (flat_map (λ (side : AckerSide). side.entries) k.world.ackers) stuck (rows_in cut) (desk_of k.world.desk) (ends_of k.world.fates) last.led.fits)
+        (settling.settled t custom h b last.led.reached (flat_map (λ (side : AckerSide). side.entries) k.world.ackers) stuck (desk_of k.world.desk) (ends_of k.world.fates) last.led.fits)

@@ -17,7 +17,7 @@ use Rattle.event_worlds.specs.trident_batches.Batches.{Cut}
 use Rattle.event_worlds.specs.tuple_account.Histories.{History, joined}
 use Rattle.event_worlds.specs.Rounds.{CanFinish, DoesNotCoincide, HasRounds, round_with, rounds_needed, ticks_in}
 use Rattle.world_progress.specs.Running.{so_far}
-use Rattle.world_progress.proofs.Bounding.{BatchesAreAll, NodesAdd, bounded}
+use Rattle.world_progress.proofs.Bounding.{BatchesAreAll, NodesAdd, bounded, BeginWithBatches}
 use Rattle.world_progress.specs.Doing.{done}
 use Rattle.world_progress.proofs.Finishing.{few_commits, finished}
 use Rattle.world_progress.specs.Lasting.{IsSeat, Lasting}
@@ -180,7 +180,7 @@ module _ (t : Topology) (custom : Custom) (cut : Cut) (words : ℕ → ℕ → �
         by (inl over) = inl over
         by (inr more) = inr (omega arith)
 
-  module _ (adds : NodesAdd) (batches_are : BatchesAreAll) (lowest : LowestStays) (input : IsInput t cut) (can : CanFinish t) (h : History) (led : LedTo t custom cut words h (first_known t words)) (whole : h.dropped ≡ []) where
+  module _ (adds : NodesAdd) (batches_are : BatchesAreAll) (own_batches : BeginWithBatches t custom cut words) (lowest : LowestStays) (input : IsInput t cut) (can : CanFinish t) (h : History) (led : LedTo t custom cut words h (first_known t words)) (whole : h.dropped ≡ []) where
     pub all_finish : (steps : List Step) → HasRounds t (rounds_needed t custom cut) steps → ticks_in steps < t.buckets → All DoesNotCoincide (world_after t custom cut words outcomes steps).fates
         → is_finished t cut (world_after t custom cut words outcomes steps).desk ≡ true
     all_finish steps has short apart = by (rounds (stirring lowest input can) (rounds_needed t custom cut) steps h (first_known t words) has starts)
@@ -191,7 +191,8 @@ module _ (t : Topology) (custom : Custom) (cut : Cut) (words : ℕ → ℕ → �
         by : OverOrMore (rounds_needed t custom cut) steps h (first_known t words) → is_finished t cut (world_after t custom cut words outcomes steps).desk ≡ true
         by (inl over) =
             let c = comes t custom cut words outcomes leads all_done steps h (first_known t words) starts in
-            finished t custom cut words input.valid can (happened steps h (first_known t words)) (after steps (first_known t words)) c.last (let x = c.ticks in omega arith) apart over
+            finished t custom cut words input can (happened steps h (first_known t words)) (after steps (first_known t words)) c.last (let x = c.ticks in omega arith) apart over
         by (inr more) =
             let c = comes t custom cut words outcomes leads all_done steps h (first_known t words) starts in
-            let b = bounded t custom cut words adds batches_are input (happened steps h (first_known t words)) (after steps (first_known t words)) c.last.led in absurd (omega arith)
+            let b = bounded t custom cut words adds batches_are input (happened steps h (first_known t words)) (after steps (first_known t words)) c.last.led
+            (own_batches (happened steps h (first_known t words)) (after steps (first_known t words)) c.last.led) in absurd (omega arith)

@@ -7,7 +7,7 @@ use Rattle.std.proofs.lemmas.List.Elements.{recursion_from_All}
 use Rattle.event_worlds.specs.attempt_fates.declared.fates.Attempt.{Attempt}
 use Rattle.event_worlds.specs.attempt_fates.Fates.{IsOfBatch}
 use Rattle.event_worlds.specs.commit_turns.declared.wait.Wait.{Wait}
-use Rattle.event_worlds.specs.commit_turns.Account.{desk_of, ended_of, ends_of, rows_in, waits_of}
+use Rattle.event_worlds.specs.commit_turns.Account.{desk_of, ended_of, ends_of, waits_of}
 use Rattle.event_worlds.specs.commit_turns.Desks.{Desk}
 use Rattle.event_worlds.specs.commit_turns.Kept.{IsKept}
 use Rattle.event_worlds.specs.commit_turns.Kept as kept
@@ -124,7 +124,7 @@ known batches root none = by (nat_lt 0 root.txid && nat_lt root.txid (batches + 
         let low = ltb-true 0 root.txid both.0 in
         let high = ltb-true root.txid (batches + 1) both.1 in (omega arith, omega arith)
 
-module _ (t : Topology) (cut : Cut) (d : Desk) (fates : List Attempt) (h : History) (is : IsKept t cut d fates) (fits : Fits t (rows_in cut) (desk_of d) (ends_of fates) h) (once : (root : Root) → weigh (opens root) h.begun ≤ 1) where
+module _ (t : Topology) (cut : Cut) (d : Desk) (fates : List Attempt) (h : History) (is : IsKept t cut d fates) (fits : Fits t (desk_of d) (ends_of fates) h) (once : (root : Root) → weigh (opens root) h.begun ≤ 1) where
   abbrev batches : ℕ
   batches = batch_count (length cut.records) cut.size
 

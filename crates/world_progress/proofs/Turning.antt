@@ -2,7 +2,7 @@
 use Rattle.std.proofs.Common.{◌≡◌, ◌<◌, ℕ, zero, suc, ◌+◌, ◌==◌, ◌&&◌, Bool, true, false, cond, List, [], ◌∷◌, ◌++◌, length, filter, slice_get, Option, None, Some, refl, sym, ap, ◌∙◌, subst, arith}
 use Rattle.std.specs.Prelude.{is_some}
 use Rattle.std.specs.List.{AllByRecursion, find}
-use Rattle.std.specs.Option.{option_to_list}
+use Rattle.std.specs.Option.{option_to_list, option_map}
 use Rattle.std.proofs.lemmas.Bool.{and_right}
 use Rattle.event_worlds.specs.acker_core.declared.verdict.Verdict.{Verdict}
 use Rattle.event_worlds.specs.acker_core.declared.verdict.Verdict.TheVariants.{Complete, Fails}
@@ -12,7 +12,7 @@ use Rattle.event_worlds.specs.commit_order.Orders.{Stand}
 use Rattle.event_worlds.specs.commit_turns.declared.wait.Wait.{Wait}
 use Rattle.event_worlds.specs.commit_turns.Desks.{Desk, Progress, ended_at, is_late, still, timed_of}
 use Rattle.event_worlds.specs.commit_turns.Outcomes.{hears}
-use Rattle.event_worlds.specs.commit_turns.Turns.{Turned, and_then, begun, complete_timed, decided, decided_by, end_timed, fill_more, filled, has_no_tick, heard, is_closed, late_at, next_root, next_to_commit, one_tick, ordered, passed, ticked, turned, turned_by}
+use Rattle.event_worlds.specs.commit_turns.Turns.{Turned, and_then, begun, complete_timed, decided, decided_by, end_timed, fill_more, filled, has_no_tick, heard, is_closed, late_at, next_root, next_to_commit, one_tick, ordered, passed, ticked, turned, turned_by, fresh, next_wait}
 use Rattle.event_worlds.proofs.counted_items.Each.{each-any, each-append, each-to_map}
 use Rattle.event_worlds.specs.Added.{placed, turn_adds, turn_adds_past}
 use Rattle.event_worlds.specs.Orderly.{FitsParcel, IsOrderly}
@@ -57,7 +57,7 @@ module _ (t : Topology) (cut : Cut) where
       by (Some w) = record { same = refl; fine = (refl, tt) }
 
   late_fine : (tick : ℕ) (ws : List Wait) → AllByRecursion IsFine (late_at t cut tick ws)
-  late_fine tick ws = each-to_map IsFine (ended_at cut tick end.TimedOut) (filter (is_late t.buckets tick) ws) (each-any (λ (w : Wait). IsFine (ended_at cut tick end.TimedOut w)) (λ w. refl) (filter (is_late t.buckets tick) ws))
+  late_fine tick ws = each-to_map IsFine (ended_at tick end.TimedOut) (filter (is_late t.buckets tick) ws) (each-any (λ (w : Wait). IsFine (ended_at tick end.TimedOut w)) (λ w. refl) (filter (is_late t.buckets tick) ws))
 
   ticked_plain : (n : ℕ) (d : Desk) → IsPlain d.committed (ticked t cut n d).desk (ticked t cut n d).ended
   ticked_plain zero d = record { same = refl; fine = tt }
@@ -69,17 +69,17 @@ module _ (t : Topology) (cut : Cut) where
       by false rest = record { same = rest.same; fine = each-append IsFine (late_at t cut (d.tick + 1) d.pending) (ticked t cut n (one_tick t cut d).desk).ended (late_fine (d.tick + 1) d.pending) rest.fine }
 
   -- what every begin keeps
-  all_filled : (P : Desk → Type 0) → ((f : Desk) (root : Root) → P f → P (begun t cut root f)) → (places : ℕ) (d : Desk) → P d → P (filled t cut places d).desk
+  all_filled : (P : Desk → Type 0) → ((f : Desk) (w : Wait) → next_wait t cut f ≡ Some w → P f → P (begun t cut w f)) → (places : ℕ) (d : Desk) → P d → P (filled t cut places d).desk
   all_filled P step zero d p = p
-  all_filled P step (suc places) d p = by (next_root t cut d) (λ root. all_filled P step places (begun t cut root d) (step d root p))
+  all_filled P step (suc places) d p = by (next_wait t cut d) refl (λ w some. all_filled P step places (begun t cut w d) (step d w some p))
     where
-      by : (o : Option Root) → ((root : Root) → P (filled t cut places (begun t cut root d)).desk) → P (fill_more t cut (filled t cut places) d o).desk
-      by None later = p
-      by (Some root) later = later root
+      by : (o : Option Wait) → next_wait t cut d ≡ o → ((w : Wait) → next_wait t cut d ≡ Some w → P (filled t cut places (begun t cut w d)).desk) → P (fill_more t cut (filled t cut places) d o).desk
+      by None none later = p
+      by (Some w) some later = later w some
 
   turned_plain : (count : ℕ) (o : Option ℕ) (p : Progress) → IsPlain count p.desk p.ended → IsPlain count (turned_by t cut o p).desk (turned_by t cut o p).ended
   turned_plain count (Some txid) p is = is
-  turned_plain count None p is = record { same = all_filled (λ (f : Desk). f.committed ≡ count) (λ f root same. same) t.pending (ordered t cut p.desk) is.same; fine = is.fine }
+  turned_plain count None p is = record { same = all_filled (λ (f : Desk). f.committed ≡ count) (λ f w some same. same) t.pending (ordered t cut p.desk) is.same; fine = is.fine }
 
   plain_turn : (verdict : Option Verdict) (ticks : ℕ) (d : Desk) → IsPlain d.committed (turned t cut verdict ticks d).desk (turned t cut verdict ticks d).ended
   plain_turn verdict ticks d =
@@ -96,14 +96,28 @@ module _ (t : Topology) (cut : Cut) where
   pub turn_fine : (verdict : Option Verdict) (ticks : ℕ) (d : Desk) → AllByRecursion IsFine (turned t cut verdict ticks d).ended
   turn_fine verdict ticks d = (plain_turn verdict ticks d).fine
 
+  -- an attempt that begins is timed
+  begins_timed : (f : Desk) (w : Wait) → next_wait t cut f ≡ Some w → is_some w.settled ≡ false
+  begins_timed f w some = by (next_root t cut f) some
+    where
+      never : None ≡ Some w → ⊥
+      never e = cc
+
+      same : (v : Wait) → Some v ≡ Some w → v ≡ w
+      same v e = cc
+
+      by : (o : Option Root) → option_map (fresh t cut f) o ≡ Some w → is_some w.settled ≡ false
+      by None none = absurd (never none)
+      by (Some root) is = sym (ap (λ (v : Wait). is_some v.settled) (same (fresh t cut f root) is))
+
   -- a commit is out after a turn that did not stop, where an attempt is next
   pub turn_out : (verdict : Option Verdict) (ticks : ℕ) (d : Desk) → (turned t cut verdict ticks d).desk.exhausted ≡ None
       → (turned t cut verdict ticks d).desk.out ≡ is_some (next_to_commit t cut (turned t cut verdict ticks d).desk)
   turn_out verdict ticks d = by (passed t cut ticks (heard t cut verdict d)) (passed t cut ticks (heard t cut verdict d)).desk.exhausted refl
     where
-      begins : (f : Desk) (root : Root) → f.out ≡ is_some (next_to_commit t cut f) → f.out ≡ is_some (next_to_commit t cut (begun t cut root f))
-      begins f root out =
-          out ∙ ap is_some (sym (find_push (λ (w : Wait). (w.root.txid == f.committed + 1) && is_some w.settled) f.pending (record { root = root; start = f.tick; settled = None }) (and_right (root.txid == f.committed + 1) false refl)))
+      begins : (f : Desk) (w : Wait) → next_wait t cut f ≡ Some w → f.out ≡ is_some (next_to_commit t cut f) → f.out ≡ is_some (next_to_commit t cut (begun t cut w f))
+      begins f w some out =
+          out ∙ ap is_some (sym (find_push (λ (v : Wait). (v.root.txid == f.committed + 1) && is_some v.settled) f.pending w (and_right (w.root.txid == f.committed + 1) (is_some w.settled) (begins_timed f w some))))
 
       by : (p : Progress) (o : Option ℕ) → p.desk.exhausted ≡ o → (turned_by t cut o p).desk.exhausted ≡ None → (turned_by t cut o p).desk.out ≡ is_some (next_to_commit t cut (turned_by t cut o p).desk)
       by p (Some txid) is none = absurd (some_none txid (sym is ∙ none))
@@ -111,11 +125,11 @@ module _ (t : Topology) (cut : Cut) where
 
   -- ---- what a turn adds
 
-  pub as_many : (roots : List Root) (s : Stand) (ids : List ℕ) (at : ℕ) → length (placed at (opened t cut s roots ids)) ≡ length roots
+  pub as_many : (begins : List Wait) (s : Stand) (ids : List ℕ) (at : ℕ) → length (placed at (opened t cut s begins ids)) ≡ length begins
   as_many [] s ids at = refl
-  as_many (root ∷ roots) s ids at = ap suc (as_many roots _ _ _)
+  as_many (w ∷ begins) s ids at = ap suc (as_many begins _ _ _)
 
-  -- nothing was there to be handed over or heard, and no root begins
+  -- nothing was there to be handed over or heard, and no attempt begins
   pub record IsQuietTurn (w : World) : Type 0 where
     pub orders : w.orders ≡ []
     pub verdicts : w.verdicts ≡ []
@@ -145,10 +159,10 @@ module _ (t : Topology) (cut : Cut) where
         front : (vs : List Verdict) → w.verdicts ≡ vs → length (option_to_list (slice_get w.verdicts 0)) ≡ length (option_to_list (slice_get vs 0))
         front vs e = ap (λ (us : List Verdict). length (option_to_list (slice_get us 0))) e
 
-        by : (vs : List Verdict) → w.verdicts ≡ vs → (roots : List Root) → to.begun ≡ roots
+        by : (vs : List Verdict) → w.verdicts ≡ vs → (begins : List Wait) → to.begun ≡ begins
             → Stepped (done h w) (done (joined h (hears (slice_get w.verdicts 0) (placed at (opened t cut w.spout to.begun ids)))) (with_turn t cut ids to w)) (IsQuietTurn w)
-        by (v ∷ vs) e roots b = rose (let s = sum in let f = front (v ∷ vs) e in omega arith)
-        by [] e (root ∷ roots) b = rose (let s = sum in let l = ap length b in omega arith)
+        by (v ∷ vs) e begins b = rose (let s = sum in let f = front (v ∷ vs) e in omega arith)
+        by [] e (x ∷ begins) b = rose (let s = sum in let l = ap length b in omega arith)
         by [] e [] b = kept (let s = sum in let f = front [] e in let l = ap length b in omega arith)
             (record { orders = out; verdicts = e; begun = ap (λ (x : Turned t cut). x.begun) (sym is) ∙ b })
 

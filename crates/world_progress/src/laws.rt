@@ -16,9 +16,9 @@ ghost use Rattle.world_progress.specs.Rounding.{DoesMore, LastsOn};
 ghost use Rattle.world_progress.specs.Running.{so_far};
 
 use event_worlds::commit_turns::lowest_is_pending;
-use event_worlds::steps_add_to_histories;
 use event_worlds::tree_model::nodes_of_joined_rows;
 use event_worlds::trident_batches::batches_in_order_are_all_records;
+use event_worlds::{roots_begin_with_their_batches, steps_add_to_histories};
 
 /// A law: nothing is lost in the first world, and nothing by steps where no commit fails and fewer
 /// ticks pass than there are buckets; what was done does not fall.
@@ -66,6 +66,7 @@ pub fn what_can_be_done_is_bounded()
         → IsInput t cut → Lasting t custom cut words h k
         → done h k.world < rounds_needed t custom cut }
 {
+    roots_begin_with_their_batches();
     nodes_of_joined_rows();
     batches_in_order_are_all_records();
 }
@@ -95,6 +96,7 @@ pub fn enough_rounds_finish()
 {
     steps_add_to_histories();
     lowest_is_pending();
+    roots_begin_with_their_batches();
     nodes_of_joined_rows();
     batches_in_order_are_all_records();
 }

@@ -1,9 +1,11 @@
--- Paths, ids and edges, as they are read: whole pieces of a text. No public clause cites these.
+-- Paths, ids, edges and spans, as they are read: whole pieces of a text. No public clause cites
+-- these.
 use Rattle.std.specs.Prelude.{ℕ, ◌==◌, take, drop, List, [], ◌∷◌, not, if◌then◌else◌, Option, Some, None, option_map, option_and_then}
 use Rattle.std.specs.List.{list_all, prefix_len, slice_split}
 use Rattle.std.specs.Char.{is_ascii_digit}
 use Rattle.std.specs.Int.{from_be_bytes, w64}
 use Rattle.std.specs.Result.{result_ok}
+use Rattle.record_spans.specs.declared.span.Span.{Span}
 use Rattle.hex.specs.Hex.{decode_sized}
 use Rattle.report_grammar.specs.Report.{EdgeText}
 use Rattle.report_grammar.specs.steps.Reading.{number_in}
@@ -17,20 +19,27 @@ each read (x ∷ xs) = option_and_then (λ y. option_map (λ ys. y ∷ ys) (each
 abbrev pub number_of : ℕ → List ℕ → Option ℕ
 number_of most text = if list_all is_ascii_digit text then number_in most text else None
 
+-- a text that is a number of 64 bits, and nothing else
+abbrev pub wide_number_of : List ℕ → Option ℕ
+wide_number_of text = number_of 18446744073709551615 text
+
 -- the pieces between the bytes that are `byte`
 abbrev pub pieces : ℕ → List ℕ → List (List ℕ)
 pieces byte text = slice_split (λ b. b == byte) text
 
--- the text up to a byte, and what follows the byte
+-- the text up to a byte, the text from that byte on, and what follows the byte
 abbrev pub front_of : ℕ → List ℕ → List ℕ
 front_of byte text = take (prefix_len (λ b. not (b == byte)) text) text
+
+abbrev pub from_byte : ℕ → List ℕ → List ℕ
+from_byte byte text = drop (prefix_len (λ b. not (b == byte)) text) text
 
 abbrev pub behind : List ℕ → Option (List ℕ)
 behind [] = None
 behind (x ∷ xs) = Some xs
 
 abbrev pub rest_of : ℕ → List ℕ → Option (List ℕ)
-rest_of byte text = behind (drop (prefix_len (λ b. not (b == byte)) text) text)
+rest_of byte text = behind (from_byte byte text)
 
 -- the pieces that are left
 abbrev pub pieces_left : ℕ → Option (List ℕ) → List (List ℕ)
@@ -65,3 +74,20 @@ edge_of text =
 -- edges joined by spaces
 unfoldable pub edges_of : List ℕ → Option (List EdgeText)
 edges_of text = each edge_of (pieces 32 text)
+
+-- a span from this number on, if there is one, to this number
+abbrev pub span_with : Option ℕ → ℕ → Option Span
+span_with first last = option_map (λ (n : ℕ). record { first = n; last = last }) first
+
+-- two numbers of 64 bits, joined by a dash
+unfoldable pub span_of : List ℕ → Option Span
+span_of text =
+    option_and_then
+    (λ digits. option_and_then
+    (λ last. span_with (wide_number_of (front_of 45 text)) last)
+    (wide_number_of digits))
+    (rest_of 45 text)
+
+-- spans joined by commas
+unfoldable pub spans_of : List ℕ → Option (List Span)
+spans_of text = each span_of (pieces 44 text)

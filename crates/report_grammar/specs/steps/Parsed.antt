@@ -3,8 +3,10 @@
 use Rattle.std.specs.Prelude.{ℕ, ◌+◌, ◌-◌, List, [], ◌∷◌, length, take, codes, Option, Some, None, option_map, option_and_then, if◌then◌else◌}
 use Rattle.std.specs.Option.{option_or}
 use Rattle.std.specs.Str.{bytes_eq, is_utf8}
+use Rattle.storm_values.specs.declared.value.Root.{Root}
+use Rattle.record_spans.specs.declared.span.Span.{Span}
 use Rattle.report_grammar.specs.Report.{EndText, committed, failed, timed_out, coincided, commit_failed, AttemptText, TailText, ok, exhausted, unfinished}
-use Rattle.report_grammar.specs.steps.Lists.{edges_of, front_of, last_of, number_of, path_of, pieces, rest_of}
+use Rattle.report_grammar.specs.steps.Lists.{edges_of, from_byte, front_of, last_of, number_of, path_of, pieces, rest_of, spans_of}
 use Rattle.report_grammar.specs.steps.Reading.{Reader, ◌>>=◌, a_word, a_number, after_word, done, gives}
 
 abbrev pub most_u64 : ℕ
@@ -55,37 +57,43 @@ tail_in text =
 
 -- up to how it ended
 pub record Heading : Type 0 where
-  pub txid : ℕ
-  pub attempt : ℕ
-  pub first : ℕ
-  pub last : ℕ
+  pub root : Root
+  pub spans : List Span
   pub start : ℕ
   pub finish : ℕ
 
--- attempt TXID.ATTEMPT records FIRST-LAST ticks START-FINISH, and a space
-unfoldable pub a_heading : Reader Heading
-a_heading = do
+-- attempt TXID.ATTEMPT records, and a space
+unfoldable pub a_root : Reader Root
+a_root = do
   _ ← a_word (codes "attempt ")
   txid ← a_number most_u64
   _ ← a_word (codes ".")
   attempt ← a_number most_u32
   _ ← a_word (codes " records ")
-  first ← a_number most_u64
-  _ ← a_word (codes "-")
-  last ← a_number most_u64
+  gives (record { txid = txid; attempt = attempt })
+
+-- the spans that stand before a space
+unfoldable pub some_spans : Reader (List Span)
+some_spans text =
+    option_map (λ spans. (spans, from_byte 32 text)) (spans_of (front_of 32 text))
+
+-- ticks START-FINISH, with a space before and behind
+unfoldable pub two_ticks : Reader (ℕ × ℕ)
+two_ticks = do
   _ ← a_word (codes " ticks ")
   start ← a_number most_u64
   _ ← a_word (codes "-")
   finish ← a_number most_u64
   _ ← a_word (codes " ")
-  gives (record {
-    txid = txid;
-    attempt = attempt;
-    first = first;
-    last = last;
-    start = start;
-    finish = finish;
-  })
+  gives (start, finish)
+
+-- attempt TXID.ATTEMPT records FIRST-LAST,FIRST-LAST .. ticks START-FINISH, and a space
+unfoldable pub a_heading : Reader Heading
+a_heading = do
+  root ← a_root
+  spans ← some_spans
+  ticks ← two_ticks
+  gives (record { root = root; spans = spans; start = ticks.0; finish = ticks.1 })
 
 -- bytes that are UTF-8
 unfoldable pub text_in : List ℕ → Option (List ℕ)
@@ -126,10 +134,9 @@ end_in text =
 
 abbrev pub attempt_with : Heading → EndText → AttemptText
 attempt_with h ending = record {
-  txid = h.txid;
-  attempt = h.attempt;
-  first = h.first;
-  last = h.last;
+  txid = h.root.txid;
+  attempt = h.root.attempt;
+  spans = h.spans;
   start = h.start;
   finish = h.finish;
   ending = ending;

@@ -4,10 +4,8 @@ use Rattle.report_grammar.specs.steps.Parsed.{Heading}
 
 abbrev pub heading_told : Read → Heading
 heading_told h = record {
-  txid = h.txid;
-  attempt = h.attempt;
-  first = h.first;
-  last = h.last;
+  root = h.root;
+  spans = h.spans;
   start = h.start;
   finish = h.finish;
 }

@@ -11,5 +11,6 @@ returns g c = λ t custom cut. record {
   last_counts = c.counts_run_on.ensures.last;
   all_told = c.counts_run_on.ensures.all_told;
   outcome = c.failures_of_commits_are_counted.ensures.outcome t;
+  batched = c.batches_are_the_records_of_their_spans.ensures;
   settled = c.worlds_with_others_are_accounted.ensures.settled t custom cut;
 }

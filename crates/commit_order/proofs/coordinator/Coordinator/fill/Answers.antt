@@ -1,11 +1,12 @@
-use Rattle.std.proofs.Common.{◌≡◌, ◌+◌, ◌-◌, suc, Ok, sym, ap, ◌∙◌, arith}
+use Rattle.std.proofs.Common.{◌≡◌, ◌+◌, ◌-◌, suc, Ok, sym, ap, ◌∙◌, arith, refl}
 use Rattle.commit_order.proofs.Ending.{next_is}
 use Rattle.commit_order.proofs.Opening.{fills_end, fills_more, fills_none, none_more, own_after}
 use Rattle.commit_order.specs.Offices.{Office}
 use Rattle.commit_order.specs.Orders.{cut_of, desk_of, plan_of}
-use Rattle.commit_turns.specs.Turns.{filled}
+use Rattle.commit_turns.specs.Turns.{filled, fresh}
 use Rattle.commit_order.proofs.coordinator.Coordinator.fill.Goals as goal
 use Rattle.commit_order.proofs.coordinator.Coordinator.fill.Goals.{else-loop-test, then-loop-test+in_ok-root+in-None}
+use Rattle.std.specs.Option.{option_map}
 
 pub loop-init : goal.loop-init
 loop-init g c =
@@ -35,8 +36,11 @@ loop-preserved g c =
     let more : places - c.loop.counter ≡ suc (places - (c.loop.counter + 1)) =
     let below = c.loop-test.true in let end = c.most_pending-end.ensures in omega arith in
     let source = c.requires.topology ∙ sym (ap (λ (o : Office). o.topology) so.office) ∙ sym so.own.topology in
-    fills_more g.I.Ids.tells places (places - c.loop.counter) (places - (c.loop.counter + 1)) old at c.open.new.self c.loop.parcels c.open.new.into c.in-Some.root
-    more so began.0 (to.office ∙ began.1) (rw (ap (λ (o : Office). o.cut) began.1) at to.begun) to.has_memory to.own source
+    let w = fresh (plan_of at) (cut_of at) (desk_of at) c.in-Some.root in
+    let next = ap (option_map (fresh (plan_of at) (cut_of at) (desk_of at))) began.0 in
+    let adds = rw (ap (λ (o : Office). o.cut) began.1) at to.begun in
+    fills_more g.I.Ids.tells places (places - c.loop.counter) (places - (c.loop.counter + 1)) old at c.open.new.self c.loop.parcels c.open.new.into w
+    more so next (to.office ∙ began.1) (adds w refl refl) to.has_memory to.own source
 
 pub returns-clause-begun : goal.returns-clause-begun
 returns-clause-begun g c =
@@ -49,7 +53,7 @@ returns-clause-begun g c =
           let none : places - c.loop.counter ≡ 0 = let end = c.most_pending-end.ensures in let far = w.loop-test.false in omega arith in
           rw w.self-is
           (fills_end g.I.Ids.tells places (places - c.loop.counter) old at c.loop.parcels so
-          (ap (λ n. (filled (plan_of old) (cut_of old) n (desk_of at)).roots) none))
+          (ap (λ n. (filled (plan_of old) (cut_of old) n (desk_of at)).begun) none))
       | then-loop-test+in_ok-root+in-None w ↦
           let stops = w.begin_next.ensures.none (w.in_ok-root.was ∙ ap Ok w.in-None.is) in
           let topology = ap (λ (o : Office). o.topology) so.office in

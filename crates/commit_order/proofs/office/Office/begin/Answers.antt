@@ -1,20 +1,14 @@
-use Rattle.std.proofs.Common.{ap, ◌∙◌, arith}
+use Rattle.std.proofs.Common.{◌∙◌}
 use Rattle.commit_order.proofs.Ending.{next_is}
-use Rattle.commit_order.proofs.Steps.{begin_step, has_txid-all, office_by}
-use Rattle.replay_pending.specs.InFlight as flight
+use Rattle.commit_order.proofs.Steps.{office_by, waits-txid}
 use Rattle.commit_order.proofs.office.Office.begin.Goals as goal
+
+pub spans-requires : goal.spans-requires
+spans-requires c = (next_is c.args.self.now.topology c.args.self.now.cut c.args.self.now.desk c.args.root c.requires).there
 
 pub begin-requires : goal.begin-requires
 begin-requires c =
     let f = c.self.inside in
     let asked = rw (← c.self.view_is) at c.requires in
-    let next = next_is f.plan.now f.batches (office_by f.plan.now f.batches f.tick f.committed f.flight f.waits.items f.out f.exhausted).desk c.args.root asked in
-    (ap (flight.has_txid c.args.root.txid) c.self.invariant.awaited ∙ has_txid-all f.tick c.args.root.txid f.waits.items ∙ next.fresh, next.number)
-
-pub invariant_of-self-2 : goal.invariant_of-self-2
-invariant_of-self-2 c =
-    let f = c.self.inside in
-    let asked = rw (← c.self.view_is) at c.requires in
-    let next = next_is f.plan.now f.batches (office_by f.plan.now f.batches f.tick f.committed f.flight f.waits.items f.out f.exhausted).desk c.args.root asked in
-    rw (c.push_reserved.ensures.items, c.new.ensures, c.in_ok-reserve.ensures.items)
-    (begin_step f.plan.now f.batches f.tick f.flight c.begin.new.self f.waits.items c.args.root c.self.invariant next.there (let b = c.facts.ensures.valid.buckets.0 in omega arith) c.in-Ok.ensures.ok)
+    let next = next_is f.plan.now f.batches (office_by f.plan.now f.batches f.committed f.flight f.out f.exhausted).desk c.args.root asked in
+    (waits-txid f.flight.pending c.args.root.txid ∙ next.fresh, next.number)

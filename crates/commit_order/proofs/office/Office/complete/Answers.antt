@@ -1,59 +1,40 @@
-use Rattle.std.proofs.Common.{refl, sym}
-use Rattle.std.proofs.lemmas.List.{append-nil}
-use Rattle.commit_order.proofs.Ending.{closed_true, found_by, left_false, none_by, still_goes, timed_record}
-use Rattle.commit_order.proofs.Places.{first_of_two}
-use Rattle.commit_order.proofs.Steps.{office_by}
-use Rattle.commit_order.specs.Offices.{IsFoundAt, is_timed_of}
-use Rattle.commit_turns.specs.Desks.{is_timed}
-use Rattle.tuple_account.specs.rotating_ledger.Held.{root_eq}
-use Rattle.tuple_account.proofs.rotating_ledger.RootLemmas.{root_eq-same}
+use Rattle.std.proofs.Common.{◌≡◌, Some, sym, ap, ◌∙◌}
+use Rattle.std.specs.Prelude.{is_some, option_copied}
+use Rattle.commit_order.proofs.Ending.{closed_true, left_false, settles, still_goes}
+use Rattle.commit_order.proofs.Steps.{office_by, settle_step, timed_found, timed_none}
+use Rattle.commit_order.specs.Offices.{wait_of}
+use Rattle.commit_turns.specs.Desks.{timed_of}
+use Rattle.replay_pending.specs.InFlight as flight
 use Rattle.commit_order.proofs.office.Office.complete.Goals as goal
 
 pub returns-in_default-clause-ok : goal.returns-in_default-clause-ok
 returns-in_default-clause-ok c =
     let f = c.self.inside in
     rw (← c.self.view_is)
-    (rw (none_by (is_timed_of c.args.root) f.waits.items c.deref.result.now c.timed_place.result c.timed_place.ensures c.deref.ensures.value c.in_default.is)
-    (still_goes (office_by f.plan.now f.batches f.tick f.committed f.flight f.waits.items f.out f.exhausted) c.args.fates.now))
-
-pub settle-requires-clause-order : goal.settle-requires-clause-order
-settle-requires-clause-order c = (rw c.in-Closed.is at c.in_ok-order.ensures).1
-
-pub settle-requires-clause-found : goal.settle-requires-clause-found
-settle-requires-clause-found c =
-    let f = c.self.inside in
-    rw (← c.self.view_is)
-    (found_by (is_timed_of c.args.root) f.waits.items c.deref.result.now c.timed_place.result c.in-Some.place c.timed_place.ensures c.deref.ensures.value c.in-Some.is)
+    (rw (timed_none f.flight.pending c.args.root c.timed.result c.timed.ensures c.in_default.is)
+    (still_goes (office_by f.plan.now f.batches f.committed f.flight f.out f.exhausted) c.args.fates.now))
 
 pub returns-in-Closed-clause-ok : goal.returns-in-Closed-clause-ok
 returns-in-Closed-clause-ok c =
     let f = c.self.inside in
-    let at : IsFoundAt (is_timed_of c.args.root) c.args.self.now.desk.pending c.in-Some.place =
+    let both = timed_found f.flight.pending c.args.root c.timed.result c.in-Some.field-0 c.timed.ensures c.in-Some.is in
+    let on = c.settle.ensures.timed ∙ ap is_some (sym c.timed.ensures ∙ ap option_copied c.in-Some.is) in
+    let list = ap (λ l. record f.flight { pending = flight.settled c.args.root l f.flight.pending }) c.new.ensures in
+    let step = settle_step f.plan.now f.batches f.committed f.flight c.settle.new.self f.out f.exhausted c.args.root c.args.list (c.settle.ensures.settled on ∙ list) in
     rw (← c.self.view_is)
-    (found_by (is_timed_of c.args.root) f.waits.items c.deref.result.now c.timed_place.result c.in-Some.place c.timed_place.ensures c.deref.ensures.value c.in-Some.is) in
-    let same = root_eq-same c.args.root at.0.root (first_of_two (root_eq c.args.root at.0.root) (is_timed at.0) at.3) in
-    let timed = timed_record c.args.self.now.desk.pending c.args.root at.0 at.0.start at.2 same refl in
-    rw (timed, closed_true c.args.list (rw c.in-Closed.is at c.in_ok-order.ensures).0, c.settle.ensures)
-    (record { office = refl; fates = sym (append-nil c.args.fates.now) })
+    (settles (office_by f.plan.now f.batches f.committed f.flight f.out f.exhausted) _ c.args.root (wait_of c.in-Some.field-0.now) c.args.list c.args.fates.now
+    both.0 both.1 (closed_true c.args.list (rw c.in-Closed.is at c.in_ok-order.ensures).0) step)
 
 pub returns-clause-ok : goal.returns-clause-ok
 returns-clause-ok c =
-    let f = c.self.inside in
-    let at : IsFoundAt (is_timed_of c.args.root) c.args.self.now.desk.pending c.in-Some.place =
-    rw (← c.self.view_is)
-    (found_by (is_timed_of c.args.root) f.waits.items c.deref.result.now c.timed_place.result c.in-Some.place c.timed_place.ensures c.deref.ensures.value c.in-Some.is) in
-    let same = root_eq-same c.args.root at.0.root (first_of_two (root_eq c.args.root at.0.root) (is_timed at.0) at.3) in
-    let timed = timed_record c.args.self.now.desk.pending c.args.root at.0 at.0.start at.2 same refl in
+    let both = timed_found c.self.inside.flight.pending c.args.root c.timed.result c.in-Some.field-0 c.timed.ensures c.in-Some.is in
+    let timed : timed_of c.args.root c.args.self.now.desk.pending ≡ Some (wait_of c.in-Some.field-0.now) = rw (← c.self.view_is) both.0 in
     let left = rw c.in-Left.is at c.in_ok-order.ensures in
     rw (timed, left_false c.args.list _ left.0 left.1) (rw timed at c.end_timed.ensures.ok)
 
 pub returns-clause-err : goal.returns-clause-err
 returns-clause-err c =
-    let f = c.self.inside in
-    let at : IsFoundAt (is_timed_of c.args.root) c.args.self.now.desk.pending c.in-Some.place =
-    rw (← c.self.view_is)
-    (found_by (is_timed_of c.args.root) f.waits.items c.deref.result.now c.timed_place.result c.in-Some.place c.timed_place.ensures c.deref.ensures.value c.in-Some.is) in
-    let same = root_eq-same c.args.root at.0.root (first_of_two (root_eq c.args.root at.0.root) (is_timed at.0) at.3) in
-    let timed = timed_record c.args.self.now.desk.pending c.args.root at.0 at.0.start at.2 same refl in
+    let both = timed_found c.self.inside.flight.pending c.args.root c.timed.result c.in-Some.field-0 c.timed.ensures c.in-Some.is in
+    let timed : timed_of c.args.root c.args.self.now.desk.pending ≡ Some (wait_of c.in-Some.field-0.now) = rw (← c.self.view_is) both.0 in
     let left = rw c.in-Left.is at c.in_ok-order.ensures in
     rw (timed, left_false c.args.list _ left.0 left.1) (rw timed at c.end_timed.ensures.err)

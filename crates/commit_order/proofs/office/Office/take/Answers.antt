@@ -1,31 +1,23 @@
-use Rattle.std.proofs.Common.{Some, ap, ap₂, sym, ◌∙◌}
-use Rattle.std.proofs.lemmas.Option.{slice_get-get_or}
-use Rattle.commit_order.proofs.Places.{without-at}
-use Rattle.commit_order.proofs.Steps.{end_step, office_by}
+use Rattle.std.proofs.Common.{◌≡◌, Some, sym, ap, ◌∙◌}
+use Rattle.std.specs.Option.{option_map}
+use Rattle.commit_order.proofs.Steps.{end_step, waits-found}
+use Rattle.commit_order.specs.Offices.{wait_of}
 use Rattle.commit_order.proofs.office.Office.take.Goals as goal
-
-pub invariant_of-self : goal.invariant_of-self
-invariant_of-self c =
-    let f = c.self.inside in
-    let below = rw (← c.self.view_is) at c.requires in
-    let are = rw c.self.invariant.awaited at c.pending_are_few.ensures.once in
-    let at = slice_get-get_or f.waits.items c.args.place c.remove-waiting.result below ∙ ap Some (sym c.remove-waiting.ensures.value) ∙ ap Some (sym c.into_wait-wait.ensures) in
-    let left = c.remove-waiting.ensures.items ∙ without-at f.tick f.waits.items c.args.place c.into_wait-wait.result are at in
-    rw left (end_step f.plan.now f.batches f.tick f.flight c.end.new.self f.waits.items c.into_wait-wait.result.root c.self.invariant c.end.ensures.ended)
+use Rattle.commit_order.proofs.office.Office.take.Goals.{in-Some, in-None}
 
 pub returns-clause-taken : goal.returns-clause-taken
-returns-clause-taken c =
+returns-clause-taken c = λ like v is same.
     let f = c.self.inside in
-    let below = rw (← c.self.view_is) at c.requires in
-    rw (← c.self.view_is)
-    (slice_get-get_or f.waits.items c.args.place c.remove-waiting.result below ∙ ap Some (sym c.remove-waiting.ensures.value) ∙ ap Some (sym c.into_wait-wait.ensures))
+    let here = rw (← c.self.view_is) at is in
+    let all : option_map wait_of c.end.result ≡ Some v =
+    ap (option_map wait_of) c.end.ensures.entry ∙ waits-found f.flight.pending like v c.args.root c.pending_are_few.ensures.once here same in
+    elim c.match-end.branch [
+      | in-Some w ↦ w.result-is ∙ ap Some w.into_wait.ensures ∙ sym (ap (option_map wait_of) w.in-Some.is) ∙ all
+      | in-None w ↦ w.result-is ∙ sym (ap (option_map wait_of) w.in-None.is) ∙ all
+    ]
 
 pub returns-clause-left : goal.returns-clause-left
 returns-clause-left c =
     let f = c.self.inside in
-    let below = rw (← c.self.view_is) at c.requires in
-    let are = rw c.self.invariant.awaited at c.pending_are_few.ensures.once in
-    let at = slice_get-get_or f.waits.items c.args.place c.remove-waiting.result below ∙ ap Some (sym c.remove-waiting.ensures.value) ∙ ap Some (sym c.into_wait-wait.ensures) in
-    let left = c.remove-waiting.ensures.items ∙ without-at f.tick f.waits.items c.args.place c.into_wait-wait.result are at in
     rw (← c.self.view_is)
-    (ap₂ (λ p ws. office_by f.plan.now f.batches f.tick f.committed p ws f.out f.exhausted) c.end.ensures.ended left)
+    (end_step f.plan.now f.batches f.committed f.flight c.end.new.self f.out f.exhausted c.args.root c.end.ensures.ended)

@@ -1,6 +1,6 @@
 use Rattle.std.proofs.Common.{◌≡◌, ◌+◌, ◌==◌, not, drop}
 use Rattle.std.specs.List.{prefix_len}
-use Rattle.report_lines.proofs.lists.length_before.Given as goal
+use Rattle.report_lines.proofs.cursor.length_before.Given as goal
 
 abbrev pub invariant-loop-found : goal.invariant-loop-found
 invariant-loop-found l = record {
