@@ -166,6 +166,24 @@ class Reports(Pictures):
         self.assertEqual(last, "exhausted 2")
         self.assert_readable(picture.report_picture("\n".join(rows)))
 
+    def test_records_of_several_spans(self):
+        rows = [
+            "attempt 1.1 records 1-1,3-3 ticks 0-0 committed",
+            "attempt 2.1 records 2-2 ticks 0-1 failed 0",
+            "attempt 3.1 records 5-9,11-11,13-14,16-16 ticks 0-1 committed",
+            "exhausted 2",
+        ]
+        attempts, _ = picture.read_report("\n".join(rows) + "\n")
+        self.assertEqual(attempts[0].spans, [(1, 1), (3, 3)])
+        svg = picture.report_picture("\n".join(rows))
+        self.assert_readable(svg)
+        said = [it for it, *_ in texts_of(svg)]
+        self.assertLessEqual({"batch 1 · records 1, 3", "batch 2 · record 2", "batch 3 · records 5–9, 11, 13–14, .."}, set(said))
+        for records in ["", "1", "1-1,", ",1-1", "1-1, 3-3", "1-2-3"]:
+            row = f"attempt 1.1 records {records} ticks 0-0 committed"
+            with self.subTest(row), self.assertRaises(picture.Unreadable):
+                picture.read_report(row + "\nexhausted 1\n")
+
     def test_colours_and_shapes_differ(self):
         self.assertEqual(len({colour for colour, _ in picture.ENDS.values()}), len(picture.ENDS))
         self.assertEqual(len({str(shape) for _, shape in picture.ENDS.values()}), len(picture.ENDS))
