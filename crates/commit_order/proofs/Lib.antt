@@ -1,8 +1,5 @@
-mod Steps
-mod Passing
-mod Ending
-mod Dropping
-mod Ticking
-mod Copying
-mod Opening
-mod Turning
+pub mod Steps
+pub mod Ending
+pub mod Passing
+pub mod Opening
+pub mod Turning

@@ -2,12 +2,6 @@
 #![tactic(auto)]
 
 #[cfg(test)]
-mod partitions;
-#[cfg(test)]
 mod scenes;
 #[cfg(test)]
-mod starts;
-#[cfg(test)]
 mod turns;
-#[cfg(test)]
-mod values;

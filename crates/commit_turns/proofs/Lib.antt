@@ -1,27 +1,20 @@
-pub mod Aborting
-mod Accounting
-mod Beginning
-mod Booking
-mod Closing
-mod Counting
-mod Dropping
-mod Ends
-mod Examples
-mod Finishing
-mod Fitting
-mod Going
-mod Holding
-mod Keeping
-mod LawLemmas
-pub mod Lists
-mod Lowest
-mod Ordered
-mod Passing
-mod Rows
-mod Stepping
+mod Lists
 mod Tallies
-mod Tallying
 mod Telling
-mod Ticking
+mod Holding
+mod Records
+mod Keeping
+mod Closing
+mod Going
+mod Deciding
+mod Passing
+mod Counting
 mod Turning
+mod Booking
+mod Accounting
+mod Fitting
+mod Lowest
+mod LawLemmas
+mod Ordered
+mod Examples
 pub mod Carrying

@@ -1,7 +1,6 @@
 mod AgedLemmas
 mod AtOnce
 mod SeatLemmas
-mod ShutLemmas
 pub mod GoesLemmas
 mod EngineLemmas
 mod OpenLemmas

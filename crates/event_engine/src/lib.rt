@@ -7,7 +7,6 @@ mod boost;
 mod engine;
 mod exchange;
 mod lending;
-mod shutting;
 mod start;
 mod task;
 

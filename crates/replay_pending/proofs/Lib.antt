@@ -1,6 +1,5 @@
 mod CountLemmas
 pub mod Lists
-pub mod Counting
 pub mod Found
-pub mod Late
+mod Late
 mod CallLemmas

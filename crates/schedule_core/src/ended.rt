@@ -1,9 +1,8 @@
 /// How a replay ended that nothing stopped.
 #[derive(Clone, Copy, Debug, PartialEq, Eq)]
 pub enum Ended {
-    /// No record is left uncommitted.
+    /// Every batch is committed.
     All,
-    /// Some record is left uncommitted after the events, and this is the last transaction that is
-    /// committed: that of the start, where no batch was committed after it.
+    /// So many batches are committed after the events, and not all.
     Unfinished(u64),
 }

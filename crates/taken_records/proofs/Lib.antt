@@ -1,9 +1,7 @@
 pub mod Batching
-pub mod Bounding
 pub mod Fronting
 pub mod Leaving
 pub mod Marking
 pub mod Returning
 pub mod Running
-pub mod Starting
 pub mod Taking

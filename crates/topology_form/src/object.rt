@@ -89,7 +89,6 @@ pub trait Reader<T: Drop> {
 }
 
 /// An object with these members and no other.
-#[derive(Drop)]
 pub struct ObjectOf<R>(pub R);
 
 impl<T: Drop, R: Reader<T>> Form<T> for ObjectOf<R> {

@@ -1,4 +1,3 @@
-pub mod Limits
 pub mod Texts
 pub mod Topology
 pub mod Valid

@@ -26,9 +26,8 @@ pub fn described(alloc: Global, plan: &Plan) -> Result<String, Memory> {
     let (fields, batch) = (plan.spout_fields(), plan.batch());
     write!(
         text,
-        "{} spout fields {fields} batch {batch} partitions {}",
-        kind(plan.spout_kind()),
-        plan.partitions()
+        "{} spout fields {fields} batch {batch}",
+        kind(plan.spout_kind())
     )?;
     write_subs(&mut text, plan.subs(Origin::Spout))?;
     for c in 0..components {

@@ -5,7 +5,6 @@ mod checks;
 mod reading;
 
 pub use checks::{
-    FILE, PARTITIONED, check_changes, check_changes_of, check_operations, check_pairs,
-    check_pairs_of, full_file,
+    FILE, check_changes, check_changes_of, check_operations, check_pairs, check_pairs_of, full_file,
 };
 pub use reading::{check_told, told};

@@ -1,0 +1,5 @@
+pub mod Cuts
+pub mod Ended
+pub mod Desks
+pub mod Turns
+pub mod Kept
