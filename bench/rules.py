@@ -168,9 +168,11 @@ GROUPINGS = ("shuffle", "fields", "all", "global", "direct", "none", "local_or_s
 OPERATIONS = ("split", "project", "filter", "set", "len", "route", "flaky", "mute", "custom")
 
 
-def spout_of(it):
+def spout_of(it, version):
     made = {"name": it.name("name"), "kind": it.word("kind", ("transactional", "opaque"))}
     made |= {"fields": it.names("fields", MOST_FIELDS), "batch": it.number("batch", 1, 100_000)}
+    has = version == 2 and made["kind"] == "opaque"
+    made["partitions"] = it.number("partitions", 1, 16) if has else 0
     it.end()
     return made
 
@@ -222,8 +224,8 @@ def state_of(it):
 
 def form_of(value):
     it = Members("topology", value)
-    it.number("version", 1, 1)
-    made = {"spout": spout_of(Members("spout", it.take("spout")))}
+    version = it.number("version", 1, 2)
+    made = {"spout": spout_of(Members("spout", it.take("spout")), version)}
     made |= {"bolts": it.objects("bolts", 0, 32, bolt_of), "states": it.objects("states", 1, 8, state_of)}
     made |= {"ackers": it.number("ackers", 1, 16, 1), "pending": it.number("pending", 1, 64, 1)}
     made |= {"buckets": it.number("buckets", 2, 16, 3), "attempts": it.number("attempts", 1, 100, 10)}
@@ -377,7 +379,9 @@ def plan_of(data):
         raise Refused(f"weight {weight}, most {MOST_WEIGHT}")
     line = f"valid components {len(components)} tasks {tasks} weight {weight} depth {max(depths.values())}\n"
     mutes = any(it["op"]["do"] == "mute" for it in made["bolts"])
-    return {"line": line, "tasks": tasks, "ackers": made["ackers"], "fields": len(made["spout"]["fields"]), "mutes": mutes}
+    spout = made["spout"]
+    sizes = {"tasks": tasks, "ackers": made["ackers"], "partitions": spout["partitions"]}
+    return {"line": line, "fields": len(spout["fields"]), "mutes": mutes} | sizes
 
 
 def topology_of(data):
@@ -423,15 +427,15 @@ def input_fault(data, fields):
     return f"input: more than {MOST_LINES} lines\n" if len(lines) > MOST_LINES else None
 
 
-def schedule_fault(data, tasks, ackers):
+def schedule_fault(data, tasks, ackers, partitions):
     """The line of a schedule's refusal, or None."""
     if len(data) > MOST_SCHEDULE:
         return f"schedule: longer than {MOST_SCHEDULE} bytes\n"
     for at, line in enumerate(lines_of(data)):
-        found = re.fullmatch(rb"(?:coord|tick|(task|acker|rounds) ([0-9]{1,8}))", line)
+        found = re.fullmatch(rb"(?:coord|tick|(task|acker|shut|open|rounds) ([0-9]{1,8}))", line)
         if not found or (found[1] == b"rounds" and int(found[2]) > MOST_ROUNDS):
             return f"schedule: line {at + 1}: not a step\n"
-        most = {b"task": tasks, b"acker": ackers}.get(found[1])
+        most = {b"task": tasks, b"acker": ackers, b"shut": partitions, b"open": partitions}.get(found[1])
         if most is not None and int(found[2]) >= most:
             return f"schedule: line {at + 1}: no such number\n"
     return None

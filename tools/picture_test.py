@@ -158,13 +158,37 @@ class Reports(Pictures):
             "attempt 3.1 records 5-5 ticks 0-3 timed out",
             "attempt 2.2 records 3-4 ticks 1-3 coincided 0.0:0000000000000009 0.1:0000000000000009",
             "attempt 2.3 records 3-4 ticks 3-4294967295 commit failed counts 12",
+            "attempt 4.1 records 6-7 ticks 3-4294967295 dropped 2.3",
             "exhausted 2",
         ]
         attempts, last = picture.read_report("\n".join(rows) + "\n")
-        self.assertEqual([it.end for it in attempts], [*picture.ENDS][:1] + ["failed", "timed out", "coincided", "commit failed"])
+        ends = ["committed", "failed", "timed out", "coincided", "commit failed", "dropped"]
+        self.assertEqual([it.end for it in attempts], ends)
+        self.assertEqual([*picture.ENDS], ends)
         self.assertEqual(attempts[3].detail, "0.0:0000000000000009 0.1:0000000000000009")
         self.assertEqual(last, "exhausted 2")
         self.assert_readable(picture.report_picture("\n".join(rows)))
+
+    def test_dropped(self):
+        rows = [
+            "attempt 1.1 records 1-1 ticks 0-0 failed 0",
+            "attempt 2.1 records 2-2 ticks 0-0 dropped 1.1",
+            "attempt 3.1 records 3-3 ticks 0-0 dropped 1.1",
+            "attempt 1.2 records 1-1 ticks 0-0 committed",
+            "attempt 2.2 records 2-2 ticks 0-0 committed",
+            "attempt 3.2 records 3-3 ticks 0-0 committed",
+            "ok 3 records 3 batches",
+        ]
+        svg = picture.report_picture("\n".join(rows) + "\n")
+        self.assert_readable(svg)
+        said = [it for it, *_ in texts_of(svg)]
+        summary = "6 attempts: 3 committed, 1 failed, 2 dropped · 3 batches · 0 ticks · ok 3 records 3 batches"
+        self.assertIn(summary, said)
+        # In the legend once, and as a mark of the two attempts and of the legend.
+        self.assertEqual(said.count("dropped"), 1)
+        crosses = [it for it in xml.fromstring(svg).iter(f"{SVG}polygon") if len(it.get("points").split()) == 12]
+        self.assertEqual([it.get("fill") for it in crosses], [picture.INK] * 3)
+        self.assertIn("attempt 2.1, record 2, ticks 0–0: dropped 1.1", svg)
 
     def test_records_of_several_spans(self):
         rows = [

@@ -21,6 +21,9 @@ pub enum End {
         before: u64,
         after: u64,
     },
+    /// An attempt of a lower transaction, this one, ended without a commit, and the records of its
+    /// batch came back.
+    Dropped(Root),
 }
 
 /// One attempt of one batch. Its records are those of its spans, counted from 1, and ticks are the

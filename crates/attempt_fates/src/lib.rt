@@ -5,7 +5,4 @@ mod fates;
 mod laws;
 
 pub use fates::{Attempt, End, Fates};
-pub use laws::{
-    batches_are_the_records_of_their_spans, committed_records_are_all,
-    each_record_is_committed_once,
-};
+pub use laws::{committed_records_are_all, each_record_is_committed_once};

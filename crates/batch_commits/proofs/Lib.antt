@@ -1,6 +1,9 @@
 mod Counting
+mod Holding
 mod Moving
+mod Next
 mod Numbers
+mod Opaque
 mod Running
 mod Strange
 mod Turning

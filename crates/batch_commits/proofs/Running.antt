@@ -1,17 +1,18 @@
 -- Counts that went along the ends of some attempts go on along those of others, and rise by as many as commits failed.
-use Rattle.std.proofs.Common.{◌≡◌, ◌+◌, ◌*◌, ◌-◌, ◌^◌, ◌≤◌, ◌<◌, ◌⊎◌, inl, inr, ◌==◌, ◌&&◌, Bool, true, false, ℕ, suc, cond, List, [], ◌∷◌, ◌++◌, All, length, filter, refl, sym, ap, subst, ◌∙◌, arith}
+use Rattle.std.proofs.Common.{◌≡◌, ◌+◌, ◌*◌, ◌-◌, ◌^◌, ◌≤◌, ◌<◌, ◌⊎◌, inl, inr, ◌==◌, ◌&&◌, Bool, true, false, ℕ, suc, cond, List, [], ◌∷◌, ◌++◌, All, length, refl, sym, ap, subst, ◌∙◌, arith}
 use Rattle.std.proofs.lemmas.Bool.{cases_lt, eq-eqb}
 use Rattle.std.proofs.lemmas.List.Elements.{All-head, All-tail}
 use Rattle.attempt_fates.specs.declared.fates.Attempt.{Attempt}
 use Rattle.attempt_fates.specs.declared.fates.End.{End}
 use Rattle.attempt_fates.specs.declared.fates.End.TheVariants as end
 use Rattle.batch_commits.specs.Standing.{AllButLastAreCounted, CountStep, CountsRun, FailsAtOneOf, FailuresAreCounted, RoseByFailures, failed_commits}
-use Rattle.commit_turns.specs.Kept.{is_failed_commit}
+use Rattle.attempt_fates.specs.Fates.{is_failed_commit}
 use Rattle.state_parts.specs.Commits.{FailOnceAtMost, FailedOnceAtMost, FailureFollows, SameCounts}
 use Rattle.state_parts.specs.declared.parts.StatePart.{StatePart}
 use Rattle.state_parts.specs.Makers.{RoseBySum, faults_of}
 use Rattle.state_parts.specs.PartPlans.{IsOneOf, PartPlan, plan_of, plans_of}
 use Rattle.tuple_account.specs.storm_values.Counts.{raised}
+use Rattle.batch_commits.proofs.Turning.{failed_of}
 
 -- ---- counts run on
 
@@ -19,28 +20,35 @@ runs_on : (c p low mid high : ℕ) (xs ys : List Attempt) → CountsRun c p low 
 runs_on c p low mid high [] ys first then = subst (λ (n : ℕ). CountsRun c p n ys high) (sym first) then
 runs_on c p low mid high (x ∷ xs) ys first then = (first.0, first.1, runs_on c p first.0 mid high xs ys first.2 then)
 
+-- how many commits failed where one more attempt came to this end
+abbrev failed_with : End → Attempt → List Attempt → ℕ
+failed_with e x xs = length (cond (is_failed_commit e) (x ∷ failed_of xs) (failed_of xs))
+
 -- where no commit failed a count stays
-runs_quiet : (c p low : ℕ) (xs : List Attempt) → failed_commits xs ≡ 0 → CountsRun c p low xs low
+pub runs_quiet : (c p low : ℕ) (xs : List Attempt) → failed_commits xs ≡ 0 → CountsRun c p low xs low
 runs_quiet c p low [] none = refl
 runs_quiet c p low (x ∷ xs) none = at (λ few. runs_quiet c p low xs few) x.end none
   where
-    at : (failed_commits xs ≡ 0 → CountsRun c p low xs low) → (e : End) → length (cond (is_failed_commit e) (x ∷ filter (λ (a : Attempt). is_failed_commit a.end) xs) (filter (λ (a : Attempt). is_failed_commit a.end) xs)) ≡ 0 → (mid : ℕ) × CountStep c p e low mid × CountsRun c p mid xs low
+    at : (failed_commits xs ≡ 0 → CountsRun c p low xs low) → (e : End) → failed_with e x xs ≡ 0
+        → (mid : ℕ) × CountStep c p e low mid × CountsRun c p mid xs low
     at rest (end.Committed list) few = (low, refl, rest few)
     at rest (end.Failed path) few = (low, refl, rest few)
     at rest end.TimedOut few = (low, refl, rest few)
     at rest (end.Coincided list) few = (low, refl, rest few)
     at rest (end.CommitFailed component part before after) few = absurd (omega arith)
+    at rest (end.Dropped by) few = (low, refl, rest few)
 
 stays_quiet : (c p low high : ℕ) (xs : List Attempt) → failed_commits xs ≡ 0 → CountsRun c p low xs high → high ≡ low
 stays_quiet c p low high [] none run = sym run
 stays_quiet c p low high (x ∷ xs) none run = at (λ few. stays_quiet c p run.0 high xs few run.2) x.end none run.1
   where
-    at : (failed_commits xs ≡ 0 → high ≡ run.0) → (e : End) → length (cond (is_failed_commit e) (x ∷ filter (λ (a : Attempt). is_failed_commit a.end) xs) (filter (λ (a : Attempt). is_failed_commit a.end) xs)) ≡ 0 → CountStep c p e low run.0 → high ≡ low
+    at : (failed_commits xs ≡ 0 → high ≡ run.0) → (e : End) → failed_with e x xs ≡ 0 → CountStep c p e low run.0 → high ≡ low
     at rest (end.Committed list) few step = rest few ∙ step
     at rest (end.Failed path) few step = rest few ∙ step
     at rest end.TimedOut few step = rest few ∙ step
     at rest (end.Coincided list) few step = rest few ∙ step
     at rest (end.CommitFailed component part before after) few step = absurd (omega arith)
+    at rest (end.Dropped by) few step = rest few ∙ step
 
 module _ {S : Type 0} (count : S → ℕ) where
   part_runs_on : (us vs : List Attempt) (x y : StatePart S) (high : ℕ) → plan_of y ≡ plan_of x → CountsRun x.component x.part (count x.over.store) us (count y.over.store)
@@ -111,6 +119,7 @@ own_of c p (end.Failed path) = 0
 own_of c p end.TimedOut = 0
 own_of c p (end.Coincided list) = 0
 own_of c p (end.CommitFailed component part before after) = cond ((component == c) && (part == p)) 1 0
+own_of c p (end.Dropped by) = 0
 
 owns_of : (c p : ℕ) → List Attempt → ℕ
 owns_of c p [] = 0
@@ -179,15 +188,21 @@ unfolding own_of owns_of
 walk c p low high [] ends run = walked_none low high run ends
 walk c p low high (x ∷ xs) ends run = at (λ fits. walk c p run.0 high xs fits run.2) x.end run.1
   where
+    stays : (run.0 ≤ 2 ^ 64 - 1 → Walked (owns_of c p xs) (failed_commits xs) run.0 high) → run.0 ≡ low
+        → Walked (0 + owns_of c p xs) (failed_commits xs) low high
+    stays rest step =
+        walked_still (owns_of c p xs) (failed_commits xs) low run.0 high step (rest (subst (λ (n : ℕ). n ≤ 2 ^ 64 - 1) (sym step) ends))
+
     at : (run.0 ≤ 2 ^ 64 - 1 → Walked (owns_of c p xs) (failed_commits xs) run.0 high) → (e : End) → CountStep c p e low run.0
-        → Walked (own_of c p e + owns_of c p xs) (length (cond (is_failed_commit e) (x ∷ filter (λ (a : Attempt). is_failed_commit a.end) xs) (filter (λ (a : Attempt). is_failed_commit a.end) xs))) low high
-    at rest (end.Committed list) step = walked_still (owns_of c p xs) (failed_commits xs) low run.0 high step (rest (subst (λ (n : ℕ). n ≤ 2 ^ 64 - 1) (sym step) ends))
-    at rest (end.Failed path) step = walked_still (owns_of c p xs) (failed_commits xs) low run.0 high step (rest (subst (λ (n : ℕ). n ≤ 2 ^ 64 - 1) (sym step) ends))
-    at rest end.TimedOut step = walked_still (owns_of c p xs) (failed_commits xs) low run.0 high step (rest (subst (λ (n : ℕ). n ≤ 2 ^ 64 - 1) (sym step) ends))
-    at rest (end.Coincided list) step = walked_still (owns_of c p xs) (failed_commits xs) low run.0 high step (rest (subst (λ (n : ℕ). n ≤ 2 ^ 64 - 1) (sym step) ends))
+        → Walked (own_of c p e + owns_of c p xs) (failed_with e x xs) low high
+    at rest (end.Committed list) step = stays rest step
+    at rest (end.Failed path) step = stays rest step
+    at rest end.TimedOut step = stays rest step
+    at rest (end.Coincided list) step = stays rest step
     at rest (end.CommitFailed component part before after) step =
         let up = failed_up ((component == c) && (part == p)) before after low run.0 ends step in
         walked_failed ((component == c) && (part == p)) before after (owns_of c p xs) (failed_commits xs) low run.0 high ends step (rest up.2)
+    at rest (end.Dropped by) step = stays rest step
 
 -- how many failures are told of these parts
 told_of : List PartPlan → List Attempt → ℕ
@@ -221,7 +236,7 @@ few_failed : (ps : List PartPlan) (xs : List Attempt) → All (FailsAtOneOf ps) 
 few_failed ps [] all = omega arith
 few_failed ps (x ∷ xs) all = at x.end refl (few_failed ps xs (All-tail (FailsAtOneOf ps) x xs all))
   where
-    at : (e : End) → x.end ≡ e → failed_commits xs ≤ told_of ps xs → length (cond (is_failed_commit e) (x ∷ filter (λ (a : Attempt). is_failed_commit a.end) xs) (filter (λ (a : Attempt). is_failed_commit a.end) xs)) ≤ told_of ps (x ∷ xs)
+    at : (e : End) → x.end ≡ e → failed_commits xs ≤ told_of ps xs → failed_with e x xs ≤ told_of ps (x ∷ xs)
     at (end.Committed list) is rest = let more = told_more ps x xs in omega arith
     at (end.Failed path) is rest = let more = told_more ps x xs in omega arith
     at end.TimedOut is rest = let more = told_more ps x xs in omega arith
@@ -231,6 +246,7 @@ few_failed ps (x ∷ xs) all = at x.end refl (few_failed ps xs (All-tail (FailsA
         let one = told_one ps c p before after (All-head (FailsAtOneOf ps) x xs all c p before after is) in
         let here : told_end ps x.end ≡ told_end ps (end.CommitFailed c p before after) = ap (told_end ps) is in
         omega arith
+    at (end.Dropped by) is rest = let more = told_more ps x xs in omega arith
 
 both_sum : (s r a b c d : ℕ) → RoseBySum s a b → RoseBySum r c d → RoseBySum (s + r) (a + c) (b + d)
 both_sum s r a b c d (inl one) (inl two) = inl (omega arith)

@@ -1,13 +1,14 @@
 -- When all parts stand at the batches that were committed. This project's own.
-use Rattle.std.specs.Prelude.{◌≡◌, ◌≤◌, ◌⊎◌, ◌+◌, ◌*◌, ℕ, List, [], ◌∷◌, IsSome, Option, Some, filter, length, slice_get}
-use Rattle.std.specs.List.{AllZip}
+use Rattle.std.specs.Prelude.{◌≡◌, ◌≤◌, ◌⊎◌, ◌+◌, ◌*◌, ℕ, List, [], ◌∷◌, IsSome, Option, Some, filter, length, map, slice_get}
+use Rattle.std.specs.List.{AllZip, flat_map, range_with_len}
 use Rattle.std.specs.Str.{IsUtf8}
 use Rattle.attempt_fates.specs.declared.fates.Attempt.{Attempt}
 use Rattle.attempt_fates.specs.declared.fates.End.{End}
 use Rattle.attempt_fates.specs.declared.fates.End.TheVariants as end
-use Rattle.tuple_account.specs.bolt_ops.RowOp.{Custom}
-use Rattle.commit_turns.specs.Account.{rows_in}
-use Rattle.commit_turns.specs.Kept.{is_failed_commit}
+use Rattle.attempt_fates.specs.Fates.{is_failed_commit}
+use Rattle.commit_turns.specs.Account.{rows_at}
+use Rattle.record_offers.specs.Offers.{batch_count}
+use Rattle.record_spans.specs.declared.span.Span.{Span}
 use Rattle.state_cells.specs.Turns.{IsBad}
 use Rattle.state_parts.specs.Commits.{CountFollows, FailedOnceAtMost, IsFailedPart}
 use Rattle.state_parts.specs.declared.answer.CommitOutcome.{CommitOutcome}
@@ -17,31 +18,55 @@ use Rattle.state_parts.specs.Makers.{RoseBySum}
 use Rattle.state_parts.specs.PartPlans.{IsOneOf, PartPlan}
 use Rattle.state_parts.specs.Standing.{AllAreAt, AllStand}
 use Rattle.storm_stores.specs.CellMaps.{CellMap, cell_at}
+use Rattle.taken_records.specs.Cuts.{Cut}
+use Rattle.taken_records.specs.Taken.{batch_spans, times_in}
+use Rattle.tuple_account.specs.bolt_ops.RowOp.{Custom}
 use Rattle.tuple_account.specs.topology_plan.declared.parts.Kind.{Kind}
 use Rattle.tuple_account.specs.topology_plan.Topology.{Topology}
 use Rattle.tuple_account.specs.tree_model.declared.write.Write.{Write}
 use Rattle.tuple_account.specs.tree_model.Trees.{writes}
-use Rattle.trident_batches.specs.Batches.{Cut, batch_count, batches_joined}
 
--- the writes of the batches of the transactions 1 to so many
-abbrev pub writes_to : Topology → Custom → Cut → ℕ → List Write
-writes_to t custom cut many = writes t custom (batches_joined cut.size many cut.records)
+-- ---- batches
 
--- the writes of the batch of a transaction
-abbrev pub writes_at : Topology → Custom → Cut → ℕ → List Write
-writes_at t custom cut txid = writes t custom (rows_in cut txid)
+-- the writes of the records of a batch
+abbrev pub writes_at : Topology → Custom → Cut → List Span → List Write
+writes_at t custom cut spans = writes t custom (rows_at cut spans)
 
--- how many batches there are
+-- the writes of the records of some batches, one batch after another
+abbrev pub writes_of : Topology → Custom → Cut → List (List Span) → List Write
+writes_of t custom cut batches = writes t custom (flat_map (rows_at cut) batches)
+
+-- The batch of the next transaction after these: without partitions it is known, and with
+-- partitions it may be any.
+abbrev pub IsNextBatch : Cut → List (List Span) → List Span → Type 0
+IsNextBatch cut batches spans =
+    cut.partitions ≡ 0 → spans ≡ batch_spans (length cut.gone) cut.size (length batches + 1)
+
+-- each record stands in one of these batches at least
+abbrev pub HoldAll : Cut → List (List Span) → Type 0
+HoldAll cut batches = (n : ℕ) → 1 ≤ n → n ≤ length cut.gone → 1 ≤ times_in batches n
+
+-- the batches of the transactions 1 to so many of a spout without partitions
+abbrev pub first_batches : Cut → ℕ → List (List Span)
+first_batches cut many = map (batch_spans (length cut.gone) cut.size) (range_with_len 1 many)
+
+-- how many batches such a spout has
 abbrev pub batches_in : Cut → ℕ
-batches_in cut = batch_count (length cut.records) cut.size
+batches_in cut = batch_count (length cut.gone) cut.size
 
--- All parts stand at n committed batches: the commit of the next one may have been begun. Where
--- all batches are committed no cell has a larger transaction.
+-- All parts stand at these batches, which the transactions 1 and on committed in this order: a
+-- key's value is that after the writes of the records of each of them, once each. The commit of the
+-- next transaction may have been begun, whatever its batch is. Where these batches hold all records
+-- no cell has a larger transaction.
 pub record PartsStand {S : Type 0} (tells : S → CellMap → Type 0) (t : Topology)
-    (custom : Custom) (cut : Cut) (n : ℕ) (parts : List (StatePart S)) : Type 0 where
-  pub stand : AllStand tells t custom n (writes_to t custom cut n) (writes_at t custom cut (n + 1)) parts
-  pub at_end : n ≡ batches_in cut
-      → AllAreAt tells t custom n (writes_to t custom cut n) (writes_at t custom cut (n + 1)) parts
+    (custom : Custom) (cut : Cut) (batches : List (List Span)) (parts : List (StatePart S))
+    : Type 0 where
+  pub stand : (spans : List Span) → IsNextBatch cut batches spans
+      → AllStand tells t custom (length batches) (writes_of t custom cut batches)
+      (writes_at t custom cut spans) parts
+  pub at_end : HoldAll cut batches → (spans : List Span) → IsNextBatch cut batches spans
+      → AllAreAt tells t custom (length batches) (writes_of t custom cut batches)
+      (writes_at t custom cut spans) parts
 
 -- ---- cells that no part takes
 
@@ -74,6 +99,7 @@ CountStep component part end.TimedOut low high = high ≡ low
 CountStep component part (end.Coincided list) low high = high ≡ low
 CountStep component part (end.CommitFailed c p before after) low high =
     CountFollows (Failed c p before after) component part low high
+CountStep component part (end.Dropped by) low high = high ≡ low
 
 -- a count went from `low` to `high` along the ends of these attempts, one after another
 abbrev pub CountsRun : (component part low : ℕ) → List Attempt → ℕ → Type 0

@@ -5,6 +5,7 @@
 mod laws;
 
 pub use laws::{
-    commits_of_batches_move_parts, counts_run_on, failures_of_commits_are_counted,
+    all_batches_hold_all_records, commits_of_batches_move_parts, counts_run_on,
+    failures_of_commits_are_counted, next_commits_are_of_the_next_batch,
     parts_that_stand_have_the_tables, strange_cells_were_there,
 };

@@ -12,29 +12,30 @@ use Rattle.box_account.specs.Hearing.{HeardBeforeFailing, HeardComplete}
 use Rattle.box_account.specs.Inboxes.{weigh_acker_inboxes, weigh_inboxes, weigh_task_inboxes}
 use Rattle.event_worlds.specs.commit_turns.declared.wait.Wait.{Wait}
 use Rattle.event_worlds.specs.commit_turns.Account.{desk_of, ends_of, waits_of}
-use Rattle.event_worlds.specs.commit_turns.Desks.{Desk}
-use Rattle.event_worlds.specs.commit_turns.Kept.{is_failed_commit}
-use Rattle.event_worlds.specs.commit_turns.Turns.{decided_by, next_to_commit}
+use Rattle.event_worlds.specs.commit_turns.Desks.{Desk, without}
+use Rattle.event_worlds.specs.attempt_fates.Fates.{is_failed_commit}
+use Rattle.event_worlds.specs.commit_turns.Turns.{decided_by, drops, next_to_commit}
 use Rattle.event_worlds.specs.counted_items.Weights.{weigh}
 use Rattle.event_worlds.proofs.counted_items.Counts.{times-within}
 use Rattle.event_worlds.proofs.counted_items.Each.{each-append, each-weaker}
 use Rattle.event_worlds.proofs.counted_items.Weighing.{weigh-append}
 use Rattle.event_worlds.specs.Accounted.{LedAt, station_of, weigh_ackers, weigh_tasks}
 use Rattle.event_worlds.specs.Added.{added}
-use Rattle.event_worlds.specs.Worlds.{AckerSide, Known, Step, TaskSide, World, acted_past, delivered, is_over, next, next_outcome, next_words, of_acker, of_outcome, of_task, of_tick, of_turn, sent, step, task_at, task_needs, turn_needs, turn_past, turned_in, with_progress, with_task}
+use Rattle.event_worlds.specs.Worlds.{AckerSide, Known, Step, TaskSide, World, acted_past, delivered, is_over, next, next_outcome, next_words, of_acker, of_open, of_outcome, of_shut, of_task, of_tick, of_turn, sent, step, task_at, task_needs, turn_needs, turn_past, turned_in, with_progress, with_task}
 use Rattle.event_worlds.specs.state_parts.declared.answer.CommitOutcome.{CommitOutcome}
+use Rattle.event_worlds.specs.state_parts.declared.answer.CommitOutcome.TheVariants as outcome
 use Rattle.event_worlds.specs.topology_plan.Topology.{Topology, tasks_in_all}
 use Rattle.event_worlds.specs.tree_model.declared.messages.AckMsg.{AckMsg}
 use Rattle.event_worlds.specs.tree_model.declared.messages.Parcel.{Parcel}
 use Rattle.event_worlds.specs.tree_model.declared.messages.Parcel.TheVariants.{ToTask, ToAcker}
-use Rattle.event_worlds.specs.trident_batches.Batches.{Cut}
+use Rattle.event_worlds.specs.taken_records.Cuts.{Cut}
 use Rattle.event_worlds.specs.tuple_account.Ends.{verdicts_of_ends, verdicts_of_waits, verdicts_settled}
 use Rattle.event_worlds.specs.tuple_account.Fits.{Fits}
 use Rattle.event_worlds.specs.tuple_account.Histories.{History, Packet, joined}
 use Rattle.event_worlds.specs.tuple_account.Moves.{Station}
 use Rattle.event_worlds.proofs.tuple_account.Routing.{verdict_code}
 use Rattle.world_progress.specs.Lasting.{IsFine}
-use Rattle.world_progress.proofs.Turning.{turn_fine}
+use Rattle.world_progress.proofs.Turning.{drops_fine, turn_fine}
 
 -- ---- inboxes
 
@@ -112,7 +113,7 @@ found_settled count w (x ∷ ws) found = by ((x.root.txid == count) && is_some x
     by true is at later = subst (λ (y : Wait). is_some y.settled ≡ true) (ap some_or at) (and_parts (x.root.txid == count) (is_some x.settled) is).1
     by false is at later = later at
 
-module _ (t : Topology) (cut : Cut) (h : History) (d : Desk) (fates : List Attempt) (fits : Fits t (desk_of d) (ends_of fates) h) where
+module _ (t : Topology) (cut : Cut) (h : History) (d : Desk) (fates : List Attempt) (fits : Fits t (desk_of cut d) (ends_of fates) h) where
   -- the attempt that is next to be committed was heard of
   next_heard : (w : Wait) → next_to_commit t cut d ≡ Some w → HeardComplete h w.root
   next_heard w at = by w.settled refl (found_settled (d.committed + 1) w d.pending at)
@@ -131,7 +132,10 @@ module _ (t : Topology) (cut : Cut) (h : History) (d : Desk) (fates : List Attem
 
   outcome_heard : (how : CommitOutcome) (o : Option Wait) → next_to_commit t cut d ≡ o → HeardBeforeFailing h (decided_by t cut how o d).ended
   outcome_heard how None at = tt
-  outcome_heard how (Some w) at = (λ failed. next_heard w at, tt)
+  outcome_heard outcome.Done (Some w) at = (λ failed. next_heard w at, tt)
+  outcome_heard (outcome.Failed component part before after) (Some w) at =
+      let others = without w.root d.pending in
+      (λ failed. next_heard w at, fine_heard h (drops t cut d.tick w.root others) (drops_fine t cut d.tick w.root others))
 
 -- ---- steps
 
@@ -151,7 +155,7 @@ module _ (t : Topology) (custom : Custom) (cut : Cut) (words : ℕ → ℕ → �
   turn_is ids (p ∷ rest) = subst (HeardBeforeFailing h) (sym (fates-delivered t p (record k.world { orders = rest }))) was
   turn_is ids [] =
       each-append (λ (a : Attempt). is_failed_commit a.end ≡ true → HeardComplete h a.root) k.world.fates (turned_in t cut k.world).ended was
-      (fine_heard h (turned_in t cut k.world).ended (turn_fine t cut (slice_get k.world.verdicts 0) k.world.unheard k.world.desk))
+      (fine_heard h (turned_in t cut k.world).ended (turn_fine t cut (slice_get k.world.verdicts 0) k.world.unheard k.world.shut k.world.desk))
 
   outcome_is : (how : CommitOutcome) (b : Bool) → Is (cond b (with_progress t cut (decided_by t cut how (next_to_commit t cut k.world.desk) k.world.desk) k.world) k.world)
   outcome_is how false = was
@@ -168,6 +172,8 @@ module _ (t : Topology) (custom : Custom) (cut : Cut) (words : ℕ → ℕ → �
   step_is of_turn = turn_is (next_words words k.counts (tasks_in_all t) (turn_needs t cut k.world)) k.world.orders
   step_is of_outcome = outcome_is (next_outcome outcomes k.world.fates) k.world.desk.out
   step_is of_tick = was
+  step_is (of_shut q) = was
+  step_is (of_open q) = was
 
   pub heard_next : (s : Step) → HeardBeforeFailing (joined h (added t custom cut words s k)) (next t custom cut words outcomes s k).world.fates
   heard_next s = heard_later h (added t custom cut words s k) (next t custom cut words outcomes s k).world.fates (by (is_over t cut k.world))

@@ -15,7 +15,7 @@ use Rattle.box_account.proofs.Histories.{TellsItself, all_heard, all_met}
 use Rattle.box_rows.specs.declared.mail.Mail.{Mail}
 use Rattle.box_rows.specs.Rows.{taken_in}
 use Rattle.event_worlds.specs.commit_turns.Account.{ended_of, ending_of, ends_of}
-use Rattle.event_worlds.specs.commit_turns.Kept.{is_failed_commit}
+use Rattle.event_worlds.specs.attempt_fates.Fates.{is_failed_commit}
 use Rattle.event_worlds.proofs.counted_items.Each.{each-both, each-front, each-map, each-parts, each-to_map, each-weaker}
 use Rattle.event_worlds.proofs.counted_items.Equality.{each-within}
 use Rattle.event_worlds.proofs.counted_items.Weighing.{item-weighs, weigh-flat_map, weigh-map}
@@ -135,6 +135,7 @@ module _ (t : Topology) (custom : Custom) (h : History) (b : Station) (reached :
     end_tells root (end.CommitFailed component part first last) all complete_one =
         let c = complete_one refl in
         let g = one_heard (Complete root c.0) c.1 in (c.0, record { verdict = g.0; messages = g.1 })
+    end_tells root (end.Dropped other) all complete_one = tt
 
     pub ends_tell : AllByRecursion Ends fates
     ends_tell =

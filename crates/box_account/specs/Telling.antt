@@ -20,7 +20,7 @@ use Rattle.event_worlds.specs.tree_model.declared.messages.AckMsg.TheVariants as
 use Rattle.event_worlds.specs.tree_model.declared.messages.Parcel.TheVariants.{ToTask, ToAcker}
 use Rattle.event_worlds.specs.tree_model.declared.messages.Tuple.{Tuple}
 use Rattle.event_worlds.specs.tree_model.Trees.{node_at}
-use Rattle.event_worlds.specs.trident_batches.Batches.{Cut}
+use Rattle.event_worlds.specs.taken_records.Cuts.{Cut}
 use Rattle.event_worlds.specs.tuple_account.Accounts.{is_at}
 use Rattle.event_worlds.specs.tuple_account.Histories.{IsTaskOf, acker_of, on_tuple}
 use Rattle.event_worlds.specs.tuple_account.Issued.{node_of}
@@ -61,7 +61,7 @@ module _ (t : Topology) (custom : Custom) (row : List (Pass Mail)) (rows : List 
     pub verdict : WasHeard t row (Fails root path)
     pub message : TellsMessage (msg.Failed (record { root = root; path = path }))
 
-  -- what taken lists tell of an end
+  -- what taken lists tell of an end; of one by time, or with another attempt, they tell nothing
   abbrev pub TellsEnd : End → Type 0
   TellsEnd (end.Committed list) = TellsComplete list
   TellsEnd (end.Failed path) = TellsFails path
@@ -69,6 +69,7 @@ module _ (t : Topology) (custom : Custom) (row : List (Pass Mail)) (rows : List 
   TellsEnd (end.Coincided list) = TellsComplete list
   TellsEnd (end.CommitFailed component part before after) =
       (list : List AckMsg) × TellsComplete list
+  TellsEnd (end.Dropped by) = Unit {0}
 
 -- taken lists tell so of each attempt, with its records
 abbrev pub BoxesTell : Topology → Custom → Cut → List (Pass Mail) → List Attempt → Type 0

@@ -21,15 +21,15 @@ ghost use Rattle.task_queues.specs.declared.rule.View.{View};
 ghost use Rattle.task_queues.specs.Passes.{view_of};
 ghost use Rattle.task_queues.specs.Rule.{Stood};
 ghost use Rattle.event_worlds.specs.topology_plan.Topology.{Topology};
-ghost use Rattle.event_worlds.specs.trident_batches.Batches.{Cut};
+ghost use Rattle.event_worlds.specs.taken_records.Cuts.{Cut};
 ghost use Rattle.event_worlds.specs.tuple_account.Histories.{History, Packet, joined};
 ghost use Rattle.event_worlds.specs.tuple_account.Moves.{Station};
 
 /// A law: before the commit of an attempt fails a verdict that it is complete is heard: so it is at
 /// first, so it stays with whatever happens beside, and after each step, whatever waits.
 pub fn complete_verdicts_are_heard()
-    ensures first { (t : Topology) (words : ℕ → ℕ → ℕ)
-        → HeardBeforeFailing (first_history t words) (first_world t words).fates }
+    ensures first { (t : Topology) (cut : Cut) (words : ℕ → ℕ → ℕ)
+        → HeardBeforeFailing (first_history t words) (first_world t cut words).fates }
     ensures later { (h more : History) (fates : List Attempt)
         → HeardBeforeFailing h fates → HeardBeforeFailing (joined h more) fates }
     ensures step { (t : Topology) (custom : Custom) (cut : Cut) (words : ℕ → ℕ → ℕ)

@@ -1,27 +1,30 @@
 -- Attempts that end, are settled or begin, as steps of what is known.
-use Rattle.std.proofs.Common.{◌≡◌, ◌≢◌, ◌≤◌, ◌<◌, ℕ, zero, suc, ◌+◌, ◌-◌, ◌%◌, ◌==◌, ◌&&◌, Bool, true, false, not, cond, nat_lt, Option, Some, None, List, [], ◌∷◌, ◌++◌, length, refl, sym, ap, ◌∙◌, arith}
+use Rattle.std.proofs.Common.{◌≡◌, ◌≢◌, ◌≤◌, ◌<◌, ℕ, suc, ◌+◌, ◌-◌, ◌^◌, ◌%◌, ◌==◌, ◌&&◌, min, Bool, true, false, not, cond, nat_lt, Option, Some, None, List, [], ◌∷◌, ◌++◌, length, map, filter, refl, sym, ap, ◌∙◌, arith}
 use Rattle.std.specs.Prelude.{if◌then◌else◌, is_some, IsSome, OnOk, OnErr, Result, Ok, Err}
 use Rattle.std.specs.List.{find, list_all, range_with_len}
+use Rattle.std.specs.Option.{option_and_then}
 use Rattle.std.proofs.lemmas.Bool.Decides.{nat_tests}
-use Rattle.std.proofs.lemmas.List.{append-nil}
+use Rattle.std.proofs.lemmas.List.{append-nil, append_assoc, map-append}
 use Rattle.attempt_fates.specs.declared.fates.Attempt.{Attempt}
 use Rattle.attempt_fates.specs.declared.fates.End.{End}
+use Rattle.attempt_fates.specs.declared.fates.End.TheVariants as end
+use Rattle.commit_order.proofs.Passing.{adds_back}
 use Rattle.commit_order.proofs.Steps.{is_next}
-use Rattle.commit_order.specs.Offices.{GoesOn, IsBatch, Office, counted_by, try_of}
-use Rattle.commit_turns.specs.Desks.{Desk, ended_at, has_txid, settled, still, timed_of, without}
-use Rattle.commit_turns.specs.Turns.{complete_timed, decided, end_by, end_timed, free_txid, is_closed, next_by, next_root, next_to_commit}
+use Rattle.commit_order.specs.Offices.{AddsSome, DropsAll, GoesOn, Office, try_of}
+use Rattle.commit_turns.proofs.Aborting.{back_append}
+use Rattle.commit_turns.specs.Desks.{Desk, ended_at, has_txid, settled, still, timed_of}
+use Rattle.commit_turns.specs.Turns.{aborted, complete_timed, counted, drops, ends_with, free_txid, is_closed, last_txid, last_try, next_attempt, next_root}
 use Rattle.commit_turns.specs.declared.wait.Wait.{Wait}
-use Rattle.replay_pending.specs.InFlight.{attempts_of}
+use Rattle.replay_pending.specs.InFlight.{tried, with_aborted}
 use Rattle.replay_pending.proofs.Found.{first_of_two, passes}
 use Rattle.replay_pending.proofs.Lists.{true_false}
-use Rattle.state_parts.specs.declared.answer.CommitOutcome.{CommitOutcome}
-use Rattle.state_parts.specs.declared.answer.CommitOutcome.TheVariants as outcome
+use Rattle.taken_records.specs.Cuts.{Cut}
+use Rattle.taken_records.specs.Taken.{marked, put_back}
 use Rattle.tuple_account.specs.storm_values.Lines.{first_some}
 use Rattle.tuple_account.specs.storm_values.declared.value.Root.{Root}
 use Rattle.tuple_account.specs.topology_plan.Topology.{Topology}
 use Rattle.tuple_account.specs.tree_model.Lists.{IsClosed, occurrences}
 use Rattle.tuple_account.specs.tree_model.declared.messages.AckMsg.{AckMsg}
-use Rattle.trident_batches.specs.Batches.{Cut, batch_count}
 use Rattle.tuple_account.specs.tuple_tickets.Edges.{edge_eq, is_edge, times}
 use Rattle.tuple_account.specs.tuple_tickets.declared.edge.Edge.{Edge}
 use Rattle.tuple_account.proofs.tuple_tickets.Toggles.{same_edge, edge_itself}
@@ -53,28 +56,74 @@ pub on_err : {X E P : Type 0} (r : Result X E) → P → OnErr r P
 on_err (Ok x) p = tt
 on_err (Err e) p = p
 
+pub on_all : {X E A B C Q : Type 0} (r : Result X E) → OnOk r A → OnOk r B → OnOk r C → (A → B → C → Q) → OnOk r Q
+on_all (Ok x) a b c f = f a b c
+on_all (Err e) a b c f = tt
+
 -- ---- nothing changes
 
 pub still_goes : (o : Office) (fates : List Attempt) → GoesOn (still o.desk) o o fates fates
 still_goes o fates = record { office = refl; fates = sym (append-nil fates) }
 
--- ---- a timed attempt ends
+-- ---- attempts abort, and others end with them
+
+its_spans : (tick : ℕ) (how : End) (ws : List Wait) → map (λ (a : Attempt). a.spans) (map (ended_at tick how) ws) ≡ map (λ (w : Wait). w.spans) ws
+its_spans tick how [] = refl
+its_spans tick how (w ∷ ws) = ap (λ rest. w.spans ∷ rest) (its_spans tick how ws)
+
+module _ (o mid : Office) (first : Attempt) (others : List Attempt) where
+  abbrev t : Topology
+  t = o.topology
+
+  -- these attempts were counted, their records came back, and the first that was the last try stopped the coordinator
+  abbrev pub Came : Type 0
+  Came =
+      mid
+      ≡ record o { desk = record o.desk {
+        tries = counted o.topology o.cut (first ∷ others) o.desk.tries;
+        gone = put_back (map (λ (a : Attempt). a.spans) (first ∷ others)) o.desk.gone;
+        exhausted = first_some (map (last_try o.topology o.cut (counted o.topology o.cut (first ∷ others) o.desk.tries)) (first ∷ others));
+      } }
+
+  pub aborts_go : (new : Office) (told fates tells : List Attempt) → Came → fates ≡ told ++ first ∷ others → DropsAll first.root mid new fates tells
+      → GoesOn (aborted o.topology o.cut (first ∷ others) o.desk) o new told tells
+  aborts_go new told fates tells is adds drop =
+      let dropped = filter (ends_with o.topology o.cut first.root) o.desk.pending in
+      let ended = drops o.topology o.cut o.desk.tick first.root o.desk.pending in
+      let back : put_back (map (λ (a : Attempt). a.spans) (first ∷ others ++ ended)) o.desk.gone
+      ≡ put_back (map (λ (w : Wait). w.spans) dropped) (put_back (map (λ (a : Attempt). a.spans) (first ∷ others)) o.desk.gone) =
+      ap (λ xs. put_back xs o.desk.gone) (map-append (λ (a : Attempt). a.spans) (first ∷ others) ended)
+      ∙ back_append (map (λ (a : Attempt). a.spans) (first ∷ others)) (map (λ (a : Attempt). a.spans) ended) o.desk.gone
+      ∙ ap (λ xs. put_back xs (put_back (map (λ (a : Attempt). a.spans) (first ∷ others)) o.desk.gone)) (its_spans o.desk.tick (end.Dropped first.root) dropped) in
+      let done = rw is at drop in
+      record {
+        office = done.office ∙ ap (λ gone. record o { desk = record (aborted o.topology o.cut (first ∷ others) o.desk).desk { gone = gone } }) (sym back);
+        fates = done.fates ∙ ap (λ xs. xs ++ ended) adds ∙ append_assoc told (first ∷ others) ended;
+      }
+
+  pub aborts_short : (told fates tells : List Attempt) → Came → fates ≡ told ++ first ∷ others
+      → AddsSome (drops mid.topology mid.cut mid.desk.tick first.root mid.desk.pending) fates tells
+      → AddsSome (aborted o.topology o.cut (first ∷ others) o.desk).ended told tells
+  aborts_short told fates tells is adds short =
+      adds_back (first ∷ others) (drops o.topology o.cut o.desk.tick first.root o.desk.pending) told tells (rw (is, adds) at short)
 
 one_some : {X : Type 0} (o : Option X) → first_some (o ∷ []) ≡ o
 one_some None = refl
 one_some (Some x) = refl
 
--- the attempt was taken out, and counts as the last of its transaction where it was
-pub ended_timed : (o taken : Office) (how : End) (root : Root) (w : Wait) (stop : Option ℕ) (tick : ℕ) (item : Attempt) (fates tells : List Attempt)
-    → timed_of root o.desk.pending ≡ Some w → w.root ≡ root
-    → taken ≡ record o { desk = record o.desk { pending = without root o.desk.pending } }
-    → stop ≡ try_of taken.topology root → tick ≡ taken.desk.tick → item ≡ ended_at tick how w → tells ≡ fates ++ item ∷ []
-    → GoesOn (end_timed o.topology o.cut how (timed_of root o.desk.pending) o.desk) o (record taken { desk = record taken.desk { exhausted = stop } }) fates tells
-ended_timed o taken how root w stop tick item fates tells at same is last now what adds =
-    rw (at, adds, what, now, last, is, ← same) (record {
-      office = ap (λ e. record o { desk = record o.desk { pending = without w.root o.desk.pending; exhausted = e } }) (sym (one_some (try_of o.topology w.root)));
-      fates = refl;
-    })
+-- one attempt aborted, and counted
+pub one_came : (o : Office) (root : Root) (tick : ℕ) (how : End) (w : Wait) (inside : Office) (last : Option ℕ) → w.root ≡ root
+    → inside ≡ record o { desk = record o.desk { tries = with_aborted root.txid o.desk.tries; gone = marked false w.spans o.desk.gone } }
+    → last ≡ try_of inside.topology inside.desk.tries root.txid
+    → Came o (record inside { desk = record inside.desk { exhausted = last } }) (ended_at tick how w) []
+one_came o root tick how w inside last same is tries =
+    rw (tries, is, ← same)
+    (ap (λ (e : Option ℕ). record o { desk = record o.desk { tries = with_aborted w.root.txid o.desk.tries; gone = marked false w.spans o.desk.gone; exhausted = e } })
+    (sym (one_some (try_of o.topology (with_aborted w.root.txid o.desk.tries) w.root.txid))))
+
+-- nothing was added yet
+pub adds_none : (ended told tells : List Attempt) → tells ≡ told → AddsSome ended told tells
+adds_none ended told tells same = record { done = []; rest = ended; are_first = refl; added = same ∙ sym (append-nil told) }
 
 -- ---- a timed attempt is settled
 
@@ -84,24 +133,6 @@ pub settles : (o new : Office) (root : Root) (w : Wait) (list : List AckMsg) (fa
     → GoesOn (complete_timed o.topology o.cut list (is_closed list) (timed_of root o.desk.pending) o.desk) o new fates fates
 settles o new root w list fates at same closed is =
     rw (at, closed, is, ← same) (record { office = refl; fates = sym (append-nil fates) })
-
--- ---- the outcome of a commit
-
-pub counted_tick : (t : Topology) (how : CommitOutcome) (root : Root) (d : Desk) → (counted_by t how root d).tick ≡ d.tick
-counted_tick t outcome.Done root d = refl
-counted_tick t (outcome.Failed component part before after) root d = refl
-
-pub item_is : (tick : ℕ) (w : Wait) (finish : ℕ) (end end_is : End) → finish ≡ tick → end ≡ end_is
-    → record { root = w.root; spans = w.spans; start = w.start; finish = finish; end = end } ≡ ended_at tick end_is w
-item_is tick w finish end end_is now same = rw (now, same) refl
-
-pub decided_goes : (o : Office) (how : CommitOutcome) (w : Wait) (item : Attempt) (new : Office) (fates : List Attempt)
-    → next_to_commit o.topology o.cut o.desk ≡ Some w
-    → new ≡ record o { desk = counted_by o.topology how w.root (record o.desk { out = false; pending = without w.root o.desk.pending }) }
-    → item ≡ ended_at o.desk.tick (end_by o.topology o.cut how w.settled) w
-    → GoesOn (decided o.topology o.cut how o.desk) o new fates (fates ++ item ∷ [])
-decided_goes o outcome.Done w item new fates next is what = rw (next, is, what) (record { office = refl; fates = refl })
-decided_goes o (outcome.Failed component part before after) w item new fates next is what = rw (next, is, what) (record { office = refl; fates = refl })
 
 -- ---- closed lists
 
@@ -157,31 +188,7 @@ not_true : (b : Bool) → not b ≡ true → b ≡ false
 not_true true on = sym on
 not_true false on = refl
 
-pub range_found : (p : ℕ → Bool) (start n x : ℕ) → find p (range_with_len start n) ≡ Some x → (start ≤ x) × (x < start + n)
-range_found p start zero x is = absurd (none_is is)
-  where
-    none_is : None ≡ Some x → ⊥
-    none_is e = cc
-range_found p start (suc n) x is = by (p start) is (range_found p (start + 1) n x)
-  where
-    by : (b : Bool) → cond b (Some start) (find p (range_with_len (start + 1) n)) ≡ Some x
-        → (find p (range_with_len (start + 1) n) ≡ Some x → (start + 1 ≤ x) × (x < start + 1 + n)) → (start ≤ x) × (x < start + suc n)
-    by true on rest = let same : start ≡ x = ap of_some on in (omega arith, omega arith)
-      where
-        of_some : Option ℕ → ℕ
-        of_some None = start
-        of_some (Some z) = z
-    by false off rest = let both = rest off in let low = both.0 in let high = both.1 in (omega arith, omega arith)
-
 module _ (t : Topology) (cut : Cut) (d : Desk) where
-  pub free_is : (txid : ℕ) → free_txid t cut d ≡ Some txid → (has_txid txid d.pending ≡ false) × IsBatch cut txid
-  free_is txid is =
-      let bounds = range_found (λ (txid : ℕ). not (has_txid txid d.pending)) (d.committed + 1) (batch_count (length cut.records) cut.size - d.committed) txid is in
-      let low = bounds.0 in let high = bounds.1 in (
-        not_true (has_txid txid d.pending) (passes (λ (txid : ℕ). not (has_txid txid d.pending)) (range_with_len (d.committed + 1) (batch_count (length cut.records) cut.size - d.committed)) txid is),
-        (omega arith, omega arith),
-      )
-
   pub find_next : (b e : ℕ) → b < e → has_txid (b + 1) d.pending ≡ true
       → find (λ (txid : ℕ). not (has_txid txid d.pending)) (range_with_len (b + 1) (e - b))
       ≡ find (λ (txid : ℕ). not (has_txid txid d.pending)) (range_with_len (b + 1 + 1) (e - (b + 1)))
@@ -200,8 +207,7 @@ module _ (t : Topology) (cut : Cut) (d : Desk) where
   -- the root that begins next
   pub record IsNextRoot (root : Root) : Type 0 where
     pub fresh : has_txid root.txid d.pending ≡ false
-    pub number : root.attempt ≡ attempts_of root.txid d.attempts + 1
-    pub there : IsBatch cut root.txid
+    pub number : root.attempt ≡ (tried root.txid d.tries).begun + 1
     pub room : length d.pending < t.pending
 
   some_root : (a b : Root) → Some a ≡ Some b → a ≡ b
@@ -220,18 +226,19 @@ module _ (t : Topology) (cut : Cut) (d : Desk) where
   pub next_is : (root : Root) → next_root t cut d ≡ Some root → IsNextRoot root
   next_is root is = by (nat_lt (length d.pending) t.pending) refl is
     where
-      attempt : (txid : ℕ) (b : Bool) → cond b (Some (record { txid = txid; attempt = attempts_of txid d.attempts + 1 })) None ≡ Some root
-          → record { txid = txid; attempt = attempts_of txid d.attempts + 1 } ≡ root
-      attempt txid true on = some_root (record { txid = txid; attempt = attempts_of txid d.attempts + 1 }) root on
+      attempt : (txid : ℕ) (b : Bool) → cond b (Some (record { txid = txid; attempt = (tried txid d.tries).begun + 1 })) None ≡ Some root
+          → record { txid = txid; attempt = (tried txid d.tries).begun + 1 } ≡ root
+      attempt txid true on = some_root (record { txid = txid; attempt = (tried txid d.tries).begun + 1 }) root on
       attempt txid false off = absurd (no_root root off)
 
-      free : (o : Option ℕ) → free_txid t cut d ≡ o → next_by t cut d o ≡ Some root → length d.pending < t.pending → IsNextRoot root
+      free : (o : Option ℕ) → free_txid t cut d ≡ o → option_and_then (next_attempt t cut d) o ≡ Some root → length d.pending < t.pending → IsNextRoot root
       free None e on room = absurd (no_root root on)
       free (Some txid) e on room =
-          let same = attempt txid (nat_lt (attempts_of txid d.attempts) t.attempts) on in
-          let both = free_is txid e in
-          rw (← same) (record { fresh = both.0; number = refl; there = both.1; room = room })
+          let same = attempt txid (nat_lt (tried txid d.tries).begun (2 ^ 32 - 1)) on in
+          let none = not_true (has_txid txid d.pending)
+          (passes (λ (k : ℕ). not (has_txid k d.pending)) (range_with_len (d.committed + 1) (min (length d.pending + 1) (last_txid - d.committed))) txid e) in
+          rw (← same) (record { fresh = none; number = refl; room = room })
 
-      by : (b : Bool) → nat_lt (length d.pending) t.pending ≡ b → cond b (next_by t cut d (free_txid t cut d)) None ≡ Some root → IsNextRoot root
+      by : (b : Bool) → nat_lt (length d.pending) t.pending ≡ b → cond b (option_and_then (next_attempt t cut d) (free_txid t cut d)) None ≡ Some root → IsNextRoot root
       by true on is = free (free_txid t cut d) refl is (below (length d.pending) t.pending on)
       by false off is = absurd (no_root root is)

@@ -1,5 +1,8 @@
-pub mod Steps
-pub mod Ending
-pub mod Passing
-pub mod Opening
-pub mod Turning
+mod Steps
+mod Passing
+mod Ending
+mod Dropping
+mod Ticking
+mod Copying
+mod Opening
+mod Turning

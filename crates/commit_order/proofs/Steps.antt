@@ -1,15 +1,16 @@
 -- The attempts in flight as the pending attempts that the coordinator knows.
-use Rattle.std.proofs.Common.{◌≡◌, ◌≢◌, ℕ, ◌+◌, ◌-◌, ◌^◌, ◌==◌, ◌||◌, ◌&&◌, Bool, true, false, not, cond, Option, Some, None, List, [], ◌∷◌, ◌++◌, map, filter, refl, sym, ap, ap₂, ◌∙◌, Bor, arith}
+use Rattle.std.proofs.Common.{◌≡◌, ◌≢◌, ℕ, ◌+◌, ◌-◌, ◌^◌, ◌==◌, ◌||◌, ◌&&◌, Bool, true, false, not, cond, Option, Some, None, List, [], ◌∷◌, ◌++◌, map, filter, refl, sym, ap, ap₂, subst, ◌∙◌, Bor, arith}
 use Rattle.std.specs.Prelude.{if◌then◌else◌, is_some, option_copied}
-use Rattle.std.specs.List.{find, list_any}
+use Rattle.std.specs.List.{AllByRecursion, find, list_any}
 use Rattle.std.specs.Option.{option_map}
 use Rattle.std.proofs.lemmas.Bool.Decides.{nat_tests}
 use Rattle.std.proofs.lemmas.List.{map-append}
-use Rattle.attempt_fates.specs.declared.fates.Attempt.{Attempt}
-use Rattle.attempt_fates.specs.declared.fates.End.TheVariants.{TimedOut}
-use Rattle.commit_order.specs.Offices.{GoesOn, HasLimitsOf, Office, Settled, timed_out, try_at, wait_of, waits}
+use Rattle.attempt_fates.specs.declared.fates.End.{End}
+use Rattle.commit_order.specs.Offices.{AreWithin, Office, Settled, cut_by, entry_ended, wait_of, waits}
 use Rattle.commit_turns.specs.Desks.{ended_at, has_txid, is_late, is_of_root, settled, timed_of, without}
-use Rattle.commit_turns.specs.Turns.{begun, fresh, last_tick, last_try, late_at, one_tick}
+use Rattle.commit_turns.specs.Turns.{last_tick}
+use Rattle.record_offers.specs.Offers.{OfferState, with_gone}
+use Rattle.taken_records.specs.Taken.{marked}
 use Rattle.commit_turns.specs.declared.wait.Wait.{Wait}
 use Rattle.record_spans.specs.declared.span.Span.{Span}
 use Rattle.replay_pending.specs.declared.entry.Entry.{Entry}
@@ -18,20 +19,19 @@ use Rattle.replay_pending.specs.InFlight.{AreDistinct, InFlight}
 use Rattle.replay_pending.proofs.Found.{first_of_two, found_again, passes}
 use Rattle.tuple_account.proofs.rotating_ledger.RootLemmas.{root_eq-same}
 use Rattle.tuple_account.specs.rotating_ledger.Held.{root_eq}
-use Rattle.tuple_account.specs.storm_values.Lines.{first_some}
 use Rattle.tuple_account.specs.storm_values.declared.value.Root.{Root}
 use Rattle.tuple_account.specs.topology_plan.Topology.{Topology}
-use Rattle.trident_batches.specs.Batches.{Cut}
 
 -- an office by its parts
-abbrev pub office_by : Topology → Cut → ℕ → InFlight Settled → Bool → Option ℕ → Office
-office_by t cut committed p out exhausted = record {
+abbrev pub office_by : Topology → List Span → OfferState → ℕ → InFlight Settled → Bool → Option ℕ → Office
+office_by t began offers committed p out exhausted = record {
   topology = t;
-  cut = cut;
+  cut = cut_by offers began;
   desk = record {
     tick = p.tick;
     committed = committed;
-    attempts = p.attempts;
+    tries = p.tries;
+    gone = offers.gone;
     pending = waits p.pending;
     out = out;
     exhausted = exhausted;
@@ -41,7 +41,7 @@ office_by t cut committed p out exhausted = record {
 -- ---- tests over lists that were mapped
 
 module _ {X Y : Type 0} (f : X → Y) (P : Y → Bool) where
-  filter-map : (xs : List X) → filter P (map f xs) ≡ map f (filter (λ (x : X). P (f x)) xs)
+  pub filter-map : (xs : List X) → filter P (map f xs) ≡ map f (filter (λ (x : X). P (f x)) xs)
   filter-map [] = refl
   filter-map (x ∷ xs) = by (P (f x)) (filter-map xs)
     where
@@ -141,74 +141,115 @@ waits-settled root list (e ∷ es) = ap₂ (λ w ws. w ∷ ws) (by (root_eq root
     by true = refl
     by false = refl
 
-module _ (t : Topology) (cut : Cut) (committed : ℕ) (p q : InFlight Settled) (out : Bool) (exhausted : Option ℕ) where
+module _ (t : Topology) (began : List Span) (offers : OfferState) (committed : ℕ) (p q : InFlight Settled) (out : Bool) (exhausted : Option ℕ) where
+  abbrev before : Office
+  before = office_by t began offers committed p out exhausted
+
   pub settle_step : (root : Root) (list : Settled) → q ≡ record p { pending = flight.settled root list p.pending }
-      → office_by t cut committed q out exhausted
-      ≡ record (office_by t cut committed p out exhausted) {
-        desk = record (office_by t cut committed p out exhausted).desk { pending = settled root list (waits p.pending) };
-      }
+      → office_by t began offers committed q out exhausted ≡ record before { desk = record before.desk { pending = settled root list (waits p.pending) } }
   settle_step root list is =
-      ap (λ r. office_by t cut committed r out exhausted) is
-      ∙ ap (λ ws. record (office_by t cut committed p out exhausted) { desk = record (office_by t cut committed p out exhausted).desk { pending = ws } })
-      (waits-settled root list p.pending)
+      ap (λ r. office_by t began offers committed r out exhausted) is
+      ∙ ap (λ ws. record before { desk = record before.desk { pending = ws } }) (waits-settled root list p.pending)
 
   pub end_step : (root : Root) → q ≡ record p { pending = flight.ended root p.pending }
-      → office_by t cut committed q out exhausted
-      ≡ record (office_by t cut committed p out exhausted) {
-        desk = record (office_by t cut committed p out exhausted).desk { pending = without root (waits p.pending) };
-      }
+      → office_by t began offers committed q out exhausted ≡ record before { desk = record before.desk { pending = without root (waits p.pending) } }
   end_step root is =
-      ap (λ r. office_by t cut committed r out exhausted) is
-      ∙ ap (λ ws. record (office_by t cut committed p out exhausted) { desk = record (office_by t cut committed p out exhausted).desk { pending = ws } })
+      ap (λ r. office_by t began offers committed r out exhausted) is
+      ∙ ap (λ ws. record before { desk = record before.desk { pending = ws } }) (waits-ended p.pending root)
+
+  pub abort_step : (root : Root) (spans : List Span) (new : OfferState) → q ≡ flight.aborted root p → new ≡ with_gone offers (marked false spans offers.gone)
+      → office_by t began new committed q out exhausted
+      ≡ record before { desk = record before.desk {
+        tries = flight.with_aborted root.txid p.tries;
+        gone = marked false spans offers.gone;
+        pending = without root (waits p.pending);
+      } }
+  abort_step root spans new is back =
+      ap₂ (λ r o. office_by t began o committed r out exhausted) is back
+      ∙ ap (λ ws. record before { desk = record before.desk { tries = flight.with_aborted root.txid p.tries; gone = marked false spans offers.gone; pending = ws } })
       (waits-ended p.pending root)
+
+  pub begin_step : (root : Root) (spans : List Span) (new : OfferState) → q ≡ flight.begun root spans p → new ≡ with_gone offers (marked true spans offers.gone)
+      → office_by t began new committed q out exhausted
+      ≡ record before { desk = record before.desk {
+        tries = flight.with_begun root.txid root.attempt p.tries;
+        gone = marked true spans offers.gone;
+        pending = waits p.pending ++ record { root = root; spans = spans; start = p.tick; settled = None } ∷ [];
+      } }
+  begin_step root spans new is back =
+      ap₂ (λ r o. office_by t began o committed r out exhausted) is back
+      ∙ ap (λ ws. record before { desk = record before.desk { tries = flight.with_begun root.txid root.attempt p.tries; gone = marked true spans offers.gone; pending = ws } })
+      (map-append wait_of p.pending (flight.fresh root spans p.tick ∷ []))
 
 -- ---- one tick
 
-late-tries : (t : Topology) (cut : Cut) (tick : ℕ) (es : List (Entry Settled))
-    → map (try_at t) es ≡ map (last_try t cut) (map (ended_at tick TimedOut) (waits es))
-late-tries t cut tick [] = refl
-late-tries t cut tick (e ∷ es) = ap (λ rest. try_at t e ∷ rest) (late-tries t cut tick es)
-
-late-ends : (tick : ℕ) (es : List (Entry Settled)) → map (timed_out tick) es ≡ map (ended_at tick TimedOut) (waits es)
-late-ends tick [] = refl
-late-ends tick (e ∷ es) = ap (λ rest. timed_out tick e ∷ rest) (late-ends tick es)
+pub late-ends : (tick : ℕ) (end : End) (es : List (Entry Settled)) → map (entry_ended tick end) es ≡ map (ended_at tick end) (waits es)
+late-ends tick end [] = refl
+late-ends tick end (e ∷ es) = ap (λ rest. entry_ended tick end e ∷ rest) (late-ends tick end es)
 
 -- a tick changes something where its number is not the last
 pub ticks_on : (exhausted : Option ℕ) (tick : ℕ) → (if is_some exhausted then true else tick == last_tick) ≡ false → tick ≢ 2 ^ 64 - 1
 ticks_on None tick off = grind (arith, nat_tests)
 ticks_on (Some txid) tick off = absurd (cc)
 
-module _ (t : Topology) (cut : Cut) (p : InFlight Settled) (told : List (Entry Settled)) where
-  -- what a tick tells
-  pub record TickTells : Type 0 where
-    pub attempts : map (timed_out (p.tick + 1)) told ≡ late_at t cut (p.tick + 1) (waits p.pending)
-    pub tries : map (try_at t) told ≡ map (last_try t cut) (late_at t cut (p.tick + 1) (waits p.pending))
+-- those that a tick tells are the pending attempts that are late
+pub waits-late : (buckets tick : ℕ) (es : List (Entry Settled)) → waits (filter (flight.is_late buckets tick) es) ≡ filter (is_late buckets tick) (waits es)
+waits-late buckets tick es = sym (filter-map wait_of (is_late buckets tick) es)
 
-  pub tick_tells : HasLimitsOf t p → told ≡ flight.due p → TickTells
-  tick_tells limits is =
-      let late : waits told ≡ filter (is_late t.buckets (p.tick + 1)) (waits p.pending) =
-      ap waits is ∙ ap (λ b. waits (filter (flight.is_late b (p.tick + 1)) p.pending)) limits.buckets
-      ∙ sym (filter-map wait_of (is_late t.buckets (p.tick + 1)) p.pending) in
-      record {
-        attempts = late-ends (p.tick + 1) told ∙ ap (map (ended_at (p.tick + 1) TimedOut)) late;
-        tries = late-tries t cut (p.tick + 1) told ∙ ap (λ ws. map (last_try t cut) (map (ended_at (p.tick + 1) TimedOut) ws)) late;
-      }
+pub waits-in_time : (buckets tick : ℕ) (es : List (Entry Settled))
+    → waits (filter (λ (e : Entry Settled). not (flight.is_late buckets tick e)) es) ≡ filter (λ (w : Wait). not (is_late buckets tick w)) (waits es)
+waits-in_time buckets tick es = sym (filter-map wait_of (λ (w : Wait). not (is_late buckets tick w)) es)
 
--- a tick is a step of what is known
-pub tick_goes : (t : Topology) (cut : Cut) (committed : ℕ) (p q : InFlight Settled) (out : Bool) (exhausted stop : Option ℕ) (told : List (Entry Settled))
-    → (fates tells : List Attempt) → HasLimitsOf t p → q ≡ flight.ticked p → TickTells t cut p told
-    → stop ≡ first_some (map (try_at t) told) → tells ≡ fates ++ map (timed_out (p.tick + 1)) told
-    → GoesOn (one_tick t cut (office_by t cut committed p out exhausted).desk) (office_by t cut committed p out exhausted)
-    (office_by t cut committed q out stop) fates tells
-tick_goes t cut committed p q out exhausted stop told fates tells limits is what stops adds =
-    let kept : waits (flight.ticked p).pending ≡ filter (λ (w : Wait). not (is_late t.buckets (p.tick + 1) w)) (waits p.pending) =
-    ap (λ b. waits (filter (λ (e : Entry Settled). not (flight.is_late b (p.tick + 1) e)) p.pending)) limits.buckets
-    ∙ sym (filter-map wait_of (λ (w : Wait). not (is_late t.buckets (p.tick + 1) w)) p.pending) in
-    record {
-      office =
-          ap (λ r. office_by t cut committed r out stop) is
-          ∙ ap₂ (λ ws e. record (office_by t cut committed (flight.ticked p) out stop) {
-            desk = record (office_by t cut committed (flight.ticked p) out stop).desk { pending = ws; exhausted = e };
-          }) kept (stops ∙ ap first_some what.tries);
-      fates = adds ∙ ap (λ ends. fates ++ ends) what.attempts;
-    }
+-- ---- spans of records
+
+module _ (records : ℕ) where
+  abbrev pub Within : Entry Settled → Type 0
+  Within e = AreWithin records e.spans
+
+  pub within_some : (p : Entry Settled → Bool) (es : List (Entry Settled)) → AllByRecursion Within es → AllByRecursion Within (filter p es)
+  within_some p [] all = tt
+  within_some p (e ∷ es) all = by (p e) (within_some p es all.1)
+    where
+      by : (b : Bool) → AllByRecursion Within (filter p es) → AllByRecursion Within (cond b (e ∷ filter p es) (filter p es))
+      by true rest = (all.0, rest)
+      by false rest = rest
+
+  pub within_parts : (p : Entry Settled → Bool) (es : List (Entry Settled)) → AllByRecursion Within (filter p es) → AllByRecursion Within (filter (λ e. not (p e)) es)
+      → AllByRecursion Within es
+  within_parts p [] some others = tt
+  within_parts p (e ∷ es) some others = by (p e) some others (within_parts p es)
+    where
+      by : (b : Bool) → AllByRecursion Within (cond b (e ∷ filter p es) (filter p es)) → AllByRecursion Within (cond (not b) (e ∷ filter (λ x. not (p x)) es) (filter (λ x. not (p x)) es))
+          → (AllByRecursion Within (filter p es) → AllByRecursion Within (filter (λ x. not (p x)) es) → AllByRecursion Within es) → AllByRecursion Within (e ∷ es)
+      by true one two rest = (one.0, rest one.1 two)
+      by false one two rest = (two.0, rest one two.1)
+
+  pub within_settled : (root : Root) (list : Settled) (es : List (Entry Settled)) → AllByRecursion Within es → AllByRecursion Within (flight.settled root list es)
+  within_settled root list [] all = tt
+  within_settled root list (e ∷ es) all = (by (root_eq root e.root), within_settled root list es all.1)
+    where
+      by : (b : Bool) → Within (cond b (record e { settled = Some list }) e)
+      by true = all.0
+      by false = all.0
+
+  pub within_push : (es : List (Entry Settled)) (e : Entry Settled) → AllByRecursion Within es → Within e → AllByRecursion Within (es ++ e ∷ [])
+  within_push [] e all one = (one, tt)
+  within_push (x ∷ es) e all one = (all.0, within_push es e all.1 one)
+
+  pub within_found : (p : Entry Settled → Bool) (es : List (Entry Settled)) (e : Entry Settled) → AllByRecursion Within es → find p es ≡ Some e → Within e
+  within_found p [] e all is = absurd (none_is is)
+    where
+      none_is : None ≡ Some e → ⊥
+      none_is same = cc
+  within_found p (x ∷ es) e all is = by (p x) is (within_found p es e all.1)
+    where
+      same : Some x ≡ Some e → x ≡ e
+      same eq = ap (of x) eq
+        where
+          of : Entry Settled → Option (Entry Settled) → Entry Settled
+          of d None = d
+          of d (Some z) = z
+
+      by : (b : Bool) → cond b (Some x) (find p es) ≡ Some e → (find p es ≡ Some e → Within e) → Within e
+      by true here rest = subst Within (same here) all.0
+      by false there rest = rest there

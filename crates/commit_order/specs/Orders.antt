@@ -20,7 +20,7 @@ use Rattle.tuple_account.specs.topology_plan.Topology.{Topology, tasks_in_all}
 use Rattle.tuple_account.specs.topology_plan.declared.parts.Origin.TheVariants as origin
 use Rattle.tuple_account.specs.tree_model.Trees.{kids}
 use Rattle.tuple_account.specs.tree_model.declared.messages.Parcel.{Parcel}
-use Rattle.trident_batches.specs.Batches.{Cut}
+use Rattle.taken_records.specs.Cuts.{Cut}
 use Rattle.tuple_account.specs.Histories.{Opening, opening_parcels}
 
 -- an attempt begins with its records and these ids, the first of which is at this place
@@ -120,10 +120,10 @@ module _ {I : Type 0} where
   abbrev pub StaysOwn : Coordinator I → Type 0
   StaysOwn c = wanted_memory c ≡ false → IsOwn c
 
-  -- of a plan and its batches, with nothing begun, and its collector drew the start words
+  -- of a plan and these offers, with nothing begun, and its collector drew the start words
   pub record IsFirst (tells : I → (ℕ → ℕ) → ℕ → Type 0) (t : Topology) (cut : Cut) (ids : I)
       (made : Coordinator I) : Type 0 where
-    pub office : office_of made ≡ record { topology = t; cut = cut; desk = first_desk }
+    pub office : office_of made ≡ record { topology = t; cut = cut; desk = first_desk cut }
     pub collector : IsStarted tells t origin.Spout (tasks_in_all t) ids (collector_of made)
     pub has_memory : wanted_memory made ≡ false
 
@@ -172,18 +172,18 @@ module _ {I : Type 0} where
 
   -- Attempts begin so far, and in so many places at most more begin: all of them are what began,
   -- and then the rest.
-  pub record Fills (tells : I → (ℕ → ℕ) → ℕ → Type 0) (places left : ℕ) (old new : Coordinator I)
-      (parcels : List Parcel) : Type 0 where
+  pub record Fills (tells : I → (ℕ → ℕ) → ℕ → Type 0) (shut places left : ℕ)
+      (old new : Coordinator I) (parcels : List Parcel) : Type 0 where
     pub so_far : List Wait
     pub own : IsOwn new
     pub office : office_of new ≡ comes_to (desk_of new) old
     pub begun : Begins tells (cut_of old) (collector_of old) (collector_of new) so_far
         parcels
     pub has_memory : wanted_memory new ≡ wanted_memory old
-    pub desk : (filled (plan_of old) (cut_of old) places (desk_of old)).desk
-        ≡ (filled (plan_of old) (cut_of old) left (desk_of new)).desk
-    pub all : (filled (plan_of old) (cut_of old) places (desk_of old)).begun
-        ≡ so_far ++ (filled (plan_of old) (cut_of old) left (desk_of new)).begun
+    pub desk : (filled (plan_of old) (cut_of old) shut places (desk_of old)).desk
+        ≡ (filled (plan_of old) (cut_of old) shut left (desk_of new)).desk
+    pub all : (filled (plan_of old) (cut_of old) shut places (desk_of old)).begun
+        ≡ so_far ++ (filled (plan_of old) (cut_of old) shut left (desk_of new)).begun
 
   -- a turn may come: no ordered commit is out, or the coordinator stopped
   abbrev pub MayTurn : Coordinator I → Type 0

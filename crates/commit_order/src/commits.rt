@@ -1,8 +1,8 @@
-ghost use Rattle.std.specs.Prelude.{◌≡◌, ◌+◌, Some, IsSome, IfOk, OnOk, OnErr};
+ghost use Rattle.std.specs.Prelude.{◌≡◌, Some, IsSome, IfOk, OnOk, OnErr};
 ghost use Rattle.std.specs.Option.{option_map};
-ghost use Rattle.commit_order.specs.Offices.{AddsSome, GoesOn, IsCommitOf, counted_by, wait_of};
+ghost use Rattle.commit_order.specs.Offices.{AddsSome, GoesOn, IsCommitOf, wait_of, with_commit};
 ghost use Rattle.commit_turns.specs.declared.wait.Wait.{Wait};
-ghost use Rattle.commit_turns.specs.Turns.{decided, end_by, next_to_commit, ordered};
+ghost use Rattle.commit_turns.specs.Turns.{decided, next_to_commit, ordered};
 
 use crate::office::Office;
 use crate::settled::Settled;
@@ -11,7 +11,6 @@ use commit_turns::Wait;
 use replay_pending::Entry;
 use state_parts::{Commit, CommitOutcome};
 use std::alloc::Global;
-use tuple_account::message_lists::Notes;
 use tuple_account::storm_values::{Memory, Root};
 
 impl<'p> Office<'p> {
@@ -45,6 +44,35 @@ impl<'p> Office<'p> {
         let Some(root) = self.next_to_commit() else {
             return Ok(());
         };
+        match how {
+            CommitOutcome::Done => self.end_committed(root, fates),
+            CommitOutcome::Failed {
+                component,
+                part,
+                before,
+                after,
+            } => {
+                let end = End::CommitFailed {
+                    component,
+                    part,
+                    before,
+                    after,
+                };
+                self.end_aborted(root, end, fates)
+            }
+        }
+    }
+
+    // The attempt that is committed next ends by its commit.
+    fn end_committed(&mut self, root: Root, fates: &mut Fates) -> Result<(), Memory>
+        requires { option_map (λ (w : Wait). w.root)
+            (next_to_commit self.old.topology self.old.cut self.old.desk) ≡ Some root }
+        ensures ok { (w : Wait)
+            → next_to_commit self.old.topology self.old.cut self.old.desk ≡ Some w
+            → OnOk result (GoesOn (with_commit self.old w) self.old self.new
+            fates.old fates.new) }
+        ensures err { OnErr result (fates.new ≡ fates.old) }
+    {
         let Some(wait) = self.take(root) else {
             unreachable!()
         };
@@ -54,13 +82,14 @@ impl<'p> Office<'p> {
             start,
             settled,
         } = wait;
-        let end = self.end_by(root, how, settled);
+        let Some(list) = settled else { unreachable!() };
+        self.committed = root.txid;
         fates.push(Attempt {
             root,
             spans,
             start,
             finish: self.flight.tick_number(),
-            end,
+            end: End::Committed(list),
         })
     }
 
@@ -72,37 +101,6 @@ impl<'p> Office<'p> {
         match self.flight.settled_after(self.committed) {
             Some(entry) => Some(entry.root),
             None => None,
-        }
-    }
-
-    // The end of an attempt whose commit came to this, which counts.
-    fn end_by(&mut self, root: Root, how: CommitOutcome, settled: Option<Notes>) -> End
-        requires txid { root.txid ≡ self.old.desk.committed + 1 }
-        requires settled { IsSome settled }
-        ensures end { result ≡ end_by self.old.topology self.old.cut how settled }
-        ensures counted { self.new ≡ record self.old
-            { desk = counted_by self.old.topology how root self.old.desk } }
-    {
-        let Some(list) = settled else { unreachable!() };
-        match how {
-            CommitOutcome::Done => {
-                self.committed = root.txid;
-                End::Committed(list)
-            }
-            CommitOutcome::Failed {
-                component,
-                part,
-                before,
-                after,
-            } => {
-                self.exhausted = self.last_try(root);
-                End::CommitFailed {
-                    component,
-                    part,
-                    before,
-                    after,
-                }
-            }
         }
     }
 }

@@ -1,9 +1,8 @@
-ghost use Rattle.std.specs.Prelude.{◌≡◌, OnOk, OnErr};
+ghost use Rattle.std.specs.Prelude.{Some, OnOk, OnErr};
 ghost use Rattle.commit_turns.specs.Desks.{timed_of};
 ghost use Rattle.commit_turns.specs.Turns.{complete_timed, end_timed, heard, is_closed};
-ghost use Rattle.commit_order.specs.Offices.{AddsSome, GoesOn, try_of};
+ghost use Rattle.commit_order.specs.Offices.{AddsSome, GoesOn};
 
-use crate::ends::ended;
 use crate::office::Office;
 use crate::settled::Settled;
 use attempt_fates::{End, Fates};
@@ -50,7 +49,7 @@ impl<'p> Office<'p> {
         }
     }
 
-    // A timed attempt ends, where it is one.
+    // A timed attempt aborts, where it is one.
     fn end_timed(&mut self, root: Root, end: End, fates: &mut Fates) -> Result<(), Memory>
         ensures ok { OnOk result (GoesOn
             (end_timed self.old.topology self.old.cut end
@@ -64,21 +63,6 @@ impl<'p> Office<'p> {
         let Some(_) = self.flight.timed(root) else {
             return Ok(());
         };
-        let Some(wait) = self.take(root) else {
-            unreachable!()
-        };
-        self.exhausted = self.last_try(root);
-        fates.push(ended(wait, self.flight.tick_number(), end))
-    }
-
-    // The transaction of an attempt that was the last of those that the plan allows.
-    pub fn last_try(&self, root: Root) -> Option<u64>
-        ensures { result ≡ try_of self.now.topology root }
-    {
-        if root.attempt < self.plan.attempts() {
-            None
-        } else {
-            Some(root.txid)
-        }
+        self.end_aborted(root, end, fates)
     }
 }

@@ -8,9 +8,11 @@
 mod begins;
 mod commits;
 mod coordinator;
+mod drops;
 mod ends;
 mod hear;
 mod office;
+mod rows;
 mod settled;
 mod stop;
 mod ticks;
@@ -22,12 +24,15 @@ pub use commit_turns;
 pub use commit_writes;
 pub use coordinator::{Coordinator, Orders};
 pub use output_collector;
+pub use record_offers;
+pub use record_offers::Offers;
 pub use record_spans;
+pub use replay_pending;
 pub use state_parts;
 pub use state_parts::{Commit, CommitOutcome, Parts};
 pub use stop::Stop;
 pub use storm_ids;
-pub use trident_batches;
+pub use taken_records;
 pub use tuple_account;
 pub use tuple_account::{
     acker_core, bolt_ops, counted_items, message_lists, rotating_ledger, storm_values,

@@ -1,24 +1,22 @@
-ghost use Rattle.std.specs.Prelude.{◌≡◌, length, Bool, Some, IfOk, IfSome, IsSome};
+ghost use Rattle.std.specs.Prelude.{◌≡◌, Bool, false, Some, IfOk};
 ghost use Rattle.std.specs.List.{find};
-ghost use Rattle.commit_order.specs.Offices.{IsBatch};
-ghost use Rattle.attempt_fates.specs.Fates.{batch_spans};
-ghost use Rattle.commit_turns.specs.Account.{rows_at};
 ghost use Rattle.commit_turns.specs.Desks.{first_desk, without};
 ghost use Rattle.commit_turns.specs.declared.wait.Wait.{Wait};
 ghost use Rattle.commit_turns.specs.Turns.{is_finished};
-ghost use Rattle.trident_batches.specs.Batches.{first_of, last_of};
+ghost use Rattle.replay_pending.specs.InFlight.{with_aborted};
+ghost use Rattle.taken_records.specs.Taken.{marked};
 ghost use Rattle.tuple_account.specs.Histories.{acker_of};
 
 use crate::ends::into_wait;
 use crate::settled::Settled;
-use attempt_fates::batches_are_the_records_of_their_spans;
 use commit_turns::Wait;
-use record_spans::{Span, Spans};
+use record_offers::Offers;
+use record_spans::Spans;
 use replay_pending::Pending;
 use std::alloc::Global;
 use std::marker::Model;
-use trident_batches::Batches;
-use tuple_account::storm_values::{Memory, Root, Row};
+use taken_records::marks_are_set;
+use tuple_account::storm_values::{Memory, Root};
 use tuple_account::topology_plan::Plan;
 
 /// What the coordinator knows of the batches of a plan, apart from ids and targets.
@@ -26,7 +24,9 @@ use tuple_account::topology_plan::Plan;
 pub(crate) struct Office<'p> {
     pub alloc: Global,
     pub plan: &'p Plan,
-    pub batches: Batches,
+    pub offers: Offers,
+    // the records that were gone at the start
+    pub began: Spans,
     pub committed: u64,
     pub flight: Pending<Settled>,
     pub out: bool,
@@ -34,48 +34,55 @@ pub(crate) struct Office<'p> {
 }
 
 impl<'p> Model for Office<'p> {
-    ghost use Rattle.commit_order.specs.Offices.{HasLimitsOf, Office, waits};
+    ghost use Rattle.commit_order.specs.Offices.{IsInFlight, Office, cut_by, waits};
 
     ghost Value = { Office };
 
+    ghost use Rattle.std.specs.Prelude.{length};
     ghost use Rattle.std.specs.Coded.{codes, coded_ℕ};
     ghost use Rattle.std.specs.FinMap as fin_map;
     ghost use Rattle.std.specs.Ordering.{nat_cmp};
+    ghost use Rattle.replay_pending.specs.InFlight.{tried_code};
 
-    ghost coded = { Prim.hlevel (codes, fin_map.code {R = nat_cmp} coded_ℕ coded_ℕ) };
+    ghost coded = { Prim.hlevel (codes, fin_map.code {R = nat_cmp} coded_ℕ tried_code) };
 
     ghost view = { λ o. record {
       topology = o.plan.now;
-      cut = o.batches;
+      cut = cut_by o.offers o.began;
       desk = record {
         tick = o.flight.tick;
         committed = o.committed;
-        attempts = o.flight.attempts;
+        tries = o.flight.tries;
+        gone = o.offers.gone;
         pending = waits o.flight.pending;
         out = o.out;
         exhausted = o.exhausted;
       };
     } };
 
-    ghost invariant = { λ o. HasLimitsOf o.plan.now o.flight };
+    ghost invariant = { λ o. IsInFlight o.plan.now (length o.offers.records) o.flight };
 }
 
 impl<'p> Office<'p> {
-    /// Nothing is pending.
-    pub fn new(alloc: Global, plan: &'p Plan, batches: Batches) -> Self
-        ensures { result
-            ≡ record { topology = plan.now; cut = batches; desk = first_desk } }
+    /// Nothing is pending, and the offers are as they are now.
+    pub fn new(alloc: Global, plan: &'p Plan, offers: Offers) -> Result<Self, Memory>
+        ensures { IfOk result (λ office. office
+            ≡ record { topology = plan.now; cut = offers; desk = first_desk offers }) }
     {
         plan.facts();
-        Office {
+        let _left = offers.left();
+        let began = offers.gone_spans()?;
+        marks_are_set();
+        Ok(Office {
             alloc,
             plan,
-            batches,
-            committed: 0,
+            began,
+            committed: offers.start(),
             flight: Pending::new(alloc, plan.pending(), plan.buckets()),
+            offers,
             out: false,
             exhausted: None,
-        }
+        })
     }
 
     pub fn exhausted(&self) -> Option<u64>
@@ -93,7 +100,7 @@ impl<'p> Office<'p> {
     pub fn is_finished(&self) -> bool
         ensures { result ≡ is_finished self.now.topology self.now.cut self.now.desk }
     {
-        self.committed == self.batches.count()
+        self.offers.left() == 0 && self.flight.len() == 0
     }
 
     /// Whether a commit was ordered whose outcome was not told yet.
@@ -118,18 +125,6 @@ impl<'p> Office<'p> {
         (root.txid % u64::from(self.plan.ackers())) as u32
     }
 
-    /// The records of a batch.
-    pub fn batch(&self, txid: u64) -> Option<&[Row]>
-        requires { IsBatch self.now.cut txid }
-        ensures there { IsSome result }
-        ensures records { IfSome result (λ rows. rows.now ≡ rows_at self.now.cut
-            (batch_spans (length self.now.cut.records) self.now.cut.size txid)) }
-    {
-        let _size = self.batches.size();
-        batches_are_the_records_of_their_spans();
-        self.batches.batch(txid)
-    }
-
     /// The pending attempt of a root, which is pending no longer.
     pub fn take(&mut self, root: Root) -> Option<Wait>
         ensures taken { (like : Wait → Bool) (w : Wait)
@@ -145,27 +140,27 @@ impl<'p> Office<'p> {
         }
     }
 
-    /// The records of a batch, as spans.
-    pub fn spans(&self, txid: u64) -> Result<Spans, Memory>
-        requires { IsBatch self.now.cut txid }
-        ensures { IfOk result (λ spans. spans
-            ≡ batch_spans (length self.now.cut.records) self.now.cut.size txid) }
+    /// The pending attempt of a root aborts: it is pending no longer, it is counted, and its records
+    /// come back.
+    pub fn abort(&mut self, root: Root) -> Option<Wait>
+        ensures taken { (like : Wait → Bool) (w : Wait)
+            → find like self.old.desk.pending ≡ Some w → w.root ≡ root → result ≡ Some w }
+        ensures left { (w : Wait) → result ≡ Some w → self.new ≡ record self.old {
+          desk = record self.old.desk {
+            tries = with_aborted root.txid self.old.desk.tries;
+            gone = marked false w.spans self.old.desk.gone;
+            pending = without root self.old.desk.pending;
+          };
+        } }
     {
-        let (first, last) = self.records(txid);
-        let mut spans = Spans::new(self.alloc);
-        spans.push(Span { first, last })?;
-        Ok(spans)
-    }
-
-    // The numbers of the first and the last record of a batch.
-    fn records(&self, txid: u64) -> (u64, u64)
-        requires { IsBatch self.now.cut txid }
-        ensures first { result.0 ≡ first_of self.now.cut.size txid }
-        ensures last { result.1 ≡ last_of (length self.now.cut.records) self.now.cut.size txid }
-    {
-        let size = self.batches.size();
-        let records = self.batches.rows().len() as u64;
-        let before = (txid - 1) * size;
-        (before + 1, before + size.min(records - before))
+        self.flight.pending_are_few();
+        match self.flight.abort(root) {
+            Some(entry) => {
+                marks_are_set();
+                self.offers.put_back(&entry.spans);
+                Some(into_wait(entry))
+            }
+            None => None,
+        }
     }
 }

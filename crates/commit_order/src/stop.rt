@@ -4,10 +4,10 @@ ghost use Rattle.commit_order.specs.declared.stop.Stop.TheVariants as stop;
 use thiserror::Error;
 use tuple_account::storm_values::{Bytes, Memory};
 
-/// Why a run stops before every batch is committed.
+/// Why a run stops before all records are committed.
 #[derive(Debug, Drop, Error)]
 pub enum Stop {
-    /// All attempts of this transaction that a plan allows have ended, none by a commit.
+    /// As many attempts of this transaction as a plan allows have aborted, and none was committed.
     #[error("all attempts of transaction {0} have ended")]
     Exhausted(u64),
     /// A store has a cell at this key that its part does not take.

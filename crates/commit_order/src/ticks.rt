@@ -1,15 +1,23 @@
-ghost use Rattle.std.specs.Prelude.{◌≡◌, ◌++◌, false, map, OnOk, OnErr};
-ghost use Rattle.tuple_account.specs.storm_values.Lines.{first_some};
+ghost use Rattle.std.specs.Prelude.{◌≡◌, ◌++◌, false, length, map, slice_get, OnOk, OnErr};
+ghost use Rattle.std.specs.List.{AllByRecursion};
+ghost use Rattle.std.specs.Option.{option_map};
+ghost use Rattle.attempt_fates.specs.declared.fates.End.TheVariants as end;
 ghost use Rattle.commit_turns.specs.Turns.{has_no_tick, heard, one_tick, passed, ticked};
-ghost use Rattle.commit_order.specs.Offices.{AddsSome, GoesOn, timed_out, try_at};
+ghost use Rattle.commit_order.specs.Offices.{AddsSome, AreWithin, GoesOn, entry_ended, entry_spans, try_at};
+ghost use Rattle.record_offers.specs.Offers.{with_gone};
+ghost use Rattle.replay_pending.specs.declared.entry.Entry.{Entry};
+ghost use Rattle.taken_records.specs.Taken.{put_back};
+ghost use Rattle.tuple_account.specs.storm_values.Lines.{first_some};
 
 use crate::ends::{ended, into_wait};
 use crate::office::Office;
 use crate::settled::Settled;
 use attempt_fates::{End, Fates};
+use record_offers::Offers;
 use replay_pending::Entry;
+use taken_records::marks_are_set;
 use tuple_account::acker_core::Verdict;
-use tuple_account::storm_values::Memory;
+use tuple_account::storm_values::{Memory, Root};
 
 impl<'p> Office<'p> {
     /// A verdict is heard, if there is one, and then the ticks pass.
@@ -59,7 +67,8 @@ impl<'p> Office<'p> {
         self.exhausted.is_some() || self.flight.tick_number() == u64::MAX
     }
 
-    // One tick passes: the attempts that are late end, in the order of their begins.
+    // One tick passes: the attempts that are late end, in the order of their begins, and others with
+    // the first of them.
     fn pass_one(&mut self, fates: &mut Fates) -> Result<(), Memory>
         requires { has_no_tick self.old.topology self.old.cut self.old.desk ≡ false }
         ensures ok { OnOk result (GoesOn
@@ -70,33 +79,60 @@ impl<'p> Office<'p> {
             fates.old fates.new) }
     {
         let late = self.flight.tick()?;
+        let Some(first) = first_root(&late) else {
+            return Ok(());
+        };
         self.exhausted = self.first_last_try(&late);
-        self.time_out(late, fates)
+        time_out(&mut self.offers, late, self.flight.tick_number(), fates)?;
+        self.drop_with(first, fates)
     }
 
-    // The first attempt that is the last one of those that the plan allows.
+    // The transaction of the first attempt with which as many aborted as the plan allows.
     fn first_last_try(&self, late: &[Entry<Settled>]) -> Option<u64>
-        ensures { result ≡ first_some (map (try_at self.now.topology) late.now) }
+        ensures { result ≡ first_some
+            (map (try_at self.now.topology self.now.desk.tries) late.now) }
     {
         for entry in late {
-            let last = self.last_try(entry.root);
+            let last = self.last_try(entry.root.txid);
             if last.is_some() {
                 return last;
             }
         }
         None
     }
+}
 
-    // The attempts end at the present tick.
-    fn time_out(&self, late: Vec<Entry<Settled>>, fates: &mut Fates) -> Result<(), Memory>
-        ensures ok { OnOk result (fates.new
-            ≡ fates.old ++ map (timed_out self.now.desk.tick) late.items) }
-        ensures err { OnErr result (AddsSome
-            (map (timed_out self.now.desk.tick) late.items) fates.old fates.new) }
-    {
-        for entry in late {
-            fates.push(ended(into_wait(entry), self.flight.tick_number(), End::TimedOut))?;
-        }
-        Ok(())
+// The root of the first of some attempts.
+fn first_root(late: &[Entry<Settled>]) -> Option<Root>
+    ensures { result ≡ option_map (λ (e : Entry Settled). e.root) (slice_get late.now 0) }
+{
+    match late.first() {
+        Some(entry) => Some(entry.root),
+        None => None,
     }
+}
+
+// The attempts end at a tick, in order, and their records come back.
+fn time_out(
+    offers: &mut Offers,
+    late: Vec<Entry<Settled>>,
+    tick: u64,
+    fates: &mut Fates,
+) -> Result<(), Memory>
+    requires { AllByRecursion (λ (e : Entry Settled).
+        AreWithin (length offers.old.records) e.spans) late.items }
+    ensures same { offers.new ≡ with_gone offers.old offers.new.gone }
+    ensures offers { OnOk result (offers.new
+        ≡ with_gone offers.old (put_back (map entry_spans late.items) offers.old.gone)) }
+    ensures ok { OnOk result (fates.new
+        ≡ fates.old ++ map (entry_ended tick end.TimedOut) late.items) }
+    ensures err { OnErr result (AddsSome
+        (map (entry_ended tick end.TimedOut) late.items) fates.old fates.new) }
+{
+    marks_are_set();
+    for entry in late {
+        offers.put_back(&entry.spans);
+        fates.push(ended(into_wait(entry), tick, End::TimedOut))?;
+    }
+    Ok(())
 }

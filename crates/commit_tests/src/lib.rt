@@ -2,6 +2,12 @@
 #![tactic(auto)]
 
 #[cfg(test)]
+mod partitions;
+#[cfg(test)]
 mod scenes;
 #[cfg(test)]
+mod starts;
+#[cfg(test)]
 mod turns;
+#[cfg(test)]
+mod values;

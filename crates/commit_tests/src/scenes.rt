@@ -5,14 +5,15 @@ ghost use Rattle.commit_order.specs.storm_values.Rows.{IsRow};
 
 use commit_order::acker_core::Verdict;
 use commit_order::message_lists::Notes;
+use commit_order::record_offers::possible;
+use commit_order::record_spans::{Span, Spans};
 use commit_order::state_parts::CommitOutcome;
 use commit_order::storm_ids::{IdMaker, ScriptIds, ScriptSource};
 use commit_order::storm_values::{Few, Path, Root, Rows, Seq, row_from_line};
 use commit_order::topology_plan::Plan;
 use commit_order::tree_model::{AckMsg, Done, Draw, Init, Parcel, Parcels};
-use commit_order::trident_batches::Batches;
 use commit_order::tuple_tickets::{Edge, Edges};
-use commit_order::{Attempt, Coordinator, End, Fates, Orders, Stop};
+use commit_order::{Attempt, Coordinator, End, Fates, Offers, Orders, Stop};
 use std::alloc::Global;
 use test_kit::Mismatch;
 use topology_reader::read_topology;
@@ -27,10 +28,12 @@ pub enum Told {
     Fails(Root),
 }
 
-/// A call: a turn with a verdict and ticks, or the outcome of a commit.
+/// A call: a turn with a verdict and ticks, a turn with neither while some partitions are shut, or
+/// the outcome of a commit.
 #[derive(Clone, Copy)]
 pub enum Call {
     Turn(Told, u32),
+    Shut(u16),
     Done,
     CommitFails,
 }
@@ -42,15 +45,27 @@ pub enum How {
     TimedOut,
     Coincided,
     CommitFailed,
+    Dropped(Root),
 }
 
-/// An attempt that ended, with the ticks of its begin and its end.
-#[derive(Clone, Copy, Debug, PartialEq, Eq)]
+/// An attempt that ended, with its records and the ticks of its begin and its end.
+#[derive(Clone, Copy)]
 pub struct Ended {
     pub root: Root,
+    pub records: &'static [Span],
     pub start: u64,
     pub finish: u64,
     pub how: How,
+}
+
+/// What a coordinator starts with: so many records, in so many partitions or in none, the last
+/// transaction of an earlier run, and the records that it committed.
+#[derive(Clone, Copy)]
+pub struct Start {
+    pub records: usize,
+    pub partitions: u32,
+    pub txid: u64,
+    pub gone: &'static [Span],
 }
 
 /// A call, and what it is to answer: the roots that begin, the commit that is ordered, the attempts
@@ -88,6 +103,37 @@ fn records(alloc: Global, count: usize) -> Result<Rows, Mismatch> {
         }
     }
     Ok(rows)
+}
+
+fn spans_of(alloc: Global, of: &[Span]) -> Result<Spans, Mismatch> {
+    let mut spans = Spans::new(alloc);
+    for span in of {
+        spans.push(*span)?;
+    }
+    Ok(spans)
+}
+
+// What a plan's spout offers, where an earlier run may have left such a start.
+fn offers_of(alloc: Global, plan: &Plan, start: &Start) -> Result<Offers, Mismatch> {
+    plan.facts();
+    let rows = records(alloc, start.records)?;
+    if start.partitions > 16 {
+        return Err(case_of(alloc, "partitions"));
+    }
+    if start.txid == 0 {
+        return Ok(Offers::new(rows, plan.batch(), start.partitions)?);
+    }
+    let gone = spans_of(alloc, start.gone)?;
+    if !possible(
+        plan.batch(),
+        start.partitions,
+        rows.len() as u64,
+        start.txid,
+        gone.as_slice(),
+    ) {
+        return Err(case_of(alloc, "start"));
+    }
+    Ok(Offers::after(rows, plan.batch(), start.partitions, start.txid, &gone)?)
 }
 
 // ---- verdicts
@@ -185,16 +231,16 @@ fn how_of(end: &End) -> How {
         End::TimedOut => How::TimedOut,
         End::Coincided(_) => How::Coincided,
         End::CommitFailed { .. } => How::CommitFailed,
+        End::Dropped(by) => How::Dropped(*by),
     }
 }
 
-fn ended_of(attempt: &Attempt) -> Ended {
-    Ended {
-        root: attempt.root,
-        start: attempt.start,
-        finish: attempt.finish,
-        how: how_of(&attempt.end),
-    }
+fn is_ended(attempt: &Attempt, want: &Ended) -> bool {
+    attempt.root == want.root
+        && attempt.spans.as_slice() == want.records
+        && attempt.start == want.start
+        && attempt.finish == want.finish
+        && how_of(&attempt.end) == want.how
 }
 
 // The attempts that ended since there were so many.
@@ -204,14 +250,16 @@ fn check_ended(
     before: usize,
     want: &[Ended],
 ) -> Result<(), Mismatch> {
-    let mut ended = Seq::new(alloc);
+    let mut left = want.iter();
     for attempt in fates.as_slice().iter().skip(before) {
-        ended.push(ended_of(attempt))?;
+        match left.next() {
+            Some(wanted) if is_ended(attempt, wanted) => {}
+            _ => return Err(case_of(alloc, "ended")),
+        }
     }
-    if ended.as_slice() == want {
-        Ok(())
-    } else {
-        Err(case_of(alloc, "ended"))
+    match left.next() {
+        Some(_) => Err(case_of(alloc, "ended")),
+        None => Ok(()),
     }
 }
 
@@ -246,6 +294,7 @@ fn take_turn(
     fates: &mut Fates,
     told: Told,
     ticks: u32,
+    shut: u16,
     step: &Step,
 ) -> Result<(), Mismatch>
     requires { StaysOwn coordinator.old }
@@ -255,7 +304,7 @@ fn take_turn(
     if coordinator.has_commit_out() {
         return Err(case_of(alloc, "a commit is out"));
     }
-    match coordinator.turn(fates, verdict, ticks) {
+    match coordinator.turn(fates, verdict, ticks, shut) {
         Ok(orders) => check_orders(alloc, &orders, step),
         Err(stop) => check_stop(alloc, stop, step.stop),
     }
@@ -297,7 +346,8 @@ fn make_call(
     ensures { StaysOwn coordinator.new }
 {
     match step.call {
-        Call::Turn(told, ticks) => take_turn(alloc, coordinator, fates, told, ticks, step),
+        Call::Turn(told, ticks) => take_turn(alloc, coordinator, fates, told, ticks, 0, step),
+        Call::Shut(shut) => take_turn(alloc, coordinator, fates, Told::Nothing, 0, shut, step),
         Call::Done => take_outcome(alloc, coordinator, fates, CommitOutcome::Done, step),
         Call::CommitFails => take_outcome(alloc, coordinator, fates, FAILED, step),
     }
@@ -317,26 +367,31 @@ fn check_step(
     check_ended(alloc, fates, before, step.ended)
 }
 
-/// Makes calls in turn of the coordinator of a file's plan over so many records, and compares what
-/// it answers with what it is to answer. At the end so many batches are to be committed.
+/// Makes calls in turn of the coordinator of a file's plan from such a start, and compares what it
+/// answers with what it is to answer. At the end this is to be the last transaction committed, and
+/// some record is to be left uncommitted or none.
 pub fn check_steps(
     alloc: Global,
     file: &str,
-    count: usize,
+    start: Start,
     steps: &[Step],
     committed: u64,
+    finished: bool,
 ) -> Result<(), Mismatch> {
     let plan = plan_of(alloc, file)?;
-    let batches = Batches::cut(records(alloc, count)?, plan.batch());
+    let offers = offers_of(alloc, &plan, &start)?;
     let ids = ScriptIds::new(alloc).make(plan.tasks())?;
-    let mut coordinator = Coordinator::new(alloc, &plan, batches, ids)?;
+    let mut coordinator = Coordinator::new(alloc, &plan, offers, ids)?;
     let mut fates = Fates::new(alloc);
     for step in steps {
         check_step(alloc, &mut coordinator, &mut fates, step)?;
     }
-    if coordinator.committed_count() == committed {
+    if coordinator.committed_count() != committed {
+        return Err(case_of(alloc, "committed"));
+    }
+    if coordinator.finished() == finished {
         Ok(())
     } else {
-        Err(case_of(alloc, "committed"))
+        Err(case_of(alloc, "finished"))
     }
 }

@@ -1,6 +1,6 @@
 // Turns of the coordinator by hand, from the rule of each step.
-use crate::scenes::{Call, Ended, How, Step, Told, check_steps};
-use commit_order::storm_values::Root;
+use crate::scenes::{Call, Ended, How, Start, Step, Told, check_steps};
+use crate::values::{RECORD_1, RECORD_2, ROOT_1_1, ROOT_1_2, ROOT_2_1, ROOT_2_2, ROOT_3_1};
 use test_kit::Mismatch;
 
 // Two attempts may be pending, buckets are 3, and a batch has two attempts and one record.
@@ -19,30 +19,15 @@ const ONE_PENDING: &str = r#"{"version":1,
    "fold":"count","inputs":["words"]}],
  "ackers":1,"pending":1,"buckets":3,"attempts":1}"#;
 
-const ROOT_1_1: Root = Root {
-    txid: 1,
-    attempt: 1,
-};
-
-const ROOT_1_2: Root = Root {
-    txid: 1,
-    attempt: 2,
-};
-
-const ROOT_2_1: Root = Root {
-    txid: 2,
-    attempt: 1,
-};
-
-const ROOT_2_2: Root = Root {
-    txid: 2,
-    attempt: 2,
-};
-
-const ROOT_3_1: Root = Root {
-    txid: 3,
-    attempt: 1,
-};
+// So many records, without partitions.
+fn from_first(records: usize) -> Start {
+    Start {
+        records,
+        partitions: 0,
+        txid: 0,
+        gone: &[],
+    }
+}
 
 // The first turn of two that may be pending.
 const FIRST: Step = Step {
@@ -76,6 +61,7 @@ const IN_ORDER: [Step; 6] = [
         commit: None,
         ended: &[Ended {
             root: ROOT_1_1,
+            records: RECORD_1,
             start: 0,
             finish: 0,
             how: How::Committed,
@@ -95,6 +81,7 @@ const IN_ORDER: [Step; 6] = [
         commit: None,
         ended: &[Ended {
             root: ROOT_2_1,
+            records: RECORD_2,
             start: 0,
             finish: 0,
             how: How::Committed,
@@ -105,7 +92,7 @@ const IN_ORDER: [Step; 6] = [
 
 #[test]
 fn commits_come_in_order_one_a_turn(rt: HostRuntime) -> Result<(), Mismatch> {
-    check_steps(rt.alloc(), TWO_PENDING, 3, &IN_ORDER, 2)
+    check_steps(rt.alloc(), TWO_PENDING, from_first(3), &IN_ORDER, 2, false)
 }
 
 // A failed attempt ends, and the next one begins in the same turn. A later complete verdict of the
@@ -118,6 +105,7 @@ const FAILED_ATTEMPT: [Step; 3] = [
         commit: None,
         ended: &[Ended {
             root: ROOT_1_1,
+            records: RECORD_1,
             start: 0,
             finish: 0,
             how: How::Failed,
@@ -135,7 +123,14 @@ const FAILED_ATTEMPT: [Step; 3] = [
 
 #[test]
 fn a_failed_attempt_begins_again(rt: HostRuntime) -> Result<(), Mismatch> {
-    check_steps(rt.alloc(), TWO_PENDING, 2, &FAILED_ATTEMPT, 0)
+    check_steps(
+        rt.alloc(),
+        TWO_PENDING,
+        from_first(2),
+        &FAILED_ATTEMPT,
+        0,
+        false,
+    )
 }
 
 // A list that leaves an edge open ends the attempt, and the next one begins in the same turn.
@@ -147,6 +142,7 @@ const COINCIDED_ATTEMPT: [Step; 2] = [
         commit: None,
         ended: &[Ended {
             root: ROOT_2_1,
+            records: RECORD_2,
             start: 0,
             finish: 0,
             how: How::Coincided,
@@ -157,7 +153,14 @@ const COINCIDED_ATTEMPT: [Step; 2] = [
 
 #[test]
 fn a_coincided_attempt_begins_again_in_the_same_turn(rt: HostRuntime) -> Result<(), Mismatch> {
-    check_steps(rt.alloc(), TWO_PENDING, 2, &COINCIDED_ATTEMPT, 0)
+    check_steps(
+        rt.alloc(),
+        TWO_PENDING,
+        from_first(2),
+        &COINCIDED_ATTEMPT,
+        0,
+        false,
+    )
 }
 
 // After a commit that failed the next attempt begins in the next turn.
@@ -176,6 +179,7 @@ const FAILED_COMMIT: [Step; 4] = [
         commit: None,
         ended: &[Ended {
             root: ROOT_1_1,
+            records: RECORD_1,
             start: 0,
             finish: 0,
             how: How::CommitFailed,
@@ -193,7 +197,14 @@ const FAILED_COMMIT: [Step; 4] = [
 
 #[test]
 fn a_failed_commit_begins_again_in_the_next_turn(rt: HostRuntime) -> Result<(), Mismatch> {
-    check_steps(rt.alloc(), TWO_PENDING, 2, &FAILED_COMMIT, 0)
+    check_steps(
+        rt.alloc(),
+        TWO_PENDING,
+        from_first(2),
+        &FAILED_COMMIT,
+        0,
+        false,
+    )
 }
 
 // Attempts end at the third tick after their begin; a settled one is not timed.
@@ -212,6 +223,7 @@ const TIMED_OUT: [Step; 3] = [
         commit: None,
         ended: &[Ended {
             root: ROOT_1_1,
+            records: RECORD_1,
             start: 0,
             finish: 3,
             how: How::TimedOut,
@@ -222,7 +234,7 @@ const TIMED_OUT: [Step; 3] = [
 
 #[test]
 fn attempts_time_out_at_their_last_tick(rt: HostRuntime) -> Result<(), Mismatch> {
-    check_steps(rt.alloc(), TWO_PENDING, 2, &TIMED_OUT, 0)
+    check_steps(rt.alloc(), TWO_PENDING, from_first(2), &TIMED_OUT, 0, false)
 }
 
 // The attempts run out at a verdict, and the same stop is answered again.
@@ -240,6 +252,7 @@ const OUT_AT_A_VERDICT: [Step; 3] = [
         commit: None,
         ended: &[Ended {
             root: ROOT_1_1,
+            records: RECORD_1,
             start: 0,
             finish: 0,
             how: How::Failed,
@@ -257,7 +270,14 @@ const OUT_AT_A_VERDICT: [Step; 3] = [
 
 #[test]
 fn attempts_run_out_at_a_verdict(rt: HostRuntime) -> Result<(), Mismatch> {
-    check_steps(rt.alloc(), ONE_PENDING, 2, &OUT_AT_A_VERDICT, 0)
+    check_steps(
+        rt.alloc(),
+        ONE_PENDING,
+        from_first(2),
+        &OUT_AT_A_VERDICT,
+        0,
+        false,
+    )
 }
 
 // Two roots end at one tick, and the attempts of both have run out. Both ends are told, the stop is
@@ -271,12 +291,14 @@ const OUT_AT_A_TICK: [Step; 3] = [
         ended: &[
             Ended {
                 root: ROOT_1_1,
+                records: RECORD_1,
                 start: 0,
                 finish: 3,
                 how: How::TimedOut,
             },
             Ended {
                 root: ROOT_2_1,
+                records: RECORD_2,
                 start: 0,
                 finish: 3,
                 how: How::TimedOut,
@@ -291,12 +313,14 @@ const OUT_AT_A_TICK: [Step; 3] = [
         ended: &[
             Ended {
                 root: ROOT_1_2,
+                records: RECORD_1,
                 start: 3,
                 finish: 6,
                 how: How::TimedOut,
             },
             Ended {
                 root: ROOT_2_2,
+                records: RECORD_2,
                 start: 3,
                 finish: 6,
                 how: How::TimedOut,
@@ -308,7 +332,14 @@ const OUT_AT_A_TICK: [Step; 3] = [
 
 #[test]
 fn attempts_run_out_at_a_tick(rt: HostRuntime) -> Result<(), Mismatch> {
-    check_steps(rt.alloc(), TWO_PENDING, 2, &OUT_AT_A_TICK, 0)
+    check_steps(
+        rt.alloc(),
+        TWO_PENDING,
+        from_first(2),
+        &OUT_AT_A_TICK,
+        0,
+        false,
+    )
 }
 
 // A verdict of a root that never began, and a second one of a root that is settled, change nothing.
@@ -339,5 +370,12 @@ const OTHER_ROOTS: [Step; 4] = [
 
 #[test]
 fn verdicts_of_other_roots_change_nothing(rt: HostRuntime) -> Result<(), Mismatch> {
-    check_steps(rt.alloc(), TWO_PENDING, 3, &OTHER_ROOTS, 0)
+    check_steps(
+        rt.alloc(),
+        TWO_PENDING,
+        from_first(3),
+        &OTHER_ROOTS,
+        0,
+        false,
+    )
 }

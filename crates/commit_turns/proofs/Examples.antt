@@ -1,167 +1,136 @@
--- Turns, worked out by hand.
-use Rattle.std.proofs.Common.{◌≡◌, ℕ, ◌^◌, ◌-◌, true, false, None, Some, List, [], ◌∷◌, refl}
+-- Turns over partitions, worked out by hand.
+use Rattle.std.proofs.Common.{◌≡◌, ℕ, true, false, None, Some, List, [], ◌∷◌, refl}
+use Rattle.std.specs.Prelude.{Bool}
 use Rattle.std.specs.FinMap as fin_map
-use Rattle.tuple_account.specs.acker_core.declared.verdict.Verdict.TheVariants.{Complete, Fails}
-use Rattle.attempt_fates.specs.declared.fates.Attempt.{Attempt}
-use Rattle.attempt_fates.specs.declared.fates.End.{End}
+use Rattle.tuple_account.specs.acker_core.declared.verdict.Verdict.TheVariants.{Fails}
 use Rattle.attempt_fates.specs.declared.fates.End.TheVariants as end
 use Rattle.commit_turns.specs.declared.wait.Wait.{Wait}
-use Rattle.commit_turns.specs.Desks.{Desk}
-use Rattle.commit_turns.specs.Turns.{decided, free_txid, heard, is_finished, turned}
 use Rattle.record_spans.specs.declared.span.Span.{Span}
 use Rattle.state_parts.specs.declared.answer.CommitOutcome.TheVariants as outcome
 use Rattle.tuple_account.specs.storm_values.declared.value.Root.{Root}
 use Rattle.tuple_account.specs.topology_plan.Topology.{Topology}
-use Rattle.tuple_account.specs.topology_plan.declared.parts.Kind.TheVariants.{Transactional}
-use Rattle.tuple_account.specs.tree_model.declared.messages.AckMsg.{AckMsg}
-use Rattle.tuple_account.specs.tree_model.declared.messages.AckMsg.TheVariants as msg
-use Rattle.trident_batches.specs.Batches.{Cut}
+use Rattle.tuple_account.specs.topology_plan.declared.parts.Kind.TheVariants.{Opaque}
+use Rattle.record_offers.specs.Offers.{free_records, offered}
+use Rattle.taken_records.specs.Taken.{marked, runs_of}
+use Rattle.taken_records.specs.Cuts.{Cut, offers_of}
+use Rattle.commit_turns.specs.Desks.{Desk}
+use Rattle.attempt_fates.specs.declared.fates.Attempt.{Attempt}
+use Rattle.attempt_fates.specs.declared.fates.End.{End}
+use Rattle.commit_turns.specs.Turns.{decided, heard, is_finished, one_tick}
 
--- 3 buckets
-abbrev plan : ℕ → ℕ → Topology
-plan pending attempts = record {
+-- two may be pending, of two attempts each, with 3 buckets
+abbrev plan : Topology
+plan = record {
   spout_fields = [];
-  spout_kind = Transactional;
-  batch = 1;
+  spout_kind = Opaque;
+  batch = 2;
+  partitions = 2;
   components = [];
   spout_subs = [];
   component_subs = [];
   ackers = 1;
-  pending = pending;
+  pending = 2;
   buckets = 3;
-  attempts = attempts;
+  attempts = 2;
 }
 
--- two batches of a record each
-abbrev two : Cut
-two = record { records = [] ∷ [] ∷ []; size = 1 }
+-- four records in two partitions, of which a batch has two at most
+abbrev four : Cut
+four = record {
+  records = [] ∷ [] ∷ [] ∷ [] ∷ [];
+  size = 2;
+  partitions = 2;
+  start = 0;
+  gone = false ∷ false ∷ false ∷ false ∷ [];
+}
 
 abbrev root : ℕ → ℕ → Root
 root txid attempt = record { txid = txid; attempt = attempt }
 
--- the batch of a transaction
-abbrev one : ℕ → List Span
-one txid = record { first = txid; last = txid } ∷ []
+abbrev span : ℕ → ℕ → Span
+span first last = record { first = first; last = last }
 
--- an attempt that began at a tick
-abbrev timed : ℕ → ℕ → ℕ → Wait
-timed txid attempt start = record { root = root txid attempt; spans = one txid; start = start; settled = None }
+abbrev odd : List Span
+odd = span 1 1 ∷ span 3 3 ∷ []
 
--- one that was settled with no message
-abbrev done : ℕ → ℕ → Wait
-done txid attempt = record { root = root txid attempt; spans = one txid; start = 0; settled = Some [] }
+abbrev even : List Span
+even = span 2 2 ∷ span 4 4 ∷ []
 
-abbrev desk : ℕ → ℕ → List Wait → Desk
-desk tick committed pending = record {
-  tick = tick;
+abbrev timed : ℕ → ℕ → List Span → Wait
+timed txid attempt spans = record { root = root txid attempt; spans = spans; start = 0; settled = None }
+
+abbrev done : ℕ → List Span → Wait
+done txid spans = record { root = root txid 1; spans = spans; start = 0; settled = Some [] }
+
+abbrev fate : ℕ → ℕ → List Span → ℕ → End → Attempt
+fate txid attempt spans finish how = record { root = root txid attempt; spans = spans; start = 0; finish = finish; end = how }
+
+abbrev desk : ℕ → List Bool → List Wait → Desk
+desk committed gone pending = record {
+  tick = 2;
   committed = committed;
-  attempts = fin_map.empty;
+  tries = fin_map.empty;
+  gone = gone;
   pending = pending;
   out = false;
   exhausted = None;
 }
 
-abbrev ended : ℕ → ℕ → ℕ → ℕ → End → Attempt
-ended txid attempt start finish how = record {
-  root = root txid attempt;
-  spans = one txid;
-  start = start;
-  finish = finish;
-  end = how;
-}
+abbrev all_gone : List Bool
+all_gone = true ∷ true ∷ true ∷ true ∷ []
 
--- ---- commits in the order of transactions, one a turn
+-- while partition 1 is shut, the records of partition 0 are offered
+shut_one : runs_of (offered (offers_of four four.gone) 1 2) ≡ odd
+unfolding free_records
+shut_one = refl
 
-second_waits : (turned (plan 2 2) two (Some (Complete (root 2 1) [])) 0 (desk 0 0 (timed 1 1 0 ∷ timed 2 1 0 ∷ []))).commit ≡ None
-second_waits = refl
+-- with none shut they are offered in the order of the input
+none_shut : runs_of (offered (offers_of four four.gone) 1 0) ≡ span 1 2 ∷ []
+unfolding free_records
+none_shut = refl
 
-second_settled : (turned (plan 2 2) two (Some (Complete (root 2 1) [])) 0 (desk 0 0 (timed 1 1 0 ∷ timed 2 1 0 ∷ []))).desk.pending ≡ timed 1 1 0 ∷ done 2 1 ∷ []
-second_settled = refl
+then_others : runs_of (offered (offers_of four (marked true (span 1 2 ∷ []) four.gone)) 2 0) ≡ span 3 4 ∷ []
+unfolding free_records
+then_others = refl
 
-first_ordered : (turned (plan 2 2) two (Some (Complete (root 1 1) [])) 0 (desk 0 0 (timed 1 1 0 ∷ done 2 1 ∷ []))).commit ≡ Some (done 1 1)
-first_ordered = refl
+-- with both shut none is
+both_shut : offered (offers_of four four.gone) 1 3 ≡ []
+unfolding free_records
+both_shut = refl
 
-first_committed : decided (plan 2 2) two outcome.Done (desk 0 0 (done 1 1 ∷ done 2 1 ∷ [])) ≡ record { desk = desk 0 1 (done 2 1 ∷ []); ended = ended 1 1 0 0 (end.Committed []) ∷ [] }
-first_committed = refl
-
-second_ordered : (turned (plan 2 2) two None 0 (desk 0 1 (done 2 1 ∷ []))).commit ≡ Some (done 2 1)
-second_ordered = refl
-
-all_committed : is_finished (plan 2 2) two (decided (plan 2 2) two outcome.Done (desk 0 1 (done 2 1 ∷ []))).desk ≡ true
-all_committed = refl
-
--- ---- a list with an edge that is left
-
-abbrev left : List AckMsg
-left =
-    msg.Init (record {
-      root = root 1 1;
-      edges = record { path = 0 ∷ []; id = 9 } ∷ [];
-      draw = record { source = 0; first = 0 };
-    }) ∷ []
-
-coincides : (heard (plan 1 2) two (Some (Complete (root 1 1) left)) (desk 4 0 (timed 1 1 2 ∷ []))).ended ≡ ended 1 1 2 4 (end.Coincided left) ∷ []
-coincides = refl
-
--- the transaction is free at once, and its next attempt begins in this turn
-free_again : free_txid (plan 1 2) two (heard (plan 1 2) two (Some (Complete (root 1 1) left)) (desk 4 0 (timed 1 1 2 ∷ []))).desk ≡ Some 1
-free_again = refl
-
--- ---- failed commits
-
-falls : (decided (plan 2 2) two (outcome.Failed 0 0 1 2) (desk 5 0 (done 1 1 ∷ timed 2 1 4 ∷ []))).ended ≡ ended 1 1 0 5 (end.CommitFailed 0 0 1 2) ∷ []
+-- a fail of the first drops the second, and the records of both come back
+falls : (heard plan four (Some (Fails (root 1 1) [])) (desk 0 all_gone (timed 1 1 odd ∷ timed 2 1 even ∷ []))).ended
+    ≡ fate 1 1 odd 2 (end.Failed []) ∷ fate 2 1 even 2 (end.Dropped (root 1 1)) ∷ []
 falls = refl
 
-goes_on : (decided (plan 2 2) two (outcome.Failed 0 0 1 2) (desk 5 0 (done 1 1 ∷ timed 2 1 4 ∷ []))).desk ≡ desk 5 0 (timed 2 1 4 ∷ [])
-goes_on = refl
+comes_back : (heard plan four (Some (Fails (root 1 1) [])) (desk 0 all_gone (timed 1 1 odd ∷ timed 2 1 even ∷ []))).desk.gone ≡ false ∷ false ∷ false ∷ false ∷ []
+comes_back = refl
 
-stops : (decided (plan 2 2) two (outcome.Failed 0 0 1 2) (desk 5 0 (done 1 2 ∷ timed 2 1 4 ∷ []))).desk.exhausted ≡ Some 1
-stops = refl
+-- a fail of the second drops none
+second_falls : (heard plan four (Some (Fails (root 2 1) [])) (desk 0 all_gone (timed 1 1 odd ∷ timed 2 1 even ∷ []))).ended ≡ fate 2 1 even 2 (end.Failed []) ∷ []
+second_falls = refl
 
--- ---- ticks
+-- both are late at one tick: neither is dropped
+both_late : (one_tick plan four (desk 0 all_gone (timed 1 1 odd ∷ timed 2 1 even ∷ []))).ended
+    ≡ fate 1 1 odd 3 end.TimedOut ∷ fate 2 1 even 3 end.TimedOut ∷ []
+both_late = refl
 
--- two transactions run out of attempts at the third tick: both end, the first is told, and the turn goes no further
-run_out : turned (plan 2 1) two None 5 (desk 0 0 (timed 1 1 0 ∷ timed 2 1 0 ∷ []))
-    ≡ record {
-      desk = record {
-        tick = 3;
-        committed = 0;
-        attempts = fin_map.empty;
-        pending = [];
-        out = false;
-        exhausted = Some 1;
-      };
-      ended = ended 1 1 0 3 end.TimedOut ∷ ended 2 1 0 3 end.TimedOut ∷ [];
-      commit = None;
-      begun = [];
-    }
-run_out = refl
+-- the first is late: the second is dropped, though it was settled
+settled_is_dropped : (one_tick plan four (desk 0 all_gone (timed 1 1 odd ∷ done 2 even ∷ []))).ended
+    ≡ fate 1 1 odd 3 end.TimedOut ∷ fate 2 1 even 3 (end.Dropped (root 1 1)) ∷ []
+settled_is_dropped = refl
 
--- the first of those that ran out, not the first that ended
-second_runs_out : (turned (plan 2 2) two None 5 (desk 0 0 (timed 1 1 0 ∷ timed 2 2 0 ∷ []))).desk.exhausted ≡ Some 2
-second_runs_out = refl
+-- a commit that fails drops the later ones, and one that is done drops none
+commit_fails : (decided plan four (outcome.Failed 0 0 1 2) (desk 0 all_gone (done 1 odd ∷ timed 2 1 even ∷ []))).ended
+    ≡ fate 1 1 odd 2 (end.CommitFailed 0 0 1 2) ∷ fate 2 1 even 2 (end.Dropped (root 1 1)) ∷ []
+commit_fails = refl
 
--- where it ran out by a verdict, no tick is counted
-fails_first : (turned (plan 2 1) two (Some (Fails (root 2 1) (0 ∷ []))) 5 (desk 1 0 (timed 1 1 0 ∷ timed 2 1 0 ∷ []))).desk.tick ≡ 1
-fails_first = refl
+commit_done : (decided plan four outcome.Done (desk 0 all_gone (done 1 odd ∷ timed 2 1 even ∷ []))).ended ≡ fate 1 1 odd 2 (end.Committed []) ∷ []
+commit_done = refl
 
--- a verdict is heard before the ticks
-just_in_time : (turned (plan 2 2) two (Some (Complete (root 2 1) [])) 1 (desk 2 1 (timed 2 1 0 ∷ []))).commit ≡ Some (done 2 1)
-just_in_time = refl
+-- pending records are not committed
+not_over : is_finished plan four (desk 1 all_gone (timed 2 1 even ∷ [])) ≡ false
+not_over = refl
 
--- at the last number ticks change nothing
-last_tick : (turned (plan 2 2) two None 9 (desk (2 ^ 64 - 1) 0 (timed 1 1 (2 ^ 64 - 3) ∷ timed 2 1 (2 ^ 64 - 2) ∷ []))).desk
-    ≡ desk (2 ^ 64 - 1) 0 (timed 1 1 (2 ^ 64 - 3) ∷ timed 2 1 (2 ^ 64 - 2) ∷ [])
-last_tick = refl
-
--- ---- what changes nothing
-
-settled_already : (turned (plan 2 2) two (Some (Fails (root 2 1) (0 ∷ []))) 0 (desk 0 0 (timed 1 1 0 ∷ done 2 1 ∷ []))).desk ≡ desk 0 0 (timed 1 1 0 ∷ done 2 1 ∷ [])
-settled_already = refl
-
-other_attempt : (turned (plan 2 2) two (Some (Fails (root 2 1) (0 ∷ []))) 0 (desk 0 0 (timed 1 1 0 ∷ timed 2 2 0 ∷ []))).desk ≡ desk 0 0 (timed 1 1 0 ∷ timed 2 2 0 ∷ [])
-other_attempt = refl
-
--- one pending attempt is the most: none begins
-full : (turned (plan 1 2) two None 0 (desk 0 0 (timed 1 1 0 ∷ []))).begun ≡ []
-full = refl
+over : is_finished plan four (desk 2 all_gone []) ≡ true
+over = refl

@@ -1,7 +1,6 @@
 -- The account read off the desk and the fates, and back.
 use Rattle.std.proofs.Common.{◌≡◌, ℕ, ◌≤◌, None, List, map, sym, subst, ◌∙◌, arith}
 use Rattle.std.proofs.lemmas.List.{length-map}
-use Rattle.std.proofs.lemmas.List.Elements.{recursion_from_All}
 use Rattle.tuple_account.specs.acker_core.declared.verdict.Verdict.{Verdict}
 use Rattle.attempt_fates.specs.declared.fates.Attempt.{Attempt}
 use Rattle.tuple_account.specs.counted_items.Weights.{weigh}
@@ -9,7 +8,7 @@ use Rattle.tuple_account.proofs.counted_items.Each.{each-both, each-map, each-to
 use Rattle.tuple_account.proofs.counted_items.Weighing.{weigh-append, weigh-flat_map, weigh-map}
 use Rattle.tuple_account.specs.storm_values.declared.value.Root.{Root}
 use Rattle.tuple_account.specs.topology_plan.Topology.{Topology}
-use Rattle.trident_batches.specs.Batches.{Cut}
+use Rattle.taken_records.specs.Cuts.{Cut}
 use Rattle.tuple_account.specs.Ends.{Ended, Waits, commits, verdicts_by, verdicts_of_ends, verdicts_of_waits, verdicts_settled}
 use Rattle.tuple_account.specs.Fits.{Fits, IsEnd, IsWaiting}
 use Rattle.tuple_account.specs.Histories.{History, Opening}
@@ -20,7 +19,7 @@ use Rattle.commit_turns.specs.Desks.{Desk}
 use Rattle.commit_turns.proofs.Accounting.{HasBooks}
 use Rattle.commit_turns.proofs.Booking.{IsChecked, ended_by, is_root, settled_by}
 use Rattle.commit_turns.proofs.Holding.{IsBegun}
-use Rattle.commit_turns.proofs.Keeping.{IsGoing}
+use Rattle.commit_turns.proofs.Going.{IsGoing}
 
 -- the roots that were begun
 abbrev pub roots_of : List Opening → List Root
@@ -37,7 +36,7 @@ waits_weight f ws =
     ∙ weigh-map (λ (w : Waits). weigh f (verdicts_settled w.root w.settled)) waits_of ws
 
 module _ (t : Topology) (cut : Cut) (d : Desk) (fates : List Attempt) (h : History) where
-  pub books_of : Fits t (desk_of d) (ends_of fates) h → HasBooks t d fates (roots_of h.begun) h.heard
+  pub books_of : Fits t (desk_of cut d) (ends_of fates) h → HasBooks t cut d fates (roots_of h.begun) h.heard
   books_of fits = record {
     begun = λ f.
         (let e = fits.begun f in
@@ -55,7 +54,7 @@ module _ (t : Topology) (cut : Cut) (d : Desk) (fates : List Attempt) (h : Histo
     once = λ txid. sym (weigh-map (commits txid) ended_of fates) ∙ fits.once txid;
   }
 
-  pub fits_of : IsGoing t cut d fates → HasBooks t d fates (roots_of h.begun) h.heard → Fits t (desk_of d) (ends_of fates) h
+  pub fits_of : IsGoing t cut d fates → HasBooks t cut d fates (roots_of h.begun) h.heard → Fits t (desk_of cut d) (ends_of fates) h
   fits_of going b = record {
     begun = λ f.
         (let e = b.begun f in
@@ -73,10 +72,10 @@ module _ (t : Topology) (cut : Cut) (d : Desk) (fates : List Attempt) (h : Histo
         (each-weaker (λ (a : Attempt). (a.start ≤ a.finish) × ((a.finish ≤ d.tick) × IsChecked t a)) (λ (a : Attempt). IsEnd t d.tick (ended_of a))
         (λ a all. record { starts = all.0; finishes = all.1.0; checked = all.1.1 }) fates
         (each-both (λ (a : Attempt). a.start ≤ a.finish) (λ (a : Attempt). (a.finish ≤ d.tick) × IsChecked t a) fates
-        (recursion_from_All (λ (a : Attempt). a.start ≤ a.finish) fates going.holds.told.spans)
-        (each-both (λ (a : Attempt). a.finish ≤ d.tick) (IsChecked t) fates (recursion_from_All (λ (a : Attempt). a.finish ≤ d.tick) fates going.holds.told.handed_out) b.checked)));
-    waits = each-to_map (IsWaiting (desk_of d)) waits_of d.pending
-        (each-weaker (IsBegun t cut d.attempts d.committed d.tick) (λ (w : Wait). IsWaiting (desk_of d) (waits_of w)) (λ w is. record { starts = is.starts; later = is.later; closed = is.closed }) d.pending going.holds.waits);
+        going.holds.told.rises
+        (each-both (λ (a : Attempt). a.finish ≤ d.tick) (IsChecked t) fates going.holds.told.handed_out b.checked)));
+    waits = each-to_map (IsWaiting (desk_of cut d)) waits_of d.pending
+        (each-weaker (IsBegun t cut d.tries d.committed d.tick) (λ (w : Wait). IsWaiting (desk_of cut d) (waits_of w)) (λ w is. record { starts = is.starts; later = is.later; closed = is.closed }) d.pending going.holds.waits);
     few = subst (λ (n : ℕ). n ≤ t.pending) (sym (length-map d.pending waits_of)) going.holds.few;
     once = λ txid. weigh-map (commits txid) ended_of fates ∙ b.once txid;
   }

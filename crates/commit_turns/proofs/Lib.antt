@@ -1,20 +1,27 @@
-mod Lists
-mod Tallies
-mod Telling
-mod Holding
-mod Records
-mod Keeping
-mod Closing
-mod Going
-mod Deciding
-mod Passing
-mod Counting
-mod Turning
-mod Booking
+pub mod Aborting
 mod Accounting
-mod Fitting
-mod Lowest
-mod LawLemmas
-mod Ordered
+mod Beginning
+mod Booking
+mod Closing
+mod Counting
+mod Dropping
+mod Ends
 mod Examples
+mod Finishing
+mod Fitting
+mod Going
+mod Holding
+mod Keeping
+mod LawLemmas
+pub mod Lists
+mod Lowest
+mod Ordered
+mod Passing
+mod Rows
+mod Stepping
+mod Tallies
+mod Tallying
+mod Telling
+mod Ticking
+mod Turning
 pub mod Carrying

@@ -1,18 +1,13 @@
 -- How many attempts of a transaction are pending.
 use Rattle.std.proofs.Common.{◌≡◌, ◌≢◌, ℕ, ◌+◌, ◌≤◌, ◌==◌, ◌||◌, not, Bool, true, false, cond, Some, List, [], ◌∷◌, ◌++◌, refl, sym, ap, subst, ◌∙◌, arith, eqb-true, eq-eqb}
-use Rattle.std.specs.Prelude.{unwrap_or}
-use Rattle.std.specs.Cmp.{nat_cmp_total, nat_eq_equiv, unsigned_tied}
-use Rattle.std.specs.FinMap.{get-empty, get-insert}
-use Rattle.std.specs.FinMap as fin_map
+use Rattle.std.specs.Cmp.{nat_eq_equiv}
 use Rattle.std.specs.List.{AllPairs, AllByRecursion}
-use Rattle.std.specs.Ordering.{nat_cmp}
 use Rattle.std.proofs.lemmas.Bool.{false_from_ne_true}
 use Rattle.std.proofs.lemmas.List.{map-append}
 use Rattle.std.proofs.lemmas.List.Elements.{filter-append}
 use Rattle.tuple_account.specs.counted_items.Weights.{weigh}
 use Rattle.tuple_account.proofs.counted_items.Each.{each-front, each-back}
 use Rattle.tuple_account.proofs.counted_items.Weighing.{weigh-append}
-use Rattle.replay_pending.specs.InFlight.{Counts, attempts_of}
 use Rattle.tuple_account.specs.rotating_ledger.Held.{root_eq}
 use Rattle.tuple_account.proofs.rotating_ledger.RootLemmas.{root_eq-refl, root_eq-same}
 use Rattle.tuple_account.specs.storm_values.declared.value.Root.{Root}
@@ -182,25 +177,3 @@ module _ (before behind : List Wait) (w : Wait) (few : (txid : ℕ) → tally tx
     where
       here : settle_with w.root list w ≡ record w { settled = Some list }
       here = ap (λ (b : Bool). cond b (record w { settled = Some list }) w) (root_eq-refl w.root)
-
--- ---- attempts that were begun
-
-pub attempts-insert : (counts : Counts) (k n txid : ℕ) → attempts_of txid (fin_map.insert counts k n) ≡ cond (k == txid) n (attempts_of txid counts)
-attempts-insert counts k n txid =
-    ap (λ o. unwrap_or o 0) (get-insert nat_cmp_total counts k n txid)
-    ∙ ap (λ (b : Bool). unwrap_or (cond b (Some n) (fin_map.get counts txid)) 0) (sym (swapped k txid ∙ sym (unsigned_tied txid k)))
-    ∙ by (k == txid)
-  where
-    by : (b : Bool) → unwrap_or (cond b (Some n) (fin_map.get counts txid)) 0 ≡ cond b n (attempts_of txid counts)
-    by true = refl
-    by false = refl
-
-pub attempts-empty : (txid : ℕ) → attempts_of txid fin_map.empty ≡ 0
-attempts-empty txid = ap (λ o. unwrap_or o 0) (get-empty nat_cmp txid)
-
-pub insert-own : (counts : Counts) (k n txid : ℕ) → k ≡ txid → attempts_of txid (fin_map.insert counts k n) ≡ n
-insert-own counts k n txid same = attempts-insert counts k n txid ∙ ap (λ (b : Bool). cond b n (attempts_of txid counts)) (eq-eqb k txid same)
-
-pub insert-other : (counts : Counts) (k n txid : ℕ) → k ≢ txid → attempts_of txid (fin_map.insert counts k n) ≡ attempts_of txid counts
-insert-other counts k n txid differ =
-    attempts-insert counts k n txid ∙ ap (λ (b : Bool). cond b n (attempts_of txid counts)) (false_from_ne_true (k == txid) (λ on. differ (eqb-true k txid on)))

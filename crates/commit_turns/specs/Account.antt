@@ -1,15 +1,15 @@
 -- The coordinator's account, read off its desk and the fates.
-use Rattle.std.specs.Prelude.{ℕ, List, map}
+use Rattle.std.specs.Prelude.{List, map}
 use Rattle.attempt_fates.specs.declared.fates.Attempt.{Attempt}
 use Rattle.attempt_fates.specs.declared.fates.End.{End}
 use Rattle.attempt_fates.specs.declared.fates.End.TheVariants as end
 use Rattle.attempt_fates.specs.Fates.{records_in}
 use Rattle.commit_turns.specs.declared.wait.Wait.{Wait}
 use Rattle.commit_turns.specs.Desks.{Desk}
+use Rattle.replay_pending.specs.InFlight.{tried}
 use Rattle.record_spans.specs.declared.span.Span.{Span}
-use Rattle.replay_pending.specs.InFlight.{attempts_of}
 use Rattle.tuple_account.specs.storm_values.declared.value.Value.{Value}
-use Rattle.trident_batches.specs.Batches.{Cut, batch_of}
+use Rattle.taken_records.specs.Cuts.{Cut}
 use Rattle.tuple_account.specs.Ends as account
 use Rattle.tuple_account.specs.Ends.{Ending, Ended, Waits}
 
@@ -20,6 +20,7 @@ ending_of end.TimedOut = account.timed_out
 ending_of (end.Coincided list) = account.coincided list
 ending_of (end.CommitFailed component part before after) =
     account.commit_failed component part before after
+ending_of (end.Dropped by) = account.dropped by
 
 abbrev pub ended_of : Attempt → Ended
 ended_of a =
@@ -31,18 +32,15 @@ ends_of fates = map ended_of fates
 abbrev pub waits_of : Wait → Waits
 waits_of w = record { root = w.root; start = w.start; settled = w.settled }
 
-abbrev pub desk_of : Desk → account.Desk
-desk_of d = record {
+abbrev pub desk_of : Cut → Desk → account.Desk
+desk_of cut d = record {
   tick = d.tick;
+  start = cut.start;
   committed = d.committed;
-  tries = λ txid. attempts_of txid d.attempts;
+  tries = λ txid. (tried txid d.tries).begun;
   pending = map waits_of d.pending;
 }
 
 -- the rows of some spans
 abbrev pub rows_at : Cut → List Span → List (List Value)
 rows_at cut spans = records_in cut.records spans
-
--- the rows of the batch of a transaction
-abbrev pub rows_in : Cut → ℕ → List (List Value)
-rows_in cut txid = batch_of cut.size txid cut.records

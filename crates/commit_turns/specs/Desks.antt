@@ -6,28 +6,32 @@ use Rattle.std.specs.List.{find, list_any}
 use Rattle.attempt_fates.specs.declared.fates.Attempt.{Attempt}
 use Rattle.attempt_fates.specs.declared.fates.End.{End}
 use Rattle.commit_turns.specs.declared.wait.Wait.{Wait}
-use Rattle.replay_pending.specs.InFlight.{Counts}
+use Rattle.replay_pending.specs.InFlight.{Tries}
+use Rattle.taken_records.specs.Cuts.{Cut}
 use Rattle.tuple_account.specs.rotating_ledger.Held.{root_eq}
 use Rattle.tuple_account.specs.storm_values.declared.value.Root.{Root}
 use Rattle.tuple_account.specs.tree_model.declared.messages.AckMsg.{AckMsg}
 
--- The ticks that were counted, how many batches were committed, how many attempts of each
--- transaction were begun, the pending attempts in the order of their begins, whether a commit was
--- ordered whose outcome was not told yet, and the transaction whose attempts have run out.
+-- The ticks that were counted, the last transaction that was committed, the attempts of each that
+-- were begun and aborted, a mark for each record that is committed, pending or was gone at first,
+-- the pending attempts in the order of their begins, whether a commit was ordered whose outcome was
+-- not told yet, and the transaction whose attempts have run out.
 pub record Desk : Type 0 where
   pub tick : ℕ
   pub committed : ℕ
-  pub attempts : Counts
+  pub tries : Tries
+  pub gone : List Bool
   pub pending : List Wait
   pub out : Bool
   pub exhausted : Option ℕ
 
 -- nothing was counted, begun or committed
-abbrev pub first_desk : Desk
-first_desk = record {
+abbrev pub first_desk : Cut → Desk
+first_desk cut = record {
   tick = 0;
-  committed = 0;
-  attempts = fin_map.empty;
+  committed = cut.start;
+  tries = fin_map.empty;
+  gone = cut.gone;
   pending = [];
   out = false;
   exhausted = None;

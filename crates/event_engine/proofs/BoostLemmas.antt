@@ -14,7 +14,7 @@ use Rattle.event_engine.proofs.LoopLemmas.{goes_there, ready_here, ready_there}
 use Rattle.event_worlds.specs.Worlds.{Step, World, acker_step, is_over, of_acker, of_task, task_at, task_needs, task_step}
 use Rattle.event_worlds.specs.storm_ids.declared.ids.Ids.{Ghosts}
 use Rattle.event_worlds.specs.topology_plan.Topology.{Topology, tasks_in_all}
-use Rattle.event_worlds.specs.trident_batches.Batches.{Cut}
+use Rattle.event_worlds.specs.taken_records.Cuts.{Cut}
 
 -- ---- one more
 

@@ -13,13 +13,13 @@ use Rattle.event_engine.specs.declared.task.TaskSeat.{TaskSeat}
 use Rattle.event_engine.proofs.SeatLemmas.{acts_of, fits_there, get-map, get-map_some, handed_fits, seat_at, seats_set, side-same, side-set, takes_of}
 use Rattle.event_worlds.specs.Orderly.{IsOrderly, IsTaskOrderly}
 use Rattle.event_worlds.specs.Worlds.{TaskSide, acker_step, acted, gets_tuple, no_task, sent, task_at, task_needs, task_step, tick_step}
-use Rattle.event_worlds.proofs.Orderly.{orderly-acker, orderly-task, orderly-tick, task-seat}
+use Rattle.event_worlds.proofs.Orderly.{orderly-acker, orderly-shut, orderly-task, orderly-tick, task-seat}
 use Rattle.event_worlds.specs.output_collector.Collectors.{ids_in}
 use Rattle.event_worlds.specs.storm_ids.declared.ids.Ids.{Ghosts}
 use Rattle.event_worlds.specs.topology_plan.Topology.{Topology, tasks_in_all}
 use Rattle.event_worlds.specs.tree_model.declared.messages.Parcel.{Parcel}
 use Rattle.event_worlds.specs.tree_model.declared.messages.Tuple.{Tuple}
-use Rattle.event_worlds.specs.trident_batches.Batches.{Cut}
+use Rattle.event_worlds.specs.taken_records.Cuts.{Cut}
 
 -- ---- lists
 
@@ -129,6 +129,9 @@ module _ {I : Type 0} {g : Ghosts I} (tells : I → (ℕ → ℕ) → ℕ → Ty
 module _ {I : Type 0} {g : Ghosts I} (t : Topology) (cut : Cut) (old new : Engine I g) where
   pub acker_ready : (n : ℕ) → IsReady t cut old → IsStill old new → IsSeated t cut new → shape new ≡ acker_step t n (shape old) → IsReady t cut new
   acker_ready n ready still seated same = ready_still t cut old new ready still seated (subst (IsOrderly t) (sym same) (orderly-acker t (shape old) ready.orderly n))
+
+  pub shut_ready : (shut : ℕ) → IsReady t cut old → IsStill old new → IsSeated t cut new → shape new ≡ record (shape old) { shut = shut } → IsReady t cut new
+  shut_ready shut ready still seated same = ready_still t cut old new ready still seated (subst (IsOrderly t) (sym same) (orderly-shut t (shape old) shut ready.orderly))
 
   pub tick_ready : IsReady t cut old → IsStill old new → IsSeated t cut new → shape new ≡ tick_step (shape old) → IsReady t cut new
   tick_ready ready still seated same = ready_still t cut old new ready still seated (subst (IsOrderly t) (sym same) (orderly-tick t (shape old) ready.orderly))

@@ -18,7 +18,7 @@ use Rattle.event_worlds.specs.Worlds.{AckerSide, TaskSide, delivered, no_acker}
 use Rattle.event_worlds.specs.storm_ids.declared.ids.Ids.{Ghosts}
 use Rattle.event_worlds.specs.topology_plan.Topology.{Topology}
 use Rattle.event_worlds.specs.tree_model.declared.messages.Parcel.{Parcel}
-use Rattle.event_worlds.specs.trident_batches.Batches.{Cut}
+use Rattle.event_worlds.specs.taken_records.Cuts.{Cut}
 
 -- ---- the first so many of a list
 

@@ -11,13 +11,13 @@ use Rattle.event_worlds.specs.commit_turns.Turns.{decided}
 use Rattle.event_engine.specs.Engines.{Gives, Goes, Happens, HasOutcomes, shape, sources}
 use Rattle.event_engine.specs.declared.engine.Engine.{Engine}
 use Rattle.event_engine.proofs.SeatLemmas.{draws-none}
-use Rattle.event_worlds.specs.Worlds.{Known, Step, World, acker_step, drew, is_over, next, next_outcome, next_words, of_acker, of_outcome, of_task, of_tick, of_turn, outcome_by, outcome_step, outcomes_of, run, step, task_at, task_needs, task_step, tick_step, turn_needs, turn_step, with_progress}
+use Rattle.event_worlds.specs.Worlds.{Known, Step, World, acker_step, drew, is_over, next, next_outcome, next_words, of_acker, of_open, of_outcome, of_shut, of_task, of_tick, of_turn, open_step, outcome_by, outcome_step, outcomes_of, run, shut_step, step, task_at, task_needs, task_step, tick_step, turn_needs, turn_step, with_progress}
 use Rattle.event_worlds.specs.output_collector.Draws.{Draws}
 use Rattle.event_worlds.specs.state_parts.declared.answer.CommitOutcome.{CommitOutcome}
 use Rattle.event_worlds.specs.state_parts.declared.answer.CommitOutcome.TheVariants.{Done}
 use Rattle.event_worlds.specs.storm_ids.declared.ids.Ids.{Ghosts}
 use Rattle.event_worlds.specs.topology_plan.Topology.{Topology, tasks_in_all}
-use Rattle.event_worlds.specs.trident_batches.Batches.{Cut}
+use Rattle.event_worlds.specs.taken_records.Cuts.{Cut}
 
 -- ---- lists
 
@@ -134,6 +134,14 @@ module _ (t : Topology) (custom : Custom) (cut : Cut) where
   tick_law : (words : ℕ → ℕ → ℕ) (outcomes : List CommitOutcome) (k : Known) → step t custom cut words outcomes of_tick k ≡ record { world = tick_step k.world; counts = k.counts }
   unfolding step
   tick_law words outcomes k = refl
+
+  shut_law : (q : ℕ) (words : ℕ → ℕ → ℕ) (outcomes : List CommitOutcome) (k : Known) → step t custom cut words outcomes (of_shut q) k ≡ record { world = shut_step q k.world; counts = k.counts }
+  unfolding step
+  shut_law q words outcomes k = refl
+
+  open_law : (q : ℕ) (words : ℕ → ℕ → ℕ) (outcomes : List CommitOutcome) (k : Known) → step t custom cut words outcomes (of_open q) k ≡ record { world = open_step q k.world; counts = k.counts }
+  unfolding step
+  open_law q words outcomes k = refl
 
 -- ---- pieces of work
 
@@ -285,6 +293,14 @@ module _ {I : Type 0} {g : Ghosts I} (tells : I → (ℕ → ℕ) → ℕ → Ty
 
     pub goes-tick : shape new ≡ tick_step (shape old) → sources new ≡ sources old → Goes tells t custom cut (of_tick ∷ []) old new
     goes-tick same sources_are = goes-plain of_tick (λ outcomes w. tick_step w) [] old new (tick_law t custom cut) going (ap (λ (w : World). w.fates) same ∙ sym (append-nil old.fates)) (λ outcomes has. same) sources_are
+
+    pub goes-shut : (q : ℕ) → shape new ≡ shut_step q (shape old) → sources new ≡ sources old → Goes tells t custom cut (of_shut q ∷ []) old new
+    goes-shut q same sources_are =
+        goes-plain (of_shut q) (λ outcomes w. shut_step q w) [] old new (shut_law t custom cut q) going (ap (λ (w : World). w.fates) same ∙ sym (append-nil old.fates)) (λ outcomes has. same) sources_are
+
+    pub goes-open : (q : ℕ) → shape new ≡ open_step q (shape old) → sources new ≡ sources old → Goes tells t custom cut (of_open q ∷ []) old new
+    goes-open q same sources_are =
+        goes-plain (of_open q) (λ outcomes w. open_step q w) [] old new (open_law t custom cut q) going (ap (λ (w : World). w.fates) same ∙ sym (append-nil old.fates)) (λ outcomes has. same) sources_are
 
     -- a commit came to this
     pub goes-outcome : (how : CommitOutcome) (more : List Attempt) → new.fates ≡ old.fates ++ more → outcomes_of new.fates ≡ outcomes_of old.fates ++ how ∷ []

@@ -1,6 +1,7 @@
 mod AgedLemmas
 mod AtOnce
 mod SeatLemmas
+mod ShutLemmas
 pub mod GoesLemmas
 mod EngineLemmas
 mod OpenLemmas

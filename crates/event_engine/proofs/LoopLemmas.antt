@@ -6,7 +6,7 @@ use Rattle.event_engine.specs.declared.engine.Engine.{Engine}
 use Rattle.event_worlds.specs.Worlds.{Step}
 use Rattle.event_worlds.specs.storm_ids.declared.ids.Ids.{Ghosts}
 use Rattle.event_worlds.specs.topology_plan.Topology.{Topology}
-use Rattle.event_worlds.specs.trident_batches.Batches.{Cut}
+use Rattle.event_worlds.specs.taken_records.Cuts.{Cut}
 
 module _ {I : Type 0} {g : Ghosts I} (t : Topology) (cut : Cut) (mid : Engine I g) (ready : IsReady t cut mid) where
   -- it is ready for its own

@@ -7,7 +7,7 @@ use Rattle.event_worlds.specs.Worlds.{first_needs, opened, stand_past}
 use Rattle.event_worlds.specs.topology_plan.declared.parts.Origin.TheVariants as origin
 use Rattle.event_worlds.specs.topology_plan.Topology.{Topology, tasks_in_all}
 use Rattle.event_worlds.specs.tree_model.Trees.{kids}
-use Rattle.event_worlds.specs.trident_batches.Batches.{Cut}
+use Rattle.event_worlds.specs.taken_records.Cuts.{Cut}
 use Rattle.event_worlds.specs.tuple_account.Histories.{Opening}
 use Rattle.event_worlds.specs.commit_turns.declared.wait.Wait.{Wait}
 

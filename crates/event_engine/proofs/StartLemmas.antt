@@ -28,7 +28,7 @@ use Rattle.event_worlds.specs.storm_ids.declared.ids.Ids.{Ghosts}
 use Rattle.event_worlds.specs.topology_plan.declared.parts.Origin.{Origin}
 use Rattle.event_worlds.specs.topology_plan.declared.parts.Origin.TheVariants as origin
 use Rattle.event_worlds.specs.topology_plan.Topology.{Topology, component_of, subs_of, tasks_in_all}
-use Rattle.event_worlds.specs.trident_batches.Batches.{Cut}
+use Rattle.event_worlds.specs.taken_records.Cuts.{Cut}
 
 pub from_push : {X : Type 0} (P : ℕ → X → Type 0) (k : ℕ) (xs : List X) (x : X) → AllFrom P k xs → P (k + length xs) x → AllFrom P k (xs ++ x ∷ [])
 from_push P k [] x all here = let e : k + 0 ≡ k = omega arith in (subst (λ (n : ℕ). P n x) e here, tt)
@@ -162,17 +162,18 @@ from_zero P s holds = let same : 0 + s ≡ s = omega arith in subst P same holds
 
 -- ---- an engine before the first event
 
-module _ {I : Type 0} {g : Ghosts I} (told : (ℕ → ℕ → ℕ) → Type 0) (tells : I → (ℕ → ℕ) → ℕ → Type 0) (t : Topology) (e : Engine I g) where
+module _ {I : Type 0} {g : Ghosts I} (told : (ℕ → ℕ → ℕ) → Type 0) (tells : I → (ℕ → ℕ) → ℕ → Type 0) (t : Topology) (cut : Cut) (e : Engine I g) where
   -- what is made is of a topology, with nothing begun
   pub record IsMade : Type 0 where
     pub seats : AreFirstSeats told tells t (tasks_in_all t) e.tasks.items
     pub last : IsFirstSource told tells t origin.Spout (tasks_in_all t) (ids_in (collector_of e.coordinator)) (stand_of (collector_of e.coordinator))
     pub ackers : map acker_side e.ackers.items ≡ replicate t.ackers no_acker
-    pub desk : desk_of e.coordinator ≡ first_desk
+    pub desk : desk_of e.coordinator ≡ first_desk cut
     pub verdicts : e.verdicts.items ≡ []
     pub orders : e.orders.items ≡ []
     pub tick : e.tick ≡ 0
     pub unheard : e.unheard ≡ 0
+    pub shut : e.shut ≡ 0
     pub fates : e.fates ≡ []
 
   module _ (made : IsMade) where
@@ -182,7 +183,7 @@ module _ {I : Type 0} {g : Ghosts I} (told : (ℕ → ℕ → ℕ) → Type 0) (
     all_seats : 0 + length e.tasks.items ≡ tasks_in_all t
     all_seats = let many = made.seats.many in omega arith
 
-    is_first : (words : ℕ → ℕ → ℕ) → Gives words (λ s. 0) given → shape e ≡ first_world t words
+    is_first : (words : ℕ → ℕ → ℕ) → Gives words (λ s. 0) given → shape e ≡ first_world t cut words
     is_first words gives =
         let begins : (i : ℕ) → Begins words (0 + i) (given i) = λ i. let same : i ≡ 0 + i = omega arith in subst (λ (n : ℕ). Begins words n (given i)) same (gives i) in
         let tasks : map task_side e.tasks.items ≡ map (first_task t words) (range_with_len 0 (tasks_in_all t)) =
@@ -201,10 +202,11 @@ module _ {I : Type 0} {g : Ghosts I} (told : (ℕ → ℕ → ℕ) → Type 0) (
           desk = made.desk i;
           tick = made.tick i;
           unheard = made.unheard i;
+          shut = made.shut i;
           fates = made.fates i;
         }
 
-    pub is_started : IsStarted told tells t e
+    pub is_started : IsStarted told tells t cut e
     is_started = record {
       given = given;
       counted = λ words s. from_zero (λ (n : ℕ). length (given s) ≡ first_counts t words n) s (counted_from told tells t made.last.starts words 0 e.tasks.items made.seats.each all_seats made.last.enough s);
@@ -228,10 +230,10 @@ some_gives given s = sym (fill_by_all (λ k. get_or (given s) k 0) (given s) (le
 
 -- an engine that is started is ready
 module _ {I : Type 0} {g : Ghosts I} (told : (ℕ → ℕ → ℕ) → Type 0) (tells : I → (ℕ → ℕ) → ℕ → Type 0) (t : Topology) (cut : Cut) (e : Engine I g) where
-  pub is_ready : IsInput t cut → IsMade told tells t e → e.plan.now ≡ t → AllByRecursion (HasBuckets t.buckets) e.ackers.items → office_of e.coordinator ≡ record { topology = t; cut = cut; desk = first_desk }
-      → IsOwn e.coordinator → wanted_memory e.coordinator ≡ false → IsKept t cut first_desk [] → IsReady t cut e
+  pub is_ready : IsInput t cut → IsMade told tells t cut e → e.plan.now ≡ t → AllByRecursion (HasBuckets t.buckets) e.ackers.items → office_of e.coordinator ≡ record { topology = t; cut = cut; desk = first_desk cut }
+      → IsOwn e.coordinator → wanted_memory e.coordinator ≡ false → IsKept t cut (first_desk cut) [] → IsReady t cut e
   is_ready input made plan buckets office own memory kept =
-      let started : IsStarted told tells t e = is_started told tells t e made in record {
+      let started : IsStarted told tells t cut e = is_started told tells t cut e made in record {
         input = input;
         seated = record {
           plan = plan;
@@ -242,7 +244,7 @@ module _ {I : Type 0} {g : Ghosts I} (told : (ℕ → ℕ → ℕ) → Type 0) (
           of_cut = ap (λ (o : Office). o.cut) office;
         };
         orderly = subst (IsOrderly t) (sym (started.first (some_words started.given) (some_gives started.given))) (orderly-first t cut input (some_words started.given));
-        kept = subst (λ (d : Desk). IsKept t cut d e.fates) (sym made.desk) (subst (IsKept t cut first_desk) (sym made.fates) kept);
+        kept = subst (λ (d : Desk). IsKept t cut d e.fates) (sym made.desk) (subst (IsKept t cut (first_desk cut)) (sym made.fates) kept);
         ticks = subst (λ (d : Desk). d.tick ≤ last_tick) (sym made.desk) (omega arith);
         has_memory = memory;
       }

@@ -26,7 +26,7 @@ use Rattle.event_engine.proofs.FatesLemmas.{kept_once, short_once}
 use Rattle.event_engine.proofs.GoesLemmas.{goes-outcome}
 use Rattle.event_engine.proofs.OpenLemmas.{AreOf, openings_are}
 use Rattle.event_engine.proofs.SeatLemmas.{draws-none}
-use Rattle.event_engine.proofs.TurnLemmas.{decided_out, decided_tells, decided_tick, goes_on_by, next_follows, no_stop, over_by, stopped_begins, turned_passes}
+use Rattle.event_engine.proofs.TurnLemmas.{decided_out, decided_tells, decided_tick, goes_on_by, next_follows, next_unfinished, no_stop, over_by, stopped_begins, turned_passes}
 use Rattle.event_worlds.specs.Orderly.{IsOrderly}
 use Rattle.event_worlds.proofs.Orderly.{orderly-outcome, orderly-turn}
 use Rattle.event_worlds.specs.Worlds.{World, delivered, is_over, of_outcome, opened, outcome_step, outcomes_of, stand_past, turn_needs, turn_needs_past, turn_past, turn_step, turned_in, with_progress, with_turn, first_needs}
@@ -40,7 +40,7 @@ use Rattle.event_worlds.specs.storm_values.declared.value.Root.{Root}
 use Rattle.event_worlds.specs.topology_plan.declared.parts.Origin.TheVariants as origin
 use Rattle.event_worlds.specs.topology_plan.Topology.{Topology, tasks_in_all}
 use Rattle.event_worlds.specs.tree_model.declared.messages.Parcel.{Parcel}
-use Rattle.event_worlds.specs.trident_batches.Batches.{Cut, batch_count}
+use Rattle.event_worlds.specs.taken_records.Cuts.{Cut}
 use Rattle.event_worlds.specs.tuple_account.Histories.{Opening, opening_parcels}
 
 -- the verdict that was taken is the front one
@@ -76,6 +76,7 @@ module _ {I : Type 0} {g : Ghosts I} (tells : I → (ℕ → ℕ) → ℕ → Ty
     pub verdicts : new.verdicts.items ≡ drop 1 old.verdicts.items
     pub orders : new.orders.items ≡ parcels
     pub unheard : new.unheard ≡ 0
+    pub shut : new.shut ≡ old.shut
     pub tick : new.tick ≡ old.tick
     pub fates : new.fates ≡ old.fates ++ to.ended
     pub tasks : new.tasks ≡ old.tasks
@@ -107,6 +108,7 @@ module _ {I : Type 0} {g : Ghosts I} (tells : I → (ℕ → ℕ) → ℕ → Ty
                 desk = leaves.desk i;
                 tick = leaves.tick i;
                 unheard = leaves.unheard i;
+                shut = leaves.shut i;
                 fates = leaves.fates i;
               })
               ∙ ap (λ (u : Turned t cut). with_turn t cut ids u (shape old)) (sym is)
@@ -183,25 +185,22 @@ module _ {I : Type 0} {g : Ghosts I} (t : Topology) (cut : Cut) (old new : Engin
     pub topology : topology_in new ≡ t
     pub of_cut : cut_in new ≡ cut
     pub desk : desk_of new.coordinator ≡ to.desk
-    pub committed : to.desk.committed ≡ (desk_of old.coordinator).committed
 
-  goes_on : topology_in old ≡ t → cut_in old ≡ cut → IsTurned → to.desk.exhausted ≡ None → has_ended old ≡ false → has_ended new ≡ false
-  goes_on topology of_cut is none going =
-      let before = goes_on_by (desk_of old.coordinator).exhausted (is_finished (topology_in old) (cut_in old) (desk_of old.coordinator)) going in
-      let same : is_finished (topology_in new) (cut_in new) (desk_of new.coordinator) ≡ is_finished (topology_in old) (cut_in old) (desk_of old.coordinator) =
-      (λ i. ((ap (λ (d : Desk). d.committed) is.desk ∙ is.committed) i) == batch_count (length ((is.of_cut ∙ sym of_cut) i).records) ((is.of_cut ∙ sym of_cut) i).size) in
-      ap (λ (o : Option ℕ). cond (is_some o) true (is_finished (topology_in new) (cut_in new) (desk_of new.coordinator))) (ap (λ (d : Desk). d.exhausted) is.desk ∙ none) ∙ same ∙ before.1
+  goes_on : (w : Wait) → IsTurned → to.desk.exhausted ≡ None → next_to_commit t cut to.desk ≡ Some w → has_ended new ≡ false
+  goes_on w is none next =
+      (λ i. cond (is_some (is.desk i).exhausted) true (is_finished (is.topology i) (is.of_cut i) (is.desk i)))
+      ∙ ap (λ (o : Option ℕ). cond (is_some o) true (is_finished t cut to.desk)) none ∙ next_unfinished t cut to.desk w next
 
-  pub turn_answers : (commit : Option Commit) → topology_in old ≡ t → cut_in old ≡ cut → IsTurned → to.desk.exhausted ≡ None → has_ended old ≡ false
+  pub turn_answers : (commit : Option Commit) → IsTurned → to.desk.exhausted ≡ None
       → next_to_commit t cut to.desk ≡ to.commit → to.desk.out ≡ is_some to.commit → IsCommitOf to.commit commit → Answers commit new
-  turn_answers None topology of_cut is none going next out so = λ on. ap (λ (d : Desk). d.out) is.desk ∙ out ∙ ap is_some (none_of to.commit so)
-  turn_answers (Some commit) topology of_cut is none going next out so =
+  turn_answers None is none next out so = λ on. ap (λ (d : Desk). d.out) is.desk ∙ out ∙ ap is_some (none_of to.commit so)
+  turn_answers (Some commit) is none next out so =
       let order = some_of to.commit commit so in
       let at : next_to_commit t cut to.desk ≡ Some order.wait = next ∙ order.some in
       record {
         wait = order.wait;
         ordered = record {
-          goes_on = goes_on topology of_cut is none going;
+          goes_on = goes_on order.wait is none at;
           out = ap (λ (d : Desk). d.out) is.desk ∙ out ∙ ap is_some order.some;
           next = (λ i. next_to_commit (is.topology i) (is.of_cut i) (is.desk i)) ∙ at;
         };
@@ -240,9 +239,6 @@ module _ {I : Type 0} {g : Ghosts I} (t : Topology) (cut : Cut) (old new : Engin
     has_memory = memory;
   }
 
-  pub size_some : IsReady t cut old → 0 < cut.size
-  size_some ready = let size = ready.input.size in let batch = ready.input.valid.batch in omega arith
-
   pub tasks_are : IsReady t cut old → length old.tasks.items ≡ tasks_in_all t
   tasks_are ready = sym (length-map old.tasks.items (task_side {I = I} {g = g})) ∙ ready.orderly.task_count
 
@@ -254,17 +250,18 @@ pub record TookTurn {I : Type 0} {g : Ghosts I} (found : Option Verdict) (parcel
   pub verdicts : new.verdicts.items ≡ drop 1 old.verdicts.items
   pub orders : new.orders.items ≡ parcels
   pub unheard : new.unheard ≡ 0
+  pub shut : new.shut ≡ old.shut
   pub tick : new.tick ≡ old.tick
   pub plan : new.plan ≡ old.plan
   pub tasks : new.tasks ≡ old.tasks
   pub ackers : new.ackers ≡ old.ackers
 
 module _ {I : Type 0} {g : Ghosts I} (tells : I → (ℕ → ℕ) → ℕ → Type 0) (t : Topology) (cut : Cut) (old new : Engine I g) (found : Option Verdict) (ready : IsReady t cut old) where
-  turn_is : (parcels : List Parcel) → TookTurn found parcels old new → turned_in t cut (shape old) ≡ turned t cut found old.unheard (desk_of old.coordinator)
-  turn_is parcels took = ap (λ (v : Option Verdict). turned t cut v old.unheard (desk_of old.coordinator)) took.heard
+  turn_is : (parcels : List Parcel) → TookTurn found parcels old new → turned_in t cut (shape old) ≡ turned t cut found old.unheard old.shut (desk_of old.coordinator)
+  turn_is parcels took = ap (λ (v : Option Verdict). turned t cut v old.unheard old.shut (desk_of old.coordinator)) took.heard
 
-  pub turn_few : (turned t cut found old.unheard (desk_of old.coordinator)).desk.tick ≤ last_tick
-  turn_few = (turned_passes t cut found old.unheard (desk_of old.coordinator)).ticks ready.ticks
+  pub turn_few : (turned t cut found old.unheard old.shut (desk_of old.coordinator)).desk.tick ≤ last_tick
+  turn_few = turned_passes t cut found old.unheard old.shut (desk_of old.coordinator) ready.ticks
 
   leaves_by : (to : Turned t cut) (parcels : List Parcel) → TookTurn found parcels old new → desk_of new.coordinator ≡ to.desk → new.fates ≡ old.fates ++ to.ended → Leaves tells t cut to parcels old new
   leaves_by to parcels took desk fates = record {
@@ -272,6 +269,7 @@ module _ {I : Type 0} {g : Ghosts I} (tells : I → (ℕ → ℕ) → ℕ → Ty
     verdicts = took.verdicts;
     orders = took.orders;
     unheard = took.unheard;
+    shut = took.shut;
     tick = took.tick;
     fates = fates;
     tasks = took.tasks;
@@ -286,39 +284,38 @@ module _ {I : Type 0} {g : Ghosts I} (tells : I → (ℕ → ℕ) → ℕ → Ty
     pub own : IsOwn new.coordinator
     pub has_memory : wanted_memory new.coordinator ≡ false
 
-  module _ (parcels : List Parcel) (turns : TurnsInto (turned t cut found old.unheard (desk_of old.coordinator)) parcels) where
-    pub turn_begun_happens : Begins tells cut (collector_of old.coordinator) (collector_of new.coordinator) (turned t cut found old.unheard (desk_of old.coordinator)).begun parcels → old.orders.items ≡ []
+  module _ (parcels : List Parcel) (turns : TurnsInto (turned t cut found old.unheard old.shut (desk_of old.coordinator)) parcels) where
+    pub turn_begun_happens : Begins tells cut (collector_of old.coordinator) (collector_of new.coordinator) (turned t cut found old.unheard old.shut (desk_of old.coordinator)).begun parcels → old.orders.items ≡ []
         → Happens tells (tasks_in_all t) (turn_needs t cut (shape old)) (λ ids w. turn_step t cut ids w) old new
     turn_begun_happens begins empty =
-        turn_happens tells t cut old new (turned t cut found old.unheard (desk_of old.coordinator)) parcels (tasks_are t cut old old ready) empty (turn_is parcels turns.took)
+        turn_happens tells t cut old new (turned t cut found old.unheard old.shut (desk_of old.coordinator)) parcels (tasks_are t cut old old ready) empty (turn_is parcels turns.took)
         (ready.seated.own.topology ∙ ready.seated.of_topology) ready.seated.own.from (ready.seated.own.source ∙ ap tasks_in_all ready.seated.of_topology) begins
-        (leaves_by (turned t cut found old.unheard (desk_of old.coordinator)) parcels turns.took (ap (λ (o : Office). o.desk) turns.office) turns.fates)
+        (leaves_by (turned t cut found old.unheard old.shut (desk_of old.coordinator)) parcels turns.took (ap (λ (o : Office). o.desk) turns.office) turns.fates)
 
     pub turn_ready : Happens tells (tasks_in_all t) (turn_needs t cut (shape old)) (λ ids w. turn_step t cut ids w) old new
-        → IsKept t cut (turned t cut found old.unheard (desk_of old.coordinator)).desk (old.fates ++ (turned t cut found old.unheard (desk_of old.coordinator)).ended) → IsReady t cut new
+        → IsKept t cut (turned t cut found old.unheard old.shut (desk_of old.coordinator)).desk (old.fates ++ (turned t cut found old.unheard old.shut (desk_of old.coordinator)).ended) → IsReady t cut new
     turn_ready done kept =
-        ready_on t cut old new (turned t cut found old.unheard (desk_of old.coordinator)).desk (turned t cut found old.unheard (desk_of old.coordinator)).ended ready
+        ready_on t cut old new (turned t cut found old.unheard old.shut (desk_of old.coordinator)).desk (turned t cut found old.unheard old.shut (desk_of old.coordinator)).ended ready
         (seated_on t cut old new ready.seated turns.took.plan turns.took.tasks turns.took.ackers turns.own (ap (λ (o : Office). o.topology) turns.office) (ap (λ (o : Office). o.cut) turns.office))
         (subst (IsOrderly t) (sym done.same) (orderly-turn t cut (shape old) ready.input ready.orderly done.ids done.enough))
         (ap (λ (o : Office). o.desk) turns.office) turns.fates kept turn_few turns.has_memory
 
-    pub turn_turned : IsTurned t cut old new (turned t cut found old.unheard (desk_of old.coordinator))
+    pub turn_turned : IsTurned t cut old new (turned t cut found old.unheard old.shut (desk_of old.coordinator))
     turn_turned = record {
       topology = ap (λ (o : Office). o.topology) turns.office ∙ ready.seated.of_topology;
       of_cut = ap (λ (o : Office). o.cut) turns.office ∙ ready.seated.of_cut;
       desk = ap (λ (o : Office). o.desk) turns.office;
-      committed = (turned_passes t cut found old.unheard (desk_of old.coordinator)).committed;
     }
 
   -- a turn that stops
-  pub turn_stopped_happens : (txid : ℕ) → TurnsInto (turned t cut found old.unheard (desk_of old.coordinator)) [] → old.orders.items ≡ []
-      → (turned t cut found old.unheard (desk_of old.coordinator)).desk.exhausted ≡ Some txid → collector_of new.coordinator ≡ collector_of old.coordinator
+  pub turn_stopped_happens : (txid : ℕ) → TurnsInto (turned t cut found old.unheard old.shut (desk_of old.coordinator)) [] → old.orders.items ≡ []
+      → (turned t cut found old.unheard old.shut (desk_of old.coordinator)).desk.exhausted ≡ Some txid → collector_of new.coordinator ≡ collector_of old.coordinator
       → Happens tells (tasks_in_all t) (turn_needs t cut (shape old)) (λ ids w. turn_step t cut ids w) old new
   turn_stopped_happens txid turns empty stops collector =
-      stopped_happens tells t cut old new (turned t cut found old.unheard (desk_of old.coordinator)) (tasks_are t cut old old ready) empty (turn_is [] turns.took)
+      stopped_happens tells t cut old new (turned t cut found old.unheard old.shut (desk_of old.coordinator)) (tasks_are t cut old old ready) empty (turn_is [] turns.took)
       (ready.seated.own.topology ∙ ready.seated.of_topology) ready.seated.own.from (ready.seated.own.source ∙ ap tasks_in_all ready.seated.of_topology)
-      (stopped_begins t cut found old.unheard (desk_of old.coordinator) txid stops) collector
-      (leaves_by (turned t cut found old.unheard (desk_of old.coordinator)) [] turns.took (ap (λ (o : Office). o.desk) turns.office) turns.fates)
+      (stopped_begins t cut found old.unheard old.shut (desk_of old.coordinator) txid stops) collector
+      (leaves_by (turned t cut found old.unheard old.shut (desk_of old.coordinator)) [] turns.took (ap (λ (o : Office). o.desk) turns.office) turns.fates)
 
 pub none_exhausted : {I : Type 0} {g : Ghosts I} (t : Topology) (cut : Cut) (e : Engine I g) → has_ended e ≡ false → (desk_of e.coordinator).exhausted ≡ None
 none_exhausted t cut e going = (goes_on_by (desk_of e.coordinator).exhausted (is_finished (topology_in e) (cut_in e) (desk_of e.coordinator)) going).0
@@ -330,47 +327,47 @@ has_stop_none t cut e ready going =
 
 module _ {I : Type 0} {g : Ghosts I} (tells : I → (ℕ → ℕ) → ℕ → Type 0) (old new : Engine I g) (found : Option Verdict) (ready : IsReady (topology_in old) (cut_in old) old)
     (going : has_ended old ≡ false) (empty : old.orders.items ≡ [])
-    (kept : IsKept (topology_in old) (cut_in old) (turned (topology_in old) (cut_in old) found old.unheard (desk_of old.coordinator)).desk
-    (old.fates ++ (turned (topology_in old) (cut_in old) found old.unheard (desk_of old.coordinator)).ended)) where
+    (kept : IsKept (topology_in old) (cut_in old) (turned (topology_in old) (cut_in old) found old.unheard old.shut (desk_of old.coordinator)).desk
+    (old.fates ++ (turned (topology_in old) (cut_in old) found old.unheard old.shut (desk_of old.coordinator)).ended)) where
   -- a turn that goes on
   pub turn_taken : (orders : Orders) → TookTurn found orders.parcels old new
-      → TurnsTo tells (topology_in old) (cut_in old) (turned (topology_in old) (cut_in old) found old.unheard (desk_of old.coordinator)) old.coordinator new.coordinator orders
-      → new.fates ≡ old.fates ++ (turned (topology_in old) (cut_in old) found old.unheard (desk_of old.coordinator)).ended → StaysOwn new.coordinator
-      → next_to_commit (topology_in old) (cut_in old) (turned (topology_in old) (cut_in old) found old.unheard (desk_of old.coordinator)).desk ≡ (turned (topology_in old) (cut_in old) found old.unheard (desk_of old.coordinator)).commit
-      → (turned (topology_in old) (cut_in old) found old.unheard (desk_of old.coordinator)).desk.out ≡ is_some (turned (topology_in old) (cut_in old) found old.unheard (desk_of old.coordinator)).commit
+      → TurnsTo tells (topology_in old) (cut_in old) (turned (topology_in old) (cut_in old) found old.unheard old.shut (desk_of old.coordinator)) old.coordinator new.coordinator orders
+      → new.fates ≡ old.fates ++ (turned (topology_in old) (cut_in old) found old.unheard old.shut (desk_of old.coordinator)).ended → StaysOwn new.coordinator
+      → next_to_commit (topology_in old) (cut_in old) (turned (topology_in old) (cut_in old) found old.unheard old.shut (desk_of old.coordinator)).desk ≡ (turned (topology_in old) (cut_in old) found old.unheard old.shut (desk_of old.coordinator)).commit
+      → (turned (topology_in old) (cut_in old) found old.unheard old.shut (desk_of old.coordinator)).desk.out ≡ is_some (turned (topology_in old) (cut_in old) found old.unheard old.shut (desk_of old.coordinator)).commit
       → TakesTurn tells (topology_in old) (cut_in old) orders.commit old new
   turn_taken orders took to fates own next out =
-      let turns : TurnsInto tells (topology_in old) (cut_in old) old new found ready (turned (topology_in old) (cut_in old) found old.unheard (desk_of old.coordinator)) orders.parcels =
+      let turns : TurnsInto tells (topology_in old) (cut_in old) old new found ready (turned (topology_in old) (cut_in old) found old.unheard old.shut (desk_of old.coordinator)) orders.parcels =
       record { took = took; office = to.office; fates = fates; own = own to.has_memory; has_memory = to.has_memory } in
       let happens = turn_begun_happens tells (topology_in old) (cut_in old) old new found ready orders.parcels turns to.begun empty in
       record {
         happens = happens;
         ready = turn_ready tells (topology_in old) (cut_in old) old new found ready orders.parcels turns happens kept;
         answers =
-            turn_answers (topology_in old) (cut_in old) old new (turned (topology_in old) (cut_in old) found old.unheard (desk_of old.coordinator)) orders.commit refl refl
-            (turn_turned tells (topology_in old) (cut_in old) old new found ready orders.parcels turns) to.goes_on going next out to.commit;
+            turn_answers (topology_in old) (cut_in old) old new (turned (topology_in old) (cut_in old) found old.unheard old.shut (desk_of old.coordinator)) orders.commit
+            (turn_turned tells (topology_in old) (cut_in old) old new found ready orders.parcels turns) to.goes_on next out to.commit;
       }
 
   -- a turn that stops
   pub turn_stopped : (txid : ℕ) → TookTurn found [] old new
-      → StopsAt txid (turned (topology_in old) (cut_in old) found old.unheard (desk_of old.coordinator)).desk (turned (topology_in old) (cut_in old) found old.unheard (desk_of old.coordinator)).ended
+      → StopsAt txid (turned (topology_in old) (cut_in old) found old.unheard old.shut (desk_of old.coordinator)).desk (turned (topology_in old) (cut_in old) found old.unheard old.shut (desk_of old.coordinator)).ended
       old.coordinator new.coordinator old.fates new.fates → StaysOwn new.coordinator → TakesTurn tells (topology_in old) (cut_in old) None old new
   turn_stopped txid took stops own =
-      let turns : TurnsInto tells (topology_in old) (cut_in old) old new found ready (turned (topology_in old) (cut_in old) found old.unheard (desk_of old.coordinator)) [] =
+      let turns : TurnsInto tells (topology_in old) (cut_in old) old new found ready (turned (topology_in old) (cut_in old) found old.unheard old.shut (desk_of old.coordinator)) [] =
       record { took = took; office = stops.office; fates = stops.fates; own = own stops.has_memory; has_memory = stops.has_memory } in
       let happens = turn_stopped_happens tells (topology_in old) (cut_in old) old new found ready txid turns empty stops.exhausted stops.collector in
       record {
         happens = happens;
         ready = turn_ready tells (topology_in old) (cut_in old) old new found ready [] turns happens kept;
-        answers = stopped_idle (topology_in old) (cut_in old) old new (turned (topology_in old) (cut_in old) found old.unheard (desk_of old.coordinator)) txid (ap (λ (o : Office). o.desk) stops.office) stops.exhausted;
+        answers = stopped_idle (topology_in old) (cut_in old) old new (turned (topology_in old) (cut_in old) found old.unheard old.shut (desk_of old.coordinator)) txid (ap (λ (o : Office). o.desk) stops.office) stops.exhausted;
       }
 
   -- a turn that wants memory
-  pub turn_short : (result : List Attempt) → RunsShort (turned (topology_in old) (cut_in old) found old.unheard (desk_of old.coordinator)).ended new.coordinator old.fates result
-      → IsOnce (length (cut_in old).records) (cut_in old).size last_tick result
+  pub turn_short : (result : List Attempt) → RunsShort (turned (topology_in old) (cut_in old) found old.unheard old.shut (desk_of old.coordinator)).ended new.coordinator old.fates result
+      → IsOnce (cut_in old) last_tick result
   turn_short result short =
-      short_once (topology_in old) (cut_in old) (turned (topology_in old) (cut_in old) found old.unheard (desk_of old.coordinator)).desk
-      (turned (topology_in old) (cut_in old) found old.unheard (desk_of old.coordinator)).ended old.fates result kept (turn_few tells (topology_in old) (cut_in old) old new found ready) short.some
+      short_once (topology_in old) (cut_in old) (turned (topology_in old) (cut_in old) found old.unheard old.shut (desk_of old.coordinator)).desk
+      (turned (topology_in old) (cut_in old) found old.unheard old.shut (desk_of old.coordinator)).ended old.fates result kept (turn_few tells (topology_in old) (cut_in old) old new found ready) short.some
 
 -- ---- an outcome
 
@@ -462,8 +459,8 @@ module _ {I : Type 0} {g : Ghosts I} (t : Topology) (cut : Cut) (old new : Engin
       ready_still t cut old new ready still seated (subst (IsOrderly t) (sym done.same) (orderly-turn t cut (shape old) ready.input ready.orderly done.ids done.enough))
 
 -- the fates of an engine that is ready
-pub ready_once : {I : Type 0} {g : Ghosts I} (t : Topology) (cut : Cut) (e : Engine I g) → IsReady t cut e → IsOnce (length cut.records) cut.size last_tick e.fates
+pub ready_once : {I : Type 0} {g : Ghosts I} (t : Topology) (cut : Cut) (e : Engine I g) → IsReady t cut e → IsOnce cut last_tick e.fates
 ready_once t cut e ready = kept_once t cut (desk_of e.coordinator) e.fates ready.kept ready.ticks
 
-pub once_still : {I : Type 0} {g : Ghosts I} (t : Topology) (cut : Cut) (old new : Engine I g) → IsReady t cut old → IsStill old new → IsOnce (length cut.records) cut.size last_tick new.fates
-once_still t cut old new ready still = subst (IsOnce (length cut.records) cut.size last_tick) (sym still.fates) (ready_once t cut old ready)
+pub once_still : {I : Type 0} {g : Ghosts I} (t : Topology) (cut : Cut) (old new : Engine I g) → IsReady t cut old → IsStill old new → IsOnce cut last_tick new.fates
+once_still t cut old new ready still = subst (IsOnce cut last_tick) (sym still.fates) (ready_once t cut old ready)

@@ -14,7 +14,7 @@ use Rattle.event_worlds.specs.output_collector.Draws.{Draws}
 use Rattle.event_worlds.specs.state_parts.declared.answer.CommitOutcome.{CommitOutcome}
 use Rattle.event_worlds.specs.storm_ids.declared.ids.Ids.{Ghosts}
 use Rattle.event_worlds.specs.topology_plan.Topology.{Topology}
-use Rattle.event_worlds.specs.trident_batches.Batches.{Cut}
+use Rattle.event_worlds.specs.taken_records.Cuts.{Cut}
 
 -- words that are the numbers of two lists, one after the other
 joined_words : (first more : ℕ → List ℕ) → ℕ → ℕ → ℕ
@@ -36,7 +36,7 @@ joined_more first more s =
     ap (λ (n : ℕ). map word (range_with_len n (length (more s)))) same
     ∙ (append-split (map word (range_with_len 0 (length (first s)))) (first s) (map word (range_with_len (0 + length (first s)) (length (more s)))) (more s) (length-map-range_with_len word 0 (length (first s))) parts).1
 
-module _ {I : Type 0} {g : Ghosts I} (told : (ℕ → ℕ → ℕ) → Type 0) (tells : I → (ℕ → ℕ) → ℕ → Type 0) (t : Topology) (old : Engine I g) (started : IsStarted told tells t old) (given : ℕ → List ℕ) where
+module _ {I : Type 0} {g : Ghosts I} (told : (ℕ → ℕ → ℕ) → Type 0) (tells : I → (ℕ → ℕ) → ℕ → Type 0) (t : Topology) (cut : Cut) (old : Engine I g) (started : IsStarted told tells t cut old) (given : ℕ → List ℕ) where
   -- some words begin with those that were given, at the start and after it
   pub words_begin : (words : ℕ → ℕ → ℕ) × Gives words (λ s. 0) started.given × Gives words (first_counts t words) given
   words_begin =
@@ -59,7 +59,7 @@ module _ {I : Type 0} {g : Ghosts I} (told : (ℕ → ℕ → ℕ) → Type 0) (
           sym ((draws s source at).2.are_next (words s) (first_counts t words s) (subst (tells source (words s)) (started.counted words s) (started.goes_on words is s source at)))
 
 module _ {I : Type 0} {g : Ghosts I} (told : (ℕ → ℕ → ℕ) → Type 0) (tells : I → (ℕ → ℕ) → ℕ → Type 0) (t : Topology) (custom : Custom) (cut : Cut) (steps : List Step) (old new : Engine I g)
-    (started : IsStarted told tells t old) (goes : Goes tells t custom cut steps old new) where
+    (started : IsStarted told tells t cut old) (goes : Goes tells t custom cut steps old new) where
   pub from_start : (words : ℕ → ℕ → ℕ) (outcomes : List CommitOutcome) → Gives words (λ s. 0) started.given → Gives words (first_counts t words) goes.given → HasOutcomes outcomes new.fates
       → shape new ≡ world_after t custom cut words outcomes steps
   from_start words outcomes begins gives has =
@@ -68,8 +68,8 @@ module _ {I : Type 0} {g : Ghosts I} (told : (ℕ → ℕ → ℕ) → Type 0) (
 
   -- by words that are told
   pub told_world : (words : ℕ → ℕ → ℕ) → told words → (outcomes : List CommitOutcome) → HasOutcomes outcomes new.fates → shape new ≡ world_after t custom cut words outcomes steps
-  told_world words is outcomes has = from_start words outcomes (started.gives words is) (told_gives told tells t old started goes.given new goes.draws goes.none words is) has
+  told_world words is outcomes has = from_start words outcomes (started.gives words is) (told_gives told tells t cut old started goes.given new goes.draws goes.none words is) has
 
   -- some words begin with those that were given, at the start and after it
   pub some_words : (words : ℕ → ℕ → ℕ) × Gives words (λ s. 0) started.given × Gives words (first_counts t words) goes.given
-  some_words = words_begin told tells t old started goes.given
+  some_words = words_begin told tells t cut old started goes.given

@@ -18,11 +18,11 @@ use Rattle.event_worlds.specs.tree_model.declared.messages.Parcel.{Parcel}
 use Rattle.event_worlds.specs.tree_model.declared.messages.Parcel.TheVariants.{ToTask, ToAcker}
 use Rattle.event_worlds.specs.tree_model.declared.messages.Tuple.{Tuple}
 use Rattle.event_worlds.specs.tree_model.Lists.{root_of}
-use Rattle.event_worlds.specs.trident_batches.Batches.{Cut}
+use Rattle.event_worlds.specs.taken_records.Cuts.{Cut}
 use Rattle.event_worlds.specs.tuple_account.Histories.{acker_of, execution_parcels}
 use Rattle.event_worlds.specs.output_collector.Collectors.{ids_in}
 use Rattle.event_worlds.specs.Orderly.{IsOrderly}
-use Rattle.event_worlds.specs.Worlds.{Known, Step, World, acker_at, acker_step, acted, drew, execution_by, is_over, next, no_acker, no_task, of_acker, of_outcome, of_task, of_tick, of_turn, run, sent, stand_moved, step, task_at, task_needs, task_step, with_task}
+use Rattle.event_worlds.specs.Worlds.{Known, Step, World, acker_at, acker_step, acted, drew, execution_by, is_over, next, no_acker, no_task, of_acker, of_open, of_outcome, of_shut, of_task, of_tick, of_turn, run, sent, stand_moved, step, task_at, task_needs, task_step, with_task}
 use Rattle.event_worlds.proofs.Orderly.{orderly-acker, orderly-task}
 use Rattle.event_engine.specs.Boosts.{GoesBeside, GoesUpTo, IsBeside, WritesTo, WroteTo, task_steps}
 use Rattle.event_engine.specs.Engines.{Goes, IsReady, IsSeated, IsStill, cut_in, shape, sources, topology_in}
@@ -48,6 +48,8 @@ steps-append (of_acker a ∷ xs) ys = steps-append xs ys
 steps-append (of_turn ∷ xs) ys = steps-append xs ys
 steps-append (of_outcome ∷ xs) ys = steps-append xs ys
 steps-append (of_tick ∷ xs) ys = steps-append xs ys
+steps-append (of_shut q ∷ xs) ys = steps-append xs ys
+steps-append (of_open q ∷ xs) ys = steps-append xs ys
 
 only-ackers : (n a k : ℕ) → AllByRecursion (IsBeside n) (replicate k (of_acker a))
 only-ackers n a zero = tt

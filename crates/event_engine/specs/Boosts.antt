@@ -4,10 +4,10 @@ use Rattle.std.specs.List.{AllByRecursion}
 use Rattle.event_worlds.specs.bolt_ops.RowOp.{Custom}
 use Rattle.event_engine.specs.Engines.{Goes, shape, sources, topology_in}
 use Rattle.event_engine.specs.declared.engine.Engine.{Engine}
-use Rattle.event_worlds.specs.Worlds.{Step, World, acker_at, acker_step, is_over, of_acker, of_outcome, of_task, of_tick, of_turn, task_at, task_needs, task_step}
+use Rattle.event_worlds.specs.Worlds.{Step, World, acker_at, acker_step, is_over, of_acker, of_open, of_outcome, of_shut, of_task, of_tick, of_turn, task_at, task_needs, task_step}
 use Rattle.event_worlds.specs.storm_ids.declared.ids.Ids.{Ghosts}
 use Rattle.event_worlds.specs.topology_plan.Topology.{Topology, tasks_in_all}
-use Rattle.event_worlds.specs.trident_batches.Batches.{Cut}
+use Rattle.event_worlds.specs.taken_records.Cuts.{Cut}
 
 -- the numbers below one did this in turn, the first first
 abbrev pub InTurn : {X : Type 0} → (ℕ → X → X → Type 0) → ℕ → X → X → Type 0
@@ -29,6 +29,8 @@ IsBeside n (of_acker a) = Unit {0}
 IsBeside n of_turn = ⊥
 IsBeside n of_outcome = ⊥
 IsBeside n of_tick = ⊥
+IsBeside n (of_shut q) = ⊥
+IsBeside n (of_open q) = ⊥
 
 -- how many steps are tasks'
 abbrev pub task_steps : List Step → ℕ
@@ -38,6 +40,8 @@ task_steps (of_acker a ∷ steps) = task_steps steps
 task_steps (of_turn ∷ steps) = task_steps steps
 task_steps (of_outcome ∷ steps) = task_steps steps
 task_steps (of_tick ∷ steps) = task_steps steps
+task_steps (of_shut q ∷ steps) = task_steps steps
+task_steps (of_open q ∷ steps) = task_steps steps
 
 module _ {I : Type 0} {g : Ghosts I} (tells : I → (ℕ → ℕ) → ℕ → Type 0) (t : Topology)
     (custom : Custom) (cut : Cut) where

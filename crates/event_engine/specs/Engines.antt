@@ -22,7 +22,7 @@ use Rattle.event_worlds.specs.storm_ids.declared.ids.Ids.{Ghosts}
 use Rattle.event_worlds.specs.topology_plan.Topology.{Topology, tasks_in_all}
 use Rattle.event_worlds.specs.tree_model.declared.messages.Parcel.{Parcel}
 use Rattle.event_worlds.specs.tree_model.declared.messages.Parcel.TheVariants.{ToTask, ToAcker}
-use Rattle.event_worlds.specs.trident_batches.Batches.{Cut}
+use Rattle.event_worlds.specs.taken_records.Cuts.{Cut}
 
 -- source n gave these ids, and the others none
 pub record DrawsAt {S : Type 0} (tells : S → (ℕ → ℕ) → ℕ → Type 0) (n : ℕ) (ids : List ℕ)
@@ -59,6 +59,7 @@ module _ {I : Type 0} {g : Ghosts I} where
     desk = desk_of e.coordinator;
     tick = e.tick;
     unheard = e.unheard;
+    shut = e.shut;
     fates = e.fates;
   }
 
@@ -72,7 +73,8 @@ module _ {I : Type 0} {g : Ghosts I} where
   abbrev pub cut_in : Engine I g → Cut
   cut_in e = cut_of e.coordinator
 
-  -- whether every batch is committed, or all attempts of one ended without a commit
+  -- whether no record is left uncommitted, or as many attempts of a transaction aborted as a plan
+  -- allows
   abbrev pub has_ended : Engine I g → Bool
   has_ended e = is_over (topology_in e) (cut_in e) (shape e)
 
@@ -126,7 +128,7 @@ module _ {I : Type 0} {g : Ghosts I} where
     pub verdict : Option Verdict
     pub ticks : ℕ
     pub some : AddsSome
-        (turned (topology_in old) (cut_in old) verdict ticks (desk_of old.coordinator)).ended
+        (turned (topology_in old) (cut_in old) verdict ticks old.shut (desk_of old.coordinator)).ended
         old.fates fates
 
   -- the same where an outcome was told

@@ -9,6 +9,7 @@ use Rattle.event_engine.specs.declared.task.TaskSeat.{TaskSeat}
 use Rattle.event_worlds.specs.Worlds.{first_counts, first_world}
 use Rattle.event_worlds.specs.groupings.Routing.{lanes_of}
 use Rattle.event_worlds.specs.storm_ids.declared.ids.Ids.{Ghosts}
+use Rattle.event_worlds.specs.taken_records.Cuts.{Cut}
 use Rattle.event_worlds.specs.topology_plan.declared.parts.Origin.{Origin}
 use Rattle.event_worlds.specs.topology_plan.declared.parts.Origin.TheVariants as origin
 use Rattle.event_worlds.specs.topology_plan.Topology.{Topology, component_of, subs_of}
@@ -51,10 +52,11 @@ module _ {I : Type 0} {g : Ghosts I} where
   -- An engine is the first world, by any words that begin with those that its sources gave. Of
   -- words that are told these are the first.
   pub record IsStarted (told : (ℕ → ℕ → ℕ) → Type 0) (tells : I → (ℕ → ℕ) → ℕ → Type 0)
-      (t : Topology) (e : Engine I g) : Type 0 where
+      (t : Topology) (cut : Cut) (e : Engine I g) : Type 0 where
     pub given : ℕ → List ℕ
     pub counted : (words : ℕ → ℕ → ℕ) (s : ℕ) → length (given s) ≡ first_counts t words s
-    pub first : (words : ℕ → ℕ → ℕ) → Gives words (λ s. 0) given → shape e ≡ first_world t words
+    pub first : (words : ℕ → ℕ → ℕ) → Gives words (λ s. 0) given 
+        → shape e ≡ first_world t cut words
     pub gives : (words : ℕ → ℕ → ℕ) → told words → Gives words (λ s. 0) given
     pub goes_on : (words : ℕ → ℕ → ℕ) → told words
         → HaveTold tells words (λ s. length (given s)) e

@@ -25,8 +25,8 @@ impl<'p, I: Ids> Engine<'p, I> {
         ensures boosts { OnOk result (Boosts I.tells (topology_in self.old) (O.meaning custom.now)
             (cut_in self.old) most self.old self.new) }
         ensures still { IsStill self.old self.new }
-        ensures once { OnErr result (IsOnce (length (cut_in self.old).records)
-            (cut_in self.old).size (2 ^ 64 - 1) self.new.fates) }
+        ensures once { OnErr result (IsOnce (cut_in self.old)
+            (2 ^ 64 - 1) self.new.fates) }
     {
         if self.is_over() {
             return Ok(());

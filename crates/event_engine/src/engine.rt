@@ -6,11 +6,12 @@ ghost use Rattle.event_worlds.specs.commit_order.Orders.{desk_of};
 ghost use Rattle.event_worlds.specs.commit_order.declared.stop.Stop.TheVariants as stop;
 ghost use Rattle.event_worlds.specs.commit_turns.Turns.{is_finished};
 ghost use Rattle.event_engine.specs.Engines.{Answers, DecidesShort, Goes, Happens, IsIdle, IsReady, IsSeated, IsStill, IsThere, MayDecide, TakesTurn, TurnsShort, cut_in, has_ended, shape, sources, topology_in};
-ghost use Rattle.event_worlds.specs.Worlds.{acker_step, delivered, of_acker, of_outcome, of_task, of_tick, of_turn, outcomes_of, task_at, task_needs, task_step, tick_step};
+ghost use Rattle.event_worlds.specs.Worlds.{acker_step, delivered, of_acker, of_open, of_outcome, of_shut, of_task, of_tick, of_turn, outcomes_of, task_at, task_needs, task_step, tick_step};
 ghost use Rattle.event_worlds.specs.topology_plan.Topology.{Topology, tasks_in_all};
-ghost use Rattle.event_worlds.specs.trident_batches.Batches.{Cut};
+ghost use Rattle.event_worlds.specs.taken_records.Cuts.{Cut};
 
 use crate::acker::{AckerSeat, answer_at, put_message};
+use crate::shutting::{with_open, with_shut};
 use crate::task::{TaskSeat, execute_at, hand_over_at, has_parcel_at, put_tuple};
 use event_worlds::acker_core::Verdict;
 use event_worlds::attempt_fates::Fates;
@@ -37,6 +38,7 @@ pub struct Engine<'p, I: Ids> {
     pub(crate) orders: VecDeque<Parcel>,
     pub(crate) tick: u64,
     pub(crate) unheard: u32,
+    pub(crate) shut: u16,
     pub(crate) fates: Fates,
 }
 
@@ -50,8 +52,8 @@ impl<'p, I: Ids> Engine<'p, I> {
         ensures goes { OnOk result (Goes I.tells (topology_in self.old) (O.meaning custom.now)
             (cut_in self.old) (of_task n ∷ []) self.old self.new) }
         ensures still { IsStill self.old self.new }
-        ensures once { OnErr result (IsOnce (length (cut_in self.old).records)
-            (cut_in self.old).size (2 ^ 64 - 1) self.new.fates) }
+        ensures once { OnErr result (IsOnce (cut_in self.old)
+            (2 ^ 64 - 1) self.new.fates) }
     {
         if self.is_over() {
             return Ok(());
@@ -69,8 +71,8 @@ impl<'p, I: Ids> Engine<'p, I> {
         ensures goes { (custom : Custom) → OnOk result (Goes I.tells (topology_in self.old) custom
             (cut_in self.old) (of_acker n ∷ []) self.old self.new) }
         ensures still { IsStill self.old self.new }
-        ensures once { OnErr result (IsOnce (length (cut_in self.old).records)
-            (cut_in self.old).size (2 ^ 64 - 1) self.new.fates) }
+        ensures once { OnErr result (IsOnce (cut_in self.old)
+            (2 ^ 64 - 1) self.new.fates) }
     {
         if self.is_over() {
             return Ok(());
@@ -88,8 +90,8 @@ impl<'p, I: Ids> Engine<'p, I> {
             (cut_in self.old) (map of_task (range_with_len 0 (tasks_in_all (topology_in self.old))))
             self.old self.new) }
         ensures still { IsStill self.old self.new }
-        ensures once { OnErr result (IsOnce (length (cut_in self.old).records)
-            (cut_in self.old).size (2 ^ 64 - 1) self.new.fates) }
+        ensures once { OnErr result (IsOnce (cut_in self.old)
+            (2 ^ 64 - 1) self.new.fates) }
     {
         for n in 0..self.plan.tasks() {
             self.task(n, custom)?;
@@ -106,8 +108,8 @@ impl<'p, I: Ids> Engine<'p, I> {
             (cut_in self.old) (map of_acker (range_with_len 0 (topology_in self.old).ackers))
             self.old self.new) }
         ensures still { IsStill self.old self.new }
-        ensures once { OnErr result (IsOnce (length (cut_in self.old).records)
-            (cut_in self.old).size (2 ^ 64 - 1) self.new.fates) }
+        ensures once { OnErr result (IsOnce (cut_in self.old)
+            (2 ^ 64 - 1) self.new.fates) }
     {
         for n in 0..self.plan.ackers() {
             self.acker(n)?;
@@ -125,8 +127,8 @@ impl<'p, I: Ids> Engine<'p, I> {
         ensures goes { (custom : Custom) → OnOk result (Goes I.tells (topology_in self.old) custom
             (cut_in self.old) (of_turn ∷ []) self.old self.new) }
         ensures answers { IfOk result (λ commit. Answers commit self.new) }
-        ensures once { OnErr result (IsOnce (length (cut_in self.old).records)
-            (cut_in self.old).size (2 ^ 64 - 1) self.new.fates) }
+        ensures once { OnErr result (IsOnce (cut_in self.old)
+            (2 ^ 64 - 1) self.new.fates) }
         ensures short { OnErr result (TurnsShort self.old self.new.fates) }
     {
         if self.is_over() {
@@ -155,8 +157,8 @@ impl<'p, I: Ids> Engine<'p, I> {
         ensures idle { OnOk result (IsIdle self.new) }
         ensures told { OnOk result
             (outcomes_of self.new.fates ≡ outcomes_of self.old.fates ++ how ∷ []) }
-        ensures once { OnErr result (IsOnce (length (cut_in self.old).records)
-            (cut_in self.old).size (2 ^ 64 - 1) self.new.fates) }
+        ensures once { OnErr result (IsOnce (cut_in self.old)
+            (2 ^ 64 - 1) self.new.fates) }
         ensures short { OnErr result (DecidesShort how self.old self.new.fates) }
     {
         // a law: what is kept
@@ -184,8 +186,39 @@ impl<'p, I: Ids> Engine<'p, I> {
         self.tick_event();
     }
 
-    /// Whether all is over: every batch is committed, or all attempts of one ended without a
-    /// commit.
+    /// A partition of the spout is shut: attempts that begin have no record of it until it is
+    /// opened.
+    pub fn shut(&mut self, partition: u32)
+        requires few { partition < 16 }
+        requires ready { IsReady (topology_in self.old) (cut_in self.old) self.old }
+        ensures ready { IsReady (topology_in self.old) (cut_in self.old) self.new }
+        ensures goes { (custom : Custom) → Goes I.tells (topology_in self.old) custom
+            (cut_in self.old) (of_shut partition ∷ []) self.old self.new }
+        ensures still { IsStill self.old self.new }
+    {
+        if self.is_over() {
+            return;
+        }
+        self.take_shut(with_shut(self.shut, partition));
+    }
+
+    /// A partition of the spout is opened.
+    pub fn open(&mut self, partition: u32)
+        requires few { partition < 16 }
+        requires ready { IsReady (topology_in self.old) (cut_in self.old) self.old }
+        ensures ready { IsReady (topology_in self.old) (cut_in self.old) self.new }
+        ensures goes { (custom : Custom) → Goes I.tells (topology_in self.old) custom
+            (cut_in self.old) (of_open partition ∷ []) self.old self.new }
+        ensures still { IsStill self.old self.new }
+    {
+        if self.is_over() {
+            return;
+        }
+        self.take_shut(with_open(self.shut, partition));
+    }
+
+    /// Whether all is over: no record is left uncommitted, or as many attempts of a transaction
+    /// aborted as the plan allows.
     pub fn is_over(&self) -> bool
         ensures { result ≡ has_ended self.now }
     {
@@ -195,7 +228,7 @@ impl<'p, I: Ids> Engine<'p, I> {
         self.coordinator.finished()
     }
 
-    /// Whether every batch is committed.
+    /// Whether no record is left uncommitted.
     pub fn is_finished(&self) -> bool
         ensures { result ≡ is_finished (topology_in self.now) (cut_in self.now)
             (shape self.now).desk }
@@ -210,7 +243,8 @@ impl<'p, I: Ids> Engine<'p, I> {
         self.coordinator.exhausted()
     }
 
-    /// How many batches are committed.
+    /// The last transaction that is committed: that of the start, and then of one batch after
+    /// another.
     pub fn committed_count(&self) -> u64
         ensures { result ≡ (shape self.now).desk.committed }
     {
@@ -293,6 +327,17 @@ impl<'p, I: Ids> Engine<'p, I> {
         self.unheard = self.unheard.saturating_add(1);
     }
 
+    // These partitions are shut from now on, and no others.
+    fn take_shut(&mut self, shut: u16)
+        ensures done { shape self.new ≡ record (shape self.old) { shut = shut } }
+        ensures sources { sources self.new ≡ sources self.old }
+        ensures seated { (t : Topology) (cut : Cut) → IsSeated t cut self.old
+            → IsSeated t cut self.new }
+        ensures still { IsStill self.old self.new }
+    {
+        self.shut = shut;
+    }
+
     // The coordinator takes a verdict and has a turn.
     fn take_turn(&mut self) -> Result<Option<Commit>, Memory>
         requires ready { IsReady (topology_in self.old) (cut_in self.old) self.old }
@@ -301,8 +346,8 @@ impl<'p, I: Ids> Engine<'p, I> {
         requires empty { self.old.orders.items ≡ [] }
         ensures taken { IfOk result (λ commit. TakesTurn I.tells (topology_in self.old)
             (cut_in self.old) commit self.old self.new) }
-        ensures once { OnErr result (IsOnce (length (cut_in self.old).records)
-            (cut_in self.old).size (2 ^ 64 - 1) self.new.fates) }
+        ensures once { OnErr result (IsOnce (cut_in self.old)
+            (2 ^ 64 - 1) self.new.fates) }
         ensures short { OnErr result (TurnsShort self.old self.new.fates) }
     {
         // laws: what is kept, and what is out
@@ -311,7 +356,7 @@ impl<'p, I: Ids> Engine<'p, I> {
         let verdict = self.verdicts.pop_front();
         let ticks = self.unheard;
         self.unheard = 0;
-        match self.coordinator.turn(&mut self.fates, verdict, ticks) {
+        match self.coordinator.turn(&mut self.fates, verdict, ticks, self.shut) {
             Ok(orders) => {
                 let Orders { parcels, commit } = orders;
                 self.orders = VecDeque::from_vec(parcels.into_vec());

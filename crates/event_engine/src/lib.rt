@@ -7,6 +7,7 @@ mod boost;
 mod engine;
 mod exchange;
 mod lending;
+mod shutting;
 mod start;
 mod task;
 

@@ -13,12 +13,11 @@ use crate::engine::Engine;
 use crate::task::TaskSeat;
 use event_worlds::attempt_fates::Fates;
 use event_worlds::bolt_task::BoltTask;
-use event_worlds::commit_order::Coordinator;
+use event_worlds::commit_order::{Coordinator, Offers};
 use event_worlds::commit_turns::desks_are_kept;
 use event_worlds::storm_ids::{IdMaker, Ids};
 use event_worlds::storm_values::Memory;
 use event_worlds::topology_plan::Plan;
-use event_worlds::trident_batches::Batches;
 use std::alloc::Global;
 use std::collections::VecDeque;
 
@@ -61,18 +60,19 @@ fn start_ackers(alloc: Global, plan: &Plan) -> Result<Vec<AckerSeat>, Memory>
 }
 
 impl<'p, I: Ids> Engine<'p, I> {
-    /// An engine before the first event. Tasks have the sources of ids of their own numbers, and
+    /// An engine before the first event, which starts where its offers do. Tasks have the sources of ids of their own numbers, and
     /// the coordinator has the next one; each draws its start words.
     pub fn start<N: IdMaker<I = I>>(
         alloc: Global,
         plan: &'p Plan,
-        batches: Batches,
+        offers: Offers,
         ids: &mut N,
     ) -> Result<Self, Memory>
-        requires { IsInput plan.now batches }
-        ensures ready { IfOk result (IsReady plan.now batches) }
+        requires { IsInput plan.now offers }
+        ensures ready { IfOk result (IsReady plan.now offers) }
         ensures idle { IfOk result IsIdle }
-        ensures started { IfOk result (IsStarted (N.tells ids.old) I.tells plan.now) }
+        ensures started { IfOk result (IsStarted (N.tells ids.old) I.tells plan.now
+            offers) }
         ensures kept { (words : ℕ → ℕ → ℕ) → N.tells ids.old words → N.tells ids.new words }
     {
         // a law: what is kept
@@ -80,7 +80,7 @@ impl<'p, I: Ids> Engine<'p, I> {
         let tasks = start_tasks(alloc, plan, ids)?;
         let ackers = start_ackers(alloc, plan)?;
         let source = ids.make(plan.tasks())?;
-        let coordinator = Coordinator::new(alloc, plan, batches, source)?;
+        let coordinator = Coordinator::new(alloc, plan, offers, source)?;
         Ok(Engine {
             plan,
             tasks,
@@ -90,6 +90,7 @@ impl<'p, I: Ids> Engine<'p, I> {
             orders: VecDeque::new(alloc),
             tick: 0,
             unheard: 0,
+            shut: 0,
             fates: Fates::new(alloc),
         })
     }

@@ -25,7 +25,7 @@ use Rattle.commit_order.specs.topology_plan.Topology.{Topology}
 use Rattle.commit_order.specs.tree_model.Lists.{root_of}
 use Rattle.commit_order.specs.tree_model.declared.messages.AckMsg.{AckMsg}
 use Rattle.commit_order.specs.tree_model.declared.messages.Parcel.TheVariants.{ToAcker}
-use Rattle.commit_order.specs.trident_batches.Batches.{Cut}
+use Rattle.commit_order.specs.taken_records.Cuts.{Cut}
 use Rattle.commit_order.specs.tuple_account.Histories.{History, Packet, Told, joined, nothing, of_parcel, of_verdict}
 use Rattle.commit_order.specs.tuple_account.Moves.{Moves}
 use Rattle.commit_order.specs.tuple_account.Parts.{meeting, telling_by, weigh_entries}

@@ -1,18 +1,22 @@
 -- How many batches are committed, along a turn and an outcome.
-use Rattle.std.proofs.Common.{◌≡◌, ℕ, zero, suc, ◌+◌, Bool, true, false, cond, List, Option, None, Some, refl, sym, ap, ◌∙◌}
+use Rattle.std.proofs.Common.{◌≡◌, ℕ, zero, suc, ◌+◌, Bool, true, false, cond, List, [], ◌∷◌, Option, None, Some, refl, ◌∙◌}
 use Rattle.commit_order.specs.acker_core.declared.verdict.Verdict.{Verdict}
 use Rattle.commit_order.specs.acker_core.declared.verdict.Verdict.TheVariants.{Complete, Fails}
+use Rattle.commit_order.specs.attempt_fates.declared.fates.Attempt.{Attempt}
 use Rattle.commit_order.specs.attempt_fates.declared.fates.End.{End}
 use Rattle.commit_order.specs.commit_turns.declared.wait.Wait.{Wait}
 use Rattle.commit_order.specs.commit_turns.Desks.{Desk, Progress, still, timed_of}
-use Rattle.commit_order.specs.commit_turns.Turns.{and_then, begun, complete_timed, decided, decided_by, end_timed, fill_more, filled, has_no_tick, heard, is_closed, next_to_commit, one_tick, ordered, passed, ticked, turned, turned_by, next_wait}
-use Rattle.commit_order.specs.state_parts.declared.answer.CommitOutcome.{CommitOutcome}
+use Rattle.commit_order.specs.commit_turns.Turns.{aborted, and_then, begun, complete_timed, decided, decided_by, end_timed, fill_more, filled, has_no_tick, heard, is_closed, next_to_commit, one_tick, ordered, passed, ticked, turned, turned_by, next_wait}
 use Rattle.commit_order.specs.state_parts.declared.answer.CommitOutcome.TheVariants.{Done, Failed}
 use Rattle.commit_order.specs.topology_plan.Topology.{Topology}
 use Rattle.commit_order.specs.tree_model.declared.messages.AckMsg.{AckMsg}
-use Rattle.commit_order.specs.trident_batches.Batches.{Cut}
+use Rattle.commit_order.specs.taken_records.Cuts.{Cut}
 
 module _ (t : Topology) (cut : Cut) where
+  aborted-committed : (xs : List Attempt) (d : Desk) → (aborted t cut xs d).desk.committed ≡ d.committed
+  aborted-committed [] d = refl
+  aborted-committed (x ∷ xs) d = refl
+
   end_timed-committed : (how : End) (found : Option Wait) (d : Desk) → (end_timed t cut how found d).desk.committed ≡ d.committed
   end_timed-committed how None d = refl
   end_timed-committed how (Some w) d = refl
@@ -35,24 +39,25 @@ module _ (t : Topology) (cut : Cut) where
   ticked-committed zero d = refl
   ticked-committed (suc n) d =
       one_more (has_no_tick t cut d) d (still d) (and_then t cut (one_tick t cut d) (ticked t cut n (one_tick t cut d).desk)) refl
-      (ticked-committed n (one_tick t cut d).desk)
+      (ticked-committed n (one_tick t cut d).desk ∙ aborted-committed _ _)
 
-  filled-committed : (places : ℕ) (d : Desk) → (filled t cut places d).desk.committed ≡ d.committed
-  filled-committed zero d = refl
-  filled-committed (suc places) d = by (next_wait t cut d) (λ w. filled-committed places (begun t cut w d))
+  filled-committed : (shut places : ℕ) (d : Desk) → (filled t cut shut places d).desk.committed ≡ d.committed
+  filled-committed shut zero d = refl
+  filled-committed shut (suc places) d = by (next_wait t cut shut d) (λ w. filled-committed shut places (begun t cut w d))
     where
-      by : (next : Option Wait) → ((w : Wait) → (filled t cut places (begun t cut w d)).desk.committed ≡ d.committed) → (fill_more t cut (filled t cut places) d next).desk.committed ≡ d.committed
+      by : (next : Option Wait) → ((w : Wait) → (filled t cut shut places (begun t cut w d)).desk.committed ≡ d.committed)
+          → (fill_more t cut (filled t cut shut places) d next).desk.committed ≡ d.committed
       by None more = refl
       by (Some w) more = more w
 
-  turned_by-committed : (stopped : Option ℕ) (p : Progress) → (turned_by t cut stopped p).desk.committed ≡ p.desk.committed
-  turned_by-committed (Some txid) p = refl
-  turned_by-committed None p = filled-committed t.pending (ordered t cut p.desk)
+  turned_by-committed : (shut : ℕ) (stopped : Option ℕ) (p : Progress) → (turned_by t cut shut stopped p).desk.committed ≡ p.desk.committed
+  turned_by-committed shut (Some txid) p = refl
+  turned_by-committed shut None p = filled-committed shut t.pending (ordered t cut p.desk)
 
-  pub turned-committed : (verdict : Option Verdict) (ticks : ℕ) (d : Desk) → (turned t cut verdict ticks d).desk.committed ≡ d.committed
-  turned-committed verdict ticks d =
+  pub turned-committed : (verdict : Option Verdict) (ticks shut : ℕ) (d : Desk) → (turned t cut verdict ticks shut d).desk.committed ≡ d.committed
+  turned-committed verdict ticks shut d =
       let p = passed t cut ticks (heard t cut verdict d) in
-      turned_by-committed p.desk.exhausted p
+      turned_by-committed shut p.desk.exhausted p
       ∙ ticked-committed ticks (heard t cut verdict d).desk
       ∙ heard-committed verdict d
 

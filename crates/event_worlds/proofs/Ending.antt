@@ -1,16 +1,14 @@
 -- What follows for the fates, and for lists that pending attempts were settled with.
-use Rattle.std.proofs.Common.{◌≡◌, ◌≤◌, ◌<◌, ℕ, zero, suc, ◌+◌, ◌-◌, ◌*◌, ◌^◌, List, [], ◌∷◌, ◌++◌, length, map, take, drop, slice_get, Option, Some, sym, ap, subst, ◌∙◌, arith}
-use Rattle.std.specs.Prelude.{slice_range}
+use Rattle.std.proofs.Common.{◌≡◌, ◌≤◌, ◌<◌, ℕ, zero, suc, ◌+◌, ◌*◌, ◌^◌, List, [], ◌∷◌, ◌++◌, length, map, slice_get, Option, Some, sym, ap, subst, ◌∙◌, arith}
 use Rattle.std.specs.List.{AllByRecursion}
 use Rattle.std.proofs.lemmas.List.{length-map}
 use Rattle.commit_order.specs.attempt_fates.declared.fates.Attempt.{Attempt}
 use Rattle.commit_order.specs.bolt_ops.RowOp.{Custom}
 use Rattle.commit_order.specs.commit_turns.declared.wait.Wait.{Wait}
-use Rattle.commit_order.specs.commit_turns.Account as account
 use Rattle.commit_order.specs.commit_turns.Account.{desk_of, ended_of, ends_of, waits_of, ending_of, rows_at}
 use Rattle.commit_order.proofs.counted_items.Each.{each-back, each-map, each-parts, each-weaker, each-both, each-flat_map, each-to_map}
 use Rattle.commit_order.proofs.counted_items.Equality.{each-within}
-use Rattle.event_worlds.specs.Accounted.{AreCaused, IsInput, LedAt, BeganWith, IsCausedEnd, rows_by}
+use Rattle.event_worlds.specs.Accounted.{AreCaused, IsInput, LedAt, BeganWith, BeginsWithBatch, IsCausedEnd, rows_by}
 use Rattle.event_worlds.specs.Worlds.{Known}
 use Rattle.commit_order.specs.storm_values.declared.value.Root.{Root}
 use Rattle.commit_order.specs.storm_values.declared.value.Value.{Value}
@@ -19,7 +17,7 @@ use Rattle.commit_order.specs.tree_model.declared.messages.AckMsg.{AckMsg}
 use Rattle.commit_order.specs.tree_model.Lists.{all_said, Covers, IsClosed, IsComplete, root_of, IsTrueOf}
 use Rattle.commit_order.specs.tree_model.Trees.{node_count, Node, node_at}
 use Rattle.commit_order.proofs.tree_model.Reading.{growth, all_true_said}
-use Rattle.commit_order.specs.trident_batches.Batches.{Cut}
+use Rattle.commit_order.specs.taken_records.Cuts.{Cut}
 use Rattle.commit_order.specs.tuple_account.Drawn.{AreDrawn, IsDrawn}
 use Rattle.commit_order.specs.tuple_account.Ends.{Waits, lists_of, verdicts_of_ends, verdicts_of_waits, verdicts_settled, CauseBy, Ended, HasCause, list_in}
 use Rattle.commit_order.specs.tuple_account.Fits.{IsWaiting}
@@ -34,7 +32,8 @@ use Rattle.commit_order.proofs.tuple_account.Telling.{heard_causes}
 use Rattle.commit_order.specs.attempt_fates.declared.fates.End.{End}
 use Rattle.commit_order.specs.attempt_fates.declared.fates.End.TheVariants as end
 use Rattle.commit_order.specs.tree_model.declared.messages.AckMsg.TheVariants as msg
-use Rattle.event_worlds.proofs.Spans.{rows_by-found}
+use Rattle.event_worlds.proofs.Nodes.{NodesAdd, batch-nodes}
+use Rattle.event_worlds.proofs.Spans.{begun-batches, rows_by-found}
 use Rattle.commit_order.proofs.tuple_account.Reading.{rows_are_found}
 
 -- what each item of a list has, the one at a place has
@@ -43,10 +42,6 @@ at-place P [] zero x all is = cc
 at-place P [] (suc i) x all is = cc
 at-place P (y ∷ ys) zero x all is = let same : y ≡ x = cc in subst P same all.0
 at-place P (y ∷ ys) (suc i) x all is = at-place P ys i x all.1 is
-
--- A batch is a part of the records, and its tree has no more nodes than theirs.
-abbrev pub PartsAreFewer : Topology → Custom → Type 0
-PartsAreFewer t custom = (rows : List (List Value)) (first last : ℕ) → node_count t custom (slice_range rows first last) ≤ node_count t custom rows
 
 module _ (t : Topology) (custom : Custom) (cut : Cut) (words : ℕ → ℕ → ℕ) (input : IsInput t cut) (h : History) (k : Known) (all : Station) (led : LedAt t custom cut words all h k) where
   abbrev fates : List Attempt
@@ -61,16 +56,11 @@ module _ (t : Topology) (custom : Custom) (cut : Cut) (words : ℕ → ℕ → �
   rows : AreRows rows_of h.begun
   rows = rows_are_found t custom h all led.reached
 
-  few_nodes : PartsAreFewer t custom → AreRows (λ root. account.rows_in cut root.txid) h.begun → AllByRecursion (λ (o : Opening). node_count t custom o.begun.rows ≤ most) h.begun
-  few_nodes fewer batches =
-      each-weaker (λ (o : Opening). o.begun.rows ≡ account.rows_in cut o.begun.root.txid) (λ (o : Opening). node_count t custom o.begun.rows ≤ most) (λ o is. one o is) h.begun batches
-    where
-      one : (o : Opening) → o.begun.rows ≡ account.rows_in cut o.begun.root.txid → node_count t custom o.begun.rows ≤ most
-      one o is =
-          let first : ℕ = (o.begun.root.txid - 1) * cut.size in
-          let size : (first + cut.size) - first ≡ cut.size = omega arith in
-          let part : slice_range cut.records first (first + cut.size) ≡ account.rows_in cut o.begun.root.txid = ap (λ (n : ℕ). take n (drop first cut.records)) size in
-          subst (λ (rs : List (List Value)). node_count t custom rs ≤ most) (part ∙ sym is) (fewer cut.records first (first + cut.size))
+  few_nodes : NodesAdd t custom → AllByRecursion (λ (o : Opening). node_count t custom o.begun.rows ≤ most) h.begun
+  few_nodes adds =
+      each-weaker (BeginsWithBatch cut) (λ (o : Opening). node_count t custom o.begun.rows ≤ most)
+      (λ o begins. let few = batch-nodes t custom adds cut.records begins.0 begins.1.batch.apart in
+      let e = ap (node_count t custom) begins.2 in omega arith) h.begun (begun-batches t custom cut words all h k led)
 
   ends_length : length (ends_of fates) ≡ length fates
   ends_length = length-map fates ended_of
@@ -88,7 +78,8 @@ module _ (t : Topology) (custom : Custom) (cut : Cut) (words : ℕ → ℕ → �
   own-causes =
       each-weaker (λ (a : Attempt). HasCause t custom rows_of k.world.desk.tick (ended_of a) × BeganWith cut h.begun a.root a.spans) (IsCausedEnd t custom cut k.world.desk.tick) own_cause fates
       (each-both (λ (a : Attempt). HasCause t custom rows_of k.world.desk.tick (ended_of a)) (λ (a : Attempt). BeganWith cut h.begun a.root a.spans) fates
-      (each-map (HasCause t custom rows_of k.world.desk.tick) ended_of fates (causes t custom h all led.reached rows_of rows (desk_of k.world.desk) (ends_of fates) led.fits)) led.spans.ends)
+      (each-map (HasCause t custom rows_of k.world.desk.tick) ended_of fates
+      (causes t custom h all led.reached rows_of rows (desk_of cut k.world.desk) (ends_of fates) led.fits)) led.spans.ends)
 
   -- ---- drawn ids
 
@@ -107,6 +98,7 @@ module _ (t : Topology) (custom : Custom) (cut : Cut) (words : ℕ → ℕ → �
       by end.TimedOut cause = tt
       by (end.Coincided list) cause = told list cause.0
       by (end.CommitFailed component part first last) cause = tt
+      by (end.Dropped other) cause = tt
 
   lists_of_roots : AllByRecursion (λ (m : AckMsg). rows_by cut fates (root_of m) ≡ rows_of (root_of m)) (lists_of (ends_of fates))
   lists_of_roots =
@@ -131,13 +123,13 @@ module _ (t : Topology) (custom : Custom) (cut : Cut) (words : ℕ → ℕ → �
   }
 
   -- each end has its cause, and the ids of all lists are drawn
-  pub ends-caused : ((s j : ℕ) → all.given s j ≡ before (k.counts s) j) → PartsAreFewer t custom → AreRows (λ root. account.rows_in cut root.txid) h.begun → AreCaused t custom cut k.world.desk.tick words fates
-  ends-caused given fewer batches = record {
+  pub ends-caused : ((s j : ℕ) → all.given s j ≡ before (k.counts s) j) → NodesAdd t custom → AreCaused t custom cut k.world.desk.tick words fates
+  ends-caused given adds = record {
     each = own-causes;
     drawn = λ small.
         drawn_by (limit (length fates))
         (subst (λ (n : ℕ). AreDrawn t custom rows_of words (limit n) (lists_of (ends_of fates))) ends_length
-        (ends_drawn t custom h all led.reached rows_of rows (desk_of k.world.desk) (ends_of fates) led.fits input.valid most (few_nodes fewer batches) led.starts
+        (ends_drawn t custom h all led.reached rows_of rows (desk_of cut k.world.desk) (ends_of fates) led.fits input.valid most (few_nodes adds) led.starts
         (subst (λ (n : ℕ). limit n < 2 ^ 64) (sym ends_length) small) k.counts given words led.drawn));
   }
 
@@ -158,8 +150,9 @@ module _ (t : Topology) (custom : Custom) (cut : Cut) (words : ℕ → ℕ → �
       let caused : AllByRecursion (IsCaused t custom rows_of) (verdicts_settled w.root (Some list)) =
       subst (λ (o : Option (List AckMsg)). AllByRecursion (IsCaused t custom rows_of) (verdicts_settled w.root o)) is
       (at-place (λ (v : Wait). AllByRecursion (IsCaused t custom rows_of) (verdicts_settled v.root v.settled)) k.world.desk.pending i w settled_causes at) in
-      let waits : IsWaiting (desk_of k.world.desk) (waits_of w) =
-      at-place (λ (v : Wait). IsWaiting (desk_of k.world.desk) (waits_of v)) k.world.desk.pending i w (each-map (IsWaiting (desk_of k.world.desk)) waits_of k.world.desk.pending led.fits.waits) at in
+      let waits : IsWaiting (desk_of cut k.world.desk) (waits_of w) =
+      at-place (λ (v : Wait). IsWaiting (desk_of cut k.world.desk) (waits_of v)) k.world.desk.pending i w
+      (each-map (IsWaiting (desk_of cut k.world.desk)) waits_of k.world.desk.pending led.fits.waits) at in
       let own : rows_at cut w.spans ≡ rows_of w.root = at-place (λ (v : Wait). BeganWith cut h.begun v.root v.spans) k.world.desk.pending i w led.spans.waits at in
       let sound : IsSound t custom (rows_at cut w.spans) w.root list = subst (λ (rs : List (List Value)). IsSound t custom rs w.root list) (sym own) caused.0.0 in
       let complete : IsComplete list = caused.0.1 in

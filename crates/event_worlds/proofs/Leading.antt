@@ -12,13 +12,12 @@ use Rattle.event_worlds.specs.Accounted.{IsCounted, LedTo, station_of, BeganWith
 use Rattle.event_worlds.specs.Orderly.{FitsParcel, IsOrderly}
 use Rattle.event_worlds.specs.Worlds.{AckerSide, Known, TaskSide, World, acker_at, delivered, drew, ended, gets_message, gets_tuple, no_acker, no_task, task_at, with_task}
 use Rattle.event_worlds.proofs.Waiting.{ackers-set, each-at, each-set, tasks-set, weigh-set}
-use Rattle.commit_order.specs.storm_values.declared.value.Value.{Value}
 use Rattle.commit_order.specs.topology_plan.Topology.{Topology, tasks_in_all}
 use Rattle.commit_order.specs.tree_model.declared.messages.AckMsg.{AckMsg}
 use Rattle.commit_order.specs.tree_model.declared.messages.Parcel.{Parcel}
 use Rattle.commit_order.specs.tree_model.declared.messages.Parcel.TheVariants.{ToTask, ToAcker}
 use Rattle.commit_order.specs.tree_model.declared.messages.Tuple.{Tuple}
-use Rattle.commit_order.specs.trident_batches.Batches.{Cut}
+use Rattle.commit_order.specs.taken_records.Cuts.{Cut}
 use Rattle.commit_order.specs.tuple_account.Drawn.{started}
 use Rattle.commit_order.specs.tuple_account.Ends.{Desk, Ended, Waits, verdicts_of_ends, verdicts_of_waits}
 use Rattle.commit_order.specs.tuple_account.Fits.{Fits}
@@ -135,7 +134,7 @@ pub record LedWith (t : Topology) (custom : Custom) (cut : Cut) (words : ℕ →
   pub ackers : length k.world.ackers ≡ t.ackers
   pub counted : IsCounted t k
   pub kept : IsKept t cut k.world.desk k.world.fates
-  pub fits : Fits t (desk_of k.world.desk) (ends_of k.world.fates) h
+  pub fits : Fits t (desk_of cut k.world.desk) (ends_of k.world.fates) h
   pub spans : HaveSpans (BeganWith cut h.begun) k.world.desk k.world.fates
   pub silent : AllByRecursion (λ (side : AckerSide). AreSilent side.entries) k.world.ackers
   pub ticks : k.world.desk.tick ≤ k.world.tick

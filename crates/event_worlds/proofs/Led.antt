@@ -1,5 +1,5 @@
 -- Each step leads on, with what it adds to the history.
-use Rattle.std.proofs.Common.{◌≡◌, ◌<◌, ◌≤◌, ℕ, ◌+◌, nat_lt, ltb-true, ltb-false, Bool, true, false, cond, true≢false, List, [], ◌∷◌, ◌++◌, length, All, slice_get, Option, None, Some, refl, sym, ap, subst, ◌∙◌, arith}
+use Rattle.std.proofs.Common.{◌≡◌, ◌≤◌, ℕ, ◌+◌, nat_lt, ltb-true, ltb-false, Bool, true, false, cond, true≢false, List, [], ◌∷◌, ◌++◌, length, All, slice_get, Option, None, Some, refl, sym, ap, subst, ◌∙◌, arith}
 use Rattle.std.specs.Prelude.{is_some}
 use Rattle.std.specs.Option.{option_to_list}
 use Rattle.std.proofs.lemmas.List.{get_or_past}
@@ -16,21 +16,21 @@ use Rattle.commit_order.specs.counted_items.Weights.{weigh}
 use Rattle.event_worlds.specs.Accounted.{Accounted, IsInput, LedAt, LedTo, station_of}
 use Rattle.event_worlds.specs.Beside.{IsFreeStep, waits}
 use Rattle.event_worlds.specs.Added.{added, first_history, step_adds, task_adds}
-use Rattle.event_worlds.specs.Worlds.{Known, Step, World, drew, first_known, is_over, next, next_outcome, next_words, no_task, of_acker, of_outcome, of_task, of_tick, of_turn, outcome_step, outcomes_of, run, step, task_at, task_needs, task_step, tick_step, turned_in}
+use Rattle.event_worlds.specs.Worlds.{Known, Step, World, drew, first_known, is_over, next, next_outcome, next_words, no_task, of_acker, of_open, of_outcome, of_shut, of_task, of_tick, of_turn, open_with, outcome_step, outcomes_of, run, shut_with, step, task_at, task_needs, task_step, tick_step, turned_in}
 use Rattle.event_worlds.proofs.Acking.{led-acker}
 use Rattle.event_worlds.proofs.Leading.{joined-nothing}
 use Rattle.event_worlds.proofs.Orderly.{task-beyond}
 use Rattle.event_worlds.proofs.Starting.{led-first}
 use Rattle.event_worlds.proofs.Tasking.{led-task}
 use Rattle.event_worlds.proofs.Ticking.{decided-tick, turned-tick}
-use Rattle.event_worlds.proofs.Turning.{MovesOn, TurnsWell, led-outcome, led-tick, led-turn, led-turn-none}
+use Rattle.event_worlds.proofs.Turning.{MovesOn, TurnsWell, led-outcome, led-shut, led-tick, led-turn, led-turn-none}
 use Rattle.event_worlds.proofs.Waiting.{drew-none, each-at}
 use Rattle.commit_order.specs.state_parts.declared.answer.CommitOutcome.{CommitOutcome}
 use Rattle.commit_order.specs.state_parts.declared.answer.CommitOutcome.TheVariants.{Done}
 use Rattle.commit_order.specs.storm_values.declared.value.Root.{Root}
 use Rattle.commit_order.specs.topology_plan.Topology.{Topology, tasks_in_all}
 use Rattle.commit_order.specs.topology_plan.Valid.{IsValid}
-use Rattle.commit_order.specs.trident_batches.Batches.{Cut}
+use Rattle.commit_order.specs.taken_records.Cuts.{Cut, IsStart}
 use Rattle.commit_order.specs.tuple_account.Fits.{Fits}
 use Rattle.commit_order.specs.tuple_account.Histories.{History, Opening, Packet, joined, nothing, opens}
 use Rattle.commit_order.specs.tuple_account.Moves.{Station, beside}
@@ -39,20 +39,25 @@ use Rattle.commit_order.proofs.commit_turns.Carrying.{carries_turned}
 
 -- What the laws of the coordinator's turns say.
 pub record TurnLaws (t : Topology) (cut : Cut) : Type 0 where
-  pub kept_first : IsValid t → IsKept t cut first_desk []
-  pub kept_turn : (d : Desk) (fates : List Attempt) → IsValid t → 0 < cut.size → d.exhausted ≡ None → IsKept t cut d fates → (verdict : Option Verdict) (ticks : ℕ)
-      → IsKept t cut (turned t cut verdict ticks d).desk (fates ++ (turned t cut verdict ticks d).ended)
-  pub kept_outcome : (d : Desk) (fates : List Attempt) → IsValid t → 0 < cut.size → d.exhausted ≡ None → IsKept t cut d fates → (how : CommitOutcome)
+  pub kept_first : IsValid t → IsStart cut → IsKept t cut (first_desk cut) []
+  pub kept_turn : (d : Desk) (fates : List Attempt) → IsValid t → IsStart cut → d.exhausted ≡ None → IsKept t cut d fates → (verdict : Option Verdict)
+      (ticks shut : ℕ)
+      → IsKept t cut (turned t cut verdict ticks shut d).desk (fates ++ (turned t cut verdict ticks shut d).ended)
+  pub kept_outcome : (d : Desk) (fates : List Attempt) → IsValid t → IsStart cut → d.exhausted ≡ None → IsKept t cut d fates → (how : CommitOutcome)
       → IsKept t cut (decided t cut how d).desk (fates ++ (decided t cut how d).ended)
-  pub fits_first : Fits t (desk_of first_desk) (ends_of []) nothing
-  pub fits_turn : (d : Desk) (fates : List Attempt) (h : History) → IsValid t → d.exhausted ≡ None → IsKept t cut d fates → Fits t (desk_of d) (ends_of fates) h
-      → (verdict : Option Verdict) (ticks : ℕ) (openings : List Opening) → Begin openings (turned t cut verdict ticks d).begun
+  pub fits_first : Fits t (desk_of cut (first_desk cut)) (ends_of []) nothing
+  pub fits_turn : (d : Desk) (fates : List Attempt) (h : History) → IsValid t → IsStart cut → d.exhausted ≡ None → IsKept t cut d fates
+      → Fits t (desk_of cut d) (ends_of fates) h
+      → (verdict : Option Verdict) (ticks shut : ℕ) (openings : List Opening) → Begin openings (turned t cut verdict ticks shut d).begun
       → ((root : Root) → weigh (is_about root) (h.heard ++ option_to_list verdict) ≤ weigh (opens root) h.begun)
-      → Fits t (desk_of (turned t cut verdict ticks d).desk) (ends_of (fates ++ (turned t cut verdict ticks d).ended)) (joined h (hears verdict openings))
-  pub fits_outcome : (d : Desk) (fates : List Attempt) (h : History) → IsValid t → d.exhausted ≡ None → IsKept t cut d fates → Fits t (desk_of d) (ends_of fates) h
-      → (how : CommitOutcome) → IsOutcome t how → Fits t (desk_of (decided t cut how d).desk) (ends_of (fates ++ (decided t cut how d).ended)) h
-  pub roots_turn : (d : Desk) (fates : List Attempt) (h : History) → IsValid t → d.exhausted ≡ None → IsKept t cut d fates → Fits t (desk_of d) (ends_of fates) h
-      → (verdict : Option Verdict) (ticks : ℕ) (openings : List Opening) → Begin openings (turned t cut verdict ticks d).begun
+      → Fits t (desk_of cut (turned t cut verdict ticks shut d).desk) (ends_of (fates ++ (turned t cut verdict ticks shut d).ended))
+      (joined h (hears verdict openings))
+  pub fits_outcome : (d : Desk) (fates : List Attempt) (h : History) → IsValid t → IsStart cut → d.exhausted ≡ None → IsKept t cut d fates
+      → Fits t (desk_of cut d) (ends_of fates) h
+      → (how : CommitOutcome) → IsOutcome t how → Fits t (desk_of cut (decided t cut how d).desk) (ends_of (fates ++ (decided t cut how d).ended)) h
+  pub roots_turn : (d : Desk) (fates : List Attempt) (h : History) → IsValid t → IsStart cut → d.exhausted ≡ None → IsKept t cut d fates
+      → Fits t (desk_of cut d) (ends_of fates) h
+      → (verdict : Option Verdict) (ticks shut : ℕ) (openings : List Opening) → Begin openings (turned t cut verdict ticks shut d).begun
       → (root : Root) → weigh (opens root) h.begun + weigh (opens root) openings ≤ 1
 
 none_if : {X : Type 0} (o : Option X) (finished : Bool) → cond (is_some o) true finished ≡ false → o ≡ None
@@ -60,12 +65,9 @@ none_if None finished is = refl
 none_if (Some x) finished is = absurd (true≢false is)
 
 module _ (t : Topology) (custom : Custom) (cut : Cut) (words : ℕ → ℕ → ℕ) (input : IsInput t cut) (laws : TurnLaws t cut) where
-  some_rows : 0 < cut.size
-  some_rows = let s = input.size in let b = input.valid.batch.0 in omega arith
-
   -- nothing but start words led to the first world
-  pub first-led : LedTo t custom cut words (first_history t words) (first_known t words)
-  first-led = led-first t custom cut words input (laws.kept_first input.valid) laws.fits_first
+  pub first-led : LedTo t custom cut words (first_history t words) (first_known t cut words)
+  first-led = led-first t custom cut words input (laws.kept_first input.valid input.start) laws.fits_first
 
   module _ (keeps : IsCustom custom) (h : History) (w : World) (c : ℕ → ℕ) (led : LedTo t custom cut words h (record { world = w; counts = c })) where
     task-led : (n : ℕ) → LedTo t custom cut words (joined h (task_adds t custom n (c n) (next_words words c n (task_needs t custom (task_at t n w))) (task_at t n w)))
@@ -92,11 +94,11 @@ module _ (t : Topology) (custom : Custom) (cut : Cut) (words : ℕ → ℕ → �
 
     turns-well : w.desk.exhausted ≡ None → TurnsWell t cut h w.fates w.tick w.desk (slice_get w.verdicts 0) (turned_in t cut w)
     turns-well none = record {
-      kept = laws.kept_turn w.desk w.fates input.valid some_rows none led.kept (slice_get w.verdicts 0) w.unheard;
-      fits = laws.fits_turn w.desk w.fates h input.valid none led.kept led.fits (slice_get w.verdicts 0) w.unheard;
-      roots = laws.roots_turn w.desk w.fates h input.valid none led.kept led.fits (slice_get w.verdicts 0) w.unheard;
-      spans = λ R have new. carries_turned R t cut w.desk w.fates have (slice_get w.verdicts 0) w.unheard new;
-      ticks = turned-tick t cut w.tick led.last (slice_get w.verdicts 0) w.unheard w.desk led.ticks led.unheard;
+      kept = laws.kept_turn w.desk w.fates input.valid input.start none led.kept (slice_get w.verdicts 0) w.unheard w.shut;
+      fits = laws.fits_turn w.desk w.fates h input.valid input.start none led.kept led.fits (slice_get w.verdicts 0) w.unheard w.shut;
+      roots = laws.roots_turn w.desk w.fates h input.valid input.start none led.kept led.fits (slice_get w.verdicts 0) w.unheard w.shut;
+      spans = λ R have new. carries_turned R t cut w.desk w.fates have (slice_get w.verdicts 0) w.unheard w.shut new;
+      ticks = turned-tick t cut w.tick led.last (slice_get w.verdicts 0) w.unheard w.shut w.desk led.ticks led.unheard;
     }
 
     module _ (outcomes : List CommitOutcome) (fine : All (IsOutcome t) outcomes) where
@@ -110,10 +112,17 @@ module _ (t : Topology) (custom : Custom) (cut : Cut) (words : ℕ → ℕ → �
           let how : CommitOutcome = next_outcome outcomes w.fates in
           let is : IsOutcome t how = each-at (IsOutcome t) outcomes (length (outcomes_of w.fates)) Done (recursion_from_All (IsOutcome t) outcomes fine) tt in
           subst (λ (k : History). LedTo t custom cut words k (record { world = outcome_step t cut how w; counts = c })) (sym (joined-nothing h))
-          (led-outcome t custom cut words input h w c (λ s. s) (λ a b more m. m) led how (laws.kept_outcome w.desk w.fates input.valid some_rows none led.kept how)
-          (laws.fits_outcome w.desk w.fates h input.valid none led.kept led.fits how is) (decided-tick t cut how w.desk))
+          (led-outcome t custom cut words input h w c (λ s. s) (λ a b more m. m) led how
+          (laws.kept_outcome w.desk w.fates input.valid input.start none led.kept how)
+          (laws.fits_outcome w.desk w.fates h input.valid input.start none led.kept led.fits how is) (decided-tick t cut how w.desk))
       step-led none of_tick =
           subst (λ (k : History). LedTo t custom cut words k (record { world = tick_step w; counts = c })) (sym (joined-nothing h)) (led-tick t custom cut words input h w c (λ s. s) (λ a b more m. m) led)
+      step-led none (of_shut q) =
+          subst (λ (k : History). LedTo t custom cut words k (record { world = record w { shut = shut_with q w.shut }; counts = c })) (sym (joined-nothing h))
+          (led-shut t custom cut words input h w c (λ s. s) (λ a b more m. m) led (shut_with q w.shut))
+      step-led none (of_open q) =
+          subst (λ (k : History). LedTo t custom cut words k (record { world = record w { shut = open_with q w.shut }; counts = c })) (sym (joined-nothing h))
+          (led-shut t custom cut words input h w c (λ s. s) (λ a b more m. m) led (open_with q w.shut))
 
       -- a step leads on, with what it adds
       pub next-led : (s : Step)
@@ -129,16 +138,13 @@ module _ (t : Topology) (custom : Custom) (cut : Cut) (words : ℕ → ℕ → �
 
 module _ (t : Topology) (custom : Custom) (cut : Cut) (words : ℕ → ℕ → ℕ) (input : IsInput t cut) (laws : TurnLaws t cut) (on : Station → Station) (onward : MovesOn t custom on) (h : History) (w : World) (c : ℕ → ℕ)
     (led : LedAt t custom cut words (on (station_of (record { world = w; counts = c }))) h (record { world = w; counts = c })) where
-  rows_there : 0 < cut.size
-  rows_there = let s = input.size in let b = input.valid.batch.0 in omega arith
-
   turns-well-on : w.desk.exhausted ≡ None → TurnsWell t cut h w.fates w.tick w.desk (slice_get w.verdicts 0) (turned_in t cut w)
   turns-well-on none = record {
-    kept = laws.kept_turn w.desk w.fates input.valid rows_there none led.kept (slice_get w.verdicts 0) w.unheard;
-    fits = laws.fits_turn w.desk w.fates h input.valid none led.kept led.fits (slice_get w.verdicts 0) w.unheard;
-    roots = laws.roots_turn w.desk w.fates h input.valid none led.kept led.fits (slice_get w.verdicts 0) w.unheard;
-    spans = λ R have new. carries_turned R t cut w.desk w.fates have (slice_get w.verdicts 0) w.unheard new;
-    ticks = turned-tick t cut w.tick led.last (slice_get w.verdicts 0) w.unheard w.desk led.ticks led.unheard;
+    kept = laws.kept_turn w.desk w.fates input.valid input.start none led.kept (slice_get w.verdicts 0) w.unheard w.shut;
+    fits = laws.fits_turn w.desk w.fates h input.valid input.start none led.kept led.fits (slice_get w.verdicts 0) w.unheard w.shut;
+    roots = laws.roots_turn w.desk w.fates h input.valid input.start none led.kept led.fits (slice_get w.verdicts 0) w.unheard w.shut;
+    spans = λ R have new. carries_turned R t cut w.desk w.fates have (slice_get w.verdicts 0) w.unheard w.shut new;
+    ticks = turned-tick t cut w.tick led.last (slice_get w.verdicts 0) w.unheard w.shut w.desk led.ticks led.unheard;
   }
 
   module _ (outcomes : List CommitOutcome) (fine : All (IsOutcome t) outcomes) where
@@ -152,10 +158,18 @@ module _ (t : Topology) (custom : Custom) (cut : Cut) (words : ℕ → ℕ → �
         let how : CommitOutcome = next_outcome outcomes w.fates in
         let is : IsOutcome t how = each-at (IsOutcome t) outcomes (length (outcomes_of w.fates)) Done (recursion_from_All (IsOutcome t) outcomes fine) tt in
         subst (λ (k : History). LedAt t custom cut words (on (station_of (record { world = outcome_step t cut how w; counts = c }))) k (record { world = outcome_step t cut how w; counts = c })) (sym (joined-nothing h))
-        (led-outcome t custom cut words input h w c on onward led how (laws.kept_outcome w.desk w.fates input.valid rows_there none led.kept how)
-        (laws.fits_outcome w.desk w.fates h input.valid none led.kept led.fits how is) (decided-tick t cut how w.desk))
+        (led-outcome t custom cut words input h w c on onward led how (laws.kept_outcome w.desk w.fates input.valid input.start none led.kept how)
+        (laws.fits_outcome w.desk w.fates h input.valid input.start none led.kept led.fits how is) (decided-tick t cut how w.desk))
     step-led-on none of_tick free =
         subst (λ (k : History). LedAt t custom cut words (on (station_of (record { world = tick_step w; counts = c }))) k (record { world = tick_step w; counts = c })) (sym (joined-nothing h)) (led-tick t custom cut words input h w c on onward led)
+    step-led-on none (of_shut q) free =
+        subst (λ (k : History). LedAt t custom cut words (on (station_of (record { world = record w { shut = shut_with q w.shut }; counts = c }))) k
+        (record { world = record w { shut = shut_with q w.shut }; counts = c }))
+        (sym (joined-nothing h)) (led-shut t custom cut words input h w c on onward led (shut_with q w.shut))
+    step-led-on none (of_open q) free =
+        subst (λ (k : History). LedAt t custom cut words (on (station_of (record { world = record w { shut = open_with q w.shut }; counts = c }))) k
+        (record { world = record w { shut = open_with q w.shut }; counts = c }))
+        (sym (joined-nothing h)) (led-shut t custom cut words input h w c on onward led (open_with q w.shut))
 
     pub next-led-on : (s : Step) → IsFreeStep s w.orders
         → LedAt t custom cut words (on (station_of (next t custom cut words outcomes s (record { world = w; counts = c })))) (joined h (added t custom cut words s (record { world = w; counts = c }))) (next t custom cut words outcomes s (record { world = w; counts = c }))

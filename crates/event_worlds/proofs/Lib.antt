@@ -12,3 +12,5 @@ pub mod Starting
 pub mod Ending
 pub mod Led
 pub mod Spans
+pub mod Nodes
+pub mod Shutting

@@ -33,7 +33,7 @@ use Rattle.commit_order.specs.tree_model.declared.messages.Parcel.{Parcel}
 use Rattle.commit_order.specs.tree_model.declared.messages.Parcel.TheVariants.{ToTask, ToAcker}
 use Rattle.commit_order.specs.tree_model.declared.messages.Tuple.{Tuple}
 use Rattle.commit_order.specs.tree_model.Trees.{Node, kids, kids_of}
-use Rattle.commit_order.specs.trident_batches.Batches.{Cut}
+use Rattle.commit_order.specs.taken_records.Cuts.{Cut}
 use Rattle.commit_order.specs.tuple_account.Histories.{Execution, GoTo, IsExecution, IsOpening, Opening, execution_parcels, opening_parcels, to_acker, to_tasks}
 use Rattle.commit_order.specs.tuple_account.Issued.{children_of, course_of_run, first_tuples, init_of, node_of, notes_of, tuples_from}
 use Rattle.commit_order.specs.tuple_tickets.Tickets.{made_by}
@@ -341,6 +341,9 @@ orderly-outcome t cut w is how = outcome_orderly t cut w is w.desk.out (decided 
 pub orderly-tick : (t : Topology) (w : World) → IsOrderly t w → IsOrderly t (tick_step w)
 orderly-tick t w is = record { task_count = is.task_count; acker_count = is.acker_count; tasks = is.tasks; orders = is.orders; spout = is.spout }
 
+pub orderly-shut : (t : Topology) (w : World) (shut : ℕ) → IsOrderly t w → IsOrderly t (record w { shut = shut })
+orderly-shut t w shut is = record { task_count = is.task_count; acker_count = is.acker_count; tasks = is.tasks; orders = is.orders; spout = is.spout }
+
 -- ---- the first world
 
 module _ (t : Topology) (words : ℕ → ℕ → ℕ) (valid : IsValid t) (wired : IsWired t) where
@@ -352,7 +355,7 @@ module _ (t : Topology) (words : ℕ → ℕ → ℕ) (valid : IsValid t) (wired
         subst (λ b. AreTasksOrderly t b (map (first_task t words) (range_with_len (a + 1) n))) e (first_seats (a + 1) n),
       )
 
-pub orderly-first : (t : Topology) (cut : Cut) → IsInput t cut → (words : ℕ → ℕ → ℕ) → IsOrderly t (first_world t words)
+pub orderly-first : (t : Topology) (cut : Cut) → IsInput t cut → (words : ℕ → ℕ → ℕ) → IsOrderly t (first_world t cut words)
 orderly-first t cut input words = record {
   task_count = length-map-range_with_len (first_task t words) 0 (tasks_in_all t);
   acker_count = length-replicate t.ackers no_acker;

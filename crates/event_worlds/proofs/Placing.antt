@@ -10,7 +10,7 @@ use Rattle.event_worlds.specs.Worlds.{ended}
 use Rattle.commit_order.specs.storm_values.declared.value.Root.{Root}
 use Rattle.commit_order.specs.topology_plan.Topology.{Topology}
 use Rattle.commit_order.specs.tree_model.declared.messages.AckMsg.TheVariants as msg
-use Rattle.commit_order.specs.trident_batches.Batches.{Cut}
+use Rattle.commit_order.specs.taken_records.Cuts.{Cut}
 use Rattle.commit_order.specs.tuple_account.Histories.{IsOpening, Opening, opening_parcels, opening_spans, to_acker, to_tasks}
 use Rattle.commit_order.specs.tuple_account.Places.{HasWords, spans}
 use Rattle.commit_order.proofs.tuple_account.Placing.{spans-more}

@@ -36,7 +36,7 @@ use Rattle.commit_order.specs.topology_plan.Wired.{IsAsWide, IsComponent, IsFed,
 use Rattle.commit_order.proofs.topology_plan.Widths.{as_wide}
 use Rattle.commit_order.specs.tree_model.Courses.{course_by, course_of}
 use Rattle.commit_order.specs.tree_model.Trees.{Node, copies_at, exec_by, kids, kids_by, kids_of, rows_by}
-use Rattle.commit_order.specs.trident_batches.Batches.{Cut}
+use Rattle.commit_order.specs.taken_records.Cuts.{Cut}
 use Rattle.commit_order.specs.tuple_account.Histories.{GoTo}
 use Rattle.commit_order.specs.tuple_account.Issued.{tuples_from}
 use Rattle.commit_order.specs.tuple_tickets.Tickets.{made_by}

@@ -1,22 +1,19 @@
 -- Attempts keep the rows that their roots were begun with.
-use Rattle.std.proofs.Common.{◌≡◌, ◌≤◌, ℕ, ◌+◌, Bool, true, false, cond, List, [], ◌∷◌, ◌++◌, map, refl, sym, ap, subst, ◌∙◌, arith, ◌<◌}
-use Rattle.std.specs.Prelude.{length}
+use Rattle.std.proofs.Common.{◌≡◌, ◌≤◌, ℕ, ◌+◌, Bool, true, false, cond, List, [], ◌∷◌, ◌++◌, length, map, refl, sym, ap, subst, ◌∙◌, arith}
 use Rattle.std.specs.List.{AllByRecursion}
-use Rattle.std.proofs.lemmas.List.Elements.{recursion_from_All}
 use Rattle.commit_order.specs.attempt_fates.declared.fates.Attempt.{Attempt}
-use Rattle.commit_order.specs.attempt_fates.Fates.{IsOfBatch, batch_spans, records_in}
+use Rattle.commit_order.specs.attempt_fates.Fates.{HasBatch}
 use Rattle.commit_order.specs.bolt_ops.RowOp.{Custom}
 use Rattle.commit_order.specs.commit_turns.Account.{desk_of, ended_of, ends_of, rows_at, waits_of}
-use Rattle.commit_order.specs.commit_turns.Account as account
 use Rattle.commit_order.specs.commit_turns.Desks.{Desk}
-use Rattle.commit_order.specs.commit_turns.Kept.{HaveSpans, IsKept, IsWaiting}
+use Rattle.commit_order.specs.commit_turns.Kept.{HaveSpans, IsWaiting}
 use Rattle.commit_order.specs.commit_turns.declared.wait.Wait.{Wait}
 use Rattle.commit_order.specs.counted_items.Weights.{Within, weigh}
 use Rattle.commit_order.proofs.counted_items.Each.{each-append, each-both, each-map, each-to_map, each-weaker}
 use Rattle.commit_order.proofs.counted_items.Equality.{each-within}
-use Rattle.commit_order.proofs.counted_items.Weighing.{each-weighs, weigh-append, weigh-map}
+use Rattle.commit_order.proofs.counted_items.Weighing.{each-weighs, weigh-append, weigh-map, weigh-same_each}
 use Rattle.commit_order.specs.Orders.{OpenFrom, Stand, stand_after}
-use Rattle.event_worlds.specs.Accounted.{BeganWith, IsInput, LedAt, rows_by}
+use Rattle.event_worlds.specs.Accounted.{BeganWith, BeginsWithBatch, LedAt, rows_by}
 use Rattle.event_worlds.specs.Added.{placed}
 use Rattle.event_worlds.specs.Worlds.{Known}
 use Rattle.commit_order.specs.record_spans.declared.span.Span.{Span}
@@ -25,7 +22,7 @@ use Rattle.commit_order.proofs.rotating_ledger.RootLemmas.{root_eq-same}
 use Rattle.commit_order.specs.storm_values.declared.value.Root.{Root}
 use Rattle.commit_order.specs.storm_values.declared.value.Value.{Value}
 use Rattle.commit_order.specs.topology_plan.Topology.{Topology}
-use Rattle.commit_order.specs.trident_batches.Batches.{Cut, batch_count, batch_of}
+use Rattle.commit_order.specs.taken_records.Cuts.{Cut}
 use Rattle.commit_order.specs.tuple_account.Ends.{Ended, Waits}
 use Rattle.commit_order.specs.tuple_account.Fits.{Fits}
 use Rattle.commit_order.specs.tuple_account.Histories.{History, Opening, opens, rows_in}
@@ -45,7 +42,7 @@ rows_first (o ∷ os) more root some = by (root_eq o.begun.root root) some (rows
     by true here later = refl
     by false there later = later (omega arith)
 
-module _ (t : Topology) (d : Desk) (fates : List Attempt) (h : History) (fits : Fits t (desk_of d) (ends_of fates) h) where
+module _ (t : Topology) (cut : Cut) (d : Desk) (fates : List Attempt) (h : History) (fits : Fits t (desk_of cut d) (ends_of fates) h) where
   -- the weight that is 1 at a root
   abbrev at_root : Root → Root → ℕ
   at_root root r = cond (root_eq r root) 1 0
@@ -72,8 +69,8 @@ module _ (t : Topology) (d : Desk) (fates : List Attempt) (h : History) (fits : 
       fates (each-weighs fates)
 
   -- what begins later changes nothing of what began
-  pub later-begins : (cut : Cut) (more : List Opening) → HaveSpans (BeganWith cut h.begun) d fates → HaveSpans (BeganWith cut (h.begun ++ more)) d fates
-  later-begins cut more have = record {
+  pub later-begins : (more : List Opening) → HaveSpans (BeganWith cut h.begun) d fates → HaveSpans (BeganWith cut (h.begun ++ more)) d fates
+  later-begins more have = record {
     waits = each-weaker (λ (w : Wait). BeganWith cut h.begun w.root w.spans × (1 ≤ weigh (opens w.root) h.begun)) (λ (w : Wait). BeganWith cut (h.begun ++ more) w.root w.spans)
         (λ w both. both.0 ∙ sym (rows_first h.begun more w.root both.1)) d.pending
         (each-both (λ (w : Wait). BeganWith cut h.begun w.root w.spans) (λ (w : Wait). 1 ≤ weigh (opens w.root) h.begun) d.pending have.waits waits_begun);
@@ -139,37 +136,48 @@ rows_by-found cut begun fates have =
 
 -- ---- roots begin with the rows of their batches
 
-module _ (t : Topology) (custom : Custom) (cut : Cut) (words : ℕ → ℕ → ℕ) (input : IsInput t cut) (all : Station) (h : History) (k : Known) (led : LedAt t custom cut words all h k)
-    (batched : (records : List (List Value)) (size txid : ℕ) → 1 ≤ txid → txid ≤ batch_count (length records) size → 0 < size
-    → records_in records (batch_spans (length records) size txid) ≡ batch_of size txid records) where
+module _ (t : Topology) (custom : Custom) (cut : Cut) (words : ℕ → ℕ → ℕ) (all : Station) (h : History) (k : Known)
+    (led : LedAt t custom cut words all h k) where
+  found : AreRows (rows_in h.begun) h.begun
+  found = rows_are_found t custom h all led.reached
+
+  -- what was begun are the attempts that ended and those that are pending, each with the rows of its records
+  pub begun-attempts : (f : Root → List (List Value) → ℕ)
+      → weigh (λ (o : Opening). f o.begun.root o.begun.rows) h.begun
+      ≡ weigh (λ (a : Attempt). f a.root (rows_at cut a.spans)) k.world.fates + weigh (λ (w : Wait). f w.root (rows_at cut w.spans)) k.world.desk.pending
+  begun-attempts f =
+      let first = weigh-same_each (λ (o : Opening). f o.begun.root o.begun.rows) (λ (o : Opening). f o.begun.root (rows_in h.begun o.begun.root))
+      (λ (o : Opening). o.begun.rows ≡ rows_in h.begun o.begun.root)
+      (λ o is. ap (f o.begun.root) is) h.begun found in
+      let each = begun_weight t cut k.world.desk k.world.fates h led.fits (λ (root : Root). f root (rows_in h.begun root)) in
+      let ends = weigh-same_each (λ (a : Attempt). f a.root (rows_at cut a.spans)) (λ (a : Attempt). f a.root (rows_in h.begun a.root))
+      (λ (a : Attempt). BeganWith cut h.begun a.root a.spans)
+      (λ a is. ap (f a.root) is) k.world.fates led.spans.ends in
+      let waits = weigh-same_each (λ (w : Wait). f w.root (rows_at cut w.spans)) (λ (w : Wait). f w.root (rows_in h.begun w.root))
+      (λ (w : Wait). BeganWith cut h.begun w.root w.spans)
+      (λ w is. ap (f w.root) is) k.world.desk.pending led.spans.waits in omega arith
+
+  -- the root's rows are those of a batch of its transaction
   abbrev its_batch : Root → Type 0
-  its_batch root = rows_in h.begun root ≡ account.rows_in cut root.txid
-
-  some : 0 < cut.size
-  some = let s = input.size in let b = input.valid.batch.0 in omega arith
-
-  of_spans : (root : Root) (spans : List Span) → BeganWith cut h.begun root spans → spans ≡ batch_spans (length cut.records) cut.size root.txid → 1 ≤ root.txid
-      → root.txid ≤ batch_count (length cut.records) cut.size → its_batch root
-  of_spans root spans began are first there = sym began ∙ ap (rows_at cut) are ∙ batched cut.records cut.size root.txid first there some
+  its_batch root = (spans : List Span) × HasBatch cut root.txid spans × (rows_in h.begun root ≡ rows_at cut spans)
 
   ends_batched : AllByRecursion (λ (a : Attempt). its_batch a.root) k.world.fates
   ends_batched =
-      each-weaker (λ (a : Attempt). BeganWith cut h.begun a.root a.spans × IsOfBatch (length cut.records) cut.size a) (λ (a : Attempt). its_batch a.root)
-      (λ a both. of_spans a.root a.spans both.0 both.1.records both.1.is_there.0 both.1.is_there.1) k.world.fates
-      (each-both (λ (a : Attempt). BeganWith cut h.begun a.root a.spans) (IsOfBatch (length cut.records) cut.size) k.world.fates led.spans.ends
-      (recursion_from_All (IsOfBatch (length cut.records) cut.size) k.world.fates led.kept.once.of_batch))
+      each-weaker (λ (a : Attempt). BeganWith cut h.begun a.root a.spans × HasBatch cut a.root.txid a.spans) (λ (a : Attempt). its_batch a.root)
+      (λ a both. (a.spans, both.1, sym both.0)) k.world.fates
+      (each-both (λ (a : Attempt). BeganWith cut h.begun a.root a.spans)
+      (λ (a : Attempt). HasBatch cut a.root.txid a.spans) k.world.fates led.spans.ends led.kept.once.batches)
 
   waits_batched : AllByRecursion (λ (w : Wait). its_batch w.root) k.world.desk.pending
   waits_batched =
       each-weaker (λ (w : Wait). BeganWith cut h.begun w.root w.spans × IsWaiting t cut k.world.desk w) (λ (w : Wait). its_batch w.root)
-      (λ w both. of_spans w.root w.spans both.0 both.1.records (let l = both.1.later in omega arith) both.1.there) k.world.desk.pending
-      (each-both (λ (w : Wait). BeganWith cut h.begun w.root w.spans) (IsWaiting t cut k.world.desk) k.world.desk.pending led.spans.waits
-      (recursion_from_All (IsWaiting t cut k.world.desk) k.world.desk.pending led.kept.waits))
+      (λ w both. (w.spans, both.1.batch, sym both.0)) k.world.desk.pending
+      (each-both (λ (w : Wait). BeganWith cut h.begun w.root w.spans) (IsWaiting t cut k.world.desk) k.world.desk.pending led.spans.waits led.kept.waits)
 
-  -- what led to a world began each root with the rows of its batch
-  pub begun-batches : AreRows (λ root. account.rows_in cut root.txid) h.begun
+  -- what led to a world began each root with the rows of such a batch
+  pub begun-batches : AllByRecursion (BeginsWithBatch cut) h.begun
   begun-batches =
-      each-weaker (λ (o : Opening). (o.begun.rows ≡ rows_in h.begun o.begun.root) × its_batch o.begun.root) (λ (o : Opening). o.begun.rows ≡ account.rows_in cut o.begun.root.txid)
-      (λ o both. both.0 ∙ both.1) h.begun
+      each-weaker (λ (o : Opening). (o.begun.rows ≡ rows_in h.begun o.begun.root) × its_batch o.begun.root) (BeginsWithBatch cut)
+      (λ o both. (both.1.0, both.1.1, both.0 ∙ both.1.2)) h.begun
       (each-both (λ (o : Opening). o.begun.rows ≡ rows_in h.begun o.begun.root) (λ (o : Opening). its_batch o.begun.root) h.begun
-      (rows_are_found t custom h all led.reached) (begun_roots t k.world.desk k.world.fates h led.fits its_batch ends_batched waits_batched))
+      found (begun_roots t cut k.world.desk k.world.fates h led.fits its_batch ends_batched waits_batched))

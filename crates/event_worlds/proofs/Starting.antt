@@ -20,7 +20,7 @@ use Rattle.commit_order.specs.topology_plan.declared.parts.Origin.{Origin}
 use Rattle.commit_order.specs.topology_plan.declared.parts.Origin.TheVariants as origin
 use Rattle.commit_order.specs.topology_plan.Topology.{Topology, component_of, subs_of, tasks_in_all}
 use Rattle.commit_order.specs.tree_model.declared.messages.AckMsg.{AckMsg}
-use Rattle.commit_order.specs.trident_batches.Batches.{Cut}
+use Rattle.commit_order.specs.taken_records.Cuts.{Cut}
 use Rattle.commit_order.specs.tuple_account.Drawn.{started}
 use Rattle.commit_order.specs.tuple_account.Fits.{Fits}
 use Rattle.commit_order.specs.tuple_account.Histories.{Packet, Start, nothing, start_spans}
@@ -110,7 +110,7 @@ module _ (t : Topology) (custom : Custom) (cut : Cut) (words : ℕ → ℕ → �
   spout_origin =
       ap (λ (b : Bool). cond b origin.Spout (origin.Component (component_of t (tasks_in_all t)))) (eq-eqb (tasks_in_all t) (tasks_in_all t) refl)
 
-  moves : Moves t custom empty (first_history t words) (station_of (first_known t words))
+  moves : Moves t custom empty (first_history t words) (station_of (first_known t cut words))
   moves = record {
     packets = λ f. let a = no_tuples t words f 0 0 (tasks_in_all t) in let b = no_messages f 0 t.ackers in omega arith;
     notes = λ g. let a = no_entries g t.ackers in omega arith;
@@ -120,10 +120,10 @@ module _ (t : Topology) (custom : Custom) (cut : Cut) (words : ℕ → ℕ → �
     well = record { begun = tt; runs = tt; told = tt };
   }
 
-  counted : IsCounted t (first_known t words)
+  counted : IsCounted t (first_known t cut words)
   counted = record {
     tasks = λ n there.
-        let at : (task_at t n (first_world t words)).stand.given ≡ length (subs_of t (origin.Component (component_of t n))) =
+        let at : (task_at t n (first_world t cut words)).stand.given ≡ length (subs_of t (origin.Component (component_of t n))) =
         ap (λ (side : TaskSide). side.stand.given) (get_or-map-range_with_len (first_task t words) 0 (tasks_in_all t) n n (no_task t) there (omega arith)) in
         let own = first_there n (omega arith) ∙ ap (λ (from : Origin). length (subs_of t from)) (task_origin n there) in
         let small = few (origin.Component (component_of t n)) in omega arith;
@@ -139,7 +139,8 @@ module _ (t : Topology) (custom : Custom) (cut : Cut) (words : ℕ → ℕ → �
       let c = few_first s in omega arith
 
   -- start words alone led to the first world
-  pub led-first : IsKept t cut first_desk [] → Fits t (desk_of first_desk) (ends_of []) nothing → LedTo t custom cut words (first_history t words) (first_known t words)
+  pub led-first : IsKept t cut (first_desk cut) [] → Fits t (desk_of cut (first_desk cut)) (ends_of []) nothing
+      → LedTo t custom cut words (first_history t words) (first_known t cut words)
   led-first kept fits = record {
     reached = record { moves = moves; once = λ root. omega arith };
     drawn = record { of_begun = tt; of_runs = tt };
@@ -147,7 +148,7 @@ module _ (t : Topology) (custom : Custom) (cut : Cut) (words : ℕ → ℕ → �
     orderly = orderly-first t cut input words;
     counted = counted;
     kept = kept;
-    fits = fits-alike t (desk_of first_desk) (ends_of []) nothing (first_history t words) refl refl fits;
+    fits = fits-alike t (desk_of cut (first_desk cut)) (ends_of []) nothing (first_history t words) refl refl fits;
     spans = record { waits = tt; ends = tt };
     silent = all_silent t.ackers;
     ticks = omega arith;

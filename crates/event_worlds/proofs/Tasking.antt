@@ -21,7 +21,7 @@ use Rattle.commit_order.specs.tree_model.declared.messages.Parcel.{Parcel}
 use Rattle.commit_order.specs.tree_model.declared.messages.Parcel.TheVariants.{ToTask}
 use Rattle.commit_order.specs.tree_model.declared.messages.Tuple.{Tuple}
 use Rattle.commit_order.specs.tree_model.Trees.{write_of}
-use Rattle.commit_order.specs.trident_batches.Batches.{Cut}
+use Rattle.commit_order.specs.taken_records.Cuts.{Cut}
 use Rattle.commit_order.specs.tuple_account.Histories.{Execution, History, execution_parcels, joined, of_parcel, to_acker, to_tasks, weigh_parcels}
 use Rattle.commit_order.specs.tuple_account.Moves.{Moves, beside}
 use Rattle.commit_order.specs.tuple_account.Parts.{executing, holding}

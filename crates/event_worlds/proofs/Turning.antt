@@ -21,14 +21,14 @@ use Rattle.event_worlds.specs.Added.{placed, turn_adds, turn_adds_past}
 use Rattle.event_worlds.specs.Orderly.{FitsParcel, IsOrderly}
 use Rattle.event_worlds.specs.Worlds.{World, drew, ended, first_needs, next_words, opened, outcome_step, stand_past, tick_step, turn_needs, turn_needs_past, turn_past, turn_step, turned_in, with_progress, with_turn}
 use Rattle.event_worlds.proofs.Leading.{counted-same, draw-more, joined-nothing, led-delivered, reached-alike, starts-more}
-use Rattle.event_worlds.proofs.Orderly.{AreOpened, opened-fits, orderly-outcome, orderly-tick, orderly-turn}
+use Rattle.event_worlds.proofs.Orderly.{AreOpened, opened-fits, orderly-outcome, orderly-shut, orderly-tick, orderly-turn}
 use Rattle.event_worlds.proofs.Placing.{AreOf, given-past, placed-parcels, placed-roots, placed-spans, placed-well, placed-words}
 use Rattle.event_worlds.proofs.Waiting.{drew-here, drew-none, drew-other, weigh-front}
 use Rattle.commit_order.specs.state_parts.declared.answer.CommitOutcome.{CommitOutcome}
 use Rattle.commit_order.specs.storm_values.declared.value.Root.{Root}
 use Rattle.commit_order.specs.topology_plan.Topology.{Topology, tasks_in_all}
 use Rattle.commit_order.specs.tree_model.declared.messages.Parcel.{Parcel}
-use Rattle.commit_order.specs.trident_batches.Batches.{Cut}
+use Rattle.commit_order.specs.taken_records.Cuts.{Cut}
 use Rattle.commit_order.specs.tuple_account.Fits.{Fits}
 use Rattle.commit_order.specs.tuple_account.Histories.{History, IsOpening, Opening, joined, of_parcel, of_verdict, opening_parcels, opens, weigh_parcels, rows_in}
 use Rattle.commit_order.specs.tuple_account.Moves.{Moves, Station, beside, Reached}
@@ -49,7 +49,7 @@ pub record TurnsWell (t : Topology) (cut : Cut) (h : History) (fates : List Atte
   pub kept : IsKept t cut to.desk (fates ++ to.ended)
   pub fits : (openings : List Opening) → Begin openings to.begun
       → ((root : Root) → weigh (is_about root) (h.heard ++ option_to_list verdict) ≤ weigh (opens root) h.begun)
-      → Fits t (desk_of to.desk) (ends_of (fates ++ to.ended)) (joined h (hears verdict openings))
+      → Fits t (desk_of cut to.desk) (ends_of (fates ++ to.ended)) (joined h (hears verdict openings))
   pub roots : (openings : List Opening) → Begin openings to.begun → (root : Root) → weigh (opens root) h.begun + weigh (opens root) openings ≤ 1
   pub spans : (R : Root → List Span → Type 0) → HaveSpans R d fates → AllByRecursion (λ (w : Wait). R w.root w.spans) to.begun → HaveSpans R to.desk (fates ++ to.ended)
   pub ticks : to.desk.tick ≤ tick
@@ -157,7 +157,7 @@ module _ (t : Topology) (custom : Custom) (cut : Cut) (words : ℕ → ℕ → �
       counted = counted;
       kept = turns.kept;
       fits = turns.fits begun begins quiet;
-      spans = turns.spans (BeganWith cut (h.begun ++ begun)) (later-begins t w.desk w.fates h led.fits cut begun led.spans) new_spans;
+      spans = turns.spans (BeganWith cut (h.begun ++ begun)) (later-begins t cut w.desk w.fates h led.fits begun led.spans) new_spans;
       silent = led.silent;
       ticks = turns.ticks;
       unheard = let e = turns.ticks in omega arith;
@@ -183,7 +183,8 @@ module _ (t : Topology) (custom : Custom) (cut : Cut) (words : ℕ → ℕ → �
   -- ---- an outcome
 
   -- an attempt's commit came to this
-  progressed : (p : Progress) → IsKept t cut p.desk (w.fates ++ p.ended) → Fits t (desk_of p.desk) (ends_of (w.fates ++ p.ended)) h → HaveSpans (BeganWith cut h.begun) p.desk (w.fates ++ p.ended) → p.desk.tick ≡ w.desk.tick → IsOrderly t (with_progress t cut p w)
+  progressed : (p : Progress) → IsKept t cut p.desk (w.fates ++ p.ended) → Fits t (desk_of cut p.desk) (ends_of (w.fates ++ p.ended)) h
+      → HaveSpans (BeganWith cut h.begun) p.desk (w.fates ++ p.ended) → p.desk.tick ≡ w.desk.tick → IsOrderly t (with_progress t cut p w)
       → LedAt t custom cut words (on (station_of (record { world = with_progress t cut p w; counts = c }))) h (record { world = with_progress t cut p w; counts = c })
   progressed p kept fits spans tick fit = record {
     reached = led.reached;
@@ -201,7 +202,8 @@ module _ (t : Topology) (custom : Custom) (cut : Cut) (words : ℕ → ℕ → �
   }
 
   pub led-outcome : (how : CommitOutcome) → IsKept t cut (decided t cut how w.desk).desk (w.fates ++ (decided t cut how w.desk).ended)
-      → Fits t (desk_of (decided t cut how w.desk).desk) (ends_of (w.fates ++ (decided t cut how w.desk).ended)) h → (decided t cut how w.desk).desk.tick ≡ w.desk.tick
+      → Fits t (desk_of cut (decided t cut how w.desk).desk) (ends_of (w.fates ++ (decided t cut how w.desk).ended)) h
+      → (decided t cut how w.desk).desk.tick ≡ w.desk.tick
       → LedAt t custom cut words (on (station_of (record { world = outcome_step t cut how w; counts = c }))) h (record { world = outcome_step t cut how w; counts = c })
   led-outcome how kept fits tick = cases w.desk.out refl
     where
@@ -225,6 +227,26 @@ module _ (t : Topology) (custom : Custom) (cut : Cut) (words : ℕ → ℕ → �
     ticks = let e = led.ticks in let l = led.last in omega arith;
     unheard = let e = led.unheard in let l = led.last in omega arith;
     last = omega arith;
+  }
+
+  -- ---- partitions
+
+  -- other partitions are shut
+  pub led-shut : (shut : ℕ) → LedAt t custom cut words (on (station_of (record { world = record w { shut = shut }; counts = c }))) h
+      (record { world = record w { shut = shut }; counts = c })
+  led-shut shut = record {
+    reached = led.reached;
+    drawn = led.drawn;
+    starts = led.starts;
+    orderly = orderly-shut t w shut led.orderly;
+    counted = record { tasks = led.counted.tasks; spout = led.counted.spout };
+    kept = led.kept;
+    fits = led.fits;
+    spans = led.spans;
+    silent = led.silent;
+    ticks = led.ticks;
+    unheard = led.unheard;
+    last = led.last;
   }
 
 -- ---- a turn of a world with nothing beside it

@@ -4,6 +4,7 @@ use Rattle.std.specs.Prelude.{◌≡◌, ◌≤◌, ◌<◌, ◌^◌, ℕ, ◌+�
 use Rattle.std.specs.List.{AllByRecursion}
 use Rattle.commit_order.specs.acker_core.Entries.{AreSilent}
 use Rattle.commit_order.specs.attempt_fates.declared.fates.Attempt.{Attempt}
+use Rattle.commit_order.specs.attempt_fates.Fates.{HasBatch}
 use Rattle.commit_order.specs.bolt_ops.RowOp.{Custom}
 use Rattle.commit_order.specs.commit_turns.Account.{desk_of, ends_of, ended_of, ending_of, rows_at}
 use Rattle.commit_order.specs.commit_turns.Kept.{IsKept, HaveSpans}
@@ -18,7 +19,7 @@ use Rattle.commit_order.specs.topology_plan.Valid.{IsValid}
 use Rattle.commit_order.specs.topology_plan.Wired.{IsWired, width_of}
 use Rattle.commit_order.specs.tree_model.declared.messages.Parcel.TheVariants.{ToTask, ToAcker}
 use Rattle.commit_order.specs.tree_model.Trees.{node_count}
-use Rattle.commit_order.specs.trident_batches.Batches.{Cut}
+use Rattle.commit_order.specs.taken_records.Cuts.{Cut, IsStart}
 use Rattle.commit_order.specs.tuple_account.Drawn.{AreDrawn, started}
 use Rattle.commit_order.specs.tuple_account.Ends.{lists_of, CauseBy}
 use Rattle.commit_order.specs.tuple_account.Fits.{Fits}
@@ -60,12 +61,14 @@ station_of k = record {
 
 -- ---- the account of a world
 
--- Where rows are those of an input: batches are cut by the plan's size, of records that the spout
--- gives.
+-- Where rows are those of an input: offers of the plan's size and partitions, which begin where
+-- they may, of records that the spout gives.
 pub record IsInput (t : Topology) (cut : Cut) : Type 0 where
   pub valid : IsValid t
   pub wired : IsWired t
   pub size : cut.size ≡ t.batch
+  pub partitions : cut.partitions ≡ t.partitions
+  pub start : IsStart cut
   pub rows : All (IsRow (width_of t origin.Spout)) cut.records
 
 -- the counts of words in the stands are those that were given, up to 2^64 - 1
@@ -78,6 +81,11 @@ pub record IsCounted (t : Topology) (k : Known) : Type 0 where
 abbrev pub BeganWith : Cut → List Opening → Root → List Span → Type 0
 BeganWith cut begun root spans = rows_at cut spans ≡ rows_in begun root
 
+-- an opening has the rows of a batch that its transaction may have
+abbrev pub BeginsWithBatch : Cut → Opening → Type 0
+BeginsWithBatch cut o =
+    (spans : List Span) × HasBatch cut o.begun.root.txid spans × (o.begun.rows ≡ rows_at cut spans)
+
 -- A history led to a world, where sources have these words and all that waits is this: what waits
 -- in the world, or more beside it.
 pub record LedAt (t : Topology) (custom : Custom) (cut : Cut) (words : ℕ → ℕ → ℕ) (all : Station)
@@ -88,7 +96,7 @@ pub record LedAt (t : Topology) (custom : Custom) (cut : Cut) (words : ℕ → �
   pub orderly : IsOrderly t k.world
   pub counted : IsCounted t k
   pub kept : IsKept t cut k.world.desk k.world.fates
-  pub fits : Fits t (desk_of k.world.desk) (ends_of k.world.fates) h
+  pub fits : Fits t (desk_of cut k.world.desk) (ends_of k.world.fates) h
   pub spans : HaveSpans (BeganWith cut h.begun) k.world.desk k.world.fates
   pub silent : AllByRecursion (λ (side : AckerSide). AreSilent side.entries) k.world.ackers
   -- the coordinator counted no ticks but those that were handed out, and counts no more of them

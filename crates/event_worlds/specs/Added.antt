@@ -6,14 +6,14 @@ use Rattle.commit_order.specs.acker_core.declared.verdict.Verdict.{Verdict}
 use Rattle.commit_order.specs.bolt_ops.RowOp.{Custom}
 use Rattle.commit_order.specs.Orders.{Stand}
 use Rattle.commit_order.specs.commit_turns.Outcomes.{hears}
-use Rattle.event_worlds.specs.Worlds.{AckerSide, Known, Step, TaskSide, World, acker_at, aged, execution_by, first_counts, is_over, next_words, of_acker, of_outcome, of_task, of_tick, of_turn, opened, task_at, task_needs, turn_needs, turned_in}
+use Rattle.event_worlds.specs.Worlds.{AckerSide, Known, Step, TaskSide, World, acker_at, aged, execution_by, first_counts, is_over, next_words, of_acker, of_open, of_outcome, of_shut, of_task, of_tick, of_turn, opened, task_at, task_needs, turn_needs, turned_in}
 use Rattle.commit_order.specs.rotating_ledger.Held.{Held, dropped}
 use Rattle.commit_order.specs.storm_values.declared.value.Root.{Root}
 use Rattle.commit_order.specs.topology_plan.Topology.{Topology, tasks_in_all}
 use Rattle.commit_order.specs.tree_model.declared.messages.AckMsg.{AckMsg}
 use Rattle.commit_order.specs.tree_model.declared.messages.Parcel.{Parcel}
 use Rattle.commit_order.specs.tree_model.declared.messages.Tuple.{Tuple}
-use Rattle.commit_order.specs.trident_batches.Batches.{Cut}
+use Rattle.commit_order.specs.taken_records.Cuts.{Cut}
 use Rattle.commit_order.specs.tuple_account.Histories.{History, Opening, Start, nothing}
 use Rattle.commit_order.specs.tuple_account.Parts.{executing, meeting}
 
@@ -100,6 +100,8 @@ module _ (t : Topology) (custom : Custom) (cut : Cut) (words : ℕ → ℕ → �
       (next_words words k.counts (tasks_in_all t) (turn_needs t cut k.world)) k.world
   step_adds of_outcome k = nothing
   step_adds of_tick k = nothing
+  step_adds (of_shut q) k = nothing
+  step_adds (of_open q) k = nothing
 
   -- when all is over nothing is added
   abbrev pub added : Step → Known → History

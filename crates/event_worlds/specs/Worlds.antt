@@ -15,6 +15,7 @@ use Rattle.commit_order.specs.Orders.{Stand, opening_of, stand_after}
 use Rattle.commit_order.specs.commit_turns.Account.{rows_at}
 use Rattle.commit_order.specs.commit_turns.Desks.{Desk, Progress, first_desk}
 use Rattle.commit_order.specs.commit_turns.Turns.{Turned, decided, is_finished, turned}
+use Rattle.commit_order.specs.record_offers.Offers.{is_shut}
 use Rattle.groupings.specs.Routing.{lanes_of}
 use Rattle.commit_order.specs.output_collector.Draws.{given_after}
 use Rattle.commit_order.specs.output_collector.Outlets.{after_rows, tasks_for}
@@ -31,7 +32,7 @@ use Rattle.commit_order.specs.tree_model.declared.messages.AckMsg.{AckMsg}
 use Rattle.commit_order.specs.tree_model.declared.messages.Parcel.{Parcel}
 use Rattle.commit_order.specs.tree_model.declared.messages.Parcel.TheVariants.{ToTask, ToAcker}
 use Rattle.commit_order.specs.tree_model.declared.messages.Tuple.{Tuple}
-use Rattle.commit_order.specs.trident_batches.Batches.{Cut}
+use Rattle.commit_order.specs.taken_records.Cuts.{Cut}
 use Rattle.commit_order.specs.tuple_account.Issued.{node_of}
 use Rattle.commit_order.specs.tuple_tickets.Tickets.{made_by}
 use Rattle.commit_order.specs.tuple_account.Histories.{Execution, Opening, execution_parcels, opening_parcels}
@@ -56,8 +57,8 @@ pub record AckerSide : Type 0 where
 
 -- The tasks and the ackers in the order of their numbers, where the spout's rows go, the verdicts
 -- in the coordinator's box, the parcels that it has still to hand over, what it knows, the number
--- of the last tick, the ticks since the coordinator's last turn, which end at 2^32 - 1, and the
--- attempts that ended.
+-- of the last tick, the ticks since the coordinator's last turn, which end at 2^32 - 1, the
+-- partitions that are shut, as bits, and the attempts that ended.
 pub record World : Type 0 where
   pub tasks : List TaskSide
   pub ackers : List AckerSide
@@ -67,6 +68,7 @@ pub record World : Type 0 where
   pub desk : Desk
   pub tick : ℕ
   pub unheard : ℕ
+  pub shut : ℕ
   pub fates : List Attempt
 
 -- a number of ticks ends at 2^64 - 1
@@ -255,7 +257,7 @@ module _ (t : Topology) (cut : Cut) where
   }
 
   abbrev pub turned_in : World → Turned t cut
-  turned_in w = turned t cut (slice_get w.verdicts 0) w.unheard w.desk
+  turned_in w = turned t cut (slice_get w.verdicts 0) w.unheard w.shut w.desk
 
   -- the coordinator hands over the front parcel of its outbox; with none there it has a turn
   abbrev pub turn_past : List ℕ → World → List Parcel → World
@@ -288,16 +290,34 @@ ended_turn n = min n (2 ^ 32 - 1)
 abbrev pub tick_step : World → World
 tick_step w = record w { tick = ended (w.tick + 1); unheard = ended_turn (w.unheard + 1) }
 
+-- ---- partitions
+
+-- a partition is shut from now on, and each other one as it was
+abbrev pub shut_with : ℕ → ℕ → ℕ
+shut_with q shut = if is_shut shut q then shut else shut + 2 ^ q
+
+-- it is open from now on
+abbrev pub open_with : ℕ → ℕ → ℕ
+open_with q shut = if is_shut shut q then shut - 2 ^ q else shut
+
+abbrev pub shut_step : ℕ → World → World
+shut_step q w = record w { shut = shut_with q w.shut }
+
+abbrev pub open_step : ℕ → World → World
+open_step q w = record w { shut = open_with q w.shut }
+
 -- ---- steps
 
 -- A step of a task, of an acker, of the coordinator up to a commit that it orders, the commit's
--- outcome, and a tick.
+-- outcome, a tick, and a partition that is shut or opened.
 pub data Step : Type 0 where
   of_task : (n : ℕ) → Step
   of_acker : (n : ℕ) → Step
   of_turn : Step
   of_outcome : Step
   of_tick : Step
+  of_shut : (q : ℕ) → Step
+  of_open : (q : ℕ) → Step
 
 -- the coordinator has its step, and the commit that it orders is carried out
 abbrev pub coordinator_steps : List Step
@@ -323,6 +343,7 @@ outcome_by end.TimedOut = None
 outcome_by (end.Coincided list) = None
 outcome_by (end.CommitFailed component part before after) =
     Some (Failed component part before after)
+outcome_by (end.Dropped by) = None
 
 -- what came of the commits that were carried out, in order
 abbrev pub outcomes_of : List Attempt → List CommitOutcome
@@ -346,7 +367,7 @@ drew n count counts s = if s == n then counts s + count else counts s
 abbrev pub next_words : (ℕ → ℕ → ℕ) → (ℕ → ℕ) → ℕ → ℕ → List ℕ
 next_words words counts n count = map (words n) (range_with_len (counts n) count)
 
--- every batch is committed, or all attempts of one ended without a commit
+-- no record is left uncommitted, or as many attempts of a transaction aborted as a plan allows
 abbrev pub is_over : Topology → Cut → World → Bool
 is_over t cut w = if is_some w.desk.exhausted then true else is_finished t cut w.desk
 
@@ -370,6 +391,8 @@ module _ (t : Topology) (custom : Custom) (cut : Cut) (words : ℕ → ℕ → �
     counts = k.counts;
   }
   step of_tick k = record { world = tick_step k.world; counts = k.counts }
+  step (of_shut q) k = record { world = shut_step q k.world; counts = k.counts }
+  step (of_open q) k = record { world = open_step q k.world; counts = k.counts }
 
   -- when all is over nothing changes
   abbrev pub next : Step → Known → Known
@@ -401,20 +424,6 @@ module _ (t : Topology) (words : ℕ → ℕ → ℕ) where
     stand = first_stand n (origin.Component (component_of t n));
   }
 
-  -- nothing was begun
-  abbrev pub first_world : World
-  first_world = record {
-    tasks = map first_task (range_with_len 0 (tasks_in_all t));
-    ackers = replicate t.ackers no_acker;
-    spout = first_stand (tasks_in_all t) origin.Spout;
-    verdicts = [];
-    orders = [];
-    desk = first_desk;
-    tick = 0;
-    unheard = 0;
-    fates = [];
-  }
-
   -- where a source of rows is, by the number of its source of words
   abbrev pub origin_of : ℕ → Origin
   origin_of n = if n == tasks_in_all t then origin.Spout else origin.Component (component_of t n)
@@ -424,11 +433,27 @@ module _ (t : Topology) (words : ℕ → ℕ → ℕ) where
   first_counts n =
       if nat_lt n (tasks_in_all t + 1) then length (subs_of t (origin_of n)) else 0
 
-  abbrev pub first_known : Known
-  first_known = record { world = first_world; counts = first_counts }
+-- nothing was begun, and no partition is shut
+abbrev pub first_world : Topology → Cut → (ℕ → ℕ → ℕ) → World
+first_world t cut words = record {
+  tasks = map (first_task t words) (range_with_len 0 (tasks_in_all t));
+  ackers = replicate t.ackers no_acker;
+  spout = first_stand t words (tasks_in_all t) origin.Spout;
+  verdicts = [];
+  orders = [];
+  desk = first_desk cut;
+  tick = 0;
+  unheard = 0;
+  shut = 0;
+  fates = [];
+}
+
+abbrev pub first_known : Topology → Cut → (ℕ → ℕ → ℕ) → Known
+first_known t cut words =
+    record { world = first_world t cut words; counts = first_counts t words }
 
 -- the world after some steps, where sources have these words and commits come to these outcomes
 abbrev pub world_after : Topology → Custom → Cut → (ℕ → ℕ → ℕ) → List CommitOutcome → List Step
     → World
 world_after t custom cut words outcomes steps =
-    (run t custom cut words outcomes steps (first_known t words)).world
+    (run t custom cut words outcomes steps (first_known t cut words)).world

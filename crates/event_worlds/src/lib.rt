@@ -11,11 +11,11 @@ pub use bolt_task;
 pub use commit_order;
 pub use commit_order::{
     acker_core, attempt_fates, bolt_ops, commit_turns, commit_writes, counted_items,
-    output_collector, record_spans, state_parts, storm_ids, storm_values, topology_plan,
-    tree_model, trident_batches, tuple_account, tuple_tickets,
+    output_collector, record_offers, record_spans, replay_pending, state_parts, storm_ids,
+    storm_values, taken_records, topology_plan, tree_model, tuple_account, tuple_tickets,
 };
 pub use laws::{
-    coordinators_steps_lead_on_beside, ends_of_worlds_have_causes, roots_begin_with_their_batches,
-    settled_lists_are_whole, steps_add_to_histories, worlds_are_accounted,
-    worlds_with_others_are_accounted,
+    batches_have_no_more_nodes, coordinators_steps_lead_on_beside, ends_of_worlds_have_causes,
+    partitions_are_shut_one_by_one, roots_begin_with_their_batches, settled_lists_are_whole,
+    steps_add_to_histories, worlds_are_accounted, worlds_with_others_are_accounted,
 };

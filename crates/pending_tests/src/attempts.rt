@@ -1,6 +1,6 @@
 // Attempts in flight.
 use record_spans::{Span, Spans};
-use replay_pending::{BeginFault, Entry, Pending};
+use replay_pending::{BeginFault, Entry, Pending, Tried};
 use std::alloc::{AllocError, Global};
 use std::test::Fail;
 use storm_values::{Memory, Root};
@@ -12,8 +12,10 @@ enum Call {
     Begin(Root),
     Settle(Root),
     End(Root),
+    Abort(Root),
+    EndAbove(u64),
     Tick,
-    Attempts(u64),
+    Tried(u64),
 }
 
 #[derive(Clone, Copy, PartialEq, Eq)]
@@ -25,11 +27,17 @@ enum Answer {
     Was(bool),
     /// The roots of the first two attempts that a tick told.
     Told(Option<Root>, Option<Root>),
-    Count(u32),
+    /// The root of the attempt that moved out.
+    Moved(Option<Root>),
+    Tried(Tried),
 }
 
 fn try_of(txid: u64, attempt: u32) -> Root {
     Root { txid, attempt }
+}
+
+fn tried(begun: u32, aborted: u32) -> Answer {
+    Answer::Tried(Tried { begun, aborted })
 }
 
 // The span of one record, with the number of the transaction.
@@ -50,6 +58,13 @@ fn begin(alloc: Global, pending: &mut Pending<u64>, root: Root) -> Result<Answer
         Ok(()) => Ok(Answer::Begun),
         Err(BeginFault::AtCap(cap)) => Ok(Answer::AtCap(cap)),
         Err(BeginFault::Memory) => Err(AllocError),
+    }
+}
+
+fn root_of(entry: Option<Entry<u64>>) -> Option<Root> {
+    match entry {
+        Some(entry) => Some(entry.root),
+        None => None,
     }
 }
 
@@ -74,8 +89,10 @@ fn make(alloc: Global, pending: &mut Pending<u64>, call: Call) -> Result<Answer,
         Call::Begin(root) => begin(alloc, pending, root),
         Call::Settle(root) => Ok(Answer::Was(pending.settle(root, 7))),
         Call::End(root) => Ok(Answer::Was(pending.end(root).is_some())),
+        Call::Abort(root) => Ok(Answer::Was(pending.abort(root).is_some())),
+        Call::EndAbove(txid) => Ok(Answer::Moved(root_of(pending.end_above(txid)))),
         Call::Tick => tick(pending),
-        Call::Attempts(txid) => Ok(Answer::Count(pending.attempts(txid))),
+        Call::Tried(txid) => Ok(Answer::Tried(pending.tried(txid))),
     }
 }
 
@@ -102,8 +119,8 @@ fn one_root_at_a_time(rt: HostRuntime) -> Result<(), Fail> {
         (Call::End(try_of(1, 1)), Answer::Was(true)),
         (Call::End(try_of(1, 1)), Answer::Was(false)),
         (Call::Begin(try_of(2, 1)), Answer::Begun),
-        (Call::Attempts(1), Answer::Count(1)),
-        (Call::Attempts(3), Answer::Count(0)),
+        (Call::Tried(1), tried(1, 0)),
+        (Call::Tried(3), tried(0, 0)),
     ];
     assert!(rt; answers(rt.alloc(), &mut pending, &table)?);
     Ok(())
@@ -168,11 +185,71 @@ fn a_verdict_of_another_attempt_changes_nothing(rt: HostRuntime) -> Result<(), F
         (Call::Begin(try_of(1, 1)), Answer::NotNext),
         (Call::Begin(try_of(1, 2)), Answer::Begun),
         (Call::Begin(try_of(1, 3)), Answer::NotNext),
-        (Call::Attempts(1), Answer::Count(2)),
+        (Call::Tried(1), tried(2, 0)),
         (Call::Settle(try_of(1, 1)), Answer::Was(false)),
         (Call::Settle(try_of(2, 1)), Answer::Was(false)),
         (Call::Tick, NONE),
         (Call::Tick, Answer::Told(Some(try_of(1, 2)), None)),
+    ];
+    assert!(rt; answers(rt.alloc(), &mut pending, &table)?);
+    Ok(())
+}
+
+#[test]
+fn an_abort_is_counted_and_an_end_is_not(rt: HostRuntime) -> Result<(), Fail> {
+    let mut pending = Pending::new(rt.alloc(), 2, 3);
+    let table = [
+        (Call::Begin(try_of(1, 1)), Answer::Begun),
+        (Call::Abort(try_of(1, 1)), Answer::Was(true)),
+        (Call::Abort(try_of(1, 1)), Answer::Was(false)),
+        (Call::Tried(1), tried(1, 1)),
+        (Call::Begin(try_of(1, 2)), Answer::Begun),
+        (Call::Tried(1), tried(2, 1)),
+        (Call::End(try_of(1, 2)), Answer::Was(true)),
+        (Call::Tried(1), tried(2, 1)),
+    ];
+    assert!(rt; answers(rt.alloc(), &mut pending, &table)?);
+    Ok(())
+}
+
+#[test]
+fn a_tick_counts_those_that_it_tells(rt: HostRuntime) -> Result<(), Fail> {
+    let mut pending = Pending::new(rt.alloc(), 3, 2);
+    let table = [
+        (Call::Begin(try_of(7, 1)), Answer::Begun),
+        (Call::Begin(try_of(9, 1)), Answer::Begun),
+        (Call::Begin(try_of(2, 1)), Answer::Begun),
+        (Call::Settle(try_of(9, 1)), Answer::Was(true)),
+        (Call::Tick, NONE),
+        (Call::Tried(7), tried(1, 0)),
+        (
+            Call::Tick,
+            Answer::Told(Some(try_of(7, 1)), Some(try_of(2, 1))),
+        ),
+        (Call::Tried(7), tried(1, 1)),
+        (Call::Tried(9), tried(1, 0)),
+        (Call::Tried(2), tried(1, 1)),
+    ];
+    assert!(rt; answers(rt.alloc(), &mut pending, &table)?);
+    Ok(())
+}
+
+#[test]
+fn attempts_above_a_transaction_move_out_in_order(rt: HostRuntime) -> Result<(), Fail> {
+    let mut pending = Pending::new(rt.alloc(), 4, 3);
+    let table = [
+        (Call::Begin(try_of(5, 1)), Answer::Begun),
+        (Call::Begin(try_of(3, 1)), Answer::Begun),
+        (Call::Begin(try_of(9, 1)), Answer::Begun),
+        (Call::Begin(try_of(2, 1)), Answer::Begun),
+        (Call::Settle(try_of(9, 1)), Answer::Was(true)),
+        (Call::EndAbove(3), Answer::Moved(Some(try_of(5, 1)))),
+        (Call::EndAbove(3), Answer::Moved(Some(try_of(9, 1)))),
+        (Call::EndAbove(3), Answer::Moved(None)),
+        (Call::Tried(5), tried(1, 0)),
+        (Call::Tried(9), tried(1, 0)),
+        (Call::End(try_of(3, 1)), Answer::Was(true)),
+        (Call::End(try_of(2, 1)), Answer::Was(true)),
     ];
     assert!(rt; answers(rt.alloc(), &mut pending, &table)?);
     Ok(())

@@ -2,7 +2,7 @@
 use Rattle.std.proofs.Common.{◌≡◌, ℕ, zero, suc, ◌+◌, ◌-◌, ◌%◌, ◌<◌, ◌≤◌, ◌⊎◌, inl, inr, Bool, true, false, not, ◌&&◌, cond, List, [], ◌∷◌, ◌++◌, length, take, drop, Contains, get_or, slice_index, slice_index_or, refl, sym, ap, subst, ◌∙◌, add-one, arith}
 use Rattle.std.specs.List.{filter, range_with_len}
 use Rattle.std.proofs.Math.Seq.{take-append_seam}
-use Rattle.std.proofs.lemmas.List.{length-take, take-append-drop, take_all}
+use Rattle.std.proofs.lemmas.List.{append-nil, length-take, take-append-drop, take_all}
 use Rattle.std.proofs.lemmas.List.Elements.{Contains-append_cases, Contains-append_left, filter-append}
 use Rattle.record_spans.proofs.SpanLemmas.{range_append, range_more}
 use Rattle.record_offers.specs.Marks.{AreLow}
@@ -49,6 +49,13 @@ filter_next p at =
     ∙ filter-append p (range_with_len 1 at) ((1 + at) ∷ [])
     ∙ ap (λ (n : ℕ). filter p (range_with_len 1 at) ++ filter p (n ∷ [])) last
 
+pub next_taken : (p : ℕ → Bool) (at : ℕ) (old new : List ℕ) → old ≡ filter p (range_with_len 1 at) → p (at + 1) ≡ true → new ≡ old ++ (at + 1) ∷ []
+    → new ≡ filter p (range_with_len 1 (at + 1))
+next_taken p at old new was free is = is ∙ ap (λ xs. xs ++ (at + 1) ∷ []) was ∙ sym (filter_next p at ∙ rw free refl)
+
+pub next_left : (p : ℕ → Bool) (at : ℕ) (old : List ℕ) → old ≡ filter p (range_with_len 1 at) → p (at + 1) ≡ false → old ≡ filter p (range_with_len 1 (at + 1))
+next_left p at old was free = was ∙ sym (filter_next p at ∙ rw free (append-nil (filter p (range_with_len 1 at))))
+
 pub offer_end : (p : ℕ → Bool) (size at n : ℕ) → at ≤ n → length (filter p (range_with_len 1 at)) ≤ size
     → (n ≤ at) ⊎ (size ≤ length (filter p (range_with_len 1 at)))
     → take size (filter p (range_with_len 1 n)) ≡ filter p (range_with_len 1 at)
@@ -74,7 +81,7 @@ offer_end p size at n within few done =
 taken_has : (size : ℕ) (ns : List ℕ) (n : ℕ) → Contains (take size ns) n → Contains ns n
 taken_has size ns n has = subst (λ xs. Contains xs n) (take-append-drop size ns) (Contains-append_left (take size ns) (drop size ns) n has)
 
-filtered_has : (p : ℕ → Bool) (a k n : ℕ) → Contains (filter p (range_with_len a k)) n → (a ≤ n) × (n < a + k) × (p n ≡ true)
+pub filtered_has : (p : ℕ → Bool) (a k n : ℕ) → Contains (filter p (range_with_len a k)) n → (a ≤ n) × (n < a + k) × (p n ≡ true)
 filtered_has p a zero n has = absurd (let below = has.1 in omega (arith, below))
 filtered_has p a (suc k) n has = by_test (p a) refl (filtered_has p (a + 1) k n)
   where

@@ -32,6 +32,10 @@ fresh records size partitions = record {
 abbrev pub is_gone : List Bool → ℕ → Bool
 is_gone gone n = slice_index_or gone (n - 1) true
 
+-- the records that are gone, in the order of the input
+abbrev pub gone_records : List Bool → List ℕ
+gone_records gone = filter (is_gone gone) (range_with_len 1 (length gone))
+
 -- the number of records that are not gone
 abbrev pub left_in : List Bool → ℕ
 left_in gone = count_by not gone

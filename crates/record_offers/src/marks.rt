@@ -1,10 +1,12 @@
-ghost use Rattle.std.specs.Prelude.{◌≡◌, ◌≤◌, ◌<◌, ◌+◌, ◌-◌, ◌%◌, ℕ, length, true, false, slice_index, slice_index_or};
+ghost use Rattle.std.specs.Prelude.{◌≡◌, ◌≤◌, ◌<◌, ◌+◌, ◌-◌, ◌%◌, ℕ, length, true, false, IfOk, slice_index, slice_index_or};
 ghost use Rattle.std.specs.List.{count_by};
-ghost use Rattle.record_spans.specs.Spans.{AreApart, end_of, is_within, stands_in};
+ghost use Rattle.record_spans.specs.Spans.{AreApart, AreRunsOf, end_of, is_within, stands_in};
 ghost use Rattle.record_offers.specs.Marks.{AreBounds, is_mark};
-ghost use Rattle.record_offers.specs.Offers.{AreMarked, left_in};
+ghost use Rattle.record_offers.specs.Offers.{AreMarked, gone_records, is_gone, left_in};
 
-use record_spans::Span;
+use record_spans::{Span, push_record};
+use std::alloc::Global;
+use storm_values::Memory;
 
 /// Makes the records of some spans gone, and says how many were not. The bounds rise past the
 /// records that are gone, so that an offer does not come to them again.
@@ -121,4 +123,26 @@ fn lower(low: &mut [usize], span: &Span)
             low[partition] = at;
         }
     }
+}
+
+/// The records that are gone, as maximal runs.
+pub fn gone_runs(alloc: Global, gone: &[bool]) -> Result<Vec<Span>, Memory>
+    ensures runs { IfOk result (λ spans. AreRunsOf (gone_records gone.now) spans.items) }
+    ensures within { IfOk result (λ spans. end_of 0 spans.items ≤ length gone.now + 1) }
+{
+    let mut spans = Vec::new(alloc);
+    for at in 0..gone.len() {
+        if is_gone(gone, at) {
+            push_record(&mut spans, at as u64 + 1)?;
+        }
+    }
+    Ok(spans)
+}
+
+/// Whether the record at a place is gone.
+fn is_gone(gone: &[bool], at: usize) -> bool
+    requires { at < length gone.now }
+    ensures { result ≡ is_gone gone.now (at + 1) }
+{
+    gone[at]
 }

@@ -1,7 +1,7 @@
 ghost use Rattle.std.specs.Prelude.{◌≡◌, ◌<◌, ◌≤◌, ◌+◌, ◌-◌, ◌↔◌, [], true, false, length, slice_get, Some, IsNone, IfSome, IfOk};
 ghost use Rattle.record_spans.specs.Spans.{AreApart, AreRunsOf, end_of, stands_in};
 ghost use Rattle.std.specs.List.{range_with_len};
-ghost use Rattle.record_offers.specs.Offers.{AreMarked, batch_count, batch_numbers, fresh, left_in, offered, with_gone};
+ghost use Rattle.record_offers.specs.Offers.{AreMarked, batch_count, batch_numbers, fresh, gone_records, left_in, offered, with_gone};
 
 use crate::choice::first_records;
 use crate::marks;
@@ -163,6 +163,13 @@ impl Offers {
         u64::from(self.size)
     }
 
+    /// The number of partitions, or 0 where the spout has none.
+    pub fn partitions(&self) -> u32
+        ensures { result ≡ self.now.partitions }
+    {
+        self.low.len() as u32
+    }
+
     /// The least number of batches that holds all records.
     pub fn count(&self) -> u64
         ensures { result ≡ batch_count (length self.now.records) self.now.size }
@@ -176,6 +183,15 @@ impl Offers {
         ensures marks { length self.now.gone ≡ length self.now.records }
     {
         self.left
+    }
+
+    /// The records that are gone, as maximal runs. The time is in proportion to all records.
+    pub fn gone_spans(&self) -> Result<Spans, Memory>
+        ensures runs { IfOk result (AreRunsOf (gone_records self.now.gone)) }
+        ensures within { IfOk result (λ spans. end_of 0 spans ≤ length self.now.gone + 1) }
+    {
+        let spans = marks::gone_runs(*self.gone.allocator(), &self.gone)?;
+        Ok(Spans::from_vec(spans))
     }
 
     /// The transaction after which the offers started.

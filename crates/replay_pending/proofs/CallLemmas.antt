@@ -7,7 +7,7 @@ use Rattle.record_spans.specs.declared.span.Span.{Span}
 use Rattle.storm_values.specs.declared.value.Root.{Root}
 use Rattle.rotating_ledger.specs.Held.{root_eq}
 use Rattle.rotating_ledger.proofs.RootLemmas.{root_eq-refl, root_eq-same}
-use Rattle.replay_pending.specs.Calls.{Call, Begin, Settle, End, Tick, after, after_all, began, begins, is_of, is_tick, one_tells, settles, tells, ticks_in}
+use Rattle.replay_pending.specs.Calls.{Call, Begin, Settle, End, Abort, Tick, aborts, after, after_all, began, begins, is_of, is_tick, one_tells, settles, tells, ticks_in}
 use Rattle.replay_pending.specs.declared.entry.Entry.{Entry}
 use Rattle.replay_pending.specs.InFlight.{InFlight, begun, ended, fresh, is_late, is_of_root, is_pending, is_timed, is_timed_of, settled, timed_of}
 use Rattle.replay_pending.proofs.Found.{some-any}
@@ -226,6 +226,12 @@ module _ {L : Type 0} where
       record { at = at-settled root other list start p.pending differ at; buckets = refl; tick = refl }
   settles-at root other list start false p differ at = record { at = at; buckets = refl; tick = refl }
 
+  aborts-at : (root other : Root) (start : ℕ) (b : Bool) (p : InFlight L) → root_eq root other ≡ false → IsAt root start p.pending
+      → Leaves root start p (aborts b other p)
+  aborts-at root other start true p differ at =
+      record { at = at-ended root other start p.pending differ at; buckets = refl; tick = refl }
+  aborts-at root other start false p differ at = record { at = at; buckets = refl; tick = refl }
+
   waits : (root : Root) (start buckets : ℕ) (calls : List (Call L)) (p : InFlight L) → p.buckets ≡ buckets → IsAt root start p.pending
       → list_any (is_of root) calls ≡ false → p.tick + ticks_in calls < start + buckets → Waits root start buckets calls p
   waits root start buckets [] p same at none few =
@@ -253,6 +259,13 @@ module _ {L : Type 0} where
       let fewer : p.tick + ticks_in calls < start + buckets = omega arith in
       same_ticks root start buckets (End other) calls p refl refl refl
       (waits root start buckets calls (after (End other) p) same (at-ended root other start p.pending both.0 at) both.1 fewer)
+  waits root start buckets (Abort other ∷ calls) p same at none few =
+      let both = either_false (root_eq root other) (list_any (is_of root) calls) none in
+      let left = aborts-at root other start (is_pending other p.pending) p both.0 at in
+      let tick = left.tick in
+      let fewer : (after (Abort other) p).tick + ticks_in calls < start + buckets = omega arith in
+      same_ticks root start buckets (Abort other) calls p refl refl left.tick
+      (waits root start buckets calls (after (Abort other) p) (left.buckets ∙ same) left.at both.1 fewer)
   waits root start buckets (Tick ∷ calls) p same at none few =
       let fewer : p.tick + 1 + ticks_in calls < start + buckets = omega arith in
       let less : p.tick + 1 < start + buckets = omega arith in
@@ -313,6 +326,10 @@ module _ {L : Type 0} where
   untimed-settles root other list true p none = untimed-settled root other list p.pending none
   untimed-settles root other list false p none = none
 
+  untimed-aborts : (root other : Root) (b : Bool) (p : InFlight L) → has_timed root p.pending ≡ false → has_timed root (aborts b other p).pending ≡ false
+  untimed-aborts root other true p none = none-filter (is_timed_of root) (λ (e : Entry L). not (is_of_root other e)) p.pending none
+  untimed-aborts root other false p none = none
+
   untimed-told : (root : Root) (buckets tick : ℕ) (es : List (Entry L)) → has_timed root es ≡ false
       → is_pending root (filter (is_late buckets tick) es) ≡ false
   untimed-told root buckets tick [] none = refl
@@ -343,6 +360,8 @@ module _ {L : Type 0} where
       silent-untimed root (after (Settle other list) p) calls (untimed-settles root other list (is_some (timed_of other p.pending)) p off) none
   silent-untimed root p (End other ∷ calls) off none =
       silent-untimed root (after (End other) p) calls (none-filter (is_timed_of root) (λ (e : Entry L). not (is_of_root other e)) p.pending off) none
+  silent-untimed root p (Abort other ∷ calls) off none =
+      silent-untimed root (after (Abort other) p) calls (untimed-aborts root other (is_pending other p.pending) p off) none
   silent-untimed root p (Tick ∷ calls) off none =
       let later = none-filter (is_timed_of root) (λ (e : Entry L). not (is_late p.buckets (p.tick + 1) e)) p.pending off in
       ap (λ b. b || one_tells root calls (after Tick p)) (untimed-told root p.buckets (p.tick + 1) p.pending off) ∙ silent-untimed root (after Tick p) calls later none

@@ -1,5 +1,6 @@
 -- Items that pass a test move out, the first first.
 use Rattle.std.proofs.Common.{◌≡◌, ℕ, suc, ◌+◌, ◌<◌, Bool, true, false, not, cond, get_or, Option, Some, None, List, [], ◌∷◌, ◌++◌, length, take, drop, filter, refl, sym, ap, ap₂, ◌∙◌, arith}
+use Rattle.std.proofs.lemmas.List.{append_assoc}
 use Rattle.std.specs.List.{find, position, position_or_len}
 use Rattle.replay_pending.proofs.Found.{first_place, none_found}
 
@@ -58,6 +59,27 @@ module _ {X : Type 0} (p : X → Bool) where
           → (cond b (x ∷ filter p xs) (filter p xs) ≡ []) × (cond (not b) (x ∷ left xs) (left xs) ≡ x ∷ xs)
       by true none more = absurd (some_none none)
       by false none more = let both = more none in (both.0, ap (λ ys. x ∷ ys) both.1)
+
+  -- none is left that passes
+  none_left : (xs : List X) → filter p xs ≡ [] → left xs ≡ xs
+  none_left [] none = refl
+  none_left (x ∷ xs) none = by (p x) none (none_left xs)
+    where
+      some_none : (ys : List X) → x ∷ ys ≡ [] → ⊥
+      some_none ys e = cc
+
+      by : (b : Bool) → cond b (x ∷ filter p xs) (filter p xs) ≡ [] → (filter p xs ≡ [] → left xs ≡ xs)
+          → cond (not b) (x ∷ left xs) (left xs) ≡ x ∷ xs
+      by true none more = absurd (some_none (filter p xs) none)
+      by false none more = ap (λ ys. x ∷ ys) (more none)
+
+  -- and then the others are all that is left
+  pub all_moved : (xs ys : List X) → left ys ≡ left xs → filter p ys ≡ [] → ys ≡ left xs
+  all_moved xs ys kept none = sym (none_left ys none) ∙ kept
+
+  -- one more was told
+  pub one_moved : (told xs ys : List X) (x : X) → filter p xs ≡ x ∷ filter p ys → (told ++ x ∷ []) ++ filter p ys ≡ told ++ filter p xs
+  one_moved told xs ys x is = append_assoc told (x ∷ []) (filter p ys) ∙ ap (λ zs. told ++ zs) (sym is)
 
   -- one item moved out of a list, and the places that are left
   pub record Moves (xs ys : List X) (x : X) : Type 0 where

@@ -1,5 +1,6 @@
 mod CountLemmas
 pub mod Lists
+pub mod Counting
 pub mod Found
-mod Late
+pub mod Late
 mod CallLemmas

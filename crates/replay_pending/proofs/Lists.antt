@@ -63,7 +63,7 @@ module _ {L : Type 0} where
       cases false none rest = rest
 
   -- a settled attempt has its root still
-  settled-root : (root : Root) (list : L) (e : Entry L) → (settle_with root list e).root ≡ e.root
+  pub settled-root : (root : Root) (list : L) (e : Entry L) → (settle_with root list e).root ≡ e.root
   settled-root root list e = by (root_eq root e.root)
     where
       by : (b : Bool) → (cond b (record e { settled = Some list }) e).root ≡ e.root

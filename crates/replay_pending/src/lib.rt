@@ -1,5 +1,6 @@
 //! The attempts of batches that are in flight, at most so many, in one table: their records, their
-//! time-outs, and what they were settled with.
+//! time-outs, and what they were settled with. Of each transaction it counts the attempts that
+//! were begun and those that aborted.
 #![tactic(auto)]
 
 mod attempts;
@@ -9,6 +10,7 @@ mod laws;
 mod pending;
 mod places;
 
+pub use attempts::Tried;
 pub use entry::Entry;
 pub use fault::BeginFault;
 pub use laws::{roots_are_told_at_their_last_tick, roots_that_are_not_timed_are_not_told};

@@ -1,9 +1,9 @@
-ghost use Rattle.std.specs.Prelude.{◌≡◌, ◌≢◌, ◌≤◌, ◌<◌, ◌+◌, ◌-◌, ◌^◌, ◌↔◌, ◌∷◌, ◌++◌, [], None, false, is_some, length, option_copied, IsTrue, IfOk, IfErr, OnOk, OnErr};
-ghost use Rattle.std.specs.FinMap as fin_map;
+ghost use Rattle.std.specs.Prelude.{◌≡◌, ◌≢◌, ◌≤◌, ◌<◌, ◌+◌, ◌-◌, ◌^◌, ◌↔◌, ◌∷◌, ◌++◌, [], None, Some, false, not, is_some, length, filter, option_copied, count_by, IsTrue, IfOk, IfErr, OnOk, OnErr, OnSome};
 ghost use Rattle.replay_pending.specs.Faults.{IsCauseOf};
-ghost use Rattle.replay_pending.specs.InFlight.{AreDistinct, IsNext, attempts_of, begun, due, ended, entry_of, has_txid, none_in_flight, settled, settled_after, ticked, timed_of};
+ghost use Rattle.replay_pending.specs.InFlight.{AreCounted, AreDistinct, IsNext, aborted, begun, counted, due, ended, entry_of, has_txid, is_above, is_of_txid, none_in_flight, settled, settled_after, ticked, timed_of, tried, txids_of, with_begun};
+ghost use Rattle.replay_pending.specs.declared.entry.Entry.{Entry};
 
-use crate::attempts::Attempts;
+use crate::attempts::{Tried, Tries};
 use crate::entry::Entry;
 use crate::fault::BeginFault;
 use crate::places;
@@ -23,7 +23,7 @@ pub struct Pending<L> {
     tick: u64,
     // in the order of their begins
     entries: Vec<Entry<L>>,
-    attempts: Attempts,
+    tries: Tries,
 }
 
 impl<L> Model for Pending<L> {
@@ -33,17 +33,17 @@ impl<L> Model for Pending<L> {
 
     ghost coded = { in_flight_code L.code };
 
-    ghost use Rattle.replay_pending.specs.InFlight.{AreFew};
+    ghost use Rattle.replay_pending.specs.InFlight.{AreKept};
 
     ghost view = { λ p. record {
       cap = p.cap;
       buckets = p.buckets;
       tick = p.tick;
       pending = p.entries.items;
-      attempts = p.attempts;
+      tries = p.tries;
     } };
 
-    ghost invariant = { λ p. AreFew p.cap p.entries.items };
+    ghost invariant = { λ p. AreKept p.cap p.tries p.entries.items };
 }
 
 impl<L: Drop> Pending<L> {
@@ -60,7 +60,7 @@ impl<L: Drop> Pending<L> {
             buckets,
             tick: 0,
             entries: Vec::new(alloc),
-            attempts: Attempts::new(alloc),
+            tries: Tries::new(alloc),
         }
     }
 
@@ -82,7 +82,7 @@ impl<L: Drop> Pending<L> {
             start: self.tick,
             settled: None,
         };
-        match add_entry(&mut self.entries, &mut self.attempts, entry) {
+        match add_entry(&mut self.entries, &mut self.tries, entry) {
             Ok(()) => Ok(()),
             Err(_) => Err(BeginFault::Memory),
         }
@@ -105,21 +105,52 @@ impl<L: Drop> Pending<L> {
         }
     }
 
-    /// An attempt is no longer pending, and is moved out, where it was. It takes no memory.
+    /// An attempt is no longer pending, and is moved out, where it was. It is not counted as
+    /// aborted. It takes no memory.
     pub fn end(&mut self, root: Root) -> Option<Entry<L>>
         ensures entry { result ≡ entry_of root self.old.pending }
         ensures ended { self.new ≡ record self.old { pending = ended root self.old.pending } }
         ensures same { result ≡ None → self.new ≡ self.old }
     {
-        match places::place_of(&self.entries, root) {
+        places::take(&mut self.entries, root)
+    }
+
+    /// An attempt aborts: it is no longer pending, and is moved out and counted as aborted, where
+    /// it was. It takes no memory.
+    pub fn abort(&mut self, root: Root) -> Option<Entry<L>>
+        ensures entry { result ≡ entry_of root self.old.pending }
+        ensures aborted { OnSome result (self.new ≡ aborted root self.old) }
+        ensures same { result ≡ None → self.new ≡ self.old }
+    {
+        match places::take(&mut self.entries, root) {
+            Some(entry) => {
+                self.tries.abort(root.txid);
+                Some(entry)
+            }
+            None => None,
+        }
+    }
+
+    /// The first pending attempt whose transaction is above this one is moved out, settled or not.
+    /// It is not counted as aborted. It takes no memory.
+    pub fn end_above(&mut self, txid: u64) -> Option<Entry<L>>
+        ensures first { (e : Entry L) → result ≡ Some e → filter (is_above txid) self.old.pending
+            ≡ e ∷ filter (is_above txid) self.new.pending }
+        ensures others { filter (λ (e : Entry L). not (is_above txid e)) self.new.pending
+            ≡ filter (λ (e : Entry L). not (is_above txid e)) self.old.pending }
+        ensures none { result ≡ None → filter (is_above txid) self.old.pending ≡ [] }
+        ensures same { result ≡ None → self.new ≡ self.old }
+        ensures rest { self.new ≡ record self.old { pending = self.new.pending } }
+    {
+        match places::place_above(&self.entries, txid) {
             Some(place) => Some(self.entries.remove(place)),
             None => None,
         }
     }
 
     /// One tick: the timed attempts that are due end, and are moved out in the order of their
-    /// begins. Without memory all stays. Where none is due it takes no memory. Ticks end at the
-    /// number 2^64 - 1, at which none may be asked for.
+    /// begins, and counted as aborted. Without memory all stays. Where none is due it takes no
+    /// memory. Ticks end at the number 2^64 - 1, at which none may be asked for.
     pub fn tick(&mut self) -> Result<Vec<Entry<L>>, Memory>
         requires { self.old.tick ≢ 2 ^ 64 - 1 }
         ensures told { IfOk result (λ told. told.items ≡ due self.old) }
@@ -130,6 +161,7 @@ impl<L: Drop> Pending<L> {
         let count = places::late_count(&self.entries, self.buckets, tick);
         let mut told = Vec::with_capacity(*self.entries.allocator(), count)?;
         places::move_late(&mut self.entries, &mut told, self.buckets, tick);
+        count_aborted(&mut self.tries, &told);
         self.tick = tick;
         Ok(told)
     }
@@ -169,11 +201,11 @@ impl<L: Drop> Pending<L> {
         places::settled_after(&self.entries, before)
     }
 
-    /// How many attempts of a transaction were begun.
-    pub fn attempts(&self, txid: u64) -> u32
-        ensures { result ≡ attempts_of txid self.now.attempts }
+    /// How many attempts of a transaction were begun, and how many of them aborted.
+    pub fn tried(&self, txid: u64) -> Tried
+        ensures { result ≡ tried txid self.now.tries }
     {
-        self.attempts.of(txid)
+        self.tries.tried(txid)
     }
 
     /// Whether a root may begin: no attempt of its transaction is pending, and it is the next one.
@@ -181,14 +213,16 @@ impl<L: Drop> Pending<L> {
         ensures { IsTrue result ↔ IsNext root self.now }
     {
         let fresh = !places::has_txid(&self.entries, root.txid);
-        let next = u64::from(self.attempts.of(root.txid)) + 1 == u64::from(root.attempt);
+        let next = u64::from(self.tries.tried(root.txid).begun) + 1 == u64::from(root.attempt);
         fresh & next
     }
 
-    /// No more attempts are pending than may be, and none twice.
+    /// No more attempts are pending than may be, and none twice, and of each transaction no more
+    /// than were begun and did not abort.
     pub fn pending_are_few(&self)
         ensures most { length self.now.pending ≤ self.now.cap }
         ensures once { AreDistinct self.now.pending }
+        ensures counted { AreCounted self.now.tries self.now.pending }
     {
         let _ = &self.entries;
     }
@@ -197,17 +231,27 @@ impl<L: Drop> Pending<L> {
 // Adds and counts an attempt that begins, or does neither.
 fn add_entry<L: Drop>(
     entries: &mut Vec<Entry<L>>,
-    attempts: &mut Attempts,
+    tries: &mut Tries,
     entry: Entry<L>,
 ) -> Result<(), Memory>
     ensures placed { OnOk result (entries.new.items ≡ entries.old.items ++ entry ∷ []) }
     ensures counted { OnOk result
-        (attempts.new ≡ fin_map.insert attempts.old entry.root.txid entry.root.attempt) }
+        (tries.new ≡ with_begun entry.root.txid entry.root.attempt tries.old) }
     ensures entries_stay { OnErr result (entries.new.items ≡ entries.old.items) }
-    ensures counts_stay { OnErr result (attempts.new ≡ attempts.old) }
+    ensures counts_stay { OnErr result (tries.new ≡ tries.old) }
 {
     entries.reserve(1)?;
-    attempts.set(entry.root.txid, entry.root.attempt)?;
+    tries.begin(entry.root.txid, entry.root.attempt)?;
     entries.push_reserved(entry);
     Ok(())
+}
+
+// Counts attempts as aborted, in their order.
+fn count_aborted<L: Drop>(tries: &mut Tries, entries: &[Entry<L>])
+    requires { AreCounted tries.old entries.now }
+    ensures { tries.new ≡ counted (txids_of entries.now) tries.old }
+{
+    for entry in entries {
+        tries.abort(entry.root.txid);
+    }
 }

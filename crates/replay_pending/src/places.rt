@@ -1,6 +1,6 @@
-ghost use Rattle.std.specs.Prelude.{◌≡◌, ◌==◌, ◌+◌, ◌≤◌, ◌++◌, filter, length, not, option_copied, vec_len, vec_capacity};
+ghost use Rattle.std.specs.Prelude.{◌≡◌, ◌==◌, ◌+◌, ◌≤◌, ◌++◌, None, filter, length, not, option_copied, vec_len, vec_capacity};
 ghost use Rattle.std.specs.List.{find, position};
-ghost use Rattle.replay_pending.specs.InFlight.{has_txid, is_late, is_of_root, is_settled_after, is_timed_of, settled_after, timed_of};
+ghost use Rattle.replay_pending.specs.InFlight.{AreDistinct, ended, entry_of, has_txid, is_above, is_late, is_of_root, is_settled_after, is_timed_of, settled_after, timed_of};
 ghost use Rattle.replay_pending.specs.declared.entry.Entry.{Entry};
 
 use crate::entry::Entry;
@@ -31,6 +31,13 @@ fn is_settled_after<L: Drop>(before: u64, entry: &Entry<L>) -> bool
     is_after(before, entry.root.txid) && entry.settled.is_some()
 }
 
+// Whether an attempt's transaction is above this one.
+fn is_above<L: Drop>(txid: u64, entry: &Entry<L>) -> bool
+    ensures { result ≡ is_above txid entry.now }
+{
+    txid < entry.root.txid
+}
+
 // Whether a timed attempt ends at a tick.
 fn is_late<L: Drop>(buckets: u32, tick: u64, entry: &Entry<L>) -> bool
     ensures { result ≡ is_late buckets tick entry.now }
@@ -38,8 +45,8 @@ fn is_late<L: Drop>(buckets: u32, tick: u64, entry: &Entry<L>) -> bool
     entry.settled.is_none() && tick.checked_sub(u64::from(buckets)) == Some(entry.start)
 }
 
-/// The place of the attempt of a root.
-pub fn place_of<L: Drop>(entries: &[Entry<L>], root: Root) -> Option<usize>
+// The place of the attempt of a root.
+fn place_of<L: Drop>(entries: &[Entry<L>], root: Root) -> Option<usize>
     ensures { result ≡ position (is_of_root root) entries.now }
 {
     entries.iter().position(|entry| is_of_root(root, entry))
@@ -50,6 +57,13 @@ pub fn timed_place<L: Drop>(entries: &[Entry<L>], root: Root) -> Option<usize>
     ensures { result ≡ position (is_timed_of root) entries.now }
 {
     entries.iter().position(|entry| is_timed_of(root, entry))
+}
+
+/// The place of the first attempt whose transaction is above this one.
+pub fn place_above<L: Drop>(entries: &[Entry<L>], txid: u64) -> Option<usize>
+    ensures { result ≡ position (is_above txid) entries.now }
+{
+    entries.iter().position(|entry| is_above(txid, entry))
 }
 
 /// The timed attempt of a root.
@@ -90,6 +104,19 @@ fn late_place<L: Drop>(entries: &[Entry<L>], buckets: u32, tick: u64) -> Option<
     entries
         .iter()
         .position(|entry| is_late(buckets, tick, entry))
+}
+
+/// Moves the attempt of a root out.
+pub fn take<L: Drop>(entries: &mut Vec<Entry<L>>, root: Root) -> Option<Entry<L>>
+    requires { AreDistinct entries.old.items }
+    ensures entry { result ≡ entry_of root entries.old.items }
+    ensures left { entries.new.items ≡ ended root entries.old.items }
+    ensures same { result ≡ None → entries.new.items ≡ entries.old.items }
+{
+    match place_of(entries, root) {
+        Some(place) => Some(entries.remove(place)),
+        None => None,
+    }
 }
 
 /// Moves the attempts that end at a tick out, in their order, to where there is room for them.

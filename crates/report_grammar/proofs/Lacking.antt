@@ -10,10 +10,11 @@ use Rattle.std.proofs.lemmas.Bool.Decides.{nat_tests}
 use Rattle.std.proofs.lemmas.Fmt.{decimal_is_IsNumeral_wide}
 use Rattle.std.proofs.lemmas.List.{take_all, drop_all}
 use Rattle.std.proofs.lemmas.Str.Parse.{digit_at}
+use Rattle.storm_values.specs.declared.value.Root.{Root}
 use Rattle.record_spans.specs.declared.span.Span.{Span}
 use Rattle.topology_plan.specs.Texts.{IsName, is_name, is_name_byte, is_between, is_letter, begins_with_letter}
-use Rattle.report_grammar.specs.Report.{EdgeText, edge_text, edges_text, hex_digit, hex_text, path_text, span_text, spans_text}
-use Rattle.report_grammar.specs.WellFormed.{IsEdge, IsPath, IsSpan}
+use Rattle.report_grammar.specs.Report.{EdgeText, edge_text, edges_text, hex_digit, hex_text, path_text, root_text, span_text, spans_text}
+use Rattle.report_grammar.specs.WellFormed.{IsEdge, IsPath, IsRoot, IsSpan}
 use Rattle.report_grammar.specs.steps.Lists.{behind, from_byte, front_of, pieces, pieces_left, rest_of}
 use Rattle.report_grammar.proofs.NumbersRead.{front_len}
 use Rattle.report_grammar.proofs.Pieces.{one_piece}
@@ -146,6 +147,12 @@ spans_lack byte low (span ∷ []) are = high_lacks byte (omega arith) (span_text
 spans_lack byte low (span ∷ next ∷ spans) are =
     lacks-append byte (span_text span) (44 ∷ spans_text (next ∷ spans)) (high_lacks byte (omega arith) (span_text span) (span_high span are.0))
     (and_from _ _ (ap not (ne_eqb 44 byte (λ same. omega arith))) (spans_lack byte low (next ∷ spans) are.1))
+
+-- ---- roots
+
+pub root_high : (root : Root) → IsRoot root → High (root_text root)
+root_high root is =
+    high-append (decimal root.txid) _ (decimal_high root.txid (omega (arith, is.txid))) (omega arith, decimal_high root.attempt (omega (arith, is.attempt)))
 
 -- ---- names
 

@@ -12,11 +12,11 @@ use Rattle.std.proofs.lemmas.Option.{none-some, same_Some}
 use Rattle.std.proofs.lemmas.Str.Parse.{digit_at}
 use Rattle.key_texts.proofs.KeysRead.{text_is_one_line}
 use Rattle.report_grammar.specs.Lines.{IsLine, LineText, attempt, cell, tail, line_text}
-use Rattle.report_grammar.specs.Report.{EndText, committed, failed, timed_out, coincided, commit_failed, end_text, EdgeText, edge_text, edges_text, path_text, spans_text, AttemptText, CellText, cell_text, TailText, ok, exhausted, unfinished}
+use Rattle.report_grammar.specs.Report.{EndText, committed, failed, timed_out, coincided, commit_failed, dropped, end_text, EdgeText, edge_text, edges_text, path_text, root_text, spans_text, AttemptText, CellText, cell_text, TailText, ok, exhausted, unfinished}
 use Rattle.report_grammar.specs.WellFormed.{IsAttempt, IsCell, IsEdge, IsEnd, IsTail}
 use Rattle.report_grammar.specs.steps.Parsed.{an_exhausted, an_ok, an_unfinished, a_heading, a_root, attempt_in, body_of, Cell, cell_in, tail_in}
 use Rattle.report_grammar.specs.steps.Reading.{a_word, after_word}
-use Rattle.report_grammar.proofs.Lacking.{High, Lacks, decimal_high, edge_high, high-append, high_lacks, lacks-append, name_high, path_high, signed_high, spans_lack}
+use Rattle.report_grammar.proofs.Lacking.{High, Lacks, decimal_high, edge_high, high-append, high_lacks, lacks-append, name_high, path_high, root_high, signed_high, spans_lack}
 use Rattle.report_grammar.proofs.LinesRead.{attempt_body, attempt_reads, attempt_shape, body_is, cell_body, cell_parts, cell_reads, cell_shape, tail_body, tail_reads, tail_shape}
 
 -- ---- words of one kind of line are none of another
@@ -134,6 +134,8 @@ end_line (commit_failed state part) is =
     lacks-append 10 (codes "commit failed " ++ state) (32 ∷ decimal part)
     (lacks-append 10 (codes "commit failed ") state refl (high_lacks 10 (omega arith) state (name_high state is.0)))
     (high_lacks 10 (omega arith) (decimal part) (decimal_high part (omega (arith, is.1))))
+end_line (dropped by) is =
+    lacks-append 10 (codes "dropped ") (root_text by) refl (high_lacks 10 (omega arith) (root_text by) (root_high by is))
 
 number_then : (n : ℕ) (rest : List ℕ) → n < 2 ^ 64 → Lacks 10 rest → Lacks 10 (decimal n ++ rest)
 number_then n rest small lacks =

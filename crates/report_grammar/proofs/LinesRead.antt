@@ -7,16 +7,17 @@ use Rattle.std.specs.Str.{IsUtf8, is_utf8}
 use Rattle.std.proofs.Math.Seq.{take-append_seam, drop-append_seam}
 use Rattle.std.proofs.lemmas.Slice.Eq.{bytes_eq-Decides}
 use Rattle.std.proofs.lemmas.Str.{is_utf8-from_IsUtf8, IsUtf8-from_ascii, IsUtf8-from_is_utf8}
+use Rattle.storm_values.specs.declared.value.Root.{Root}
 use Rattle.record_spans.specs.declared.span.Span.{Span}
 use Rattle.topology_plan.specs.Texts.{IsName}
 use Rattle.key_texts.proofs.KeysRead.{text_is_utf8}
-use Rattle.report_grammar.specs.Report.{EndText, committed, failed, timed_out, coincided, commit_failed, end_text, path_text, edges_text, spans_text, AttemptText, attempt_text, CellText, cell_text, TailText, ok, exhausted, unfinished, tail_text}
+use Rattle.report_grammar.specs.Report.{EndText, committed, failed, timed_out, coincided, commit_failed, dropped, end_text, path_text, edges_text, root_text, spans_text, AttemptText, attempt_text, CellText, cell_text, TailText, ok, exhausted, unfinished, tail_text}
 use Rattle.report_grammar.specs.WellFormed.{AreSpans, IsEnd, IsAttempt, IsCell, IsTail}
 use Rattle.report_grammar.specs.steps.Lists.{front_of, last_of, number_of, pieces, rest_of, spans_of}
 use Rattle.report_grammar.specs.steps.Reading.{Reader, ◌>>=◌, a_number, a_word}
-use Rattle.report_grammar.specs.steps.Parsed.{a_heading, a_root, an_exhausted, an_ok, an_unfinished, attempt_in, attempt_with, before_space, behind_space, body_of, Cell, cell_in, coincided_in, commit_failed_in, end_in, failed_in, Heading, listed_in, most_u32, most_u64, some_spans, tail_in, text_in, two_ticks}
+use Rattle.report_grammar.specs.steps.Parsed.{a_heading, a_root, an_exhausted, an_ok, an_unfinished, attempt_in, attempt_with, before_space, behind_space, body_of, Cell, cell_in, coincided_in, commit_failed_in, dropped_in, end_in, failed_in, Heading, listed_in, most_u32, most_u64, some_spans, tail_in, text_in, two_ticks}
 use Rattle.report_grammar.proofs.Lacking.{Lacks, from_there, front_there, high_lacks, name_ascii, name_high, pieces_one, rest_there, signed_high, spans_lack}
-use Rattle.report_grammar.proofs.Lists.{edges_read, number_of_reads, path_reads, spans_read}
+use Rattle.report_grammar.proofs.Lists.{edges_read, number_of_reads, path_reads, root_of_reads, spans_read}
 use Rattle.report_grammar.proofs.NumbersRead.{number_reads}
 
 -- ---- one step after another
@@ -131,6 +132,10 @@ commit_failed_ends : (rest : List ℕ) → end_in (codes "commit failed " ++ res
 unfolding end_in listed_in
 commit_failed_ends rest = refl
 
+dropped_ends : (rest : List ℕ) → end_in (codes "dropped " ++ rest) ≡ dropped_in rest
+unfolding end_in listed_in
+dropped_ends rest = refl
+
 failed_reads : (path : List ℕ) → IsEnd (failed path) → failed_in (path_text path) ≡ Some (failed path)
 unfolding failed_in
 failed_reads path is = ap (option_map failed) (path_reads path is)
@@ -138,6 +143,10 @@ failed_reads path is = ap (option_map failed) (path_reads path is)
 coincided_reads : (edges : _) → IsEnd (coincided edges) → coincided_in (edges_text edges) ≡ Some (coincided edges)
 unfolding coincided_in
 coincided_reads edges is = ap (option_map coincided) (edges_read edges is.0 is.1)
+
+dropped_reads : (by : Root) → IsEnd (dropped by) → dropped_in (root_text by) ≡ Some (dropped by)
+unfolding dropped_in
+dropped_reads by is = ap (option_map dropped) (root_of_reads by is)
 
 committed_reads : end_in (codes "committed") ≡ Some committed
 unfolding end_in
@@ -156,6 +165,7 @@ end_reads (commit_failed state part) is =
     ap end_in (append_assoc (codes "commit failed ") state (32 ∷ decimal part))
     ∙ commit_failed_ends (state ++ 32 ∷ decimal part)
     ∙ commit_failed_reads state part is.0 is.1
+end_reads (dropped by) is = dropped_ends (root_text by) ∙ dropped_reads by is
 
 -- ---- an attempt's line
 

@@ -1,4 +1,4 @@
--- Paths, ids, edges and spans are read where their texts stand.
+-- Paths, ids, edges, spans and roots are read where their texts stand.
 use Rattle.std.proofs.Common.{◌≡◌, ℕ, zero, suc, ◌<◌, ◌^◌, ◌≤◌, Bool, true, cond, List, [], ◌∷◌, ◌++◌, length, map, Option, Some, None, option_map, refl, ap, sym, ◌∙◌, arith}
 use Rattle.std.specs.Prelude.{option_and_then}
 use Rattle.std.specs.Fmt.{decimal}
@@ -9,10 +9,11 @@ use Rattle.std.proofs.lemmas.Nat.{from_be_bytes-to_be_bytes_8}
 use Rattle.std.proofs.lemmas.Fmt.{digits_decimal}
 use Rattle.hex.specs.Hex.{IsBytes, decode_sized, encode_lower}
 use Rattle.hex.proofs.HexLemmas.{decode_sized-encode_lower}
+use Rattle.storm_values.specs.declared.value.Root.{Root}
 use Rattle.record_spans.specs.declared.span.Span.{Span}
-use Rattle.report_grammar.specs.Report.{EdgeText, edge_text, edges_text, hex_text, path_text, span_text, spans_text}
-use Rattle.report_grammar.specs.WellFormed.{AreSpans, IsEdge, IsPath, IsSpan}
-use Rattle.report_grammar.specs.steps.Lists.{each, edge_of, edge_with, edges_of, front_of, id_of, number_of, path_of, pieces, rest_of, span_of, span_with, spans_of, wide_number_of}
+use Rattle.report_grammar.specs.Report.{EdgeText, edge_text, edges_text, hex_text, path_text, root_text, span_text, spans_text}
+use Rattle.report_grammar.specs.WellFormed.{AreSpans, IsEdge, IsPath, IsRoot, IsSpan}
+use Rattle.report_grammar.specs.steps.Lists.{each, edge_of, edge_with, edges_of, front_of, id_of, number_of, path_of, pieces, rest_of, root_of, root_with, span_of, span_with, spans_of, wide_number_of}
 use Rattle.report_grammar.specs.steps.Reading.{number_in}
 use Rattle.report_grammar.proofs.Hex.{digits_of_bytes}
 use Rattle.report_grammar.proofs.Lacking.{AreSmall, Lacks, decimal_lacks, edge_high, front_there, high_lacks, path_lacks_colon, pieces_more, pieces_one, rest_there, span_high}
@@ -109,3 +110,15 @@ pub spans_read : (spans : List Span) → AreSpans spans → spans_of (spans_text
 unfolding spans_of
 spans_read [] are = absurd (omega (arith, are.some))
 spans_read (span ∷ spans) are = spans_each span spans are.each
+
+pub root_of_reads : (root : Root) → IsRoot root → root_of (root_text root) ≡ Some root
+unfolding root_of
+root_of_reads root is =
+    let text : List ℕ = decimal root.txid in
+    let digits : List ℕ = decimal root.attempt in
+    let lacks : Lacks 46 text = decimal_lacks 46 root.txid (omega (arith, is.txid)) (λ least most. omega arith) in
+    let made : ℕ → Option Root = λ attempt. root_with (wide_number_of (front_of 46 (text ++ 46 ∷ digits))) attempt in
+    ap (option_and_then (λ ds. option_and_then made (number_of 4294967295 ds))) (rest_there 46 text digits refl lacks)
+    ∙ ap (option_and_then made) (number_of_reads 4294967295 root.attempt (omega (arith, is.attempt)) (omega (arith, is.attempt)))
+    ∙ ap (λ t. root_with (wide_number_of t) root.attempt) (front_there 46 text digits refl lacks)
+    ∙ ap (λ txid. root_with txid root.attempt) (wide_number_reads root.txid is.txid)

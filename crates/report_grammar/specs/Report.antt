@@ -2,6 +2,7 @@
 use Rattle.std.specs.Prelude.{ℕ, zero, suc, ◌+◌, ◌/◌, ◌%◌, ℤ, List, [], ◌∷◌, ◌++◌, codes, decimal, if◌then◌else◌, nat_lt}
 use Rattle.std.specs.List.{flat_map}
 use Rattle.std.specs.Fmt.{signed_decimal}
+use Rattle.storm_values.specs.declared.value.Root.{Root}
 use Rattle.record_spans.specs.declared.span.Span.{Span}
 
 -- an edge of a tuple tree: a path, and the id of its tuple
@@ -16,6 +17,7 @@ pub data EndText : Type 0 where
   timed_out : EndText
   coincided : (edges : List EdgeText) → EndText
   commit_failed : (state : List ℕ) (part : ℕ) → EndText
+  dropped : (by : Root) → EndText
 
 pub record AttemptText : Type 0 where
   pub txid : ℕ
@@ -74,12 +76,17 @@ spans_text [] = []
 spans_text (span ∷ []) = span_text span
 spans_text (span ∷ next ∷ spans) = span_text span ++ 44 ∷ spans_text (next ∷ spans)
 
+-- the numbers of a transaction and of an attempt, joined by a full stop
+abbrev pub root_text : Root → List ℕ
+root_text root = decimal root.txid ++ 46 ∷ decimal root.attempt
+
 abbrev pub end_text : EndText → List ℕ
 end_text committed = codes "committed"
 end_text (failed path) = codes "failed " ++ path_text path
 end_text timed_out = codes "timed out"
 end_text (coincided edges) = codes "coincided " ++ edges_text edges
 end_text (commit_failed state part) = codes "commit failed " ++ state ++ 32 ∷ decimal part
+end_text (dropped by) = codes "dropped " ++ root_text by
 
 -- attempt TXID.ATTEMPT records FIRST-LAST,FIRST-LAST .. ticks START-FINISH, and how it ended
 abbrev pub attempt_text : AttemptText → List ℕ

@@ -2,10 +2,11 @@
 use Rattle.std.specs.Prelude.{◌≡◌, ◌<◌, ◌^◌, ℕ, List, [], length, FitsSigned}
 use Rattle.std.specs.Int.{w128}
 use Rattle.std.specs.List.{AllByRecursion}
+use Rattle.storm_values.specs.declared.value.Root.{Root}
 use Rattle.record_spans.specs.declared.span.Span.{Span}
 use Rattle.topology_plan.specs.Texts.{IsName}
 use Rattle.key_texts.specs.KeyTexts.{IsKeyText}
-use Rattle.report_grammar.specs.Report.{EdgeText, EndText, committed, failed, timed_out, coincided, commit_failed, AttemptText, CellText, TailText, ok, exhausted, unfinished, ReportText}
+use Rattle.report_grammar.specs.Report.{EdgeText, EndText, committed, failed, timed_out, coincided, commit_failed, dropped, AttemptText, CellText, TailText, ok, exhausted, unfinished, ReportText}
 
 -- one number at least, each of 32 bits
 pub record IsPath (path : List ℕ) : Type 0 where
@@ -17,12 +18,18 @@ pub record IsEdge (edge : EdgeText) : Type 0 where
   pub path : IsPath edge.path
   pub id : edge.id < 2 ^ 64
 
+-- a number of 64 bits, and one of 32 bits
+pub record IsRoot (root : Root) : Type 0 where
+  pub txid : root.txid < 2 ^ 64
+  pub attempt : root.attempt < 2 ^ 32
+
 abbrev pub IsEnd : EndText → Type 0
 IsEnd committed = Unit {0}
 IsEnd (failed path) = IsPath path
 IsEnd timed_out = Unit {0}
 IsEnd (coincided edges) = (0 < length edges) × AllByRecursion IsEdge edges
 IsEnd (commit_failed state part) = IsName state × (part < 2 ^ 32)
+IsEnd (dropped by) = IsRoot by
 
 -- a first and a last number of 64 bits
 pub record IsSpan (span : Span) : Type 0 where

@@ -6,7 +6,7 @@ use Rattle.report_lines.specs.declared.report.EndLine.TheVariants as ends
 use Rattle.report_lines.specs.declared.report.Line.TheVariants as line
 use Rattle.report_lines.specs.declared.report.Tail.TheVariants as tails
 use Rattle.report_grammar.specs.Lines.{LineText, attempt, cell, tail}
-use Rattle.report_grammar.specs.Report.{EdgeText, EndText, committed, failed, timed_out, coincided, commit_failed, AttemptText, CellText, TailText, ok, exhausted, unfinished, ReportText}
+use Rattle.report_grammar.specs.Report.{EdgeText, EndText, committed, failed, timed_out, coincided, commit_failed, dropped, AttemptText, CellText, TailText, ok, exhausted, unfinished, ReportText}
 
 abbrev pub edge_told : Edge → EdgeText
 edge_told edge = record { path = edge.path; id = edge.id }
@@ -17,6 +17,7 @@ end_told (ends.Failed path) = failed path
 end_told ends.TimedOut = timed_out
 end_told (ends.Coincided edges) = coincided (map edge_told edges)
 end_told (ends.CommitFailed state part) = commit_failed state part
+end_told (ends.Dropped by) = dropped by
 
 abbrev pub attempt_told : AttemptLine → AttemptText
 attempt_told a = record {

@@ -4,13 +4,13 @@ ghost use Rattle.std.specs.List.{AllByRecursion, list_all};
 ghost use Rattle.topology_plan.specs.Texts.{IsName, is_name, is_name_byte};
 ghost use Rattle.report_grammar.specs.Lines.{IsLine};
 ghost use Rattle.report_lines.specs.Told.{attempt_told, cell_told, edge_told, end_told, line_told, tail_told};
-ghost use Rattle.report_grammar.specs.WellFormed.{AreSpans, IsAttempt, IsCell, IsEdge, IsEnd, IsPath, IsSpan, IsTail};
+ghost use Rattle.report_grammar.specs.WellFormed.{AreSpans, IsAttempt, IsCell, IsEdge, IsEnd, IsPath, IsRoot, IsSpan, IsTail};
 
 use crate::report::{AttemptLine, CellLine, EndLine, Line, Tail};
 use key_texts::is_key_text;
 use record_spans::Span;
 use std::alloc::Global;
-use storm_values::{MOST_NAME_BYTES, Memory, Path};
+use storm_values::{MOST_NAME_BYTES, Memory, Path, Root};
 use tuple_tickets::Edge;
 
 pub fn is_line(alloc: Global, line: &Line) -> Result<bool, Memory>
@@ -73,7 +73,16 @@ fn is_end(end: &EndLine) -> bool
             let _part = *part;
             is_name(state.as_bytes())
         }
+        EndLine::Dropped(by) => is_root(*by),
     }
+}
+
+fn is_root(root: Root) -> bool
+    ensures { IsTrue result ↔ IsRoot root }
+{
+    let _txid = root.txid;
+    let _attempt = root.attempt;
+    true
 }
 
 fn is_path(path: &Path) -> bool

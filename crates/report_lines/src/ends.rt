@@ -1,9 +1,9 @@
 // How an attempt ended, as it is read.
 ghost use Rattle.std.specs.Prelude.{◌≡◌, IfOk, option_map};
 ghost use Rattle.report_lines.specs.Told.{end_told};
-ghost use Rattle.report_grammar.specs.steps.Parsed.{coincided_in, commit_failed_in, end_in, failed_in, listed_in, text_in};
+ghost use Rattle.report_grammar.specs.steps.Parsed.{coincided_in, commit_failed_in, dropped_in, end_in, failed_in, listed_in, text_in};
 
-use crate::lists::{edges_of, halves, number_of, path_of};
+use crate::lists::{edges_of, halves, number_of, path_of, root_of};
 use crate::report::EndLine;
 use simdutf8::basic::from_utf8;
 use std::alloc::Global;
@@ -33,8 +33,11 @@ fn read_listed(alloc: Global, text: &[u8]) -> Result<Option<EndLine>, Memory>
     if let Some(edges) = text.strip_prefix(b"coincided ") {
         return read_coincided(alloc, edges);
     }
-    match text.strip_prefix(b"commit failed ") {
-        Some(part) => read_commit_failed(alloc, part),
+    if let Some(part) = text.strip_prefix(b"commit failed ") {
+        return read_commit_failed(alloc, part);
+    }
+    match text.strip_prefix(b"dropped ") {
+        Some(root) => Ok(read_dropped(root)),
         None => Ok(None),
     }
 }
@@ -74,6 +77,14 @@ fn read_commit_failed(alloc: Global, text: &[u8]) -> Result<Option<EndLine>, Mem
         Some(state) => Ok(Some(EndLine::CommitFailed(state, part))),
         None => Ok(None),
     }
+}
+
+#[tactic(auto, unfolding(report_grammar::specs::steps::Parsed::dropped_in))]
+fn read_dropped(text: &[u8]) -> Option<EndLine>
+    ensures { option_map end_told result ≡ dropped_in text.now }
+{
+    let by = root_of(text)?;
+    Some(EndLine::Dropped(by))
 }
 
 /// The text of some bytes, if they are UTF-8.

@@ -19,4 +19,4 @@ pub use printed::print_report;
 pub use reading::read_report;
 pub use report::{AttemptLine, AttemptLines, CellLine, CellLines, EndLine, Report, Tail};
 pub use report_grammar::reports_have_texts_of_their_own;
-pub use texts::{push_edges, push_path, push_spans};
+pub use texts::{push_edges, push_path, push_root, push_spans};

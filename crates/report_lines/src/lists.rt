@@ -1,13 +1,13 @@
-// Paths, ids, edges and spans, as they are read.
+// Paths, ids, edges, spans and roots, as they are read.
 ghost use Rattle.std.specs.Prelude.{◌≡◌, ◌∷◌, ◌≤◌, ◌+◌, IfOk, IfSome, length, map, option_map};
 ghost use Rattle.report_lines.specs.Told.{edge_told};
-ghost use Rattle.report_grammar.specs.steps.Lists.{edge_of, edges_of, front_of, id_of, last_of, number_of, path_of, pieces, pieces_left, rest_of, span_of, spans_of, wide_number_of};
+ghost use Rattle.report_grammar.specs.steps.Lists.{edge_of, edges_of, front_of, id_of, last_of, number_of, path_of, pieces, pieces_left, rest_of, root_of, span_of, spans_of, wide_number_of};
 
 use crate::cursor::{are_digits, number_in, split_before};
 use hex::FromHex;
 use record_spans::{Span, Spans};
 use std::alloc::Global;
-use storm_values::{Memory, Path};
+use storm_values::{Memory, Path, Root};
 use tuple_tickets::{Edge, Edges};
 
 /// The numbers of a path, if the text is one.
@@ -154,4 +154,15 @@ fn span_of(text: &[u8]) -> Option<Span>
     let last = wide_number_of(last?)?;
     let first = wide_number_of(first)?;
     Some(Span { first, last })
+}
+
+/// The transaction and the attempt of a text, if it is two numbers joined by a full stop.
+#[tactic(auto, unfolding(report_grammar::specs::steps::Lists::root_of))]
+pub fn root_of(text: &[u8]) -> Option<Root>
+    ensures { result ≡ root_of text.now }
+{
+    let (txid, attempt) = halves(text, b'.');
+    let attempt = number_of(attempt?, u32::MAX)?;
+    let txid = wide_number_of(txid)?;
+    Some(Root { txid, attempt })
 }

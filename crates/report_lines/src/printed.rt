@@ -2,15 +2,15 @@
 ghost use Rattle.std.specs.Prelude.{◌≡◌, ◌++◌, map, IfOk, OnOk, string_bytes};
 ghost use Rattle.std.specs.List.{flat_map};
 ghost use Rattle.report_grammar.specs.Lines.{line_text};
-ghost use Rattle.report_grammar.specs.Report.{attempt_text, cell_text, coincided, commit_failed, end_text, failed, report_text, tail_text};
+ghost use Rattle.report_grammar.specs.Report.{attempt_text, cell_text, coincided, commit_failed, dropped, end_text, failed, report_text, tail_text};
 ghost use Rattle.report_lines.specs.Told.{attempt_told, cell_told, edge_told, end_told, line_told, tail_told, told};
 ghost use Rattle.report_lines.specs.steps.Printed.{heading_text};
 
 use crate::report::{AttemptLine, CellLine, EndLine, Line, Report, Tail};
-use crate::texts::{push_edges, push_path, push_spans};
+use crate::texts::{push_edges, push_path, push_root, push_spans};
 use std::alloc::Global;
 use std::fmt::Write;
-use storm_values::{Memory, Path};
+use storm_values::{Memory, Path, Root};
 use tuple_tickets::Edge;
 
 /// The one text of a report, in time linear in its length.
@@ -79,6 +79,7 @@ fn push_end(alloc: Global, text: &mut String, end: &EndLine) -> Result<(), Memor
         EndLine::TimedOut => text.push_str("timed out"),
         EndLine::Coincided(edges) => push_coincided(alloc, text, edges.as_slice()),
         EndLine::CommitFailed(state, part) => push_commit_failed(text, state.as_str(), *part),
+        EndLine::Dropped(by) => push_dropped(text, *by),
     }
 }
 
@@ -104,6 +105,14 @@ fn push_commit_failed(text: &mut String, state: &str, part: u32) -> Result<(), M
 {
     write!(text, "commit failed {state} {part}")?;
     Ok(())
+}
+
+fn push_dropped(text: &mut String, by: Root) -> Result<(), Memory>
+    ensures { OnOk result
+        (string_bytes text.new ≡ string_bytes text.old ++ end_text (dropped by)) }
+{
+    text.push_str("dropped ")?;
+    push_root(text, by)
 }
 
 fn push_cells(text: &mut String, cells: &[CellLine]) -> Result<(), Memory>

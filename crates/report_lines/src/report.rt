@@ -11,6 +11,8 @@ pub enum EndLine {
     Coincided(Edges),
     /// The state and the part that refused the commit.
     CommitFailed(Txt, u32),
+    /// The attempt of a lower transaction that ended without a commit.
+    Dropped(Root),
 }
 
 /// The end of an attempt of a batch. Its records are those of its spans, and ticks are the first

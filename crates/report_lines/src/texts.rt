@@ -1,12 +1,12 @@
-// Texts of paths, of edges and of spans.
+// Texts of paths, of edges, of spans and of roots.
 ghost use Rattle.std.specs.Prelude.{◌≡◌, ◌++◌, map, IfOk, OnOk, string_bytes};
-ghost use Rattle.report_grammar.specs.Report.{edge_text, edges_text, hex_text, path_text, span_text, spans_text};
+ghost use Rattle.report_grammar.specs.Report.{edge_text, edges_text, hex_text, path_text, root_text, span_text, spans_text};
 ghost use Rattle.report_lines.specs.Told.{edge_told};
 
 use record_spans::Span;
 use std::alloc::Global;
 use std::fmt::Write;
-use storm_values::{Memory, Path};
+use storm_values::{Memory, Path, Root};
 use tuple_tickets::Edge;
 
 /// Adds the numbers of a path, joined by full stops.
@@ -78,5 +78,15 @@ fn push_span(text: &mut String, span: &Span) -> Result<(), Memory>
 {
     let (first, last) = (span.first, span.last);
     write!(text, "{first}-{last}")?;
+    Ok(())
+}
+
+/// Adds the numbers of a transaction and of an attempt, joined by a full stop.
+pub fn push_root(text: &mut String, root: Root) -> Result<(), Memory>
+    ensures { OnOk result
+        (string_bytes text.new ≡ string_bytes text.old ++ root_text root) }
+{
+    let (txid, attempt) = (root.txid, root.attempt);
+    write!(text, "{txid}.{attempt}")?;
     Ok(())
 }

@@ -13,7 +13,8 @@ const TEXT: &str = "attempt 7.1 records 3-4 ticks 0-1 failed 0.2
 attempt 7.2 records 3-4 ticks 1-2 coincided 5:00000000000000ff
 attempt 7.3 records 3-4 ticks 2-2 commit failed sold 1
 attempt 7.4 records 3-4 ticks 2-9 timed out
-attempt 7.5 records 3-3,5-6,8-8 ticks 9-9 committed
+attempt 7.5 records 3-4 ticks 9-9 dropped 6.2
+attempt 7.6 records 3-3,5-6,8-8 ticks 9-9 committed
 cell sold [\"glass\"] -3
 ok 4 records 2 batches
 ";
@@ -56,9 +57,14 @@ fn lines_of(alloc: Global) -> Result<AttemptLines, Memory> {
     let state = Txt::from_str(alloc, "sold")?;
     let refused = EndLine::CommitFailed(state, 1);
     lines.push(line_of(3, spans.copy()?, 2, 2, refused))?;
-    lines.push(line_of(4, spans, 2, 9, EndLine::TimedOut))?;
+    lines.push(line_of(4, spans.copy()?, 2, 9, EndLine::TimedOut))?;
+    let by = Root {
+        txid: 6,
+        attempt: 2,
+    };
+    lines.push(line_of(5, spans, 9, 9, EndLine::Dropped(by)))?;
     let apart = spans_of(alloc, &[(3, 3), (5, 6), (8, 8)])?;
-    lines.push(line_of(5, apart, 9, 9, EndLine::Committed))?;
+    lines.push(line_of(6, apart, 9, 9, EndLine::Committed))?;
     Ok(lines)
 }
 

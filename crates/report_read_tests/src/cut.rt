@@ -5,6 +5,7 @@ use std::alloc::Global;
 use test_kit::Mismatch;
 
 const EVERY_LINE: &str = "attempt 1.1 records 1-2 ticks 0-0 failed 0
+attempt 2.1 records 3-4 ticks 0-0 dropped 1.1
 attempt 1.2 records 1-2 ticks 0-1 failed 0.12.3
 attempt 1.3 records 1-2 ticks 1-4 timed out
 attempt 1.4 records 1-2 ticks 4-5 coincided 0.0:0000000000000009 0.1:fedcba9876543210

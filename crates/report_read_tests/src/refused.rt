@@ -182,6 +182,64 @@ fn paths_and_ids_in_other_forms(rt: HostRuntime) -> Result<(), Mismatch> {
     check_refusals(rt.alloc(), &PATHS)
 }
 
+// A report whose second line ends so.
+fn with_end(alloc: Global, end: &str) -> Result<String, Memory> {
+    let first = "attempt 1.1 records 1-1 ticks 0-0 timed out";
+    let front = "attempt 2.1 records 2-2 ticks 0-0";
+    format!(in alloc; "{first}\n{front} {end}\nunfinished 0\n")
+}
+
+// Whether there is a line of that root is not looked at.
+const DROPPED: [&str; 4] = [
+    "dropped 1.1",
+    "dropped 0.0",
+    "dropped 2.1",
+    "dropped 18446744073709551615.4294967295",
+];
+
+#[test]
+fn roots_at_their_limits(rt: HostRuntime) -> Result<(), Mismatch> {
+    let alloc = rt.alloc();
+    for end in DROPPED {
+        let text = with_end(alloc, end)?;
+        check_reports(alloc, &[text.as_str()])?;
+    }
+    Ok(())
+}
+
+const NOT_DROPPED: [&str; 20] = [
+    "dropped",
+    "dropped ",
+    "dropped 1",
+    "dropped 1.",
+    "dropped .1",
+    "dropped .",
+    "dropped  1.1",
+    "dropped 1.1 ",
+    "dropped 1.1 2.1",
+    "dropped 1.1.1",
+    "dropped 1.1,2.1",
+    "dropped 1-1",
+    "dropped 1 1",
+    "dropped 01.1",
+    "dropped 1.01",
+    "dropped +1.1",
+    "dropped a.1",
+    "dropped by 1.1",
+    "dropped 18446744073709551616.1",
+    "dropped 1.4294967296",
+];
+
+#[test]
+fn roots_in_other_forms(rt: HostRuntime) -> Result<(), Mismatch> {
+    let alloc = rt.alloc();
+    for end in NOT_DROPPED {
+        let text = with_end(alloc, end)?;
+        check_refusals(alloc, &[(text.as_str(), 2)])?;
+    }
+    Ok(())
+}
+
 const CELLS: [(&str, u64); 15] = [
     ("cell a [0] -0\nok 1 records 1 batches\n", 1),
     ("cell a [0] 01\nok 1 records 1 batches\n", 1),

@@ -19,14 +19,15 @@ pub enum How {
     TimedOut,
     Coincided(&'static [(&'static [u32], u64)]),
     CommitFailed(u32, u32),
+    Dropped(Root),
 }
 
 /// The first and the last number of each span of records.
 pub type Records = &'static [(u64, u64)];
 
-/// An attempt of the first transaction: its number, its records, the ticks of its begin and its
-/// end, and how it ended.
-pub type Ended = (u32, Records, u64, u64, How);
+/// An attempt: its transaction and its number, its records, the ticks of its begin and its end, and
+/// how it ended.
+pub type Ended = ((u64, u32), Records, u64, u64, How);
 
 /// A key of the state, with its value.
 pub type Cell = (&'static str, i128);
@@ -90,6 +91,7 @@ fn end_of(alloc: Global, how: How) -> Result<End, Mismatch> {
             before: 0,
             after: 1,
         }),
+        How::Dropped(by) => Ok(End::Dropped(by)),
     }
 }
 
@@ -106,10 +108,10 @@ fn spans_of(alloc: Global, records: Records) -> Result<Spans, Mismatch> {
 
 fn fates_of(alloc: Global, attempts: &[Ended]) -> Result<Fates, Mismatch> {
     let mut fates = Fates::new(alloc);
-    for (attempt, records, start, finish, how) in attempts {
+    for ((txid, attempt), records, start, finish, how) in attempts {
         fates.push(Attempt {
             root: Root {
-                txid: 1,
+                txid: *txid,
                 attempt: *attempt,
             },
             spans: spans_of(alloc, records)?,

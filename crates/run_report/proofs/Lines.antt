@@ -5,6 +5,7 @@ use Rattle.std.proofs.lemmas.Result.{on_ok_weaker}
 use Rattle.std.specs.List.{flat_map}
 use Rattle.std.specs.List.Sorted.{IsStrictlySortedBy}
 use Rattle.std.proofs.lemmas.Grind.{flat_map-append}
+use Rattle.tree_model.specs.storm_values.declared.value.Root.{Root}
 use Rattle.tree_model.specs.topology_plan.Topology.{Topology}
 use Rattle.tree_model.specs.declared.messages.AckMsg.{AckMsg}
 use Rattle.tree_model.specs.declared.write.Table.{Table}
@@ -19,7 +20,7 @@ use Rattle.report_lines.specs.declared.report.{AttemptLine.AttemptLine, Report.R
 use Rattle.report_lines.specs.Told.{attempt_told, cell_told, edge_told, tail_told, told}
 use Rattle.run_report.specs.Cells.{cells_of}
 use Rattle.run_report.specs.Fated.{name_at, AreOpenOf, IsEndOf, line_with, IsLineOf, AreLinesOf, IsReportText}
-use Rattle.report_grammar.specs.Report.{EdgeText, EndText, failed, coincided, commit_failed, end_text, AttemptText, attempt_text, cell_text, tail_text, report_text}
+use Rattle.report_grammar.specs.Report.{EdgeText, EndText, failed, coincided, commit_failed, dropped, end_text, AttemptText, attempt_text, cell_text, tail_text, report_text}
 use Rattle.run_report.specs.Steps.{heading_of, AddsOpen, AddsCoincided, AddsEnd, AddsLine, AddsLines}
 use Rattle.run_report.proofs.Left.{left_is_one}
 
@@ -36,6 +37,7 @@ end_is_one plan ends.TimedOut told other first second = first ∙ sym second
 end_is_one plan (ends.Coincided list) told other first second =
     first.2 ∙ (ap coincided (open_are_one list first.0 second.0 first.1 second.1) ∙ sym second.2)
 end_is_one plan (ends.CommitFailed component part before after) told other first second = first ∙ sym second
+end_is_one plan (ends.Dropped by) told other first second = first ∙ sym second
 
 line_is_one : (plan : Topology) (a : Attempt) (line other : AttemptText) → IsLineOf plan a line → IsLineOf plan a other → line ≡ other
 line_is_one plan a line other first second =
@@ -78,6 +80,11 @@ module _ (plan : Topology) (end : End) where
   pub commit_failed_adds : {T E : Type 0} (component part before after : ℕ) (name old new : List ℕ) (r : Result T E) → end ≡ ends.CommitFailed component part before after → name ≡ name_at plan component → OnOk r (new ≡ old ++ end_text (commit_failed name part)) → OnOk r (AddsEnd plan end old new)
   commit_failed_adds component part before after name old new r is named adds =
       on_ok_weaker r (λ added. rw is (record { told = commit_failed name part; is_end = ap (λ state. commit_failed state part) named; added = added })) adds
+
+  pub dropped_adds : {T E : Type 0} (by : Root) (old new : List ℕ) (r : Result T E) → end ≡ ends.Dropped by
+      → OnOk r (new ≡ old ++ end_text (dropped by)) → OnOk r (AddsEnd plan end old new)
+  dropped_adds by old new r is adds =
+      on_ok_weaker r (λ added. rw is (record { told = dropped by; is_end = refl; added = added })) adds
 
 -- ---- lines that are added
 

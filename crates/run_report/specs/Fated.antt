@@ -14,7 +14,7 @@ use Rattle.attempt_fates.specs.declared.fates.End.TheVariants as ends
 use Rattle.report_lines.specs.declared.report.Tail.{Tail}
 use Rattle.report_lines.specs.Told.{edge_told, tail_told}
 use Rattle.run_report.specs.Cells.{cells_of}
-use Rattle.report_grammar.specs.Report.{EdgeText, EndText, committed, failed, timed_out, coincided, commit_failed, AttemptText, report_text}
+use Rattle.report_grammar.specs.Report.{EdgeText, EndText, committed, failed, timed_out, coincided, commit_failed, dropped, AttemptText, report_text}
 
 abbrev pub name_of : Option Component → List ℕ
 name_of None = []
@@ -39,6 +39,7 @@ IsEndOf plan (ends.Coincided list) told =
     (edges : List EdgeText) × AreOpenOf list edges × (told ≡ coincided edges)
 IsEndOf plan (ends.CommitFailed component part before after) told =
     told ≡ commit_failed (name_at plan component) part
+IsEndOf plan (ends.Dropped by) told = told ≡ dropped by
 
 -- the line of an attempt whose end is told so
 abbrev pub line_with : Attempt → EndText → AttemptText

@@ -1,16 +1,16 @@
 // The lines of attempts.
 ghost use Rattle.std.specs.Prelude.{◌≡◌, ◌++◌, OnOk, string_bytes};
 ghost use Rattle.run_report.specs.Fated.{name_at};
-ghost use Rattle.report_grammar.specs.Report.{commit_failed, end_text, failed};
+ghost use Rattle.report_grammar.specs.Report.{commit_failed, dropped, end_text, failed};
 ghost use Rattle.run_report.specs.Steps.{heading_of, AddsCoincided, AddsEnd, AddsLine, AddsLines};
 
 use crate::edges::push_open;
 use attempt_fates::{Attempt, End};
 use message_lists::Notes;
-use report_lines::{push_path, push_spans};
+use report_lines::{push_path, push_root, push_spans};
 use std::alloc::Global;
 use std::fmt::Write;
-use tree_model::storm_values::{Memory, Path};
+use tree_model::storm_values::{Memory, Path, Root};
 use tree_model::topology_plan::Plan;
 
 pub fn push_attempts(
@@ -70,6 +70,7 @@ fn push_end(alloc: Global, text: &mut String, plan: &Plan, end: &End) -> Result<
             part,
             ..
         } => push_commit_failed(text, name_of(plan, *component), *part),
+        End::Dropped(by) => push_dropped(text, *by),
     }
 }
 
@@ -94,6 +95,14 @@ fn push_commit_failed(text: &mut String, state: &str, part: u32) -> Result<(), M
 {
     write!(text, "commit failed {state} {part}")?;
     Ok(())
+}
+
+fn push_dropped(text: &mut String, by: Root) -> Result<(), Memory>
+    ensures { OnOk result
+        (string_bytes text.new ≡ string_bytes text.old ++ end_text (dropped by)) }
+{
+    text.push_str("dropped ")?;
+    push_root(text, by)
 }
 
 /// The name of the component of a number, empty where there is none.

@@ -74,6 +74,7 @@ fn end_of(alloc: Global, plan: &Plan, end: &End) -> Result<EndLine, Memory>
             let state = Txt::from_str(alloc, name_of(plan, *component))?;
             Ok(EndLine::CommitFailed(state, *part))
         }
+        End::Dropped(by) => Ok(EndLine::Dropped(*by)),
     }
 }
 

@@ -1,37 +1,36 @@
 -- The coordinator's steps over the parts.
-use Rattle.std.proofs.Common.{◌≡◌, ◌⊎◌, ◌≤◌, ◌<◌, ℕ, suc, ◌+◌, ◌==◌, ◌&&◌, Bool, true, false, cond, List, [], ◌∷◌, ◌++◌, All, length, find, get_or, slice_index_or, take, Option, None, Some, is_some, Result, Ok, Err, refl, sym, ap, subst, ◌∙◌, append-nil, inl, inr, ⊎_elim, arith, true≢false}
+use Rattle.std.proofs.Common.{◌≡◌, ℕ, suc, ◌+◌, ◌==◌, ◌&&◌, Bool, true, false, cond, List, [], ◌∷◌, ◌++◌, All, length, find, get_or, Option, None, Some, is_some, Result, Ok, Err, refl, sym, ap, subst, ◌∙◌, append_assoc, append-nil, true≢false}
 use Rattle.std.specs.Prelude.{slice_get}
 use Rattle.std.specs.Result.{IsErrAnd}
-use Rattle.std.specs.Str.{IsUtf8}
-use Rattle.std.proofs.lemmas.List.{append_cancel_left, take_all}
-use Rattle.std.proofs.lemmas.List.Elements.{All-append, All-cons, All-more, All-nil}
+use Rattle.std.proofs.lemmas.List.{append_cancel_left}
+use Rattle.std.proofs.lemmas.List.Elements.{All-append, All-cons, All-nil}
 use Rattle.std.proofs.lemmas.List.FromFn.{fill_by_all}
-use Rattle.std.proofs.lemmas.Option.{get_or_from_slice_get, slice_get_within}
 use Rattle.event_worlds.specs.storm_values.declared.value.Root.{Root}
 use Rattle.event_worlds.specs.acker_core.declared.verdict.Verdict.{Verdict}
 use Rattle.event_worlds.specs.attempt_fates.declared.fates.Attempt.{Attempt}
-use Rattle.event_worlds.specs.attempt_fates.Fates.{committed_txids}
-use Rattle.batch_commits.specs.Standing.{FailuresAreCounted, HasTextKey, PartsStand, TellsFailedPart, batches_in, failed_commits, writes_at}
+use Rattle.event_worlds.specs.attempt_fates.Fates.{committed_batches}
+use Rattle.batch_commits.specs.Standing.{FailuresAreCounted, HasTextKey, HoldAll, IsNextBatch, PartsStand, TellsFailedPart, failed_commits, writes_at}
 use Rattle.event_worlds.specs.bolt_ops.RowOp.{Custom}
 use Rattle.event_worlds.specs.commit_order.Offices.{AddsSome, IsCommitOf}
 use Rattle.event_worlds.specs.commit_turns.Account.{rows_at}
 use Rattle.event_worlds.specs.commit_turns.declared.wait.Wait.{Wait}
-use Rattle.event_worlds.specs.commit_turns.Desks.{Desk, ended_at}
-use Rattle.event_worlds.specs.commit_turns.Kept.{IsWaiting}
+use Rattle.event_worlds.specs.commit_turns.Desks.{Desk, ended_at, without}
+use Rattle.event_worlds.specs.commit_turns.Kept.{IsKept}
 use Rattle.event_worlds.specs.commit_turns.Outcomes.{IsOutcome}
-use Rattle.event_worlds.specs.commit_turns.Turns.{decided, decided_by, end_by, next_to_commit, turned}
+use Rattle.event_worlds.specs.commit_turns.Turns.{decided, decided_by, drops, end_by, next_to_commit, turned}
 use Rattle.event_worlds.proofs.commit_writes.Whole.{whole_writes}
 use Rattle.event_engine.proofs.GoesLemmas.{goes-idle, next-told, outcomes-append}
 use Rattle.event_engine.proofs.LoopLemmas.{goes_there}
 use Rattle.event_engine.specs.declared.engine.Engine.{Engine}
 use Rattle.event_engine.specs.Engines.{DecidesShort, Goes, HasOutcomes, IsIdle, IsOrder, IsReady, cut_in, has_ended, shape, topology_in}
-use Rattle.event_worlds.proofs.Committed.{decided-done, decided-failed}
 use Rattle.event_worlds.specs.Accounted.{IsInput, LedAt, station_of}
 use Rattle.event_worlds.specs.Worlds.{Known, Step, World, is_over, next_outcome, next_words, of_outcome, of_turn, coordinator_steps, outcome_step, outcomes_of, run, step, turn_needs, turn_step, with_progress}
-use Rattle.schedule_core.specs.Driving.{Breaks, Drives, HasDeskOf, Leaves, WantsMemory, committed_by}
+use Rattle.event_worlds.specs.record_spans.declared.span.Span.{Span}
+use Rattle.event_worlds.specs.taken_records.Taken.{one_if}
+use Rattle.schedule_core.specs.Driving.{AreBefore, Breaks, Drives, HasDeskOf, Leaves, StandOn, WantsMemory}
 use Rattle.schedule_core.specs.Laws.{CommitLaws, Laws}
-use Rattle.schedule_core.proofs.Drives.{drives-none, drives-still, drives-then}
-use Rattle.schedule_core.proofs.Quiet.{IsQuiet, commits_append, none_commits, none_failed_of, none_turned, quiet_nothing, quiet_same, quiet_turn, some_none}
+use Rattle.schedule_core.proofs.Drives.{drives-none, drives-still, drives-then, stands-same, stands-then}
+use Rattle.schedule_core.proofs.Quiet.{IsQuiet, batches_append, batches_quiet, first_none, none_batches, none_failed_of, none_of_drops, none_turned, quiet_nothing, quiet_same, quiet_turn, some_none}
 use Rattle.event_worlds.specs.state_parts.Commits.{AreCommitted, ArePerhapsCommitted, CountsFollow, FailOnceAtMost, IsBadAt}
 use Rattle.event_worlds.specs.state_parts.declared.answer.Commit.{Commit}
 use Rattle.event_worlds.specs.state_parts.declared.answer.CommitOutcome.{CommitOutcome}
@@ -43,10 +42,9 @@ use Rattle.storm_stores.specs.CellMaps.{CellMap}
 use Rattle.event_worlds.specs.topology_plan.Topology.{Topology, tasks_in_all}
 use Rattle.event_worlds.specs.tree_model.declared.messages.AckMsg.{AckMsg}
 use Rattle.event_worlds.specs.tree_model.declared.write.Write.{Write}
-use Rattle.event_worlds.specs.trident_batches.Batches.{Cut}
+use Rattle.event_worlds.specs.taken_records.Cuts.{Cut}
 use Rattle.event_worlds.specs.tuple_account.Histories.{History}
 use Rattle.event_worlds.specs.tuple_account.Moves.{Station}
-use Rattle.event_worlds.specs.tree_model.Trees.{writes}
 
 -- ---- lists
 
@@ -58,12 +56,6 @@ found_at {X} p (y ∷ ys) x is = by (p y) refl is (found_at p ys x)
     by : (b : Bool) → p y ≡ b → cond b (Some y) (find p ys) ≡ Some x → (find p ys ≡ Some x → (i : ℕ) × (slice_get ys i ≡ Some x) × (p x ≡ true)) → (i : ℕ) × (slice_get (y ∷ ys) i ≡ Some x) × (p x ≡ true)
     by true here is rest = let same : y ≡ x = (let e : Some y ≡ Some x = is in cc) in (0, is, subst (λ (z : X). p z ≡ true) same here)
     by false here is rest = let r = rest is in (suc r.0, r.1, r.2)
-
--- of the first items of a list of one there is none or that one
-one_or_none : {X : Type 0} (done rest : List X) (x : X) → x ∷ [] ≡ done ++ rest → (done ≡ []) ⊎ (done ≡ x ∷ [])
-one_or_none [] rest x is = inl refl
-one_or_none {X} (y ∷ []) rest x is = inr (let e : x ∷ [] ≡ y ∷ rest = is in cc)
-one_or_none {X} (y ∷ z ∷ zs) rest x is = absurd (let e : x ∷ [] ≡ y ∷ z ∷ (zs ++ rest) = is in cc)
 
 both_true : (a b : Bool) → (a && b) ≡ true → b ≡ true
 both_true true b is = is
@@ -102,27 +94,43 @@ pub record CommitComes {S : Type 0} (holds : S → CellMap → Type 0) (custom :
   pub counted : CountsFollow count how was is
 
 module _ {S : Type 0} (holds : S → CellMap → Type 0) (count : S → ℕ) (t : Topology) (custom : Custom) (cut : Cut) where
-  -- the writes of a commit that was ordered are those of its batch
+  -- the writes of a commit that was ordered are those of the records of its batch
   ordered_writes : (more : CommitLaws holds count t custom cut) (words : ℕ → ℕ → ℕ) (all : Station) (h : History) (k : Known) (w : Wait) (commit : Commit) → IsInput t cut → LedAt t custom cut words all h k → next_to_commit t cut k.world.desk ≡ Some w → IsCommitOf (Some w) (Some commit)
-      → (commit.writes ≡ writes_at t custom cut w.root.txid) × (w.root.txid ≤ batches_in cut)
+      → commit.writes ≡ writes_at t custom cut w.spans
   ordered_writes more words all h k w commit input led next is =
       let found = found_at (λ (x : Wait). (x.root.txid == k.world.desk.committed + 1) && is_some x.settled) k.world.desk.pending w next in
       let settled : is_some w.settled ≡ true = both_true (w.root.txid == k.world.desk.committed + 1) (is_some w.settled) found.2 in
-      let waits : IsWaiting t cut k.world.desk w = subst (IsWaiting t cut k.world.desk) (get_or_from_slice_get k.world.desk.pending found.0 w w found.1) (led.kept.waits found.0 w (slice_get_within k.world.desk.pending found.0 w found.1)) in
-      (by w.settled refl settled found.0 found.1, waits.there)
+      by w.settled refl settled found.0 found.1
     where
-      its : (i : ℕ) → slice_get k.world.desk.pending i ≡ Some w → IsWaiting t cut k.world.desk w
-      its i at = subst (IsWaiting t cut k.world.desk) (get_or_from_slice_get k.world.desk.pending i w w at) (led.kept.waits i w (slice_get_within k.world.desk.pending i w at))
-
-      some_rows : 0 < cut.size
-      some_rows = let s = input.size in let b = input.valid.batch.0 in omega arith
-
-      by : (o : Option (List AckMsg)) → w.settled ≡ o → is_some o ≡ true → (i : ℕ) → slice_get k.world.desk.pending i ≡ Some w → commit.writes ≡ writes_at t custom cut w.root.txid
+      by : (o : Option (List AckMsg)) → w.settled ≡ o → is_some o ≡ true → (i : ℕ) → slice_get k.world.desk.pending i ≡ Some w → commit.writes ≡ writes_at t custom cut w.spans
       by None same some i at = absurd (true≢false (sym some))
       by (Some list) same some i at =
           let whole = more.settled words all h k input led i w list at same in
           whole_writes t custom (rows_at cut w.spans) w.root list commit.writes input.valid whole.0.is_true whole.0.is_single whole.2 (is.1 list same)
-          ∙ ap (writes t custom) (ap (rows_at cut) (its i at).records ∙ more.batched cut.records cut.size w.root.txid (let l = (its i at).later in omega arith) (its i at).there some_rows)
+
+-- ---- the attempt whose commit was ordered ends
+
+module _ (t : Topology) (cut : Cut) (d : Desk) (w : Wait) where
+  -- the end of an attempt whose commit came to this
+  abbrev pub told_end : CommitOutcome → Attempt
+  told_end how = ended_at d.tick (end_by t cut how w.settled) w
+
+  -- it ends first, and then those that are dropped with it, which tell of no commit
+  pub decided_ends : (how : CommitOutcome) → next_to_commit t cut d ≡ Some w → (rest : List Attempt) × ((decided t cut how d).ended ≡ told_end how ∷ rest) × (outcomes_of rest ≡ [])
+  decided_ends Done next = ([], ap (λ (o : Option Wait). (decided_by t cut Done o d).ended) next, refl)
+  decided_ends (Failed component part before after) next = (
+    drops t cut d.tick w.root (without w.root d.pending),
+    ap (λ (o : Option Wait). (decided_by t cut (Failed component part before after) o d).ended) next,
+    none_of_drops t cut d.tick w.root (without w.root d.pending),
+  )
+
+  -- its batch was committed where the commit was done
+  batches_done : (rest : List Attempt) → outcomes_of rest ≡ [] → committed_batches (told_end Done ∷ rest) ≡ w.spans ∷ []
+  batches_done rest quiet = by w.settled
+    where
+      by : (list : Option (List AckMsg)) → committed_batches (ended_at d.tick (end_by t cut Done list) w ∷ rest) ≡ w.spans ∷ []
+      by None = ap (λ bs. w.spans ∷ bs) (none_batches rest quiet)
+      by (Some list) = ap (λ bs. w.spans ∷ bs) (none_batches rest quiet)
 
 module _ {I S : Type 0} {g : Ghosts I} (tells : I → (ℕ → ℕ) → ℕ → Type 0) (holds : S → CellMap → Type 0) (count : S → ℕ) (t : Topology) (custom : Custom) (cut : Cut) where
   -- by some words, an engine goes as a world does
@@ -158,93 +166,103 @@ module _ {I S : Type 0} {g : Ghosts I} (tells : I → (ℕ → ℕ) → ℕ → 
     goes = goes;
     plans = refl;
     outcomes = λ are good. subst (λ (hs : List CommitOutcome). All (IsOutcome t) hs) (sym (turn_told old mid goes)) good;
-    stands = λ words counts outcomes gives has input keeps good led stand. subst (λ (n : ℕ). PartsStand holds t custom cut n parts) (sym (turn_quiet old mid goes).committed) stand;
+    stands = λ words counts outcomes gives has input keeps good led planned.
+        let q = turn_quiet old mid goes in stands-same holds t custom cut old.fates mid.fates parts (batches_quiet old.fates q.more mid.fates q.added q.quiet);
     bad = λ key found. found;
     strange = λ key found. found;
     counted = turn_counted more old mid parts goes;
   }
 
-  -- the writes of a commit that was ordered are those of the next batch, which is there
-  next_writes : (more : CommitLaws holds count t custom cut) (words : ℕ → ℕ → ℕ) (all : Station) (h : History) (k : Known) (mid : Engine I g) (w : Wait) (commit : Commit) → k.world.desk ≡ (shape mid).desk → IsInput t cut → LedAt t custom cut words all h k
-      → next_to_commit t cut (shape mid).desk ≡ Some w → IsCommitOf (Some w) (Some commit) → commit.root.txid ≡ committed_by mid + 1 → (commit.writes ≡ writes_at t custom cut (committed_by mid + 1)) × (committed_by mid < batches_in cut)
-  next_writes more words all h k mid w commit same input led next ordered txid =
-      let made = ordered_writes holds count t custom cut more words all h k w commit input led (ap (next_to_commit t cut) same ∙ next) ordered in
-      let number : w.root.txid ≡ committed_by mid + 1 = sym (ap (λ r. r.txid) ordered.0) ∙ txid in
-      let below : committed_by mid < batches_in cut = (let e = number in let f = made.1 in omega arith) in
-      (made.0 ∙ ap (writes_at t custom cut) number, below)
-
-  -- the fates tell as many commits as there were
-  commits_at : (mid : Engine I g) (words : ℕ → ℕ → ℕ) (all : Station) (h : History) (k : Known) → HasDeskOf mid k → LedAt t custom cut words all h k → length (committed_txids mid.fates) ≡ committed_by mid
-  commits_at mid words all h k has led = ap (λ (fs : List Attempt). length (committed_txids fs)) (sym has.fates) ∙ led.kept.commits ∙ ap (λ (d : Desk). d.committed) has.desk
+  -- what the coordinator keeps, by the account of a world that has its desk
+  kept_at : (mid : Engine I g) (words : ℕ → ℕ → ℕ) (all : Station) (h : History) (k : Known) → HasDeskOf mid k → LedAt t custom cut words all h k → IsKept t cut (shape mid).desk mid.fates
+  kept_at mid words all h k has led = subst (λ (fs : List Attempt). IsKept t cut (shape mid).desk fs) has.fates (subst (λ (d : Desk). IsKept t cut d k.world.fates) has.desk led.kept)
 
   -- what a commit left that was ordered and came to its outcome or was broken off
   module _ (laws : Laws count t custom cut) (more : CommitLaws holds count t custom cut) (mid : Engine I g) (was is : List (StatePart S)) (w : Wait) (commit : Commit)
-      (next : next_to_commit t cut (shape mid).desk ≡ Some w) (ordered : IsCommitOf (Some w) (Some commit)) (txid : commit.root.txid ≡ committed_by mid + 1) (texts : All HasTextKey commit.writes)
+      (next : next_to_commit t cut (shape mid).desk ≡ Some w) (ordered : IsCommitOf (Some w) (Some commit)) (texts : All HasTextKey commit.writes)
       (kept : ArePerhapsCommitted holds custom commit.root commit.writes was is) where
+    -- its writes are those of the next batch
+    next_writes : (words : ℕ → ℕ → ℕ) (all : Station) (h : History) (k : Known) → HasDeskOf mid k → IsInput t cut → LedAt t custom cut words all h k → commit.writes ≡ writes_at t custom cut w.spans
+    next_writes words all h k has input led = ordered_writes holds count t custom cut more words all h k w commit input led (ap (next_to_commit t cut) has.desk ∙ next) ordered
+
+    module _ (input : IsInput t cut) (keeps : IsKept t cut (shape mid).desk mid.fates) (planned : AreParts t was) (writes_are : commit.writes ≡ writes_at t custom cut w.spans) where
+      next_number : (before : List (List Span)) → AreBefore cut before → commit.root.txid ≡ length (before ++ committed_batches mid.fates) + 1
+      next_number before are = ap (λ r. r.txid) ordered.0 ∙ more.number (shape mid).desk mid.fates before w keeps next are.many
+
+      next_batch : (before : List (List Span)) → AreBefore cut before → IsNextBatch cut (before ++ committed_batches mid.fates) w.spans
+      next_batch before are = more.batch (shape mid).desk mid.fates before w keeps next are.many
+
+      -- some record is left for it
+      next_left : (before : List (List Span)) → AreBefore cut before → HoldAll cut (before ++ committed_batches mid.fates) → ⊥
+      next_left before are = more.left (shape mid).desk mid.fates before w keeps next (λ n first last fresh. are.gone n first last ∙ ap one_if fresh)
+
+      stands-broken : StandOn holds t custom cut mid.fates mid.fates was is
+      stands-broken = λ before are opaque stand.
+          more.broken_off (before ++ committed_batches mid.fates) w.spans commit.root was is input.wired opaque planned (next_number before are) (next_batch before are) stand (next_left before are)
+          (subst (λ (ws : List Write). ArePerhapsCommitted holds custom commit.root ws was is) writes_are kept)
+
+      stands-done : AreCommitted holds custom commit.root commit.writes was is → (new : List Attempt) → committed_batches new ≡ committed_batches mid.fates ++ w.spans ∷ [] → StandOn holds t custom cut mid.fates new was is
+      stands-done done new added = λ before are opaque stand.
+          subst (λ (bs : List (List Span)). PartsStand holds t custom cut bs is) (append_assoc before (committed_batches mid.fates) (w.spans ∷ []) ∙ ap (λ bs. before ++ bs) (sym added))
+          (more.done (before ++ committed_batches mid.fates) w.spans commit.root was is (next_number before are) (next_batch before are) stand
+          (subst (λ (ws : List Write). AreCommitted holds custom commit.root ws was is) writes_are done))
+
+      -- parts that stood at what was committed stand at what is, where it came to an outcome
+      stands-told : (how : CommitOutcome) (rest new : List Attempt) → CommitComes holds custom count commit.root commit.writes how was is → new ≡ mid.fates ++ told_end t cut (shape mid).desk w how ∷ rest → outcomes_of rest ≡ [] → StandOn holds t custom cut mid.fates new was is
+      stands-told Done rest new came added quiet =
+          stands-done (came.done refl) new
+          (ap committed_batches added ∙ batches_append mid.fates (told_end t cut (shape mid).desk w Done ∷ rest) ∙ ap (λ bs. committed_batches mid.fates ++ bs) (batches_done t cut (shape mid).desk w rest quiet))
+      stands-told (Failed component part before after) rest new came added quiet =
+          stands-then holds t custom cut mid.fates mid.fates new was is is stands-broken
+          (stands-same holds t custom cut mid.fates new is
+          (ap committed_batches added ∙ batches_append mid.fates (told_end t cut (shape mid).desk w (Failed component part before after) ∷ rest)
+          ∙ ap (λ bs. committed_batches mid.fates ++ bs) (none_batches rest quiet) ∙ append-nil (committed_batches mid.fates)))
+
+    -- so they do by the account of any world that has the coordinator's desk
+    pub outcome-stands : (how : CommitOutcome) (rest new : List Attempt) → CommitComes holds custom count commit.root commit.writes how was is → new ≡ mid.fates ++ told_end t cut (shape mid).desk w how ∷ rest → outcomes_of rest ≡ []
+        → (words : ℕ → ℕ → ℕ) (all : Station) (h : History) (k : Known) → HasDeskOf mid k → IsInput t cut → LedAt t custom cut words all h k → AreParts t was → StandOn holds t custom cut mid.fates new was is
+    outcome-stands how rest new comes added quiet words all h k has input led planned =
+        stands-told input (kept_at mid words all h k has led) planned (next_writes words all h k has input led) how rest new comes added quiet
+
     -- no fate tells of it
     leaves-broken : (fates : List Attempt) → fates ≡ mid.fates → FailOnceAtMost count was is → Leaves holds count t custom cut mid fates was is
     leaves-broken fates same once = record {
       more = [];
       added = same ∙ sym (append-nil mid.fates);
-      stands = λ words all h k has input led stand.
-          let made = next_writes more words all h k mid w commit has.desk input led next ordered txid in
-          let commits : length (committed_txids fates) ≡ committed_by mid = ap (λ (fs : List Attempt). length (committed_txids fs)) same ∙ commits_at mid words all h k has led in
-          subst (λ (n : ℕ). PartsStand holds t custom cut n is) (sym commits)
-          (more.broken_off (committed_by mid) commit.root was is txid stand made.1
-          (subst (λ (ws : List Write). ArePerhapsCommitted holds custom commit.root ws was is) made.0 kept));
+      stands = λ words all h k has input led planned.
+          stands-then holds t custom cut mid.fates mid.fates fates was is is
+          (stands-broken input (kept_at mid words all h k has led) planned (next_writes words all h k has input led))
+          (stands-same holds t custom cut mid.fates fates is (ap committed_batches same));
       strange = λ key found. more.strange commit.root commit.writes was is key texts kept found;
       counted = more.last_counts [] was was is (laws.counts_none was) once;
     }
 
-    -- parts that stood at what was committed stand at what is, where it came to an outcome
-    stands-decided : (how : CommitOutcome) → CommitComes holds custom count commit.root commit.writes how was is → commit.writes ≡ writes_at t custom cut (committed_by mid + 1) → committed_by mid < batches_in cut
-        → PartsStand holds t custom cut (committed_by mid) was → PartsStand holds t custom cut (decided t cut how (shape mid).desk).desk.committed is
-    stands-decided Done came writes_are below stand =
-        subst (λ (n : ℕ). PartsStand holds t custom cut n is) (sym (decided-done t cut (shape mid).desk w next))
-        (more.done (committed_by mid) commit.root was is txid stand (subst (λ (ws : List Write). AreCommitted holds custom commit.root ws was is) writes_are (came.done refl)))
-    stands-decided (Failed component part before after) came writes_are below stand =
-        subst (λ (n : ℕ). PartsStand holds t custom cut n is) (sym (decided-failed t cut (shape mid).desk component part before after))
-        (more.broken_off (committed_by mid) commit.root was is txid stand below (subst (λ (ws : List Write). ArePerhapsCommitted holds custom commit.root ws was is) writes_are came.kept))
-
-    -- so do they after the outcome, by the account of any world that has the coordinator's desk
-    pub outcome-stands : (new : Engine I g) (how : CommitOutcome) → CommitComes holds custom count commit.root commit.writes how was is → (shape new).desk ≡ (decided t cut how (shape mid).desk).desk
-        → (words : ℕ → ℕ → ℕ) (all : Station) (h : History) (k : Known) → k.world.desk ≡ (shape mid).desk → IsInput t cut → LedAt t custom cut words all h k
-        → PartsStand holds t custom cut (committed_by mid) was → PartsStand holds t custom cut (committed_by new) is
-    outcome-stands new how comes desk_is words all h k same input led stand =
-        let made = next_writes more words all h k mid w commit same input led next ordered txid in
-        subst (λ (n : ℕ). PartsStand holds t custom cut n is) (sym (ap (λ (d : Desk). d.committed) desk_is)) (stands-decided how comes made.0 made.1 stand)
-
-    -- a fate tells of it
-    leaves-told : (how : CommitOutcome) (fates : List Attempt) → fates ≡ mid.fates ++ (decided t cut how (shape mid).desk).ended → CommitComes holds custom count commit.root commit.writes how was is → Leaves holds count t custom cut mid fates was is
-    leaves-told how fates added comes = record {
-      more = (decided t cut how (shape mid).desk).ended;
+    -- a fate tells of it, and perhaps others of those that are dropped with it
+    leaves-told : (how : CommitOutcome) (rest fates : List Attempt) → CommitComes holds custom count commit.root commit.writes how was is → fates ≡ mid.fates ++ told_end t cut (shape mid).desk w how ∷ rest → outcomes_of rest ≡ [] → Leaves holds count t custom cut mid fates was is
+    leaves-told how rest fates comes added quiet = record {
+      more = told_end t cut (shape mid).desk w how ∷ rest;
       added = added;
-      stands = λ words all h k has input led stand.
-          let made = next_writes more words all h k mid w commit has.desk input led next ordered txid in
-          let commits : length (committed_txids fates) ≡ (decided t cut how (shape mid).desk).desk.committed =
-          ap (λ (fs : List Attempt). length (committed_txids fs)) added ∙ commits_append mid.fates (decided t cut how (shape mid).desk).ended
-          ∙ ap (λ (n : ℕ). n + length (committed_txids (decided t cut how (shape mid).desk).ended)) (commits_at mid words all h k has led) ∙ sym (decided_commits how (next_to_commit t cut (shape mid).desk)) in
-          subst (λ (n : ℕ). PartsStand holds t custom cut n is) (sym commits) (stands-decided how comes made.0 made.1 stand);
+      stands = outcome-stands how rest fates comes added quiet;
       strange = λ key found. more.strange commit.root commit.writes was is key texts kept found;
-      counted = more.all_told (decided t cut how (shape mid).desk).ended was is (more.decided_counts (shape mid).desk w how was is next comes.counted);
+      counted =
+          more.all_told (told_end t cut (shape mid).desk w how ∷ rest) was is
+          (laws.counts_then (told_end t cut (shape mid).desk w how ∷ []) rest was is is comes.plans
+          (more.told_counts (told_end t cut (shape mid).desk w how) how w.settled was is comes.counted refl) (more.quiet_counts rest is (none_failed_of rest quiet)));
     }
-      where
-        decided_commits : (h : CommitOutcome) (o : Option Wait) → (decided_by t cut h o (shape mid).desk).desk.committed ≡ committed_by mid + length (committed_txids (decided_by t cut h o (shape mid).desk).ended)
-        decided_commits h None = omega arith
-        decided_commits Done (Some x) = settled x.settled
-          where
-            settled : (list : Option (List AckMsg)) → committed_by mid + 1 ≡ committed_by mid + length (committed_txids (ended_at (shape mid).desk.tick (end_by t cut Done list) x ∷ []))
-            settled None = refl
-            settled (Some list) = refl
-        decided_commits (Failed component part before after) (Some x) = omega arith
 
     -- memory was wanted where the outcome was to be told: a fate tells of it or none does
     leaves-undecided : (how : CommitOutcome) (fates : List Attempt) → AddsSome (decided t cut how (shape mid).desk).ended mid.fates fates → CommitComes holds custom count commit.root commit.writes how was is → FailOnceAtMost count was is → Leaves holds count t custom cut mid fates was is
     leaves-undecided how fates some comes once =
-        let ended_is : (decided t cut how (shape mid).desk).ended ≡ ended_at (shape mid).desk.tick (end_by t cut how w.settled) w ∷ [] = ap (λ (o : Option Wait). (decided_by t cut how o (shape mid).desk).ended) next in
-        ⊎_elim (λ (none : some.done ≡ []). leaves-broken fates (some.added ∙ ap (λ (xs : List Attempt). mid.fates ++ xs) none ∙ append-nil mid.fates) once)
-        (λ (told : some.done ≡ ended_at (shape mid).desk.tick (end_by t cut how w.settled) w ∷ []). leaves-told how fates (some.added ∙ ap (λ (xs : List Attempt). mid.fates ++ xs) (told ∙ sym ended_is)) comes)
-        (one_or_none some.done some.rest (ended_at (shape mid).desk.tick (end_by t cut how w.settled) w) (sym ended_is ∙ some.are_first))
+        let ends = decided_ends t cut (shape mid).desk w how next in by some.done some.rest ends.0 (sym ends.1 ∙ some.are_first) some.added ends.2
+      where
+        by : (done left rest : List Attempt) → told_end t cut (shape mid).desk w how ∷ rest ≡ done ++ left → fates ≡ mid.fates ++ done → outcomes_of rest ≡ [] → Leaves holds count t custom cut mid fates was is
+        by [] left rest are added quiet = leaves-broken fates (added ∙ append-nil mid.fates) once
+        by (a ∷ done) left rest are added quiet =
+            let all : told_end t cut (shape mid).desk w how ∷ rest ≡ a ∷ (done ++ left) = are in
+            let same : a ≡ told_end t cut (shape mid).desk w how = cc in
+            let others : rest ≡ done ++ left = cc in
+            leaves-told how done fates comes (added ∙ ap (λ (x : Attempt). mid.fates ++ x ∷ done) same)
+            (first_none (outcomes_of done) (outcomes_of left) (sym (outcomes-append done left) ∙ sym (ap outcomes_of others) ∙ quiet))
 
   -- what an outcome makes of an engine
   outcome_is : (mid new : Engine I g) (how : CommitOutcome) → is_over t cut (shape mid) ≡ false → (shape mid).desk.out ≡ true → outcomes_of new.fates ≡ outcomes_of mid.fates ++ how ∷ [] → Goes tells t custom cut (of_outcome ∷ []) mid new
@@ -261,21 +279,21 @@ module _ {I S : Type 0} {g : Ghosts I} (tells : I → (ℕ → ℕ) → ℕ → 
 
   -- the outcome of a commit that was ordered
   pub drives-outcome : (laws : Laws count t custom cut) (more : CommitLaws holds count t custom cut) (mid new : Engine I g) (was is : List (StatePart S)) (w : Wait) (commit : Commit) (how : CommitOutcome)
-      → is_over t cut (shape mid) ≡ false → (shape mid).desk.out ≡ true → next_to_commit t cut (shape mid).desk ≡ Some w → IsCommitOf (Some w) (Some commit) → commit.root.txid ≡ committed_by mid + 1
+      → is_over t cut (shape mid) ≡ false → (shape mid).desk.out ≡ true → next_to_commit t cut (shape mid).desk ≡ Some w → IsCommitOf (Some w) (Some commit)
       → All HasTextKey commit.writes → AreParts t was → CommitComes holds custom count commit.root commit.writes how was is
       → outcomes_of new.fates ≡ outcomes_of mid.fates ++ how ∷ [] → Goes tells t custom cut (of_outcome ∷ []) mid new → Drives tells holds count t custom cut (of_outcome ∷ []) mid new was is
-  drives-outcome laws more mid new was is w commit how going out next ordered txid texts are comes told goes =
+  drives-outcome laws more mid new was is w commit how going out next ordered texts are comes told goes =
       let shape_is = outcome_is mid new how going out told goes in
       let added : new.fates ≡ mid.fates ++ (decided t cut how (shape mid).desk).ended = ap (λ (x : World). x.fates) shape_is in
       let more_is : goes.more ≡ (decided t cut how (shape mid).desk).ended = append_cancel_left mid.fates goes.more _ (sym goes.added ∙ added) in
-      let desk_is : (shape new).desk ≡ (decided t cut how (shape mid).desk).desk = ap (λ (x : World). x.desk) shape_is in
       record {
         goes = goes;
         plans = comes.plans;
         outcomes = λ planned good. subst (λ (hs : List CommitOutcome). All (IsOutcome t) hs) (sym told) (All-append (IsOutcome t) (outcomes_of mid.fates) (how ∷ []) good (All-cons (IsOutcome t) how [] (more.outcome how was is planned comes.failed) (All-nil (IsOutcome t))));
-        stands = λ words counts outcomes gives has input keeps good led stand.
+        stands = λ words counts outcomes gives has input keeps good led planned.
             let k : Known = record { world = shape mid; counts = counts } in
-            outcome-stands laws more mid was is w commit next ordered txid texts comes.kept new how comes desk_is words (station_of k) led.0 k refl input led.1 stand;
+            let ends = decided_ends t cut (shape mid).desk w how next in
+            outcome-stands laws more mid was is w commit next ordered texts comes.kept how ends.0 new.fates comes (added ∙ ap (λ (xs : List Attempt). mid.fates ++ xs) ends.1) ends.2 words (station_of k) led.0 k (record { desk = refl; fates = refl }) input led.1 planned;
         bad = λ key found. more.bad commit.root commit.writes was is key comes.kept found;
         strange = λ key found. more.strange commit.root commit.writes was is key texts comes.kept found;
         counted = subst (λ (xs : List Attempt). FailuresAreCounted count xs was is) (sym more_is) (more.decided_counts (shape mid).desk w how was is next comes.counted);
@@ -303,7 +321,7 @@ module _ {I S : Type 0} {g : Ghosts I} (tells : I → (ℕ → ℕ) → ℕ → 
       → outcomes_of new.fates ≡ outcomes_of mid.fates ++ how ∷ [] → Goes tells (topology_in mid) custom (cut_in mid) (of_outcome ∷ []) mid new → Drives tells holds count t custom cut coordinator_steps old new was is
   drives-ordered laws more old mid new was is commit how goes ready order texts are comes told after =
       drives-then tells holds count t custom cut laws (of_turn ∷ []) (of_outcome ∷ []) old mid new was was is (drives-turn more old mid was goes)
-      (drives-outcome laws more mid new was is order.wait commit how (sym (ended_here mid ready) ∙ order.ordered.goes_on) order.ordered.out (sym (next_here mid ready) ∙ order.ordered.next) order.is order.txid texts are comes told
+      (drives-outcome laws more mid new was is order.wait commit how (sym (ended_here mid ready) ∙ order.ordered.goes_on) order.ordered.out (sym (next_here mid ready) ∙ order.ordered.next) order.is texts are comes told
       (goes_there t cut mid ready tells custom (of_outcome ∷ []) new after))
 
   -- a commit was ordered, and met a bad cell
@@ -316,7 +334,7 @@ module _ {I S : Type 0} {g : Ghosts I} (tells : I → (ℕ → ℕ) → ℕ → 
     first = refl;
     between = was;
     drives = drives-turn more old mid was goes;
-    leaves = leaves-broken laws more mid was is order.wait commit (sym (next_here mid ready) ∙ order.ordered.next) order.is order.txid texts kept mid.fates refl once;
+    leaves = leaves-broken laws more mid was is order.wait commit (sym (next_here mid ready) ∙ order.ordered.next) order.is texts kept mid.fates refl once;
     bad = bad;
   }
 
@@ -329,7 +347,7 @@ module _ {I S : Type 0} {g : Ghosts I} (tells : I → (ℕ → ℕ) → ℕ → 
     mid = mid;
     between = was;
     drives = drives-turn more old mid was goes;
-    leaves = leaves-broken laws more mid was is order.wait commit (sym (next_here mid ready) ∙ order.ordered.next) order.is order.txid texts kept mid.fates refl once;
+    leaves = leaves-broken laws more mid was is order.wait commit (sym (next_here mid ready) ∙ order.ordered.next) order.is texts kept mid.fates refl once;
   }
 
   -- or memory was wanted where its outcome was to be told
@@ -342,16 +360,16 @@ module _ {I S : Type 0} {g : Ghosts I} (tells : I → (ℕ → ℕ) → ℕ → 
     between = was;
     drives = drives-turn more old mid was goes;
     leaves =
-        leaves-undecided laws more mid was is order.wait commit (sym (next_here mid ready) ∙ order.ordered.next) order.is order.txid texts comes.kept how fates
+        leaves-undecided laws more mid was is order.wait commit (sym (next_here mid ready) ∙ order.ordered.next) order.is texts comes.kept how fates
         (subst (λ (u : Topology). AddsSome (decided u cut how (shape mid).desk).ended mid.fates fates) ready.seated.of_topology
         (subst (λ (k : Cut). AddsSome (decided (topology_in mid) k how (shape mid).desk).ended mid.fates fates) ready.seated.of_cut short)) comes once;
   }
 
   -- memory was wanted in the turn
   pub wants-turn : (laws : Laws count t custom cut) (more : CommitLaws holds count t custom cut) (old : Engine I g) (fates : List Attempt) (parts : List (StatePart S)) (verdict : Option Verdict) (ticks : ℕ)
-      → AddsSome (turned t cut verdict ticks (shape old).desk).ended old.fates fates → WantsMemory tells holds count t custom cut old fates parts parts
+      → AddsSome (turned t cut verdict ticks (shape old).shut (shape old).desk).ended old.fates fates → WantsMemory tells holds count t custom cut old fates parts parts
   wants-turn laws more old fates parts verdict ticks some =
-      let quiet : outcomes_of some.done ≡ [] = some_none (turned t cut verdict ticks (shape old).desk).ended old.fates fates (none_turned t cut verdict ticks (shape old).desk) some in record {
+      let quiet : outcomes_of some.done ≡ [] = some_none (turned t cut verdict ticks (shape old).shut (shape old).desk).ended old.fates fates (none_turned t cut verdict ticks (shape old).shut (shape old).desk) some in record {
         steps = [];
         mid = old;
         between = parts;
@@ -359,11 +377,7 @@ module _ {I S : Type 0} {g : Ghosts I} (tells : I → (ℕ → ℕ) → ℕ → 
         leaves = record {
           more = some.done;
           added = some.added;
-          stands = λ words all h k has input led stand.
-              let commits : length (committed_txids fates) ≡ committed_by old =
-              ap (λ (fs : List Attempt). length (committed_txids fs)) some.added ∙ commits_append old.fates some.done
-              ∙ (let a = none_commits some.done quiet in let b = commits_at old words all h k has led in omega arith) in
-              subst (λ (n : ℕ). PartsStand holds t custom cut n parts) (sym commits) stand;
+          stands = λ words all h k has input led planned. stands-same holds t custom cut old.fates fates parts (batches_quiet old.fates some.done fates some.added quiet);
           strange = λ key found. found;
           counted = more.all_told some.done parts parts (more.quiet_counts some.done parts (none_failed_of some.done quiet));
         };

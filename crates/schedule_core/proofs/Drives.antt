@@ -1,29 +1,40 @@
 -- Steps of an engine over parts, one after another.
-use Rattle.std.proofs.Common.{◌≡◌, ℕ, true, List, [], ◌∷◌, ◌++◌, All, length, refl, sym, ap, subst, ◌∙◌, append_assoc, append-nil}
+use Rattle.std.proofs.Common.{◌≡◌, ℕ, true, List, [], ◌∷◌, ◌++◌, All, refl, sym, ap, subst, ◌∙◌, append_assoc, append-nil}
 use Rattle.event_worlds.specs.attempt_fates.declared.fates.Attempt.{Attempt}
-use Rattle.event_worlds.specs.attempt_fates.Fates.{committed_txids}
+use Rattle.event_worlds.specs.attempt_fates.Fates.{committed_batches}
 use Rattle.batch_commits.specs.Standing.{FailuresAreCounted, PartsStand}
 use Rattle.event_worlds.specs.bolt_ops.RowOp.{Custom}
-use Rattle.event_worlds.specs.commit_order.Orders.{desk_of}
-use Rattle.event_worlds.specs.commit_turns.Desks.{Desk}
 use Rattle.event_worlds.specs.commit_turns.Outcomes.{IsOutcome}
 use Rattle.event_engine.proofs.GoesLemmas.{gives-both, goes-none, goes-over, goes-then, then-more}
 use Rattle.event_engine.specs.declared.engine.Engine.{Engine}
 use Rattle.event_engine.specs.Engines.{Goes, IsStill, shape}
 use Rattle.event_worlds.specs.Accounted.{Accounted}
 use Rattle.event_worlds.specs.Worlds.{Known, Step, World, is_over, outcomes_of, run}
-use Rattle.schedule_core.specs.Driving.{Breaks, Drives, Leaves, WantsMemory}
+use Rattle.event_worlds.specs.record_spans.declared.span.Span.{Span}
+use Rattle.schedule_core.specs.Driving.{Breaks, Drives, Leaves, StandOn, WantsMemory}
 use Rattle.schedule_core.specs.Laws.{Laws}
 use Rattle.event_worlds.specs.state_parts.declared.parts.StatePart.{StatePart}
 use Rattle.event_worlds.specs.storm_ids.declared.ids.Ids.{Ghosts}
 use Rattle.storm_stores.specs.CellMaps.{CellMap}
 use Rattle.event_worlds.specs.topology_plan.Topology.{Topology}
-use Rattle.event_worlds.specs.trident_batches.Batches.{Cut}
+use Rattle.event_worlds.specs.taken_records.Cuts.{Cut}
 
 -- what is added to a list that stays as it is
 none_added : {X : Type 0} (xs ys : List X) → xs ≡ xs ++ ys → ys ≡ []
 none_added [] ys is = sym is
 none_added {X} (x ∷ xs) ys is = none_added xs ys (let e : x ∷ xs ≡ x ∷ (xs ++ ys) = is in cc)
+
+-- ---- parts that stand on
+
+module _ {S : Type 0} (holds : S → CellMap → Type 0) (t : Topology) (custom : Custom) (cut : Cut) where
+  -- no batch was committed, and the parts were left alone
+  pub stands-same : (old new : List Attempt) (parts : List (StatePart S)) → committed_batches new ≡ committed_batches old → StandOn holds t custom cut old new parts parts
+  stands-same old new parts same = λ before are opaque stand. subst (λ (bs : List (List Span)). PartsStand holds t custom cut (before ++ bs) parts) (sym same) stand
+
+  pub stands-then : (a b c : List Attempt) (p q r : List (StatePart S)) → StandOn holds t custom cut a b p q → StandOn holds t custom cut b c q r → StandOn holds t custom cut a c p r
+  stands-then a b c p q r first second = λ before are opaque stand. second before are opaque (first before are opaque stand)
+
+-- ---- steps
 
 module _ {I S : Type 0} {g : Ghosts I} (tells : I → (ℕ → ℕ) → ℕ → Type 0) (holds : S → CellMap → Type 0) (count : S → ℕ) (t : Topology) (custom : Custom) (cut : Cut) (laws : Laws count t custom cut) where
   -- steps that leave the coordinator and the fates alone
@@ -32,7 +43,7 @@ module _ {I S : Type 0} {g : Ghosts I} (tells : I → (ℕ → ℕ) → ℕ → 
     goes = goes;
     plans = refl;
     outcomes = λ are good. subst (λ (fs : List Attempt). All (IsOutcome t) (outcomes_of fs)) (sym still.fates) good;
-    stands = λ words counts outcomes gives has input keeps good led stand. subst (λ (n : ℕ). PartsStand holds t custom cut n parts) (ap (λ c. (desk_of c).committed) (sym still.coordinator)) stand;
+    stands = λ words counts outcomes gives has input keeps good led planned. stands-same holds t custom cut old.fates new.fates parts (ap committed_batches still.fates);
     bad = λ key found. found;
     strange = λ key found. found;
     counted = subst (λ (xs : List Attempt). FailuresAreCounted count xs parts parts) (sym (none_added old.fates goes.more (sym still.fates ∙ goes.added))) (laws.counts_none parts);
@@ -49,15 +60,15 @@ module _ {I S : Type 0} {g : Ghosts I} (tells : I → (ℕ → ℕ) → ℕ → 
     goes = goes-then tells t custom cut xs ys a b c first.goes second.goes;
     plans = second.plans ∙ first.plans;
     outcomes = λ are good. second.outcomes (first.plans ∙ are) (first.outcomes are good);
-    stands = λ words counts outcomes gives has input keeps good led stand.
+    stands = λ words counts outcomes gives has input keeps good led planned.
         let both = gives-both tells t custom cut xs ys a b c first.goes second.goes words counts outcomes gives has in
         let start : Known = record { world = shape a; counts = counts } in
         let mid : Known = run t custom cut words outcomes xs start in
         let led_mid : Accounted t custom cut words mid = laws.accounted words outcomes xs start input keeps good led in
         let world_is = (first.goes.runs words counts outcomes both.0 both.1).0 in
         let led_next = subst (λ (w : World). Accounted t custom cut words (record { world = w; counts = mid.counts })) world_is led_mid in
-        second.stands words mid.counts outcomes both.2 has input keeps good led_next
-        (first.stands words counts outcomes both.0 both.1 input keeps good led stand);
+        stands-then holds t custom cut a.fates b.fates c.fates p q r (first.stands words counts outcomes both.0 both.1 input keeps good led planned)
+        (second.stands words mid.counts outcomes both.2 has input keeps good led_next (first.plans ∙ planned));
     bad = λ key found. first.bad key (second.bad key found);
     strange = λ key found. first.strange key (second.strange key found);
     counted = subst (λ (xs : List Attempt). FailuresAreCounted count xs p r) (sym (then-more tells t custom cut xs ys a b c first.goes second.goes)) (laws.counts_then first.goes.more second.goes.more p q r first.plans first.counted second.counted);
@@ -90,8 +101,7 @@ module _ {I S : Type 0} {g : Ghosts I} (tells : I → (ℕ → ℕ) → ℕ → 
   leaves-still e fates parts same = record {
     more = [];
     added = same ∙ sym (append-nil e.fates);
-    stands = λ words all h k has input led stand.
-        subst (λ (n : ℕ). PartsStand holds t custom cut n parts) (sym (ap (λ (fs : List Attempt). length (committed_txids fs)) (same ∙ sym has.fates) ∙ led.kept.commits ∙ ap (λ (d : Desk). d.committed) has.desk)) stand;
+    stands = λ words all h k has input led planned. stands-same holds t custom cut e.fates fates parts (ap committed_batches same);
     strange = λ key found. found;
     counted = laws.none_but_last parts;
   }

@@ -1,5 +1,5 @@
 -- What the run of an engine that was started and went through steps comes to.
-use Rattle.std.proofs.Common.{◌≡◌, ◌≤◌, ◌<◌, ℕ, ◌+◌, List, [], length, Result, Ok, Err, refl, sym, ap, subst, ◌∙◌, append-nil, arith}
+use Rattle.std.proofs.Common.{◌≡◌, ◌≤◌, ℕ, ◌+◌, List, [], Result, Ok, Err, refl, sym, ap, subst, ◌∙◌, append-nil, arith}
 use Rattle.std.specs.Prelude.{OnErr, OnOk}
 use Rattle.std.specs.List.{AllByRecursion}
 use Rattle.event_worlds.specs.attempt_fates.Fates.{IsOnce}
@@ -33,7 +33,7 @@ use Rattle.event_worlds.specs.state_parts.PartPlans.{AreParts}
 use Rattle.event_worlds.specs.storm_ids.declared.ids.Ids.{Ghosts}
 use Rattle.storm_stores.specs.CellMaps.{CellMap}
 use Rattle.event_worlds.specs.topology_plan.Topology.{Topology}
-use Rattle.event_worlds.specs.trident_batches.Batches.{Cut}
+use Rattle.event_worlds.specs.taken_records.Cuts.{Cut}
 
 -- so many ticks are as many as the coordinator may count in these steps
 abbrev pub Allows : List Step → ℕ → Type 0
@@ -48,9 +48,9 @@ pub record Ends {S : Type 0} (words_are : (ℕ → ℕ → ℕ) → Type 0) (hol
 
 -- memory was wanted before anything was done
 pub not_begun : {S : Type 0} (holds : S → CellMap → Type 0) (count : S → ℕ) (t : Topology) (custom : Custom) (cut : Cut) (laws : WorldLaws holds count t custom cut) (steps : List Step) (ticks : ℕ) (fates : List Attempt) (parts : List (StatePart S))
-    → 0 < cut.size → fates ≡ [] → RunComes holds count t custom cut steps ticks (Err stop.Memory) fates parts parts
-not_begun holds count t custom cut laws steps ticks fates parts some none = record {
-  tells = tells_not_begun holds count t custom cut laws ticks fates parts some none;
+    → IsInput t cut → fates ≡ [] → RunComes holds count t custom cut steps ticks (Err stop.Memory) fates parts parts
+not_begun holds count t custom cut laws steps ticks fates parts input none = record {
+  tells = tells_not_begun holds count t custom cut laws ticks fates parts input none;
   of_world = λ ok. absurd ok;
 }
 
@@ -59,9 +59,9 @@ on_ok (Ok a) f p = f p
 on_ok (Err e) f p = p
 
 module _ {I S : Type 0} {g : Ghosts I} (told : (ℕ → ℕ → ℕ) → Type 0) (tells : I → (ℕ → ℕ) → ℕ → Type 0) (holds : S → CellMap → Type 0) (count : S → ℕ) (t : Topology) (custom : Custom) (cut : Cut)
-    (laws : WorldLaws holds count t custom cut) (input : IsInput t cut) (keeps : IsCustom custom) (some : 0 < cut.size) where
+    (laws : WorldLaws holds count t custom cut) (input : IsInput t cut) (keeps : IsCustom custom) where
   -- the world that steps led to, by some words
-  some_world : (steps : List Step) (e0 e : Engine I g) → IsStarted told tells t e0 → Goes tells t custom cut steps e0 e → (words : ℕ → ℕ → ℕ) × (shape e ≡ world_after t custom cut words (outcomes_of e.fates) steps)
+  some_world : (steps : List Step) (e0 e : Engine I g) → IsStarted told tells t cut e0 → Goes tells t custom cut steps e0 e → (words : ℕ → ℕ → ℕ) × (shape e ≡ world_after t custom cut words (outcomes_of e.fates) steps)
   some_world steps e0 e started goes =
       let are = some_words told tells t custom cut steps e0 e started goes in
       let outcomes = outcomes_of e.fates in
@@ -69,34 +69,34 @@ module _ {I S : Type 0} {g : Ghosts I} (told : (ℕ → ℕ → ℕ) → Type 0)
       (are.0, from_start told tells t custom cut steps e0 e started goes are.0 outcomes are.1 are.2 has)
 
   -- it had no more ticks than there were among them
-  few_ticks : (steps : List Step) (e0 e : Engine I g) → IsStarted told tells t e0 → Goes tells t custom cut steps e0 e → (shape e).tick ≤ ticks_in steps
+  few_ticks : (steps : List Step) (e0 e : Engine I g) → IsStarted told tells t cut e0 → Goes tells t custom cut steps e0 e → (shape e).tick ≤ ticks_in steps
   few_ticks steps e0 e started goes =
       let w = some_world steps e0 e started goes in
       let same : (shape e).tick ≡ (world_after t custom cut w.0 (outcomes_of e.fates) steps).tick = ap (λ (v : World). v.tick) w.1 in
-      let none : (first_known t w.0).world.tick ≡ 0 = refl in
-      let most = run-tick t custom cut w.0 (outcomes_of e.fates) steps (first_known t w.0) in omega arith
+      let none : (first_known t cut w.0).world.tick ≡ 0 = refl in
+      let most = run-tick t custom cut w.0 (outcomes_of e.fates) steps (first_known t cut w.0) in omega arith
 
   -- ---- how a run ends
 
   -- An engine was started, and was to go through all these steps; what was carried out came to this.
   pub record Ran (whole : List Step) (ticks : ℕ) (done : Result (Unit {0}) CommitFault) (e0 e : Engine I g) (was is : List (StatePart S)) : Type 0 where
     pub ready : IsReady t cut e0
-    pub started : IsStarted told tells t e0
+    pub started : IsStarted told tells t cut e0
     pub planned : AreParts t was
     pub allows : Allows whole ticks
     pub same_run : OnOk done (IsOfSameRun e0 e)
     pub drives : OnOk done (Drives tells holds count t custom cut whole e0 e was is)
     pub bad : (key : List ℕ) → done ≡ Err (fault.BadCell key) → Breaks tells holds count t custom cut whole key e0 e was is
     pub short : done ≡ Err fault.Memory → WantsMemory tells holds count t custom cut e0 e.fates was is
-    pub once : OnErr done (IsOnce (length cut.records) cut.size last_tick e.fates)
+    pub once : OnErr done (IsOnce cut last_tick e.fates)
     pub kept : AreKept holds was is
 
   -- what is so for the engine's own plan and input is so for these
-  pub ran-from : (steps : Topology → List Step) (ticks : ℕ) (done : Result (Unit {0}) CommitFault) (e0 e : Engine I g) (was is : List (StatePart S)) → IsReady t cut e0 → IsStarted told tells t e0 → AreParts t was → Allows (steps t) ticks
+  pub ran-from : (steps : Topology → List Step) (ticks : ℕ) (done : Result (Unit {0}) CommitFault) (e0 e : Engine I g) (was is : List (StatePart S)) → IsReady t cut e0 → IsStarted told tells t cut e0 → AreParts t was → Allows (steps t) ticks
       → OnOk done (IsOfSameRun e0 e) → OnOk done (Drives tells holds count (topology_in e0) custom (cut_in e0) (steps (topology_in e0)) e0 e was is)
       → ((key : List ℕ) → done ≡ Err (fault.BadCell key) → Breaks tells holds count (topology_in e0) custom (cut_in e0) (steps (topology_in e0)) key e0 e was is)
       → (done ≡ Err fault.Memory → WantsMemory tells holds count (topology_in e0) custom (cut_in e0) e0 e.fates was is)
-      → OnErr done (IsOnce (length (cut_in e0).records) (cut_in e0).size last_tick e.fates) → AreKept holds was is → Ran (steps t) ticks done e0 e was is
+      → OnErr done (IsOnce (cut_in e0) last_tick e.fates) → AreKept holds was is → Ran (steps t) ticks done e0 e was is
   ran-from steps ticks done e0 e was is ready started planned allows same drives bad short once kept = record {
     ready = ready;
     started = started;
@@ -112,7 +112,7 @@ module _ {I S : Type 0} {g : Ghosts I} (told : (ℕ → ℕ → ℕ) → Type 0)
     short = λ met.
         subst (λ (u : Topology). WantsMemory tells holds count u custom cut e0 e.fates was is) ready.seated.of_topology
         (subst (λ (k : Cut). WantsMemory tells holds count (topology_in e0) custom k e0 e.fates was is) ready.seated.of_cut (short met));
-    once = subst (λ (k : Cut). OnErr done (IsOnce (length k.records) k.size last_tick e.fates)) ready.seated.of_cut once;
+    once = subst (λ (k : Cut). OnErr done (IsOnce k last_tick e.fates)) ready.seated.of_cut once;
     kept = kept;
   }
 
@@ -167,7 +167,7 @@ module _ {I S : Type 0} {g : Ghosts I} (told : (ℕ → ℕ → ℕ) → Type 0)
   ends_by whole ticks done e0 e was is ran =
       let answer = end_by done (answer_of (topology_in e) (cut_in e) (shape e)) in
       let went = went_of whole ticks done e0 e was is ran in
-      let tells_end = tells_at_end told tells holds count t custom cut laws input keeps some ticks done e0 e was is answer e.fates went refl refl in
+      let tells_end = tells_at_end told tells holds count t custom cut laws input keeps ticks done e0 e was is answer e.fates went refl refl in
       let one = some_by whole ticks done e0 e was is ran in record {
         comes = record {
           tells = tells_end.tells_so;
@@ -195,6 +195,3 @@ at_rest t cut e ready idle = record {
 
 pub fits_first : {I : Type 0} {g : Ghosts I} (t : Topology) (cut : Cut) (e : Engine I g) (events : List Event) → IsReady t cut e → AllByRecursion (FitsEvent t) events → AllByRecursion (FitsEvent (topology_in e)) events
 fits_first t cut e events ready = subst (λ (u : Topology). AllByRecursion (FitsEvent u) events) (sym ready.seated.of_topology)
-
-pub some_size : (t : Topology) (cut : Cut) → IsInput t cut → 0 < cut.size
-some_size t cut input = subst (λ (n : ℕ). 0 < n) (sym input.size) input.valid.batch.0

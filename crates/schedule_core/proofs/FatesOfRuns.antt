@@ -1,188 +1,167 @@
--- How many batches the fates of a run may have committed, when they are all of them, and what the
--- coordinator's answer says of the fates.
-use Rattle.std.proofs.Common.{◌≡◌, ℕ, ◌+◌, ◌-◌, ◌*◌, ◌<◌, ◌≤◌, true, false, List, [], ◌∷◌, length, map, Some, subst, sym, ap, ◌∙◌, arith, refl, rules}
-use Rattle.std.specs.Prelude.{min}
-use Rattle.std.specs.List.{AllByRecursion, flat_map, range_with_len}
-use Rattle.std.proofs.lemmas.Bool.{eqb-false, eqb-true}
-use Rattle.std.proofs.lemmas.Grind.{div_ceil_times}
-use Rattle.std.proofs.lemmas.List.{length-append, length-map, append-nil}
-use Rattle.std.proofs.lemmas.List.Elements.{All-filter, recursion_from_All}
-use Rattle.std.proofs.lemmas.List.FromFn.{length-range_with_len}
+-- Whether a record is left uncommitted, and what the coordinator's answer says of the fates.
+use Rattle.std.proofs.Common.{◌≡◌, ℕ, zero, suc, ◌+◌, ◌-◌, ◌<◌, ◌≤◌, Bool, true, false, cond, List, [], ◌∷◌, length, map, filter, Some, slice_index_or, subst, sym, ap, ◌∙◌, arith, refl, inl, inr, eq-eqb, true≢false}
+use Rattle.std.specs.Prelude.{nat_le}
+use Rattle.std.specs.List.{AllByRecursion, range_with_len}
+use Rattle.std.proofs.lemmas.Bool.Decides.{nat_tests}
+use Rattle.std.proofs.lemmas.Bool.{cases_lt}
+use Rattle.event_worlds.proofs.counted_items.Each.{each-weaker}
+use Rattle.event_worlds.proofs.taken_records.Leaving.{some_mark_left}
+use Rattle.event_worlds.proofs.taken_records.Running.{stands_within}
+use Rattle.event_worlds.proofs.taken_records.Taking.{once_at_most, times_append}
 use Rattle.event_worlds.specs.attempt_fates.declared.fates.Attempt.{Attempt}
-use Rattle.event_worlds.specs.attempt_fates.Fates.{IsOfBatch, IsOnce, IsWhole, attempt_numbers, committed, committed_numbers, committed_txids, is_committed, record_numbers}
+use Rattle.event_worlds.specs.attempt_fates.Fates.{HasBatch, IsOnce, IsWhole, aborts_of, committed, committed_batches, committed_txids, is_committed}
+use Rattle.batch_commits.specs.Standing.{batches_in}
+use Rattle.event_worlds.specs.bolt_ops.RowOp.{Custom}
+use Rattle.event_worlds.specs.commit_turns.declared.wait.Wait.{Wait}
 use Rattle.event_worlds.specs.commit_turns.Desks.{Desk}
-use Rattle.event_worlds.specs.commit_turns.Kept.{IsKept}
+use Rattle.event_worlds.specs.commit_turns.Kept.{IsKept, IsWaiting, batches_taken, pending_batches}
 use Rattle.event_worlds.specs.commit_turns.Turns.{is_finished}
-use Rattle.event_worlds.specs.topology_plan.Topology.{Topology}
-use Rattle.event_worlds.specs.trident_batches.Batches.{Cut, batch_count, first_of, last_of}
+use Rattle.event_worlds.specs.record_offers.Offers.{is_gone, left_in}
 use Rattle.event_worlds.specs.record_spans.declared.span.Span.{Span}
-use Rattle.event_worlds.specs.record_spans.Spans.{records_of}
+use Rattle.event_worlds.specs.record_spans.Spans.{stands_in}
+use Rattle.event_worlds.specs.taken_records.Cuts.{Cut, IsStart}
+use Rattle.event_worlds.specs.taken_records.Taken.{IsBatch, one_if, times_in}
+use Rattle.event_worlds.specs.topology_plan.Topology.{Topology}
+use Rattle.schedule_core.specs.Laws.{WorldLaws}
+use Rattle.schedule_core.specs.Runs.{IsLeft, IsUnfinished, committed_count}
+use Rattle.storm_stores.specs.CellMaps.{CellMap}
 
 -- more ticks may have been handed out
-pub once-later : (n size a b : ℕ) (fates : List Attempt) → IsOnce n size a fates → a ≤ b
-    → IsOnce n size b fates
-once-later n size a b fates once later = record {
+pub once-later : (cut : Cut) (a b : ℕ) (fates : List Attempt) → IsOnce cut a fates → a ≤ b → IsOnce cut b fates
+once-later cut a b fates once later = record {
   in_order = once.in_order;
-  records_in_order = once.records_in_order;
   numbered = once.numbered;
   last_committed = once.last_committed;
-  of_batch = once.of_batch;
-  spans = once.spans;
+  batches = once.batches;
+  apart = once.apart;
+  fronts = once.fronts;
+  rises = once.rises;
   finishes = once.finishes;
-  handed_out = λ k d below. let so = once.handed_out k d below in omega arith;
+  handed_out = each-weaker (λ (x : Attempt). x.finish ≤ a) (λ (x : Attempt). x.finish ≤ b) (λ x low. omega (arith, later, low)) fates once.handed_out;
 }
 
--- no attempt ended
-pub once-none : (n size ticks : ℕ) → IsOnce n size ticks []
-once-none n size ticks = record {
-  in_order = refl;
-  records_in_order = refl;
-  numbered = λ txid. refl;
-  last_committed = search rules;
-  of_batch = search rules;
-  spans = search rules;
-  finishes = search rules;
-  handed_out = search rules;
-}
+pub whole-later : (cut : Cut) (a b : ℕ) (fates : List Attempt) → IsWhole cut a fates → a ≤ b → IsWhole cut b fates
+whole-later cut a b fates whole later = record { once = once-later cut a b fates whole.once later; all_records = whole.all_records }
 
--- ---- batches that are committed in order
+-- ---- a record that is left
 
--- the attempts are of the transactions after the first k, one after another, and of their batches
-record Follow (n size k : ℕ) (cs : List Attempt) : Type 0 where
-  in_order : map (λ (c : Attempt). c.root.txid) cs ≡ range_with_len (k + 1) (length cs)
-  of_batch : AllByRecursion (IsOfBatch n size) cs
+no_mark : (b : Bool) → one_if b ≡ 0 → b ≡ false
+no_mark true none = absurd (omega (arith, none))
+no_mark false none = refl
 
-module _ (n size : ℕ) where
-  -- the first is of the next transaction
-  head-is : (k : ℕ) (c : Attempt) (cs : List Attempt) → Follow n size k (c ∷ cs)
-      → c.root.txid ≡ k + 1
-  head-is k c cs follow = at follow.in_order
+-- a batch has a record
+some_record : (records size : ℕ) (spans : List Span) → IsBatch records size spans → (n : ℕ) × (stands_in spans n ≡ true)
+some_record records size [] batch = absurd (let some = batch.some in omega (arith, some))
+some_record records size (span ∷ spans) batch =
+    let least : nat_le span.first span.first ≡ true = grind (arith, nat_tests) in
+    let most : nat_le span.first span.last ≡ true = (let long = batch.apart.1 in grind (arith, nat_tests, long)) in
+    (span.first, rw (least, most) refl)
+
+-- what holds of each holds of each that is kept
+each_kept : {X : Type 0} (P : X → Type 0) (p : X → Bool) (xs : List X) → AllByRecursion P xs → AllByRecursion P (filter p xs)
+each_kept P p [] all = tt
+each_kept {X} P p (x ∷ xs) all = by (p x) (each_kept P p xs all.1)
+  where
+    by : (b : Bool) → AllByRecursion P (filter p xs) → AllByRecursion P (cond b (x ∷ filter p xs) (filter p xs))
+    by true rest = (all.0, rest)
+    by false rest = rest
+
+module _ (t : Topology) (cut : Cut) (d : Desk) (fates : List Attempt) (kept : IsKept t cut d fates) where
+  -- a record that is not gone
+  left_over : 0 < left_in d.gone → (n : ℕ) × IsLeft cut fates n
+  left_over some =
+      let one = some_mark_left d.gone some in
+      let i = one.0 in
+      let within = one.1 in
+      let marks = kept.taken.marks in
+      let at : i + 1 - 1 ≡ i = omega arith in
+      let off : is_gone d.gone (i + 1) ≡ false = ap (λ k. slice_index_or d.gone k true) at ∙ one.2 in
+      let last : i + 1 ≤ length cut.gone = omega (arith, within, marks) in
+      let equal = kept.taken.once (i + 1) (omega arith) last in
+      let none = ap one_if off in
+      let both = times_append (committed_batches fates) (pending_batches d) (i + 1) in (
+        i + 1,
+        record {
+          first = omega arith;
+          last = last;
+          fresh = no_mark (is_gone cut.gone (i + 1)) (omega (arith, equal, none, both));
+          in_none = omega (arith, equal, none, both);
+        },
+      )
+
+  -- a record of an attempt that is pending
+  left_pending : (w : Wait) (ws : List Wait) → d.pending ≡ w ∷ ws → (n : ℕ) × IsLeft cut fates n
+  left_pending w ws is =
+      let waits : IsWaiting t cut d w = (subst (λ (xs : List Wait). AllByRecursion (IsWaiting t cut d) xs) is kept.waits).0 in
+      let one = some_record (length cut.gone) cut.size w.spans waits.batch.batch in
+      let n = one.0 in
+      let within = stands_within (length cut.gone) cut.size w.spans n waits.batch.batch one.1 in
+      let once = once_at_most cut.gone d.gone cut.size (batches_taken d fates) n kept.taken within.0 within.1 in
+      let both = times_append (committed_batches fates) (pending_batches d) n in
+      let here = ap one_if one.1 in
+      let pending : times_in (pending_batches d) n ≡ one_if (stands_in w.spans n) + times_in (map (λ (v : Wait). v.spans) ws) n = ap (λ (xs : List Wait). times_in (map (λ (v : Wait). v.spans) xs) n) is in (
+        n,
+        record { first = within.0; last = within.1; fresh = waits.batch.fresh n one.1; in_none = omega (arith, once, both, here, pending) },
+      )
+
+  some_left : is_finished t cut d ≡ false → (n : ℕ) × IsLeft cut fates n
+  some_left unfinished =
+      elim (cases_lt 0 (left_in d.gone)) [
+        | inl some ↦ left_over some
+        | inr none ↦ by d.pending refl (omega (arith, none))
+      ]
     where
-      at : map (λ (y : Attempt). y.root.txid) (c ∷ cs) ≡ range_with_len (k + 1) (length (c ∷ cs))
-          → c.root.txid ≡ k + 1
-      at e = cc
+      by : (ws : List Wait) → d.pending ≡ ws → left_in d.gone ≡ 0 → (n : ℕ) × IsLeft cut fates n
+      by [] is none =
+          let over : is_finished t cut d ≡ true = rw (eq-eqb (left_in d.gone) 0 none, eq-eqb (length d.pending) 0 (ap length is)) refl in
+          absurd (true≢false (sym over ∙ unfinished))
+      by (w ∷ ws) is none = left_pending w ws is
 
-  rest-follows : (k : ℕ) (c : Attempt) (cs : List Attempt) → Follow n size k (c ∷ cs)
-      → Follow n size (k + 1) cs
-  rest-follows k c cs follow = record {
-    in_order = at follow.in_order;
-    of_batch = follow.of_batch.1;
-  }
+  -- without partitions no more batches are committed than there are
+  few_committed : IsStart cut → cut.partitions ≡ 0 → d.committed ≤ batches_in cut
+  few_committed start none = by (length (committed_txids fates)) refl
     where
-      at : map (λ (y : Attempt). y.root.txid) (c ∷ cs) ≡ range_with_len (k + 1) (length (c ∷ cs))
-          → map (λ (y : Attempt). y.root.txid) cs ≡ range_with_len (k + 1 + 1) (length cs)
-      at e = cc
+      txids_there : (xs : List Attempt) → AllByRecursion (λ (a : Attempt). HasBatch cut a.root.txid a.spans) xs → AllByRecursion (λ (k : ℕ). k ≤ batches_in cut) (map (λ (a : Attempt). a.root.txid) xs)
+      txids_there [] all = tt
+      txids_there (x ∷ xs) all = ((all.0.numbered none).0, txids_there xs all.1)
 
-  -- no more than there are batches
-  within : (k : ℕ) (cs : List Attempt) → Follow n size k cs → k ≤ batch_count n size
-      → k + length cs ≤ batch_count n size
-  within k [] follow low = omega arith
-  within k (c ∷ cs) follow low =
-      let here = head-is k c cs follow in
-      let there = follow.of_batch.0.is_there.1 in
-      let rest = within (k + 1) cs (rest-follows k c cs follow) (omega arith) in omega arith
+      last_there : (from n : ℕ) → AllByRecursion (λ (k : ℕ). k ≤ batches_in cut) (range_with_len from (suc n)) → from + n ≤ batches_in cut
+      last_there from zero all = let a = all.0 in omega (arith, a)
+      last_there from (suc n) all = let r = last_there (from + 1) n all.1 in omega (arith, r)
 
-  -- how many records a batch has
-  own-many : (k : ℕ) (c : Attempt) → IsOfBatch n size c → c.root.txid ≡ k + 1
-      → length (record_numbers c) ≡ min ((k + 1) * size) n - min (k * size) n
-  own-many k c of is =
-      let less : k + 1 - 1 ≡ k = omega arith in
-      let first : ℕ = first_of size c.root.txid in
-      let last : ℕ = last_of n size c.root.txid in
-      let f : first ≡ k * size + 1 = ap (λ (j : ℕ). (j - 1) * size + 1) is
-      ∙ ap (λ (j : ℕ). j * size + 1) less in
-      let l : last ≡ min ((k + 1) * size) n = ap (λ (j : ℕ). min (j * size) n) is in
-      let many = ap (λ (spans : List Span). length (records_of spans)) of.records
-      ∙ ap length (append-nil (range_with_len first (last + 1 - first)))
-      ∙ length-range_with_len first (last + 1 - first) in
-      let more : (k + 1) * size ≡ k * size + size = omega arith in omega arith
-
-  -- they have the records from those of the first k batches on to those of the last
-  many-records : (k : ℕ) (cs : List Attempt) → Follow n size k cs
-      → min (k * size) n + length (flat_map record_numbers cs) ≡ min ((k + length cs) * size) n
-  many-records k [] follow = let e : (k + 0) * size ≡ k * size = omega arith in omega arith
-  many-records k (c ∷ cs) follow =
-      let own = own-many k c follow.of_batch.0 (head-is k c cs follow) in
-      let rest = many-records (k + 1) cs (rest-follows k c cs follow) in
-      let both = length-append (record_numbers c) (flat_map record_numbers cs) in
-      let more : (k + 1) * size ≡ k * size + size = omega arith in
-      let last : (k + 1 + length cs) * size ≡ (k + length (c ∷ cs)) * size =
-      ap (λ (j : ℕ). j * size) (omega arith) in omega arith
-
-  module _ (ticks : ℕ) (fates : List Attempt) (once : IsOnce n size ticks fates) where
-    -- there are as many txids as committed attempts
-    count-same : length (committed_txids fates) ≡ length (committed fates)
-    count-same = length-map (committed fates) (λ (c : Attempt). c.root.txid)
-
-    follows : Follow n size 0 (committed fates)
-    follows = record {
-      in_order =
-          let first : 1 ≡ 0 + 1 = omega arith in
-          once.in_order ∙ ap (range_with_len 1) count-same
-          ∙ ap (λ (j : ℕ). range_with_len j (length (committed fates))) first;
-      of_batch = recursion_from_All (IsOfBatch n size) (committed fates)
-          (All-filter (λ (a : Attempt). is_committed a.end) (IsOfBatch n size) fates
-          once.of_batch);
-    }
-
-    -- no more batches were committed than there are
-    pub commits-within : length (committed_txids fates) ≤ batch_count n size
-    commits-within =
-        let all = within 0 (committed fates) follows (omega arith) in
-        let same = count-same in omega arith
-
-    -- where as many were committed as there are, all records were
-    pub whole-from : 0 < size → length (committed_txids fates) ≡ batch_count n size
-        → IsWhole n size ticks fates
-    whole-from some all = record {
-      once = once;
-      all_committed = once.in_order ∙ ap (range_with_len 1) all;
-      all_records =
-          let enough = (div_ceil_times n size some).0 in
-          let records = many-records 0 (committed fates) follows in
-          let last : (0 + length (committed fates)) * size ≡ batch_count n size * size =
-          ap (λ (j : ℕ). j * size) (let same = count-same in omega arith) in
-          let many : length (committed_numbers fates) ≡ n = omega arith in
-          once.records_in_order ∙ ap (range_with_len 1) many;
-    }
+      by : (n : ℕ) → length (committed_txids fates) ≡ n → d.committed ≤ batches_in cut
+      by zero is = let c = kept.commits in let e = start.early none in omega (arith, c, e, is)
+      by (suc n) is =
+          let c = kept.commits in
+          let l = last_there (cut.start + 1) n (subst (λ (k : ℕ). AllByRecursion (λ (j : ℕ). j ≤ batches_in cut) (range_with_len (cut.start + 1) k)) is
+          (subst (AllByRecursion (λ (j : ℕ). j ≤ batches_in cut)) kept.once.in_order
+          (txids_there (committed fates) (each_kept (λ (a : Attempt). HasBatch cut a.root.txid a.spans) (λ (a : Attempt). is_committed a.end) fates kept.once.batches)))) in
+          omega (arith, c, l, is)
 
 -- ---- answers
 
 -- What a desk says of the fates of a run with so many ticks: which transaction ran out of attempts,
--- that all is committed, or how much is.
+-- that no record is left uncommitted, or that some is.
 pub record AnswersFor (t : Topology) (cut : Cut) (d : Desk) (ticks : ℕ) (fates : List Attempt)
     : Type 0 where
   pub ran_out : (txid : ℕ) → d.exhausted ≡ Some txid
-      → (length (attempt_numbers txid fates) ≡ t.attempts)
-      × (length (committed_txids fates) < txid)
-  pub whole : is_finished t cut d ≡ true
-      → IsWhole (length cut.records) cut.size ticks fates
-  pub unfinished : is_finished t cut d ≡ false
-      → (length (committed_txids fates) ≡ d.committed)
-      × (d.committed < batch_count (length cut.records) cut.size)
+      → (aborts_of txid fates ≡ t.attempts) × (cut.start + committed_count fates < txid)
+  pub whole : is_finished t cut d ≡ true → IsWhole cut ticks fates
+  pub unfinished : is_finished t cut d ≡ false → IsUnfinished cut d.committed fates
 
 -- what a desk says holds, where it is kept with the fates
-pub answers-from : (t : Topology) (cut : Cut) (d : Desk) (ticks : ℕ) (fates : List Attempt)
-    → IsKept t cut d fates → 0 < cut.size → d.tick ≤ ticks → AnswersFor t cut d ticks fates
-answers-from t cut d ticks fates kept some later = record {
-  ran_out = λ txid is.
-      let out = kept.ran_out txid is in
-      (out.0, subst (λ (k : ℕ). k < txid) (sym kept.commits) out.1);
-  whole = λ done.
-      whole-from records size ticks fates once some
-      (kept.commits ∙ eqb-true d.committed (batch_count records size) done);
-  unfinished = λ left.
-      let other = eqb-false d.committed (batch_count records size) left in
-      let few = commits-within records size ticks fates once in
-      let are = kept.commits in
-      (are, omega (arith, other));
+pub answers-from : {S : Type 0} (holds : S → CellMap → Type 0) (count : S → ℕ) (t : Topology) (custom : Custom) (cut : Cut) → WorldLaws holds count t custom cut → IsStart cut → (d : Desk) (ticks : ℕ) (fates : List Attempt)
+    → IsKept t cut d fates → d.tick ≤ ticks → AnswersFor t cut d ticks fates
+answers-from holds count t custom cut laws start d ticks fates kept later = record {
+  ran_out = λ txid is. let out = kept.ran_out txid is in (out.0, subst (λ (k : ℕ). k < txid) kept.commits out.1);
+  whole = λ done. whole-later cut d.tick ticks fates (laws.whole d fates kept done) later;
+  unfinished = λ left. record {
+    committed = sym kept.commits;
+    some_left = some_left t cut d fates kept left;
+    more_batches = λ none.
+        let few = few_committed t cut d fates kept start none in
+        let last = laws.at_last_batch d fates start kept none in
+        let other : d.committed ≡ batches_in cut → ⊥ = λ all. true≢false (sym (last.1 all) ∙ left) in
+        omega (arith, few, other);
+  };
 }
-  where
-    records : ℕ
-    records = length cut.records
-
-    size : ℕ
-    size = cut.size
-
-    once : IsOnce (length cut.records) cut.size ticks fates
-    once = once-later (length cut.records) cut.size d.tick ticks fates kept.once later

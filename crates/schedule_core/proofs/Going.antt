@@ -1,11 +1,11 @@
 -- An engine that goes on with its commits through parts, by steps or in any other way.
-use Rattle.std.proofs.Common.{◌≡◌, ◌<◌, ℕ, ◌+◌, List, [], ◌++◌, All, length, None, Some, refl, sym, ap, subst, ◌∙◌, append_assoc, append-nil, length-append, arith}
+use Rattle.std.proofs.Common.{◌≡◌, ℕ, ◌+◌, List, [], ◌++◌, All, length, None, Some, refl, sym, ap, subst, ◌∙◌, append_assoc, append-nil, length-append, arith}
 use Rattle.std.proofs.lemmas.List.Elements.{All-nil}
 use Rattle.std.specs.Prelude.{slice_get}
 use Rattle.event_worlds.specs.attempt_fates.declared.fates.Attempt.{Attempt}
-use Rattle.batch_commits.specs.Standing.{FailuresAreCounted, PartsStand}
+use Rattle.event_worlds.specs.attempt_fates.Fates.{committed_batches}
+use Rattle.batch_commits.specs.Standing.{FailuresAreCounted}
 use Rattle.event_worlds.specs.bolt_ops.RowOp.{Custom, IsCustom}
-use Rattle.event_worlds.specs.commit_order.Orders.{desk_of}
 use Rattle.event_worlds.specs.commit_turns.Outcomes.{IsOutcome}
 use Rattle.event_engine.proofs.GoesLemmas.{draws-then, gives-parts, outcomes-append}
 use Rattle.event_engine.proofs.WorldLemmas.{told_gives, words_begin}
@@ -16,8 +16,8 @@ use Rattle.event_worlds.specs.Accounted.{Accounted, IsInput, LedAt, LedTo, stati
 use Rattle.event_worlds.specs.Beside.{LedBeside, waits}
 use Rattle.event_worlds.specs.Worlds.{Known, Step, World, first_counts, first_known, first_world, outcomes_of, run}
 use Rattle.event_worlds.specs.output_collector.Draws.{Draws}
-use Rattle.schedule_core.proofs.Drives.{drives-none, wants-still}
-use Rattle.schedule_core.specs.Driving.{Breaks, BreaksOff, Drives, HasCome, LeadsOn, RunsOut, WantsMemory}
+use Rattle.schedule_core.proofs.Drives.{drives-none, stands-same, stands-then, wants-still}
+use Rattle.schedule_core.specs.Driving.{Breaks, BreaksOff, Drives, HasCome, LeadsOn, RunsOut, StandOn, WantsMemory}
 use Rattle.schedule_core.specs.Laws.{Laws, WorldLaws}
 use Rattle.event_worlds.specs.state_parts.declared.answer.CommitOutcome.{CommitOutcome}
 use Rattle.event_worlds.specs.state_parts.declared.parts.StatePart.{StatePart}
@@ -25,7 +25,7 @@ use Rattle.event_worlds.specs.state_parts.PartPlans.{AreParts}
 use Rattle.event_worlds.specs.storm_ids.declared.ids.Ids.{Ghosts}
 use Rattle.storm_stores.specs.CellMaps.{CellMap}
 use Rattle.event_worlds.specs.topology_plan.Topology.{Topology}
-use Rattle.event_worlds.specs.trident_batches.Batches.{Cut}
+use Rattle.event_worlds.specs.taken_records.Cuts.{Cut}
 use Rattle.event_worlds.specs.tuple_account.Histories.{History, Packet}
 use Rattle.event_worlds.specs.tuple_account.Moves.{Station, beside}
 
@@ -107,7 +107,7 @@ module _ {I S : Type 0} {g : Ghosts I} (tells : I → (ℕ → ℕ) → ℕ → 
       led = led;
       plans = refl;
       outcomes = λ are good. subst (λ (fs : List Attempt). All (IsOutcome t) (outcomes_of fs)) (sym still.fates) good;
-      stands = λ words counts outcomes gives has input keeps good accounted stand. subst (λ (n : ℕ). PartsStand holds t custom cut n parts) (ap (λ c. (desk_of c).committed) (sym still.coordinator)) stand;
+      stands = λ words counts outcomes gives has input keeps good accounted planned. stands-same holds t custom cut old.fates new.fates parts (ap committed_batches still.fates);
       bad = λ key found. found;
       strange = λ key found. found;
       counted = laws.counts_none parts;
@@ -134,11 +134,11 @@ module _ {I S : Type 0} {g : Ghosts I} (tells : I → (ℕ → ℕ) → ℕ → 
           subst (λ (counted : ℕ → ℕ). Accounted t custom cut words (record { world = shape c; counts = counted })) (λ i s. sum s i) end;
       plans = second.plans ∙ first.plans;
       outcomes = λ are good. second.outcomes (first.plans ∙ are) (first.outcomes are good);
-      stands = λ words counts outcomes gives has input keeps good accounted stand.
+      stands = λ words counts outcomes gives has input keeps good accounted planned.
           let parts = gives-parts words counts first.given second.given gives in
           let has_one = has_first outcomes b.fates second.more c.fates second.added has in
-          second.stands words (λ s. counts s + length (first.given s)) outcomes parts.1 has input keeps good (first.led words counts outcomes parts.0 has_one input keeps good accounted)
-          (first.stands words counts outcomes parts.0 has_one input keeps good accounted stand);
+          stands-then holds t custom cut a.fates b.fates c.fates p q r (first.stands words counts outcomes parts.0 has_one input keeps good accounted planned)
+          (second.stands words (λ s. counts s + length (first.given s)) outcomes parts.1 has input keeps good (first.led words counts outcomes parts.0 has_one input keeps good accounted) (first.plans ∙ planned));
       bad = λ key found. first.bad key (second.bad key found);
       strange = λ key found. first.strange key (second.strange key found);
       counted = laws.counts_then first.more second.more p q r first.plans first.counted second.counted;
@@ -168,33 +168,32 @@ module _ {I S : Type 0} {g : Ghosts I} (tells : I → (ℕ → ℕ) → ℕ → 
 
   -- ---- from the start
 
-  module _ (laws : WorldLaws holds count t custom cut) (input : IsInput t cut) (keeps : IsCustom custom) (some : 0 < cut.size) (told : (ℕ → ℕ → ℕ) → Type 0) (e0 e : Engine I g) (was is : List (StatePart S)) (started : IsStarted told tells t e0) (planned : AreParts t was)
+  module _ (laws : WorldLaws holds count t custom cut) (input : IsInput t cut) (keeps : IsCustom custom) (told : (ℕ → ℕ → ℕ) → Type 0) (e0 e : Engine I g) (was is : List (StatePart S)) (started : IsStarted told tells t cut e0) (planned : AreParts t was)
       (on : LeadsOn tells holds count t custom cut e0 e was is) where
     -- by words that begin with what was given
     come : (words : ℕ → ℕ → ℕ) → Gives words (λ s. 0) started.given → Gives words (first_counts t words) on.given → HasCome holds count t custom cut words e was is
     come words begins gives =
         let outcomes = outcomes_of e.fates in
         let has : HasOutcomes outcomes e.fates = record { rest = []; first = sym (append-nil outcomes) } in
-        let start_is : shape e0 ≡ first_world t words = started.first words begins in
+        let start_is : shape e0 ≡ first_world t cut words = started.first words begins in
         let none : e0.fates ≡ [] = ap (λ (w : World). w.fates) start_is in
         let good : All (IsOutcome t) outcomes = on.outcomes planned (subst (λ (fs : List Attempt). All (IsOutcome t) (outcomes_of fs)) (sym none) (All-nil (IsOutcome t))) in
-        let first : Accounted t custom cut words (first_known t words) = laws.first words input in
+        let first : Accounted t custom cut words (first_known t cut words) = laws.first words input in
         let led : Accounted t custom cut words (record { world = shape e0; counts = first_counts t words }) = subst (λ (w : World). Accounted t custom cut words (record { world = w; counts = first_counts t words })) (sym start_is) first in
         record {
           counts = λ s. first_counts t words s + length (on.given s);
           led = on.led words (first_counts t words) outcomes gives has input keeps good led;
+          planned = planned;
           plans = on.plans;
-          stands = λ empty.
-              on.stands words (first_counts t words) outcomes gives has input keeps good led
-              (subst (λ (n : ℕ). PartsStand holds t custom cut n was) (sym (ap (λ (w : World). w.desk.committed) start_is)) (laws.begin was some empty));
+          stands = subst (λ (fs : List Attempt). StandOn holds t custom cut fs e.fates was is) none (on.stands words (first_counts t words) outcomes gives has input keeps good led planned);
           strange = on.strange;
           counted = subst (λ (xs : List Attempt). FailuresAreCounted count xs was is) (sym (on.added ∙ ap (λ (fs : List Attempt). fs ++ on.more) none)) on.counted;
         }
 
     -- by some words
     pub some_come : (words : ℕ → ℕ → ℕ) × HasCome holds count t custom cut words e was is
-    some_come = let all = words_begin told tells t e0 started on.given in (all.0, come all.0 all.1 all.2)
+    some_come = let all = words_begin told tells t cut e0 started on.given in (all.0, come all.0 all.1 all.2)
 
     -- and by those that are told
     pub told_come : (words : ℕ → ℕ → ℕ) → told words → HasCome holds count t custom cut words e was is
-    told_come words are = come words (started.gives words are) (told_gives told tells t e0 started on.given e on.draws on.none words are)
+    told_come words are = come words (started.gives words are) (told_gives told tells t cut e0 started on.given e on.draws on.none words are)

@@ -1,5 +1,5 @@
 -- Parts stay what they were, and stores that told their cells still tell some.
-use Rattle.std.proofs.Common.{◌≡◌, ℕ, List, [], ◌∷◌, refl, sym, subst, ◌∙◌}
+use Rattle.std.proofs.Common.{◌≡◌, List, [], ◌∷◌, refl, sym, subst, ◌∙◌}
 use Rattle.std.specs.List.{AllZip}
 use Rattle.schedule_core.specs.Driving.{AreKept, StillTells}
 use Rattle.event_worlds.specs.bolt_ops.RowOp.{Custom}

@@ -20,7 +20,7 @@ use Rattle.event_worlds.specs.state_parts.PartPlans.{AreParts}
 use Rattle.event_worlds.specs.storm_ids.declared.ids.Ids.{Ghosts}
 use Rattle.storm_stores.specs.CellMaps.{CellMap}
 use Rattle.event_worlds.specs.topology_plan.Topology.{Topology}
-use Rattle.event_worlds.specs.trident_batches.Batches.{Cut}
+use Rattle.event_worlds.specs.taken_records.Cuts.{Cut}
 
 -- ---- steps
 
@@ -72,8 +72,8 @@ module _ {I : Type 0} {g : Ghosts I} (old mid : Engine I g) (same : IsOfSameRun 
   over_there over =
       subst (λ (u : Topology). is_over u (cut_in old) (shape mid) ≡ true) same.topology (subst (λ (k : Cut). is_over (topology_in mid) k (shape mid) ≡ true) same.cut over)
 
-  pub once_there : (new : Engine I g) → IsOnce (length (cut_in mid).records) (cut_in mid).size last_tick new.fates → IsOnce (length (cut_in old).records) (cut_in old).size last_tick new.fates
-  once_there new own = subst (λ (k : Cut). IsOnce (length k.records) k.size last_tick new.fates) same.cut own
+  pub once_there : (new : Engine I g) → IsOnce (cut_in mid) last_tick new.fates → IsOnce (cut_in old) last_tick new.fates
+  once_there new own = subst (λ (k : Cut). IsOnce k last_tick new.fates) same.cut own
 
   pub same_then : (new : Engine I g) → IsOfSameRun mid new → IsOfSameRun old new
   same_then new next = record { topology = next.topology ∙ same.topology; cut = next.cut ∙ same.cut }

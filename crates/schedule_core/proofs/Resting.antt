@@ -21,7 +21,7 @@ use Rattle.event_worlds.specs.state_parts.declared.parts.StatePart.{StatePart}
 use Rattle.event_worlds.specs.storm_ids.declared.ids.Ids.{Ghosts}
 use Rattle.storm_stores.specs.CellMaps.{CellMap}
 use Rattle.event_worlds.specs.topology_plan.Topology.{Topology, tasks_in_all}
-use Rattle.event_worlds.specs.trident_batches.Batches.{Cut}
+use Rattle.event_worlds.specs.taken_records.Cuts.{Cut}
 
 -- the fault that a `?` hands on is that of the call
 pub handed_on : {T U E : Type 0} (r : Result T E) (s : Result U E) (error e : E) → IsErrAnd r (λ x. x ≡ error) → s ≡ Err error → r ≡ Err e → s ≡ Err e

@@ -1,15 +1,17 @@
 -- Rounds with the ticks that a source answers.
-use Rattle.std.proofs.Common.{◌≡◌, ◌≤◌, ◌<◌, ℕ, zero, suc, ◌+◌, ◌-◌, ◌^◌, Bool, true, false, cond, List, [], ◌∷◌, ◌++◌, length, map, drop, get_or, fold, refl, sym, ap, subst, ◌∙◌, append_assoc, append-nil, arith}
+use Rattle.std.proofs.Common.{◌≡◌, ◌≤◌, ◌<◌, ℕ, zero, suc, ◌+◌, ◌-◌, ◌^◌, Bool, true, false, cond, List, [], ◌∷◌, ◌++◌, All, length, map, drop, get_or, fold, refl, sym, ap, subst, ◌∙◌, append_assoc, append-nil, arith}
 use Rattle.std.specs.Prelude.{nat_le, replicate}
-use Rattle.std.specs.List.{range_with_len}
+use Rattle.std.specs.List.{AllByRecursion, range_with_len}
 use Rattle.std.proofs.lemmas.Bool.{leb-false}
 use Rattle.std.proofs.lemmas.List.{length-append}
+use Rattle.std.proofs.lemmas.List.Elements.{All-append, All-from_recursion}
 use Rattle.std.proofs.lemmas.List.FromFn.{fill_by_all, map-range_with_len_more}
 use Rattle.std.proofs.lemmas.List.Sums.{fold-append}
 use Rattle.event_worlds.specs.bolt_ops.RowOp.{Custom}
 use Rattle.event_worlds.specs.commit_turns.Turns.{last_tick}
 use Rattle.event_engine.specs.declared.engine.Engine.{Engine}
 use Rattle.event_engine.specs.Engines.{Gives, Goes, HasOutcomes, shape}
+use Rattle.event_worlds.proofs.counted_items.Each.{each-append}
 use Rattle.event_worlds.specs.Rounds.{round_with, ticks_in}
 use Rattle.event_worlds.specs.Worlds.{Known, Step, World, coordinator_steps, of_acker, of_task, of_tick, outcomes_of, run}
 use Rattle.schedule_core.proofs.Ending.{Allows}
@@ -19,7 +21,8 @@ use Rattle.schedule_core.specs.Runs.{HasRoundsOf, first_answers, ticks_between}
 use Rattle.event_worlds.specs.storm_ids.declared.ids.Ids.{Ghosts}
 use Rattle.storm_ticks.specs.Ticking.{first_answer, handed_on}
 use Rattle.event_worlds.specs.topology_plan.Topology.{Topology, tasks_in_all}
-use Rattle.event_worlds.specs.trident_batches.Batches.{Cut}
+use Rattle.event_worlds.specs.taken_records.Cuts.{Cut}
+use Rattle.world_progress.specs.Rounding.{ShutsNone}
 
 -- ---- what a source was asked
 
@@ -95,6 +98,35 @@ ticks-of-round t n =
     let e = no-tasks (range_with_len 0 (tasks_in_all t)) in
     let f = no-ackers (range_with_len 0 t.ackers) in
     let h = all-ticks n in omega arith
+
+-- a round shuts no partition
+pub open-round : (t : Topology) (n : ℕ) → AllByRecursion ShutsNone (round_with t n)
+open-round t n =
+    let tasks : List Step = map of_task (range_with_len 0 (tasks_in_all t)) in
+    let ackers : List Step = map of_acker (range_with_len 0 t.ackers) in
+    let ticks : List Step = replicate n of_tick in
+    each-append ShutsNone (tasks ++ ackers ++ ticks) coordinator_steps
+    (each-append ShutsNone (tasks ++ ackers) ticks
+    (each-append ShutsNone tasks ackers (open-tasks (range_with_len 0 (tasks_in_all t))) (open-ackers (range_with_len 0 t.ackers))) (open-ticks n))
+    (tt, (tt, tt))
+  where
+    open-tasks : (xs : List ℕ) → AllByRecursion ShutsNone (map of_task xs)
+    open-tasks [] = tt
+    open-tasks (x ∷ xs) = (tt, open-tasks xs)
+
+    open-ackers : (xs : List ℕ) → AllByRecursion ShutsNone (map of_acker xs)
+    open-ackers [] = tt
+    open-ackers (x ∷ xs) = (tt, open-ackers xs)
+
+    open-ticks : (k : ℕ) → AllByRecursion ShutsNone (replicate k of_tick)
+    open-ticks zero = tt
+    open-ticks (suc k) = (tt, open-ticks k)
+
+-- one more round, behind steps that shut none
+pub open-round-more : (t : Topology) (steps quiet : List Step) (n : ℕ) → All ShutsNone steps → AllByRecursion ShutsNone quiet → All ShutsNone (steps ++ (quiet ++ round_with t n))
+open-round-more t steps quiet n before quietly =
+    All-append ShutsNone steps (quiet ++ round_with t n) before
+    (All-from_recursion ShutsNone (quiet ++ round_with t n) (each-append ShutsNone quiet (round_with t n) quietly (open-round t n)))
 
 pub total : List ℕ → ℕ
 total [] = 0

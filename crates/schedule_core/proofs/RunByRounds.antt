@@ -1,7 +1,9 @@
 -- A run by rounds, from its start to its end.
-use Rattle.std.proofs.Common.{◌≡◌, ℕ, Bool, true, false, cond, List, [], ◌∷◌, ◌++◌, length, drop, Option, None, Some, is_some, Result, Ok, Err, refl, sym, ap, subst, ◌∙◌, append-nil, true≢false}
+use Rattle.std.proofs.Common.{◌≡◌, ℕ, Bool, true, false, cond, List, [], ◌∷◌, ◌++◌, All, drop, Option, None, Some, is_some, Result, Ok, Err, refl, sym, ap, subst, ◌∙◌, append-nil, true≢false}
 use Rattle.std.specs.Prelude.{OnErr, OnOk}
+use Rattle.std.specs.List.{AllByRecursion}
 use Rattle.std.specs.Result.{IsErrAnd}
+use Rattle.std.proofs.lemmas.List.Elements.{All-nil}
 use Rattle.event_worlds.specs.attempt_fates.Fates.{IsOnce}
 use Rattle.event_worlds.specs.attempt_fates.declared.fates.Attempt.{Attempt}
 use Rattle.event_worlds.specs.bolt_ops.RowOp.{Custom, IsCustom}
@@ -15,10 +17,10 @@ use Rattle.event_worlds.specs.Accounted.{IsInput}
 use Rattle.event_worlds.specs.Rounds.{round_with, ticks_in}
 use Rattle.event_worlds.specs.Worlds.{Step}
 use Rattle.schedule_core.proofs.Drives.{wants-still}
-use Rattle.schedule_core.proofs.Ending.{Ends, ends, not_begun, ran-from, some_size}
+use Rattle.schedule_core.proofs.Ending.{Ends, ends, not_begun, ran-from}
 use Rattle.schedule_core.proofs.Looping.{Driven, driven-breaks, driven-none, driven-then, driven-wants}
 use Rattle.schedule_core.proofs.Resting.{breaks_on, drives_on, quiet_parts, same_run_then, wants_on}
-use Rattle.schedule_core.proofs.Rounding.{allows-between, asked-more, asked-none, one-round-more}
+use Rattle.schedule_core.proofs.Rounding.{allows-between, asked-more, asked-none, one-round-more, open-round-more}
 use Rattle.schedule_core.specs.declared.ended.Ended.{Ended}
 use Rattle.schedule_core.specs.declared.ended.Ended.TheVariants as ending
 use Rattle.schedule_core.specs.Driving.{AreKept, Breaks, Drives, IsAtRest, IsOfSameRun, WantsMemory}
@@ -34,21 +36,23 @@ use Rattle.event_worlds.specs.storm_ids.declared.ids.Ids.{Ghosts}
 use Rattle.storm_stores.specs.CellMaps.{CellMap}
 use Rattle.storm_ticks.specs.Ticking.{first_answer, handed_on}
 use Rattle.event_worlds.specs.topology_plan.Topology.{Topology}
-use Rattle.event_worlds.specs.trident_batches.Batches.{Cut}
+use Rattle.event_worlds.specs.taken_records.Cuts.{Cut}
+use Rattle.world_progress.specs.Rounding.{ShutsNone}
 
 -- ---- the answer
 
 -- the whole came to this, of what a source was asked and what the run ended with
 pub rounds-come : {S T : Type 0} (handed : T → ℕ) (ticking : T → List ℕ → Type 0) (told : (ℕ → ℕ → ℕ) → Type 0) (holds : S → CellMap → Type 0) (count : S → ℕ) (t : Topology) (custom : Custom) (cut : Cut) (answers : List ℕ) (steps : List Step) (before after : T)
-    (answer : Result (Unit {0}) Stop) (end : Result Ended Stop) (fates : List Attempt) (was is : List (StatePart S)) → Asked handed ticking answers before after → HasRoundsOf t answers steps → end ≡ ended answer
+    (answer : Result (Unit {0}) Stop) (end : Result Ended Stop) (fates : List Attempt) (was is : List (StatePart S)) → Asked handed ticking answers before after → HasRoundsOf t answers steps → All ShutsNone steps → end ≡ ended answer
     → Ends told holds count t custom cut steps (ticks_between (handed before) (handed after)) end fates was is → RoundsCome told (ticking before) holds count t custom cut (handed before) (handed after) answer fates was is
-rounds-come handed ticking told holds count t custom cut answers steps before after answer end fates was is asked rounds same ends =
+rounds-come handed ticking told holds count t custom cut answers steps before after answer end fates was is asked rounds opened same ends =
     let ends_so = subst (λ (r : Result Ended Stop). Ends told holds count t custom cut steps (ticks_between (handed before) (handed after)) r fates was is) same ends in record {
       answers = answers;
       handed_out = asked.handed_out;
       asked = asked.first;
       steps = steps;
       rounds = rounds;
+      shut_none = opened;
       comes = ends_so.comes;
       of_told = ends_so.told;
       drawn = ends_so.drawn;
@@ -58,8 +62,8 @@ rounds-come handed ticking told holds count t custom cut answers steps before af
 pub rounds-not-begun : {S T : Type 0} (handed : T → ℕ) (ticking : T → List ℕ → Type 0) (told : (ℕ → ℕ → ℕ) → Type 0) (holds : S → CellMap → Type 0) (count : S → ℕ) (t : Topology) (custom : Custom) (cut : Cut) (laws : WorldLaws holds count t custom cut) (source : T) (fates : List Attempt) (parts : List (StatePart S))
     → IsInput t cut → fates ≡ [] → RoundsCome told (ticking source) holds count t custom cut (handed source) (handed source) (Err stop.Memory) fates parts parts
 rounds-not-begun handed ticking told holds count t custom cut laws source fates parts input none =
-    rounds-come handed ticking told holds count t custom cut [] [] source source (Err stop.Memory) (Err stop.Memory) fates parts parts (asked-none handed ticking source) refl refl (record {
-      comes = not_begun holds count t custom cut laws [] (ticks_between (handed source) (handed source)) fates parts (some_size t cut input) none;
+    rounds-come handed ticking told holds count t custom cut [] [] source source (Err stop.Memory) (Err stop.Memory) fates parts parts (asked-none handed ticking source) refl (All-nil ShutsNone) refl (record {
+      comes = not_begun holds count t custom cut laws [] (ticks_between (handed source) (handed source)) fates parts input none;
       told = λ words are ok. absurd ok;
       drawn = λ words are ok. absurd ok;
     })
@@ -101,6 +105,7 @@ module _ {I S T : Type 0} {g : Ghosts I} (tells : I → (ℕ → ℕ) → ℕ �
     pub asked : Asked handed ticking answers before now
     pub steps : List Step
     pub rounds : HasRoundsOf (topology_in old) answers steps
+    pub shut_none : All ShutsNone steps
     pub driven : Driven tells holds count custom steps old mid p q
 
   module _ (old : Engine I g) (p : List (StatePart S)) (before : T) (laws : (t : Topology) (cut : Cut) → Laws count t custom cut) where
@@ -110,6 +115,7 @@ module _ {I S T : Type 0} {g : Ghosts I} (tells : I → (ℕ → ℕ) → ℕ �
       asked = asked-none handed ticking before;
       steps = [];
       rounds = refl;
+      shut_none = All-nil ShutsNone;
       driven = driven-none tells holds count custom old p (laws (topology_in old) (cut_in old)) rest are;
     }
 
@@ -121,6 +127,7 @@ module _ {I S T : Type 0} {g : Ghosts I} (tells : I → (ℕ → ℕ) → ℕ �
         asked = turning.asked;
         steps = turning.steps;
         rounds = turning.rounds;
+        shut_none = turning.shut_none;
         drives = short_ok _ done error exits;
         bad = λ key bad. absurd (no_key done error key exits is bad);
         short = λ met.
@@ -129,7 +136,7 @@ module _ {I S T : Type 0} {g : Ghosts I} (tells : I → (ℕ → ℕ) → ℕ �
       }
 
       -- behind steps without ticks a round was opened, and the source was asked
-      module _ (b : Engine I g) (n : ℕ) (later : T) (quiet : List Step) (none : ticks_in quiet ≡ 0) (same : IsOfSameRun mid b) (goes : Goes tells (topology_in mid) custom (cut_in mid) (quiet ++ opening_steps (topology_in mid)) mid b) (still : IsStill mid b)
+      module _ (b : Engine I g) (n : ℕ) (later : T) (quiet : List Step) (none : ticks_in quiet ≡ 0) (opened : AllByRecursion ShutsNone quiet) (same : IsOfSameRun mid b) (goes : Goes tells (topology_in mid) custom (cut_in mid) (quiet ++ opening_steps (topology_in mid)) mid b) (still : IsStill mid b)
           (counted : handed later ≡ handed_on (handed now) n) (first : (xs : List ℕ) → ticking now xs → n ≡ first_answer xs) (rest : (xs : List ℕ) → ticking now xs → ticking later (drop 1 xs)) where
         module _ (c : Engine I g) (r : List (StatePart S)) where
           -- it was closed
@@ -139,6 +146,7 @@ module _ {I S T : Type 0} {g : Ghosts I} (tells : I → (ℕ → ℕ) → ℕ �
             asked = asked-more handed ticking turning.answers n before now later turning.asked counted first rest;
             steps = turning.steps ++ (quiet ++ round_with (topology_in old) n);
             rounds = one-round-more (topology_in old) turning.answers turning.steps quiet n none turning.rounds;
+            shut_none = open-round-more (topology_in old) turning.steps quiet n turning.shut_none opened;
             driven =
                 driven-then tells holds count custom old p (laws (topology_in old) (cut_in old)) turning.steps mid q turning.driven (turning.steps ++ (quiet ++ round_with (topology_in old) n)) (λ (u : Topology). quiet ++ round_with u n) c r
                 refl at_rest (same_run_then mid b c same next)
@@ -156,6 +164,7 @@ module _ {I S T : Type 0} {g : Ghosts I} (tells : I → (ℕ → ℕ) → ℕ �
             asked = asked-more handed ticking turning.answers n before now later turning.asked counted first rest;
             steps = turning.steps ++ (quiet ++ round_with (topology_in old) n);
             rounds = one-round-more (topology_in old) turning.answers turning.steps quiet n none turning.rounds;
+            shut_none = open-round-more (topology_in old) turning.steps quiet n turning.shut_none opened;
             drives = short_ok _ done error exits;
             bad = λ key is.
                 driven-breaks tells holds count custom old p (laws (topology_in old) (cut_in old)) turning.steps mid q turning.driven (turning.steps ++ (quiet ++ round_with (topology_in old) n)) [] (λ (u : Topology). quiet ++ round_with u n) key c r
@@ -173,15 +182,14 @@ module _ {I S T : Type 0} {g : Ghosts I} (told : (ℕ → ℕ → ℕ) → Type 
     (laws : WorldLaws holds count t custom cut) (input : IsInput t cut) (keeps : IsCustom custom) where
   -- what a run by rounds comes to whose steps came to this
   pub rounds-end : (done : Result (Unit {0}) CommitFault) (e0 e : Engine I g) (was is : List (StatePart S)) (before after : T) (answer : Result (Unit {0}) Stop) (end : Result Ended Stop) (fates : List Attempt)
-      → IsReady t cut e0 → IsStarted told tells t e0 → AreParts t was → OnOk done (IsOfSameRun e0 e)
+      → IsReady t cut e0 → IsStarted told tells t cut e0 → AreParts t was → OnOk done (IsOfSameRun e0 e)
       → Rounded tells holds count handed ticking (topology_in e0) custom (cut_in e0) done e0 e was is before after
-      → OnErr done (IsOnce (length (cut_in e0).records) (cut_in e0).size last_tick e.fates) → AreKept holds was is
+      → OnErr done (IsOnce (cut_in e0) last_tick e.fates) → AreKept holds was is
       → end ≡ end_by done (answer_of (topology_in e) (cut_in e) (shape e)) → fates ≡ e.fates → end ≡ ended answer
       → RoundsCome told (ticking before) holds count t custom cut (handed before) (handed after) answer fates was is
   rounds-end done e0 e was is before after answer end fates ready started planned same rounded once kept end_is fates_are answer_is =
-      let some = some_size t cut input in
       let ticks : ℕ = ticks_between (handed before) (handed after) in
       let rounds : HasRoundsOf t rounded.answers rounded.steps = subst (λ (u : Topology). HasRoundsOf u rounded.answers rounded.steps) ready.seated.of_topology rounded.rounds in
-      let ran = ran-from told tells holds count t custom cut laws input keeps some (λ (u : Topology). rounded.steps) ticks done e0 e was is ready started planned (allows-between t rounded.answers rounded.steps (handed before) (handed after) rounds rounded.asked.handed_out) same rounded.drives rounded.bad rounded.short once kept in
-      let ends_so = ends told tells holds count t custom cut laws input keeps some rounded.steps ticks done e0 e was is end fates ran end_is fates_are in
-      rounds-come handed ticking told holds count t custom cut rounded.answers rounded.steps before after answer end fates was is rounded.asked rounds answer_is ends_so
+      let ran = ran-from told tells holds count t custom cut laws input keeps (λ (u : Topology). rounded.steps) ticks done e0 e was is ready started planned (allows-between t rounded.answers rounded.steps (handed before) (handed after) rounds rounded.asked.handed_out) same rounded.drives rounded.bad rounded.short once kept in
+      let ends_so = ends told tells holds count t custom cut laws input keeps rounded.steps ticks done e0 e was is end fates ran end_is fates_are in
+      rounds-come handed ticking told holds count t custom cut rounded.answers rounded.steps before after answer end fates was is rounded.asked rounds rounded.shut_none answer_is ends_so

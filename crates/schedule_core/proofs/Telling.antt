@@ -1,8 +1,8 @@
 -- What a run tells of its answer, its fates and its parts, from what it has come to. It names no
 -- step.
-use Rattle.std.proofs.Common.{◌≡◌, ◌≤◌, ◌<◌, ℕ, Bool, true, false, List, [], All, length, Option, None, Some, Result, Ok, Err, refl, sym, ap, subst, ◌∙◌, arith}
+use Rattle.std.proofs.Common.{◌≡◌, ◌≤◌, ℕ, Bool, true, false, List, [], ◌++◌, All, Option, None, Some, Result, Ok, Err, refl, sym, ap, subst, ◌∙◌, append-nil, arith}
 use Rattle.std.specs.Prelude.{OnErr, OnOk}
-use Rattle.event_worlds.specs.attempt_fates.Fates.{IsOnce}
+use Rattle.event_worlds.specs.attempt_fates.Fates.{DropsFollow, IsOnce, committed_batches}
 use Rattle.event_worlds.specs.attempt_fates.declared.fates.Attempt.{Attempt}
 use Rattle.batch_commits.specs.Standing.{AllButLastAreCounted, HasStrangeAt, PartsStand}
 use Rattle.event_worlds.specs.bolt_ops.RowOp.{Custom, IsCustom}
@@ -15,16 +15,19 @@ use Rattle.event_engine.specs.declared.engine.Engine.{Engine}
 use Rattle.event_engine.specs.Engines.{IsReady, cut_in, shape, topology_in}
 use Rattle.event_engine.specs.Starts.{IsStarted}
 use Rattle.event_worlds.specs.Accounted.{AreCaused, IsInput, station_of}
+use Rattle.event_worlds.specs.record_spans.declared.span.Span.{Span}
+use Rattle.event_worlds.specs.taken_records.Taken.{one_if}
 use Rattle.event_worlds.specs.Worlds.{Known}
-use Rattle.schedule_core.proofs.FatesOfRuns.{AnswersFor, answers-from, once-later, once-none}
+use Rattle.schedule_core.proofs.FatesOfRuns.{AnswersFor, answers-from, once-later}
+use Rattle.schedule_core.proofs.Drives.{stands-same, stands-then}
 use Rattle.schedule_core.proofs.Going.{some_come, told_come}
 use Rattle.schedule_core.proofs.Keeping.{kept-none}
 use Rattle.schedule_core.proofs.TicksOfRuns.{caused-later}
 use Rattle.schedule_core.specs.declared.ended.Ended.{Ended}
-use Rattle.schedule_core.specs.Driving.{AreKept, BreaksOff, HasCome, IsOfSameRun, LeadsOn, Leaves, RunsOut, committed_by}
+use Rattle.schedule_core.specs.Driving.{AreBefore, AreKept, BreaksOff, HasCome, IsOfSameRun, LeadsOn, Leaves, MayHavePartitions, RunsOut, StandOn}
 use Rattle.schedule_core.specs.Laws.{WorldLaws}
 use Rattle.schedule_core.specs.Rounding.{end_by}
-use Rattle.schedule_core.specs.Runs.{Answers, RunTells, committed_count}
+use Rattle.schedule_core.specs.Runs.{Answers, IsFirst, RunTells}
 use Rattle.schedule_core.specs.Schedules.{HadMemory, answer_by, answer_of}
 use Rattle.event_worlds.specs.state_parts.declared.answer.CommitFault.{CommitFault}
 use Rattle.event_worlds.specs.state_parts.declared.answer.CommitFault.TheVariants as fault
@@ -35,11 +38,11 @@ use Rattle.event_worlds.specs.state_parts.Standing.{IsEmpty}
 use Rattle.event_worlds.specs.storm_ids.declared.ids.Ids.{Ghosts}
 use Rattle.storm_stores.specs.CellMaps.{CellMap}
 use Rattle.event_worlds.specs.topology_plan.Topology.{Topology}
-use Rattle.event_worlds.specs.trident_batches.Batches.{Cut}
+use Rattle.event_worlds.specs.taken_records.Cuts.{Cut}
 
 -- what is answered of what the coordinator knows
 answers_by : (t : Topology) (cut : Cut) (d : Desk) (ticks : ℕ) (fates : List Attempt) → AnswersFor t cut d ticks fates → (o : Option ℕ) (b : Bool) → d.exhausted ≡ o → is_finished t cut d ≡ b → Answers t cut ticks fates (answer_by o b d.committed)
-answers_by t cut d ticks fates from (Some txid) b out is = let r = from.ran_out txid out in record { all_ended = r.0; none_committed = r.1 }
+answers_by t cut d ticks fates from (Some txid) b out is = let r = from.ran_out txid out in record { all_aborted = r.0; none_committed = r.1 }
 answers_by t cut d ticks fates from None true out is = from.whole is
 answers_by t cut d ticks fates from None false out is = from.unfinished is
 
@@ -55,21 +58,37 @@ is_no_cell answer key short bad = cc
 same_cell : (answer : Result Ended Stop) (key k : List ℕ) → answer ≡ Err (stop.BadCell key) → answer ≡ Err (stop.BadCell k) → key ≡ k
 same_cell answer key k one two = cc
 
+-- ---- where parts stand
+
+module _ {S : Type 0} (holds : S → CellMap → Type 0) (count : S → ℕ) (t : Topology) (custom : Custom) (cut : Cut) (laws : WorldLaws holds count t custom cut) (fates : List Attempt) (was is : List (StatePart S)) where
+  -- parts that stood at the batches before the start stand at them and then those that were committed
+  abbrev pub StandBehind : Type 0
+  StandBehind = (before : List (List Span)) → AreBefore cut before → MayHavePartitions t cut → PartsStand holds t custom cut before was → PartsStand holds t custom cut (before ++ committed_batches fates) is
+
+  stands_behind : StandOn holds t custom cut [] fates was is → StandBehind
+  stands_behind on = λ before are opaque stand. on before are opaque (subst (λ (bs : List (List Span)). PartsStand holds t custom cut bs was) (sym (append-nil before)) stand)
+
+  -- and where the start is at the first transaction no batch is before it
+  stands_first : StandBehind → IsFirst cut → MayHavePartitions t cut → All (IsEmpty holds) was → PartsStand holds t custom cut (committed_batches fates) is
+  stands_first behind first opaque empty = behind [] (record { many = sym first.start; gone = λ n least most. ap one_if (sym (first.none_gone n least most)) }) opaque (laws.begin was empty)
+
 -- ---- want of memory
 
 -- memory was wanted
-short_tells : {S : Type 0} (holds : S → CellMap → Type 0) (count : S → ℕ) (t : Topology) (custom : Custom) (cut : Cut) (ticks : ℕ) (fates : List Attempt) (was is : List (StatePart S))
-    → IsOnce (length cut.records) cut.size last_tick fates → AreKept holds was is → ((key : List ℕ) → HasStrangeAt holds is key → HasStrangeAt holds was key)
-    → (All (IsEmpty holds) was → PartsStand holds t custom cut (committed_count fates) is) → AllButLastAreCounted count fates was is → RunTells holds count t custom cut ticks (Err stop.Memory) fates was is
-short_tells holds count t custom cut ticks fates was is once kept strange stands counted = record {
+short_tells : {S : Type 0} (holds : S → CellMap → Type 0) (count : S → ℕ) (t : Topology) (custom : Custom) (cut : Cut) (laws : WorldLaws holds count t custom cut) (ticks : ℕ) (fates : List Attempt) (was is : List (StatePart S))
+    → IsOnce cut last_tick fates → AreKept holds was is → ((key : List ℕ) → HasStrangeAt holds is key → HasStrangeAt holds was key)
+    → StandOn holds t custom cut [] fates was is → AllButLastAreCounted count fates was is → RunTells holds count t custom cut ticks (Err stop.Memory) fates was is
+short_tells holds count t custom cut laws ticks fates was is once kept strange stands counted = record {
   once = once;
   in_time = λ ok. absurd ok;
   answers = tt;
   caused = λ ok. absurd ok;
   failed_in_turn = λ ok. absurd ok;
+  drops = λ ok. absurd ok;
   strange = strange;
   bad_cell = λ key is_bad. absurd (is_no_cell (Err stop.Memory) key refl is_bad);
-  stands = stands;
+  stands = stands_behind holds count t custom cut laws fates was is stands;
+  stands_first = stands_first holds count t custom cut laws fates was is (stands_behind holds count t custom cut laws fates was is stands);
   counted = λ ok. absurd ok;
   but_last = counted;
   kept = kept;
@@ -77,11 +96,12 @@ short_tells holds count t custom cut ticks fates was is once kept strange stands
 
 -- it was wanted before anything was done
 pub tells_not_begun : {S : Type 0} (holds : S → CellMap → Type 0) (count : S → ℕ) (t : Topology) (custom : Custom) (cut : Cut) (laws : WorldLaws holds count t custom cut) (ticks : ℕ) (fates : List Attempt) (parts : List (StatePart S))
-    → 0 < cut.size → fates ≡ [] → RunTells holds count t custom cut ticks (Err stop.Memory) fates parts parts
-tells_not_begun holds count t custom cut laws ticks fates parts some none =
-    short_tells holds count t custom cut ticks fates parts parts (subst (λ (fs : List Attempt). IsOnce (length cut.records) cut.size last_tick fs) (sym none) (once-none (length cut.records) cut.size last_tick)) (kept-none holds parts)
+    → IsInput t cut → fates ≡ [] → RunTells holds count t custom cut ticks (Err stop.Memory) fates parts parts
+tells_not_begun holds count t custom cut laws ticks fates parts input none =
+    let first = laws.first (λ s j. 0) input in
+    short_tells holds count t custom cut laws ticks fates parts parts (subst (λ (fs : List Attempt). IsOnce cut last_tick fs) (sym none) (once-later cut 0 last_tick [] first.1.kept.once (omega arith))) (kept-none holds parts)
     (λ key found. found)
-    (λ empty. subst (λ (fs : List Attempt). PartsStand holds t custom cut (committed_count fs) parts) (sym none) (laws.begin parts some empty))
+    (stands-same holds t custom cut [] fates parts (ap committed_batches none))
     (subst (λ (fs : List Attempt). AllButLastAreCounted count fs parts parts) (sym none) (laws.none_but_last parts))
 
 module _ {I S : Type 0} {g : Ghosts I} (holds : S → CellMap → Type 0) (count : S → ℕ) (t : Topology) (custom : Custom) (cut : Cut) (laws : WorldLaws holds count t custom cut) (input : IsInput t cut) where
@@ -103,24 +123,23 @@ module _ {I S : Type 0} {g : Ghosts I} (holds : S → CellMap → Type 0) (count
     pub come_caused : (ticks : ℕ) → (shape e).desk.tick ≤ ticks → AreCaused t custom cut ticks words e.fates
     come_caused ticks low = caused-later t custom cut (shape e).desk.tick ticks words e.fates (laws.causes words (record { world = shape e; counts = come.counts }) input come.led) low
 
-    come_commits : committed_count e.fates ≡ committed_by e
-    come_commits = come_kept.commits
-
     -- no tick was counted that these do not allow
     pub come_low : (ticks : ℕ) → ((n : ℕ) → n ≤ (shape e).tick → n ≤ last_tick → n ≤ ticks) → (shape e).desk.tick ≤ ticks
     come_low ticks allows = allows (shape e).desk.tick come_ticks come_last
 
     -- nothing stopped it
-    pub come_tells : 0 < cut.size → (ticks : ℕ) → (shape e).desk.tick ≤ ticks → AreKept holds was is → RunTells holds count t custom cut ticks (answer_of t cut (shape e)) e.fates was is
-    come_tells some ticks low kept = record {
-      once = once-later (length cut.records) cut.size (shape e).desk.tick last_tick e.fates come_kept.once come_last;
-      in_time = λ ok. once-later (length cut.records) cut.size (shape e).desk.tick ticks e.fates come_kept.once low;
-      answers = answers_by t cut (shape e).desk ticks e.fates (answers-from t cut (shape e).desk ticks e.fates come_kept some low) (shape e).desk.exhausted (is_finished t cut (shape e).desk) refl refl;
+    pub come_tells : (ticks : ℕ) → (shape e).desk.tick ≤ ticks → AreKept holds was is → RunTells holds count t custom cut ticks (answer_of t cut (shape e)) e.fates was is
+    come_tells ticks low kept = record {
+      once = once-later cut (shape e).desk.tick last_tick e.fates come_kept.once come_last;
+      in_time = λ ok. once-later cut (shape e).desk.tick ticks e.fates come_kept.once low;
+      answers = answers_by t cut (shape e).desk ticks e.fates (answers-from holds count t custom cut laws input.start (shape e).desk ticks e.fates come_kept low) (shape e).desk.exhausted (is_finished t cut (shape e).desk) refl refl;
       caused = λ ok. (words, come_caused ticks low);
       failed_in_turn = λ ok. come_kept.fails_in_turn;
+      drops = λ ok. come_kept.drops;
       strange = come.strange;
       bad_cell = λ key is_bad. absurd (no_bad_cell (shape e).desk.exhausted (is_finished t cut (shape e).desk) (shape e).desk.committed key is_bad);
-      stands = λ empty. subst (λ (n : ℕ). PartsStand holds t custom cut n is) (sym come_commits) (come.stands empty);
+      stands = stands_behind holds count t custom cut laws e.fates was is come.stands;
+      stands_first = stands_first holds count t custom cut laws e.fates was is (stands_behind holds count t custom cut laws e.fates was is come.stands);
       counted = λ ok. come.counted;
       but_last = laws.all_told e.fates was is come.counted;
       kept = kept;
@@ -129,30 +148,33 @@ module _ {I S : Type 0} {g : Ghosts I} (holds : S → CellMap → Type 0) (count
   -- ---- one that a fault stopped
 
   module _ (words : ℕ → ℕ → ℕ) (e : Engine I g) (fates : List Attempt) (was between is : List (StatePart S)) (come : HasCome holds count t custom cut words e was between) (leaves : Leaves holds count t custom cut e fates between is) where
-    left_stands : All (IsEmpty holds) was → PartsStand holds t custom cut (committed_count fates) is
-    left_stands empty =
+    left_stands : StandOn holds t custom cut [] fates was is
+    left_stands =
         let k : Known = record { world = shape e; counts = come.counts } in
-        leaves.stands words (station_of k) come.led.0 k (record { desk = refl; fates = refl }) input come.led.1 (come.stands empty)
+        stands-then holds t custom cut [] e.fates fates was between is come.stands
+        (leaves.stands words (station_of k) come.led.0 k (record { desk = refl; fates = refl }) input come.led.1 (come.plans ∙ come.planned))
 
     left_counted : AllButLastAreCounted count fates was is
     left_counted = subst (λ (fs : List Attempt). AllButLastAreCounted count fs was is) (sym leaves.added) (laws.counts_last e.fates leaves.more was between is come.plans come.counted leaves.counted)
 
     -- memory was wanted
-    pub short_come : (ticks : ℕ) → IsOnce (length cut.records) cut.size last_tick fates → AreKept holds was is → RunTells holds count t custom cut ticks (Err stop.Memory) fates was is
-    short_come ticks once kept = short_tells holds count t custom cut ticks fates was is once kept (λ key found. come.strange key (leaves.strange key found)) left_stands left_counted
+    pub short_come : (ticks : ℕ) → IsOnce cut last_tick fates → AreKept holds was is → RunTells holds count t custom cut ticks (Err stop.Memory) fates was is
+    short_come ticks once kept = short_tells holds count t custom cut laws ticks fates was is once kept (λ key found. come.strange key (leaves.strange key found)) left_stands left_counted
 
     -- a bad cell was met
     pub broken_come : fates ≡ e.fates → (ticks : ℕ) (key : List ℕ) → (shape e).desk.tick ≤ ticks → AreKept holds was is → IsBadAt holds was key → RunTells holds count t custom cut ticks (Err (stop.BadCell key)) fates was is
     broken_come same ticks key low kept bad =
         let once = (come_kept words e was between come).once in record {
-          once = subst (IsOnce (length cut.records) cut.size last_tick) (sym same) (once-later (length cut.records) cut.size (shape e).desk.tick last_tick e.fates once (come_last words e was between come));
-          in_time = λ ok. subst (IsOnce (length cut.records) cut.size ticks) (sym same) (once-later (length cut.records) cut.size (shape e).desk.tick ticks e.fates once low);
+          once = subst (IsOnce cut last_tick) (sym same) (once-later cut (shape e).desk.tick last_tick e.fates once (come_last words e was between come));
+          in_time = λ ok. subst (IsOnce cut ticks) (sym same) (once-later cut (shape e).desk.tick ticks e.fates once low);
           answers = tt;
           caused = λ ok. (words, subst (AreCaused t custom cut ticks words) (sym same) (come_caused words e was between come ticks low));
-          failed_in_turn = λ ok. subst (λ (fs : List Attempt). FailsInTurn fs) (sym same) (come_kept words e was between come).fails_in_turn;
+          failed_in_turn = λ ok. subst (FailsInTurn cut) (sym same) (come_kept words e was between come).fails_in_turn;
+          drops = λ ok. subst (DropsFollow cut) (sym same) (come_kept words e was between come).drops;
           strange = λ k found. come.strange k (leaves.strange k found);
           bad_cell = λ k is_bad. subst (IsBadAt holds was) (same_cell (Err (stop.BadCell key)) key k refl is_bad) bad;
-          stands = left_stands;
+          stands = stands_behind holds count t custom cut laws fates was is left_stands;
+          stands_first = stands_first holds count t custom cut laws fates was is (stands_behind holds count t custom cut laws fates was is left_stands);
           counted = λ ok. absurd ok;
           but_last = left_counted;
           kept = kept;
@@ -175,7 +197,7 @@ module _ {I S : Type 0} {g : Ghosts I} (told : (ℕ → ℕ → ℕ) → Type 0)
   -- An engine was started and went on, and what was carried out came to this.
   pub record WentOn (ticks : ℕ) (done : Result (Unit {0}) CommitFault) (e0 e : Engine I g) (was is : List (StatePart S)) : Type 0 where
     pub ready : IsReady t cut e0
-    pub started : IsStarted told tells t e0
+    pub started : IsStarted told tells t cut e0
     pub planned : AreParts t was
     -- the engine counted no more ticks than these
     pub allows : (done ≡ Err fault.Memory → ⊥) → (n : ℕ) → n ≤ (shape e).tick → n ≤ last_tick → n ≤ ticks
@@ -183,31 +205,31 @@ module _ {I S : Type 0} {g : Ghosts I} (told : (ℕ → ℕ → ℕ) → Type 0)
     pub leads : OnOk done (LeadsOn tells holds count t custom cut e0 e was is)
     pub bad : (key : List ℕ) → done ≡ Err (fault.BadCell key) → BreaksOff tells holds count t custom cut key e0 e was is
     pub short : done ≡ Err fault.Memory → RunsOut tells holds count t custom cut e0 e.fates was is
-    pub once : OnErr done (IsOnce (length cut.records) cut.size last_tick e.fates)
+    pub once : OnErr done (IsOnce cut last_tick e.fates)
     pub kept : AreKept holds was is
 
-  module _ (laws : WorldLaws holds count t custom cut) (input : IsInput t cut) (keeps : IsCustom custom) (some : 0 < cut.size) where
+  module _ (laws : WorldLaws holds count t custom cut) (input : IsInput t cut) (keeps : IsCustom custom) where
     tells_by : (ticks : ℕ) (done : Result (Unit {0}) CommitFault) (e0 e : Engine I g) (was is : List (StatePart S)) → WentOn ticks done e0 e was is → Tells told holds count t custom cut ticks (end_by done (answer_of (topology_in e) (cut_in e) (shape e))) e.fates was is
     tells_by ticks (Ok ok) e0 e was is went =
-        let one = some_come tells holds count t custom cut laws input keeps some told e0 e was is went.started went.planned went.leads in
+        let one = some_come tells holds count t custom cut laws input keeps told e0 e was is went.started went.planned went.leads in
         let low = come_low holds count t custom cut laws input one.0 e was is one.1 ticks (went.allows (λ no. cc)) in record {
           tells_so =
               subst (λ (r : Result Ended Stop). RunTells holds count t custom cut ticks r e.fates was is) (sym (answer_then t cut e0 e went.ready went.same_run))
-              (come_tells holds count t custom cut laws input one.0 e was is one.1 some ticks low went.kept);
+              (come_tells holds count t custom cut laws input one.0 e was is one.1 ticks low went.kept);
           drawn = λ words are had.
-              come_caused holds count t custom cut laws input words e was is (told_come tells holds count t custom cut laws input keeps some told e0 e was is went.started went.planned went.leads words are) ticks low;
+              come_caused holds count t custom cut laws input words e was is (told_come tells holds count t custom cut laws input keeps told e0 e was is went.started went.planned went.leads words are) ticks low;
         }
     tells_by ticks (Err (fault.BadCell key)) e0 e was is went =
         let breaks = went.bad key refl in
-        let one = some_come tells holds count t custom cut laws input keeps some told e0 e was breaks.between went.started went.planned breaks.leads in
+        let one = some_come tells holds count t custom cut laws input keeps told e0 e was breaks.between went.started went.planned breaks.leads in
         let low = come_low holds count t custom cut laws input one.0 e was breaks.between one.1 ticks (went.allows (λ no. cc)) in record {
           tells_so = broken_come holds count t custom cut laws input one.0 e e.fates was breaks.between is one.1 breaks.leaves refl ticks key low went.kept breaks.bad;
           drawn = λ words are had.
-              come_caused holds count t custom cut laws input words e was breaks.between (told_come tells holds count t custom cut laws input keeps some told e0 e was breaks.between went.started went.planned breaks.leads words are) ticks low;
+              come_caused holds count t custom cut laws input words e was breaks.between (told_come tells holds count t custom cut laws input keeps told e0 e was breaks.between went.started went.planned breaks.leads words are) ticks low;
         }
     tells_by ticks (Err fault.Memory) e0 e was is went =
         let short = went.short refl in
-        let one = some_come tells holds count t custom cut laws input keeps some told e0 short.mid was short.between went.started went.planned short.leads in record {
+        let one = some_come tells holds count t custom cut laws input keeps told e0 short.mid was short.between went.started went.planned short.leads in record {
           tells_so = short_come holds count t custom cut laws input one.0 short.mid e.fates was short.between is one.1 short.leaves ticks went.once went.kept;
           drawn = λ words are had. absurd had;
         }

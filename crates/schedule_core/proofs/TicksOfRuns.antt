@@ -9,13 +9,13 @@ use Rattle.event_worlds.specs.commit_turns.Turns.{decided}
 use Rattle.event_worlds.proofs.counted_items.Each.{each-weaker}
 use Rattle.event_worlds.specs.Accounted.{Accounted, AreCaused, IsCausedEnd}
 use Rattle.event_worlds.specs.Rounds.{is_tick, ticks_in}
-use Rattle.event_worlds.specs.Worlds.{Acted, Known, Step, World, acted, delivered, ended, first_known, is_over, next, next_outcome, next_words, of_acker, of_outcome, of_task, of_tick, of_turn, run, sent, step, task_at, task_needs, turn_needs, turn_past, with_progress, with_task, world_after}
+use Rattle.event_worlds.specs.Worlds.{Acted, Known, Step, World, acted, delivered, ended, is_over, next, next_outcome, next_words, of_acker, of_open, of_outcome, of_shut, of_task, of_tick, of_turn, run, sent, step, task_at, task_needs, turn_needs, turn_past, with_progress, with_task}
 use Rattle.event_worlds.specs.state_parts.declared.answer.CommitOutcome.{CommitOutcome}
 use Rattle.event_worlds.specs.topology_plan.Topology.{Topology, tasks_in_all}
 use Rattle.event_worlds.specs.tree_model.declared.messages.Parcel.{Parcel}
 use Rattle.event_worlds.specs.tree_model.declared.messages.Parcel.TheVariants.{ToAcker, ToTask}
-use Rattle.event_worlds.specs.trident_batches.Batches.{Cut}
-use Rattle.event_worlds.specs.tuple_account.Ends.{CauseBy, Ended, Ending, committed, failed, timed_out, coincided, commit_failed}
+use Rattle.event_worlds.specs.taken_records.Cuts.{Cut}
+use Rattle.event_worlds.specs.tuple_account.Ends.{CauseBy, Ended, Ending, committed, failed, timed_out, coincided, commit_failed, dropped}
 use Rattle.event_worlds.specs.storm_values.declared.value.Value.{Value}
 
 -- ---- numbers
@@ -87,6 +87,8 @@ module _ (t : Topology) (custom : Custom) (cut : Cut) (words : ℕ → ℕ → �
       let done = with_progress t cut (decided t cut how k.world.desk) k.world in
       none-more _ _ (told-tick k.world.desk.out done k.world refl)
   step-tick of_tick k = one-more k.world.tick
+  step-tick (of_shut q) k = none-more k.world.tick k.world.tick refl
+  step-tick (of_open q) k = none-more k.world.tick k.world.tick refl
 
   next-tick : (s : Step) (k : Known)
       → (next t custom cut words outcomes s k).world.tick ≤ k.world.tick + ticks_in (s ∷ [])
@@ -124,6 +126,7 @@ module _ (t : Topology) (custom : Custom) (cut : Cut) (a b : ℕ) (later : a ≤
   cause-later rows e timed_out cause = (cause.0, up-to e.finish a b cause.1 later)
   cause-later rows e (coincided list) cause = cause
   cause-later rows e (commit_failed component part before after) cause = cause
+  cause-later rows e (dropped by) cause = cause
 
 -- more ticks may have been handed out
 pub caused-later : (t : Topology) (custom : Custom) (cut : Cut) (a b : ℕ) (words : ℕ → ℕ → ℕ)

@@ -1,8 +1,8 @@
 -- What the steps of an engine do to the parts that its commits go to. This project's own.
-use Rattle.std.specs.Prelude.{◌≡◌, ℕ, ◌+◌, List, [], ◌++◌, All, None, Some, length, slice_get}
+use Rattle.std.specs.Prelude.{◌≡◌, ◌<◌, ◌≤◌, ℕ, ◌+◌, List, [], ◌++◌, All, None, Some, length, slice_get}
 use Rattle.std.specs.List.{AllZip}
 use Rattle.event_worlds.specs.attempt_fates.declared.fates.Attempt.{Attempt}
-use Rattle.event_worlds.specs.attempt_fates.Fates.{committed_txids}
+use Rattle.event_worlds.specs.attempt_fates.Fates.{committed_batches}
 use Rattle.batch_commits.specs.Standing.{AllButLastAreCounted, FailuresAreCounted, HasStrangeAt, PartsStand}
 use Rattle.event_worlds.specs.bolt_ops.RowOp.{Custom, IsCustom}
 use Rattle.event_worlds.specs.commit_turns.Outcomes.{IsOutcome}
@@ -11,21 +11,44 @@ use Rattle.event_engine.specs.Engines.{Gives, Goes, HasOutcomes, IsIdle, IsReady
 use Rattle.event_worlds.specs.Accounted.{Accounted, IsInput, LedAt}
 use Rattle.event_worlds.specs.Worlds.{Known, Step, outcomes_of}
 use Rattle.event_worlds.specs.output_collector.Draws.{Draws}
+use Rattle.event_worlds.specs.record_offers.Offers.{is_gone}
+use Rattle.event_worlds.specs.record_spans.declared.span.Span.{Span}
 use Rattle.event_worlds.specs.state_parts.Commits.{IsBadAt}
 use Rattle.event_worlds.specs.state_parts.declared.answer.CommitOutcome.{CommitOutcome}
 use Rattle.event_worlds.specs.state_parts.declared.parts.StatePart.{StatePart}
 use Rattle.event_worlds.specs.state_parts.PartPlans.{AreParts, plans_of}
-use Rattle.event_worlds.specs.state_parts.Standing.{IsEmpty}
 use Rattle.event_worlds.specs.storm_ids.declared.ids.Ids.{Ghosts}
 use Rattle.storm_stores.specs.CellMaps.{CellMap}
+use Rattle.event_worlds.specs.taken_records.Cuts.{Cut}
+use Rattle.event_worlds.specs.taken_records.Taken.{one_if, times_in}
+use Rattle.event_worlds.specs.topology_plan.declared.parts.Kind.TheVariants.{Opaque}
 use Rattle.event_worlds.specs.topology_plan.Topology.{Topology}
-use Rattle.event_worlds.specs.trident_batches.Batches.{Cut}
 use Rattle.event_worlds.specs.tuple_account.Histories.{History}
 use Rattle.event_worlds.specs.tuple_account.Moves.{Station}
 
--- how many batches an engine has committed
-abbrev pub committed_by : {I : Type 0} {g : Ghosts I} → Engine I g → ℕ
-committed_by e = (shape e).desk.committed
+-- ---- batches before the start
+
+-- The batches of the transactions up to the start, in order: each record that was gone at the start
+-- stands in one of them, and no other record does.
+pub record AreBefore (cut : Cut) (before : List (List Span)) : Type 0 where
+  pub many : length before ≡ cut.start
+  pub gone : (n : ℕ) → 1 ≤ n → n ≤ length cut.gone
+      → times_in before n ≡ one_if (is_gone cut.gone n)
+
+-- a spout may have these partitions: there are none, or it is opaque
+abbrev pub MayHavePartitions : Topology → Cut → Type 0
+MayHavePartitions t cut = 0 < cut.partitions → t.spout_kind ≡ Opaque
+
+-- Where parts stood at the batches before the start, and then those that some fates say were
+-- committed, what they came to stands at the first of these, and then those of other fates.
+abbrev pub StandOn : {S : Type 0} → (S → CellMap → Type 0) → Topology → Custom → Cut
+    → (old new : List Attempt) → List (StatePart S) → List (StatePart S) → Type 0
+StandOn holds t custom cut old new was is =
+    (before : List (List Span)) → AreBefore cut before → MayHavePartitions t cut
+    → PartsStand holds t custom cut (before ++ committed_batches old) was
+    → PartsStand holds t custom cut (before ++ committed_batches new) is
+
+-- ---- parts that can be given back
 
 -- a store that told its cells tells some
 abbrev pub StillTells : {S : Type 0} → (S → CellMap → Type 0) → StatePart S → StatePart S → Type 0
@@ -71,16 +94,15 @@ module _ {I S : Type 0} {g : Ghosts I} where
         → Gives words counts goes.given → HasOutcomes outcomes new.fates
         → IsInput t cut → IsCustom custom → All (IsOutcome t) outcomes
         → Accounted t custom cut words (record { world = shape old; counts = counts })
-        → PartsStand holds t custom cut (committed_by old) was
-        → PartsStand holds t custom cut (committed_by new) is
+        → AreParts t was → StandOn holds t custom cut old.fates new.fates was is
     -- a bad or strange cell was there before, at the same key
     pub bad : (key : List ℕ) → IsBadAt holds is key → IsBadAt holds was key
     pub strange : (key : List ℕ) → HasStrangeAt holds is key → HasStrangeAt holds was key
     pub counted : FailuresAreCounted count goes.more was is
 
-  -- An engine went on, by steps or in any other way, and its commits through the parts: sources gave
-  -- words, attempts ended, and where a history led to the first world, some history leads to the
-  -- second.
+  -- An engine went on, by steps or in any other way, and its commits through the parts: sources
+  -- gave words, attempts ended, and where a history led to the first world, some history leads to
+  -- the second.
   pub record LeadsOn (tells : I → (ℕ → ℕ) → ℕ → Type 0) (holds : S → CellMap → Type 0)
       (count : S → ℕ) (t : Topology) (custom : Custom) (cut : Cut) (old new : Engine I g)
       (was is : List (StatePart S)) : Type 0 where
@@ -106,22 +128,22 @@ module _ {I S : Type 0} {g : Ghosts I} where
         → Gives words counts given → HasOutcomes outcomes new.fates
         → IsInput t cut → IsCustom custom → All (IsOutcome t) outcomes
         → Accounted t custom cut words (record { world = shape old; counts = counts })
-        → PartsStand holds t custom cut (committed_by old) was
-        → PartsStand holds t custom cut (committed_by new) is
+        → AreParts t was → StandOn holds t custom cut old.fates new.fates was is
     pub bad : (key : List ℕ) → IsBadAt holds is key → IsBadAt holds was key
     pub strange : (key : List ℕ) → HasStrangeAt holds is key → HasStrangeAt holds was key
     pub counted : FailuresAreCounted count more was is
 
   -- Where sources have these words a run has come to an engine and to parts: some history led to
-  -- its world, parts that were empty stand at what is committed, and stores failed as the fates
-  -- tell.
+  -- its world, parts that stood at the batches before the start stand at what is committed, and
+  -- stores failed as the fates tell.
   pub record HasCome (holds : S → CellMap → Type 0) (count : S → ℕ) (t : Topology)
       (custom : Custom) (cut : Cut) (words : ℕ → ℕ → ℕ) (e : Engine I g)
       (was is : List (StatePart S)) : Type 0 where
     pub counts : ℕ → ℕ
     pub led : Accounted t custom cut words (record { world = shape e; counts = counts })
+    pub planned : AreParts t was
     pub plans : plans_of is ≡ plans_of was
-    pub stands : All (IsEmpty holds) was → PartsStand holds t custom cut (committed_by e) is
+    pub stands : StandOn holds t custom cut [] e.fates was is
     pub strange : (key : List ℕ) → HasStrangeAt holds is key → HasStrangeAt holds was key
     pub counted : FailuresAreCounted count e.fates was is
 
@@ -134,8 +156,7 @@ module _ {I S : Type 0} {g : Ghosts I} where
     pub added : fates ≡ old.fates ++ more
     pub stands : (words : ℕ → ℕ → ℕ) (all : Station) (h : History) (k : Known)
         → HasDeskOf old k → IsInput t cut → LedAt t custom cut words all h k
-        → PartsStand holds t custom cut (committed_by old) was
-        → PartsStand holds t custom cut (length (committed_txids fates)) is
+        → AreParts t was → StandOn holds t custom cut old.fates fates was is
     pub strange : (key : List ℕ) → HasStrangeAt holds is key → HasStrangeAt holds was key
     pub counted : AllButLastAreCounted count more was is
 

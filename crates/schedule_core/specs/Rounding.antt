@@ -1,5 +1,5 @@
 -- Rounds of an engine with the ticks of a source, and how a run ends. This project's own.
-use Rattle.std.specs.Prelude.{◌≡◌, ℕ, List, ◌++◌, Result, Ok, Err, OnOk, length, map, fold, drop, replicate}
+use Rattle.std.specs.Prelude.{◌≡◌, ℕ, List, ◌++◌, Result, Ok, Err, OnOk, All, length, map, fold, drop, replicate}
 use Rattle.std.specs.List.{range_with_len}
 use Rattle.event_worlds.specs.bolt_ops.RowOp.{Custom}
 use Rattle.event_worlds.specs.commit_order.declared.stop.Stop.{Stop}
@@ -17,8 +17,9 @@ use Rattle.event_worlds.specs.state_parts.declared.parts.StatePart.{StatePart}
 use Rattle.event_worlds.specs.storm_ids.declared.ids.Ids.{Ghosts}
 use Rattle.storm_stores.specs.CellMaps.{CellMap}
 use Rattle.storm_ticks.specs.Ticking.{handed_on}
+use Rattle.event_worlds.specs.taken_records.Cuts.{Cut}
 use Rattle.event_worlds.specs.topology_plan.Topology.{Topology, tasks_in_all}
-use Rattle.event_worlds.specs.trident_batches.Batches.{Cut}
+use Rattle.world_progress.specs.Rounding.{ShutsNone}
 
 -- what a run answers that came to this, where an engine that nothing stopped answers that
 abbrev pub end_by : Result (Unit {0}) CommitFault → Result Ended Stop → Result Ended Stop
@@ -55,7 +56,8 @@ pub record Asked {T : Type 0} (handed : T → ℕ) (ticking : T → List ℕ →
   pub rest : (to_come : List ℕ) → ticking before to_come
       → ticking after (drop (length answers) to_come)
 
--- Steps with a round for each answer of a source of ticks, and no other ticks, came to this.
+-- Steps with a round for each answer of a source of ticks, and no other ticks, came to this. They
+-- shut no partition.
 pub record Rounded {I S T : Type 0} {g : Ghosts I} (tells : I → (ℕ → ℕ) → ℕ → Type 0)
     (holds : S → CellMap → Type 0) (count : S → ℕ) (handed : T → ℕ)
     (ticking : T → List ℕ → Type 0) (t : Topology) (custom : Custom) (cut : Cut)
@@ -65,6 +67,7 @@ pub record Rounded {I S T : Type 0} {g : Ghosts I} (tells : I → (ℕ → ℕ) 
   pub asked : Asked handed ticking answers before after
   pub steps : List Step
   pub rounds : HasRoundsOf t answers steps
+  pub shut_none : All ShutsNone steps
   pub drives : OnOk done (Drives tells holds count t custom cut steps old new was is)
   pub bad : (key : List ℕ) → done ≡ Err (fault.BadCell key)
       → Breaks tells holds count t custom cut steps key old new was is

@@ -1,8 +1,8 @@
 -- What a run of steps over the parts of all states comes to. This project's own.
-use Rattle.std.specs.Prelude.{◌≡◌, ◌<◌, ◌-◌, ◌^◌, ℕ, List, [], ◌∷◌, ◌++◌, Result, Ok, Err, All, length, map, fold, get_or, nat_le, if◌then◌else◌}
+use Rattle.std.specs.Prelude.{◌≡◌, ◌<◌, ◌≤◌, ◌+◌, ◌-◌, ◌^◌, ℕ, false, List, [], ◌∷◌, ◌++◌, Result, Ok, Err, All, length, map, fold, get_or, nat_le, if◌then◌else◌}
 use Rattle.std.specs.List.{range_with_len}
 use Rattle.event_worlds.specs.attempt_fates.declared.fates.Attempt.{Attempt}
-use Rattle.event_worlds.specs.attempt_fates.Fates.{IsOnce, IsWhole, attempt_numbers, committed_txids}
+use Rattle.event_worlds.specs.attempt_fates.Fates.{DropsFollow, IsOnce, IsWhole, aborts_of, committed_batches, committed_txids}
 use Rattle.batch_commits.specs.Standing.{AllButLastAreCounted, FailuresAreCounted, HasStrangeAt, PartsStand, batches_in}
 use Rattle.event_worlds.specs.bolt_ops.RowOp.{Custom}
 use Rattle.event_worlds.specs.commit_order.declared.stop.Stop.{Stop}
@@ -13,52 +13,82 @@ use Rattle.event_worlds.specs.Accounted.{AreCaused}
 use Rattle.event_worlds.specs.Worlds.{Step}
 use Rattle.schedule_core.specs.declared.ended.Ended.{Ended}
 use Rattle.schedule_core.specs.declared.ended.Ended.TheVariants as ending
-use Rattle.schedule_core.specs.Driving.{AreKept}
+use Rattle.event_worlds.specs.record_offers.Offers.{is_gone}
+use Rattle.event_worlds.specs.record_spans.declared.span.Span.{Span}
+use Rattle.schedule_core.specs.Driving.{AreBefore, AreKept, MayHavePartitions}
 use Rattle.schedule_core.specs.Schedules.{HadMemory, IsAnswer, IsOfWorld}
 use Rattle.event_worlds.specs.state_parts.Commits.{IsBadAt}
 use Rattle.event_worlds.specs.state_parts.declared.parts.StatePart.{StatePart}
 use Rattle.event_worlds.specs.state_parts.Standing.{IsEmpty}
 use Rattle.storm_stores.specs.CellMaps.{CellMap}
 use Rattle.storm_ticks.specs.Ticking.{handed_on}
+use Rattle.event_worlds.specs.taken_records.Cuts.{Cut}
+use Rattle.event_worlds.specs.taken_records.Taken.{times_in}
 use Rattle.event_worlds.specs.topology_plan.Topology.{Topology}
-use Rattle.event_worlds.specs.trident_batches.Batches.{Cut}
+use Rattle.world_progress.specs.Rounding.{ShutsNone}
 use Rattle.event_worlds.specs.Rounds.{round_with, ticks_in}
 
 -- how many batches the fates say were committed
 abbrev pub committed_count : List Attempt → ℕ
 committed_count fates = length (committed_txids fates)
 
--- all attempts of a transaction ended, and no commit of it
-pub record HasRunOut (t : Topology) (txid : ℕ) (fates : List Attempt) : Type 0 where
-  pub all_ended : length (attempt_numbers txid fates) ≡ t.attempts
-  pub none_committed : committed_count fates < txid
+-- as many attempts of a transaction aborted as a plan allows, and no commit of it
+pub record HasRunOut (t : Topology) (cut : Cut) (txid : ℕ) (fates : List Attempt) : Type 0 where
+  pub all_aborted : aborts_of txid fates ≡ t.attempts
+  pub none_committed : cut.start + committed_count fates < txid
+
+-- a record was not gone at the start, and stands in no committed attempt
+pub record IsLeft (cut : Cut) (fates : List Attempt) (n : ℕ) : Type 0 where
+  pub first : 1 ≤ n
+  pub last : n ≤ length cut.gone
+  pub fresh : is_gone cut.gone n ≡ false
+  pub in_none : times_in (committed_batches fates) n ≡ 0
+
+-- Some record is left uncommitted, and this is the last transaction that is committed.
+pub record IsUnfinished (cut : Cut) (txid : ℕ) (fates : List Attempt) : Type 0 where
+  pub committed : cut.start + committed_count fates ≡ txid
+  pub some_left : (n : ℕ) × IsLeft cut fates n
+  -- without partitions there are more batches
+  pub more_batches : cut.partitions ≡ 0 → txid < batches_in cut
 
 -- What the answer of a run says of its fates.
 abbrev pub Answers : Topology → Cut → ℕ → List Attempt → Result Ended Stop → Type 0
-Answers t cut ticks fates (Ok ending.All) = IsWhole (length cut.records) cut.size ticks fates
-Answers t cut ticks fates (Ok (ending.Unfinished k)) =
-    (committed_count fates ≡ k) × (k < batches_in cut)
-Answers t cut ticks fates (Err (stop.Exhausted txid)) = HasRunOut t txid fates
+Answers t cut ticks fates (Ok ending.All) = IsWhole cut ticks fates
+Answers t cut ticks fates (Ok (ending.Unfinished txid)) = IsUnfinished cut txid fates
+Answers t cut ticks fates (Err (stop.Exhausted txid)) = HasRunOut t cut txid fates
 Answers t cut ticks fates (Err (stop.BadCell key)) = Unit {0}
 Answers t cut ticks fates (Err stop.Memory) = Unit {0}
 
--- What a run, in which so many ticks were handed out, with these parts before and after it, tells of
--- its answer and its fates. It names no step and no world.
+-- the start is at the first transaction, with no record gone
+pub record IsFirst (cut : Cut) : Type 0 where
+  pub start : cut.start ≡ 0
+  pub none_gone : (n : ℕ) → 1 ≤ n → n ≤ length cut.gone → is_gone cut.gone n ≡ false
+
+-- What a run, in which so many ticks were handed out, with these parts before and after it, tells
+-- of its answer and its fates. It names no step and no world.
 pub record RunTells {S : Type 0} (holds : S → CellMap → Type 0) (count : S → ℕ) (t : Topology)
     (custom : Custom) (cut : Cut) (ticks : ℕ) (answer : Result Ended Stop) (fates : List Attempt)
     (old new : List (StatePart S)) : Type 0 where
   -- each batch was committed once at most, and in order
-  pub once : IsOnce (length cut.records) cut.size last_tick fates
-  pub in_time : HadMemory answer → IsOnce (length cut.records) cut.size ticks fates
+  pub once : IsOnce cut last_tick fates
+  pub in_time : HadMemory answer → IsOnce cut ticks fates
   pub answers : Answers t cut ticks fates answer
   -- each end has its cause
   pub caused : HadMemory answer → (words : ℕ → ℕ → ℕ) × AreCaused t custom cut ticks words fates
-  pub failed_in_turn : HadMemory answer → FailsInTurn fates
+  pub failed_in_turn : HadMemory answer → FailsInTurn cut fates
+  -- attempts are dropped with partitions alone, each with an earlier one that aborted
+  pub drops : HadMemory answer → DropsFollow cut fates
   -- a bad cell was there before the run, and so was each strange one, at the same key
   pub bad_cell : (key : List ℕ) → answer ≡ Err (stop.BadCell key) → IsBadAt holds old key
   pub strange : (key : List ℕ) → HasStrangeAt holds new key → HasStrangeAt holds old key
-  -- parts that were empty stand at the batches that were committed, whatever the answer
-  pub stands : All (IsEmpty holds) old → PartsStand holds t custom cut (committed_count fates) new
+  -- parts that stood at the batches before the start stand at them and then those that were
+  -- committed, in order, whatever the answer
+  pub stands : (before : List (List Span)) → AreBefore cut before → MayHavePartitions t cut
+      → PartsStand holds t custom cut before old
+      → PartsStand holds t custom cut (before ++ committed_batches fates) new
+  -- so parts that were empty stand at those that were committed, where no record was gone before
+  pub stands_first : IsFirst cut → MayHavePartitions t cut → All (IsEmpty holds) old
+      → PartsStand holds t custom cut (committed_batches fates) new
   -- no store failed but at the commits that failed, and, where a fault stopped the run, at the last
   -- one that was tried
   pub counted : IsAnswer answer → FailuresAreCounted count fates old new
@@ -95,7 +125,7 @@ ticks_between before after =
 abbrev pub first_answers : ℕ → List ℕ → List ℕ
 first_answers count answers = map (λ k. get_or answers k 0) (range_with_len 0 count)
 
--- a run of rounds that nothing stopped has committed all
+-- a run of rounds that nothing stopped has left no record uncommitted
 abbrev pub ended : Result (Unit {0}) Stop → Result Ended Stop
 ended (Ok done) = Ok ending.All
 ended (Err why) = Err why
@@ -114,6 +144,8 @@ pub record RoundsCome {S : Type 0} (told : (ℕ → ℕ → ℕ) → Type 0) (ti
   -- the steps
   pub steps : List Step
   pub rounds : HasRoundsOf t answers steps
+  -- they shut no partition
+  pub shut_none : All ShutsNone steps
   pub comes : RunComes tells count t custom cut steps (ticks_between before after) (ended answer)
       fates old new
   pub of_told : (words : ℕ → ℕ → ℕ) → told words → IsAnswer (ended answer)

@@ -6,13 +6,13 @@ use Rattle.event_worlds.specs.bolt_ops.RowOp.{Custom}
 use Rattle.event_worlds.specs.commit_order.declared.stop.Stop.{Stop}
 use Rattle.event_worlds.specs.commit_order.declared.stop.Stop.TheVariants.{Exhausted, BadCell, Memory}
 use Rattle.event_worlds.specs.commit_turns.Turns.{is_finished}
-use Rattle.event_worlds.specs.Worlds.{Step, World, coordinator_steps, of_acker, of_task, of_tick, outcomes_of, rounds_steps, world_after}
+use Rattle.event_worlds.specs.Worlds.{Step, World, coordinator_steps, of_acker, of_open, of_shut, of_task, of_tick, outcomes_of, rounds_steps, world_after}
 use Rattle.schedule_core.specs.declared.ended.Ended.{Ended}
 use Rattle.schedule_core.specs.declared.ended.Ended.TheVariants.{All, Unfinished}
 use Rattle.schedule_reader.specs.declared.event.Event.{Event}
 use Rattle.schedule_reader.specs.declared.event.Event.TheVariants as event
 use Rattle.event_worlds.specs.topology_plan.Topology.{Topology}
-use Rattle.event_worlds.specs.trident_batches.Batches.{Cut}
+use Rattle.event_worlds.specs.taken_records.Cuts.{Cut}
 
 -- the steps of an event
 abbrev pub steps_of : Topology → Event → List Step
@@ -20,6 +20,8 @@ steps_of t (event.Task n) = of_task n ∷ []
 steps_of t (event.Acker n) = of_acker n ∷ []
 steps_of t event.Coord = coordinator_steps
 steps_of t event.Tick = of_tick ∷ []
+steps_of t (event.Shut q) = of_shut q ∷ []
+steps_of t (event.Open q) = of_open q ∷ []
 steps_of t (event.Rounds count) = rounds_steps t count
 
 abbrev pub all_steps : Topology → List Event → List Step
@@ -32,8 +34,8 @@ answer_by (Some txid) finished committed = Err (Exhausted txid)
 answer_by None true committed = Ok All
 answer_by None false committed = Ok (Unfinished committed)
 
--- all attempts of a transaction ended without a commit, or all batches are committed, or so many
--- are
+-- as many attempts of a transaction aborted as a plan allows, or no record is left uncommitted, or
+-- some is, and this is the last transaction that is committed
 abbrev pub answer_of : Topology → Cut → World → Result Ended Stop
 answer_of t cut w = answer_by w.desk.exhausted (is_finished t cut w.desk) w.desk.committed
 

@@ -40,8 +40,7 @@ fn coordinate_beside<R: Threads + Sync, I: Ids, C: CellStore + Send, O: RowOp>(
     ensures short { result ≡ Err fault.Memory
         → WantsMemory I.tells C.tells C.fault_count (topology_in engine.old) (O.meaning custom.now)
         (cut_in engine.old) engine.old engine.new.fates parts.old parts.new }
-    ensures once { OnErr result (IsOnce (length (cut_in engine.old).records)
-        (cut_in engine.old).size last_tick engine.new.fates) }
+    ensures once { OnErr result (IsOnce (cut_in engine.old) last_tick engine.new.fates) }
     ensures kept { AreKept C.tells parts.old parts.new }
 {
     laws_of_steps::<C>();
@@ -78,8 +77,7 @@ pub fn close_round_beside<R: Threads + Sync, I: Ids, C: CellStore + Send, O: Row
     ensures short { result ≡ Err fault.Memory
         → WantsMemory I.tells C.tells C.fault_count (topology_in engine.old) (O.meaning custom.now)
         (cut_in engine.old) engine.old engine.new.fates parts.old parts.new }
-    ensures once { OnErr result (IsOnce (length (cut_in engine.old).records)
-        (cut_in engine.old).size last_tick engine.new.fates) }
+    ensures once { OnErr result (IsOnce (cut_in engine.old) last_tick engine.new.fates) }
     ensures kept { AreKept C.tells parts.old parts.new }
 {
     laws_of_steps::<C>();

@@ -45,8 +45,7 @@ fn coordinate<I: Ids, C: CellStore, O: RowOp>(
     ensures short { result ≡ Err fault.Memory
         → WantsMemory I.tells C.tells C.fault_count (topology_in engine.old) (O.meaning custom.now)
         (cut_in engine.old) engine.old engine.new.fates parts.old parts.new }
-    ensures once { OnErr result (IsOnce (length (cut_in engine.old).records)
-        (cut_in engine.old).size last_tick engine.new.fates) }
+    ensures once { OnErr result (IsOnce (cut_in engine.old) last_tick engine.new.fates) }
     ensures kept { AreKept C.tells parts.old parts.new }
 {
     laws_of_steps::<C>();
@@ -71,8 +70,7 @@ pub(crate) fn open_round<I: Ids, O: RowOp>(
     ensures goes { OnOk result (Goes I.tells (topology_in engine.old) (O.meaning custom.now)
         (cut_in engine.old) (opening_steps (topology_in engine.old)) engine.old engine.new) }
     ensures still { IsStill engine.old engine.new }
-    ensures once { OnErr result (IsOnce (length (cut_in engine.old).records)
-        (cut_in engine.old).size last_tick engine.new.fates) }
+    ensures once { OnErr result (IsOnce (cut_in engine.old) last_tick engine.new.fates) }
 {
     engine.all_tasks(custom)?;
     engine.all_ackers()?;
@@ -91,8 +89,7 @@ pub(crate) fn open_boosted<I: Ids, O: RowOp>(
     ensures opens { OnOk result (OpensBoosted I.tells (topology_in engine.old)
         (O.meaning custom.now) (cut_in engine.old) engine.old engine.new) }
     ensures still { IsStill engine.old engine.new }
-    ensures once { OnErr result (IsOnce (length (cut_in engine.old).records)
-        (cut_in engine.old).size last_tick engine.new.fates) }
+    ensures once { OnErr result (IsOnce (cut_in engine.old) last_tick engine.new.fates) }
 {
     boost(engine, custom)?;
     open_round(engine, custom)?;
@@ -107,8 +104,7 @@ fn boost<I: Ids, O: RowOp>(engine: &mut Engine<'_, I>, custom: &O) -> Result<(),
     ensures boosts { OnOk result (Boosts I.tells (topology_in engine.old) (O.meaning custom.now)
         (cut_in engine.old) most_before engine.old engine.new) }
     ensures still { IsStill engine.old engine.new }
-    ensures once { OnErr result (IsOnce (length (cut_in engine.old).records)
-        (cut_in engine.old).size last_tick engine.new.fates) }
+    ensures once { OnErr result (IsOnce (cut_in engine.old) last_tick engine.new.fates) }
 {
     engine.boost(MOST_BEFORE, custom)?;
     Ok(())
@@ -153,8 +149,7 @@ pub(crate) fn close_round<I: Ids, C: CellStore, O: RowOp>(
     ensures short { result ≡ Err fault.Memory
         → WantsMemory I.tells C.tells C.fault_count (topology_in engine.old) (O.meaning custom.now)
         (cut_in engine.old) engine.old engine.new.fates parts.old parts.new }
-    ensures once { OnErr result (IsOnce (length (cut_in engine.old).records)
-        (cut_in engine.old).size last_tick engine.new.fates) }
+    ensures once { OnErr result (IsOnce (cut_in engine.old) last_tick engine.new.fates) }
     ensures kept { AreKept C.tells parts.old parts.new }
 {
     laws_of_steps::<C>();
@@ -183,8 +178,7 @@ fn round<I: Ids, C: CellStore, O: RowOp>(
     ensures short { result ≡ Err fault.Memory
         → WantsMemory I.tells C.tells C.fault_count (topology_in engine.old) (O.meaning custom.now)
         (cut_in engine.old) engine.old engine.new.fates parts.old parts.new }
-    ensures once { OnErr result (IsOnce (length (cut_in engine.old).records)
-        (cut_in engine.old).size last_tick engine.new.fates) }
+    ensures once { OnErr result (IsOnce (cut_in engine.old) last_tick engine.new.fates) }
     ensures kept { AreKept C.tells parts.old parts.new }
 {
     laws_of_steps::<C>();
@@ -215,8 +209,7 @@ fn rounds<I: Ids, C: CellStore, O: RowOp>(
     ensures short { result ≡ Err fault.Memory
         → WantsMemory I.tells C.tells C.fault_count (topology_in engine.old) (O.meaning custom.now)
         (cut_in engine.old) engine.old engine.new.fates parts.old parts.new }
-    ensures once { OnErr result (IsOnce (length (cut_in engine.old).records)
-        (cut_in engine.old).size last_tick engine.new.fates) }
+    ensures once { OnErr result (IsOnce (cut_in engine.old) last_tick engine.new.fates) }
     ensures kept { AreKept C.tells parts.old parts.new }
 {
     laws_of_steps::<C>();
@@ -251,8 +244,7 @@ fn carry_out<I: Ids, C: CellStore, O: RowOp>(
     ensures short { result ≡ Err fault.Memory
         → WantsMemory I.tells C.tells C.fault_count (topology_in engine.old) (O.meaning custom.now)
         (cut_in engine.old) engine.old engine.new.fates parts.old parts.new }
-    ensures once { OnErr result (IsOnce (length (cut_in engine.old).records)
-        (cut_in engine.old).size last_tick engine.new.fates) }
+    ensures once { OnErr result (IsOnce (cut_in engine.old) last_tick engine.new.fates) }
     ensures kept { AreKept C.tells parts.old parts.new }
 {
     laws_of_steps::<C>();
@@ -261,6 +253,8 @@ fn carry_out<I: Ids, C: CellStore, O: RowOp>(
         Event::Acker(n) => engine.acker(n)?,
         Event::Coord => coordinate(engine, parts, custom)?,
         Event::Tick => engine.tick(),
+        Event::Shut(partition) => engine.shut(partition),
+        Event::Open(partition) => engine.open(partition),
         Event::Rounds(count) => rounds(engine, parts, custom, count)?,
     }
     Ok(())
@@ -288,8 +282,7 @@ pub(crate) fn carry_out_all<I: Ids, C: CellStore, O: RowOp>(
     ensures short { result ≡ Err fault.Memory
         → WantsMemory I.tells C.tells C.fault_count (topology_in engine.old) (O.meaning custom.now)
         (cut_in engine.old) engine.old engine.new.fates parts.old parts.new }
-    ensures once { OnErr result (IsOnce (length (cut_in engine.old).records)
-        (cut_in engine.old).size last_tick engine.new.fates) }
+    ensures once { OnErr result (IsOnce (cut_in engine.old) last_tick engine.new.fates) }
     ensures kept { AreKept C.tells parts.old parts.new }
 {
     laws_of_steps::<C>();

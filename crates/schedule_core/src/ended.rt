@@ -1,8 +1,9 @@
 /// How a replay ended that nothing stopped.
 #[derive(Clone, Copy, Debug, PartialEq, Eq)]
 pub enum Ended {
-    /// Every batch is committed.
+    /// No record is left uncommitted.
     All,
-    /// So many batches are committed after the events, and not all.
+    /// Some record is left uncommitted after the events, and this is the last transaction that is
+    /// committed: that of the start, where no batch was committed after it.
     Unfinished(u64),
 }

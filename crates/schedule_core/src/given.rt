@@ -15,17 +15,16 @@ use crate::laws::laws_of_runs;
 use event_engine::Engine;
 use event_worlds::attempt_fates::Fates;
 use event_worlds::bolt_ops::RowOp;
-use event_worlds::commit_order::Stop;
+use event_worlds::commit_order::{Offers, Stop};
 use event_worlds::state_parts::Parts;
 use event_worlds::storm_ids::IdMaker;
 use event_worlds::topology_plan::Plan;
-use event_worlds::trident_batches::Batches;
 use schedule_reader::Events;
 use std::alloc::Global;
 use storm_stores::CellStore;
 
-/// Carries out a given schedule over the batches of an input, event by event on one thread, with
-/// commits to the parts of all states. When all is over it looks at no further event.
+/// Carries out a given schedule over what a spout offers from a start on, event by event on one
+/// thread, with commits to the parts of all states. When all is over it looks at no further event.
 ///
 /// An event costs the work that it does, a round as many events as there are tasks and ackers.
 /// Nothing is searched that grows with the run. The attempts that ended are in the fates, whatever
@@ -33,7 +32,7 @@ use storm_stores::CellStore;
 pub fn replay<N: IdMaker, C: CellStore, O: RowOp>(
     alloc: Global,
     plan: &Plan,
-    batches: Batches,
+    offers: Offers,
     events: &Events,
     ids: &mut N,
     parts: &mut Parts<C>,
@@ -41,25 +40,25 @@ pub fn replay<N: IdMaker, C: CellStore, O: RowOp>(
     fates: &mut Fates,
 ) -> Result<Ended, Stop>
     requires empty { fates.old ≡ [] }
-    requires input { IsInput plan.now batches }
+    requires input { IsInput plan.now offers }
     requires fit { AllByRecursion (FitsEvent plan.now) events.now }
     requires parts { AreParts plan.now parts.old }
 
     // What the answer, the fates and the parts come to.
-    ensures comes { RunComes C.tells C.fault_count plan.now (O.meaning custom.now) batches
+    ensures comes { RunComes C.tells C.fault_count plan.now (O.meaning custom.now) offers
         (all_steps plan.now events.now) (ticks_in (all_steps plan.now events.now)) result
         fates.new parts.old parts.new }
 
     // Over sources that tell their words it is the run of one world.
     ensures told { (words : ℕ → ℕ → ℕ) → N.tells ids.old words → IsAnswer result
-        → IsOfWorld plan.now (O.meaning custom.now) batches words (all_steps plan.now events.now)
+        → IsOfWorld plan.now (O.meaning custom.now) offers words (all_steps plan.now events.now)
         result fates.new }
     ensures drawn { (words : ℕ → ℕ → ℕ) → N.tells ids.old words → HadMemory result
-        → AreCaused plan.now (O.meaning custom.now) batches
+        → AreCaused plan.now (O.meaning custom.now) offers
         (ticks_in (all_steps plan.now events.now)) words fates.new }
 {
     laws_of_runs::<C>();
-    let mut engine = match Engine::start(alloc, plan, batches, ids) {
+    let mut engine = match Engine::start(alloc, plan, offers, ids) {
         Ok(engine) => engine,
         Err(_) => return Err(Stop::Memory),
     };

@@ -2,13 +2,13 @@
 ghost use Rattle.event_worlds.specs.bolt_ops.RowOp.{Custom};
 ghost use Rattle.schedule_core.specs.Laws.{CommitLaws, Laws, WorldLaws};
 ghost use Rattle.event_worlds.specs.topology_plan.Topology.{Topology};
-ghost use Rattle.event_worlds.specs.trident_batches.Batches.{Cut};
+ghost use Rattle.event_worlds.specs.taken_records.Cuts.{Cut};
 
 use batch_commits::{
     commits_of_batches_move_parts, counts_run_on, failures_of_commits_are_counted,
-    strange_cells_were_there,
+    next_commits_are_of_the_next_batch, strange_cells_were_there,
 };
-use event_worlds::attempt_fates::batches_are_the_records_of_their_spans;
+use event_worlds::commit_turns::finished_runs_are_whole;
 use event_worlds::{
     ends_of_worlds_have_causes, worlds_are_accounted, worlds_with_others_are_accounted,
 };
@@ -27,9 +27,9 @@ pub fn laws_of_commits<C: CellStore>()
     ensures { (t : Topology) (custom : Custom) (cut : Cut)
         → CommitLaws C.tells C.fault_count t custom cut }
 {
-    batches_are_the_records_of_their_spans();
     worlds_with_others_are_accounted();
     commits_of_batches_move_parts::<C>();
+    next_commits_are_of_the_next_batch();
     strange_cells_were_there::<C>();
     failures_of_commits_are_counted::<C>();
     counts_run_on::<C>();
@@ -42,6 +42,7 @@ pub fn laws_of_runs<C: CellStore>()
 {
     worlds_are_accounted();
     ends_of_worlds_have_causes();
+    finished_runs_are_whole();
     commits_of_batches_move_parts::<C>();
     counts_run_on::<C>();
 }

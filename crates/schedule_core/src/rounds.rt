@@ -15,18 +15,17 @@ use crate::laws::{laws_of_runs, laws_of_steps};
 use event_engine::Engine;
 use event_worlds::attempt_fates::Fates;
 use event_worlds::bolt_ops::RowOp;
-use event_worlds::commit_order::Stop;
+use event_worlds::commit_order::{Offers, Stop};
 use event_worlds::state_parts::{CommitFault, Parts};
 use event_worlds::storm_ids::{IdMaker, Ids};
 use event_worlds::topology_plan::Plan;
-use event_worlds::trident_batches::Batches;
 use std::alloc::Global;
 use std::sync::Wait;
 use storm_stores::CellStore;
 use storm_ticks::Ticks;
 
-/// Runs a plan over the batches of an input by rounds on one thread, until every batch is committed
-/// or all attempts of one ended without a commit.
+/// Runs a plan over what a spout offers from a start on, by rounds on one thread, until no record
+/// is left uncommitted or as many attempts of a transaction aborted as the plan allows.
 ///
 /// Before each step of the coordinator it asks once how many ticks passed. Nothing says that it
 /// ends. The attempts that ended are in the fates, whatever the answer.
@@ -34,7 +33,7 @@ pub fn run_rounds<R: Wait, T: Ticks, N: IdMaker, C: CellStore, O: RowOp>(
     rt: &R,
     alloc: Global,
     plan: &Plan,
-    batches: Batches,
+    offers: Offers,
     ticks: &mut T,
     ids: &mut N,
     parts: &mut Parts<C>,
@@ -42,16 +41,16 @@ pub fn run_rounds<R: Wait, T: Ticks, N: IdMaker, C: CellStore, O: RowOp>(
     fates: &mut Fates,
 ) -> Result<(), Stop>
     requires empty { fates.old ≡ [] }
-    requires input { IsInput plan.now batches }
+    requires input { IsInput plan.now offers }
     requires parts { AreParts plan.now parts.old }
 
     // What the answer, the fates, the ticks and the parts come to.
     ensures comes { RoundsCome (N.tells ids.old) (T.tells ticks.old) C.tells C.fault_count plan.now
-        (O.meaning custom.now) batches (T.handed_out ticks.old) (T.handed_out ticks.new) result
+        (O.meaning custom.now) offers (T.handed_out ticks.old) (T.handed_out ticks.new) result
         fates.new parts.old parts.new }
 {
     laws_of_runs::<C>();
-    let mut engine = match Engine::start(alloc, plan, batches, ids) {
+    let mut engine = match Engine::start(alloc, plan, offers, ids) {
         Ok(engine) => engine,
         Err(_) => return Err(Stop::Memory),
     };
@@ -75,8 +74,7 @@ fn rounds_until_over<R: Wait, T: Ticks, I: Ids, C: CellStore, O: RowOp>(
     ensures comes { Rounded I.tells C.tells C.fault_count T.handed_out T.tells
         (topology_in engine.old) (O.meaning custom.now) (cut_in engine.old) result engine.old
         engine.new parts.old parts.new ticks.old ticks.new }
-    ensures once { OnErr result (IsOnce (length (cut_in engine.old).records)
-        (cut_in engine.old).size last_tick engine.new.fates) }
+    ensures once { OnErr result (IsOnce (cut_in engine.old) last_tick engine.new.fates) }
     ensures kept { AreKept C.tells parts.old parts.new }
 {
     laws_of_steps::<C>();

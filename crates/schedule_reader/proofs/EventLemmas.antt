@@ -12,7 +12,7 @@ use Rattle.storm_values.specs.Lines.{first_some}
 use Rattle.schedule_reader.specs.Limits.{most_rounds}
 use Rattle.schedule_reader.specs.Schedules.{AreDigits, SaysNumber, Says, number_of, number_after, said_by, few_rounds, event_of}
 use Rattle.schedule_reader.specs.declared.event.Event.{Event}
-use Rattle.schedule_reader.specs.declared.event.Event.TheVariants.{Task, Acker, Coord, Tick, Rounds}
+use Rattle.schedule_reader.specs.declared.event.Event.TheVariants.{Task, Acker, Coord, Tick, Shut, Open, Rounds}
 
 -- ---- a line is read as what it says
 
@@ -34,12 +34,24 @@ read_task : (digits : List ℕ)
     → event_of (codes "task " ++ digits) ≡ option_map Task (number_of digits)
 unfolding event_of
 read_task digits =
-    before_none (option_map Task (number_of digits)) (None ∷ None ∷ None ∷ None ∷ []) refl
+    before_none (option_map Task (number_of digits))
+    (None ∷ None ∷ None ∷ None ∷ None ∷ None ∷ []) refl
 
 read_acker : (digits : List ℕ)
     → event_of (codes "acker " ++ digits) ≡ option_map Acker (number_of digits)
 unfolding event_of
-read_acker digits = before_none (option_map Acker (number_of digits)) (None ∷ None ∷ None ∷ []) refl
+read_acker digits =
+    before_none (option_map Acker (number_of digits)) (None ∷ None ∷ None ∷ None ∷ None ∷ []) refl
+
+read_shut : (digits : List ℕ)
+    → event_of (codes "shut " ++ digits) ≡ option_map Shut (number_of digits)
+unfolding event_of
+read_shut digits = before_none (option_map Shut (number_of digits)) (None ∷ None ∷ []) refl
+
+read_open : (digits : List ℕ)
+    → event_of (codes "open " ++ digits) ≡ option_map Open (number_of digits)
+unfolding event_of
+read_open digits = before_none (option_map Open (number_of digits)) (None ∷ []) refl
 
 read_rounds : (digits : List ℕ)
     → event_of (codes "rounds " ++ digits) ≡ option_and_then few_rounds (number_of digits)
@@ -66,6 +78,10 @@ read_of_said line (Acker n) (digits, are, value, is) =
     rw is (read_acker digits ∙ ap (option_map Acker) (number_of-Some digits n are value))
 read_of_said line Coord is = rw is read_coord
 read_of_said line Tick is = rw is read_tick
+read_of_said line (Shut n) (digits, are, value, is) =
+    rw is (read_shut digits ∙ ap (option_map Shut) (number_of-Some digits n are value))
+read_of_said line (Open n) (digits, are, value, is) =
+    rw is (read_open digits ∙ ap (option_map Open) (number_of-Some digits n are value))
 read_of_said line (Rounds n) ((digits, are, value, is), few) =
     let number = number_of-Some digits n are value in
     rw is (read_rounds digits ∙ ap (option_and_then few_rounds) number ∙ few_rounds-Some n few)
@@ -120,6 +136,20 @@ acker_said None line event is read = cc
 acker_said (Some n) line event is read =
     subst (Says line) (same_Some (Acker n) event read) (said_after (codes "acker ") line n is)
 
+shut_said : (found : Option ℕ) (line : List ℕ) (event : Event)
+    → number_after (codes "shut ") line ≡ found → option_map Shut found ≡ Some event
+    → Says line event
+shut_said None line event is read = cc
+shut_said (Some n) line event is read =
+    subst (Says line) (same_Some (Shut n) event read) (said_after (codes "shut ") line n is)
+
+open_said : (found : Option ℕ) (line : List ℕ) (event : Event)
+    → number_after (codes "open ") line ≡ found → option_map Open found ≡ Some event
+    → Says line event
+open_said None line event is read = cc
+open_said (Some n) line event is read =
+    subst (Says line) (same_Some (Open n) event read) (said_after (codes "open ") line n is)
+
 rounds_by : (few : Bool) (n : ℕ) (line : List ℕ) (event : Event)
     → number_after (codes "rounds ") line ≡ Some n → leb n 10000000 ≡ few
     → cond few (Some (Rounds n)) None ≡ Some event → Says line event
@@ -148,15 +178,26 @@ word_said word line this event says read =
     word_by (bytes_eq line word) word line this event refl says read
 
 -- the first that is there is one of them
-first_of : {P : Type 0} (a b c d e : Option Event) (event : Event) → (a ≡ Some event → P)
+first_of : {P : Type 0} (a b c d e f g : Option Event) (event : Event) → (a ≡ Some event → P)
     → (b ≡ Some event → P) → (c ≡ Some event → P) → (d ≡ Some event → P) → (e ≡ Some event → P)
-    → first_some (a ∷ b ∷ c ∷ d ∷ e ∷ []) ≡ Some event → P
-first_of (Some x) b c d e event from_a from_b from_c from_d from_e is = from_a is
-first_of None (Some x) c d e event from_a from_b from_c from_d from_e is = from_b is
-first_of None None (Some x) d e event from_a from_b from_c from_d from_e is = from_c is
-first_of None None None (Some x) e event from_a from_b from_c from_d from_e is = from_d is
-first_of None None None None (Some x) event from_a from_b from_c from_d from_e is = from_e is
-first_of None None None None None event from_a from_b from_c from_d from_e is = cc
+    → (f ≡ Some event → P) → (g ≡ Some event → P)
+    → first_some (a ∷ b ∷ c ∷ d ∷ e ∷ f ∷ g ∷ []) ≡ Some event → P
+first_of (Some x) b c d e f g event from_a from_b from_c from_d from_e from_f from_g is =
+    from_a is
+first_of None (Some x) c d e f g event from_a from_b from_c from_d from_e from_f from_g is =
+    from_b is
+first_of None None (Some x) d e f g event from_a from_b from_c from_d from_e from_f from_g is =
+    from_c is
+first_of None None None (Some x) e f g event from_a from_b from_c from_d from_e from_f from_g is =
+    from_d is
+first_of None None None None (Some x) f g event from_a from_b from_c from_d from_e from_f from_g is =
+    from_e is
+first_of None None None None None (Some x) g event from_a from_b from_c from_d from_e from_f from_g is =
+    from_f is
+first_of None None None None None None (Some x) event from_a from_b from_c from_d from_e from_f from_g is =
+    from_g is
+first_of None None None None None None None event from_a from_b from_c from_d from_e from_f from_g is =
+    cc
 
 pub said_of_read : (line : List ℕ) (event : Event) → event_of line ≡ Some event → Says line event
 unfolding event_of
@@ -166,11 +207,15 @@ said_of_read line event read =
     (option_map Acker (number_after (codes "acker ") line))
     (said_by (codes "coord") Coord line)
     (said_by (codes "tick") Tick line)
+    (option_map Shut (number_after (codes "shut ") line))
+    (option_map Open (number_after (codes "open ") line))
     (option_and_then few_rounds (number_after (codes "rounds ") line))
     event
     (task_said (number_after (codes "task ") line) line event refl)
     (acker_said (number_after (codes "acker ") line) line event refl)
     (word_said (codes "coord") line Coord event (λ is. is))
     (word_said (codes "tick") line Tick event (λ is. is))
+    (shut_said (number_after (codes "shut ") line) line event refl)
+    (open_said (number_after (codes "open ") line) line event refl)
     (rounds_said (number_after (codes "rounds ") line) line event refl)
     read

@@ -10,7 +10,7 @@ use Rattle.topology_plan.specs.Topology.{Topology}
 use Rattle.schedule_reader.specs.Events.{fits_event}
 use Rattle.schedule_reader.specs.Limits.{most_schedule_bytes, most_digits, most_rounds}
 use Rattle.schedule_reader.specs.declared.event.Event.{Event}
-use Rattle.schedule_reader.specs.declared.event.Event.TheVariants.{Task, Acker, Coord, Tick, Rounds}
+use Rattle.schedule_reader.specs.declared.event.Event.TheVariants.{Task, Acker, Coord, Tick, Shut, Open, Rounds}
 use Rattle.schedule_reader.specs.declared.fault.ScheduleFault.{ScheduleFault}
 use Rattle.schedule_reader.specs.declared.fault.ScheduleFault.TheVariants.{TooLong, Line, NoTask}
 
@@ -32,6 +32,8 @@ Says line (Task n) = SaysNumber (codes "task ") n line
 Says line (Acker n) = SaysNumber (codes "acker ") n line
 Says line Coord = line ≡ codes "coord"
 Says line Tick = line ≡ codes "tick"
+Says line (Shut n) = SaysNumber (codes "shut ") n line
+Says line (Open n) = SaysNumber (codes "open ") n line
 Says line (Rounds n) = SaysNumber (codes "rounds ") n line × (n ≤ most_rounds)
 
 -- the number that one to eight decimal digits say; zeros may lead
@@ -66,6 +68,8 @@ event_of line =
     ∷ option_map Acker (number_after (codes "acker ") line)
     ∷ said_by (codes "coord") Coord line
     ∷ said_by (codes "tick") Tick line
+    ∷ option_map Shut (number_after (codes "shut ") line)
+    ∷ option_map Open (number_after (codes "open ") line)
     ∷ option_and_then few_rounds (number_after (codes "rounds ") line)
     ∷ [])
 

@@ -9,14 +9,17 @@ ghost use Rattle.schedule_reader.specs.declared.event.Event.{Event};
 use crate::limits::{MOST_DIGITS, MOST_ROUNDS};
 use storm_values::Seq;
 
-/// A step of a schedule: a turn of a task, of an acker or of the coordinator, a tick, or so many
-/// rounds, in each of which all of them have a turn. Tasks and ackers are numbered from 0.
+/// A step of a schedule: a turn of a task, of an acker or of the coordinator, a tick, a partition
+/// that is shut or opened, or so many rounds, in each of which all tasks, all ackers and the
+/// coordinator have a turn. Tasks, ackers and partitions are numbered from 0.
 #[derive(Clone, Copy, Debug, PartialEq, Eq)]
 pub enum Event {
     Task(u32),
     Acker(u32),
     Coord,
     Tick,
+    Shut(u32),
+    Open(u32),
     Rounds(u32),
 }
 
@@ -39,6 +42,12 @@ pub fn event_from_line(line: &[u8]) -> Option<Event>
     }
     if line == b"tick".as_slice() {
         return Some(Event::Tick);
+    }
+    if let Some(partition) = number_after(line, b"shut ") {
+        return Some(Event::Shut(partition));
+    }
+    if let Some(partition) = number_after(line, b"open ") {
+        return Some(Event::Open(partition));
     }
     match number_after(line, b"rounds ") {
         Some(rounds) if rounds <= MOST_ROUNDS => Some(Event::Rounds(rounds)),

@@ -12,7 +12,7 @@ pub enum ScheduleFault {
     TooLong,
     /// The line is no step.
     Line(u64),
-    /// The line names a task or an acker that is not there.
+    /// The line names a task, an acker or a partition that is not there.
     NoTask(u64),
     Memory,
 }

@@ -50,6 +50,7 @@ fn read_step(line: &[u8], number: u64, plan: &Plan) -> Result<Event, ScheduleFau
     let there = match event {
         Event::Task(task) => task < plan.tasks(),
         Event::Acker(acker) => acker < plan.ackers(),
+        Event::Shut(partition) | Event::Open(partition) => partition < plan.partitions(),
         Event::Coord | Event::Tick | Event::Rounds(_) => true,
     };
     if there {

@@ -34,7 +34,7 @@ use Rattle.event_worlds.specs.topology_plan.Topology.{Topology}
 use Rattle.event_worlds.specs.tree_model.declared.write.Table.{Table}
 use Rattle.event_worlds.specs.tree_model.Tables.{AreTables, states_of}
 use Rattle.event_worlds.specs.tree_model.Trees.{writes}
-use Rattle.event_worlds.specs.trident_batches.Batches.{Cut}
+use Rattle.event_worlds.specs.taken_records.Cuts.{Cut}
 use Rattle.worker_runs.specs.WorkerRuns.{NothingRanOut}
 
 -- batches of an input have a size
@@ -43,7 +43,7 @@ some_size t cut input = subst (λ (n : ℕ). 0 < n) (sym input.size) input.valid
 
 -- a whole run committed as many batches as there are
 all_committed : (cut : Cut) (ticks : ℕ) (fates : List Attempt)
-    → IsWhole (length cut.records) cut.size ticks fates → committed_count fates ≡ batches_in cut
+    → IsWhole cut ticks fates → committed_count fates ≡ batches_in cut
 all_committed cut ticks fates whole =
     ap length whole.all_committed ∙ length-range_with_len 1 (batches_in cut)
 
@@ -110,7 +110,7 @@ module _ {S M : Type 0} {tells : S → CellMap → Type 0} {count : S → ℕ}
 
     -- ---- what the end says
 
-    whole_by : answer ≡ Ok ended.All → IsWhole (length cut.records) cut.size ticks fates
+    whole_by : answer ≡ Ok ended.All → IsWhole cut ticks fates
     whole_by is =
         subst (λ (r : Result Ended Stop). Answers t cut ticks fates r) is run.told_so.answers
 

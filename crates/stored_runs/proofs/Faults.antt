@@ -22,7 +22,7 @@ use Rattle.stored_runs.specs.Makers.{CountsOf, FaultsAreCounted, FaultsBeforeBad
 use Rattle.storm_stores.specs.CellMaps.{CellMap}
 use Rattle.event_worlds.specs.storm_values.Counts.{raised, raised_by}
 use Rattle.event_worlds.specs.topology_plan.Topology.{Topology}
-use Rattle.event_worlds.specs.trident_batches.Batches.{Cut}
+use Rattle.event_worlds.specs.taken_records.Cuts.{Cut}
 use Rattle.event_worlds.specs.tuple_account.Ends.{CauseBy, IsPart}
 
 -- ---- each part

@@ -23,7 +23,7 @@ use Rattle.event_worlds.specs.topology_plan.declared.parts.Kind.{Kind}
 use Rattle.event_worlds.specs.topology_plan.Topology.{Topology, tasks_of}
 use Rattle.event_worlds.specs.tree_model.declared.write.Write.{Write}
 use Rattle.event_worlds.specs.tree_model.Trees.{nodes_of}
-use Rattle.event_worlds.specs.trident_batches.Batches.{Cut}
+use Rattle.event_worlds.specs.taken_records.Cuts.{Cut}
 
 -- What the calls of a body told of a maker and of the parts: it made the parts, a run went over
 -- them, they were read, and their stores went back.

@@ -16,7 +16,7 @@ use Rattle.event_worlds.specs.state_parts.declared.answer.CommitOutcome.{CommitO
 use Rattle.event_worlds.specs.topology_plan.Topology.{Topology, tasks_in_all}
 use Rattle.event_worlds.specs.tree_model.declared.messages.Parcel.{Parcel}
 use Rattle.event_worlds.specs.tree_model.declared.messages.Parcel.TheVariants.{ToAcker, ToTask}
-use Rattle.event_worlds.specs.trident_batches.Batches.{Cut}
+use Rattle.event_worlds.specs.taken_records.Cuts.{Cut}
 
 -- ---- ticks
 

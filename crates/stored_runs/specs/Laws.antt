@@ -22,7 +22,7 @@ use Rattle.event_worlds.specs.topology_plan.Wired.{IsWired}
 use Rattle.event_worlds.specs.tree_model.declared.write.Table.{Table}
 use Rattle.event_worlds.specs.tree_model.Tables.{AreTables, states_of}
 use Rattle.event_worlds.specs.tree_model.Trees.{writes}
-use Rattle.event_worlds.specs.trident_batches.Batches.{Cut}
+use Rattle.event_worlds.specs.taken_records.Cuts.{Cut}
 use Rattle.event_worlds.specs.tuple_account.Ends.{IsPart}
 
 -- Worlds are accounted for, and enough rounds in which nothing is lost commit every batch.

@@ -13,7 +13,7 @@ use Rattle.event_worlds.specs.storm_values.Counts.{raised_by}
 use Rattle.event_worlds.specs.topology_plan.Topology.{Topology, tasks_of}
 use Rattle.event_worlds.specs.tree_model.Tables.{folded}
 use Rattle.event_worlds.specs.tree_model.declared.write.Write.{Write}
-use Rattle.event_worlds.specs.trident_batches.Batches.{Cut}
+use Rattle.event_worlds.specs.taken_records.Cuts.{Cut}
 use Rattle.std.specs.Prelude.{filter}
 
 -- A store, as it stood at some moment, told these cells and had failed so often. Only the calls of

@@ -20,7 +20,7 @@ use Rattle.stored_runs.specs.Makers.{BeganEmpty, FaultsAreCounted, FaultsBeforeB
 use Rattle.event_worlds.specs.topology_plan.Topology.{Topology}
 use Rattle.event_worlds.specs.tree_model.Tables.{AreTables}
 use Rattle.event_worlds.specs.tree_model.Trees.{writes}
-use Rattle.event_worlds.specs.trident_batches.Batches.{Cut}
+use Rattle.event_worlds.specs.taken_records.Cuts.{Cut}
 
 -- ---- each end
 
@@ -30,13 +30,13 @@ use Rattle.event_worlds.specs.trident_batches.Batches.{Cut}
 -- failed at the last reading; or a store had at this key a cell before the run that no part takes.
 abbrev pub EndComes : Topology → Custom → Cut → ℕ → MakerUse → List Attempt → RunEnd → Type 0
 EndComes t custom cut ticks maker fates (end.All tables) =
-    IsWhole (length cut.records) cut.size ticks fates
+    IsWhole cut ticks fates
     × (BeganEmpty t maker → AreTables t custom (writes t custom cut.records) tables)
 EndComes t custom cut ticks maker fates (end.Exhausted txid) = HasRunOut t txid fates
 EndComes t custom cut ticks maker fates (end.Unfinished k) =
     (committed_count fates ≡ k) × (k < batches_in cut)
 EndComes t custom cut ticks maker fates end.StoreFault =
-    IsWhole (length cut.records) cut.size ticks fates
+    IsWhole cut ticks fates
 EndComes t custom cut ticks maker fates (end.BadCell key) = HadStrangeAt t maker key
 
 -- What the end says of faults: what stores failed is what the fates tell, and one fault more at the
@@ -62,7 +62,7 @@ pub record HaveCauses (told : (ℕ → ℕ → ℕ) → Type 0) (t : Topology) (
 pub record IsRun (told : (ℕ → ℕ → ℕ) → Type 0) (t : Topology) (custom : Custom) (cut : Cut)
     (ticks : ℕ) (maker : MakerUse) (fates : List Attempt) (ending : RunEnd) : Type 0 where
   -- each batch was committed once at most, and in order
-  pub once : IsOnce (length cut.records) cut.size ticks fates
+  pub once : IsOnce cut ticks fates
   pub comes : EndComes t custom cut ticks maker fates ending
   -- each end has its cause
   pub caused : HaveCauses told t custom cut ticks fates

@@ -15,11 +15,11 @@ use crate::ending::RunEnd;
 use crate::laws::laws_of_runs;
 use event_worlds::attempt_fates::Fates;
 use event_worlds::bolt_ops::RowOp;
+use event_worlds::record_offers::Offers;
 use event_worlds::state_parts::Parts;
 use event_worlds::storm_ids::IdMaker;
 use event_worlds::storm_values::Memory;
 use event_worlds::topology_plan::Plan;
-use event_worlds::trident_batches::Batches;
 use schedule_core::{Events, replay};
 use std::alloc::Global;
 use storm_stores::StoreMaker;
@@ -32,7 +32,7 @@ use storm_stores::StoreMaker;
 pub fn replay_over<N: IdMaker, M: StoreMaker, O: RowOp>(
     alloc: Global,
     plan: &Plan,
-    batches: Batches,
+    offers: Offers,
     events: &Events,
     ids: &mut N,
     stores: &mut M,
@@ -40,37 +40,37 @@ pub fn replay_over<N: IdMaker, M: StoreMaker, O: RowOp>(
     fates: &mut Fates,
 ) -> Result<RunEnd, Memory>
     requires empty { fates.old ≡ [] }
-    requires input { IsInput plan.now batches }
+    requires input { IsInput plan.now offers }
     requires fit { AllByRecursion (FitsEvent plan.now) events.now }
 
     // What the end, the fates and the stores come to.
-    ensures comes { IfOk result (IsRun (N.tells ids.old) plan.now (O.meaning custom.now) batches
+    ensures comes { IfOk result (IsRun (N.tells ids.old) plan.now (O.meaning custom.now) offers
         (ticks_in (all_steps plan.now events.now))
         (maker_use M.C.tells M.C.fault_count M.holds M.has_made M.fault_count
         stores.old stores.new) fates.new) }
-    ensures once { IsOnce (length batches.records) batches.size last_tick fates.new }
+    ensures once { IsOnce offers last_tick fates.new }
     ensures back { CameBack plan.now
         (maker_use M.C.tells M.C.fault_count M.holds M.has_made M.fault_count
         stores.old stores.new) }
-    ensures short { OnErr result (StandsWithoutMemory plan.now (O.meaning custom.now) batches
+    ensures short { OnErr result (StandsWithoutMemory plan.now (O.meaning custom.now) offers
         (maker_use M.C.tells M.C.fault_count M.holds M.has_made M.fault_count
         stores.old stores.new) fates.new) }
 
     // It is the run of one world.
     ensures world { IfOk result (IsRunOfWorld (N.tells ids.old) plan.now (O.meaning custom.now)
-        batches (all_steps plan.now events.now) fates.new) }
+        offers (all_steps plan.now events.now) fates.new) }
 
     // With rounds enough and few ticks every batch is committed, where nothing is in the way.
     ensures finishes { NothingIsInTheWay plan.now
         (maker_use M.C.tells M.C.fault_count M.holds M.has_made M.fault_count
         stores.old stores.new) fates.new
-        → HasRounds plan.now (rounds_needed plan.now (O.meaning custom.now) batches)
+        → HasRounds plan.now (rounds_needed plan.now (O.meaning custom.now) offers)
         (all_steps plan.now events.now)
         → ticks_in (all_steps plan.now events.now) < plan.now.buckets → IfOk result IsAll }
 {
     laws_of_runs::<M::C>();
     let mut parts = Parts::make(alloc, plan, stores)?;
-    let answer = replay(alloc, plan, batches, events, ids, &mut parts, custom, fates);
+    let answer = replay(alloc, plan, offers, events, ids, &mut parts, custom, fates);
     let ended = close(plan, &mut parts, answer);
     parts.give_back(stores);
     ended

@@ -2,7 +2,7 @@
 ghost use Rattle.event_worlds.specs.bolt_ops.RowOp.{Custom};
 ghost use Rattle.stored_runs.specs.Laws.{PartLaws, WorldLaws};
 ghost use Rattle.event_worlds.specs.topology_plan.Topology.{Topology};
-ghost use Rattle.event_worlds.specs.trident_batches.Batches.{Cut};
+ghost use Rattle.event_worlds.specs.taken_records.Cuts.{Cut};
 
 use batch_commits::{
     counts_run_on, failures_of_commits_are_counted, parts_that_stand_have_the_tables,

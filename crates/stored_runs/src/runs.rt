@@ -14,10 +14,10 @@ use crate::rounds::run_over_rounds;
 use crate::workers::run_over_workers;
 use event_worlds::attempt_fates::Fates;
 use event_worlds::bolt_ops::RowOp;
+use event_worlds::record_offers::Offers;
 use event_worlds::storm_ids::IdMaker;
 use event_worlds::storm_values::Memory;
 use event_worlds::topology_plan::Plan;
-use event_worlds::trident_batches::Batches;
 use std::alloc::Global;
 use std::sync::Wait;
 use std::thread::Threads;
@@ -37,7 +37,7 @@ pub fn run_over<R: Threads + Wait + Sync, T: Ticks, N: IdMaker, M: StoreMaker, O
     rt: &R,
     alloc: Global,
     plan: &Plan,
-    batches: Batches,
+    offers: Offers,
     workers: u32,
     ticks: &mut T,
     ids: &mut N,
@@ -50,21 +50,21 @@ where
     N::I: Send,
     M::C: Send,
     requires empty { fates.old ≡ [] }
-    requires input { IsInput plan.now batches }
+    requires input { IsInput plan.now offers }
     requires some { 1 ≤ workers }
     requires few { workers ≤ 64 }
 
     // What the end, the fates and the stores come to.
-    ensures comes { IfOk result (IsRun (N.tells ids.old) plan.now (O.meaning custom.now) batches
+    ensures comes { IfOk result (IsRun (N.tells ids.old) plan.now (O.meaning custom.now) offers
         (ticks_between (T.handed_out ticks.old) (T.handed_out ticks.new))
         (maker_use M.C.tells M.C.fault_count M.holds M.has_made M.fault_count
         stores.old stores.new) fates.new) }
     ensures goes_on { (k : ℕ) → result ≡ Ok (RunEnd.Unfinished k) → ⊥ }
-    ensures once { IsOnce (length batches.records) batches.size last_tick fates.new }
+    ensures once { IsOnce offers last_tick fates.new }
     ensures back { CameBack plan.now
         (maker_use M.C.tells M.C.fault_count M.holds M.has_made M.fault_count
         stores.old stores.new) }
-    ensures short { OnErr result (StandsWithoutMemory plan.now (O.meaning custom.now) batches
+    ensures short { OnErr result (StandsWithoutMemory plan.now (O.meaning custom.now) offers
         (maker_use M.C.tells M.C.fault_count M.holds M.has_made M.fault_count
         stores.old stores.new) fates.new) }
 
@@ -74,13 +74,13 @@ where
         → NothingIsInTheWay plan.now
         (maker_use M.C.tells M.C.fault_count M.holds M.has_made M.fault_count
         stores.old stores.new) fates.new
-        → sum (first_answers (rounds_needed plan.now (O.meaning custom.now) batches) to_come)
+        → sum (first_answers (rounds_needed plan.now (O.meaning custom.now) offers) to_come)
         < plan.now.buckets → IfOk result IsAll }
 {
     if workers == 1 {
-        return run_over_rounds(rt, alloc, plan, batches, ticks, ids, stores, custom, fates);
+        return run_over_rounds(rt, alloc, plan, offers, ticks, ids, stores, custom, fates);
     }
     run_over_workers(
-        rt, alloc, plan, batches, workers, ticks, ids, stores, custom, gate, fates,
+        rt, alloc, plan, offers, workers, ticks, ids, stores, custom, gate, fates,
     )
 }

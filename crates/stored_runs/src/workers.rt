@@ -13,11 +13,11 @@ use crate::ending::RunEnd;
 use crate::laws::laws_of_runs;
 use event_worlds::attempt_fates::Fates;
 use event_worlds::bolt_ops::RowOp;
+use event_worlds::record_offers::Offers;
 use event_worlds::state_parts::Parts;
 use event_worlds::storm_ids::IdMaker;
 use event_worlds::storm_values::Memory;
 use event_worlds::topology_plan::Plan;
-use event_worlds::trident_batches::Batches;
 use std::alloc::Global;
 use std::sync::Wait;
 use std::thread::Threads;
@@ -44,7 +44,7 @@ pub fn run_over_workers<
     rt: &R,
     alloc: Global,
     plan: &Plan,
-    batches: Batches,
+    offers: Offers,
     workers: u32,
     ticks: &mut T,
     ids: &mut N,
@@ -57,21 +57,21 @@ where
     N::I: Send,
     M::C: Send,
     requires empty { fates.old ≡ [] }
-    requires input { IsInput plan.now batches }
+    requires input { IsInput plan.now offers }
     requires some { 1 ≤ workers }
     requires few { workers ≤ 64 }
 
     // What the end, the fates and the stores come to.
-    ensures comes { IfOk result (IsRun (N.tells ids.old) plan.now (O.meaning custom.now) batches
+    ensures comes { IfOk result (IsRun (N.tells ids.old) plan.now (O.meaning custom.now) offers
         (ticks_between (T.handed_out ticks.old) (T.handed_out ticks.new))
         (maker_use M.C.tells M.C.fault_count M.holds M.has_made M.fault_count
         stores.old stores.new) fates.new) }
     ensures goes_on { (k : ℕ) → result ≡ Ok (RunEnd.Unfinished k) → ⊥ }
-    ensures once { IsOnce (length batches.records) batches.size last_tick fates.new }
+    ensures once { IsOnce offers last_tick fates.new }
     ensures back { CameBack plan.now
         (maker_use M.C.tells M.C.fault_count M.holds M.has_made M.fault_count
         stores.old stores.new) }
-    ensures short { OnErr result (StandsWithoutMemory plan.now (O.meaning custom.now) batches
+    ensures short { OnErr result (StandsWithoutMemory plan.now (O.meaning custom.now) offers
         (maker_use M.C.tells M.C.fault_count M.holds M.has_made M.fault_count
         stores.old stores.new) fates.new) }
 
@@ -81,13 +81,13 @@ where
         → NothingIsInTheWay plan.now
         (maker_use M.C.tells M.C.fault_count M.holds M.has_made M.fault_count
         stores.old stores.new) fates.new
-        → sum (first_answers (rounds_needed plan.now (O.meaning custom.now) batches) to_come)
+        → sum (first_answers (rounds_needed plan.now (O.meaning custom.now) offers) to_come)
         < plan.now.buckets → IfOk result IsAll }
 {
     laws_of_runs::<M::C>();
     let mut parts = Parts::make(alloc, plan, stores)?;
     let done = run_by_workers(
-        rt, alloc, plan, batches, workers, ticks, ids, &mut parts, custom, gate, fates,
+        rt, alloc, plan, offers, workers, ticks, ids, &mut parts, custom, gate, fates,
     );
     let ended = close(plan, &mut parts, as_ended(done));
     parts.give_back(stores);

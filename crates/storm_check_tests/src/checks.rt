@@ -38,9 +38,9 @@ const CHECKS: [(&str, u8, &str); 8] = [
     (r#"{"version":1"#, 3, "topology: no JSON\n"),
     ("[]", 3, "topology: wrong kind \"topology\"\n"),
     (
-        r#"{"version":2}"#,
+        r#"{"version":3}"#,
         3,
-        "topology: \"version\" is 2, not from 1 to 1\n",
+        "topology: \"version\" is 3, not from 1 to 2\n",
     ),
 ];
 

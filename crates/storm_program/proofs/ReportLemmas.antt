@@ -96,7 +96,7 @@ module _ (custom : Custom) (plan : Topology) (records : List (List Value)) (base
 
     pub short_of : IsOnce (length cut.records) cut.size last_tick fates → CameBack plan base.stores → StandsWithoutMemory plan custom cut base.stores fates → IsShort custom plan records base fates
     short_of once back stands = record {
-      once = subst (λ (k : Cut). IsOnce (length k.records) k.size last_tick fates) cut_is once;
+      once = subst (λ (k : Cut). IsOnce k last_tick fates) cut_is once;
       back = back;
       stands = subst (λ (k : Cut). StandsWithoutMemory plan custom k base.stores fates) cut_is stands;
     }

@@ -10,7 +10,7 @@ use Rattle.event_worlds.specs.Worlds.{Known, ended}
 use Rattle.event_worlds.proofs.Leading.{fits-alike, reached-more, starts-more}
 use Rattle.stretch_worlds.specs.Stretching.{IsFit, IsInside, LeavesDesk}
 use Rattle.event_worlds.specs.topology_plan.Topology.{Topology}
-use Rattle.event_worlds.specs.trident_batches.Batches.{Cut}
+use Rattle.event_worlds.specs.taken_records.Cuts.{Cut}
 use Rattle.event_worlds.specs.tuple_account.Fits.{Fits}
 use Rattle.event_worlds.specs.tuple_account.Histories.{History, joined}
 use Rattle.event_worlds.specs.tuple_account.Moves.{HasDrawn, Moves, Station}
@@ -30,8 +30,9 @@ module _ (t : Topology) (custom : Custom) (cut : Cut) (words : ℕ → ℕ → �
     orderly = fit.orderly;
     counted = fit.counted;
     kept = subst (λ (p : Desk × List Attempt). IsKept t cut p.0 p.1) (λ i. (sym same.desk i, sym same.fates i)) led.kept;
-    fits = subst (λ (p : Desk × List Attempt). Fits t (desk_of p.0) (ends_of p.1) (joined h more)) (λ i. (sym same.desk i, sym same.fates i))
-        (fits-alike t (desk_of k.world.desk) (ends_of k.world.fates) h (joined h more) (none_more h.begun more.begun inside.begun) (none_more h.heard more.heard inside.heard) led.fits);
+    fits = subst (λ (p : Desk × List Attempt). Fits t (desk_of cut p.0) (ends_of p.1) (joined h more)) (λ i. (sym same.desk i, sym same.fates i))
+        (fits-alike t (desk_of cut k.world.desk) (ends_of k.world.fates) h (joined h more) (none_more h.begun more.begun inside.begun)
+        (none_more h.heard more.heard inside.heard) led.fits);
     spans = subst (λ (p : Desk × List Attempt). HaveSpans (BeganWith cut (joined h more).begun) p.0 p.1) (λ i. (sym same.desk i, sym same.fates i))
         (spans-alike cut k.world.desk k.world.fates h.begun (joined h more).begun (none_more h.begun more.begun inside.begun) led.spans);
     silent = fit.silent;

@@ -15,7 +15,7 @@ use Rattle.stretch_worlds.specs.Turns.{IsCovered, held_beside, known, task_bench
 use Rattle.event_worlds.specs.topology_plan.Topology.{Topology, tasks_in_all}
 use Rattle.event_worlds.specs.tree_model.declared.messages.Parcel.TheVariants.{ToTask}
 use Rattle.event_worlds.specs.tree_model.declared.messages.Tuple.{Tuple}
-use Rattle.event_worlds.specs.trident_batches.Batches.{Cut}
+use Rattle.event_worlds.specs.taken_records.Cuts.{Cut}
 use Rattle.event_worlds.specs.tuple_account.Benches.{Works}
 use Rattle.event_worlds.specs.tuple_account.Histories.{History, Packet, issued, joined, of_parcel, taken, weigh_parcels}
 use Rattle.event_worlds.specs.tuple_account.Moves.{HasDrawn, Moves, beside}

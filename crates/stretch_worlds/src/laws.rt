@@ -10,7 +10,7 @@ ghost use Rattle.stretch_worlds.specs.Turns.{IsCovered, held_beside, known, task
 ghost use Rattle.event_worlds.specs.topology_plan.Topology.{Topology, tasks_in_all};
 ghost use Rattle.event_worlds.specs.topology_plan.Valid.{IsValid};
 ghost use Rattle.event_worlds.specs.topology_plan.Wired.{IsWired};
-ghost use Rattle.event_worlds.specs.trident_batches.Batches.{Cut};
+ghost use Rattle.event_worlds.specs.taken_records.Cuts.{Cut};
 ghost use Rattle.event_worlds.specs.tuple_account.Benches.{Works};
 ghost use Rattle.event_worlds.specs.tuple_account.Histories.{History, Packet, joined};
 ghost use Rattle.event_worlds.specs.tuple_account.Moves.{HasDrawn, Moves, Station};

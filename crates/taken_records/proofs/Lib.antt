@@ -1,7 +1,9 @@
 pub mod Batching
+pub mod Bounding
 pub mod Fronting
 pub mod Leaving
 pub mod Marking
 pub mod Returning
 pub mod Running
+pub mod Starting
 pub mod Taking

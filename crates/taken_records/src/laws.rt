@@ -1,8 +1,11 @@
-ghost use Rattle.std.specs.Prelude.{◌≡◌, ◌≤◌, ◌<◌, ◌+◌, ◌++◌, ℕ, List, [], ◌∷◌, Bool, true, false, length, min};
+ghost use Rattle.std.specs.Prelude.{◌≡◌, ◌≤◌, ◌<◌, ◌+◌, ◌^◌, ◌++◌, ℕ, List, [], ◌∷◌, Bool, true, false, length, min};
 ghost use Rattle.record_spans.specs.declared.span.Span.{Span};
 ghost use Rattle.record_spans.specs.Spans.{AreRunsOf, stands_in};
 ghost use Rattle.record_spans.specs.Fronts.{AreFronts};
-ghost use Rattle.record_offers.specs.Offers.{AreMarked, OfferState, batch_count, batch_numbers, first_free, is_gone, left_in, offered};
+ghost use Rattle.record_offers.specs.Offers.{AreMarked, OfferState, batch_count, batch_numbers, first_free, fresh, is_gone, left_in, offered};
+ghost use Rattle.record_offers.specs.Starts.{IsPossible};
+ghost use Rattle.storm_values.specs.declared.value.Value.{Value};
+ghost use Rattle.taken_records.specs.Cuts.{IsStart};
 ghost use Rattle.taken_records.specs.Taken.{AreTaken, IsBatch, StayFronts, marked, one_if, passed_with, runs_of, times_in};
 
 /// A law: the marks where those of some spans are set are the only ones that are marked so.
@@ -82,4 +85,16 @@ pub fn all_records_are_taken()
         → one_if (is_gone began n) + times_in taken n ≡ 1 }
     ensures offered { (size partitions : ℕ) (gone : List Bool)
         → length (first_free size partitions 0 gone) ≡ min size (left_in gone) }
+{}
+
+/// A law: offers may start where no record is gone, and after any transactions that may have taken
+/// just the records that are gone.
+pub fn possible_starts_are_starts()
+    ensures fresh { (records : List (List Value)) (size partitions : ℕ) → 0 < size
+        → length records < 2 ^ 64 → IsStart (fresh records size partitions) }
+    ensures after { (records : List (List Value)) (size partitions txid : ℕ)
+        (spans : List Span) (marks : List Bool) → 0 < size → txid + length records < 2 ^ 64
+        → IsPossible (length records) size partitions txid spans
+        → AreMarked (stands_in spans) true (fresh records size partitions).gone marks
+        → IsStart (record (fresh records size partitions) { gone = marks; start = txid }) }
 {}

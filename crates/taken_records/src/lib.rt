@@ -5,5 +5,6 @@
 mod laws;
 
 pub use laws::{
-    all_records_are_taken, fronts_are_kept, marks_are_set, offers_are_runs, records_are_taken_once,
+    all_records_are_taken, fronts_are_kept, marks_are_set, offers_are_runs,
+    possible_starts_are_starts, records_are_taken_once,
 };

@@ -16,6 +16,7 @@ no_plan = record {
   spout_fields = [];
   spout_kind = Transactional;
   batch = 0;
+  partitions = 0;
   components = [];
   spout_subs = [];
   component_subs = [];

@@ -1,29 +1,49 @@
 -- What a file says is in range.
 use Rattle.topology_plan.specs.declared.parts.Fold.TheVariants as fold_of
-use Rattle.topology_form.specs.Prelude.{Data, most_ackers, most_pending, least_buckets, most_buckets, most_attempts, TopoFault, FileParts, Fold, Count, Sum, Last, Max, Input, ComponentPart}
+use Rattle.topology_form.specs.Prelude.{Data, most_partitions, most_ackers, most_pending, least_buckets, most_buckets, most_attempts, TopoFault, FileParts, Fold, Count, Sum, Last, Max, Input, ComponentPart, Kind, Transactional, Opaque}
 use Rattle.topology_form.specs.declared.parts.{GroupingWord.GroupingWord}
 use Rattle.topology_form.specs.declared.parts.GroupingPart.TheVariants as said
 use Rattle.topology_form.specs.declared.parts.GroupingWord.TheVariants as word
 use Rattle.topology_plan.specs.Valid.{IsBetween}
-use Rattle.std.proofs.Common.{◌≡◌, ℕ, List, [], ◌∷◌, length, All, Bool, true, false, subst, codes, None, Result, Ok, Err, IfOk, refl, sym, lit≤}
+use Rattle.std.proofs.Common.{◌≡◌, ◌<◌, ◌≤◌, ◌==◌, ℕ, List, [], ◌∷◌, length, All, Bool, true, false, subst, codes, None, Result, Ok, Err, IfOk, refl, sym, lit≤, arith}
 use Rattle.std.specs.Result.{result_err, result_unwrap_or}
 use Rattle.std.proofs.lemmas.List.{length-map}
 use Rattle.std.proofs.lemmas.List.Elements.{All-nil, All-cons, All-append, All-weaker}
 use Rattle.std.proofs.lemmas.Option.{none-some}
-use Rattle.topology_form.specs.Format.{form_fault, parts_said, blank, file_of, grouping_of, a_grouping, amount_for, grouped_by, a_spout, an_input, a_bolt, a_state, some_numbers, a_file}
+use Rattle.std.proofs.lemmas.Result.{IfOk-weaker}
+use Rattle.topology_form.specs.Format.{form_fault, parts_said, blank, file_of, grouping_of, a_grouping, amount_for, grouped_by, has_partitions, partitions_if, a_spout, an_input, a_bolt, a_state, some_numbers, a_file}
 use Rattle.topology_form.specs.Reading.{an_object}
 use Rattle.topology_form.specs.Ranges.{IsSpoutInRange, IsGroupingInRange, HasAmount, IsComponentInRange, is_bolt, IsInRange}
 use Rattle.topology_form.proofs.OperationRanges.{operation_good}
 use Rattle.topology_form.proofs.Good.{IsOf, Reads, Makes, first, had, reads, object_of, a_member, may_be, number_of, name_of, any_of, names_of, objects_of}
 
-pub spout_of : IsOf IsSpoutInRange (an_object a_spout)
-spout_of =
+-- the partitions of a spout of this kind
+record ArePartitions (kind : Kind) (partitions : ℕ) : Type 0 where
+  few : partitions ≤ most_partitions
+  opaque : 0 < partitions → kind ≡ Opaque
+
+opaque_read : (has : Bool) → Reads (ArePartitions Opaque) (partitions_if has)
+opaque_read true = record {
+  holds = λ object. IfOk-weaker (partitions_if true object) _ _ (λ read is. record { few = is.1; opaque = λ some. refl }) (all.holds object);
+}
+  where
+    all : Reads (λ n. IsBetween n 1 most_partitions) (partitions_if true)
+    all = a_member _ number_of
+opaque_read false = reads (had _ (record { few = lit≤ tt; opaque = λ some. refl }))
+
+partitions_read : (version : ℕ) (kind : Kind) → Reads (ArePartitions kind) (partitions_if (has_partitions version kind))
+partitions_read version Transactional = reads (had _ (record { few = lit≤ tt; opaque = λ some. absurd (omega arith) }))
+partitions_read version Opaque = opaque_read (version == 2)
+
+pub spout_of : (version : ℕ) → IsOf IsSpoutInRange (an_object (a_spout version))
+spout_of version =
     object_of
     (first (a_member _ name_of) (λ name named.
     first (a_member _ any_of) (λ kind _.
     first (a_member _ names_of) (λ fields are.
     first (a_member _ number_of) (λ batch is.
-    had _ (record { name = named; fields = are.0; field_names = are.1; batch = is }))))))
+    first (partitions_read version kind) (λ partitions so.
+    had _ (record { name = named; fields = are.0; field_names = are.1; batch = is; partitions = so.few; partitioned = so.opaque })))))))
 
 -- ---- bolts
 
@@ -111,7 +131,7 @@ file_in_range : IsOf IsInRange (an_object a_file)
 file_in_range =
     object_of
     (first (a_member _ any_of) (λ version _.
-    first (a_member _ spout_of) (λ spout good.
+    first (a_member _ (spout_of version)) (λ spout good.
     first (a_member _ (objects_of bolt_of)) (λ bolts are.
     first (a_member _ (objects_of state_of)) (λ states some.
     first numbers_read (λ numbers are_so.

@@ -1,7 +1,7 @@
 -- What the objects of a topology file say. This project's own.
-use Rattle.std.specs.Prelude.{ℕ, List, [], ◌∷◌, map, Option, Some, None, Result, codes}
+use Rattle.std.specs.Prelude.{ℕ, ◌==◌, Bool, true, false, List, [], ◌∷◌, map, Option, Some, None, Result, codes}
 use Rattle.std.specs.Result.{result_err, result_unwrap_or}
-use Rattle.topology_form.specs.Prelude.{Data, most_fields, most_batch, most_tasks, most_bolt_inputs, most_state_inputs, most_bolts, most_states, most_ackers, most_pending, least_buckets, most_buckets, most_attempts, TopoFault, FileParts, Fold, Count, Sum, Last, Max, GroupingPart, Input, SpoutPart, ComponentPart, Bolt, State, Kind, Transactional, Opaque}
+use Rattle.topology_form.specs.Prelude.{Data, most_fields, most_batch, most_partitions, most_tasks, most_bolt_inputs, most_state_inputs, most_bolts, most_states, most_ackers, most_pending, least_buckets, most_buckets, most_attempts, TopoFault, FileParts, Fold, Count, Sum, Last, Max, GroupingPart, Input, SpoutPart, ComponentPart, Bolt, State, Kind, Transactional, Opaque}
 use Rattle.topology_form.specs.declared.parts.{GroupingWord.GroupingWord}
 use Rattle.topology_form.specs.declared.parts.GroupingPart.TheVariants as said
 use Rattle.topology_form.specs.declared.parts.GroupingWord.TheVariants as word
@@ -11,14 +11,31 @@ use Rattle.topology_form.specs.Reading.{Reader, ◌>>=◌, done, required, optio
 abbrev pub kinds : List (List ℕ × Kind)
 kinds = (codes "transactional", Transactional) ∷ (codes "opaque", Opaque) ∷ []
 
--- the spout
-abbrev pub a_spout : Reader SpoutPart
-a_spout = do
+-- whether a spout of this kind has partitions in a file of this version
+abbrev pub has_partitions : ℕ → Kind → Bool
+has_partitions version Transactional = false
+has_partitions version Opaque = version == 2
+
+-- the partitions, where a spout has them, and otherwise 0
+abbrev pub partitions_if : Bool → Reader ℕ
+partitions_if true = required (codes "partitions") (a_number 1 most_partitions)
+partitions_if false = done 0
+
+-- the spout in a file of this version
+abbrev pub a_spout : ℕ → Reader SpoutPart
+a_spout version = do
   name ← required (codes "name") a_name
   kind ← required (codes "kind") (a_word kinds)
   fields ← required (codes "fields") (some_names 1 most_fields)
   batch ← required (codes "batch") (a_number 1 most_batch)
-  done (record { name = name; kind = kind; fields = fields; batch = batch })
+  partitions ← partitions_if (has_partitions version kind)
+  done (record {
+    name = name;
+    kind = kind;
+    fields = fields;
+    batch = batch;
+    partitions = partitions;
+  })
 
 -- ---- bolts
 
@@ -104,8 +121,8 @@ some_numbers = do
 
 abbrev pub a_file : Reader FileParts
 a_file = do
-  version ← required (codes "version") (a_number 1 1)
-  spout ← required (codes "spout") (an_object a_spout)
+  version ← required (codes "version") (a_number 1 2)
+  spout ← required (codes "spout") (an_object (a_spout version))
   bolts ← required (codes "bolts") (some_objects 0 most_bolts (an_object a_bolt))
   states ← required (codes "states") (some_objects 1 most_states (an_object a_state))
   numbers ← some_numbers
@@ -122,7 +139,7 @@ a_file = do
 -- a file that says nothing
 abbrev pub blank : FileParts
 blank = record {
-  spout = record { name = []; kind = Transactional; fields = []; batch = 0 };
+  spout = record { name = []; kind = Transactional; fields = []; batch = 0; partitions = 0 };
   bolts = [];
   states = [];
   ackers = 0;

@@ -9,6 +9,7 @@ pub use Rattle.topology_form.specs.declared.fault.TopoFault.{TopoFault}
 pub use Rattle.topology_form.specs.declared.fault.TopoFault.TheVariants.{Missing, WrongKind, UnknownName, OutOfRange, Memory}
 pub use Rattle.topology_form.specs.declared.parts.{BodyPart.BodyPart, ComponentPart.ComponentPart, FileParts.FileParts, GroupingPart.GroupingPart, Input.Input, SpoutPart.SpoutPart}
 pub use Rattle.topology_form.specs.declared.parts.BodyPart.TheVariants.{Bolt, State}
+pub use Rattle.topology_plan.specs.Limits.{most_partitions}
 pub use Rattle.topology_plan.specs.Texts.{is_name, is_name_byte}
 unfoldable pub use Rattle.topology_plan.specs.Texts.{IsName}
 pub use Rattle.topology_plan.specs.declared.parts.{Fold.Fold, Kind.Kind}

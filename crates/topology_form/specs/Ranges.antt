@@ -1,17 +1,19 @@
 -- How large the numbers and the lists are of what a file says, and what its names are, where it has
 -- no fault of form. This project's own.
-use Rattle.std.specs.Prelude.{◌≡◌, ◌≤◌, ℕ, List, ◌++◌, length, Bool, true, false, Option, None, IsSome, All}
-use Rattle.topology_form.specs.Prelude.{most_fields, most_batch, most_tasks, most_bolt_inputs, most_state_inputs, most_bolts, most_states, most_ackers, most_pending, least_buckets, most_buckets, most_attempts, FileParts, IsName, Fold, Count, GroupingPart, Input, SpoutPart, BodyPart, Bolt, State, ComponentPart}
+use Rattle.std.specs.Prelude.{◌≡◌, ◌<◌, ◌≤◌, ℕ, List, ◌++◌, length, Bool, true, false, Option, None, IsSome, All}
+use Rattle.topology_form.specs.Prelude.{most_fields, most_batch, most_partitions, most_tasks, most_bolt_inputs, most_state_inputs, most_bolts, most_states, most_ackers, most_pending, least_buckets, most_buckets, most_attempts, FileParts, IsName, Fold, Count, GroupingPart, Input, SpoutPart, BodyPart, Bolt, State, ComponentPart, Opaque}
 use Rattle.topology_form.specs.declared.parts.GroupingPart.TheVariants as said
 use Rattle.topology_form.specs.Operations.{IsOperationInRange}
 use Rattle.topology_plan.specs.{Valid.IsBetween}
 
--- the spout's name, its fields, and how many records a batch has
+-- the spout's name, its fields, how many records a batch has, and the partitions of an opaque spout
 pub record IsSpoutInRange (spout : SpoutPart) : Type 0 where
   pub name : IsName spout.name
   pub fields : IsBetween (length spout.fields) 1 most_fields
   pub field_names : All IsName spout.fields
   pub batch : IsBetween spout.batch 1 most_batch
+  pub partitions : spout.partitions ≤ most_partitions
+  pub partitioned : 0 < spout.partitions → spout.kind ≡ Opaque
 
 -- the names of a key
 abbrev pub IsGroupingInRange : GroupingPart → Type 0

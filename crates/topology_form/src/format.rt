@@ -3,7 +3,7 @@
 
 ghost use Rattle.std.specs.Prelude.{◌≡◌, ◌≢◌, Some, None, IfOk, IfErr};
 ghost use Rattle.topology_form.specs.Prelude.{Data, view};
-ghost use Rattle.topology_form.specs.Format.{form_fault, parts_said, a_spout, a_grouping, an_input, a_bolt, amount_for, grouped_by, a_state, some_numbers, a_file};
+ghost use Rattle.topology_form.specs.Format.{form_fault, parts_said, has_partitions, partitions_if, a_spout, a_grouping, an_input, a_bolt, amount_for, grouped_by, a_state, some_numbers, a_file};
 ghost use Rattle.topology_form.specs.Ranges.{IsInRange};
 ghost use Rattle.topology_form.specs.Reading.{Takes, left_in};
 
@@ -21,7 +21,7 @@ use storm_values::{
     MOST_BUCKETS, MOST_FIELDS, MOST_PENDING, MOST_STATE_INPUTS, MOST_STATES, MOST_TASKS, Memory,
     Names, Seq, Txt,
 };
-use topology_plan::{Fold, Kind};
+use topology_plan::{Fold, Kind, MOST_PARTITIONS};
 
 /// What a file's value says, or its first fault of form. The value's texts are moved,
 /// and time is linear in it.
@@ -47,17 +47,47 @@ const KINDS: [(&str, Kind); 2] = [
 
 const FIELDS: SomeNames = SomeNames(1, MOST_FIELDS);
 
-struct Spout;
+/// Whether a spout of this kind has partitions in a file of this version.
+fn has_partitions(version: u32, kind: Kind) -> bool
+    ensures { result ≡ has_partitions version kind }
+{
+    match kind {
+        Kind::Transactional => false,
+        Kind::Opaque => version == 2,
+    }
+}
+
+fn partitions_if(object: &mut Object, has: bool) -> Result<u32, TopoFault>
+    ensures { Takes result (left_in object.new) (partitions_if has (left_in object.old)) }
+{
+    if has {
+        object.required("partitions", &Number(1, MOST_PARTITIONS))
+    } else {
+        Ok(0)
+    }
+}
+
+/// The spout in a file of this version.
+#[derive(Drop)]
+struct Spout {
+    version: u32,
+}
 
 impl Reader<SpoutPart> for Spout {
-    ghost reader = { λ _. a_spout };
+    ghost reader = { λ spout. a_spout spout.version };
 
     fn read(&self, object: &mut Object) -> Result<SpoutPart, TopoFault> {
+        let name = object.required("name", &Name)?;
+        let kind = object.required("kind", &Word(&KINDS))?;
+        let fields = object.required("fields", &FIELDS)?;
+        let batch = object.required("batch", &Number(1, MOST_BATCH))?;
+        let partitions = partitions_if(object, has_partitions(self.version, kind))?;
         Ok(SpoutPart {
-            name: object.required("name", &Name)?,
-            kind: object.required("kind", &Word(&KINDS))?,
-            fields: object.required("fields", &FIELDS)?,
-            batch: object.required("batch", &Number(1, MOST_BATCH))?,
+            name,
+            kind,
+            fields,
+            batch,
+            partitions,
         })
     }
 }
@@ -195,8 +225,8 @@ impl Reader<FileParts> for File {
     ghost reader = { λ _. a_file };
 
     fn read(&self, object: &mut Object) -> Result<FileParts, TopoFault> {
-        object.required("version", &Number(1, 1))?;
-        let spout = object.required("spout", &ObjectOf(Spout))?;
+        let version = object.required("version", &Number(1, 2))?;
+        let spout = object.required("spout", &ObjectOf(Spout { version }))?;
         let bolts = object.required("bolts", &SomeObjects(0, MOST_BOLTS, ObjectOf(Bolt)))?;
         let states = object.required("states", &SomeObjects(1, MOST_STATES, ObjectOf(State)))?;
         let (ackers, pending, buckets, attempts) = numbers_from(object)?;

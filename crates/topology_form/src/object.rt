@@ -89,6 +89,7 @@ pub trait Reader<T: Drop> {
 }
 
 /// An object with these members and no other.
+#[derive(Drop)]
 pub struct ObjectOf<R>(pub R);
 
 impl<T: Drop, R: Reader<T>> Form<T> for ObjectOf<R> {

@@ -36,6 +36,8 @@ pub struct SpoutPart {
     pub kind: Kind,
     pub fields: Names,
     pub batch: u32,
+    /// 0 where the spout has none.
+    pub partitions: u32,
 }
 
 #[derive(Drop)]

@@ -4,8 +4,8 @@ use std::alloc::Global;
 use std::test::*;
 use topology_form::parts_from;
 
-const GOOD: &str =
-    r#"{"version":1,"spout":{"name":"lines","kind":"opaque","fields":["sentence","b"],"batch":2},
+const GOOD: &str = r#"{"version":2,
+ "spout":{"name":"lines","kind":"opaque","fields":["sentence","b"],"batch":2,"partitions":5},
  "bolts":[{"name":"split","tasks":2,"op":{"do":"split","field":"sentence","as":"word"},
    "inputs":[{"from":"lines","grouping":"fields","key":["b"]}]}],
  "states":[{"name":"counts","kind":"transactional","parts":2,"key":["word"],"fold":"last","amount":"b","inputs":["split"]}],
@@ -17,6 +17,7 @@ fn file_without_a_fault(rt: HostRuntime) -> Result<(), Fail> {
     let parts = parts_from(rt.alloc(), json).ok().ok_or("it is a file")?;
     assert_eq!(rt; parts.spout.name.as_str(), "lines");
     assert_eq!(rt; parts.spout.batch, 2);
+    assert_eq!(rt; parts.spout.partitions, 5);
     assert_eq!(rt; parts.spout.fields.len(), 2);
     assert_eq!(rt; parts.bolts.len(), 1);
     assert_eq!(rt; parts.states.len(), 1);
@@ -42,7 +43,7 @@ fn first_faults(rt: HostRuntime) -> Result<(), Fail> {
     let cases = [
         ("[]", r#"wrong kind "topology""#),
         (r#"{"a":1}"#, r#"missing "version""#),
-        (r#"{"version":2}"#, r#""version" is 2, not from 1 to 1"#),
+        (r#"{"version":3}"#, r#""version" is 3, not from 1 to 2"#),
         (
             r#"{"version":1,"spout":{"name":"x","kind":"y"}}"#,
             r#"unknown "y""#,

@@ -1,7 +1,7 @@
 // Faults of a file's form. Each line of a table is a file: parts of the valid file, what stands in
 // their places, and what is printed of the fault then.
 use test_kit::Mismatch;
-use topology_test_kit::{check_changes, check_told};
+use topology_test_kit::{PARTITIONED, check_changes, check_changes_of, check_told};
 
 const NO_TOPOLOGIES: [(&str, &str); 10] = [
     ("[]", "wrong kind \"topology\""),
@@ -178,13 +178,14 @@ const UNKNOWN: &str = r#"
 
 // In each range the least and the most are good.
 const RANGES: &str = r#"
-"version":1 | "version":0 | "version" is 0, not from 1 to 1
-"version":1 | "version":2 | "version" is 2, not from 1 to 1
-"version":1 | "version":-1 | "version" is -1, not from 1 to 1
-"version":1 | "version":9223372036854775807 | "version" is 9223372036854775807, not from 1 to 1
-"version":1 | "version":-9223372036854775808 | "version" is -9223372036854775808, not from 1 to 1
-"version":1 | "version":2,"version":1 | no fault
-"version":1 | "version":1,"version":2 | "version" is 2, not from 1 to 1
+"version":1 | "version":0 | "version" is 0, not from 1 to 2
+"version":1 | "version":2 | no fault
+"version":1 | "version":3 | "version" is 3, not from 1 to 2
+"version":1 | "version":-1 | "version" is -1, not from 1 to 2
+"version":1 | "version":9223372036854775807 | "version" is 9223372036854775807, not from 1 to 2
+"version":1 | "version":-9223372036854775808 | "version" is -9223372036854775808, not from 1 to 2
+"version":1 | "version":3,"version":1 | no fault
+"version":1 | "version":1,"version":3 | "version" is 3, not from 1 to 2
 "version":1 | "\u0076ersion":1 | no fault
 "ackers":6 | "ackers":9223372036854775807 | "ackers" is 9223372036854775807, not from 1 to 16
 "fields":["a","b"] | "fields":[] | "fields" is 0, not from 1 to 8
@@ -232,6 +233,39 @@ const RANGES: &str = r#"
 "attempts":9 | "attempts":101 | "attempts" is 101, not from 1 to 100
 "#;
 
+// Of the file of version 2 whose spout has partitions.
+const PARTITIONS: &str = r#"
+"partitions":4 | "partitions":0 | "partitions" is 0, not from 1 to 16
+"partitions":4 | "partitions":1 | no fault
+"partitions":4 | "partitions":16 | no fault
+"partitions":4 | "partitions":17 | "partitions" is 17, not from 1 to 16
+"partitions":4 | "partitions":-1 | "partitions" is -1, not from 1 to 16
+"partitions":4 | "partitions":0,"partitions":4 | no fault
+"partitions":4 | "partitions":null | wrong kind "partitions"
+"partitions":4 | "partitions":"4" | wrong kind "partitions"
+"partitions":4 | "partitions":4.0 | wrong kind "partitions"
+,"partitions":4 | | missing "partitions"
+"partitions":4 | "Partitions":4 | missing "partitions"
+"name":"t" | "name":"t","partitions":4 | unknown "partitions"
+"version":2 | "version":2,"partitions":4 | unknown "partitions"
+"name":"s" | "name":"s","z":0,"b":0 | unknown "b"
+"#;
+
+// Of the same file, changed to one whose spout has no partitions.
+const NO_PARTITIONS: &str = r#"
+"version":2 | "version":1 | unknown "partitions"
+"version":2 | "version":1 | ,"partitions":4 | | no fault
+"version":2 | "version":1 | "partitions":4 | "partitions":null | unknown "partitions"
+"version":2 | "version":1 | "partitions":4 | "partitions":17 | unknown "partitions"
+"version":2 | "version":1 | "name":"s" | "name":"s","b":0 | unknown "b"
+"version":2 | "version":1 | "name":"s" | "name":"s","z":0 | unknown "partitions"
+"s","kind":"opaque" | "s","kind":"transactional" | unknown "partitions"
+"s","kind":"opaque" | "s","kind":"transactional" | ,"partitions":4 | | no fault
+"s","kind":"opaque" | "s","kind":"transactional" | "partitions":4 | "partitions":0 | unknown "partitions"
+"s","kind":"opaque" | "s","kind":"transactional" | "name":"s" | "name":"s","b":0 | unknown "b"
+"s","kind":"opaque" | "s","kind":"transactional" | "name":"s" | "name":"s","z":0 | unknown "partitions"
+"#;
+
 #[test]
 fn texts_that_are_no_topology(rt: HostRuntime) -> Result<(), Mismatch> {
     for (text, want) in NO_TOPOLOGIES {
@@ -263,4 +297,14 @@ fn unknown_words_and_strange_members(rt: HostRuntime) -> Result<(), Mismatch> {
 #[test]
 fn ends_of_the_ranges(rt: HostRuntime) -> Result<(), Mismatch> {
     check_changes(rt.alloc(), RANGES)
+}
+
+#[test]
+fn partitions_of_an_opaque_spout(rt: HostRuntime) -> Result<(), Mismatch> {
+    check_changes_of(rt.alloc(), PARTITIONED, PARTITIONS)
+}
+
+#[test]
+fn partitions_of_other_spouts(rt: HostRuntime) -> Result<(), Mismatch> {
+    check_changes_of(rt.alloc(), PARTITIONED, NO_PARTITIONS)
 }

@@ -1,15 +1,29 @@
 // Files with two faults: the one that stands first in the order of the checks is told. A line of a
 // table of pairs has two changes of the valid file, each with what is printed of its fault.
 use test_kit::Mismatch;
-use topology_test_kit::{check_changes, check_operations, check_pairs, check_pairs_of, full_file};
+use topology_test_kit::{
+    PARTITIONED, check_changes, check_operations, check_pairs, check_pairs_of, full_file,
+};
 
 const WALK_TO_BOLTS: &str = r#"
-"version":1 | "version":0 | "version" is 0, not from 1 to 1 | "spout":{ | "spout":7,"strange":{ | wrong kind "spout"
+"version":1 | "version":0 | "version" is 0, not from 1 to 2 | "spout":{ | "spout":7,"strange":{ | wrong kind "spout"
 "name":"s" | "name":"S" | wrong kind "name" | "kind":"transactional","fields" | "kind":"exact","fields" | unknown "exact"
 "kind":"transactional","fields" | "fields" | missing "kind" | ["a","b"],"batch" | [],"batch" | "fields" is 0, not from 1 to 8
 "fields":["a","b"] | "fields":"a" | wrong kind "fields" | "batch":5 | "batch":0 | "batch" is 0, not from 1 to 100000
 "batch":5 | "batch":null | wrong kind "batch" | "name":"s" | "Name":0,"name":"s" | unknown "Name"
 "name":"s" | "Name":0,"name":"s" | unknown "Name" | "bolts":[ | "bolts":7,"strange":[ | wrong kind "bolts"
+"#;
+
+// Of the file of version 2 whose spout has partitions.
+const WALK_TO_PARTITIONS: &str = r#"
+"version":2 | "version":3 | "version" is 3, not from 1 to 2 | "partitions":4 | "partitions":0 | "partitions" is 0, not from 1 to 16
+"s","kind":"opaque" | "s","kind":"exact" | unknown "exact" | ,"partitions":4 | | missing "partitions"
+"batch":5 | "batch":0 | "batch" is 0, not from 1 to 100000 | "partitions":4 | "partitions":null | wrong kind "partitions"
+"partitions":4 | "partitions":17 | "partitions" is 17, not from 1 to 16 | "name":"s" | "a":0,"name":"s" | unknown "a"
+,"partitions":4 | | missing "partitions" | "name":"s" | "a":0,"name":"s" | unknown "a"
+"partitions":4 | "partitions":"4" | wrong kind "partitions" | "bolts":[] | "bolts":7 | wrong kind "bolts"
+"version":2 | "version":1 | unknown "partitions" | "bolts":[] | "bolts":7 | wrong kind "bolts"
+,"partitions":4 | | missing "partitions" | "t","kind":"opaque" | "t","kind":"transactional" | not exactly once "t"
 "#;
 
 const WALK_OF_BOLTS: &str = r#"
@@ -160,6 +174,11 @@ const DEPTHS: &str = r#"
 #[test]
 fn walk_to_the_bolts(rt: HostRuntime) -> Result<(), Mismatch> {
     check_pairs(rt.alloc(), WALK_TO_BOLTS)
+}
+
+#[test]
+fn walk_to_the_partitions(rt: HostRuntime) -> Result<(), Mismatch> {
+    check_pairs_of(rt.alloc(), PARTITIONED, WALK_TO_PARTITIONS)
 }
 
 #[test]

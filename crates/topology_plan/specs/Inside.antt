@@ -13,6 +13,7 @@ topology_of made = record {
   spout_fields = made.spout_fields;
   spout_kind = made.spout_kind;
   batch = made.batch;
+  partitions = made.partitions;
   components = made.components.items;
   spout_subs = made.spout_subs.items;
   component_subs = map (λ (subs : Vec Sub Global). subs.items) made.component_subs.items;

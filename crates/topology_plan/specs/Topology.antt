@@ -16,6 +16,8 @@ pub record Topology : Type 0 where
   pub spout_fields : List (List ℕ)
   pub spout_kind : Kind
   pub batch : ℕ
+  -- 0 where the spout has none
+  pub partitions : ℕ
   pub components : List Component
   pub spout_subs : List Sub
   pub component_subs : List (List Sub)

@@ -4,6 +4,7 @@ use Rattle.storm_values.specs.Limits.{most_fields, most_batch, most_ackers, most
 use Rattle.topology_plan.specs.declared.parts.Sub.{Sub}
 use Rattle.topology_plan.specs.declared.parts.Origin.{Origin}
 use Rattle.topology_plan.specs.declared.parts.Origin.TheVariants as origin
+use Rattle.topology_plan.specs.Limits.{most_partitions}
 use Rattle.topology_plan.specs.Topology.{Topology, subs_of, tasks_in_all, weight_of}
 
 -- from the least to the most, both included
@@ -23,6 +24,7 @@ pub record IsRanked (t : Topology) : Type 0 where
 pub record IsValid (t : Topology) : Type 0 where
   pub spout_fields : IsBetween (length t.spout_fields) 1 most_fields
   pub batch : IsBetween t.batch 1 most_batch
+  pub partitions : t.partitions ≤ most_partitions
   pub ackers : IsBetween t.ackers 1 most_ackers
   pub pending : IsBetween t.pending 1 most_pending
   pub buckets : IsBetween t.buckets least_buckets most_buckets

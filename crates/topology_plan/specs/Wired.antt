@@ -138,7 +138,7 @@ abbrev pub MayFollowOpaque : Body → Type 0
 MayFollowOpaque (Bolt op) = Unit {0}
 MayFollowOpaque (State spec) = spec.kind ≡ Opaque
 
--- names, subscriptions, groupings and fields fit together
+-- names, subscriptions, groupings, fields and kinds fit together
 pub record IsWired (t : Topology) : Type 0 where
   pub layout : IsLaidOut t
   pub spout_fields : AllPairs (λ a b. a ≢ b) t.spout_fields
@@ -152,3 +152,5 @@ pub record IsWired (t : Topology) : Type 0 where
   -- an opaque spout has no transactional state
   pub replays : t.spout_kind ≡ Opaque
       → All (λ (component : Component). MayFollowOpaque component.body) t.components
+  -- only an opaque spout has partitions
+  pub partitioned : 0 < t.partitions → t.spout_kind ≡ Opaque

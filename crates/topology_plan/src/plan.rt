@@ -1,6 +1,7 @@
 ghost use Rattle.std.specs.Prelude.{◌≡◌, ◌+◌, ◌<◌, ◌≤◌, All, length, slice_get, Some, sum_by, ◌^◌};
 ghost use Rattle.storm_values.specs.Limits.{most_tasks_in_all};
 ghost use Rattle.topology_plan.specs.Inside.{topology_of, IsSound};
+ghost use Rattle.topology_plan.specs.Limits.{most_partitions};
 ghost use Rattle.topology_plan.specs.Topology.{component_from, component_of, subs_of, tasks_in_all, depth_of, weight_of};
 ghost use Rattle.topology_plan.specs.Valid.{IsTarget, IsValid};
 ghost use Rattle.topology_plan.specs.Wired.{IsAsWide, IsComponent, IsWired};
@@ -16,6 +17,8 @@ pub struct Made {
     pub spout_kind: Kind,
     /// The most records of a batch.
     pub batch: u32,
+    /// The partitions of the records, 0 where the spout has none.
+    pub partitions: u32,
     pub components: Vec<Component>,
     /// The subscriptions to the spout's rows.
     pub spout_subs: Vec<Sub>,
@@ -144,6 +147,14 @@ impl Plan {
         ensures some { 1 ≤ result }
     {
         self.made.batch
+    }
+
+    /// How many partitions the spout has, 0 where it has none.
+    pub fn partitions(&self) -> u32
+        ensures value { result ≡ self.now.partitions }
+        ensures few { result ≤ most_partitions }
+    {
+        self.made.partitions
     }
 
     pub fn ackers(&self) -> u32

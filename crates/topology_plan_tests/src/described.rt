@@ -26,8 +26,9 @@ pub fn described(alloc: Global, plan: &Plan) -> Result<String, Memory> {
     let (fields, batch) = (plan.spout_fields(), plan.batch());
     write!(
         text,
-        "{} spout fields {fields} batch {batch}",
-        kind(plan.spout_kind())
+        "{} spout fields {fields} batch {batch} partitions {}",
+        kind(plan.spout_kind()),
+        plan.partitions()
     )?;
     write_subs(&mut text, plan.subs(Origin::Spout))?;
     for c in 0..components {

@@ -16,7 +16,7 @@ const WORD_COUNT: &str = r#"{"version":1,
 
 const WORD_COUNT_PLAN: &str = "components 2 tasks 4 weight 2 depth 2
 ackers 2 pending 4 buckets 3 attempts 4
-transactional spout fields 1 batch 2; to 0 shuffle
+transactional spout fields 1 batch 2 partitions 0; to 0 shuffle
 split from 0 tasks 2 fields word split 0; to 1 fields [0]
 counts from 2 tasks 2 fields transactional key [0] count
 tasks of 0 0 1 1
@@ -32,7 +32,7 @@ const FLAKY: &str = r#"{"version":1,
 
 const FLAKY_PLAN: &str = "components 2 tasks 2 weight 2 depth 2
 ackers 1 pending 1 buckets 3 attempts 4
-transactional spout fields 1 batch 1; to 0 shuffle
+transactional spout fields 1 batch 1 partitions 0; to 0 shuffle
 shaky from 0 tasks 1 fields word flaky 3; to 1 fields [0]
 counts from 1 tasks 1 fields transactional key [0] count
 tasks of 0 1
@@ -47,7 +47,7 @@ const LAST_VALUE: &str = r#"{"version":1,
 
 const LAST_VALUE_PLAN: &str = "components 1 tasks 1 weight 1 depth 1
 ackers 2 pending 2 buckets 3 attempts 10
-transactional spout fields 2 batch 1; to 0 fields [0]
+transactional spout fields 2 batch 1 partitions 0; to 0 fields [0]
 last from 0 tasks 1 fields transactional key [0] last 1
 tasks of 0
 ";
@@ -62,7 +62,7 @@ const TURNED: &str = r#"{"version":1,
 
 const TURNED_PLAN: &str = "components 2 tasks 2 weight 2 depth 2
 ackers 2 pending 2 buckets 3 attempts 10
-transactional spout fields 2 batch 1; to 0 shuffle
+transactional spout fields 2 batch 1 partitions 0; to 0 shuffle
 turn from 0 tasks 1 fields k v custom; to 1 fields [0]
 last from 1 tasks 1 fields transactional key [0] last 1
 tasks of 0 1
@@ -81,7 +81,7 @@ const COPIES_TO_ALL: &str = r#"{"version":1,
 
 const COPIES_TO_ALL_PLAN: &str = "components 3 tasks 6 weight 9 depth 3
 ackers 1 pending 1 buckets 3 attempts 10
-transactional spout fields 1 batch 1; to 0 all
+transactional spout fields 1 batch 1 partitions 0; to 0 all
 copy from 0 tasks 3 fields sentence project [0]; to 1 global
 split from 3 tasks 2 fields word split 0; to 2 fields [0]
 counts from 5 tasks 1 fields transactional key [0] count
@@ -98,15 +98,15 @@ const SIDE_BY_SIDE: &str = r#"{"version":1,
 
 const SIDE_BY_SIDE_PLAN: &str = "components 2 tasks 3 weight 2 depth 2
 ackers 1 pending 1 buckets 3 attempts 10
-transactional spout fields 1 batch 2; to 0 shuffle
+transactional spout fields 1 batch 2 partitions 0; to 0 shuffle
 pass from 0 tasks 2 fields word project [0]; to 1 fields [0]
 counts from 2 tasks 1 fields transactional key [0] count
 tasks of 0 0 1
 ";
 
-// Every grouping, and a bolt that takes from a later one.
-const MIXED: &str = r#"{"version":1,
- "spout":{"name":"s","kind":"opaque","fields":["text","size"],"batch":7},
+// Every grouping, a bolt that takes from a later one, and the most partitions.
+const MIXED: &str = r#"{"version":2,
+ "spout":{"name":"s","kind":"opaque","fields":["text","size"],"batch":7,"partitions":16},
  "bolts":[
   {"name":"late","tasks":2,"op":{"do":"len","field":"text","as":"bytes"},
    "inputs":[{"from":"twin","grouping":"fields","key":["text","size"]}]},
@@ -125,7 +125,7 @@ const MIXED: &str = r#"{"version":1,
 
 const MIXED_PLAN: &str = "components 7 tasks 22 weight 29 depth 5
 ackers 1 pending 64 buckets 3 attempts 10
-opaque spout fields 2 batch 7; to 1 shuffle; to 2 shuffle; to 6 fields [0]
+opaque spout fields 2 batch 7 partitions 16; to 1 shuffle; to 2 shuffle; to 6 fields [0]
 late from 0 tasks 2 fields size text bytes len 1; to 5 fields [2, 1]
 even from 2 tasks 3 fields text size filter 1 ne 0; to 3 global; to 6 fields [0]
 mark from 5 tasks 1 fields text size set 0 'big'; to 3 all

@@ -32,11 +32,12 @@ fault_of_size p made found twice sources cycle fields replay is sized =
     rw (twice, sources, cycle, fields, replay, ← is.tasks, ← is.weight, sized) (next_alone found)
 
 -- the topology of these parts
-abbrev topology_with : List (List ℕ) → Kind → ℕ → List Component → List Sub → List (List Sub) → ℕ → ℕ → ℕ → ℕ → Topology
-topology_with fields kind batch components spout_subs component_subs ackers pending buckets attempts = record {
+abbrev topology_with : List (List ℕ) → Kind → ℕ → ℕ → List Component → List Sub → List (List Sub) → ℕ → ℕ → ℕ → ℕ → Topology
+topology_with fields kind batch partitions components spout_subs component_subs ackers pending buckets attempts = record {
   spout_fields = fields;
   spout_kind = kind;
   batch = batch;
+  partitions = partitions;
   components = components;
   spout_subs = spout_subs;
   component_subs = component_subs;
@@ -46,12 +47,15 @@ topology_with fields kind batch components spout_subs component_subs ackers pend
   attempts = attempts;
 }
 
-pub topology-planned : (p : FileParts) (fields : List (List ℕ)) (kind : Kind) (batch : ℕ) (components : List Component) (from_spout : List Sub) (from_components : List (List Sub)) (ackers pending buckets attempts : ℕ)
-    → fields ≡ p.spout.fields → kind ≡ p.spout.kind → batch ≡ p.spout.batch → components ≡ (plan_of p).components → from_spout ≡ (plan_of p).spout_subs → from_components ≡ (plan_of p).component_subs
+pub topology-planned : (p : FileParts) (fields : List (List ℕ)) (kind : Kind) (batch partitions : ℕ) (components : List Component)
+    → (from_spout : List Sub) (from_components : List (List Sub)) (ackers pending buckets attempts : ℕ)
+    → fields ≡ p.spout.fields → kind ≡ p.spout.kind → batch ≡ p.spout.batch → partitions ≡ p.spout.partitions
+    → components ≡ (plan_of p).components → from_spout ≡ (plan_of p).spout_subs → from_components ≡ (plan_of p).component_subs
     → ackers ≡ p.ackers → pending ≡ p.pending → buckets ≡ p.buckets → attempts ≡ p.attempts
-    → topology_with fields kind batch components from_spout from_components ackers pending buckets attempts ≡ plan_of p
+    → topology_with fields kind batch partitions components from_spout from_components ackers pending buckets attempts ≡ plan_of p
 unfolding plan_of
-topology-planned p fields kind batch components from_spout from_components ackers pending buckets attempts a b c d e f g h i j = rw (a, b, c, d, e, f, g, h, i, j) refl
+topology-planned p fields kind batch partitions components from_spout from_components ackers pending buckets attempts a b c d e f g h i j k =
+    rw (a, b, c, d, e, f, g, h, i, j, k) refl
 
 -- the plan of parts without a fault is sound
 pub sound-planned : (p : FileParts) (made : Made) → IsInRange p → meaning_fault p ≡ None → IsMade p made → IsSound made

@@ -181,6 +181,7 @@ valid_plan p range none =
     record {
       spout_fields = range.spout.fields;
       batch = range.spout.batch;
+      partitions = range.spout.partitions;
       ackers = range.ackers;
       pending = range.pending;
       buckets = range.buckets;

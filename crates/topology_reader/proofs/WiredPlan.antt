@@ -283,4 +283,5 @@ wired_plan p range none =
       groupings = groupings_planned p range faultless;
       components = component_planned p range faultless;
       replays = replays_planned p range faultless.replay;
+      partitioned = range.spout.partitioned;
     }

@@ -93,6 +93,7 @@ plan_of p = record {
   spout_fields = p.spout.fields;
   spout_kind = p.spout.kind;
   batch = p.spout.batch;
+  partitions = p.spout.partitions;
   components = map (planned_component p) (enumerate_from 0 (components_of p));
   spout_subs = planned_subs p origin.Spout;
   component_subs =

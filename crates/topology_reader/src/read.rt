@@ -111,6 +111,7 @@ fn make(wiring: &Wiring<'_>) -> Result<Made, Memory>
         spout_fields,
         spout_kind: parts.spout.kind,
         batch: parts.spout.batch,
+        partitions: parts.spout.partitions,
         components,
         spout_subs,
         component_subs,

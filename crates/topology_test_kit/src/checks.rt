@@ -20,6 +20,13 @@ pub const FILE: &str = r#"{"version":1,
  "ackers":6,"pending":7,"buckets":8,"attempts":9}
 "#;
 
+/// A valid file of version 2, whose spout has partitions.
+pub const PARTITIONED: &str = r#"{"version":2,
+ "spout":{"name":"s","kind":"opaque","fields":["a"],"batch":5,"partitions":4},
+ "bolts":[],
+ "states":[{"name":"t","kind":"opaque","parts":1,"key":["a"],"fold":"count","inputs":["s"]}]}
+"#;
+
 /// What the list of bolts begins with in the valid file.
 const BOLTS: &str = r#""bolts":["#;
 

@@ -5,6 +5,7 @@ mod checks;
 mod reading;
 
 pub use checks::{
-    FILE, check_changes, check_changes_of, check_operations, check_pairs, check_pairs_of, full_file,
+    FILE, PARTITIONED, check_changes, check_changes_of, check_operations, check_pairs,
+    check_pairs_of, full_file,
 };
 pub use reading::{check_told, told};

@@ -19,7 +19,7 @@ use Rattle.tree_model.specs.Trees.{node_count}
 use Rattle.tree_model.proofs.Reading.{growth, all_true_said}
 use Rattle.tree_model.proofs.tuple_tickets.Words.{complete_coincides, covered_if_closed}
 use Rattle.tuple_account.specs.Drawn.{AreDrawn, started}
-use Rattle.tuple_account.specs.Ends.{Ending, committed, failed, timed_out, coincided, commit_failed, Ended, Desk, verdicts_by, verdicts_of_ends, verdicts_of_waits, list_in, lists_of, CauseBy, HasCause}
+use Rattle.tuple_account.specs.Ends.{Ending, committed, failed, timed_out, coincided, commit_failed, dropped, Ended, Desk, verdicts_by, verdicts_of_ends, verdicts_of_waits, list_in, lists_of, CauseBy, HasCause}
 use Rattle.tuple_account.specs.Fits.{CheckedBy, IsEnd, Fits}
 use Rattle.tuple_account.specs.Histories.{Opening, Receipt, Told, History, IsTold}
 use Rattle.tuple_account.specs.Moves.{Station, Reached, AreRows, HasDrawn}
@@ -55,6 +55,7 @@ ends_weight g fates =
     one root timed_out = refl
     one root (coincided list) = omega arith
     one root (commit_failed component part first last) = refl
+    one root (dropped by) = refl
 
 module _ (t : Topology) (custom : Custom) (h : History) (b : Station) (reached : Reached t custom h b) (rows_of : Root → List (List Value)) (rows : AreRows rows_of h.begun) (desk : Desk) (fates : List Ended) (fits : Fits t desk fates h) where
   abbrev AreCaused : Ended → Type 0
@@ -79,6 +80,7 @@ module _ (t : Topology) (custom : Custom) (h : History) (b : Station) (reached :
       by timed_out all checked = (checked, is.finishes)
       by (coincided list) all open_list = (all.0.0, complete_coincides (all_said list) all.0.1 open_list)
       by (commit_failed component part first last) all checked = checked
+      by (dropped lower) all checked = checked
 
   -- each end has its cause
   pub causes : AllByRecursion (HasCause t custom rows_of desk.tick) fates

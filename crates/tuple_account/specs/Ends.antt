@@ -17,13 +17,14 @@ use Rattle.tree_model.specs.Lists.{IsClosed, Covers, Coincides}
 use Rattle.tuple_account.specs.Sound.{IsSound, FailsAt}
 
 -- How an attempt ended. A commit that failed has the part that did not take it, and its store's
--- count of faults before and after.
+-- count of faults before and after. A dropped attempt has the one that aborted.
 pub data Ending : Type 0 where
   committed : (list : List AckMsg) → Ending
   failed : (path : List ℕ) → Ending
   timed_out : Ending
   coincided : (list : List AckMsg) → Ending
   commit_failed : (component part before after : ℕ) → Ending
+  dropped : (by : Root) → Ending
 
 -- an attempt that ended, with the ticks of its begin and its end
 pub record Ended : Type 0 where
@@ -38,17 +39,24 @@ pub record Waits : Type 0 where
   pub start : ℕ
   pub settled : Option (List AckMsg)
 
--- The ticks that were counted, how many transactions were committed, how many attempts of each
--- were begun, and the pending ones.
+-- The ticks that were counted, the transaction after which the coordinator began, the last one that
+-- was committed, how many attempts of each were begun, and the pending ones.
 pub record Desk : Type 0 where
   pub tick : ℕ
+  pub start : ℕ
   pub committed : ℕ
   pub tries : ℕ → ℕ
   pub pending : List Waits
 
 -- nothing was counted, begun or committed
-abbrev pub first_desk : Desk
-first_desk = record { tick = 0; committed = 0; tries = λ txid. 0; pending = [] }
+abbrev pub first_desk : ℕ → Desk
+first_desk start = record {
+  tick = 0;
+  start = start;
+  committed = start;
+  tries = λ txid. 0;
+  pending = [];
+}
 
 -- ---- verdicts and lists of ends
 
@@ -58,6 +66,7 @@ verdicts_by root (failed path) = Fails root path ∷ []
 verdicts_by root timed_out = []
 verdicts_by root (coincided list) = Complete root list ∷ []
 verdicts_by root (commit_failed component part before after) = []
+verdicts_by root (dropped by) = []
 
 -- the verdicts that ends come from
 abbrev pub verdicts_of_ends : List Ended → List Verdict
@@ -77,6 +86,7 @@ list_in (failed path) = []
 list_in timed_out = []
 list_in (coincided list) = list
 list_in (commit_failed component part before after) = []
+list_in (dropped by) = []
 
 -- the messages of all lists in the fates
 abbrev pub lists_of : List Ended → List AckMsg
@@ -88,6 +98,7 @@ commits_by (failed path) = 0
 commits_by timed_out = 0
 commits_by (coincided list) = 0
 commits_by (commit_failed component part before after) = 0
+commits_by (dropped by) = 0
 
 -- the weight that is 1 at the committed attempts of a transaction
 abbrev pub commits : ℕ → Ended → ℕ
@@ -109,7 +120,8 @@ module _ (t : Topology) (custom : Custom) (rows : List (List Value)) where
   -- A committed list is true, single, steady and closed, and covers the whole tree. A failed path
   -- is of a node that fails. A timeout comes as many ticks after the begin as there are buckets.
   -- A coincided list is true, single and steady, and its ids coincide. A commit fails at a part of
-  -- a state whose store's count of faults rose.
+  -- a state whose store's count of faults rose. An attempt is dropped with one of a lower
+  -- transaction.
   abbrev pub CauseBy : ℕ → Ended → Ending → Type 0
   CauseBy tick a (committed list) =
       IsSound t custom rows a.root list × IsClosed list × Covers t custom rows list
@@ -118,6 +130,7 @@ module _ (t : Topology) (custom : Custom) (rows : List (List Value)) where
   CauseBy tick a (coincided list) = IsSound t custom rows a.root list × Coincides list
   CauseBy tick a (commit_failed component part before after) =
       IsPart t component part × Rose before after
+  CauseBy tick a (dropped by) = by.txid < a.root.txid
 
 -- the attempt's end has its cause, where roots have these rows and so many ticks were counted
 abbrev pub HasCause : Topology → Custom → (Root → List (List Value)) → ℕ → Ended → Type 0

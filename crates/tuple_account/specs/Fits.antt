@@ -8,7 +8,7 @@ use Rattle.tree_model.specs.storm_values.declared.value.Root.{Root}
 use Rattle.tree_model.specs.topology_plan.Topology.{Topology}
 use Rattle.tree_model.specs.Lists.{IsClosed}
 use Rattle.tree_model.specs.declared.messages.AckMsg.{AckMsg}
-use Rattle.tuple_account.specs.Ends.{Ending, committed, failed, timed_out, coincided, commit_failed, Ended, Waits, Desk, IsPart, verdicts_of_ends, verdicts_of_waits, commits}
+use Rattle.tuple_account.specs.Ends.{Ending, committed, failed, timed_out, coincided, commit_failed, dropped, Ended, Waits, Desk, IsPart, verdicts_of_ends, verdicts_of_waits, commits}
 use Rattle.tuple_account.specs.Histories.{Opening, History, opens}
 use Rattle.tuple_account.specs.Sound.{is_about}
 
@@ -20,6 +20,7 @@ CheckedBy t a timed_out = a.finish ≡ a.start + t.buckets
 CheckedBy t a (coincided list) = IsClosed list → ⊥
 CheckedBy t a (commit_failed component part before after) =
     IsPart t component part × Rose before after
+CheckedBy t a (dropped by) = by.txid < a.root.txid
 
 -- an end by the ticks that were counted
 pub record IsEnd (t : Topology) (tick : ℕ) (a : Ended) : Type 0 where
@@ -56,7 +57,7 @@ pub record Fits (t : Topology) (desk : Desk) (fates : List Ended) (h : History) 
   pub ends : AllByRecursion (IsEnd t desk.tick) fates
   pub waits : AllByRecursion (IsWaiting desk) desk.pending
   pub few : length desk.pending ≤ t.pending
-  -- the first transactions were committed, each once, and no other
+  -- the first transactions after the start were committed, each once, and no other
   pub once : (txid : ℕ)
       → weigh (commits txid) fates
-      ≡ (if nat_lt 0 txid && nat_lt txid (desk.committed + 1) then 1 else 0)
+      ≡ (if nat_lt desk.start txid && nat_lt txid (desk.committed + 1) then 1 else 0)

@@ -18,7 +18,7 @@ ghost use Rattle.tuple_account.specs.Stuck.{IsStuck};
 
 /// A law: at first, where nothing happened, the coordinator's account fits.
 pub fn accounts_fit_at_first()
-    ensures { (t : Topology) → Fits t first_desk [] nothing }
+    ensures { (t : Topology) (start : ℕ) → Fits t (first_desk start) [] nothing }
 {}
 
 /// A law: where the coordinator's account fits what happened, each end has its cause, and the ids

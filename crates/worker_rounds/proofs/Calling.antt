@@ -21,7 +21,7 @@ use Rattle.event_worlds.specs.state_parts.PartPlans.{AreParts}
 use Rattle.event_worlds.specs.storm_ids.declared.ids.Ids.{Ghosts}
 use Rattle.storm_stores.specs.CellMaps.{CellMap}
 use Rattle.event_worlds.specs.topology_plan.Topology.{Topology, tasks_in_all}
-use Rattle.event_worlds.specs.trident_batches.Batches.{Cut}
+use Rattle.event_worlds.specs.taken_records.Cuts.{Cut}
 use Rattle.worker_turns.proofs.Stands.{idle-still}
 
 -- ---- errors that are handed on
@@ -78,8 +78,8 @@ kept-none tells parts = record { plans = refl; told = told-none tells parts }
 
 module _ {I : Type 0} {g : Ghosts I} (t : Topology) (cut : Cut) where
   -- the fates of an engine whose fates are those of one that is ready
-  pub once-still : (old new : Engine I g) → IsReady t cut old → IsStill old new → IsOnce (length cut.records) cut.size last_tick new.fates
-  once-still old new ready still = subst (IsOnce (length cut.records) cut.size last_tick) (sym still.fates) (more-ticks (length cut.records) cut.size _ last_tick old.fates ready.ticks ready.kept.once)
+  pub once-still : (old new : Engine I g) → IsReady t cut old → IsStill old new → IsOnce cut last_tick new.fates
+  once-still old new ready still = subst (IsOnce cut last_tick) (sym still.fates) (more-ticks (length cut.records) cut.size _ last_tick old.fates ready.ticks ready.kept.once)
 
   -- it is ready for the cut that it has
   pub ready-own : (e : Engine I g) → IsReady t cut e → IsReady t (cut_in e) e

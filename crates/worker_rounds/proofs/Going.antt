@@ -19,7 +19,7 @@ use Rattle.storm_stores.specs.CellMaps.{CellMap}
 use Rattle.task_queues.specs.declared.pass.Pass.{Pass}
 use Rattle.event_worlds.specs.topology_plan.Topology.{Topology}
 use Rattle.event_worlds.specs.tree_model.declared.messages.Parcel.{Parcel}
-use Rattle.event_worlds.specs.trident_batches.Batches.{Cut}
+use Rattle.event_worlds.specs.taken_records.Cuts.{Cut}
 use Rattle.worker_rounds.specs.Running.{RunsOn}
 use Rattle.worker_stretches.specs.Standing.{GoesOn}
 

@@ -25,7 +25,7 @@ use Rattle.storm_stores.specs.CellMaps.{CellMap}
 use Rattle.task_queues.specs.declared.pass.Pass.{Pass}
 use Rattle.task_queues.specs.declared.rule.Stamped.{Stamped}
 use Rattle.event_worlds.specs.topology_plan.Topology.{Topology, tasks_in_all}
-use Rattle.event_worlds.specs.trident_batches.Batches.{Cut}
+use Rattle.event_worlds.specs.taken_records.Cuts.{Cut}
 use Rattle.event_worlds.specs.tuple_account.Histories.{History, Packet}
 use Rattle.event_worlds.specs.tuple_account.Moves.{Station, beside}
 use Rattle.worker_stretches.specs.world_progress.Doing.{done}

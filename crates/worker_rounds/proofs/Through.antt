@@ -22,7 +22,7 @@ use Rattle.event_worlds.specs.tree_model.declared.messages.AckMsg.{AckMsg}
 use Rattle.event_worlds.specs.tree_model.declared.messages.Parcel.{Parcel}
 use Rattle.event_worlds.specs.tree_model.declared.messages.Parcel.TheVariants.{ToTask, ToAcker}
 use Rattle.event_worlds.specs.tree_model.declared.messages.Tuple.{Tuple}
-use Rattle.event_worlds.specs.trident_batches.Batches.{Cut}
+use Rattle.event_worlds.specs.taken_records.Cuts.{Cut}
 use Rattle.event_worlds.specs.tuple_account.Histories.{History, Packet, joined, nothing, of_parcel, of_verdict, taken}
 use Rattle.event_worlds.proofs.tuple_account.Moving.{taken-joined}
 use Rattle.worker_stretches.specs.world_progress.Running as specs

@@ -11,7 +11,7 @@ use Rattle.event_worlds.specs.state_parts.declared.answer.CommitOutcome.{CommitO
 use Rattle.event_worlds.specs.topology_plan.Topology.{Topology, tasks_in_all}
 use Rattle.event_worlds.specs.tree_model.declared.messages.Parcel.{Parcel}
 use Rattle.event_worlds.specs.tree_model.declared.messages.Parcel.TheVariants.{ToTask, ToAcker}
-use Rattle.event_worlds.specs.trident_batches.Batches.{Cut}
+use Rattle.event_worlds.specs.taken_records.Cuts.{Cut}
 use Rattle.worker_rounds.proofs.Through.{parts-of-round}
 
 -- a tick's number and the coordinator's desk stay as they are

@@ -10,7 +10,7 @@ use Rattle.event_worlds.specs.Worlds.{Known, Step, next, run}
 use Rattle.event_worlds.specs.state_parts.declared.answer.CommitOutcome.{CommitOutcome}
 use Rattle.event_worlds.specs.state_parts.declared.answer.CommitOutcome.TheVariants.{Done}
 use Rattle.event_worlds.specs.topology_plan.Topology.{Topology}
-use Rattle.event_worlds.specs.trident_batches.Batches.{Cut}
+use Rattle.event_worlds.specs.taken_records.Cuts.{Cut}
 use Rattle.event_worlds.specs.tuple_account.Histories.{History, joined}
 use Rattle.worker_stretches.specs.world_progress.Lasting.{Lasting}
 use Rattle.worker_stretches.specs.world_progress.Rounding.{DoesMore, LastsOn}

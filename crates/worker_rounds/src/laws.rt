@@ -1,7 +1,7 @@
 //! The laws of other crates that rounds rest on, put together.
 ghost use Rattle.event_worlds.specs.bolt_ops.RowOp.{Custom};
 ghost use Rattle.event_worlds.specs.topology_plan.Topology.{Topology};
-ghost use Rattle.event_worlds.specs.trident_batches.Batches.{Cut};
+ghost use Rattle.event_worlds.specs.taken_records.Cuts.{Cut};
 ghost use Rattle.worker_rounds.specs.Laws.{RoundLaws};
 
 use event_worlds::steps_add_to_histories;

@@ -17,7 +17,7 @@ use Rattle.storm_stores.specs.CellMaps.{CellMap}
 use Rattle.task_queues.specs.declared.pass.Mailbox.{Mailbox}
 use Rattle.task_queues.specs.declared.pass.Pass.{Pass}
 use Rattle.event_worlds.specs.topology_plan.Topology.{Topology}
-use Rattle.event_worlds.specs.trident_batches.Batches.{Cut}
+use Rattle.event_worlds.specs.taken_records.Cuts.{Cut}
 use Rattle.worker_rounds.specs.Running.{IsGathered}
 use Rattle.worker_runs.proofs.Ending.{RunEnded}
 use Rattle.worker_runs.proofs.Rows.{first-empty, first-rooms}

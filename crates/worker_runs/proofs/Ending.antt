@@ -170,7 +170,7 @@ pub record RunEnded {I S T : Type 0} {g : Ghosts I} (tells : I → (ℕ → ℕ)
   pub gathered : OnOk done (IsGathered t cut boxes board e now_row seat)
   pub over : OnOk done (has_ended e ≡ true)
   pub bad : (key : List ℕ) → done ≡ Err (fault.BadCell key) → IsAllBack t boxes board now_row seat (ticks_between (handed before) (handed after))
-  pub once : OnErr done (IsOnce (length cut.records) cut.size last_tick e.fates)
+  pub once : OnErr done (IsOnce cut last_tick e.fates)
   pub kept : AreKept holds was is
 
 module _ {I S T : Type 0} {g : Ghosts I} (told : (ℕ → ℕ → ℕ) → Type 0) (tells : I → (ℕ → ℕ) → ℕ → Type 0) (holds : S → CellMap → Type 0) (count : S → ℕ) (handed : T → ℕ) (ticking : T → List ℕ → Type 0) (t : Topology) (custom : Custom) (cut : Cut)

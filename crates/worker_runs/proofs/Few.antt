@@ -13,7 +13,7 @@ use Rattle.event_worlds.specs.state_parts.declared.answer.CommitOutcome.TheVaria
 use Rattle.event_worlds.specs.storm_ids.declared.ids.Ids.{Ghosts}
 use Rattle.task_queues.specs.declared.pass.Pass.{Pass}
 use Rattle.event_worlds.specs.topology_plan.Topology.{Topology}
-use Rattle.event_worlds.specs.trident_batches.Batches.{Cut}
+use Rattle.event_worlds.specs.taken_records.Cuts.{Cut}
 use Rattle.event_worlds.specs.tuple_account.Histories.{History}
 use Rattle.worker_runs.proofs.Rows.{none-held}
 use Rattle.worker_runs.specs.Going.{StoodAt}

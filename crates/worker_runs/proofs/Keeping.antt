@@ -19,7 +19,7 @@ use Rattle.storm_stores.specs.CellMaps.{CellMap}
 use Rattle.task_queues.specs.declared.pass.Mailbox.{Mailbox}
 use Rattle.task_queues.specs.declared.pass.Pass.{Pass}
 use Rattle.event_worlds.specs.topology_plan.Topology.{Topology}
-use Rattle.event_worlds.specs.trident_batches.Batches.{Cut}
+use Rattle.event_worlds.specs.taken_records.Cuts.{Cut}
 use Rattle.worker_rounds.specs.Running.{IsGathered}
 use Rattle.worker_stretches.specs.Parts.{IsWholeSeat}
 use Rattle.worker_stretches.specs.Standing.{IsInTime}
@@ -72,14 +72,14 @@ module _ {I : Type 0} {g : Ghosts I} (t : Topology) where
   ready-back cut mid e ready own = subst (λ (k : Cut). IsReady t k e) ready.seated.of_cut own
 
   -- each batch was committed once at most
-  pub ready-once : (cut : Cut) (e new : Engine I g) → IsReady t cut e → IsStill e new → IsOnce (length cut.records) cut.size last_tick new.fates
+  pub ready-once : (cut : Cut) (e new : Engine I g) → IsReady t cut e → IsStill e new → IsOnce cut last_tick new.fates
   ready-once cut e new ready still =
-      subst (λ (fs : List Attempt). IsOnce (length cut.records) cut.size last_tick fs) (sym still.fates)
+      subst (λ (fs : List Attempt). IsOnce cut last_tick fs) (sym still.fates)
       (once-later (length cut.records) cut.size (desk_of e.coordinator).tick last_tick e.fates ready.kept.once ready.ticks)
 
   -- so it was by a round that met a fault
-  pub once-back : (cut : Cut) (mid new : Engine I g) → IsReady t cut mid → IsOnce (length (cut_in mid).records) (cut_in mid).size last_tick new.fates → IsOnce (length cut.records) cut.size last_tick new.fates
-  once-back cut mid new ready once = subst (λ (k : Cut). IsOnce (length k.records) k.size last_tick new.fates) ready.seated.of_cut once
+  pub once-back : (cut : Cut) (mid new : Engine I g) → IsReady t cut mid → IsOnce (cut_in mid) last_tick new.fates → IsOnce cut last_tick new.fates
+  once-back cut mid new ready once = subst (λ (k : Cut). IsOnce k last_tick new.fates) ready.seated.of_cut once
 
   module _ (boxes : List (Mailbox Mail)) (board : Board) where
     -- nobody works at an engine's own input, or at that of one before it

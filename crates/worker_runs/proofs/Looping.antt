@@ -26,7 +26,7 @@ use Rattle.storm_ticks.specs.Ticking.{first_answer, handed_on}
 use Rattle.task_queues.specs.declared.pass.Mailbox.{Mailbox}
 use Rattle.task_queues.specs.declared.pass.Pass.{Pass}
 use Rattle.event_worlds.specs.topology_plan.Topology.{Topology}
-use Rattle.event_worlds.specs.trident_batches.Batches.{Cut}
+use Rattle.event_worlds.specs.taken_records.Cuts.{Cut}
 use Rattle.worker_rounds.specs.Running.{Broken, IsGathered, RunsOn}
 use Rattle.worker_runs.proofs.Few.{IsBounded, rounds-left}
 use Rattle.worker_runs.proofs.Going.{runs-none, runs-still, runs-then, stood-runs}

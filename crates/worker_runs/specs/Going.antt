@@ -23,7 +23,7 @@ use Rattle.storm_stores.specs.CellMaps.{CellMap}
 use Rattle.task_queues.specs.declared.pass.Mailbox.{Mailbox}
 use Rattle.task_queues.specs.declared.pass.Pass.{Pass}
 use Rattle.event_worlds.specs.topology_plan.Topology.{Topology}
-use Rattle.event_worlds.specs.trident_batches.Batches.{Cut}
+use Rattle.event_worlds.specs.taken_records.Cuts.{Cut}
 use Rattle.event_worlds.specs.tuple_account.Histories.{History}
 use Rattle.worker_rounds.specs.Running.{Broken, RunsOn}
 use Rattle.worker_runs.specs.WorkerRuns.{DrewEach}

@@ -16,7 +16,7 @@ use Rattle.event_worlds.specs.Worlds.{Known, first_known, first_world, is_over}
 use Rattle.task_queues.specs.declared.pass.Mailbox.{Mailbox}
 use Rattle.task_queues.specs.declared.pass.Pass.{Pass}
 use Rattle.event_worlds.specs.topology_plan.Topology.{Topology}
-use Rattle.event_worlds.specs.trident_batches.Batches.{Cut}
+use Rattle.event_worlds.specs.taken_records.Cuts.{Cut}
 use Rattle.event_worlds.specs.tuple_account.Histories.{History, Packet}
 use Rattle.worker_stretches.specs.world_progress.Lasting.{Lasting}
 

@@ -19,7 +19,7 @@ use Rattle.storm_stores.specs.CellMaps.{CellMap}
 use Rattle.storm_ticks.specs.Ticking.{handed_on}
 use Rattle.task_queues.specs.Passes.{view_of}
 use Rattle.event_worlds.specs.topology_plan.Topology.{Topology}
-use Rattle.event_worlds.specs.trident_batches.Batches.{Cut}
+use Rattle.event_worlds.specs.taken_records.Cuts.{Cut}
 use Rattle.worker_stretches.specs.Parts.{IsWholeSeat}
 
 -- ---- what a run begins with

@@ -11,10 +11,10 @@ use crate::run::run_workers;
 use event_worlds::attempt_fates::Fates;
 use event_worlds::bolt_ops::RowOp;
 use event_worlds::commit_order::Stop;
+use event_worlds::record_offers::Offers;
 use event_worlds::state_parts::Parts;
 use event_worlds::storm_ids::IdMaker;
 use event_worlds::topology_plan::Plan;
-use event_worlds::trident_batches::Batches;
 use pulse_board::Board;
 use std::alloc::Global;
 use std::sync::Wait;
@@ -37,7 +37,7 @@ pub fn run_by_workers<
     rt: &R,
     alloc: Global,
     plan: &Plan,
-    batches: Batches,
+    offers: Offers,
     workers: u32,
     ticks: &mut T,
     ids: &mut N,
@@ -49,21 +49,21 @@ pub fn run_by_workers<
 where
     N::I: Send,
     requires empty { fates.old ≡ [] }
-    requires input { IsInput plan.now batches }
+    requires input { IsInput plan.now offers }
     requires parts { AreParts plan.now parts.old }
     requires some { 1 ≤ workers }
     requires few { workers ≤ 64 }
 
     // What the answer, the fates, the ticks and the parts come to.
     ensures comes { WorkersCome (N.tells ids.old) (T.tells ticks.old) C.tells C.fault_count
-        plan.now (O.meaning custom.now) batches (T.handed_out ticks.old) (T.handed_out ticks.new)
+        plan.now (O.meaning custom.now) offers (T.handed_out ticks.old) (T.handed_out ticks.new)
         result fates.new parts.old parts.new }
 
     // Where few ticks are to come in so many rounds as a run needs, no transaction runs out of
     // attempts, where every bolt lets batches through, no ids coincide and no commit fails.
     ensures finishes { (to_come : List ℕ) → T.tells ticks.old to_come → CanFinish plan.now
         → All DoesNotCoincide fates.new → failed_commits fates.new ≡ 0
-        → sum (first_answers (rounds_needed plan.now (O.meaning custom.now) batches) to_come)
+        → sum (first_answers (rounds_needed plan.now (O.meaning custom.now) offers) to_come)
         < plan.now.buckets → NothingRanOut result }
 {
     // a law: what no run was begun of
@@ -77,7 +77,7 @@ where
         Err(_) => return Err(Stop::Memory),
     };
     run_workers(
-        rt, alloc, plan, batches, workers, &mut boxes, &board, &mut seat, ticks, ids, parts,
+        rt, alloc, plan, offers, workers, &mut boxes, &board, &mut seat, ticks, ids, parts,
         custom, gate, fates,
     )
 }

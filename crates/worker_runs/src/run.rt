@@ -23,11 +23,11 @@ use crate::laws::laws_of_workers;
 use event_worlds::attempt_fates::Fates;
 use event_worlds::bolt_ops::RowOp;
 use event_worlds::commit_order::Stop;
+use event_worlds::record_offers::Offers;
 use event_worlds::state_parts::{CommitFault, Parts};
 use event_worlds::storm_ids::{IdMaker, Ids};
 use event_worlds::storm_values::Memory;
 use event_worlds::topology_plan::Plan;
-use event_worlds::trident_batches::Batches;
 use pulse_board::{Board, BoardSeat};
 use std::alloc::Global;
 use std::sync::Wait;
@@ -162,8 +162,8 @@ fn run_on<
     ensures ran { RanOn I.tells C.tells C.fault_count T.handed_out T.tells posts.now.plan.now
         (O.meaning custom.now) (cut_in engine.old) result engine.old engine.new row.old.items
         row.new.items parts.old parts.new ticks.old ticks.new }
-    ensures once { OnErr result (IsOnce (length (cut_in engine.old).records)
-        (cut_in engine.old).size last_tick engine.new.fates) }
+    ensures once { OnErr result (IsOnce (cut_in engine.old)
+        last_tick engine.new.fates) }
     ensures kept { AreKept C.tells parts.old parts.new }
 {
     // laws: how steps add up, and how much can be done
@@ -214,7 +214,7 @@ pub fn run_workers<
     rt: &R,
     alloc: Global,
     plan: &Plan,
-    batches: Batches,
+    offers: Offers,
     workers: u32,
     boxes: &mut Boxes<'_>,
     board: &Board,
@@ -229,7 +229,7 @@ pub fn run_workers<
 where
     N::I: Send,
     requires empty { fates.old ≡ [] }
-    requires input { IsInput plan.now batches }
+    requires input { IsInput plan.now offers }
     requires parts { AreParts plan.now parts.old }
     requires some { 1 ≤ workers }
     requires few { workers ≤ 64 }
@@ -238,21 +238,21 @@ where
 
     // What the answer, the fates, the ticks and the parts come to.
     ensures comes { WorkersCome (N.tells ids.old) (T.tells ticks.old) C.tells C.fault_count
-        plan.now (O.meaning custom.now) batches (T.handed_out ticks.old) (T.handed_out ticks.new)
+        plan.now (O.meaning custom.now) offers (T.handed_out ticks.old) (T.handed_out ticks.new)
         result fates.new parts.old parts.new }
 
     // Where few ticks are to come in so many rounds as a run needs, no transaction runs out of
     // attempts, where every bolt lets batches through, no ids coincide and no commit fails.
     ensures finishes { (to_come : List ℕ) → T.tells ticks.old to_come → CanFinish plan.now
         → All DoesNotCoincide fates.new → failed_commits fates.new ≡ 0
-        → sum (first_answers (rounds_needed plan.now (O.meaning custom.now) batches) to_come)
+        → sum (first_answers (rounds_needed plan.now (O.meaning custom.now) offers) to_come)
         < plan.now.buckets → NothingRanOut result }
 
     // What was taken from boxes tells of the end of each attempt.
     ensures row { HadMemory (ended result)
         → IsFitRow plan.now boxes.new.posts.boxes.items boxes.new.row.items }
     ensures books { HadMemory (ended result)
-        → BoxesTell plan.now (O.meaning custom.now) batches boxes.new.row.items fates.new }
+        → BoxesTell plan.now (O.meaning custom.now) offers boxes.new.row.items fates.new }
 
     // The board was raised by each tick.
     ensures seat { HadMemory (ended result) → IsWholeSeat board.now seat.new }
@@ -263,7 +263,7 @@ where
     laws_of_runs::<C>();
     laws_of_steps::<C>();
     laws_of_workers();
-    let mut engine = match Engine::start(alloc, plan, batches, ids) {
+    let mut engine = match Engine::start(alloc, plan, offers, ids) {
         Ok(engine) => engine,
         Err(_) => return Err(Stop::Memory),
     };

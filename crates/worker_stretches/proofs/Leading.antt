@@ -40,8 +40,8 @@ use Rattle.event_worlds.specs.topology_plan.Valid.{IsValid}
 use Rattle.event_worlds.specs.storm_values.declared.value.Root.{Root}
 use Rattle.event_worlds.specs.tree_model.declared.messages.AckMsg.{AckMsg}
 use Rattle.event_worlds.specs.tree_model.declared.messages.Parcel.{Parcel}
-use Rattle.event_worlds.specs.trident_batches.Batches.{Cut}
-use Rattle.event_worlds.specs.tuple_account.Histories.{History, Packet, drawn_in, joined}
+use Rattle.event_worlds.specs.taken_records.Cuts.{Cut}
+use Rattle.event_worlds.specs.tuple_account.Histories.{History, Opening, Packet, drawn_in, joined}
 use Rattle.event_worlds.specs.tuple_account.Moves.{HasDrawn, Moves, Station, beside}
 use Rattle.event_worlds.specs.tuple_account.Parts.{weigh_entries}
 use Rattle.event_worlds.specs.tuple_account.Places.{before}
@@ -52,7 +52,7 @@ use Rattle.worker_pool.specs.declared.desk.TaskDesk.{TaskDesk}
 use Rattle.worker_pool.specs.Desks.{given_at, source_at}
 use Rattle.worker_stretches.specs.Leads.{Leads, SeatsDid}
 use Rattle.worker_stretches.specs.Places.{AreAllSeats, IsAckerAt, IsSilent, IsTaskAt, ZipFrom, desk_number}
-use Rattle.world_progress.specs.Lasting.{IsSeat}
+use Rattle.world_progress.specs.Lasting.{IsNumbered, IsSeat}
 use Rattle.box_account.specs.Inboxes.{weigh_acker_inboxes, weigh_task_inboxes}
 use Rattle.box_account.proofs.Hearing.{heard_later}
 use Rattle.worker_stretches.specs.Standing.{GoesOn, IsInTime, IsLasting, Later, beside_it}
@@ -385,7 +385,8 @@ module _ {I : Type 0} {g : Ghosts I} (tells : I → (ℕ → ℕ) → ℕ → Ty
           let q = told.took_now f in omega arith
 
       -- nothing was lost
-      lasting-after : (first : Book) → IsValid t → IsInTime old.tick first → book.drawn ≡ first.drawn → Tells book → old.tick < t.buckets → IsLasting t h (shape old) → IsLasting t (joined h worked.history) after_world
+      lasting-after : (first : Book) → IsValid t → IsInTime old.tick first → book.drawn ≡ first.drawn → Tells book → old.tick < t.buckets
+          → IsLasting t cut h (shape old) → IsLasting t cut (joined h worked.history) after_world
       lasting-after first valid in_time drew tells_all short lasting =
           let few = saw-few t old.tick first book valid in_time drew tells_all short in
           let seats : SeatsFrom t old.tick 0 old.ackers.items = (λ n. subst (λ (m : ℕ). IsSeat t m old.tick (get_or (map acker_side old.ackers.items) n no_acker)) (let e : n ≡ 0 + n = omega arith in e) (lasting.seats n)) in
@@ -397,6 +398,8 @@ module _ {I : Type 0} {g : Ghosts I} (tells : I → (ℕ → ℕ) → ℕ → Ty
             seats = λ n. subst (λ (m : ℕ). IsSeat t m old.tick (get_or (map acker_side others) n no_acker)) (let e : 0 + n ≡ n = omega arith in e) (young n);
             whole = (λ i. lasting.whole i ++ lasts.1 i);
             fine = lasting.fine;
+            numbers = λ some. subst (AllByRecursion (IsNumbered cut))
+                (sym (ap (λ (os : List Opening). h.begun ++ os) worked.inside.begun ∙ append-nil h.begun)) (lasting.numbers some);
           }
 
     pub leads-after : StretchLaw t custom cut → Leads tells t custom cut old new was.waits is.waits
@@ -449,7 +452,8 @@ module _ {I : Type 0} {g : Ghosts I} (tells : I → (ℕ → ℕ) → ℕ → Ty
               heard = heard_later h did.history (shape old).fates stands.heard;
               lasts = λ sure short. lasting-after law words counts gives (beside_it row over) (beside_it row_now over) shift h stands.led first input.valid in_time drew tells_all short (stands.lasts sure short);
             };
-            rose = λ can sure short goes. no-less-done row row_now h did.history (shape old) after_world stands.through through told.more refl;
+            shut = refl;
+            rose = λ opens can sure short goes. no-less-done row row_now h did.history (shape old) after_world stands.through through told.more refl;
           } in
           subst (λ (w : World). Later t custom cut words outcomes row_now over 0 given counts h (shape old) w (has_ended new ≡ true)) (sym shape-after) later;
     }

@@ -14,7 +14,7 @@ use Rattle.event_worlds.specs.state_parts.declared.answer.CommitOutcome.{CommitO
 use Rattle.pulse_board.specs.declared.rule.Book.{Book}
 use Rattle.event_worlds.specs.storm_ids.declared.ids.Ids.{Ghosts}
 use Rattle.event_worlds.specs.topology_plan.Topology.{Topology}
-use Rattle.event_worlds.specs.trident_batches.Batches.{Cut}
+use Rattle.event_worlds.specs.taken_records.Cuts.{Cut}
 use Rattle.event_worlds.specs.tuple_account.Histories.{History}
 use Rattle.worker_pool.specs.declared.acker.AckerDesk.{AckerDesk}
 use Rattle.worker_pool.specs.declared.desk.TaskDesk.{TaskDesk}

@@ -23,10 +23,11 @@ use Rattle.event_worlds.specs.storm_ids.declared.ids.Ids.{Ghosts}
 use Rattle.task_queues.specs.declared.pass.Pass.{Pass}
 use Rattle.event_worlds.specs.topology_plan.Topology.{Topology}
 use Rattle.event_worlds.specs.tree_model.declared.messages.Parcel.{Parcel}
-use Rattle.event_worlds.specs.trident_batches.Batches.{Cut}
+use Rattle.event_worlds.specs.taken_records.Cuts.{Cut}
 use Rattle.event_worlds.specs.tuple_account.Histories.{History, weigh_parcels}
 use Rattle.world_progress.specs.Doing.{done}
-use Rattle.world_progress.specs.Lasting.{AreSeats, IsFine}
+use Rattle.world_progress.specs.Lasting.{AreSeats, IsFine, IsNumbered}
+use Rattle.world_progress.specs.Rounding.{IsOpen}
 use Rattle.worker_stretches.specs.Teams.{Waiting}
 
 -- ---- what waits
@@ -38,10 +39,11 @@ beside_it row left f = held_in row f + weigh_parcels f left
 -- ---- what stands
 
 -- nothing was lost: entries are young, none was dropped, and no commit failed
-pub record IsLasting (t : Topology) (h : History) (w : World) : Type 0 where
+pub record IsLasting (t : Topology) (cut : Cut) (h : History) (w : World) : Type 0 where
   pub seats : AreSeats t w
   pub whole : h.dropped ≡ []
   pub fine : AllByRecursion IsFine w.fates
+  pub numbers : 0 < cut.partitions → AllByRecursion (IsNumbered cut) h.begun
 
 -- A history led to a world and to what waits beside it. All that was taken from boxes was executed,
 -- met or heard, or stands in an inbox, and a verdict was heard before a commit failed. Where no
@@ -53,7 +55,7 @@ pub record Stands (t : Topology) (custom : Custom) (cut : Cut) (words : ℕ → 
   pub through : GoesThrough row h k.world
   pub heard : HeardBeforeFailing h k.world.fates
   pub lasts : All (λ (how : CommitOutcome). how ≡ Done) outcomes → k.world.tick < t.buckets
-      → IsLasting t h k.world
+      → IsLasting t cut h k.world
 
 -- a seat at the board drew a number for each tick, up to 2^64 - 1
 abbrev pub IsInTime : ℕ → Book → Type 0
@@ -61,8 +63,9 @@ IsInTime tick book = tick ≡ min (length book.drawn) (2 ^ 64 - 1)
 
 -- ---- how it goes on
 
--- Later a history led to a world. Where every bolt lets batches through, no commit fails and few
--- ticks passed, no less was done, or so much more where all is not over.
+-- Later a history led to a world, in which the same partitions are shut. Where every bolt lets
+-- batches through, no commit fails and few ticks passed, no less was done, or so much more where
+-- all is not over and no partition is shut.
 pub record Later (t : Topology) (custom : Custom) (cut : Cut) (words : ℕ → ℕ → ℕ)
     (outcomes : List CommitOutcome) (row : List (Pass Mail)) (left : List Parcel) (least : ℕ)
     (given : ℕ → List ℕ) (counts : ℕ → ℕ) (h : History) (was is : World) (over : Type 0)
@@ -72,7 +75,9 @@ pub record Later (t : Topology) (custom : Custom) (cut : Cut) (words : ℕ → �
   pub counted : (s : ℕ) → now s ≡ counts s + length (given s)
   pub stands : Stands t custom cut words outcomes row left history
       (record { world = is; counts = now })
-  pub rose : CanFinish t → All (λ (how : CommitOutcome). how ≡ Done) outcomes
+  pub shut : is.shut ≡ was.shut
+  pub rose : (0 < least → IsOpen cut was) → CanFinish t
+      → All (λ (how : CommitOutcome). how ≡ Done) outcomes
       → is.tick < t.buckets → (over → ⊥) → done h was + least ≤ done history is
 
 module _ {I : Type 0} {g : Ghosts I} where

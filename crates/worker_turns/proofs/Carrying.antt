@@ -48,7 +48,7 @@ inbox-ackers-from f a (x ∷ xs) (suc i) n y d below at = let rest = inbox-acker
 -- ---- worlds whose packets moved
 
 pub arranged-none : (w : World) → IsRearranged w w
-arranged-none w = record { stands = refl; entries = refl; counts = refl; spout = refl; desk = refl; tick = refl; unheard = refl; fates = refl }
+arranged-none w = record { stands = refl; entries = refl; counts = refl; spout = refl; desk = refl; tick = refl; unheard = refl; shut = refl; fates = refl }
 
 pub arranged-then : (a b c : World) → IsRearranged a b → IsRearranged b c → IsRearranged a c
 arranged-then a b c one two = record {
@@ -59,6 +59,7 @@ arranged-then a b c one two = record {
   desk = two.desk ∙ one.desk;
   tick = two.tick ∙ one.tick;
   unheard = two.unheard ∙ one.unheard;
+  shut = two.shut ∙ one.shut;
   fates = two.fates ∙ one.fates;
 }
 
@@ -71,6 +72,7 @@ arranged-delivered t (ToTask n tuple) w = record {
   desk = refl;
   tick = refl;
   unheard = refl;
+  shut = refl;
   fates = refl;
 }
 arranged-delivered t (ToAcker n m) w = record {
@@ -81,6 +83,7 @@ arranged-delivered t (ToAcker n m) w = record {
   desk = refl;
   tick = refl;
   unheard = refl;
+  shut = refl;
   fates = refl;
 }
 

@@ -28,7 +28,7 @@ use Rattle.event_worlds.specs.storm_values.declared.value.Root.{Root}
 use Rattle.task_queues.specs.declared.pass.Pass.{Pass}
 use Rattle.event_worlds.specs.topology_plan.Topology.{Topology}
 use Rattle.event_worlds.specs.tree_model.declared.messages.AckMsg.{AckMsg}
-use Rattle.event_worlds.specs.trident_batches.Batches.{Cut}
+use Rattle.event_worlds.specs.taken_records.Cuts.{Cut}
 use Rattle.event_worlds.specs.tuple_account.Fits.{Fits}
 use Rattle.event_worlds.specs.tuple_account.Histories.{History, Packet}
 use Rattle.event_worlds.specs.tuple_account.Moves.{beside}
@@ -77,8 +77,13 @@ module _ (t : Topology) (old new : World) (same : IsRearranged old new) where
         young = subst (λ (m : ℕ). AreYoung t n m (acker_at n new).entries) (sym c) (subst (AreYoung t n (acker_at n old).counted) (sym e) (seats n).young);
       }
 
-  lasting-arranged : (h : History) → IsLasting t h old → IsLasting t h new
-  lasting-arranged h lasts = record { seats = seats-arranged lasts.seats; whole = lasts.whole; fine = subst (AllByRecursion IsFine) (sym same.fates) lasts.fine }
+  lasting-arranged : (cut : Cut) (h : History) → IsLasting t cut h old → IsLasting t cut h new
+  lasting-arranged cut h lasts = record {
+    seats = seats-arranged lasts.seats;
+    whole = lasts.whole;
+    fine = subst (AllByRecursion IsFine) (sym same.fates) lasts.fine;
+    numbers = lasts.numbers;
+  }
 
   module _ (custom : Custom) (cut : Cut) (words : ℕ → ℕ → ℕ) (counts : ℕ → ℕ) (before after : Waiting) (h : History) (orderly : IsOrderly t new)
       (moved : (f : Packet → ℕ) → after f + waits_in new f ≡ before f + waits_in old f) where
@@ -107,8 +112,8 @@ module _ (t : Topology) (old new : World) (same : IsRearranged old new) where
         spout = ap (λ (s : Stand). s.given) same.spout ∙ led.counted.spout;
       };
       kept = subst (λ (d : Desk). IsKept t cut d new.fates) (sym same.desk) (subst (IsKept t cut old.desk) (sym same.fates) led.kept);
-      fits = subst (λ (d : Desk). Fits t (account.desk_of d) (account.ends_of new.fates) h) (sym same.desk)
-          (subst (λ (fs : List Attempt). Fits t (account.desk_of old.desk) (account.ends_of fs) h) (sym same.fates) led.fits);
+      fits = subst (λ (d : Desk). Fits t (account.desk_of cut d) (account.ends_of new.fates) h) (sym same.desk)
+          (subst (λ (fs : List Attempt). Fits t (account.desk_of cut old.desk) (account.ends_of fs) h) (sym same.fates) led.fits);
       spans = subst (λ (d : Desk). HaveSpans (BeganWith cut h.begun) d new.fates) (sym same.desk)
           (subst (HaveSpans (BeganWith cut h.begun) old.desk) (sym same.fates) led.spans);
       silent = each-map AreSilent entries_in new.ackers (subst (AllByRecursion AreSilent) (sym same.entries) (each-to_map AreSilent entries_in old.ackers led.silent));
@@ -124,7 +129,7 @@ stands-carried t custom cut words outcomes counts old new was is h orderly carri
   led = led-arranged t old new carries.arranged custom cut words counts (beside_it was []) (beside_it is []) h orderly (λ f. let w = carries.waits f in omega arith) stands.led;
   through = λ f. let a = stands.through f in let b = carries.through f in omega arith;
   heard = subst (λ (fs : List Attempt). HeardBeforeFailing h fs) (sym carries.arranged.fates) stands.heard;
-  lasts = λ all few. lasting-arranged t old new carries.arranged h (stands.lasts all (let k = carries.arranged.tick in omega arith));
+  lasts = λ all few. lasting-arranged t old new carries.arranged cut h (stands.lasts all (let k = carries.arranged.tick in omega arith));
 }
 
 -- no less was done
@@ -157,7 +162,8 @@ module _ {I : Type 0} {g : Ghosts I} where
       now = counts;
       counted = λ s. omega arith;
       stands = stands-carried t custom cut words outcomes counts (shape old) (shape new) was is h orderly e.carries stands;
-      rose = λ can all few open_end. (let d = done-carried (shape old) (shape new) was is nothing_left nothing_left h e.carries in omega arith);
+      shut = e.carries.arranged.shut;
+      rose = λ opens can all few open_end. (let d = done-carried (shape old) (shape new) was is nothing_left nothing_left h e.carries in omega arith);
     };
   }
 

@@ -29,7 +29,7 @@ use Rattle.task_queues.specs.Passes.{view_of}
 use Rattle.event_worlds.specs.topology_plan.Topology.{Topology}
 use Rattle.event_worlds.specs.tree_model.declared.messages.Parcel.{Parcel}
 use Rattle.event_worlds.specs.tree_model.declared.messages.Parcel.TheVariants.{ToTask, ToAcker}
-use Rattle.event_worlds.specs.trident_batches.Batches.{Cut}
+use Rattle.event_worlds.specs.taken_records.Cuts.{Cut}
 use Rattle.event_worlds.specs.tuple_account.Histories.{Packet, of_parcel, of_verdict, weigh_parcels}
 use Rattle.worker_stretches.specs.box_account.Inboxes.{weigh_acker_inboxes, weigh_task_inboxes}
 use Rattle.worker_stretches.specs.Teams.{Waiting}
@@ -170,7 +170,7 @@ brings-run t ps old new fits orderly is =
 pub brings-verdict : (v : Verdict) (old new : World) → new ≡ record old { verdicts = old.verdicts ++ v ∷ [] } → Brings (mail.Verdict v) old new
 brings-verdict v old new is =
     subst (Brings (mail.Verdict v) old) (sym is) (record {
-      arranged = record { stands = refl; entries = refl; counts = refl; spout = refl; desk = refl; tick = refl; unheard = refl; fates = refl };
+      arranged = record { stands = refl; entries = refl; counts = refl; spout = refl; desk = refl; tick = refl; unheard = refl; shut = refl; fates = refl };
       waits = λ f. let a = weigh-append (λ (x : Verdict). f (of_verdict x)) old.verdicts (v ∷ []) in omega arith;
       inboxes = λ f. let a = weigh-append (λ (x : Verdict). f (of_verdict x)) old.verdicts (v ∷ []) in omega arith;
       swept = record { tasks = λ all. all; ackers = λ all. all; orders = λ none. none };
@@ -230,14 +230,25 @@ pub gives-orders : (old new : World) (row : List (Pass Mail)) → new ≡ record
 gives-orders old new row is =
     subst (λ (w : World). Carries old w row row nothing_left (weigh_all old.orders)) (sym is)
     (carries-gives old (record old { orders = [] }) row nothing_left (weigh_all old.orders)
-    (record { stands = refl; entries = refl; counts = refl; spout = refl; desk = refl; tick = refl; unheard = refl; fates = refl }) (λ f. omega arith) (λ f. refl))
+    (record { stands = refl; entries = refl; counts = refl; spout = refl; desk = refl; tick = refl; unheard = refl; shut = refl; fates = refl })
+    (λ f. omega arith) (λ f. refl))
 
 -- what tasks had to hand over
 pub gives-parcels : (old new : World) (row : List (Pass Mail)) → new ≡ record old { tasks = map without_parcels old.tasks } → Carries old new row row nothing_left (weigh_all (parcels_out old.tasks))
 gives-parcels old new row is =
     subst (λ (w : World). Carries old w row row nothing_left (weigh_all (parcels_out old.tasks))) (sym is)
     (carries-gives old (record old { tasks = map without_parcels old.tasks }) row nothing_left (weigh_all (parcels_out old.tasks))
-    (record { stands = stands-without old.tasks; entries = refl; counts = refl; spout = refl; desk = refl; tick = refl; unheard = refl; fates = refl })
+    (record {
+      stands = stands-without old.tasks;
+      entries = refl;
+      counts = refl;
+      spout = refl;
+      desk = refl;
+      tick = refl;
+      unheard = refl;
+      shut = refl;
+      fates = refl;
+    })
     (λ f. let a = tasks-without f 0 old.tasks in omega arith) (λ f. let a = inbox-tasks-without f 0 old.tasks in omega arith))
 
 -- what ackers had
@@ -245,7 +256,17 @@ pub gives-verdicts : (old new : World) (row : List (Pass Mail)) → new ≡ reco
 gives-verdicts old new row is =
     subst (λ (w : World). Carries old w row row nothing_left (weigh_verdicts (verdicts_out old.ackers))) (sym is)
     (carries-gives old (record old { ackers = map without_verdicts old.ackers }) row nothing_left (weigh_verdicts (verdicts_out old.ackers))
-    (record { stands = refl; entries = entries-without old.ackers; counts = counts-without old.ackers; spout = refl; desk = refl; tick = refl; unheard = refl; fates = refl })
+    (record {
+      stands = refl;
+      entries = entries-without old.ackers;
+      counts = counts-without old.ackers;
+      spout = refl;
+      desk = refl;
+      tick = refl;
+      unheard = refl;
+      shut = refl;
+      fates = refl;
+    })
     (λ f. let a = ackers-without f 0 old.ackers in omega arith) (λ f. let a = inbox-ackers-without f 0 old.ackers in omega arith))
 
 pub brings-run-mail : (t : Topology) (m : Mail) (ps : List Parcel) (old new : World) → m ≡ mail.Run ps → FitsMail t m → IsOrderly t old → new ≡ delivered_all t ps old → Brings m old new

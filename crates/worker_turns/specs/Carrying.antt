@@ -72,6 +72,7 @@ pub record IsRearranged (old new : World) : Type 0 where
   pub desk : new.desk ≡ old.desk
   pub tick : new.tick ≡ old.tick
   pub unheard : new.unheard ≡ old.unheard
+  pub shut : new.shut ≡ old.shut
   pub fates : new.fates ≡ old.fates
 
 -- Packets went from where they waited to where they wait: each waits once, in a box, in the world,

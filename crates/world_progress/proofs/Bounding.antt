@@ -1,17 +1,21 @@
 -- What can be done is bounded by the attempts that a plan allows and the nodes of all records.
-use Rattle.std.proofs.Common.{◌≡◌, ◌<◌, ◌≤◌, ℕ, zero, suc, ◌+◌, ◌*◌, ◌==◌, ◌&&◌, Bool, true, false, cond, List, [], ◌∷◌, ◌++◌, length, filter, flat_map, refl, sym, ap, ◌∙◌, arith}
+use Rattle.std.proofs.Common.{◌≡◌, ◌<◌, ◌≤◌, ℕ, suc, ◌+◌, ◌*◌, ◌==◌, ◌&&◌, Bool, true, false, cond, List, [], ◌∷◌, length, filter, map, drop, inl, inr, refl, sym, ap, ◌∙◌, arith}
 use Rattle.std.specs.List.{AllByRecursion, range_with_len}
 use Rattle.std.specs.Cmp.{nat_eq_equiv}
-use Rattle.std.proofs.Math.Nat.{mul-add, mul_assoc}
+use Rattle.std.proofs.Math.Nat.{add-mul, mul-add, mul-le-mul_left, mul-le-mul_right, mul_assoc}
+use Rattle.std.proofs.lemmas.Bool.{cases_eq}
 use Rattle.std.proofs.lemmas.List.{length-map}
+use Rattle.std.proofs.lemmas.List.Elements.{recursion_from_All}
 use Rattle.event_worlds.specs.attempt_fates.declared.fates.Attempt.{Attempt}
-use Rattle.event_worlds.specs.attempt_fates.Fates.{committed, is_committed}
+use Rattle.event_worlds.specs.attempt_fates.Fates.{committed, committed_batches, is_abort, is_committed}
 use Rattle.event_worlds.specs.bolt_ops.RowOp.{Custom}
-use Rattle.event_worlds.specs.commit_turns.Account.{ended_of, rows_in}
+use Rattle.event_worlds.specs.commit_turns.Account.{ended_of, rows_at, waits_of}
+use Rattle.event_worlds.specs.commit_turns.Kept.{batches_taken, pending_batches}
+use Rattle.event_worlds.specs.commit_turns.declared.wait.Wait.{Wait}
 use Rattle.event_worlds.specs.counted_items.Weights.{weigh}
-use Rattle.event_worlds.proofs.counted_items.Weighing.{each-weighs, weigh-le, weigh-le_each, weigh-map, weigh-ones, weigh-same, weigh-swap, weigh-zero}
+use Rattle.event_worlds.proofs.counted_items.Weighing.{each-weighs, weigh-append, weigh-le, weigh-le_each, weigh-map, weigh-ones, weigh-same, weigh-same_each, weigh-swap, weigh-zero}
 use Rattle.event_worlds.specs.acker_core.declared.verdict.Verdict.{Verdict}
-use Rattle.event_worlds.specs.Accounted.{IsInput, LedTo, station_of, weigh_ackers, weigh_tasks}
+use Rattle.event_worlds.specs.Accounted.{BeganWith, BeginsWithBatch, IsInput, LedTo, station_of, weigh_ackers, weigh_tasks}
 use Rattle.event_worlds.specs.Worlds.{AckerSide, Known, TaskSide}
 use Rattle.event_worlds.specs.storm_values.declared.value.Root.{Root}
 use Rattle.event_worlds.specs.storm_values.declared.value.Value.{Value}
@@ -20,12 +24,16 @@ use Rattle.event_worlds.specs.topology_plan.Valid.{IsValid}
 use Rattle.event_worlds.specs.tree_model.declared.messages.AckMsg.{AckMsg}
 use Rattle.event_worlds.specs.tree_model.declared.messages.Tuple.{Tuple}
 use Rattle.event_worlds.specs.tree_model.Trees.{node_count}
-use Rattle.event_worlds.specs.trident_batches.Batches.{Cut, batch_count, batches_joined}
-use Rattle.event_worlds.specs.tuple_account.Ends.{Ended}
-use Rattle.event_worlds.specs.tuple_account.Histories.{Execution, History, Opening, Receipt, Told, on_tuple, opens}
+use Rattle.event_worlds.specs.record_offers.Offers.{batch_count}
+use Rattle.event_worlds.specs.taken_records.Cuts.{Cut}
+use Rattle.event_worlds.specs.taken_records.Taken.{batch_spans}
+use Rattle.event_worlds.proofs.taken_records.Bounding.{taken_few}
+use Rattle.event_worlds.specs.record_spans.declared.span.Span.{Span}
+use Rattle.event_worlds.specs.tuple_account.Ends.{Ended, Waits}
+use Rattle.event_worlds.specs.tuple_account.Histories.{Execution, History, Opening, Receipt, Told, on_tuple, opens, rows_in}
 use Rattle.event_worlds.specs.tuple_account.Moves.{Reached, Station, account_of, AreRows}
 use Rattle.event_worlds.specs.tuple_account.Sound.{tells}
-use Rattle.event_worlds.proofs.tuple_account.Reading.{few, messages_weight, notes_are, packets, tuples_weight}
+use Rattle.event_worlds.proofs.tuple_account.Reading.{few, messages_weight, notes_are, packets, rows_are_found, tuples_weight}
 use Rattle.event_worlds.proofs.tuple_account.Sending.{issued_verdicts, on_message, on_verdict}
 use Rattle.event_worlds.proofs.tuple_account.Telling.{told_begun}
 use Rattle.event_worlds.specs.tuple_account.Accounts.{is_of, issued_notes}
@@ -35,19 +43,16 @@ use Rattle.event_worlds.specs.tuple_tickets.Roots.{root_eq}
 use Rattle.event_worlds.specs.tuple_tickets.Trees.{Course, fails, goes, mute}
 use Rattle.event_worlds.proofs.tuple_tickets.Roots.{root_itself}
 use Rattle.event_worlds.specs.Rounds.{rounds_needed}
+use Rattle.event_worlds.proofs.Nodes.{NodesAdd, batches-nodes}
+use Rattle.event_worlds.proofs.Spans.{begun-batches}
+use Rattle.event_worlds.proofs.counted_items.Each.{each-weaker}
+use Rattle.world_progress.specs.Lasting.{Lasting, NoneAborted}
 use Rattle.world_progress.specs.Doing.{done, in_boxes, messages_in, taken_from, tuples_in}
-use Rattle.world_progress.proofs.Resting.{no_nodes, runs_issued, was_begun}
-use Rattle.world_progress.proofs.Tallying.{by_txid, range-length, within}
-
--- ---- laws of crates below
-
--- joined rows have as many nodes as the rows of each
-abbrev pub NodesAdd : Type 0
-NodesAdd = (t : Topology) (custom : Custom) (xs ys : List (List Value)) → node_count t custom (xs ++ ys) ≡ node_count t custom xs + node_count t custom ys
-
--- the batches are all records
-abbrev pub BatchesAreAll : Type 0
-BatchesAreAll = (records : List (List Value)) (size : ℕ) → zero < size → batches_joined size (batch_count (length records) size) records ≡ records
+use Rattle.world_progress.proofs.Lists.{range-length}
+use Rattle.world_progress.proofs.Resting.{runs_issued, was_begun}
+use Rattle.world_progress.proofs.Records.{taken-nodes}
+use Rattle.world_progress.proofs.Sources.{records-few}
+use Rattle.world_progress.proofs.Tallying.{AreWithin, all_committed, by_txid, tries_none, within}
 
 -- ---- what stands in boxes waits
 
@@ -120,27 +125,51 @@ module _ (t : Topology) (custom : Custom) (h : History) (b : Station) (reached :
       let mz = weigh-zero (λ (e : Receipt). 0) (λ e. refl) h.met in
       let vz = weigh-zero (λ (v : Verdict). 0) (λ v. refl) h.heard in omega arith
 
-  module _ (valid : IsValid t) (c : ℕ → List (List Value)) (rows_are : AllByRecursion (λ (o : Opening). o.begun.rows ≡ c o.begun.root.txid) h.begun) where
+  module _ (valid : IsValid t) where
+    abbrev rows_of : Root → List (List Value)
+    rows_of root = rows_in h.begun root
+
+    rows_are : AreRows rows_of h.begun
+    rows_are = rows_are_found t custom h b reached
+
     -- tuples by the nodes of their roots' rows
-    tuples_few : length all ≤ weigh (λ (o : Opening). node_count t custom (c o.begun.root.txid)) h.begun
+    tuples_few : length all ≤ weigh (λ (o : Opening). node_count t custom o.begun.rows) h.begun
     tuples_few =
         let n = weigh-ones all in
         let l = weigh-le_each (λ (x : Tuple). 1) (λ (x : Tuple). weigh (λ (o : Opening). is_of o.begun.root x) h.begun) (λ (x : Tuple). (f : Tuple → ℕ) → f x ≤ weigh f all) some all (each-weighs all) in
         let s = weigh-swap (λ (o : Opening) (x : Tuple). is_of o.begun.root x) h.begun all in
-        let m = weigh-le (λ (o : Opening). weigh (is_of o.begun.root) all) (λ (o : Opening). node_count t custom (c o.begun.root.txid))
-        (λ o. few t custom h b reached (λ (root : Root). c root.txid) rows_are valid o.begun.root) h.begun in omega arith
+        let m = weigh-le (λ (o : Opening). weigh (is_of o.begun.root) all) (λ (o : Opening). node_count t custom (rows_of o.begun.root))
+        (λ o. few t custom h b reached rows_of rows_are valid o.begun.root) h.begun in
+        let e = weigh-same_each (λ (o : Opening). node_count t custom o.begun.rows) (λ (o : Opening). node_count t custom (rows_of o.begun.root))
+        (λ (o : Opening). o.begun.rows ≡ rows_of o.begun.root)
+        (λ o is. ap (node_count t custom) is) h.begun rows_are in omega arith
       where
         some : (x : Tuple) → ((f : Tuple → ℕ) → f x ≤ weigh f all) → 1 ≤ weigh (λ (o : Opening). is_of o.begun.root x) h.begun
         some x stands =
             let w = was_begun t custom h b reached valid x stands in
             let e = weigh-same (λ (o : Opening). is_of o.begun.root x) (opens x.root) (λ o. ap (λ (q : Bool). cond {A = ℕ} q 1 0) (same_roots x.root o.begun.root)) h.begun in omega arith
 
--- ---- batches
+-- ---- numbers
 
-nodes_joined : NodesAdd → (t : Topology) (custom : Custom) (f : ℕ → List (List Value)) (xs : List ℕ) → node_count t custom [] ≡ 0
-    → node_count t custom (flat_map f xs) ≡ weigh (λ (x : ℕ). node_count t custom (f x)) xs
-nodes_joined adds t custom f [] none = none
-nodes_joined adds t custom f (x ∷ xs) none = let a = adds t custom (f x) (flat_map f xs) in let rest = nodes_joined adds t custom f xs none in omega arith
+-- of one attempt of each transaction no more is done, where each has a node
+bound_some : (a p n sum many start result : ℕ) → 1 ≤ a → sum ≤ p → many ≤ p → result ≤ sum * 4 + many * 6 + start → result < start + 16 * a * (p + n + 1)
+bound_some a p n sum many start result some few records most =
+    let x : 16 * (p + n + 1) ≤ 16 * a * (p + n + 1) = mul-le-mul_right (p + n + 1) (omega arith) in omega arith
+
+-- of so many attempts and one more no more is done than 16 times as many allow
+bound_none : (a p n sum start result : ℕ) → 1 ≤ a → sum ≤ p → result ≤ ((a + 1) * sum) * 4 + ((a + 1) * n) * 6 + start → result < start + 16 * a * (p + n + 1)
+bound_none a p n sum start result some few most =
+    let x = mul-le-mul_left (a + 1) few in
+    let y : (a + 1) * p ≤ (a + a) * p = mul-le-mul_right p (omega arith) in
+    let z : (a + 1) * n ≤ (a + a) * n = mul-le-mul_right n (omega arith) in
+    let u = add-mul a a p in
+    let v = add-mul a a n in
+    let q = mul-add (16 * a) (p + n) 1 in
+    let r = mul-add (16 * a) p n in
+    let s = mul_assoc 16 a p in
+    let w = mul_assoc 16 a n in omega arith
+
+-- ---- transactions
 
 filter_few : {X : Type 0} (test : X → Bool) (xs : List X) → length (filter test xs) ≤ length xs
 filter_few test [] = omega arith
@@ -150,28 +179,9 @@ filter_few test (x ∷ xs) = by (test x) (filter_few test xs)
     by true rest = omega arith
     by false rest = omega arith
 
--- what led to a world began each root with the rows of its batch
-abbrev pub BeginWithBatches : Topology → Custom → Cut → (ℕ → ℕ → ℕ) → Type 0
-BeginWithBatches t custom cut words = (h : History) (k : Known) → LedTo t custom cut words h k → AreRows (λ root. rows_in cut root.txid) h.begun
-
-module _ (t : Topology) (custom : Custom) (cut : Cut) (words : ℕ → ℕ → ℕ) (adds : NodesAdd) (batches_are : BatchesAreAll) (input : IsInput t cut) (h : History) (k : Known) (led : LedTo t custom cut words h k) (rows_are : AreRows (λ root. rows_in cut root.txid) h.begun) where
-  tuples_all : length (tuples.issued t custom (account_of h (station_of k))) ≤ t.attempts * node_count t custom cut.records
-  tuples_all =
-      let f = tuples_few t custom h (station_of k) led.reached input.valid (rows_in cut) rows_are in
-      let w = by_txid (batch_count (length cut.records) cut.size) t.attempts h.begun (within t cut k.world.desk k.world.fates h led.kept led.fits led.reached.once) (λ (i : ℕ). node_count t custom (rows_in cut i)) in
-      let some : zero < cut.size = (let s = input.size in let v = input.valid.batch.0 in omega arith) in
-      let n = nodes_joined adds t custom (rows_in cut) (range_with_len 1 (batch_count (length cut.records) cut.size)) (no_nodes t custom) in
-      let e = ap (node_count t custom) (batches_are cut.records cut.size some) in
-      let m = ap (λ (x : ℕ). t.attempts * x) (sym n ∙ e) in omega arith
-
-  begun_all : length h.begun ≤ t.attempts * batch_count (length cut.records) cut.size
-  begun_all =
-      let o = weigh-ones h.begun in
-      let w = by_txid (batch_count (length cut.records) cut.size) t.attempts h.begun (within t cut k.world.desk k.world.fates h led.kept led.fits led.reached.once) (λ (i : ℕ). 1) in
-      let r = weigh-ones (range_with_len 1 (batch_count (length cut.records) cut.size)) ∙ range-length 1 (batch_count (length cut.records) cut.size) in
-      let m = ap (λ (x : ℕ). t.attempts * x) r in omega arith
-
-  commits_few : k.world.desk.committed ≤ length h.begun
+module _ (t : Topology) (custom : Custom) (cut : Cut) (words : ℕ → ℕ → ℕ) (valid : IsValid t) (h : History) (k : Known)
+    (led : LedTo t custom cut words h k) where
+  commits_few : k.world.desk.committed ≤ cut.start + length h.begun
   commits_few =
       let c = led.kept.commits in
       let m = length-map (committed k.world.fates) (λ (a : Attempt). a.root.txid) in
@@ -181,22 +191,124 @@ module _ (t : Topology) (custom : Custom) (cut : Cut) (words : ℕ → ℕ → �
       let e = weigh-map (λ (a : Ended). 1) ended_of k.world.fates in
       let g = weigh-ones k.world.fates in omega arith
 
-  done_few : done h k.world ≤ (t.attempts * node_count t custom cut.records) * 4 + (t.attempts * batch_count (length cut.records) cut.size) * 6
-  done_few =
+  -- by the nodes of the openings' rows, and the openings
+  done_of : done h k.world ≤ weigh (λ (o : Opening). node_count t custom o.begun.rows) h.begun * 4 + length h.begun * 6 + cut.start
+  done_of =
       let x = tuples-wait 0 k.world.tasks in
       let y = messages-wait 0 k.world.ackers in
       let z = weigh-ones k.world.verdicts in
       let i = handed_few t custom h (station_of k) led.reached (in_boxes k.world) (omega arith) in
-      let a = tuples_all in
-      let b = begun_all in
-      let c = commits_few in omega arith
+      let f = tuples_few t custom h (station_of k) led.reached valid in
+      let m = commits_few in omega arith
+
+  -- so many transactions from one on, so many attempts of each, and a bound of the nodes of each attempt
+  module _ (low batches attempts : ℕ) (within : AreWithin low batches attempts h.begun) (c : ℕ → ℕ)
+      (own : AllByRecursion (λ (o : Opening). node_count t custom o.begun.rows ≤ c o.begun.root.txid) h.begun) where
+    done_few : done h k.world ≤ (attempts * weigh c (range_with_len low batches)) * 4 + (attempts * batches) * 6 + cut.start
+    done_few =
+        let d = done_of in
+        let l = weigh-le_each (λ (o : Opening). node_count t custom o.begun.rows) (λ (o : Opening). c o.begun.root.txid)
+        (λ (o : Opening). node_count t custom o.begun.rows ≤ c o.begun.root.txid)
+        (λ o less. less) h.begun own in
+        let w = by_txid low batches attempts h.begun within c in
+        let o = weigh-ones h.begun in
+        let v = by_txid low batches attempts h.begun within (λ (i : ℕ). 1) in
+        let r = ap (λ (n : ℕ). attempts * n) (weigh-ones (range_with_len low batches) ∙ range-length low batches) in omega arith
+
+module _ (t : Topology) (custom : Custom) (cut : Cut) (words : ℕ → ℕ → ℕ) (adds : NodesAdd t custom) (input : IsInput t cut) (h : History) (k : Known)
+    (last : Lasting t custom cut words h k) where
+  abbrev nodes : ℕ
+  nodes = node_count t custom cut.records
+
+  batched : AllByRecursion (BeginsWithBatch cut) h.begun
+  batched = begun-batches t custom cut words (station_of k) h k last.led
+
+  -- ---- without partitions
+
+  abbrev count : ℕ
+  count = batch_count (length cut.records) cut.size
+
+  abbrev its_nodes : ℕ → ℕ
+  its_nodes txid = node_count t custom (rows_at cut (batch_spans (length cut.records) cut.size txid))
+
+  module _ (none : cut.partitions ≡ 0) where
+    known_batches : AllByRecursion (λ (o : Opening). (1 ≤ o.begun.root.txid) × (o.begun.root.txid < 1 + count)) h.begun
+    known_batches =
+        each-weaker (BeginsWithBatch cut) (λ (o : Opening). (1 ≤ o.begun.root.txid) × (o.begun.root.txid < 1 + count))
+        (λ o is.
+        let later = is.1.later in
+        let there = (is.1.numbered none).0 in
+        let e = ap (λ (n : ℕ). batch_count n cut.size) input.start.marks in (omega arith, omega arith)) h.begun batched
+
+    known_nodes : AllByRecursion (λ (o : Opening). node_count t custom o.begun.rows ≤ its_nodes o.begun.root.txid) h.begun
+    known_nodes =
+        each-weaker (BeginsWithBatch cut) (λ (o : Opening). node_count t custom o.begun.rows ≤ its_nodes o.begun.root.txid)
+        (λ o is.
+        let e : node_count t custom o.begun.rows ≡ its_nodes o.begun.root.txid =
+        ap (node_count t custom)
+        (is.2 ∙ ap (rows_at cut)
+        ((is.1.numbered none).1 ∙ ap (λ (n : ℕ). batch_spans n cut.size o.begun.root.txid) input.start.marks)) in omega arith) h.begun batched
+
+    bounded_none : done h k.world < cut.start + 16 * t.attempts * (nodes + count + 1)
+    bounded_none =
+        let a = t.attempts in
+        let led = last.led in
+        let w = within t cut k.world.desk k.world.fates h led.kept led.fits 1 count (a + 1) known_batches
+        (tries_none t cut k.world.desk k.world.fates h led.kept led.fits none) led.reached.once in
+        let f = done_few t custom cut words input.valid h k led 1 count (a + 1) w its_nodes known_nodes in
+        let n = batches-nodes t custom adds cut.records cut.size 0 count in
+        let z : node_count t custom (drop (0 * cut.size) cut.records) ≡ nodes = ap (λ (i : ℕ). node_count t custom (drop i cut.records))
+        (let e : 0 * cut.size ≡ 0 = omega arith in e) in
+        let v = input.valid.attempts.0 in
+        bound_none a nodes count (weigh its_nodes (range_with_len 1 count)) cut.start (done h k.world) v (omega arith) f
+
+  -- ---- with partitions, where none aborted
+
+  module _ (none : AllByRecursion (λ (a : Attempt). is_abort a.end ≡ false) k.world.fates) where
+    abbrev batches : List (List Span)
+    batches = batches_taken k.world.desk k.world.fates
+
+    abbrev begun_rows : Root → List (List Value)
+    begun_rows root = rows_in h.begun root
+
+    -- the rows that were begun are those of the batches that were taken
+    rows_weigh : (f : List (List Value) → ℕ) → weigh (λ (o : Opening). f o.begun.rows) h.begun ≡ weigh (λ (spans : List Span). f (rows_at cut spans)) batches
+    rows_weigh f =
+        let led = last.led in
+        let e = weigh-same_each (λ (o : Opening). f o.begun.rows) (λ (o : Opening). f (begun_rows o.begun.root))
+        (λ (o : Opening). o.begun.rows ≡ begun_rows o.begun.root) (λ o is. ap f is) h.begun (rows_are_found t custom h (station_of k) led.reached) in
+        let b = led.fits.begun (λ root. f (begun_rows root)) in
+        let x = weigh-map (λ (a : Ended). f (begun_rows a.root)) ended_of k.world.fates in
+        let y = weigh-map (λ (w : Waits). f (begun_rows w.root)) waits_of k.world.desk.pending in
+        let p = weigh-same_each (λ (a : Attempt). f (begun_rows a.root)) (λ (a : Attempt). f (rows_at cut a.spans))
+        (λ (a : Attempt). BeganWith cut h.begun a.root a.spans) (λ a is. ap f (sym is)) k.world.fates led.spans.ends in
+        let q = weigh-same_each (λ (w : Wait). f (begun_rows w.root)) (λ (w : Wait). f (rows_at cut w.spans))
+        (λ (w : Wait). BeganWith cut h.begun w.root w.spans) (λ w is. ap f (sym is)) k.world.desk.pending led.spans.waits in
+        let m = weigh-map (λ (spans : List Span). f (rows_at cut spans)) (λ (a : Attempt). a.spans) k.world.fates in
+        let n = weigh-map (λ (spans : List Span). f (rows_at cut spans)) (λ (w : Wait). w.spans) k.world.desk.pending in
+        let a = weigh-append (λ (spans : List Span). f (rows_at cut spans)) (committed_batches k.world.fates) (pending_batches k.world.desk) in
+        let c = ap (λ (xs : List Attempt). weigh (λ (spans : List Span). f (rows_at cut spans)) (map (λ (x : Attempt). x.spans) xs))
+        (all_committed t cut k.world.desk k.world.fates h led.kept led.fits none) in omega arith
+
+    bounded_some : done h k.world < cut.start + 16 * t.attempts * (nodes + count + 1)
+    bounded_some =
+        let led = last.led in
+        let d = done_of t custom cut words input.valid h k led in
+        let x = rows_weigh (node_count t custom) in
+        let n = taken-nodes t custom adds cut.records cut.gone k.world.desk.gone cut.size batches input.start.marks led.kept.taken in
+        let y = rows_weigh (λ rows. 1) in
+        let o = weigh-ones h.begun in
+        let b = weigh-ones batches in
+        let f = taken_few cut.gone k.world.desk.gone cut.size batches led.kept.taken in
+        let r = records-few t input.valid input.wired custom cut.records in
+        let e = input.start.marks in
+        bound_some t.attempts nodes count (weigh (λ (o : Opening). node_count t custom o.begun.rows) h.begun) (length h.begun) cut.start (done h k.world)
+        input.valid.attempts.0 (omega arith) (omega arith) d
 
   -- it is less than the number of rounds
-  pub bounded : done h k.world < rounds_needed t custom cut
-  bounded =
-      let d = done_few in
-      let v = input.valid.attempts.0 in
-      let p = mul-add (16 * t.attempts) (node_count t custom cut.records + batch_count (length cut.records) cut.size) 1 in
-      let q = mul-add (16 * t.attempts) (node_count t custom cut.records) (batch_count (length cut.records) cut.size) in
-      let r = mul_assoc 16 t.attempts (node_count t custom cut.records) in
-      let s = mul_assoc 16 t.attempts (batch_count (length cut.records) cut.size) in omega arith
+  pub bounded : NoneAborted cut k.world.fates → done h k.world < cut.start + rounds_needed t custom cut
+  bounded none_aborted =
+      elim (cases_eq cut.partitions 0) [
+        | inl none ↦ bounded_none none
+        | inr some ↦ bounded_some (recursion_from_All (λ (a : Attempt). is_abort a.end ≡ false) k.world.fates (none_aborted (omega (arith, some))))
+      ]

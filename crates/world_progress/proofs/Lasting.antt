@@ -6,13 +6,13 @@ use Rattle.std.proofs.lemmas.List.{append-nil, get_or_past}
 use Rattle.event_worlds.specs.acker_core.declared.verdict.Verdict.{Verdict}
 use Rattle.event_worlds.specs.bolt_ops.RowOp.{Custom}
 use Rattle.event_worlds.specs.commit_turns.declared.wait.Wait.{Wait}
-use Rattle.event_worlds.specs.commit_turns.Kept.{is_failed_commit}
+use Rattle.event_worlds.specs.attempt_fates.Fates.{is_failed_commit}
 use Rattle.event_worlds.specs.commit_turns.Turns.{decided_by, end_by, next_to_commit}
 use Rattle.event_worlds.specs.counted_items.Weights.{weigh}
 use Rattle.event_worlds.proofs.counted_items.Each.{each-append}
 use Rattle.event_worlds.specs.Accounted.{LedTo, station_of, weigh_ackers}
 use Rattle.event_worlds.specs.Added.{acker_adds, acker_adds_past, added, executes, lost, step_adds, task_adds, task_adds_past, turn_adds, turn_adds_past}
-use Rattle.event_worlds.specs.Worlds.{AckerSide, Known, Step, TaskSide, World, acker_at, acker_step, acted_past, aged, answered, answered_past, counted_up, delivered, executed, is_over, meets, next, next_outcome, next_words, no_acker, of_acker, of_outcome, of_task, of_tick, of_turn, outcome_step, sent, step, task_at, task_needs, task_step, tick_step, turn_needs, turn_past, turn_step, turned_in, with_progress, with_task}
+use Rattle.event_worlds.specs.Worlds.{AckerSide, Known, Step, TaskSide, World, acker_at, acker_step, acted_past, aged, answered, answered_past, counted_up, delivered, executed, is_over, meets, next, next_outcome, next_words, no_acker, of_acker, of_open, of_outcome, of_shut, of_task, of_tick, of_turn, outcome_step, sent, step, task_at, task_needs, task_step, tick_step, turn_needs, turn_past, turn_step, turned_in, with_progress, with_task}
 use Rattle.event_worlds.specs.state_parts.declared.answer.CommitOutcome.{CommitOutcome}
 use Rattle.event_worlds.specs.state_parts.declared.answer.CommitOutcome.TheVariants as outcome
 use Rattle.event_worlds.specs.storm_values.declared.value.Root.{Root}
@@ -22,7 +22,7 @@ use Rattle.event_worlds.specs.tree_model.declared.messages.Parcel.{Parcel}
 use Rattle.event_worlds.specs.tree_model.declared.messages.Parcel.TheVariants.{ToTask, ToAcker}
 use Rattle.event_worlds.specs.tree_model.declared.messages.Tuple.{Tuple}
 use Rattle.event_worlds.specs.tree_model.Lists.{root_of}
-use Rattle.event_worlds.specs.trident_batches.Batches.{Cut}
+use Rattle.event_worlds.specs.taken_records.Cuts.{Cut}
 use Rattle.event_worlds.specs.tuple_account.Histories.{History, Packet, acker_of, joined, nothing, of_parcel, taken}
 use Rattle.event_worlds.specs.tuple_account.Moves.{Reached}
 use Rattle.event_worlds.proofs.tuple_account.Routing as routing
@@ -102,7 +102,15 @@ module _ (t : Topology) (custom : Custom) (cut : Cut) (words : ℕ → ℕ → �
     }
 
     safe_tick : w.tick ≤ 2 ^ 64 - 1 → IsSafe nothing (tick_step w)
-    safe_tick last = record { seats = λ n. record { counted = (let c = (seats n).counted in omega arith); young = (seats n).young }; dropped = refl; fine = fine }
+    safe_tick last = record {
+      seats = λ n. record {
+        counted = (let c = (seats n).counted in omega arith);
+        young =
+            (seats n).young;
+      };
+      dropped = refl;
+      fine = fine;
+    }
 
     safe_outcome : IsSafe nothing (outcome_step t cut outcome.Done w)
     safe_outcome = by w.desk.out (next_to_commit t cut w.desk)
@@ -117,23 +125,41 @@ module _ (t : Topology) (custom : Custom) (cut : Cut) (words : ℕ → ℕ → �
 
         by : (b : Bool) (o : Option Wait) → IsSafe nothing (cond b (with_progress t cut (decided_by t cut outcome.Done o w.desk) w) w)
         by false o = record { seats = seats; dropped = refl; fine = fine }
-        by true o = record { seats = seats; dropped = refl; fine = each-append IsFine w.fates (decided_by t cut outcome.Done o w.desk).ended fine (one o) }
+        by true o = record {
+          seats = seats;
+          dropped = refl;
+          fine = each-append IsFine w.fates (decided_by t cut outcome.Done o w.desk).ended fine
+              (one o);
+        }
 
     safe_turn : (at : ℕ) (ids : List ℕ) → IsSafe (turn_adds t cut at ids w) (turn_step t cut ids w)
     safe_turn at ids = by w.orders
       where
         with : (p : Parcel) (rest : List Parcel) → IsSafe nothing (delivered t p (record w { orders = rest }))
-        with p rest = record { seats = seats-delivered t p (record w { orders = rest }) seats; dropped = refl; fine = subst (AllByRecursion IsFine) (sym (fates-delivered t p (record w { orders = rest }))) fine }
+        with p rest = record {
+          seats = seats-delivered t p (record w { orders = rest }) seats;
+          dropped = refl;
+          fine = subst (AllByRecursion IsFine) (sym (fates-delivered t p (record w { orders = rest }))) fine;
+        }
 
         by : (out : List Parcel) → IsSafe (turn_adds_past t cut at ids w out) (turn_past t cut ids w out)
         by (p ∷ rest) = with p rest
-        by [] = record { seats = seats; dropped = refl; fine = each-append IsFine w.fates (turned_in t cut w).ended fine (turn_fine t cut (slice_get w.verdicts 0) w.unheard w.desk) }
+        by [] = record {
+          seats = seats;
+          dropped = refl;
+          fine = each-append IsFine w.fates (turned_in t cut w).ended fine (turn_fine t cut (slice_get w.verdicts 0) w.unheard w.shut w.desk);
+        }
 
     safe_task : (n at : ℕ) (ids : List ℕ) → IsSafe (task_adds t custom n at ids (task_at t n w)) (task_step t custom n ids w)
     safe_task n at ids = by (task_at t n w).outbox
       where
         with : (p : Parcel) (side : TaskSide) → IsSafe nothing (delivered t p (with_task n side w))
-        with p side = record { seats = seats-delivered t p (with_task n side w) seats; dropped = refl; fine = subst (AllByRecursion IsFine) (sym (fates-delivered t p (with_task n side w))) fine }
+        with p side = record {
+          seats = seats-delivered t p (with_task n side w) seats;
+          dropped = refl;
+          fine = subst (AllByRecursion IsFine)
+              (sym (fates-delivered t p (with_task n side w))) fine;
+        }
 
         inner : (box : List Tuple) → IsSafe (executes t custom n at ids (task_at t n w).stand box) (with_task n (executed t custom n ids (task_at t n w) box) w)
         inner [] = record { seats = seats; dropped = refl; fine = fine }
@@ -150,16 +176,30 @@ module _ (t : Topology) (custom : Custom) (cut : Cut) (words : ℕ → ℕ → �
     unfolding step
     safe (of_task n) = safe_task k.world last.seats last.fine n (k.counts n) (next_words words k.counts n (task_needs t custom (task_at t n k.world)))
     safe (of_acker n) = safe_acker k.world last.seats last.fine n short (routed t custom h k last.led.reached n)
-    safe of_turn = safe_turn k.world last.seats last.fine (k.counts (tasks_in_all t)) (next_words words k.counts (tasks_in_all t) (turn_needs t cut k.world))
-    safe of_outcome = subst (λ (how : CommitOutcome). IsSafe nothing (outcome_step t cut how k.world)) (sym sure) (safe_outcome k.world last.seats last.fine)
+    safe of_turn = safe_turn k.world last.seats last.fine (k.counts (tasks_in_all t))
+        (next_words words k.counts (tasks_in_all t) (turn_needs t cut k.world))
+    safe of_outcome = subst (λ (how : CommitOutcome). IsSafe nothing (outcome_step t cut how k.world)) (sym sure)
+        (safe_outcome k.world last.seats last.fine)
     safe of_tick = safe_tick k.world last.seats last.fine last.led.last
+    safe (of_shut q) = record { seats = last.seats; dropped = refl; fine = last.fine }
+    safe (of_open q) = record { seats = last.seats; dropped = refl; fine = last.fine }
 
     lasting : (s : Step) (b : Bool) → LedTo t custom cut words (joined h (cond b nothing (step_adds t custom cut words s k))) (cond b k (step t custom cut words outcomes s k))
         → Lasting t custom cut words (joined h (cond b nothing (step_adds t custom cut words s k))) (cond b k (step t custom cut words outcomes s k))
-    lasting s true led = record { led = led; seats = last.seats; whole = append-nil h.dropped ∙ last.whole; fine = last.fine }
+    lasting s true led = record {
+      led = led;
+      seats = last.seats;
+      whole = append-nil h.dropped ∙ last.whole;
+      fine = last.fine;
+    }
     lasting s false led =
         let e = safe s in
-        record { led = led; seats = e.seats; whole = ap (λ (xs : List (Root × List AckMsg)). xs ++ (step_adds t custom cut words s k).dropped) last.whole ∙ e.dropped; fine = e.fine }
+        record {
+          led = led;
+          seats = e.seats;
+          whole = ap (λ (xs : List (Root × List AckMsg)). xs ++ (step_adds t custom cut words s k).dropped) last.whole ∙ e.dropped;
+          fine = e.fine;
+        }
 
     -- nothing is lost at a step
     pub lasting-next : (s : Step) → LedTo t custom cut words (joined h (added t custom cut words s k)) (next t custom cut words outcomes s k)

@@ -8,6 +8,8 @@ pub mod Running
 pub mod Phases
 pub mod Resting
 mod Tallying
+mod Sources
+mod Records
 pub mod Bounding
 pub mod Finishing
 pub mod Rounding

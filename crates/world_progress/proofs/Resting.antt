@@ -34,7 +34,7 @@ use Rattle.event_worlds.specs.tree_model.declared.messages.Parcel.TheVariants.{T
 use Rattle.event_worlds.specs.tree_model.declared.messages.Tuple.{Tuple}
 use Rattle.event_worlds.specs.tree_model.Courses.{course_at, course_by, course_of}
 use Rattle.event_worlds.specs.tree_model.Trees.{node_count, nodes_of}
-use Rattle.event_worlds.specs.trident_batches.Batches.{Cut}
+use Rattle.event_worlds.specs.taken_records.Cuts.{Cut}
 use Rattle.event_worlds.specs.tuple_account.Ends.{Waits}
 use Rattle.event_worlds.specs.tuple_account.Fits.{is_tried}
 use Rattle.event_worlds.specs.tuple_account.Histories.{Execution, History, IsTaskOf, Opening, Packet, acker_of, of_parcel, of_verdict, on_tuple, opens, taken, weigh_parcels}
@@ -113,11 +113,19 @@ never_mute t o attempt some ends = speaks_by t (shape o.function).attempts attem
 
 last_by : (t : Topology) (attempts : Attempts) (attempt : ℕ) → t.attempts ≤ attempt → EndsByAttempts t attempts → is_failing attempts attempt ≡ false
 last_by t MakeRows attempt last ends = refl
-last_by t (FailBelow below) attempt last ends = le-ltb attempt below (omega arith)
+last_by t (FailBelow below) attempt last ends = let few = ends.0 in le-ltb attempt below (omega arith)
 last_by t (MuteBelow below) attempt last ends = refl
 
 pub at_last : (t : Topology) (o : Op) (attempt : ℕ) → t.attempts ≤ attempt → EndsByOp t o → fails_at o attempt ≡ false
 at_last t o attempt last ends = last_by t (shape o.function).attempts attempt last ends
+
+first_by : (t : Topology) (attempts : Attempts) (attempt : ℕ) → 0 < t.partitions → 1 ≤ attempt → EndsByAttempts t attempts → is_failing attempts attempt ≡ false
+first_by t MakeRows attempt some first ends = refl
+first_by t (FailBelow below) attempt some first ends = let few = ends.1 some in le-ltb attempt below (omega arith)
+first_by t (MuteBelow below) attempt some first ends = refl
+
+pub at_first : (t : Topology) (o : Op) (attempt : ℕ) → 0 < t.partitions → 1 ≤ attempt → EndsByOp t o → fails_at o attempt ≡ false
+at_first t o attempt some first ends = first_by t (shape o.function).attempts attempt some first ends
 
 goes_mute : goes ≡ mute → ⊥
 goes_mute e = cc
@@ -230,7 +238,7 @@ module _ (t : Topology) (custom : Custom) (cut : Cut) (words : ℕ → ℕ → �
       one : (e : Execution) → IsTaskOf t e.run.tuple.component e.run.task × ((f : Execution → ℕ) → f e ≤ weigh f h.runs) → course_of_run t custom e.run ≢ mute
       one e both =
           let begun = was_begun t custom h b last.led.reached valid e.run.tuple (λ f. let l = both.1 (λ (x : Execution). f x.run.tuple) in let i = runs_issued t custom h b last.led.reached f in omega arith) in
-          let tried = begun_tried (desk_of k.world.desk).tries e.run.tuple.root h.begun (last.led.fits.numbered e.run.tuple.root) begun in
+          let tried = begun_tried (desk_of cut k.world.desk).tries e.run.tuple.root h.begun (last.led.fits.numbered e.run.tuple.root) begun in
           let there : e.run.tuple.component < length t.components = subst (λ (c : ℕ). c < length t.components) both.0.belongs (component_in t e.run.task both.0.there) in
           speaks t custom can e.run.tuple.component e.run.tuple.row e.run.tuple.root.attempt there tried.0
 
@@ -264,4 +272,5 @@ module _ (t : Topology) (custom : Custom) (cut : Cut) (words : ℕ → ℕ → �
     pub all_settled : AllByRecursion (λ (w : Wait). w.settled ≢ None) k.world.desk.pending
     all_settled =
         each-map (λ (w : Waits). w.settled ≢ None) waits_of k.world.desk.pending
-        (settling.settled t custom h b last.led.reached (flat_map (λ (side : AckerSide). side.entries) k.world.ackers) stuck (desk_of k.world.desk) (ends_of k.world.fates) last.led.fits)
+        (settling.settled t custom h b last.led.reached (flat_map (λ (side : AckerSide). side.entries) k.world.ackers) stuck (desk_of cut k.world.desk)
+        (ends_of k.world.fates) last.led.fits)

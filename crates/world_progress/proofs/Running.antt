@@ -1,24 +1,27 @@
 -- Runs: what was done never falls, and runs in which nothing was done.
-use Rattle.std.proofs.Common.{◌≡◌, ◌<◌, ◌≤◌, inl, inr, ℕ, ◌+◌, Bool, true, false, cond, List, [], ◌∷◌, length, get_or, Option, None, Some, refl, sym, ap, ◌∙◌, subst, arith}
+use Rattle.std.proofs.Common.{◌≡◌, ◌<◌, ◌≤◌, inl, inr, ℕ, ◌+◌, ◌-◌, ◌^◌, Bool, true, false, cond, List, [], ◌∷◌, length, get_or, Option, None, Some, refl, sym, ap, ◌∙◌, subst, arith}
+use Rattle.std.specs.List.{AllByRecursion}
 use Rattle.std.specs.Prelude.{All}
 use Rattle.std.proofs.lemmas.Bool.{cases_lt}
 use Rattle.std.proofs.lemmas.List.{get_or_past}
 use Rattle.event_worlds.specs.bolt_ops.RowOp.{Custom}
 use Rattle.event_worlds.specs.Accounted.{LedTo}
 use Rattle.event_worlds.specs.Added.{added, step_adds}
-use Rattle.event_worlds.specs.Worlds.{Known, Step, World, acted_past, delivered, is_over, next, next_outcome, next_words, of_acker, of_outcome, of_task, of_tick, of_turn, outcome_step, outcomes_of, run, sent, step, task_at, task_needs, turn_needs, turn_past, with_progress, with_task}
+use Rattle.event_worlds.specs.Worlds.{Known, Step, World, acted_past, delivered, is_over, next, next_outcome, next_words, of_acker, of_open, of_outcome, of_shut, of_task, of_tick, of_turn, open_with, outcome_step, outcomes_of, run, sent, step, task_at, task_needs, turn_needs, turn_past, with_progress, with_task}
 use Rattle.event_worlds.specs.commit_turns.Turns.{decided}
 use Rattle.event_worlds.specs.state_parts.declared.answer.CommitOutcome.{CommitOutcome}
 use Rattle.event_worlds.specs.state_parts.declared.answer.CommitOutcome.TheVariants as outcome
 use Rattle.event_worlds.specs.topology_plan.Topology.{Topology, tasks_in_all}
 use Rattle.event_worlds.specs.tree_model.declared.messages.Parcel.{Parcel}
 use Rattle.event_worlds.specs.tree_model.declared.messages.Parcel.TheVariants.{ToTask, ToAcker}
-use Rattle.event_worlds.specs.trident_batches.Batches.{Cut}
+use Rattle.event_worlds.specs.taken_records.Cuts.{Cut}
 use Rattle.event_worlds.specs.tuple_account.Histories.{History, joined, nothing}
 use Rattle.event_worlds.specs.Rounds.{ticks_in}
 use Rattle.world_progress.proofs.Answering.{acker_does}
 use Rattle.world_progress.specs.Doing.{done}
 use Rattle.world_progress.specs.Lasting.{Lasting}
+use Rattle.world_progress.specs.Rounding.{IsOpen, ShutsNone}
+use Rattle.event_worlds.specs.record_offers.Offers.{is_shut}
 use Rattle.world_progress.specs.Running as specs
 use Rattle.world_progress.proofs.Doing.{Stepped, begun-joined, kept, rose, taken-joined, task_beyond, task_there}
 use Rattle.world_progress.proofs.Lasting.{lasting-next}
@@ -32,6 +35,8 @@ ticks-cons (of_acker n) steps = omega arith
 ticks-cons of_turn steps = omega arith
 ticks-cons of_outcome steps = omega arith
 ticks-cons of_tick steps = omega arith
+ticks-cons (of_shut q) steps = omega arith
+ticks-cons (of_open q) steps = omega arith
 
 tick-delivered : (t : Topology) (p : Parcel) (w : World) → (delivered t p w).tick ≡ w.tick
 tick-delivered t (ToTask n tuple) w = refl
@@ -48,6 +53,32 @@ tick-turn t cut ids w (p ∷ rest) = tick-delivered t p (record w { orders = res
 tick-outcome : (t : Topology) (cut : Cut) (how : CommitOutcome) (w : World) (b : Bool) → (cond b (with_progress t cut (decided t cut how w.desk) w) w).tick ≡ w.tick
 tick-outcome t cut how w true = refl
 tick-outcome t cut how w false = refl
+
+-- ---- partitions
+
+shut-delivered : (t : Topology) (p : Parcel) (w : World) → (delivered t p w).shut ≡ w.shut
+shut-delivered t (ToTask n tuple) w = refl
+shut-delivered t (ToAcker n m) w = refl
+
+shut-sent : (t : Topology) (o : Option Parcel) (w : World) → (sent t o w).shut ≡ w.shut
+shut-sent t None w = refl
+shut-sent t (Some p) w = shut-delivered t p w
+
+shut-turn : (t : Topology) (cut : Cut) (ids : List ℕ) (w : World) (out : List Parcel) → (turn_past t cut ids w out).shut ≡ w.shut
+shut-turn t cut ids w [] = refl
+shut-turn t cut ids w (p ∷ rest) = shut-delivered t p (record w { orders = rest })
+
+shut-outcome : (t : Topology) (cut : Cut) (how : CommitOutcome) (w : World) (b : Bool)
+    → (cond b (with_progress t cut (decided t cut how w.desk) w) w).shut ≡ w.shut
+shut-outcome t cut how w true = refl
+shut-outcome t cut how w false = refl
+
+stays_open : (q : ℕ) → open_with q 0 ≡ 0
+stays_open q = by (is_shut 0 q)
+  where
+    by : (b : Bool) → cond b (0 - 2 ^ q) 0 ≡ 0
+    by true = omega arith
+    by false = refl
 
 -- ---- outcomes
 
@@ -90,6 +121,8 @@ module _ (t : Topology) (custom : Custom) (cut : Cut) (words : ℕ → ℕ → �
   tick_of of_turn k = let e = tick-turn t cut (next_words words k.counts (tasks_in_all t) (turn_needs t cut k.world)) k.world k.world.orders in omega arith
   tick_of of_outcome k = let e = tick-outcome t cut (next_outcome outcomes k.world.fates) k.world k.world.desk.out in omega arith
   tick_of of_tick k = omega arith
+  tick_of (of_shut q) k = omega arith
+  tick_of (of_open q) k = omega arith
 
   tick_next : (s : Step) (k : Known) → (next t custom cut words outcomes s k).world.tick ≤ k.world.tick + ticks_in (s ∷ [])
   tick_next s k = by (is_over t cut k.world)
@@ -97,6 +130,33 @@ module _ (t : Topology) (custom : Custom) (cut : Cut) (words : ℕ → ℕ → �
       by : (b : Bool) → (cond b k (goes s k)).world.tick ≤ k.world.tick + ticks_in (s ∷ [])
       by true = omega arith
       by false = tick_of s k
+
+  shut_of : (s : Step) (k : Known) → ShutsNone s → k.world.shut ≡ 0 → (goes s k).world.shut ≡ 0
+  unfolding step
+  shut_of (of_task n) k none is =
+      let words_n = next_words words k.counts n (task_needs t custom (task_at t n k.world)) in
+      let a = acted_past t custom n words_n (task_at t n k.world) (task_at t n k.world).outbox in
+      shut-sent t a.parcel (with_task n a.side k.world) ∙ is
+  shut_of (of_acker n) k none is = is
+  shut_of of_turn k none is = shut-turn t cut (next_words words k.counts (tasks_in_all t) (turn_needs t cut k.world)) k.world k.world.orders ∙ is
+  shut_of of_outcome k none is = shut-outcome t cut (next_outcome outcomes k.world.fates) k.world k.world.desk.out ∙ is
+  shut_of of_tick k none is = is
+  shut_of (of_shut q) k none is = absurd none
+  shut_of (of_open q) k none is = ap (open_with q) is ∙ stays_open q
+
+  open_next : (s : Step) (k : Known) → (0 < cut.partitions → ShutsNone s) → IsOpen cut k.world → IsOpen cut (next t custom cut words outcomes s k).world
+  open_next s k none is_open = by (is_over t cut k.world)
+    where
+      by : (b : Bool) → IsOpen cut (cond b k (goes s k)).world
+      by true = is_open
+      by false = λ some. shut_of s k (none some) (is_open some)
+
+  -- where no step shuts a partition none is shut after them
+  pub open_all : (steps : List Step) (k : Known) → (0 < cut.partitions → AllByRecursion ShutsNone steps) → IsOpen cut k.world → IsOpen cut
+      (goes_all steps k).world
+  open_all [] k none is_open = is_open
+  open_all (s ∷ steps) k none is_open = open_all steps (next t custom cut words outcomes s k) (λ some. (none some).1)
+      (open_next s k (λ some. (none some).0) is_open)
 
   -- when all is over nothing changes
   pub over_stays : (steps : List Step) (k : Known) → is_over t cut k.world ≡ true → goes_all steps k ≡ k
@@ -119,6 +179,8 @@ module _ (t : Topology) (custom : Custom) (cut : Cut) (words : ℕ → ℕ → �
         let r = risen _ _ (outcome_does t cut k.world h) in
         subst (λ (how : CommitOutcome). done h k.world ≤ done (joined h nothing) (outcome_step t cut how k.world)) (sym (sure-done outcomes (length (outcomes_of k.world.fates)) all_done)) r
     does of_tick h k last = let x = taken-joined h nothing in let y = begun-joined h nothing in omega arith
+    does (of_shut q) h k last = let x = taken-joined h nothing in let y = begun-joined h nothing in omega arith
+    does (of_open q) h k last = let x = taken-joined h nothing in let y = begun-joined h nothing in omega arith
 
     does_next : (s : Step) (h : History) (k : Known) → Lasting t custom cut words h k → done h k.world ≤ done (joined h (added t custom cut words s k)) (next t custom cut words outcomes s k).world
     does_next s h k last = by (is_over t cut k.world)

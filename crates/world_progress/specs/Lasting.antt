@@ -1,14 +1,14 @@
 -- Worlds in which nothing was lost: no entry was dropped, and no commit failed.
 -- This project's own.
-use Rattle.std.specs.Prelude.{◌≡◌, ◌≤◌, ℕ, false, []}
+use Rattle.std.specs.Prelude.{◌≡◌, ◌≤◌, ◌<◌, ℕ, false, [], List, All}
 use Rattle.std.specs.List.{AllByRecursion}
 use Rattle.event_worlds.specs.attempt_fates.declared.fates.Attempt.{Attempt}
 use Rattle.event_worlds.specs.bolt_ops.RowOp.{Custom}
-use Rattle.event_worlds.specs.commit_turns.Kept.{is_failed_commit}
+use Rattle.event_worlds.specs.attempt_fates.Fates.{is_abort, is_failed_commit}
 use Rattle.event_worlds.specs.Accounted.{LedTo}
 use Rattle.event_worlds.specs.Worlds.{AckerSide, Known, World, acker_at}
 use Rattle.event_worlds.specs.topology_plan.Topology.{Topology}
-use Rattle.event_worlds.specs.trident_batches.Batches.{Cut}
+use Rattle.event_worlds.specs.taken_records.Cuts.{Cut}
 use Rattle.event_worlds.specs.tuple_account.Histories.{History}
 use Rattle.world_progress.specs.Young.{AreYoung}
 
@@ -23,6 +23,10 @@ AreSeats t w = (n : ℕ) → IsSeat t n w.tick (acker_at n w)
 -- the attempt did not end by a commit that failed
 abbrev pub IsFine : Attempt → Type 0
 IsFine a = is_failed_commit a.end ≡ false
+
+-- no attempt aborted, where there are partitions
+abbrev pub NoneAborted : Cut → List Attempt → Type 0
+NoneAborted cut fates = 0 < cut.partitions → All (λ (a : Attempt). is_abort a.end ≡ false) fates
 
 -- A history led to a world; no entry was dropped, and no commit failed.
 pub record Lasting (t : Topology) (custom : Custom) (cut : Cut) (words : ℕ → ℕ → ℕ) (h : History)

@@ -1,10 +1,11 @@
--- Paths, ids, edges and spans, as they are read: whole pieces of a text. No public clause cites
--- these.
+-- Paths, ids, edges, spans and roots, as they are read: whole pieces of a text. No public clause
+-- cites these.
 use Rattle.std.specs.Prelude.{ℕ, ◌==◌, take, drop, List, [], ◌∷◌, not, if◌then◌else◌, Option, Some, None, option_map, option_and_then}
 use Rattle.std.specs.List.{list_all, prefix_len, slice_split}
 use Rattle.std.specs.Char.{is_ascii_digit}
 use Rattle.std.specs.Int.{from_be_bytes, w64}
 use Rattle.std.specs.Result.{result_ok}
+use Rattle.storm_values.specs.declared.value.Root.{Root}
 use Rattle.record_spans.specs.declared.span.Span.{Span}
 use Rattle.hex.specs.Hex.{decode_sized}
 use Rattle.report_grammar.specs.Report.{EdgeText}
@@ -91,3 +92,16 @@ span_of text =
 -- spans joined by commas
 unfoldable pub spans_of : List ℕ → Option (List Span)
 spans_of text = each span_of (pieces 44 text)
+
+-- a root of this transaction, if there is one, and this attempt
+abbrev pub root_with : Option ℕ → ℕ → Option Root
+root_with txid attempt = option_map (λ (n : ℕ). record { txid = n; attempt = attempt }) txid
+
+-- a number of 64 bits and one of 32 bits, joined by a full stop
+unfoldable pub root_of : List ℕ → Option Root
+root_of text =
+    option_and_then
+    (λ digits. option_and_then
+    (λ attempt. root_with (wide_number_of (front_of 46 text)) attempt)
+    (number_of 4294967295 digits))
+    (rest_of 46 text)

@@ -5,8 +5,8 @@ use Rattle.std.specs.Option.{option_or}
 use Rattle.std.specs.Str.{bytes_eq, is_utf8}
 use Rattle.storm_values.specs.declared.value.Root.{Root}
 use Rattle.record_spans.specs.declared.span.Span.{Span}
-use Rattle.report_grammar.specs.Report.{EndText, committed, failed, timed_out, coincided, commit_failed, AttemptText, TailText, ok, exhausted, unfinished}
-use Rattle.report_grammar.specs.steps.Lists.{edges_of, from_byte, front_of, last_of, number_of, path_of, pieces, rest_of, spans_of}
+use Rattle.report_grammar.specs.Report.{EndText, committed, failed, timed_out, coincided, commit_failed, dropped, AttemptText, TailText, ok, exhausted, unfinished}
+use Rattle.report_grammar.specs.steps.Lists.{edges_of, from_byte, front_of, last_of, number_of, path_of, pieces, rest_of, root_of, spans_of}
 use Rattle.report_grammar.specs.steps.Reading.{Reader, ◌>>=◌, a_word, a_number, after_word, done, gives}
 
 abbrev pub most_u64 : ℕ
@@ -114,6 +114,9 @@ commit_failed_in text =
     (number_of most_u32 digits))
     (rest_of 32 text)
 
+unfoldable pub dropped_in : List ℕ → Option EndText
+dropped_in text = option_map dropped (root_of text)
+
 -- what a function finds behind a word, or else something else
 abbrev pub behind_or : {A : Type 0} → Option (List ℕ) → (List ℕ → A) → A → A
 behind_or None found other = other
@@ -123,7 +126,8 @@ unfoldable pub listed_in : List ℕ → Option EndText
 listed_in text =
     behind_or (after_word (codes "failed ") text) failed_in
     (behind_or (after_word (codes "coincided ") text) coincided_in
-    (behind_or (after_word (codes "commit failed ") text) commit_failed_in None))
+    (behind_or (after_word (codes "commit failed ") text) commit_failed_in
+    (behind_or (after_word (codes "dropped ") text) dropped_in None)))
 
 -- how an attempt ended
 unfoldable pub end_in : List ℕ → Option EndText

@@ -19,7 +19,7 @@ returns c = λ t custom cut words weight h k row led through took heard.
     let tell =
     ends_tell t custom h all led.reached (rows_in h.begun) (rows_are_found t custom h all led.reached) row took
     (λ f. let e = through f in omega arith) (λ f. let e = through f in let w = inboxes-wait f k in omega arith)
-    (desk_of k.world.desk) k.world.fates led.fits heard in
+    (desk_of cut k.world.desk) k.world.fates led.fits heard in
     each-weaker (λ (a : Attempt). TellsEnd t custom row (rows_in h.begun a.root) a.root a.end × BeganWith cut h.begun a.root a.spans)
     (λ (a : Attempt). TellsEnd t custom row (rows_at cut a.spans) a.root a.end)
     (λ a both. subst (λ (rows : List (List Value)). TellsEnd t custom row rows a.root a.end) (sym both.1) both.0) k.world.fates

@@ -3,4 +3,4 @@ use Rattle.commit_turns.proofs.Lowest.{lowest_after}
 use Rattle.commit_turns.proofs.laws.lowest_is_pending.Goals as goal
 
 pub returns : goal.returns
-returns c = λ t cut d fates valid none kept. lowest_after t cut valid d fates none (going t cut d fates kept)
+returns c = λ t cut d fates valid start none kept verdict ticks. lowest_after t cut valid start d fates none (going t cut d fates kept) verdict ticks

@@ -1,9 +1,9 @@
-use Rattle.std.proofs.Common.{◌≡◌, ◌+◌, ◌≤◌, inl, inr, ◌++◌, [], ◌∷◌, ℕ, List, Bool, true, false, length, refl, ap, sym, subst, ◌∙◌, arith}
+use Rattle.std.proofs.Common.{◌≡◌, ◌+◌, ◌≤◌, inl, inr, [], ◌∷◌, length, refl, ap, sym, subst, ◌∙◌, arith}
 use Rattle.std.specs.List.{filter, range_with_len}
-use Rattle.std.proofs.lemmas.List.{append-nil, length-append}
+use Rattle.std.proofs.lemmas.List.{length-append}
 use Rattle.record_spans.specs.Spans.{records_of}
 use Rattle.record_offers.specs.Offers.{free_records, is_free}
-use Rattle.record_offers.proofs.OfferLemmas.{filter_next, offer_end, offer_start}
+use Rattle.record_offers.proofs.OfferLemmas.{next_left, next_taken, offer_end, offer_start}
 use Rattle.record_offers.proofs.choice.first_records.Goals.{then-may_offer+in_ok-push_record, else-may_offer, then-loop-at-test+else-count-size, else-loop-at-test}
 use Rattle.record_offers.proofs.choice.first_records.Goals as goal
 
@@ -19,13 +19,6 @@ loop-at-init c =
       count = rw empty refl;
       few = omega arith;
     }
-
-next_taken : (p : ℕ → Bool) (at : ℕ) (old new : List ℕ) → old ≡ filter p (range_with_len 1 at) → p (at + 1) ≡ true → new ≡ old ++ (at + 1) ∷ []
-    → new ≡ filter p (range_with_len 1 (at + 1))
-next_taken p at old new was free is = is ∙ ap (λ xs. xs ++ (at + 1) ∷ []) was ∙ sym (filter_next p at ∙ rw free refl)
-
-next_left : (p : ℕ → Bool) (at : ℕ) (old : List ℕ) → old ≡ filter p (range_with_len 1 at) → p (at + 1) ≡ false → old ≡ filter p (range_with_len 1 (at + 1))
-next_left p at old was free = was ∙ sym (filter_next p at ∙ rw free (append-nil (filter p (range_with_len 1 at))))
 
 pub loop-at-preserved : goal.loop-at-preserved
 loop-at-preserved c =

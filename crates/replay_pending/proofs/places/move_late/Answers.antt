@@ -1,7 +1,7 @@
-use Rattle.std.proofs.Common.{◌++◌, ◌∷◌, [], length, filter, sym, ap, ◌∙◌, arith}
-use Rattle.std.proofs.lemmas.List.{append-nil, append_assoc}
+use Rattle.std.proofs.Common.{◌++◌, length, filter, sym, ap, ◌∙◌, arith}
+use Rattle.std.proofs.lemmas.List.{append-nil}
 use Rattle.replay_pending.specs.InFlight.{is_late}
-use Rattle.replay_pending.proofs.Late.{first_out, none_out}
+use Rattle.replay_pending.proofs.Late.{first_out, none_out, one_moved}
 use Rattle.replay_pending.proofs.places.move_late.Goals as goal
 
 pub push_reserved-requires : goal.push_reserved-requires
@@ -27,8 +27,7 @@ loop-place-preserved g c =
     record {
       told =
           ap (λ xs. xs ++ filter late c.remove.new.self.items) c.push_reserved.ensures.items
-          ∙ append_assoc c.loop-place.told.items (c.remove.result ∷ []) (filter late c.remove.new.self.items)
-          ∙ ap (λ xs. c.loop-place.told.items ++ xs) (sym out.told) ∙ before.told;
+          ∙ one_moved late c.loop-place.told.items es c.remove.new.self.items c.remove.result out.told ∙ before.told;
       kept = sym out.kept ∙ before.kept;
       room = omega arith;
     }

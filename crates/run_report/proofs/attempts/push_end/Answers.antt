@@ -1,4 +1,4 @@
-use Rattle.run_report.proofs.Lines.{failed_adds, coincided_adds, commit_failed_adds}
+use Rattle.run_report.proofs.Lines.{failed_adds, coincided_adds, commit_failed_adds, dropped_adds}
 use Rattle.run_report.proofs.attempts.push_end.Goals as goal
 
 pub returns-in-Failed : goal.returns-in-Failed
@@ -11,3 +11,6 @@ returns-in-Coincided c =
 pub returns-in-CommitFailed : goal.returns-in-CommitFailed
 returns-in-CommitFailed c =
     commit_failed_adds _ _ c.in-CommitFailed.component c.in-CommitFailed.part c.in-CommitFailed.before c.in-CommitFailed.after _ _ _ c.push_commit_failed.result c.in-CommitFailed.is c.name_of.ensures c.push_commit_failed.ensures
+
+pub returns-in-Dropped : goal.returns-in-Dropped
+returns-in-Dropped c = dropped_adds _ _ c.in-Dropped.by _ _ c.push_dropped.result c.in-Dropped.is c.push_dropped.ensures

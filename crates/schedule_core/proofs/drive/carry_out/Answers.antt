@@ -1,11 +1,11 @@
 use Rattle.std.proofs.Common.{[], ◌∷◌}
 use Rattle.event_engine.specs.Engines.{cut_in, topology_in}
-use Rattle.event_worlds.specs.Worlds.{of_acker, of_task, of_tick}
+use Rattle.event_worlds.specs.Worlds.{of_acker, of_open, of_shut, of_task, of_tick}
 use Rattle.schedule_core.proofs.Drives.{drives-still, wants-still}
 use Rattle.schedule_core.proofs.Keeping.{kept-as, kept-none}
 use Rattle.schedule_core.proofs.Resting.{at_rest_after, at_rest_as, breaks_as, drives_as, handed_on}
 use Rattle.schedule_core.proofs.drive.carry_out.Goals as goal
-use Rattle.schedule_core.proofs.drive.carry_out.Goals.{in-Task+in_ok-task-in-Task, in-Acker+in_ok-acker-in-Acker, in-Coord+in_ok-coordinate-in-Coord, in-Tick, in-Rounds+in_ok-rounds-in-Rounds}
+use Rattle.schedule_core.proofs.drive.carry_out.Goals.{in-Task+in_ok-task-in-Task, in-Acker+in_ok-acker-in-Acker, in-Coord+in_ok-coordinate-in-Coord, in-Tick, in-Shut, in-Open, in-Rounds+in_ok-rounds-in-Rounds}
 
 pub returns-in_err-coordinate-in-Coord-clause-bad : goal.returns-in_err-coordinate-in-Coord-clause-bad
 returns-in_err-coordinate-in-Coord-clause-bad g c = λ key is.
@@ -60,6 +60,8 @@ returns-clause-kept g c =
       | in-Acker+in_ok-acker-in-Acker w ↦ kept-as holds parts parts is w.parts-is (kept-none holds parts)
       | in-Coord+in_ok-coordinate-in-Coord w ↦ kept-as holds parts w.coordinate.new.parts is w.parts-is w.coordinate.ensures.kept
       | in-Tick w ↦ kept-as holds parts parts is w.parts-is (kept-none holds parts)
+      | in-Shut w ↦ kept-as holds parts parts is w.parts-is (kept-none holds parts)
+      | in-Open w ↦ kept-as holds parts parts is w.parts-is (kept-none holds parts)
       | in-Rounds+in_ok-rounds-in-Rounds w ↦ kept-as holds parts w.rounds.new.parts is w.parts-is w.rounds.ensures.kept
     ]
 
@@ -79,6 +81,10 @@ returns-clause-at_rest g c =
           at_rest_as w.coordinate.new.engine c.match-event.engine w.engine-is now.at_rest
       | in-Tick w ↦
           at_rest_as w.tick.new.self c.match-event.engine w.engine-is (at_rest_after old w.tick.new.self rest w.tick.ensures.ready w.tick.ensures.still)
+      | in-Shut w ↦
+          at_rest_as w.shut.new.self c.match-event.engine w.engine-is (at_rest_after old w.shut.new.self rest w.shut.ensures.ready w.shut.ensures.still)
+      | in-Open w ↦
+          at_rest_as w.open.new.self c.match-event.engine w.engine-is (at_rest_after old w.open.new.self rest w.open.ensures.ready w.open.ensures.still)
       | in-Rounds+in_ok-rounds-in-Rounds w ↦
           let now = w.in_ok-rounds-in-Rounds.ensures in
           at_rest_as w.rounds.new.engine c.match-event.engine w.engine-is now.at_rest
@@ -110,6 +116,12 @@ returns-clause-drives g c =
       | in-Tick w ↦
           drives_as tells holds count custom t cut c.args.event _ old w.tick.new.self c.match-event.engine parts parts c.match-event.parts w.in-Tick.is w.engine-is w.parts-is
           (drives-still tells holds count t custom cut laws (of_tick ∷ []) old w.tick.new.self parts (w.tick.ensures.goes custom) w.tick.ensures.still)
+      | in-Shut w ↦
+          drives_as tells holds count custom t cut c.args.event _ old w.shut.new.self c.match-event.engine parts parts c.match-event.parts w.in-Shut.is w.engine-is w.parts-is
+          (drives-still tells holds count t custom cut laws (of_shut w.in-Shut.partition ∷ []) old w.shut.new.self parts (w.shut.ensures.goes custom) w.shut.ensures.still)
+      | in-Open w ↦
+          drives_as tells holds count custom t cut c.args.event _ old w.open.new.self c.match-event.engine parts parts c.match-event.parts w.in-Open.is w.engine-is w.parts-is
+          (drives-still tells holds count t custom cut laws (of_open w.in-Open.partition ∷ []) old w.open.new.self parts (w.open.ensures.goes custom) w.open.ensures.still)
       | in-Rounds+in_ok-rounds-in-Rounds w ↦
           let now = w.in_ok-rounds-in-Rounds.ensures in
           drives_as tells holds count custom t cut c.args.event _ old w.rounds.new.engine c.match-event.engine parts w.rounds.new.parts c.match-event.parts w.in-Rounds.is w.engine-is w.parts-is now.drives

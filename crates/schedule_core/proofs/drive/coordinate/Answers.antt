@@ -1,7 +1,10 @@
 use Rattle.std.proofs.Common.{Option, Ok, Err, ap, refl, subst}
+use Rattle.event_engine.proofs.FatesLemmas.{kept_once}
 use Rattle.event_engine.specs.Engines.{Answers, cut_in, topology_in}
+use Rattle.event_worlds.specs.commit_order.Orders.{desk_of}
 use Rattle.schedule_core.proofs.Coordinating.{CommitComes, breaks-ordered, drives-ordered, drives-unordered, exit_is, wants-ordered, wants-turn, wants-undecided}
 use Rattle.schedule_core.proofs.Keeping.{kept-committed, kept-none}
+use Rattle.schedule_core.proofs.Resting.{on_err}
 use Rattle.event_worlds.specs.state_parts.declared.answer.Commit.{Commit}
 use Rattle.schedule_core.proofs.drive.coordinate.Goals as goal
 
@@ -101,3 +104,9 @@ returns-in_err-decide-clause-kept g c =
 pub returns-clause-kept : goal.returns-clause-kept
 returns-clause-kept g c =
     kept-committed g.C.CellStore.tells (g.O.RowOp.meaning c.args.custom.now) c.in-Some.commit.root c.in-Some.commit.writes c.args.parts.now c.commit_all.new.self c.in_ok-how.ensures.plans c.in_ok-how.ensures.kept
+
+-- what ended before the commit was tried
+pub returns-in_err-how-clause-once : goal.returns-in_err-how-clause-once
+returns-in_err-how-clause-once g c =
+    let ready = c.in_ok-commit.ensures.ready in
+    on_err c.from_residual-in_err-how.result (kept_once (topology_in c.args.engine.now) (cut_in c.args.engine.now) (desk_of c.turn.new.self.coordinator) c.turn.new.self.fates ready.kept ready.ticks)

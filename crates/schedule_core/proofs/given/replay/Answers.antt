@@ -1,18 +1,18 @@
 use Rattle.event_worlds.specs.Rounds.{ticks_in}
-use Rattle.schedule_core.proofs.Ending.{at_rest, ends, fits_first, not_begun, ran-from, some_size}
+use Rattle.schedule_core.proofs.Ending.{at_rest, ends, fits_first, not_begun, ran-from}
 use Rattle.schedule_core.specs.Schedules.{all_steps}
 use Rattle.event_worlds.specs.topology_plan.Topology.{Topology}
 use Rattle.schedule_core.proofs.given.replay.Goals as goal
 
 pub carry_out_all-done-requires-clause-at_rest : goal.carry_out_all-done-requires-clause-at_rest
-carry_out_all-done-requires-clause-at_rest g c = λ lives bounds. at_rest c.args.plan.now c.args.batches c.in-Ok.engine c.in-Ok.ensures.ready c.in-Ok.ensures.idle
+carry_out_all-done-requires-clause-at_rest g c = λ lives bounds. at_rest c.args.plan.now c.args.offers c.in-Ok.engine c.in-Ok.ensures.ready c.in-Ok.ensures.idle
 
 pub carry_out_all-done-requires-clause-fit : goal.carry_out_all-done-requires-clause-fit
-carry_out_all-done-requires-clause-fit g c = λ lives bounds. fits_first c.args.plan.now c.args.batches c.in-Ok.engine c.args.events.now c.in-Ok.ensures.ready c.requires.fit
+carry_out_all-done-requires-clause-fit g c = λ lives bounds. fits_first c.args.plan.now c.args.offers c.in-Ok.engine c.args.events.now c.in-Ok.ensures.ready c.requires.fit
 
 pub returns-in-Err : goal.returns-in-Err
 returns-in-Err g c = record {
-  comes = not_begun g.C.CellStore.tells g.C.CellStore.fault_count c.args.plan.now (g.O.RowOp.meaning c.args.custom.now) c.args.batches (c.laws_of_runs.ensures c.args.plan.now (g.O.RowOp.meaning c.args.custom.now) c.args.batches) (all_steps c.args.plan.now c.args.events.now) (ticks_in (all_steps c.args.plan.now c.args.events.now)) c.args.fates.now c.args.parts.now (some_size c.args.plan.now c.args.batches c.requires.input) c.requires.empty;
+  comes = not_begun g.C.CellStore.tells g.C.CellStore.fault_count c.args.plan.now (g.O.RowOp.meaning c.args.custom.now) c.args.offers (c.laws_of_runs.ensures c.args.plan.now (g.O.RowOp.meaning c.args.custom.now) c.args.offers) (all_steps c.args.plan.now c.args.events.now) (ticks_in (all_steps c.args.plan.now c.args.events.now)) c.args.fates.now c.args.parts.now c.requires.input c.requires.empty;
   told = λ words are ok. absurd ok;
   drawn = λ words are ok. absurd ok;
 }
@@ -25,14 +25,13 @@ returns g c =
     let count = g.C.CellStore.fault_count in
     let t = c.args.plan.now in
     let custom = g.O.RowOp.meaning c.args.custom.now in
-    let cut = c.args.batches in
+    let cut = c.args.offers in
     let laws = c.laws_of_runs.ensures t custom cut in
     let keeps = g.O.RowOp.keeps c.args.custom.now in
-    let some = some_size t cut c.requires.input in
     let steps = all_steps t c.args.events.now in
     let done = c.carry_out_all-done.ensures in
-    let ran = ran-from told tells holds count t custom cut laws c.requires.input keeps some (λ (u : Topology). all_steps u c.args.events.now) (ticks_in steps) c.carry_out_all-done.result c.in-Ok.engine c.carry_out_all-done.new.engine c.args.parts.now c.carry_out_all-done.new.parts
+    let ran = ran-from told tells holds count t custom cut laws c.requires.input keeps (λ (u : Topology). all_steps u c.args.events.now) (ticks_in steps) c.carry_out_all-done.result c.in-Ok.engine c.carry_out_all-done.new.engine c.args.parts.now c.carry_out_all-done.new.parts
     c.in-Ok.ensures.ready c.in-Ok.ensures.started c.requires.parts (λ n most last. most) done.same_run done.drives done.bad done.short done.once done.kept in
-    let ends_so = ends told tells holds count t custom cut laws c.requires.input keeps some steps (ticks_in steps) c.carry_out_all-done.result c.in-Ok.engine c.carry_out_all-done.new.engine c.args.parts.now c.carry_out_all-done.new.parts
+    let ends_so = ends told tells holds count t custom cut laws c.requires.input keeps steps (ticks_in steps) c.carry_out_all-done.result c.in-Ok.engine c.carry_out_all-done.new.engine c.args.parts.now c.carry_out_all-done.new.parts
     c.end_run.result c.end_run.new.fates ran c.end_run.ensures.answer c.end_run.ensures.fates in
     record { comes = ends_so.comes; told = ends_so.told; drawn = ends_so.drawn }

@@ -6,7 +6,7 @@ use Rattle.schedule_core.proofs.Resting.{handed_on}
 use Rattle.schedule_core.proofs.RunByRounds.{turned-bad, turned-short, turning-none, turning-then}
 use Rattle.event_worlds.specs.state_parts.declared.answer.CommitFault.TheVariants as fault
 use Rattle.event_worlds.specs.topology_plan.Topology.{Topology}
-use Rattle.event_worlds.specs.trident_batches.Batches.{Cut}
+use Rattle.event_worlds.specs.taken_records.Cuts.{Cut}
 use Rattle.schedule_core.proofs.rounds.rounds_until_over.Goals as goal
 
 pub loop-init : goal.loop-init
@@ -23,7 +23,7 @@ loop-preserved g c =
     let asked = c.passed-passed.ensures in
     let closed = c.in_ok-close_round.ensures in
     turning-then g.I.Ids.tells g.C.CellStore.tells g.C.CellStore.fault_count g.T.Ticks.handed_out g.T.Ticks.tells custom c.args.engine.now c.args.parts.now c.args.ticks.now (λ (t : Topology) (cut : Cut). c.laws_of_steps.ensures t custom cut) c.loop.engine c.loop.parts c.loop.ticks c.loop.invariant
-    c.open_boosted.new.engine c.passed-passed.result c.passed-passed.new.self behind.quiet behind.none opened.same_run behind.goes c.open_boosted.ensures.still asked.counted asked.told asked.tells_the_rest
+    c.open_boosted.new.engine c.passed-passed.result c.passed-passed.new.self behind.quiet behind.none behind.shut_none opened.same_run behind.goes c.open_boosted.ensures.still asked.counted asked.told asked.tells_the_rest
     c.close_round.new.engine c.close_round.new.parts closed.at_rest closed.same_run closed.drives c.close_round.ensures.kept
 
 pub returns-in_err-close_round-clause-comes : goal.returns-in_err-close_round-clause-comes
@@ -35,7 +35,7 @@ returns-in_err-close_round-clause-comes g c =
     let asked = c.passed-passed.ensures in
     let exits = c.from_residual-in_err-close_round in
     turned-bad g.I.Ids.tells g.C.CellStore.tells g.C.CellStore.fault_count g.T.Ticks.handed_out g.T.Ticks.tells custom c.args.engine.now c.args.parts.now c.args.ticks.now (λ (t : Topology) (cut : Cut). c.laws_of_steps.ensures t custom cut) c.loop.engine c.loop.parts c.loop.ticks c.loop.invariant
-    c.open_boosted.new.engine c.passed-passed.result c.passed-passed.new.self behind.quiet behind.none opened.same_run behind.goes c.open_boosted.ensures.still asked.counted asked.told asked.tells_the_rest
+    c.open_boosted.new.engine c.passed-passed.result c.passed-passed.new.self behind.quiet behind.none behind.shut_none opened.same_run behind.goes c.open_boosted.ensures.still asked.counted asked.told asked.tells_the_rest
     c.close_round.new.engine c.close_round.new.parts exits.result _ exits.ensures.1
     (λ key is. c.close_round.ensures.bad key (handed_on exits.result c.close_round.result _ (fault.BadCell key) exits.ensures.1 c.in_err-close_round.was is))
     (λ is. c.close_round.ensures.short (handed_on exits.result c.close_round.result _ fault.Memory exits.ensures.1 c.in_err-close_round.was is))

@@ -4,17 +4,17 @@ use Rattle.schedule_core.proofs.RunByRounds.{rounds-end, rounds-not-begun, stopp
 use Rattle.schedule_core.proofs.rounds.run_rounds.Goals as goal
 
 pub rounds_until_over-done-requires-clause-at_rest : goal.rounds_until_over-done-requires-clause-at_rest
-rounds_until_over-done-requires-clause-at_rest g c = λ lives bounds. at_rest c.args.plan.now c.args.batches c.in-Ok.engine c.in-Ok.ensures.ready c.in-Ok.ensures.idle
+rounds_until_over-done-requires-clause-at_rest g c = λ lives bounds. at_rest c.args.plan.now c.args.offers c.in-Ok.engine c.in-Ok.ensures.ready c.in-Ok.ensures.idle
 
 pub returns-in-Err : goal.returns-in-Err
 returns-in-Err g c =
-    record { comes = rounds-not-begun g.T.Ticks.handed_out g.T.Ticks.tells (g.N.IdMaker.tells c.args.ids.now) g.C.CellStore.tells g.C.CellStore.fault_count c.args.plan.now (g.O.RowOp.meaning c.args.custom.now) c.args.batches (c.laws_of_runs.ensures c.args.plan.now (g.O.RowOp.meaning c.args.custom.now) c.args.batches) c.args.ticks.now c.args.fates.now c.args.parts.now c.requires.input c.requires.empty }
+    record { comes = rounds-not-begun g.T.Ticks.handed_out g.T.Ticks.tells (g.N.IdMaker.tells c.args.ids.now) g.C.CellStore.tells g.C.CellStore.fault_count c.args.plan.now (g.O.RowOp.meaning c.args.custom.now) c.args.offers (c.laws_of_runs.ensures c.args.plan.now (g.O.RowOp.meaning c.args.custom.now) c.args.offers) c.args.ticks.now c.args.fates.now c.args.parts.now c.requires.input c.requires.empty }
 
 pub returns-in_err-end_run : goal.returns-in_err-end_run
 returns-in_err-end_run g c =
     let t = c.args.plan.now in
     let custom = g.O.RowOp.meaning c.args.custom.now in
-    let cut = c.args.batches in
+    let cut = c.args.offers in
     let run = c.rounds_until_over-done in
     record {
       comes = rounds-end (g.N.IdMaker.tells c.args.ids.now) g.N.I.Ids.tells g.C.CellStore.tells g.C.CellStore.fault_count g.T.Ticks.handed_out g.T.Ticks.tells t custom cut (c.laws_of_runs.ensures t custom cut) c.requires.input (g.O.RowOp.keeps c.args.custom.now)
@@ -27,7 +27,7 @@ pub returns : goal.returns
 returns g c =
     let t = c.args.plan.now in
     let custom = g.O.RowOp.meaning c.args.custom.now in
-    let cut = c.args.batches in
+    let cut = c.args.offers in
     let run = c.rounds_until_over-done in
     record {
       comes = rounds-end (g.N.IdMaker.tells c.args.ids.now) g.N.I.Ids.tells g.C.CellStore.tells g.C.CellStore.fault_count g.T.Ticks.handed_out g.T.Ticks.tells t custom cut (c.laws_of_runs.ensures t custom cut) c.requires.input (g.O.RowOp.keeps c.args.custom.now)

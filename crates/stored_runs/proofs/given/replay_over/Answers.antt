@@ -33,18 +33,18 @@ returns g c =
       never_falls = c.give_back.ensures.never_falls;
     } in
     let run : Ran g.M.C.CellStore.tells g.M.C.CellStore.fault_count c.args.plan.now
-    (g.O.RowOp.meaning c.args.custom.now) c.args.batches (g.N.IdMaker.tells c.args.ids.now)
+    (g.O.RowOp.meaning c.args.custom.now) c.args.offers (g.N.IdMaker.tells c.args.ids.now)
     (ticks_in (all_steps c.args.plan.now c.args.events.now))
     c.replay-answer.result c.replay-answer.new.fates c.in_ok-parts.parts c.replay-answer.new.parts =
     record { told_so = c.replay-answer.ensures.comes.tells; drawn = c.replay-answer.ensures.drawn } in
-    let world : OfWorld c.args.plan.now (g.O.RowOp.meaning c.args.custom.now) c.args.batches
+    let world : OfWorld c.args.plan.now (g.O.RowOp.meaning c.args.custom.now) c.args.offers
     (g.N.IdMaker.tells c.args.ids.now) (all_steps c.args.plan.now c.args.events.now)
     c.replay-answer.result c.replay-answer.new.fates =
     record { by_some = c.replay-answer.ensures.comes.of_world; by_told = c.replay-answer.ensures.told } in
     let laws = c.laws_of_runs.ensures.parts c.args.plan.now (g.O.RowOp.meaning c.args.custom.now)
-    c.args.batches in
+    c.args.offers in
     let worlds = c.laws_of_runs.ensures.worlds c.args.plan.now
-    (g.O.RowOp.meaning c.args.custom.now) c.args.batches in
+    (g.O.RowOp.meaning c.args.custom.now) c.args.offers in
     let made = g.M.StoreMaker.has_made in
     let input = c.requires.input in
     let keeps = g.O.RowOp.keeps c.args.custom.now in
@@ -68,12 +68,12 @@ returns-in_err-parts-clause-short g c =
     (λ began.
     subst
     (λ (fates : List Attempt).
-    MapsStand c.args.plan.now (g.O.RowOp.meaning c.args.custom.now) c.args.batches
+    MapsStand c.args.plan.now (g.O.RowOp.meaning c.args.custom.now) c.args.offers
     (committed_count fates)
     (maker_use g.M.C.CellStore.tells g.M.C.CellStore.fault_count g.M.StoreMaker.holds
     g.M.StoreMaker.has_made g.M.StoreMaker.fault_count c.args.stores.now c.make.new.stores))
     (sym c.requires.empty)
     (idle_stand g.M.C.CellStore.tells g.M.C.CellStore.fault_count g.M.StoreMaker.holds
     g.M.StoreMaker.has_made g.M.StoreMaker.fault_count c.args.plan.now c.args.stores.now
-    c.make.new.stores (g.O.RowOp.meaning c.args.custom.now) c.args.batches
+    c.make.new.stores (g.O.RowOp.meaning c.args.custom.now) c.args.offers
     c.in_err-parts.ensures.not_made began))

@@ -34,19 +34,19 @@ returns g c =
       never_falls = c.give_back.ensures.never_falls;
     } in
     let run : Ran g.M.C.CellStore.tells g.M.C.CellStore.fault_count c.args.plan.now
-    (g.O.RowOp.meaning c.args.custom.now) c.args.batches (g.N.IdMaker.tells c.args.ids.now)
+    (g.O.RowOp.meaning c.args.custom.now) c.args.offers (g.N.IdMaker.tells c.args.ids.now)
     (ticks_between (g.T.Ticks.handed_out c.args.ticks.now)
     (g.T.Ticks.handed_out c.run_rounds-done.new.ticks))
     (ended c.run_rounds-done.result) c.run_rounds-done.new.fates c.in_ok-parts.parts c.run_rounds-done.new.parts =
     record { told_so = c.run_rounds-done.ensures.comes.comes.tells; drawn = c.run_rounds-done.ensures.comes.drawn } in
-    let world : OfWorld c.args.plan.now (g.O.RowOp.meaning c.args.custom.now) c.args.batches
+    let world : OfWorld c.args.plan.now (g.O.RowOp.meaning c.args.custom.now) c.args.offers
     (g.N.IdMaker.tells c.args.ids.now) c.run_rounds-done.ensures.comes.steps
     (ended c.run_rounds-done.result) c.run_rounds-done.new.fates =
     record { by_some = c.run_rounds-done.ensures.comes.comes.of_world; by_told = c.run_rounds-done.ensures.comes.of_told } in
     let laws = c.laws_of_runs.ensures.parts c.args.plan.now (g.O.RowOp.meaning c.args.custom.now)
-    c.args.batches in
+    c.args.offers in
     let worlds = c.laws_of_runs.ensures.worlds c.args.plan.now
-    (g.O.RowOp.meaning c.args.custom.now) c.args.batches in
+    (g.O.RowOp.meaning c.args.custom.now) c.args.offers in
     let made = g.M.StoreMaker.has_made in
     let input = c.requires.input in
     let keeps = g.O.RowOp.keeps c.args.custom.now in
@@ -81,12 +81,12 @@ returns-in_err-parts-clause-short g c =
     (λ began.
     subst
     (λ (fates : List Attempt).
-    MapsStand c.args.plan.now (g.O.RowOp.meaning c.args.custom.now) c.args.batches
+    MapsStand c.args.plan.now (g.O.RowOp.meaning c.args.custom.now) c.args.offers
     (committed_count fates)
     (maker_use g.M.C.CellStore.tells g.M.C.CellStore.fault_count g.M.StoreMaker.holds
     g.M.StoreMaker.has_made g.M.StoreMaker.fault_count c.args.stores.now c.make.new.stores))
     (sym c.requires.empty)
     (idle_stand g.M.C.CellStore.tells g.M.C.CellStore.fault_count g.M.StoreMaker.holds
     g.M.StoreMaker.has_made g.M.StoreMaker.fault_count c.args.plan.now c.args.stores.now
-    c.make.new.stores (g.O.RowOp.meaning c.args.custom.now) c.args.batches
+    c.make.new.stores (g.O.RowOp.meaning c.args.custom.now) c.args.offers
     c.in_err-parts.ensures.not_made began))

@@ -34,13 +34,13 @@ returns g c =
       never_falls = c.give_back.ensures.never_falls;
     } in
     let run : Ran g.M.C.CellStore.tells g.M.C.CellStore.fault_count c.args.plan.now
-    (g.O.RowOp.meaning c.args.custom.now) c.args.batches (g.N.IdMaker.tells c.args.ids.now)
+    (g.O.RowOp.meaning c.args.custom.now) c.args.offers (g.N.IdMaker.tells c.args.ids.now)
     (ticks_between (g.T.Ticks.handed_out c.args.ticks.now)
     (g.T.Ticks.handed_out c.run_by_workers-done.new.ticks))
     (ended c.run_by_workers-done.result) c.run_by_workers-done.new.fates c.in_ok-parts.parts c.run_by_workers-done.new.parts =
     record { told_so = c.run_by_workers-done.ensures.comes.tells; drawn = c.run_by_workers-done.ensures.comes.drawn } in
     let laws = c.laws_of_runs.ensures.parts c.args.plan.now (g.O.RowOp.meaning c.args.custom.now)
-    c.args.batches in
+    c.args.offers in
     let made = g.M.StoreMaker.has_made in
     let input = c.requires.input in
     let r = c.close-ended.result in
@@ -72,12 +72,12 @@ returns-in_err-parts-clause-short g c =
     (λ began.
     subst
     (λ (fates : List Attempt).
-    MapsStand c.args.plan.now (g.O.RowOp.meaning c.args.custom.now) c.args.batches
+    MapsStand c.args.plan.now (g.O.RowOp.meaning c.args.custom.now) c.args.offers
     (committed_count fates)
     (maker_use g.M.C.CellStore.tells g.M.C.CellStore.fault_count g.M.StoreMaker.holds
     g.M.StoreMaker.has_made g.M.StoreMaker.fault_count c.args.stores.now c.make.new.stores))
     (sym c.requires.empty)
     (idle_stand g.M.C.CellStore.tells g.M.C.CellStore.fault_count g.M.StoreMaker.holds
     g.M.StoreMaker.has_made g.M.StoreMaker.fault_count c.args.plan.now c.args.stores.now
-    c.make.new.stores (g.O.RowOp.meaning c.args.custom.now) c.args.batches
+    c.make.new.stores (g.O.RowOp.meaning c.args.custom.now) c.args.offers
     c.in_err-parts.ensures.not_made began))

@@ -19,7 +19,9 @@ returns c =
     let subs = taken c.in_ok-component_subs.component_subs.items c.remove-spout_subs.result _ _ c.in_ok-component_subs.ensures c.remove-spout_subs.ensures.value in
     let component_subs = ap items_by c.remove-spout_subs.ensures.by_index.2 ∙ subs.1 in
     record {
-      topology = topology-planned p _ _ _ _ _ _ _ _ _ _ (search rules) (search rules) (search rules) c.in_ok-components.ensures.0 subs.0 component_subs (search rules) (search rules) (search rules) (search rules);
+      topology =
+          topology-planned p _ _ _ _ _ _ _ _ _ _ _ (search rules) (search rules) (search rules) (search rules) c.in_ok-components.ensures.0 subs.0
+          component_subs (search rules) (search rules) (search rules) (search rules);
       tasks = c.in_ok-components.ensures.1;
       depth = c.greatest-depth.ensures ∙ ap greatest (c.deref.ensures.value ∙ c.in_ok-numbers_by.ensures ∙ ap (values_of depth_rule) c.graph-graph.ensures.value) ∙ depth_planned p (small_graph p c.graph-graph.ensures.range);
       weight = c.total-weight.ensures ∙ ap ended_sum (c.deref-2.ensures.value ∙ c.in_ok-numbers_by-2.ensures ∙ ap (values_of tuples_rule) c.graph-graph.ensures.value) ∙ weight_planned p;

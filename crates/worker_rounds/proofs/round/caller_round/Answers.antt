@@ -4,7 +4,7 @@ use Rattle.event_worlds.specs.commit_turns.Turns.{last_tick}
 use Rattle.worker_stretches.specs.event_engine.Engines.{cut_in}
 use Rattle.pulse_board.specs.Seats.{book_of}
 use Rattle.event_worlds.specs.state_parts.declared.answer.CommitFault.TheVariants as fault
-use Rattle.event_worlds.specs.trident_batches.Batches.{Cut}
+use Rattle.event_worlds.specs.taken_records.Cuts.{Cut}
 use Rattle.event_worlds.specs.Rounds.{round_with}
 use Rattle.worker_rounds.proofs.Calling.{handed-on, in-time, kept-none, on-err, once-still, parts-there, ready-after, ready-closed, ready-own, rests-opened}
 use Rattle.worker_rounds.proofs.Driving.{breaks-round, broken-round, drives-round, wants-closed, wants-still, wants-swept}
@@ -146,7 +146,7 @@ returns-in_err-open_round-clause-once g c =
 
 pub returns-in_err-close_round_beside-clause-once : goal.returns-in_err-close_round_beside-clause-once
 returns-in_err-close_round_beside-clause-once g c =
-    on-err c.from_residual-in_err-close_round_beside.result (subst (λ (k : Cut). IsOnce (length k.records) k.size last_tick c.close_round_beside.new.engine.fates) c.in_ok-open_round.ensures.ready.seated.of_cut c.in_err-close_round_beside.ensures.once)
+    on-err c.from_residual-in_err-close_round_beside.result (subst (λ (k : Cut). IsOnce k last_tick c.close_round_beside.new.engine.fates) c.in_ok-open_round.ensures.ready.seated.of_cut c.in_err-close_round_beside.ensures.once)
 
 pub returns-in_err-sweep-clause-once : goal.returns-in_err-sweep-clause-once
 returns-in_err-sweep-clause-once g c =

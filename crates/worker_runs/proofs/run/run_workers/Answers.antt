@@ -7,7 +7,7 @@ use Rattle.worker_runs.proofs.run.run_workers.Goals as goal
 
 pub run_on-done-requires-clause-gathered : goal.run_on-done-requires-clause-gathered
 run_on-done-requires-clause-gathered g c = λ lives bounds.
-    gathered-first (g.N.IdMaker.tells c.args.ids.now) g.N.I.Ids.tells c.args.plan.now c.args.batches c.args.boxes.now c.args.board.now c.in-Ok.engine c.args.seat.now
+    gathered-first (g.N.IdMaker.tells c.args.ids.now) g.N.I.Ids.tells c.args.plan.now c.args.offers c.args.boxes.now c.args.board.now c.in-Ok.engine c.args.seat.now
     c.in-Ok.ensures.ready c.in-Ok.ensures.idle c.in-Ok.ensures.started c.requires.boxes c.requires.seat
 
 pub run_on-done-requires-clause-no_tick : goal.run_on-done-requires-clause-no_tick
@@ -17,7 +17,7 @@ pub returns-in-Err : goal.returns-in-Err
 returns-in-Err g c =
     let t = c.args.plan.now in
     let custom = g.O.RowOp.meaning c.args.custom.now in
-    let cut = c.args.batches in
+    let cut = c.args.offers in
     record {
       comes = comes-not-begun (g.N.IdMaker.tells c.args.ids.now) (g.T.Ticks.tells c.args.ticks.now) g.C.CellStore.tells g.C.CellStore.fault_count t custom cut (c.laws_of_runs.ensures t custom cut) (g.T.Ticks.handed_out c.args.ticks.now) c.args.fates.now c.args.parts.now (some-size t cut c.requires.input) c.requires.empty;
       finishes = λ to_come tells can apart none low. tt;
@@ -31,7 +31,7 @@ pub returns-in_err-end_run : goal.returns-in_err-end_run
 returns-in_err-end_run g c =
     let t = c.args.plan.now in
     let custom = g.O.RowOp.meaning c.args.custom.now in
-    let cut = c.args.batches in
+    let cut = c.args.offers in
     let run = c.run_on-done in
     let boxes = c.args.boxes.now in
     let e0 = c.in-Ok.engine in
@@ -46,7 +46,7 @@ pub returns : goal.returns
 returns g c =
     let t = c.args.plan.now in
     let custom = g.O.RowOp.meaning c.args.custom.now in
-    let cut = c.args.batches in
+    let cut = c.args.offers in
     let run = c.run_on-done in
     let boxes = c.args.boxes.now in
     let e0 = c.in-Ok.engine in

@@ -1,6 +1,6 @@
 use Rattle.std.proofs.Common.{◌≤◌, length, subst, arith}
 use Rattle.worker_stretches.specs.event_engine.Engines.{IsReady, cut_in}
-use Rattle.event_worlds.specs.trident_batches.Batches.{Cut}
+use Rattle.event_worlds.specs.taken_records.Cuts.{Cut}
 use Rattle.worker_turns.proofs.Sweeps.{all-carries, all-empty, all-more}
 use Rattle.worker_turns.proofs.sweeping.gather_boxes.Goals as goal
 

@@ -16,7 +16,7 @@ pub returns-in_default-clause-ok : goal.returns-in_default-clause-ok
 returns-in_default-clause-ok c =
     let f = c.self.inside in
     let none = next_none f.flight.pending f.committed c.settled_after.result c.settled_after.ensures c.in_default.is in
-    rw (← c.self.view_is) (ap (λ o. office_by f.plan.now f.batches f.committed f.flight (is_some o) f.exhausted) (sym none))
+    rw (← c.self.view_is) (ap (λ o. office_by f.plan.now f.began f.offers f.committed f.flight (is_some o) f.exhausted) (sym none))
 
 pub commit_of-requires : goal.commit_of-requires
 commit_of-requires c =
@@ -34,4 +34,4 @@ pub returns-clause-ok : goal.returns-clause-ok
 returns-clause-ok c =
     let f = c.self.inside in
     let at = next_found f.flight.pending f.committed c.settled_after.result c.in-Some.entry c.settled_after.ensures c.in-Some.is in
-    rw (← c.self.view_is) (ap (λ o. office_by f.plan.now f.batches f.committed f.flight (is_some o) f.exhausted) (sym at))
+    rw (← c.self.view_is) (ap (λ o. office_by f.plan.now f.began f.offers f.committed f.flight (is_some o) f.exhausted) (sym at))

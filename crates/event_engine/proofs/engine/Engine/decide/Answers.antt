@@ -4,7 +4,7 @@ use Rattle.event_worlds.specs.commit_order.Orders.{desk_of}
 use Rattle.event_worlds.specs.commit_turns.Turns.{decided}
 use Rattle.event_engine.specs.Engines.{cut_in, topology_in}
 use Rattle.event_engine.proofs.FatesLemmas.{on_err, short_once}
-use Rattle.event_engine.proofs.TurnEvents.{Decides, decided_few_of, decided_goes, decided_idle, decided_ready, decided_told, has_stop_none, none_exhausted, size_some, stop_of_txid}
+use Rattle.event_engine.proofs.TurnEvents.{Decides, decided_few_of, decided_goes, decided_idle, decided_ready, decided_told, has_stop_none, none_exhausted, stop_of_txid}
 use Rattle.event_engine.proofs.engine.Engine.decide.Goals as goal
 
 pub returns-in-Ok : goal.returns-in-Ok
@@ -17,7 +17,7 @@ returns-in-Ok g c =
     let w = c.requires.out.0 in
     let ordered = c.requires.out.1 in
     let goes = has_stop_none t cut old ready ordered.goes_on in
-    let kept = c.desks_are_kept.ensures.outcome t cut (desk_of old.coordinator) old.fates ready.input.valid (size_some t cut old old ready) (none_exhausted t cut old ordered.goes_on) ready.kept c.args.how in
+    let kept = c.desks_are_kept.ensures.outcome t cut (desk_of old.coordinator) old.fates ready.input.valid ready.input.start (none_exhausted t cut old ordered.goes_on) ready.kept c.args.how in
     let to = c.in-Ok.ensures.ends goes in
     let decides : Decides t cut old new c.args.how w ready ordered =
     record { office = to.office; collector = to.collector; fates = to.fates; own = c.committed.ensures.own to.has_memory; has_memory = to.has_memory; plan = refl; others = refl; tasks = refl; ackers = refl } in
@@ -40,7 +40,7 @@ returns-in_ok-fail_without_memory-in-Err g c =
     let w = c.requires.out.0 in
     let ordered = c.requires.out.1 in
     let goes = has_stop_none t cut old ready ordered.goes_on in
-    let kept = c.desks_are_kept.ensures.outcome t cut (desk_of old.coordinator) old.fates ready.input.valid (size_some t cut old old ready) (none_exhausted t cut old ordered.goes_on) ready.kept c.args.how in
+    let kept = c.desks_are_kept.ensures.outcome t cut (desk_of old.coordinator) old.fates ready.input.valid ready.input.start (none_exhausted t cut old ordered.goes_on) ready.kept c.args.how in
     let stop = stop_of_txid c.committed.result c.in-Err.stop c.in-Err.is c.in_ok-fail_without_memory-in-Err.ensures.ok c.committed.ensures.no_cell in
     let to = c.committed.ensures.stops goes stop.0 stop.1 in
     let decides : Decides t cut old new c.args.how w ready ordered =
@@ -63,7 +63,7 @@ returns-in_err-fail_without_memory-in-Err-clause-once g c =
     let ready = c.requires.ready in
     let ordered = c.requires.out.1 in
     let goes = has_stop_none t cut old ready ordered.goes_on in
-    let kept = c.desks_are_kept.ensures.outcome t cut d old.fates ready.input.valid (size_some t cut old old ready) (none_exhausted t cut old ordered.goes_on) ready.kept c.args.how in
+    let kept = c.desks_are_kept.ensures.outcome t cut d old.fates ready.input.valid ready.input.start (none_exhausted t cut old ordered.goes_on) ready.kept c.args.how in
     let short = c.committed.ensures.short goes (c.in-Err.is ∙ ap Err c.in_err-fail_without_memory-in-Err.ensures.err) in
     on_err c.from_residual.result
     (short_once t cut (decided t cut c.args.how d).desk (decided t cut c.args.how d).ended old.fates c.committed.new.fates kept (decided_few_of t cut old c.args.how ready) short.some)

@@ -13,9 +13,9 @@ returns-clause-ready g c =
     let told = g.N.IdMaker.tells c.args.ids.now in
     let tells = g.I.Ids.tells in
     let e : Engine g.row.I.Denot g.I.Ids =
-    record { plan = c.args.plan; tasks = c.in_ok-tasks.tasks; ackers = c.in_ok-ackers.ackers; coordinator = c.in_ok-coordinator.coordinator; verdicts = c.new-2.result; orders = c.new-3.result; tick = 0; unheard = 0; fates = c.new-4.result } in
+    record { plan = c.args.plan; tasks = c.in_ok-tasks.tasks; ackers = c.in_ok-ackers.ackers; coordinator = c.in_ok-coordinator.coordinator; verdicts = c.new-2.result; orders = c.new-3.result; tick = 0; unheard = 0; shut = 0; fates = c.new-4.result } in
     let first = c.in_ok-coordinator.ensures.first in
-    let made : IsMade told tells t e = record {
+    let made : IsMade told tells t c.args.offers e = record {
       seats = c.in_ok-tasks.ensures.first;
       last =
           first_source told tells t origin.Spout (tasks_in_all t) c.in_ok-source.source (collector_of e.coordinator) first.collector
@@ -26,9 +26,10 @@ returns-clause-ready g c =
       orders = c.new-3.ensures.items;
       tick = refl;
       unheard = refl;
+      shut = refl;
       fates = c.new-4.ensures;
     } in
-    is_ready told tells t c.args.batches e c.requires made refl c.in_ok-ackers.ensures.buckets first.office c.in_ok-coordinator.ensures.own first.has_memory (c.desks_are_kept.ensures.first t c.args.batches c.requires.valid)
+    is_ready told tells t c.args.offers e c.requires made refl c.in_ok-ackers.ensures.buckets first.office c.in_ok-coordinator.ensures.own first.has_memory (c.desks_are_kept.ensures.first t c.args.offers c.requires.valid c.requires.start)
 
 pub returns-clause-started : goal.returns-clause-started
 returns-clause-started g c =
@@ -36,9 +37,9 @@ returns-clause-started g c =
     let told = g.N.IdMaker.tells c.args.ids.now in
     let tells = g.I.Ids.tells in
     let e : Engine g.row.I.Denot g.I.Ids =
-    record { plan = c.args.plan; tasks = c.in_ok-tasks.tasks; ackers = c.in_ok-ackers.ackers; coordinator = c.in_ok-coordinator.coordinator; verdicts = c.new-2.result; orders = c.new-3.result; tick = 0; unheard = 0; fates = c.new-4.result } in
+    record { plan = c.args.plan; tasks = c.in_ok-tasks.tasks; ackers = c.in_ok-ackers.ackers; coordinator = c.in_ok-coordinator.coordinator; verdicts = c.new-2.result; orders = c.new-3.result; tick = 0; unheard = 0; shut = 0; fates = c.new-4.result } in
     let first = c.in_ok-coordinator.ensures.first in
-    let made : IsMade told tells t e = record {
+    let made : IsMade told tells t c.args.offers e = record {
       seats = c.in_ok-tasks.ensures.first;
       last =
           first_source told tells t origin.Spout (tasks_in_all t) c.in_ok-source.source (collector_of e.coordinator) first.collector
@@ -49,9 +50,10 @@ returns-clause-started g c =
       orders = c.new-3.ensures.items;
       tick = refl;
       unheard = refl;
+      shut = refl;
       fates = c.new-4.ensures;
     } in
-    is_started told tells t e made
+    is_started told tells t c.args.offers e made
 
 pub returns-clause-kept : goal.returns-clause-kept
 returns-clause-kept g c = λ words is. c.make.ensures.kept words (c.start_tasks.ensures.kept words is)

@@ -2,7 +2,7 @@ use Rattle.std.proofs.Common.{refl, ap, ◌∙◌}
 use Rattle.event_worlds.specs.commit_order.Orders.{desk_of}
 use Rattle.event_engine.specs.Engines.{cut_in, topology_in}
 use Rattle.event_engine.proofs.FatesLemmas.{on_err}
-use Rattle.event_engine.proofs.TurnEvents.{front_heard, has_stop_none, none_exhausted, size_some, stop_of_txid, turn_short, turn_stopped, turn_taken}
+use Rattle.event_engine.proofs.TurnEvents.{front_heard, has_stop_none, none_exhausted, stop_of_txid, turn_short, turn_stopped, turn_taken}
 use Rattle.std.specs.Prelude.{Err}
 use Rattle.event_engine.proofs.engine.Engine.take_turn.Goals as goal
 
@@ -15,7 +15,7 @@ returns-in-Ok g c =
     let ready = c.requires.ready in
     let found = c.pop_front-verdict.result in
     let goes = has_stop_none t cut old ready c.requires.goes_on in
-    let kept = c.desks_are_kept.ensures.turn t cut d old.fates ready.input.valid (size_some t cut old old ready) (none_exhausted t cut old c.requires.goes_on) ready.kept found old.unheard in
+    let kept = c.desks_are_kept.ensures.turn t cut d old.fates ready.input.valid ready.input.start (none_exhausted t cut old c.requires.goes_on) ready.kept found old.unheard old.shut in
     let to = c.in-Ok.ensures.turned goes in
     record {
       taken =
@@ -25,12 +25,13 @@ returns-in-Ok g c =
             verdicts = c.pop_front-verdict.ensures.rest;
             orders = c.from_vec.ensures.items ∙ c.into_vec.ensures;
             unheard = refl;
+            shut = refl;
             tick = refl;
             plan = refl;
             tasks = refl;
             ackers = refl;
           })
-          to (c.in-Ok.ensures.fates goes) c.in-Ok.ensures.own (c.orders_are_decided.ensures.ordered t cut d found old.unheard to.goes_on) (c.orders_are_decided.ensures.out t cut d found old.unheard c.requires.idle);
+          to (c.in-Ok.ensures.fates goes) c.in-Ok.ensures.own (c.orders_are_decided.ensures.ordered t cut d found old.unheard old.shut to.goes_on) (c.orders_are_decided.ensures.out t cut d found old.unheard old.shut c.requires.idle);
       once = tt;
       short = tt;
     }
@@ -44,7 +45,7 @@ returns-in_ok-fail_without_memory-in-Err g c =
     let ready = c.requires.ready in
     let found = c.pop_front-verdict.result in
     let goes = has_stop_none t cut old ready c.requires.goes_on in
-    let kept = c.desks_are_kept.ensures.turn t cut d old.fates ready.input.valid (size_some t cut old old ready) (none_exhausted t cut old c.requires.goes_on) ready.kept found old.unheard in
+    let kept = c.desks_are_kept.ensures.turn t cut d old.fates ready.input.valid ready.input.start (none_exhausted t cut old c.requires.goes_on) ready.kept found old.unheard old.shut in
     let stop = stop_of_txid c.turn.result c.in-Err.stop c.in-Err.is c.in_ok-fail_without_memory-in-Err.ensures.ok c.turn.ensures.no_cell in
     record {
       taken =
@@ -54,6 +55,7 @@ returns-in_ok-fail_without_memory-in-Err g c =
             verdicts = c.pop_front-verdict.ensures.rest;
             orders = c.requires.empty;
             unheard = refl;
+            shut = refl;
             tick = refl;
             plan = refl;
             tasks = refl;
@@ -73,7 +75,7 @@ returns-in_err-fail_without_memory-in-Err-clause-once g c =
     let ready = c.requires.ready in
     let found = c.pop_front-verdict.result in
     let goes = has_stop_none t cut old ready c.requires.goes_on in
-    let kept = c.desks_are_kept.ensures.turn t cut d old.fates ready.input.valid (size_some t cut old old ready) (none_exhausted t cut old c.requires.goes_on) ready.kept found old.unheard in
+    let kept = c.desks_are_kept.ensures.turn t cut d old.fates ready.input.valid ready.input.start (none_exhausted t cut old c.requires.goes_on) ready.kept found old.unheard old.shut in
     on_err c.from_residual.result
     (turn_short g.I.Ids.tells old (record old { coordinator = c.turn.new.self }) found ready c.requires.goes_on c.requires.empty kept c.turn.new.fates (c.turn.ensures.short goes (c.in-Err.is ∙ ap Err c.in_err-fail_without_memory-in-Err.ensures.err)))
 

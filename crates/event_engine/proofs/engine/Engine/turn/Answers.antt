@@ -5,7 +5,7 @@ use Rattle.event_engine.specs.Engines.{cut_in, shape, topology_in}
 use Rattle.event_engine.proofs.EngineLemmas.{seated_by}
 use Rattle.event_engine.proofs.FatesLemmas.{on_err}
 use Rattle.event_engine.proofs.GoesLemmas.{goes-over, goes-turn}
-use Rattle.event_engine.proofs.TurnEvents.{happens_alike, hands_order, idle_still, ready_alike, ready_handed, tasks_are}
+use Rattle.event_engine.proofs.TurnEvents.{happens_alike, hands_order, idle_still, once_still, ready_alike, ready_handed, tasks_are}
 use Rattle.event_worlds.specs.Worlds.{of_turn, turn_needs, turn_step}
 use Rattle.event_worlds.specs.topology_plan.Topology.{tasks_in_all}
 use Rattle.event_engine.proofs.engine.Engine.turn.Goals as goal
@@ -60,7 +60,7 @@ returns-in_err-deliver-in-Some-clause-short g c =
       ticks = 0;
       some = record {
         done = [];
-        rest = (turned (topology_in old) (cut_in old) None 0 (desk_of old.coordinator)).ended;
+        rest = (turned (topology_in old) (cut_in old) None 0 old.shut (desk_of old.coordinator)).ended;
         are_first = refl;
         added = c.deliver.ensures.still.fates ∙ sym (append-nil old.fates);
       };
@@ -70,3 +70,10 @@ pub returns-in_err-commit-in-None-clause-short : goal.returns-in_err-commit-in-N
 returns-in_err-commit-in-None-clause-short g c =
     let short = c.in_err-commit-in-None.ensures.short in
     on_err c.from_residual-in_err-commit-in-None.result (record { verdict = short.verdict; ticks = short.ticks; some = short.some })
+
+pub returns-in_err-deliver-in-Some-clause-once : goal.returns-in_err-deliver-in-Some-clause-once
+returns-in_err-deliver-in-Some-clause-once g c =
+    let old = c.args.self.now in
+    let still = c.deliver.ensures.still in
+    on_err c.from_residual.result
+    (once_still (topology_in old) (cut_in old) old c.deliver.new.self c.requires.ready (record { coordinator = still.coordinator; fates = still.fates }))

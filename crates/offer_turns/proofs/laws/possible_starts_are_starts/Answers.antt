@@ -1,8 +1,0 @@
-use Rattle.offer_turns.proofs.Starting.{start_after, start_fresh}
-use Rattle.offer_turns.proofs.laws.possible_starts_are_starts.Goals as goal
-
-pub returns-clause-fresh : goal.returns-clause-fresh
-returns-clause-fresh c = start_fresh
-
-pub returns-clause-after : goal.returns-clause-after
-returns-clause-after c = λ records size partitions txid spans marks some possible marked. start_after records size partitions txid spans marks some possible marked

@@ -1,5 +1,0 @@
-use Rattle.offer_turns.proofs.Lowest.{turn_fills}
-use Rattle.offer_turns.proofs.laws.turns_fill_up.Goals as goal
-
-pub returns : goal.returns
-returns c = λ t cut d verdict ticks shut. turn_fills t cut shut d verdict ticks
