@@ -79,11 +79,13 @@ module _ (o mid : Office) (first : Attempt) (others : List Attempt) where
   abbrev pub Came : Type 0
   Came =
       mid
-      ≡ record o { desk = record o.desk {
-        tries = counted o.topology o.cut (first ∷ others) o.desk.tries;
-        gone = put_back (map (λ (a : Attempt). a.spans) (first ∷ others)) o.desk.gone;
-        exhausted = first_some (map (last_try o.topology o.cut (counted o.topology o.cut (first ∷ others) o.desk.tries)) (first ∷ others));
-      } }
+      ≡ record o {
+        desk = record o.desk {
+          tries = counted o.topology o.cut (first ∷ others) o.desk.tries;
+          gone = put_back (map (λ (a : Attempt). a.spans) (first ∷ others)) o.desk.gone;
+          exhausted = first_some (map (last_try o.topology o.cut (counted o.topology o.cut (first ∷ others) o.desk.tries)) (first ∷ others));
+        };
+      }
 
   pub aborts_go : (new : Office) (told fates tells : List Attempt) → Came → fates ≡ told ++ first ∷ others → DropsAll first.root mid new fates tells
       → GoesOn (aborted o.topology o.cut (first ∷ others) o.desk) o new told tells

@@ -159,11 +159,13 @@ module _ (t : Topology) (began : List Span) (offers : OfferState) (committed : �
 
   pub abort_step : (root : Root) (spans : List Span) (new : OfferState) → q ≡ flight.aborted root p → new ≡ with_gone offers (marked false spans offers.gone)
       → office_by t began new committed q out exhausted
-      ≡ record before { desk = record before.desk {
-        tries = flight.with_aborted root.txid p.tries;
-        gone = marked false spans offers.gone;
-        pending = without root (waits p.pending);
-      } }
+      ≡ record before {
+        desk = record before.desk {
+          tries = flight.with_aborted root.txid p.tries;
+          gone = marked false spans offers.gone;
+          pending = without root (waits p.pending);
+        };
+      }
   abort_step root spans new is back =
       ap₂ (λ r o. office_by t began o committed r out exhausted) is back
       ∙ ap (λ ws. record before { desk = record before.desk { tries = flight.with_aborted root.txid p.tries; gone = marked false spans offers.gone; pending = ws } })
@@ -171,11 +173,13 @@ module _ (t : Topology) (began : List Span) (offers : OfferState) (committed : �
 
   pub begin_step : (root : Root) (spans : List Span) (new : OfferState) → q ≡ flight.begun root spans p → new ≡ with_gone offers (marked true spans offers.gone)
       → office_by t began new committed q out exhausted
-      ≡ record before { desk = record before.desk {
-        tries = flight.with_begun root.txid root.attempt p.tries;
-        gone = marked true spans offers.gone;
-        pending = waits p.pending ++ record { root = root; spans = spans; start = p.tick; settled = None } ∷ [];
-      } }
+      ≡ record before {
+        desk = record before.desk {
+          tries = flight.with_begun root.txid root.attempt p.tries;
+          gone = marked true spans offers.gone;
+          pending = waits p.pending ++ record { root = root; spans = spans; start = p.tick; settled = None } ∷ [];
+        };
+      }
   begin_step root spans new is back =
       ap₂ (λ r o. office_by t began o committed r out exhausted) is back
       ∙ ap (λ ws. record before { desk = record before.desk { tries = flight.with_begun root.txid root.attempt p.tries; gone = marked true spans offers.gone; pending = ws } })

@@ -140,15 +140,17 @@ module _ (t : Topology) (began : List Span) (offers : OfferState) (committed : �
     came : Came base mid first others
     came =
         ap₂ (λ (o : OfferState) (e : Option ℕ). office_by t began o committed q out e) gone tried
-        ∙ (λ i. record before { desk = record before.desk {
-          tick = (to i).tick;
-          tries = (tries ∙ ap (λ xs. counted t before.cut xs p.tries) all) i;
-          gone = (ap (λ xs. put_back xs offers.gone) (sym (its_spans (p.tick + 1) late) ∙ ap (map (λ (a : Attempt). a.spans)) all)) i;
-          pending = in_time i;
-          exhausted = (ap (λ ts. first_some (map (try_at t ts) late)) (tries ∙ ap (λ xs. counted t before.cut xs p.tries) all)
-              ∙ ap first_some (sym (its_tries t before.cut (counted t before.cut (first ∷ others) p.tries) (p.tick + 1) late)
-              ∙ ap (map (last_try t before.cut (counted t before.cut (first ∷ others) p.tries))) all)) i;
-        } })
+        ∙ (λ i. record before {
+          desk = record before.desk {
+            tick = (to i).tick;
+            tries = (tries ∙ ap (λ xs. counted t before.cut xs p.tries) all) i;
+            gone = (ap (λ xs. put_back xs offers.gone) (sym (its_spans (p.tick + 1) late) ∙ ap (map (λ (a : Attempt). a.spans)) all)) i;
+            pending = in_time i;
+            exhausted = (ap (λ ts. first_some (map (try_at t ts) late)) (tries ∙ ap (λ xs. counted t before.cut xs p.tries) all)
+                ∙ ap first_some (sym (its_tries t before.cut (counted t before.cut (first ∷ others) p.tries) (p.tick + 1) late)
+                ∙ ap (map (last_try t before.cut (counted t before.cut (first ∷ others) p.tries))) all)) i;
+          };
+        })
 
     goes : one_tick t before.cut before.desk ≡ aborted t before.cut (first ∷ others) base.desk
     goes = turn ∙ ap (λ xs. aborted t before.cut xs base.desk) all

@@ -104,12 +104,14 @@ pub record DropsSome (first : Root) (tick : ℕ) (was now : List (Entry Settled)
 
 -- the attempts that end with that of a root ended with it
 pub record DropsAll (first : Root) (old new : Office) (told tells : List Attempt) : Type 0 where
-  pub office : new ≡ record old { desk = record old.desk {
-    gone = put_back
-        (map (λ (w : Wait). w.spans)
-        (filter (ends_with old.topology old.cut first) old.desk.pending)) old.desk.gone;
-    pending = filter (λ (w : Wait). not (ends_with old.topology old.cut first w)) old.desk.pending;
-  } }
+  pub office : new ≡ record old {
+    desk = record old.desk {
+      gone = put_back
+          (map (λ (w : Wait). w.spans)
+          (filter (ends_with old.topology old.cut first) old.desk.pending)) old.desk.gone;
+      pending = filter (λ (w : Wait). not (ends_with old.topology old.cut first w)) old.desk.pending;
+    };
+  }
   pub fates : tells
       ≡ told ++ drops old.topology old.cut old.desk.tick first old.desk.pending
 

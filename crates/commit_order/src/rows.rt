@@ -8,11 +8,7 @@ use std::alloc::Global;
 use tuple_account::storm_values::{Duplicate, Memory, Rows};
 
 /// Copies of the records of some spans, in their order.
-pub(crate) fn copied_records(
-    alloc: Global,
-    offers: &Offers,
-    spans: &Spans,
-) -> Result<Rows, Memory>
+pub(crate) fn copied_records(alloc: Global, offers: &Offers, spans: &Spans) -> Result<Rows, Memory>
     requires { AreWithin (length offers.now.records) spans.now }
     ensures { IfOk result (λ rows. rows ≡ records_in offers.now.records spans.now) }
 {

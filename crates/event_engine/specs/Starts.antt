@@ -55,7 +55,7 @@ module _ {I : Type 0} {g : Ghosts I} where
       (t : Topology) (cut : Cut) (e : Engine I g) : Type 0 where
     pub given : ℕ → List ℕ
     pub counted : (words : ℕ → ℕ → ℕ) (s : ℕ) → length (given s) ≡ first_counts t words s
-    pub first : (words : ℕ → ℕ → ℕ) → Gives words (λ s. 0) given 
+    pub first : (words : ℕ → ℕ → ℕ) → Gives words (λ s. 0) given
         → shape e ≡ first_world t cut words
     pub gives : (words : ℕ → ℕ → ℕ) → told words → Gives words (λ s. 0) given
     pub goes_on : (words : ℕ → ℕ → ℕ) → told words

@@ -356,7 +356,10 @@ impl<'p, I: Ids> Engine<'p, I> {
         let verdict = self.verdicts.pop_front();
         let ticks = self.unheard;
         self.unheard = 0;
-        match self.coordinator.turn(&mut self.fates, verdict, ticks, self.shut) {
+        match self
+            .coordinator
+            .turn(&mut self.fates, verdict, ticks, self.shut)
+        {
             Ok(orders) => {
                 let Orders { parcels, commit } = orders;
                 self.orders = VecDeque::from_vec(parcels.into_vec());

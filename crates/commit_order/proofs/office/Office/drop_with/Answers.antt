@@ -8,7 +8,7 @@ use Rattle.commit_order.proofs.office.Office.drop_with.Goals as goal
 
 pub returns-then-partitions-eq0-clause-ok : goal.returns-then-partitions-eq0-clause-ok
 returns-then-partitions-eq0-clause-ok c =
-    let none : (c.args.self.now.cut.partitions == 0) ≡ true = 
+    let none : (c.args.self.now.cut.partitions == 0) ≡ true =
     ap (λ (o : Office). o.cut.partitions == 0) (sym c.self.view_is) ∙ eq-eqb c.self.inside.offers.partitions 0 (sym c.partitions.ensures ∙ c.if-partitions-eq0.true) in
     drops_none c.args.self.now c.args.first c.args.fates.now none
 
