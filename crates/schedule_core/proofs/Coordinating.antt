@@ -197,12 +197,12 @@ module _ {I S : Type 0} {g : Ghosts I} (tells : I → (ℕ → ℕ) → ℕ → 
       next_left before are = more.left (shape mid).desk mid.fates before w keeps next (λ n first last fresh. are.gone n first last ∙ ap one_if fresh)
 
       stands-broken : StandOn holds t custom cut mid.fates mid.fates was is
-      stands-broken = λ before are opaque stand.
-          more.broken_off (before ++ committed_batches mid.fates) w.spans commit.root was is input.wired opaque planned (next_number before are) (next_batch before are) stand (next_left before are)
+      stands-broken = λ before are stand.
+          more.broken_off (before ++ committed_batches mid.fates) w.spans commit.root was is input planned (next_number before are) (next_batch before are) stand (next_left before are)
           (subst (λ (ws : List Write). ArePerhapsCommitted holds custom commit.root ws was is) writes_are kept)
 
       stands-done : AreCommitted holds custom commit.root commit.writes was is → (new : List Attempt) → committed_batches new ≡ committed_batches mid.fates ++ w.spans ∷ [] → StandOn holds t custom cut mid.fates new was is
-      stands-done done new added = λ before are opaque stand.
+      stands-done done new added = λ before are stand.
           subst (λ (bs : List (List Span)). PartsStand holds t custom cut bs is) (append_assoc before (committed_batches mid.fates) (w.spans ∷ []) ∙ ap (λ bs. before ++ bs) (sym added))
           (more.done (before ++ committed_batches mid.fates) w.spans commit.root was is (next_number before are) (next_batch before are) stand
           (subst (λ (ws : List Write). AreCommitted holds custom commit.root ws was is) writes_are done))

@@ -29,10 +29,10 @@ none_added {X} (x ∷ xs) ys is = none_added xs ys (let e : x ∷ xs ≡ x ∷ (
 module _ {S : Type 0} (holds : S → CellMap → Type 0) (t : Topology) (custom : Custom) (cut : Cut) where
   -- no batch was committed, and the parts were left alone
   pub stands-same : (old new : List Attempt) (parts : List (StatePart S)) → committed_batches new ≡ committed_batches old → StandOn holds t custom cut old new parts parts
-  stands-same old new parts same = λ before are opaque stand. subst (λ (bs : List (List Span)). PartsStand holds t custom cut (before ++ bs) parts) (sym same) stand
+  stands-same old new parts same = λ before are stand. subst (λ (bs : List (List Span)). PartsStand holds t custom cut (before ++ bs) parts) (sym same) stand
 
   pub stands-then : (a b c : List Attempt) (p q r : List (StatePart S)) → StandOn holds t custom cut a b p q → StandOn holds t custom cut b c q r → StandOn holds t custom cut a c p r
-  stands-then a b c p q r first second = λ before are opaque stand. second before are opaque (first before are opaque stand)
+  stands-then a b c p q r first second = λ before are stand. second before are (first before are stand)
 
 -- ---- steps
 

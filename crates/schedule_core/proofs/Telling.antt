@@ -24,7 +24,7 @@ use Rattle.schedule_core.proofs.Going.{some_come, told_come}
 use Rattle.schedule_core.proofs.Keeping.{kept-none}
 use Rattle.schedule_core.proofs.TicksOfRuns.{caused-later}
 use Rattle.schedule_core.specs.declared.ended.Ended.{Ended}
-use Rattle.schedule_core.specs.Driving.{AreBefore, AreKept, BreaksOff, HasCome, IsOfSameRun, LeadsOn, Leaves, MayHavePartitions, RunsOut, StandOn}
+use Rattle.schedule_core.specs.Driving.{AreBefore, AreKept, BreaksOff, HasCome, IsOfSameRun, LeadsOn, Leaves, RunsOut, StandOn}
 use Rattle.schedule_core.specs.Laws.{WorldLaws}
 use Rattle.schedule_core.specs.Rounding.{end_by}
 use Rattle.schedule_core.specs.Runs.{Answers, IsFirst, RunTells}
@@ -63,14 +63,14 @@ same_cell answer key k one two = cc
 module _ {S : Type 0} (holds : S → CellMap → Type 0) (count : S → ℕ) (t : Topology) (custom : Custom) (cut : Cut) (laws : WorldLaws holds count t custom cut) (fates : List Attempt) (was is : List (StatePart S)) where
   -- parts that stood at the batches before the start stand at them and then those that were committed
   abbrev pub StandBehind : Type 0
-  StandBehind = (before : List (List Span)) → AreBefore cut before → MayHavePartitions t cut → PartsStand holds t custom cut before was → PartsStand holds t custom cut (before ++ committed_batches fates) is
+  StandBehind = (before : List (List Span)) → AreBefore cut before → PartsStand holds t custom cut before was → PartsStand holds t custom cut (before ++ committed_batches fates) is
 
   stands_behind : StandOn holds t custom cut [] fates was is → StandBehind
-  stands_behind on = λ before are opaque stand. on before are opaque (subst (λ (bs : List (List Span)). PartsStand holds t custom cut bs was) (sym (append-nil before)) stand)
+  stands_behind on = λ before are stand. on before are (subst (λ (bs : List (List Span)). PartsStand holds t custom cut bs was) (sym (append-nil before)) stand)
 
   -- and where the start is at the first transaction no batch is before it
-  stands_first : StandBehind → IsFirst cut → MayHavePartitions t cut → All (IsEmpty holds) was → PartsStand holds t custom cut (committed_batches fates) is
-  stands_first behind first opaque empty = behind [] (record { many = sym first.start; gone = λ n least most. ap one_if (sym (first.none_gone n least most)) }) opaque (laws.begin was empty)
+  stands_first : StandBehind → IsFirst cut → All (IsEmpty holds) was → PartsStand holds t custom cut (committed_batches fates) is
+  stands_first behind first empty = behind [] (record { many = sym first.start; gone = λ n least most. ap one_if (sym (first.none_gone n least most)) }) (laws.begin was empty)
 
 -- ---- want of memory
 

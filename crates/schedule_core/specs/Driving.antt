@@ -1,5 +1,5 @@
 -- What the steps of an engine do to the parts that its commits go to. This project's own.
-use Rattle.std.specs.Prelude.{◌≡◌, ◌<◌, ◌≤◌, ℕ, ◌+◌, List, [], ◌++◌, All, None, Some, length, slice_get}
+use Rattle.std.specs.Prelude.{◌≡◌, ◌≤◌, ℕ, ◌+◌, List, [], ◌++◌, All, None, Some, length, slice_get}
 use Rattle.std.specs.List.{AllZip}
 use Rattle.event_worlds.specs.attempt_fates.declared.fates.Attempt.{Attempt}
 use Rattle.event_worlds.specs.attempt_fates.Fates.{committed_batches}
@@ -21,7 +21,6 @@ use Rattle.event_worlds.specs.storm_ids.declared.ids.Ids.{Ghosts}
 use Rattle.storm_stores.specs.CellMaps.{CellMap}
 use Rattle.event_worlds.specs.taken_records.Cuts.{Cut}
 use Rattle.event_worlds.specs.taken_records.Taken.{one_if, times_in}
-use Rattle.event_worlds.specs.topology_plan.declared.parts.Kind.TheVariants.{Opaque}
 use Rattle.event_worlds.specs.topology_plan.Topology.{Topology}
 use Rattle.event_worlds.specs.tuple_account.Histories.{History}
 use Rattle.event_worlds.specs.tuple_account.Moves.{Station}
@@ -35,16 +34,12 @@ pub record AreBefore (cut : Cut) (before : List (List Span)) : Type 0 where
   pub gone : (n : ℕ) → 1 ≤ n → n ≤ length cut.gone
       → times_in before n ≡ one_if (is_gone cut.gone n)
 
--- a spout may have these partitions: there are none, or it is opaque
-abbrev pub MayHavePartitions : Topology → Cut → Type 0
-MayHavePartitions t cut = 0 < cut.partitions → t.spout_kind ≡ Opaque
-
 -- Where parts stood at the batches before the start, and then those that some fates say were
 -- committed, what they came to stands at the first of these, and then those of other fates.
 abbrev pub StandOn : {S : Type 0} → (S → CellMap → Type 0) → Topology → Custom → Cut
     → (old new : List Attempt) → List (StatePart S) → List (StatePart S) → Type 0
 StandOn holds t custom cut old new was is =
-    (before : List (List Span)) → AreBefore cut before → MayHavePartitions t cut
+    (before : List (List Span)) → AreBefore cut before
     → PartsStand holds t custom cut (before ++ committed_batches old) was
     → PartsStand holds t custom cut (before ++ committed_batches new) is
 

@@ -21,7 +21,6 @@ use Rattle.storm_stores.specs.CellMaps.{CellMap}
 use Rattle.event_worlds.specs.taken_records.Cuts.{Cut, IsStart}
 use Rattle.event_worlds.specs.taken_records.Taken.{times_in}
 use Rattle.event_worlds.specs.topology_plan.Topology.{Topology}
-use Rattle.event_worlds.specs.topology_plan.Wired.{IsWired}
 use Rattle.event_worlds.specs.tree_model.declared.messages.AckMsg.{AckMsg}
 use Rattle.event_worlds.specs.tree_model.declared.write.Write.{Write}
 use Rattle.event_worlds.specs.tree_model.Lists.{Covers, IsClosed}
@@ -31,7 +30,6 @@ use Rattle.event_worlds.specs.tuple_account.Sound.{IsSound}
 use Rattle.event_worlds.specs.attempt_fates.Fates.{IsWhole, committed_batches}
 use Rattle.event_worlds.specs.record_offers.Offers.{is_gone}
 use Rattle.event_worlds.specs.record_spans.declared.span.Span.{Span}
-use Rattle.schedule_core.specs.Driving.{MayHavePartitions}
 
 -- what steps rest on
 pub record Laws {S : Type 0} (count : S → ℕ) (t : Topology) (custom : Custom) (cut : Cut)
@@ -55,7 +53,7 @@ pub record CommitLaws {S : Type 0} (holds : S → CellMap → Type 0) (count : S
       → AreCommitted holds custom root (writes_at t custom cut spans) old new
       → PartsStand holds t custom cut (batches ++ spans ∷ []) new
   pub broken_off : (batches : List (List Span)) (spans : List Span) (root : Root)
-      (old new : List (StatePart S)) → IsWired t → MayHavePartitions t cut → AreParts t old
+      (old new : List (StatePart S)) → IsInput t cut → AreParts t old
       → root.txid ≡ length batches + 1 → IsNextBatch cut batches spans
       → PartsStand holds t custom cut batches old → (HoldAll cut batches → ⊥)
       → ArePerhapsCommitted holds custom root (writes_at t custom cut spans) old new

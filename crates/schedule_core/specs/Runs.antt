@@ -15,7 +15,7 @@ use Rattle.schedule_core.specs.declared.ended.Ended.{Ended}
 use Rattle.schedule_core.specs.declared.ended.Ended.TheVariants as ending
 use Rattle.event_worlds.specs.record_offers.Offers.{is_gone}
 use Rattle.event_worlds.specs.record_spans.declared.span.Span.{Span}
-use Rattle.schedule_core.specs.Driving.{AreBefore, AreKept, MayHavePartitions}
+use Rattle.schedule_core.specs.Driving.{AreBefore, AreKept}
 use Rattle.schedule_core.specs.Schedules.{HadMemory, IsAnswer, IsOfWorld}
 use Rattle.event_worlds.specs.state_parts.Commits.{IsBadAt}
 use Rattle.event_worlds.specs.state_parts.declared.parts.StatePart.{StatePart}
@@ -83,11 +83,11 @@ pub record RunTells {S : Type 0} (holds : S → CellMap → Type 0) (count : S �
   pub strange : (key : List ℕ) → HasStrangeAt holds new key → HasStrangeAt holds old key
   -- parts that stood at the batches before the start stand at them and then those that were
   -- committed, in order, whatever the answer
-  pub stands : (before : List (List Span)) → AreBefore cut before → MayHavePartitions t cut
+  pub stands : (before : List (List Span)) → AreBefore cut before
       → PartsStand holds t custom cut before old
       → PartsStand holds t custom cut (before ++ committed_batches fates) new
   -- so parts that were empty stand at those that were committed, where no record was gone before
-  pub stands_first : IsFirst cut → MayHavePartitions t cut → All (IsEmpty holds) old
+  pub stands_first : IsFirst cut → All (IsEmpty holds) old
       → PartsStand holds t custom cut (committed_batches fates) new
   -- no store failed but at the commits that failed, and, where a fault stopped the run, at the last
   -- one that was tried
