@@ -1,16 +1,16 @@
 -- What the calls of a round leave, for the call that follows.
-use Rattle.std.proofs.Common.{◌≡◌, ◌≤◌, ◌<◌, ℕ, ◌+◌, ◌-◌, ◌^◌, Bool, true, false, cond, List, [], ◌∷◌, length, length-append, map, refl, sym, subst, ◌∙◌, arith}
+use Rattle.std.proofs.Common.{◌≡◌, ◌<◌, ℕ, ◌+◌, ◌-◌, ◌^◌, Bool, true, false, cond, List, [], ◌∷◌, length, length-append, map, refl, sym, subst, ◌∙◌, arith}
 use Rattle.std.specs.Prelude.{Err, Ok, OnErr, Result, min, nat_le}
 use Rattle.std.specs.List.{AllZip, range_with_len}
 use Rattle.std.specs.Result.{IsErrAnd}
-use Rattle.event_worlds.specs.attempt_fates.declared.fates.Attempt.{Attempt}
 use Rattle.event_worlds.specs.attempt_fates.Fates.{IsOnce}
 use Rattle.event_worlds.specs.bolt_ops.RowOp.{Custom}
 use Rattle.event_worlds.specs.commit_turns.Turns.{last_tick}
+use Rattle.worker_stretches.proofs.event_engine.FatesLemmas.{kept_once}
 use Rattle.worker_stretches.proofs.event_engine.GoesLemmas.{goes-then}
 use Rattle.worker_stretches.proofs.event_engine.LoopLemmas.{ready_here}
 use Rattle.worker_stretches.specs.event_engine.declared.engine.Engine.{Engine}
-use Rattle.worker_stretches.specs.event_engine.Engines.{Goes, IsIdle, IsReady, IsStill, cut_in, topology_in}
+use Rattle.worker_stretches.specs.event_engine.Engines.{Goes, IsIdle, IsReady, IsStill, cut_in, shape, topology_in}
 use Rattle.event_worlds.specs.Worlds.{of_acker, of_task}
 use Rattle.pulse_board.specs.Books.{Tells, drew, marked, ticked}
 use Rattle.pulse_board.specs.declared.rule.Book.{Book}
@@ -50,20 +50,6 @@ ticks-once b number tells = by (nat_le number b.seen) tells
 pub ticks-more : (first count now next : ℕ) → min now (2 ^ 64 - 1) ≡ min (first + count) (2 ^ 64 - 1) → min next (2 ^ 64 - 1) ≡ min (now + 1) (2 ^ 64 - 1) → min next (2 ^ 64 - 1) ≡ min (first + (count + 1)) (2 ^ 64 - 1)
 ticks-more first count now next before once = omega arith
 
--- ---- fates
-
-more-ticks : (n size ticks most : ℕ) (fates : List Attempt) → ticks ≤ most → IsOnce n size ticks fates → IsOnce n size most fates
-more-ticks n size ticks most fates few once = record {
-  in_order = once.in_order;
-  records_in_order = once.records_in_order;
-  numbered = once.numbered;
-  last_committed = once.last_committed;
-  of_batch = once.of_batch;
-  spans = once.spans;
-  finishes = once.finishes;
-  handed_out = λ k d below. (let so = once.handed_out k d below in omega arith);
-}
-
 -- ---- parts
 
 told-none : {S : Type 0} (tells : S → CellMap → Type 0) (parts : List (StatePart S)) → AllZip (StillTells tells) parts parts
@@ -79,7 +65,7 @@ kept-none tells parts = record { plans = refl; told = told-none tells parts }
 module _ {I : Type 0} {g : Ghosts I} (t : Topology) (cut : Cut) where
   -- the fates of an engine whose fates are those of one that is ready
   pub once-still : (old new : Engine I g) → IsReady t cut old → IsStill old new → IsOnce cut last_tick new.fates
-  once-still old new ready still = subst (IsOnce cut last_tick) (sym still.fates) (more-ticks (length cut.records) cut.size _ last_tick old.fates ready.ticks ready.kept.once)
+  once-still old new ready still = subst (IsOnce cut last_tick) (sym still.fates) (kept_once t cut (shape old).desk old.fates ready.kept ready.ticks)
 
   -- it is ready for the cut that it has
   pub ready-own : (e : Engine I g) → IsReady t cut e → IsReady t (cut_in e) e

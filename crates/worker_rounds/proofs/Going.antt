@@ -1,16 +1,17 @@
 -- An engine that goes on beside boxes, by one thing after another.
-use Rattle.std.proofs.Common.{◌≡◌, ℕ, ◌+◌, List, [], ◌∷◌, ◌++◌, All, length, map, append_assoc, length-append, sym, refl, ap, subst, ◌∙◌, arith}
+use Rattle.std.proofs.Common.{◌≡◌, ◌<◌, ℕ, ◌+◌, List, [], ◌∷◌, ◌++◌, All, length, map, append_assoc, length-append, sym, refl, ap, subst, ◌∙◌, arith}
 use Rattle.std.specs.List.{range_with_len}
 use Rattle.event_worlds.specs.attempt_fates.declared.fates.Attempt.{Attempt}
-use Rattle.batch_commits.specs.Standing.{FailuresAreCounted, PartsStand}
+use Rattle.event_worlds.specs.attempt_fates.Fates.{committed_batches}
+use Rattle.batch_commits.specs.Standing.{FailuresAreCounted}
 use Rattle.event_worlds.specs.bolt_ops.RowOp.{Custom}
 use Rattle.worker_stretches.specs.box_rows.declared.mail.Mail.{Mail}
-use Rattle.event_worlds.specs.commit_order.Orders.{desk_of}
 use Rattle.event_worlds.specs.commit_turns.Outcomes.{IsOutcome}
 use Rattle.worker_stretches.specs.event_engine.declared.engine.Engine.{Engine}
-use Rattle.worker_stretches.specs.event_engine.Engines.{HasOutcomes, IsStill}
+use Rattle.worker_stretches.specs.event_engine.Engines.{HasOutcomes, IsStill, shape}
 use Rattle.worker_stretches.proofs.event_engine.GoesLemmas.{draws-then, gives-parts, outcomes-append}
 use Rattle.event_worlds.specs.Worlds.{outcomes_of}
+use Rattle.schedule_core.proofs.Drives.{stands-same, stands-then}
 use Rattle.schedule_core.specs.Laws.{Laws}
 use Rattle.event_worlds.specs.state_parts.declared.answer.CommitOutcome.{CommitOutcome}
 use Rattle.event_worlds.specs.state_parts.declared.parts.StatePart.{StatePart}
@@ -22,6 +23,7 @@ use Rattle.event_worlds.specs.tree_model.declared.messages.Parcel.{Parcel}
 use Rattle.event_worlds.specs.taken_records.Cuts.{Cut}
 use Rattle.worker_rounds.specs.Running.{RunsOn}
 use Rattle.worker_stretches.specs.Standing.{GoesOn}
+use Rattle.worker_stretches.specs.world_progress.Rounding.{IsOpen}
 
 -- outcomes that begin with those of more fates begin with those of the first
 first-outcomes : (outcomes : List CommitOutcome) (fates more all : List Attempt) → all ≡ fates ++ more → HasOutcomes outcomes all → HasOutcomes outcomes fates
@@ -31,7 +33,7 @@ first-outcomes outcomes fates more all is has = record {
 }
 
 -- what is added to a list that stays as it is
-pub none-added : {X : Type 0} (xs ys : List X) → xs ≡ xs ++ ys → ys ≡ []
+none-added : {X : Type 0} (xs ys : List X) → xs ≡ xs ++ ys → ys ≡ []
 none-added [] ys is = sym is
 none-added {X} (x ∷ xs) ys is = none-added xs ys (let e : x ∷ xs ≡ x ∷ (xs ++ ys) = is in cc)
 
@@ -59,10 +61,12 @@ module _ {I : Type 0} {g : Ghosts I} (tells : I → (ℕ → ℕ) → ℕ → Ty
           now = two.now;
           counted = λ s. two.counted s ∙ (let e = one.counted s in let len = length-append (first.given s) (second.given s) in omega arith);
           stands = two.stands;
-          rose = λ can all few open_end.
+          shut = two.shut ∙ one.shut;
+          rose = λ opens can all few open_end.
               (let j = second.ticks in
-              let i = one.rose can all (omega arith) (λ over. open_end (second.over over)) in
-              let k = two.rose can all few open_end in omega arith);
+              let opened : 0 < m + n → IsOpen cut (shape a) = opens in
+              let i = one.rose (λ more. opened (omega arith)) can all (omega arith) (λ over. open_end (second.over over)) in
+              let k = two.rose (λ more some. one.shut ∙ opened (omega arith) some) can all few open_end in omega arith);
         };
   }
 
@@ -74,7 +78,7 @@ module _ {I S : Type 0} {g : Ghosts I} (tells : I → (ℕ → ℕ) → ℕ → 
     goes = goes;
     plans = refl;
     outcomes = λ are good. subst (λ (fs : List Attempt). All (IsOutcome t) (outcomes_of fs)) (sym still.fates) good;
-    stands = λ words counts outcomes gives has input keeps good h stands on. subst (λ (n : ℕ). PartsStand holds t custom cut n parts) (ap (λ c. (desk_of c).committed) (sym still.coordinator)) on;
+    stands = λ words counts outcomes gives has input keeps good h stands planned. stands-same holds t custom cut old.fates new.fates parts (ap committed_batches still.fates);
     bad = λ key found. found;
     strange = λ key found. found;
     counted = subst (λ (xs : List Attempt). FailuresAreCounted count xs parts parts) (sym (none-added old.fates goes.more (sym still.fates ∙ goes.added))) (laws.counts_none parts);
@@ -88,12 +92,13 @@ module _ {I S : Type 0} {g : Ghosts I} (tells : I → (ℕ → ℕ) → ℕ → 
     goes = goes-on-then tells t custom cut m n a b c p q r [] [] [] first.goes second.goes;
     plans = second.plans ∙ first.plans;
     outcomes = λ are good. second.outcomes (first.plans ∙ are) (first.outcomes are good);
-    stands = λ words counts outcomes gives has input keeps good h stands on.
+    stands = λ words counts outcomes gives has input keeps good h stands planned.
         let both = gives-parts words counts first.goes.given second.goes.given gives in
         let had = first-outcomes outcomes b.fates second.goes.more c.fates second.goes.added has in
         let one = first.goes.on words counts outcomes both.0 had input keeps good h stands in
-        second.stands words one.now outcomes (λ s. ap (λ (n : ℕ). map (words s) (range_with_len n (length (second.goes.given s)))) (one.counted s) ∙ both.1 s) has input keeps good one.history one.stands
-        (first.stands words counts outcomes both.0 had input keeps good h stands on);
+        stands-then holds t custom cut a.fates b.fates c.fates u v w (first.stands words counts outcomes both.0 had input keeps good h stands planned)
+        (second.stands words one.now outcomes (λ s. ap (λ (n : ℕ). map (words s) (range_with_len n (length (second.goes.given s)))) (one.counted s) ∙ both.1 s) has input keeps good one.history one.stands
+        (first.plans ∙ planned));
     bad = λ key found. first.bad key (second.bad key found);
     strange = λ key found. first.strange key (second.strange key found);
     counted = laws.counts_then first.goes.more second.goes.more u v w first.plans first.counted second.counted;

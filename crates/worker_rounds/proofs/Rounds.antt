@@ -30,11 +30,12 @@ use Rattle.event_worlds.specs.tuple_account.Histories.{History, Packet}
 use Rattle.event_worlds.specs.tuple_account.Moves.{Station, beside}
 use Rattle.worker_stretches.specs.world_progress.Doing.{done}
 use Rattle.worker_stretches.specs.world_progress.Lasting.{Lasting}
+use Rattle.worker_stretches.specs.world_progress.Rounding.{IsOpen}
 use Rattle.worker_stretches.specs.world_progress.Running.{so_far}
 use Rattle.worker_rounds.specs.Laws.{RoundLaws}
 use Rattle.worker_rounds.specs.Running.{Reaches, RunsOn}
 use Rattle.worker_rounds.proofs.Through.{IsFree, IsRising, heard-run, led-run, parts-of-round, rising-first, rising-round, uses-run}
-use Rattle.worker_rounds.proofs.Ticking.{tick-round}
+use Rattle.worker_rounds.proofs.Ticking.{shut-round, tick-round}
 use Rattle.worker_stretches.specs.Standing.{GoesOn, Stands, beside_it}
 use Rattle.worker_turns.specs.Carrying.{AreEmpty, IsSwept}
 
@@ -150,10 +151,10 @@ module _ (t : Topology) (custom : Custom) (cut : Cut) (laws : RoundLaws t custom
         }
 
     -- it does something, where all is not over after it
-    pub rose-round : CanFinish t → All (λ (how : CommitOutcome). how ≡ Done) outcomes → (then steps).world.tick < t.buckets → (is_over t cut (then steps).world ≡ true → ⊥)
+    pub rose-round : IsOpen cut k.world → CanFinish t → All (λ (how : CommitOutcome). how ≡ Done) outcomes → (then steps).world.tick < t.buckets → (is_over t cut (then steps).world ≡ true → ⊥)
         → done h k.world + 1 ≤ done (later steps) (then steps).world
-    rose-round can all few open_end =
-        let does = (laws.does words outcomes ticks h k input keeps can all (lasting all few) (few-ticks few)).1 in
+    rose-round opened can all few open_end =
+        let does = (laws.does words outcomes ticks h k input keeps can all (lasting all few) (few-ticks few)).1 opened in
         elim does [
           | inl over ↦ absurd (open_end over)
           | inr more ↦ omega arith
@@ -201,9 +202,10 @@ module _ {I : Type 0} {g : Ghosts I} (tells : I → (ℕ → ℕ) → ℕ → Ty
           counted = runs.1;
           stands = subst (λ (w : World). Stands t custom cut words outcomes row [] later (record { world = w; counts = then.counts })) runs.0
               (stands-round t custom cut laws words outcomes row empty input keeps fine h k swept stands ticks open_start);
-          rose = subst (λ (w : World). CanFinish t → All (λ (how : CommitOutcome). how ≡ Done) outcomes → w.tick < t.buckets → (has_ended new ≡ true → ⊥) → done h (shape old) + 1 ≤ done later w) runs.0
-              (λ can all few open_end.
-              rose-round t custom cut laws words outcomes row empty input keeps fine h k swept stands ticks open_start can all few
+          shut = sym (ap (λ (w : World). w.shut) runs.0) ∙ shut-round t custom cut words outcomes ticks k;
+          rose = subst (λ (w : World). (0 < 1 → IsOpen cut (shape old)) → CanFinish t → All (λ (how : CommitOutcome). how ≡ Done) outcomes → w.tick < t.buckets → (has_ended new ≡ true → ⊥) → done h (shape old) + 1 ≤ done later w) runs.0
+              (λ opens can all few open_end.
+              rose-round t custom cut laws words outcomes row empty input keeps fine h k swept stands ticks open_start (opens (omega arith)) can all few
               (λ over. open_end (ended-there t cut new ready_new ∙ ap (λ (w : World). is_over t cut w) (sym runs.0) ∙ over)));
         };
   }
@@ -225,8 +227,8 @@ module _ {I : Type 0} {g : Ghosts I} (tells : I → (ℕ → ℕ) → ℕ → Ty
     goes = goes-on-round ticks ready_new on low drives.goes;
     plans = drives.plans;
     outcomes = drives.outcomes;
-    stands = λ words counts outcomes gives has input keeps good h stands parts_stand.
-        drives.stands words counts outcomes gives has input keeps good (h, led-alone t custom cut words row empty h (record { world = shape old; counts = counts }) stands.led) parts_stand;
+    stands = λ words counts outcomes gives has input keeps good h stands.
+        drives.stands words counts outcomes gives has input keeps good (h, led-alone t custom cut words row empty h (record { world = shape old; counts = counts }) stands.led);
     bad = drives.bad;
     strange = drives.strange;
     counted = drives.counted;

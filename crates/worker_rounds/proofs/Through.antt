@@ -13,7 +13,7 @@ use Rattle.event_worlds.proofs.counted_items.Weighing.{weigh-append}
 use Rattle.event_worlds.specs.Accounted.{LedTo}
 use Rattle.event_worlds.specs.Added.{acker_adds, acker_adds_past, added, executes, meets_front, lost, step_adds, task_adds, task_adds_past, turn_adds, turn_adds_past}
 use Rattle.event_worlds.specs.Rounds.{round_with}
-use Rattle.event_worlds.specs.Worlds.{AckerSide, Known, Step, TaskSide, World, acker_at, acker_step, acted_past, aged, answered_past, coordinator_steps, counted_up, executed, is_over, meets, next, next_outcome, next_words, no_acker, no_task, of_acker, of_outcome, of_task, of_tick, of_turn, outcome_step, run, sent, step, task_at, task_needs, task_step, turn_needs, turn_past, turn_step, with_progress, with_task}
+use Rattle.event_worlds.specs.Worlds.{AckerSide, Known, Step, TaskSide, World, acker_at, acker_step, acted_past, aged, answered_past, coordinator_steps, counted_up, executed, is_over, meets, next, next_outcome, next_words, no_acker, no_task, of_acker, of_open, of_outcome, of_shut, of_task, of_tick, of_turn, outcome_step, run, sent, step, task_at, task_needs, task_step, turn_needs, turn_past, turn_step, with_progress, with_task}
 use Rattle.event_worlds.proofs.Waiting.{weigh-front}
 use Rattle.event_worlds.specs.commit_turns.Turns.{decided}
 use Rattle.event_worlds.specs.state_parts.declared.answer.CommitOutcome.{CommitOutcome}
@@ -149,6 +149,8 @@ IsQuiet (of_acker n ∷ steps) = ⊥
 IsQuiet (of_turn ∷ steps) = ⊥
 IsQuiet (of_outcome ∷ steps) = IsQuiet steps
 IsQuiet (of_tick ∷ steps) = IsQuiet steps
+IsQuiet (of_shut q ∷ steps) = ⊥
+IsQuiet (of_open q ∷ steps) = ⊥
 
 -- tasks and ackers by rising numbers, from these on, and one turn at most
 abbrev pub IsRising : Topology → ℕ → ℕ → List Step → Type 0
@@ -158,6 +160,8 @@ IsRising t a b (of_acker n ∷ steps) = (b ≤ n) × (n < t.ackers) × IsRising 
 IsRising t a b (of_turn ∷ steps) = IsQuiet steps
 IsRising t a b (of_outcome ∷ steps) = IsRising t a b steps
 IsRising t a b (of_tick ∷ steps) = IsRising t a b steps
+IsRising t a b (of_shut q ∷ steps) = ⊥
+IsRising t a b (of_open q ∷ steps) = ⊥
 
 quiet-first : (xs ys : List Step) → IsQuiet (xs ++ ys) → IsQuiet xs
 quiet-first [] ys is = tt
@@ -166,6 +170,8 @@ quiet-first (of_acker n ∷ xs) ys is = is
 quiet-first (of_turn ∷ xs) ys is = is
 quiet-first (of_outcome ∷ xs) ys is = quiet-first xs ys is
 quiet-first (of_tick ∷ xs) ys is = quiet-first xs ys is
+quiet-first (of_shut q ∷ xs) ys is = is
+quiet-first (of_open q ∷ xs) ys is = is
 
 -- the parts of a round
 pub parts-of-round : (t : Topology) (ticks : ℕ)
@@ -183,6 +189,8 @@ module _ (t : Topology) where
   rising-first a b (of_turn ∷ xs) ys is = quiet-first xs ys is
   rising-first a b (of_outcome ∷ xs) ys is = rising-first a b xs ys is
   rising-first a b (of_tick ∷ xs) ys is = rising-first a b xs ys is
+  rising-first a b (of_shut q ∷ xs) ys is = is
+  rising-first a b (of_open q ∷ xs) ys is = is
 
   rising-tasks : (a b count : ℕ) (rest : List Step) → a + count ≤ tasks_in_all t → ((c : ℕ) → IsRising t c b rest) → IsRising t a b (map of_task (range_with_len a count) ++ rest)
   rising-tasks a b zero rest below on = on a
@@ -291,6 +299,8 @@ module _ (t : Topology) (custom : Custom) (cut : Cut) (words : ℕ → ℕ → �
   uses-quiet f (of_turn ∷ steps) h k is = absurd is
   uses-quiet f (of_outcome ∷ steps) h k is = uses-quiet f steps (joined h (added t custom cut words of_outcome k)) (after of_outcome k) is ∙ uses-next f of_outcome h k (outcome-same f k)
   uses-quiet f (of_tick ∷ steps) h k is = uses-quiet f steps (joined h (added t custom cut words of_tick k)) (after of_tick k) is ∙ uses-next f of_tick h k (tick-same f k)
+  uses-quiet f (of_shut q ∷ steps) h k is = absurd is
+  uses-quiet f (of_open q ∷ steps) h k is = absurd is
 
   -- steps in the order of a round take what they take from inboxes
   pub uses-run : (f : Packet → ℕ) (a b : ℕ) (steps : List Step) (h : History) (k : Known) → IsRising t a b steps → IsFree t a b k.world → Uses f h k (so_far steps h k) (goes_all steps k)
@@ -313,6 +323,8 @@ module _ (t : Topology) (custom : Custom) (cut : Cut) (words : ℕ → ℕ → �
       uses-run f a b steps (joined h (added t custom cut words of_outcome k)) (after of_outcome k) is (free-next a b of_outcome k free (free-of_outcome a b k free)) ∙ uses-next f of_outcome h k (outcome-same f k)
   uses-run f a b (of_tick ∷ steps) h k is free =
       uses-run f a b steps (joined h (added t custom cut words of_tick k)) (after of_tick k) is (free-next a b of_tick k free (free-of_tick a b k free)) ∙ uses-next f of_tick h k (tick-same f k)
+  uses-run f a b (of_shut q ∷ steps) h k is free = absurd is
+  uses-run f a b (of_open q ∷ steps) h k is free = absurd is
 
   -- ---- what led to a world, and what was heard
 

@@ -13,7 +13,7 @@ use Rattle.event_worlds.specs.topology_plan.Topology.{Topology}
 use Rattle.event_worlds.specs.taken_records.Cuts.{Cut}
 use Rattle.event_worlds.specs.tuple_account.Histories.{History, joined}
 use Rattle.worker_stretches.specs.world_progress.Lasting.{Lasting}
-use Rattle.worker_stretches.specs.world_progress.Rounding.{DoesMore, LastsOn}
+use Rattle.worker_stretches.specs.world_progress.Rounding.{DoesMore, IsOpen, LastsOn}
 use Rattle.worker_stretches.specs.world_progress.Running.{so_far}
 
 -- What rounds rest on: each step leads on, and a verdict is heard before a commit fails; nothing is
@@ -42,5 +42,6 @@ pub record RoundLaws (t : Topology) (custom : Custom) (cut : Cut) : Type 0 where
       → LastsOn t custom cut words ticks h k
       (so_far t custom cut words outcomes (round_with t ticks) h k)
       (run t custom cut words outcomes (round_with t ticks) k)
-      × DoesMore t cut h k (so_far t custom cut words outcomes (round_with t ticks) h k)
-      (run t custom cut words outcomes (round_with t ticks) k)
+      × (IsOpen cut k.world
+      → DoesMore t cut h k (so_far t custom cut words outcomes (round_with t ticks) h k)
+      (run t custom cut words outcomes (round_with t ticks) k))

@@ -1,7 +1,7 @@
 -- A run of workers: stretches, sweeps, and rounds of the caller, with commits to parts. This
 -- project's own.
 use Rattle.std.specs.Prelude.{◌≡◌, ℕ, List, [], All}
-use Rattle.batch_commits.specs.Standing.{FailuresAreCounted, HasStrangeAt, PartsStand}
+use Rattle.batch_commits.specs.Standing.{FailuresAreCounted, HasStrangeAt}
 use Rattle.event_worlds.specs.bolt_ops.RowOp.{Custom, IsCustom}
 use Rattle.worker_stretches.specs.box_account.Hearing.{HeardBeforeFailing}
 use Rattle.worker_stretches.specs.box_account.Inboxes.{GoesThrough}
@@ -17,7 +17,7 @@ use Rattle.event_worlds.specs.Worlds.{World, outcomes_of}
 use Rattle.pulse_board.specs.declared.seat.Board.{Board}
 use Rattle.pulse_board.specs.declared.seat.BoardSeat.{BoardSeat}
 use Rattle.pulse_board.specs.Seats.{book_of}
-use Rattle.schedule_core.specs.Driving.{Breaks, committed_by}
+use Rattle.schedule_core.specs.Driving.{Breaks, StandOn}
 use Rattle.event_worlds.specs.state_parts.Commits.{IsBadAt}
 use Rattle.event_worlds.specs.state_parts.declared.answer.CommitOutcome.{CommitOutcome}
 use Rattle.event_worlds.specs.state_parts.declared.parts.StatePart.{StatePart}
@@ -76,8 +76,7 @@ module _ {I S : Type 0} {g : Ghosts I} where
         → IsInput t cut → IsCustom custom → All (IsOutcome t) outcomes → (h : History)
         → Stands t custom cut words outcomes row [] h
         (record { world = shape old; counts = counts })
-        → PartsStand holds t custom cut (committed_by old) was
-        → PartsStand holds t custom cut (committed_by new) is
+        → AreParts t was → StandOn holds t custom cut old.fates new.fates was is
     -- a bad or strange cell was there before, at the same key
     pub bad : (key : List ℕ) → IsBadAt holds is key → IsBadAt holds was key
     pub strange : (key : List ℕ) → HasStrangeAt holds is key → HasStrangeAt holds was key

@@ -144,8 +144,7 @@ pub fn caller_round<R: Threads + Wait + Sync, I: Ids, C: CellStore + Send, O: Ro
     ensures short { result ≡ Err fault.Memory → WantsMemory I.tells C.tells C.fault_count
         posts.now.plan.now (O.meaning custom.now) (cut_in engine.old) engine.old
         engine.new.fates parts.old parts.new }
-    ensures once { OnErr result (IsOnce (cut_in engine.old)
-        last_tick engine.new.fates) }
+    ensures once { OnErr result (IsOnce (cut_in engine.old) last_tick engine.new.fates) }
     ensures kept { AreKept C.tells parts.old parts.new }
 {
     laws_of_steps::<C>();

@@ -1,12 +1,11 @@
 -- Where a run of workers begins: an engine that was started, beside the boxes and at the board that were made.
-use Rattle.std.proofs.Common.{◌≡◌, ◌<◌, ◌-◌, ◌^◌, ℕ, List, length, min, Result, sym, ap, subst, ◌∙◌, arith}
+use Rattle.std.proofs.Common.{◌≡◌, ◌-◌, ◌^◌, ℕ, List, length, min, Result, sym, ap, subst, ◌∙◌, arith}
 use Rattle.event_worlds.specs.bolt_ops.RowOp.{Custom}
 use Rattle.worker_stretches.specs.box_rows.declared.boxes.Boxes.{Boxes}
 use Rattle.worker_stretches.specs.box_rows.declared.mail.Mail.{Mail}
 use Rattle.worker_stretches.specs.event_engine.declared.engine.Engine.{Engine}
 use Rattle.worker_stretches.specs.event_engine.Engines.{IsIdle, IsReady, cut_in}
 use Rattle.worker_stretches.specs.event_engine.Starts.{IsStarted}
-use Rattle.event_worlds.specs.Accounted.{IsInput}
 use Rattle.pulse_board.specs.declared.rule.Book.{Book}
 use Rattle.pulse_board.specs.declared.seat.Board.{Board}
 use Rattle.pulse_board.specs.declared.seat.BoardSeat.{BoardSeat}
@@ -24,25 +23,21 @@ use Rattle.worker_runs.proofs.Rows.{first-empty, first-rooms}
 use Rattle.worker_runs.proofs.Starting.{no-tick, swept-start}
 use Rattle.worker_runs.specs.WorkerRuns.{AreFirstBoxes, IsFirstSeat}
 
--- batches of an input have a size
-pub some-size : (t : Topology) (cut : Cut) → IsInput t cut → 0 < cut.size
-some-size t cut input = subst (λ (n : ℕ). 0 < n) (sym input.size) input.valid.batch.0
-
 module _ {I : Type 0} {g : Ghosts I} (told : (ℕ → ℕ → ℕ) → Type 0) (tells : I → (ℕ → ℕ) → ℕ → Type 0) (t : Topology) (cut : Cut) (boxes : Boxes) (board : Board) (e0 : Engine I g) (seat : BoardSeat) where
   -- nobody works yet, where a run is of the plan that its boxes are of
-  pub gathered-first : IsReady t cut e0 → IsIdle e0 → IsStarted told tells t e0 → AreFirstBoxes t boxes → IsFirstSeat board seat → IsGathered boxes.posts.plan.now (cut_in e0) boxes.posts.boxes.items board e0 boxes.row.items seat
+  pub gathered-first : IsReady t cut e0 → IsIdle e0 → IsStarted told tells t cut e0 → AreFirstBoxes t boxes → IsFirstSeat board seat → IsGathered boxes.posts.plan.now (cut_in e0) boxes.posts.boxes.items board e0 boxes.row.items seat
   gathered-first ready idle started first own =
       subst (λ (u : Topology). IsGathered u (cut_in e0) boxes.posts.boxes.items board e0 boxes.row.items seat) (sym first.plan)
       (subst (λ (k : Cut). IsGathered t k boxes.posts.boxes.items board e0 boxes.row.items seat) (sym ready.seated.of_cut) (record {
         ready = ready;
         idle = idle;
-        swept = swept-start told tells t e0 started;
+        swept = swept-start told tells t cut e0 started;
         fit = first.row;
         empty = first-empty t boxes.row.items first.first;
         room = first-rooms t boxes.row.items first.first;
         whole = own.whole;
         in_time =
-            no-tick told tells t e0 started ∙ (let z : 0 ≡ min 0 (2 ^ 64 - 1) = omega arith in z)
+            no-tick told tells t cut e0 started ∙ (let z : 0 ≡ min 0 (2 ^ 64 - 1) = omega arith in z)
             ∙ sym (ap (λ (b : Book). min (length b.drawn) (2 ^ 64 - 1)) own.first);
       }))
 

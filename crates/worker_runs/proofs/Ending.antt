@@ -1,15 +1,16 @@
 -- What a run of workers comes to at its end.
-use Rattle.std.proofs.Common.{◌≡◌, ◌≤◌, ◌<◌, ◌==◌, ℕ, zero, suc, ◌-◌, ◌^◌, Bool, true, false, cond, List, [], ◌∷◌, ◌++◌, All, length, map, filter, fold, min, sum, Option, None, Some, is_some, Result, Ok, Err, refl, sym, ap, subst, ◌∙◌, append-nil, eqb-true, true≢false, arith}
+use Rattle.std.proofs.Common.{◌≡◌, ◌≤◌, ◌<◌, ◌==◌, ◌&&◌, inl, inr, ℕ, zero, suc, ◌-◌, ◌^◌, Bool, true, false, cond, List, [], ◌∷◌, ◌++◌, All, length, map, filter, fold, min, sum, Option, None, Some, is_some, Result, Ok, Err, refl, sym, ap, subst, ◌∙◌, append-nil, eqb-true, true≢false, arith}
 use Rattle.std.specs.Prelude.{OnErr, OnOk, replicate}
 use Rattle.std.specs.List.{AllByRecursion, cons_option, range_with_len}
 use Rattle.std.specs.Result.{IsErrAnd}
+use Rattle.std.proofs.lemmas.Bool.{cases_lt}
 use Rattle.std.proofs.lemmas.List.Elements.{All-from_recursion, recursion_from_All}
 use Rattle.std.proofs.Math.Nat.{min-le_left}
 use Rattle.event_worlds.specs.attempt_fates.declared.fates.Attempt.{Attempt}
 use Rattle.event_worlds.specs.attempt_fates.declared.fates.End.{End}
 use Rattle.event_worlds.specs.attempt_fates.declared.fates.End.TheVariants as end
-use Rattle.event_worlds.specs.attempt_fates.Fates.{IsOfBatch, IsOnce, attempt_numbers}
-use Rattle.worker_rounds.specs.batch_commits.Standing.{failed_commits}
+use Rattle.event_worlds.specs.attempt_fates.Fates.{HasBatch, IsOnce, aborts_of, is_abort, is_failed_commit}
+use Rattle.worker_rounds.specs.batch_commits.Standing.{batches_in, failed_commits}
 use Rattle.event_worlds.specs.bolt_ops.RowOp.{Custom, IsCustom}
 use Rattle.worker_stretches.specs.box_account.Taken.{TookTrue}
 use Rattle.worker_stretches.specs.box_account.Telling.{BoxesTell}
@@ -19,7 +20,7 @@ use Rattle.worker_stretches.specs.box_rows.FitRows.{IsFitRow}
 use Rattle.event_worlds.specs.commit_order.declared.stop.Stop.{Stop}
 use Rattle.event_worlds.specs.commit_order.declared.stop.Stop.TheVariants as stop
 use Rattle.event_worlds.specs.commit_turns.Desks.{Desk}
-use Rattle.event_worlds.specs.commit_turns.Kept.{IsKept, is_failed_commit}
+use Rattle.event_worlds.specs.commit_turns.Kept.{IsKept}
 use Rattle.event_worlds.specs.commit_turns.Turns.{is_finished, last_tick}
 use Rattle.worker_stretches.proofs.event_engine.GoesLemmas.{gives-parts}
 use Rattle.worker_stretches.proofs.event_engine.WorldLemmas.{words_begin}
@@ -57,18 +58,19 @@ use Rattle.task_queues.specs.declared.pass.Mailbox.{Mailbox}
 use Rattle.task_queues.specs.declared.pass.Pass.{Pass}
 use Rattle.task_queues.specs.Passes.{view_of}
 use Rattle.event_worlds.specs.topology_plan.Topology.{Topology, tasks_in_all}
-use Rattle.event_worlds.specs.trident_batches.Batches.{Cut, batch_count}
+use Rattle.event_worlds.specs.taken_records.Cuts.{Cut}
 use Rattle.worker_rounds.specs.Running.{IsGathered, RunsOn}
 use Rattle.worker_runs.proofs.Few.{lasts-here}
 use Rattle.worker_runs.proofs.Going.{first-outcomes, gives-next}
 use Rattle.worker_runs.proofs.Handed.{answered-all, answered-most, sum-more, ticks-below}
-use Rattle.worker_runs.proofs.Starting.{CameBy, came-runs, came-some, came-then, came-told, good-now, stands-start, stood-start}
+use Rattle.worker_runs.proofs.Starting.{CameBy, came-runs, came-some, came-then, came-told, good-now, open-start, stands-start, stood-start}
 use Rattle.worker_runs.specs.Going.{IsAllBack, RanOn}
 use Rattle.worker_runs.specs.Laws.{RunLaws}
 use Rattle.worker_runs.specs.WorkerRuns.{DrewEach, NothingRanOut, WorkersCome}
 use Rattle.worker_stretches.specs.Parts.{IsWholeSeat}
 use Rattle.worker_stretches.specs.Standing.{beside_it}
 use Rattle.worker_rounds.specs.worker_turns.Carrying.{AreEmpty}
+use Rattle.worker_stretches.specs.world_progress.Lasting.{NoneAborted}
 
 -- ---- ticks of a round
 
@@ -115,36 +117,56 @@ done-each (a ∷ fates) none = by (λ few. done-each fates few) a.end none
     by rest end.TimedOut few = rest few
     by rest (end.Coincided list) few = rest few
     by rest (end.CommitFailed c p before after) few = absurd (omega arith)
+    by rest (end.Dropped other) few = rest few
 
 -- all outcomes are done
 are-done : (fates : List Attempt) → failed_commits fates ≡ 0 → All (λ (how : CommitOutcome). how ≡ Done) (outcomes_of fates)
 are-done fates none = All-from_recursion (λ (how : CommitOutcome). how ≡ Done) (outcomes_of fates) (done-each fates none)
 
--- a transaction with an attempt is of a batch that is there
-of-batch : (n size txid : ℕ) (fates : List Attempt) → AllByRecursion (IsOfBatch n size) fates → 1 ≤ length (attempt_numbers txid fates) → txid ≤ batch_count n size
-of-batch n size txid [] each some = absurd (omega arith)
-of-batch n size txid (a ∷ fates) each some = by (of-batch n size txid fates each.1) (a.root.txid == txid) refl some
-  where
-    by : (1 ≤ length (attempt_numbers txid fates) → txid ≤ batch_count n size) → (b : Bool) → (a.root.txid == txid) ≡ b
-        → 1 ≤ length (map (λ (x : Attempt). x.root.attempt) (cond b (a ∷ filter (λ (x : Attempt). x.root.txid == txid) fates) (filter (λ (x : Attempt). x.root.txid == txid) fates)))
-        → txid ≤ batch_count n size
-    by rest true is more =
-        let same : a.root.txid ≡ txid = eqb-true a.root.txid txid is in
-        let there = each.0.is_there.1 in omega arith
-    by rest false is more = rest more
+-- the attempts of a transaction that aborted
+abbrev aborting : ℕ → List Attempt → List Attempt
+aborting txid fates = filter (λ (x : Attempt). (x.root.txid == txid) && is_abort x.end) fates
 
--- where every batch is committed no transaction ran out of attempts
-not-exhausted : (t : Topology) (cut : Cut) (d : Desk) (fates : List Attempt) → IsKept t cut d fates → 1 ≤ t.attempts → is_finished t cut d ≡ true → (txid : ℕ) → d.exhausted ≡ Some txid → ⊥
-not-exhausted t cut d fates kept some done txid is =
+-- without partitions a transaction with an attempt is of a batch that is there
+of-batch : (cut : Cut) (txid : ℕ) (fates : List Attempt) → AllByRecursion (λ (a : Attempt). HasBatch cut a.root.txid a.spans) fates → cut.partitions ≡ 0 → 1 ≤ aborts_of txid fates → txid ≤ batches_in cut
+of-batch cut txid [] each plain some = absurd (omega arith)
+of-batch cut txid (a ∷ fates) each plain some = by (of-batch cut txid fates each.1 plain) (a.root.txid == txid) (is_abort a.end) refl some
+  where
+    by : (1 ≤ length (aborting txid fates) → txid ≤ batches_in cut) → (b c : Bool) → (a.root.txid == txid) ≡ b → 1 ≤ length (cond (b && c) (a ∷ (aborting txid fates)) (aborting txid fates)) → txid ≤ batches_in cut
+    by rest true c is more =
+        let same : a.root.txid ≡ txid = eqb-true a.root.txid txid is in
+        let there = (each.0.numbered plain).0 in omega arith
+    by rest false c is more = rest more
+
+-- where no attempt aborted none of a transaction did
+none-of : (txid : ℕ) (fates : List Attempt) → AllByRecursion (λ (a : Attempt). is_abort a.end ≡ false) fates → aborts_of txid fates ≡ 0
+none-of txid [] each = refl
+none-of txid (a ∷ fates) each = by (a.root.txid == txid) (is_abort a.end) each.0 (none-of txid fates each.1)
+  where
+    by : (b c : Bool) → c ≡ false → length (aborting txid fates) ≡ 0 → length (cond (b && c) (a ∷ (aborting txid fates)) (aborting txid fates)) ≡ 0
+    by b true is rest = absurd (true≢false is)
+    by true false is rest = rest
+    by false false is rest = rest
+
+-- where no record is left uncommitted, and with partitions no attempt aborted, no transaction ran out
+-- of attempts
+not-exhausted : {S : Type 0} (holds : S → CellMap → Type 0) (count : S → ℕ) (t : Topology) (custom : Custom) (cut : Cut) (laws : WorldLaws holds count t custom cut) (input : IsInput t cut) (d : Desk) (fates : List Attempt) → IsKept t cut d fates → NoneAborted cut fates → is_finished t cut d ≡ true
+    → (txid : ℕ) → d.exhausted ≡ Some txid → ⊥
+not-exhausted holds count t custom cut laws input d fates kept none done txid is =
     let out = kept.ran_out txid is in
-    let all : d.committed ≡ batch_count (length cut.records) cut.size = eqb-true d.committed (batch_count (length cut.records) cut.size) done in
     let many = out.0 in
-    let few = out.1 in
-    let there = of-batch (length cut.records) cut.size txid fates (recursion_from_All (IsOfBatch (length cut.records) cut.size) fates kept.once.of_batch) (omega arith) in omega arith
+    let later = out.1 in
+    let some = input.valid.attempts.0 in
+    elim (cases_lt 0 cut.partitions) [
+      | inl parted ↦ (let e = none-of txid fates (recursion_from_All (λ (a : Attempt). is_abort a.end ≡ false) fates (none parted)) in absurd (omega arith))
+      | inr plain ↦ (let whole : cut.partitions ≡ 0 = omega arith in
+          let all = (laws.at_last_batch d fates input.start kept whole).0 done in
+          let there = of-batch cut txid fates kept.once.batches whole (omega arith) in absurd (omega arith))
+    ]
 
 -- so it answers that all is committed
-finished-answer : (t : Topology) (cut : Cut) (d : Desk) (fates : List Attempt) → IsKept t cut d fates → 1 ≤ t.attempts → is_finished t cut d ≡ true → answer_by d.exhausted (is_finished t cut d) d.committed ≡ Ok ending.All
-finished-answer t cut d fates kept some done = by d.exhausted (is_finished t cut d) (not-exhausted t cut d fates kept some done) done
+finished-answer : (t : Topology) (cut : Cut) (d : Desk) → ((txid : ℕ) → d.exhausted ≡ Some txid → ⊥) → is_finished t cut d ≡ true → answer_by d.exhausted (is_finished t cut d) d.committed ≡ Ok ending.All
+finished-answer t cut d none done = by d.exhausted (is_finished t cut d) none done
   where
     by : (o : Option ℕ) (b : Bool) → ((txid : ℕ) → o ≡ Some txid → ⊥) → b ≡ true → answer_by o b d.committed ≡ Ok ending.All
     by (Some txid) b none is = absurd (none txid refl)
@@ -174,8 +196,8 @@ pub record RunEnded {I S T : Type 0} {g : Ghosts I} (tells : I → (ℕ → ℕ)
   pub kept : AreKept holds was is
 
 module _ {I S T : Type 0} {g : Ghosts I} (told : (ℕ → ℕ → ℕ) → Type 0) (tells : I → (ℕ → ℕ) → ℕ → Type 0) (holds : S → CellMap → Type 0) (count : S → ℕ) (handed : T → ℕ) (ticking : T → List ℕ → Type 0) (t : Topology) (custom : Custom) (cut : Cut)
-    (run_laws : RunLaws t custom cut) (laws : WorldLaws holds count t custom cut) (steps : Laws count t custom cut) (input : IsInput t cut) (keeps : IsCustom custom) (some : 0 < cut.size)
-    (boxes : List (Mailbox Mail)) (board : Board) (e0 : Engine I g) (started : IsStarted told tells t e0) (row : List (Pass Mail)) (first : map view_of row ≡ first_views t) (was : List (StatePart S)) (planned : AreParts t was) (before after : T)
+    (run_laws : RunLaws t custom cut) (laws : WorldLaws holds count t custom cut) (steps : Laws count t custom cut) (input : IsInput t cut) (keeps : IsCustom custom)
+    (boxes : List (Mailbox Mail)) (board : Board) (e0 : Engine I g) (started : IsStarted told tells t cut e0) (row : List (Pass Mail)) (first : map view_of row ≡ first_views t) (was : List (StatePart S)) (planned : AreParts t was) (before after : T)
     (e : Engine I g) (now_row : List (Pass Mail)) (seat : BoardSeat) (is : List (StatePart S)) where
   abbrev DidEnd : Result (Unit {0}) CommitFault → Type 0
   DidEnd done = RunEnded tells holds count handed ticking custom boxes board before after e0 row was done e now_row seat is t cut
@@ -189,19 +211,19 @@ module _ {I S T : Type 0} {g : Ghosts I} (told : (ℕ → ℕ → ℕ) → Type 
   -- ---- what a run has come to
 
   abbrev Came : Engine I g → List (StatePart S) → Type 0
-  Came at parts = CameBy told tells t e0 started holds count custom cut run_laws laws steps input keeps some row first was planned at parts
+  Came at parts = CameBy told tells t cut e0 started holds count custom run_laws steps input keeps row first was planned at parts
 
   by_runs : (n : ℕ) (mid : Engine I g) (mid_row : List (Pass Mail)) (q : List (StatePart S)) → RunsOn tells holds count t custom cut n e0 mid row mid_row was q → AreEmpty mid_row → Came mid q
-  by_runs n mid mid_row q runs empty = came-runs told tells t e0 started holds count custom cut run_laws laws steps input keeps some row first was planned n mid mid_row q runs empty
+  by_runs n mid mid_row q runs empty = came-runs told tells t cut e0 started holds count custom run_laws steps input keeps row first was planned n mid mid_row q runs empty
 
   on_then : (mid at : Engine I g) (q r : List (StatePart S)) → Came mid q → LeadsOn tells holds count t custom cut mid at q r → Came at r
-  on_then mid at q r came on = came-then told tells t e0 started holds count custom cut run_laws laws steps input keeps some row first was planned mid at q r came on
+  on_then mid at q r came on = came-then told tells t cut e0 started holds count custom run_laws steps input keeps row first was planned mid at q r came on
 
   some_words : (at : Engine I g) (r : List (StatePart S)) → Came at r → (words : ℕ → ℕ → ℕ) × HasCome holds count t custom cut words at was r
-  some_words at r came = came-some told tells t e0 started holds count custom cut run_laws laws steps input keeps some row first was planned at r came
+  some_words at r came = came-some told tells t cut e0 started holds count custom run_laws steps input keeps row first was planned at r came
 
   told_words : (at : Engine I g) (r : List (StatePart S)) → Came at r → (words : ℕ → ℕ → ℕ) → told words → HasCome holds count t custom cut words at was r
-  told_words at r came words are = came-told told tells t e0 started holds count custom cut run_laws laws steps input keeps some row first was planned at r came words are
+  told_words at r came words are = came-told told tells t cut e0 started holds count custom run_laws steps input keeps row first was planned at r came words are
 
   -- ---- what is told
 
@@ -228,7 +250,7 @@ module _ {I S T : Type 0} {g : Ghosts I} (told : (ℕ → ℕ → ℕ) → Type 
       let low = come_low holds count t custom cut laws input one.0 e was is one.1 ticks_at all in record {
         tells_so =
             subst (λ (r : Result Ended Stop). RunTells holds count t custom cut ticks_at r e.fates was is) (sym (answer_is ended_so.gathered.ready))
-            (come_tells holds count t custom cut laws input one.0 e was is one.1 some ticks_at low ended_so.kept);
+            (come_tells holds count t custom cut laws input one.0 e was is one.1 ticks_at low ended_so.kept);
         drawn = λ words are had. come_caused holds count t custom cut laws input words e was is (told_words e is came words are) ticks_at low;
       }
 
@@ -281,11 +303,11 @@ module _ {I S T : Type 0} {g : Ghosts I} (told : (ℕ → ℕ → ℕ) → Type 
   books_ok ended_so =
       let took = run_laws.took boxes now_row ended_so.gathered.fit in
       let runs = ended_so.ran.went.runs in
-      let all = words_begin told tells t e0 started runs.goes.given in
+      let all = words_begin told tells t cut e0 started runs.goes.given in
       let outcomes = outcomes_of e.fates in
       let has : HasOutcomes outcomes e.fates = record { rest = []; first = sym (append-nil outcomes) } in
-      let good = good-now told tells t e0 started holds count custom cut run_laws laws steps input keeps some row first was planned ended_so.ran.went.rounds e now_row is runs in
-      let stands = stands-start told tells t e0 started holds count custom cut run_laws laws steps input keeps some row first was planned all.0 outcomes all.1 in
+      let good = good-now told tells t cut e0 started holds count custom run_laws steps input keeps row first was planned ended_so.ran.went.rounds e now_row is runs in
+      let stands = stands-start told tells t cut e0 started holds count custom run_laws steps input keeps row first was planned all.0 outcomes all.1 in
       let later = runs.goes.on all.0 (first_counts t all.0) outcomes all.2 has input keeps good (first_history t all.0) stands in
       run_laws.boxes all.0 (beside_it now_row []) later.history (record { world = shape e; counts = later.now }) now_row later.stands.led later.stands.through took later.stands.heard
 
@@ -295,13 +317,13 @@ module _ {I S T : Type 0} {g : Ghosts I} (told : (ℕ → ℕ → ℕ) → Type 
       let b = ended_so.ran.bad key refl in
       let runs = b.went.runs in
       let drives = b.broken.breaks.drives in
-      let all = words_begin told tells t e0 started (λ s. runs.goes.given s ++ drives.goes.given s) in
+      let all = words_begin told tells t cut e0 started (λ s. runs.goes.given s ++ drives.goes.given s) in
       let parts = gives-parts all.0 (first_counts t all.0) runs.goes.given drives.goes.given all.2 in
       let outcomes = outcomes_of e.fates in
       let has : HasOutcomes outcomes e.fates = record { rest = []; first = sym (append-nil outcomes) } in
-      let good_mid = good-now told tells t e0 started holds count custom cut run_laws laws steps input keeps some row first was planned b.went.rounds b.mid b.mid_row b.between runs in
+      let good_mid = good-now told tells t cut e0 started holds count custom run_laws steps input keeps row first was planned b.went.rounds b.mid b.mid_row b.between runs in
       let good = drives.outcomes (runs.plans ∙ planned) good_mid in
-      let stands = stands-start told tells t e0 started holds count custom cut run_laws laws steps input keeps some row first was planned all.0 outcomes all.1 in
+      let stands = stands-start told tells t cut e0 started holds count custom run_laws steps input keeps row first was planned all.0 outcomes all.1 in
       let later = runs.goes.on all.0 (first_counts t all.0) outcomes parts.0 (first-outcomes outcomes b.mid.fates drives.goes.more e.fates drives.goes.added has) input keeps good (first_history t all.0) stands in
       let reach = b.broken.stood all.0 later.now outcomes (gives-next all.0 (first_counts t all.0) later.now runs.goes.given drives.goes.given later.counted parts.1) has input keeps good later.history later.stands in
       subst (λ (r : List (Pass Mail)). BoxesTell t custom cut r e.fates) (sym b.same)
@@ -329,22 +351,23 @@ module _ {I S T : Type 0} {g : Ghosts I} (told : (ℕ → ℕ → ℕ) → Type 
         let went = ended_so.ran.went in
         let runs = went.runs in
         let ready = ended_so.gathered.ready in
-        let all = words_begin told tells t e0 started runs.goes.given in
+        let all = words_begin told tells t cut e0 started runs.goes.given in
         let outcomes = outcomes_of e.fates in
         let has : HasOutcomes outcomes e.fates = record { rest = []; first = sym (append-nil outcomes) } in
-        let good = good-now told tells t e0 started holds count custom cut run_laws laws steps input keeps some row first was planned went.rounds e now_row is runs in
-        let stands = stands-start told tells t e0 started holds count custom cut run_laws laws steps input keeps some row first was planned all.0 outcomes all.1 in
-        let stood = stood-start told tells t e0 started holds count custom cut run_laws laws steps input keeps some row first was planned went.rounds e now_row is runs all.0 outcomes all.1 all.2 has good in
+        let good = good-now told tells t cut e0 started holds count custom run_laws steps input keeps row first was planned went.rounds e now_row is runs in
+        let stands = stands-start told tells t cut e0 started holds count custom run_laws steps input keeps row first was planned all.0 outcomes all.1 in
+        let stood = stood-start told tells t cut e0 started holds count custom run_laws steps input keeps row first was planned went.rounds e now_row is runs all.0 outcomes all.1 all.2 has good in
         let later = runs.goes.on all.0 (first_counts t all.0) outcomes all.2 has input keeps good (first_history t all.0) stands in
         let k : Known = record { world = shape e; counts = later.now } in
         let done_all = are-done e.fates no_failure in
-        let most = went.few to_come tells_so low can outcomes done_all stood in
+        let most = went.few to_come tells_so low can (open-start told tells t cut e0 started) apart outcomes done_all stood in
         let below = ticks-below e.tick went.rounds (rounds_needed t custom cut) t.buckets ended_so.ran.answers to_come went.ticked went.many (ended_so.ran.asked.first to_come tells_so) most low in
         let lasting = lasts-here t custom cut all.0 outcomes now_row later.history k ended_so.gathered.empty later.stands done_all below in
         let over : is_over t cut (shape e) ≡ true =
         sym (ap (λ (u : Topology). is_over u (cut_in e) (shape e)) ready.seated.of_topology ∙ ap (λ (c : Cut). is_over t c (shape e)) ready.seated.of_cut) ∙ ended_so.over in
         let finished = run_laws.finished all.0 later.history k input can lasting below apart over in
-        answer_is ready ∙ finished-answer t cut (shape e).desk e.fates ready.kept input.valid.attempts.0 finished
+        let none = run_laws.none_aborts all.0 later.history k input can lasting below apart in
+        answer_is ready ∙ finished-answer t cut (shape e).desk (not-exhausted holds count t custom cut laws input (shape e).desk e.fates ready.kept none finished) finished
 
     finishes_by : (done : Result (Unit {0}) CommitFault) → DidEnd done → (txid : ℕ) → end_by done answer_at ≡ Err (stop.Exhausted txid) → ⊥
     finishes_by (Ok ok) ended_so txid out = let all = finished_ok ended_so in cc
@@ -393,12 +416,12 @@ module _ {I S T : Type 0} {g : Ghosts I} (told : (ℕ → ℕ → ℕ) → Type 
 
 -- memory was wanted before anything was done
 pub comes-not-begun : {S : Type 0} (told : (ℕ → ℕ → ℕ) → Type 0) (ticking : List ℕ → Type 0) (holds : S → CellMap → Type 0) (count : S → ℕ) (t : Topology) (custom : Custom) (cut : Cut) (laws : WorldLaws holds count t custom cut) (before : ℕ) (fates : List Attempt) (parts : List (StatePart S))
-    → 0 < cut.size → fates ≡ [] → WorkersCome told ticking holds count t custom cut before before (Err stop.Memory) fates parts parts
-comes-not-begun told ticking holds count t custom cut laws before fates parts some none = record {
+    → IsInput t cut → fates ≡ [] → WorkersCome told ticking holds count t custom cut before before (Err stop.Memory) fates parts parts
+comes-not-begun told ticking holds count t custom cut laws before fates parts input none = record {
   answers = [];
   handed_out = refl;
   asked = λ to_come is. refl;
-  tells = tells_not_begun holds count t custom cut laws (ticks_between before before) fates parts some none;
+  tells = tells_not_begun holds count t custom cut laws (ticks_between before before) fates parts input none;
   drawn = λ words are had. absurd had;
 }
 

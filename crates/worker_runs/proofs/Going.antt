@@ -1,17 +1,18 @@
 -- Engines that go on beside boxes, one piece after another.
-use Rattle.std.proofs.Common.{◌≡◌, ℕ, ◌+◌, List, [], ◌∷◌, ◌++◌, All, length, map, sym, refl, ap, subst, ◌∙◌, append-nil, append_assoc, length-append, arith}
+use Rattle.std.proofs.Common.{◌≡◌, ◌<◌, ℕ, ◌+◌, List, [], ◌∷◌, ◌++◌, All, length, map, sym, refl, ap, subst, ◌∙◌, append-nil, append_assoc, length-append, arith}
 use Rattle.std.specs.List.{range_with_len}
 use Rattle.event_worlds.specs.attempt_fates.declared.fates.Attempt.{Attempt}
-use Rattle.worker_rounds.specs.batch_commits.Standing.{FailuresAreCounted, PartsStand}
+use Rattle.event_worlds.specs.attempt_fates.Fates.{committed_batches}
+use Rattle.worker_rounds.specs.batch_commits.Standing.{FailuresAreCounted}
 use Rattle.event_worlds.specs.bolt_ops.RowOp.{Custom}
 use Rattle.worker_stretches.specs.box_rows.declared.mail.Mail.{Mail}
-use Rattle.event_worlds.specs.commit_order.Orders.{desk_of}
 use Rattle.event_worlds.specs.commit_turns.Outcomes.{IsOutcome}
 use Rattle.worker_stretches.proofs.event_engine.GoesLemmas.{draws-then, gives-parts, outcomes-append}
 use Rattle.worker_stretches.specs.event_engine.declared.engine.Engine.{Engine}
-use Rattle.worker_stretches.specs.event_engine.Engines.{Gives, HasOutcomes, IsStill}
+use Rattle.worker_stretches.specs.event_engine.Engines.{Gives, HasOutcomes, IsStill, shape}
 use Rattle.event_worlds.specs.Worlds.{outcomes_of}
 use Rattle.event_worlds.proofs.output_collector.Sending.{Draws-none}
+use Rattle.worker_rounds.proofs.schedule_core.Drives.{stands-same, stands-then}
 use Rattle.worker_rounds.specs.schedule_core.Laws.{Laws}
 use Rattle.event_worlds.specs.state_parts.declared.answer.CommitOutcome.{CommitOutcome}
 use Rattle.event_worlds.specs.state_parts.declared.parts.StatePart.{StatePart}
@@ -23,6 +24,7 @@ use Rattle.event_worlds.specs.taken_records.Cuts.{Cut}
 use Rattle.worker_rounds.specs.Running.{RunsOn}
 use Rattle.worker_runs.specs.Going.{StoodAt}
 use Rattle.worker_stretches.specs.Standing.{GoesOn}
+use Rattle.worker_stretches.specs.world_progress.Rounding.{IsOpen}
 
 -- what is added to a list that stays as it is
 none_added : {X : Type 0} (xs ys : List X) → xs ≡ xs ++ ys → ys ≡ []
@@ -55,7 +57,8 @@ module _ {I : Type 0} {g : Ghosts I} (tells : I → (ℕ → ℕ) → ℕ → Ty
       now = counts;
       counted = λ s. omega arith;
       stands = stands;
-      rose = λ can all few open_end. omega arith;
+      shut = refl;
+      rose = λ opens can all few open_end. omega arith;
     };
   }
 
@@ -82,9 +85,11 @@ module _ {I : Type 0} {g : Ghosts I} (tells : I → (ℕ → ℕ) → ℕ → Ty
             now = two.now;
             counted = λ s. let x = one.counted s in let y = two.counted s in let len = length-append (first.given s) (second.given s) in omega arith;
             stands = two.stands;
-            rose = λ can all few open_end.
-                let x = one.rose can all (let later = second.ticks in omega arith) (λ over. open_end (second.over over)) in
-                let y = two.rose can all few open_end in omega arith;
+            shut = two.shut ∙ one.shut;
+            rose = λ opens can all few open_end.
+                let opened : 0 < n + m → IsOpen cut (shape a) = opens in
+                let x = one.rose (λ more. opened (omega arith)) can all (let later = second.ticks in omega arith) (λ over. open_end (second.over over)) in
+                let y = two.rose (λ more some. one.shut ∙ opened (omega arith) some) can all few open_end in omega arith;
           };
     }
 
@@ -110,7 +115,7 @@ module _ {I S : Type 0} {g : Ghosts I} (tells : I → (ℕ → ℕ) → ℕ → 
     goes = goes;
     plans = refl;
     outcomes = λ are good. subst (λ (fs : List Attempt). All (IsOutcome t) (outcomes_of fs)) (sym still.fates) good;
-    stands = λ words counts outcomes gives has input keeps good h stood stand. subst (λ (n : ℕ). PartsStand holds t custom cut n parts) (ap (λ c. (desk_of c).committed) (sym still.coordinator)) stand;
+    stands = λ words counts outcomes gives has input keeps good h stood planned. stands-same holds t custom cut old.fates new.fates parts (ap committed_batches still.fates);
     bad = λ key found. found;
     strange = λ key found. found;
     counted = subst (λ (xs : List Attempt). FailuresAreCounted count xs parts parts) (sym (none_added old.fates goes.more (sym still.fates ∙ goes.added))) (laws.counts_none parts);
@@ -127,12 +132,12 @@ module _ {I S : Type 0} {g : Ghosts I} (tells : I → (ℕ → ℕ) → ℕ → 
       goes = goes-on-then tells t custom cut n m a b c row mid now_row first.goes second.goes;
       plans = second.plans ∙ first.plans;
       outcomes = λ are good. second.outcomes (first.plans ∙ are) (first.outcomes are good);
-      stands = λ words counts outcomes gives has input keeps good h stood stand.
+      stands = λ words counts outcomes gives has input keeps good h stood planned.
           let parts = gives-parts words counts first.goes.given second.goes.given gives in
           let has_first = first-outcomes outcomes b.fates second.goes.more c.fates second.goes.added has in
           let one = first.goes.on words counts outcomes parts.0 has_first input keeps good h stood in
-          second.stands words one.now outcomes (gives-next words counts one.now first.goes.given second.goes.given one.counted parts.1) has input keeps good one.history one.stands
-          (first.stands words counts outcomes parts.0 has_first input keeps good h stood stand);
+          stands-then holds t custom cut a.fates b.fates c.fates p q r (first.stands words counts outcomes parts.0 has_first input keeps good h stood planned)
+          (second.stands words one.now outcomes (gives-next words counts one.now first.goes.given second.goes.given one.counted parts.1) has input keeps good one.history one.stands (first.plans ∙ planned));
       bad = λ key found. first.bad key (second.bad key found);
       strange = λ key found. first.strange key (second.strange key found);
       counted = laws.counts_then first.goes.more second.goes.more p q r first.plans first.counted second.counted;

@@ -1,5 +1,5 @@
 -- What stays as it was, or is so still, from one piece of a run to the next.
-use Rattle.std.proofs.Common.{◌≡◌, ◌≤◌, ◌-◌, ◌^◌, ℕ, List, [], ◌∷◌, length, min, refl, sym, ap, subst, ◌∙◌, arith}
+use Rattle.std.proofs.Common.{◌≡◌, ◌-◌, ◌^◌, ℕ, List, [], ◌∷◌, length, min, refl, sym, ap, subst, ◌∙◌}
 use Rattle.std.specs.List.{AllZip}
 use Rattle.event_worlds.specs.attempt_fates.Fates.{IsOnce}
 use Rattle.event_worlds.specs.attempt_fates.declared.fates.Attempt.{Attempt}
@@ -7,6 +7,7 @@ use Rattle.worker_stretches.specs.box_rows.declared.mail.Mail.{Mail}
 use Rattle.worker_stretches.specs.box_rows.FitRows.{IsFitRow}
 use Rattle.event_worlds.specs.commit_order.Orders.{desk_of}
 use Rattle.event_worlds.specs.commit_turns.Turns.{last_tick}
+use Rattle.worker_stretches.proofs.event_engine.FatesLemmas.{kept_once}
 use Rattle.worker_stretches.specs.event_engine.declared.engine.Engine.{Engine}
 use Rattle.worker_stretches.specs.event_engine.Engines.{IsReady, IsStill, cut_in, shape}
 use Rattle.pulse_board.specs.declared.seat.Board.{Board}
@@ -46,21 +47,6 @@ module _ {S : Type 0} (tells : S → CellMap → Type 0) where
   pub kept-then : (a b c : List (StatePart S)) → AreKept tells a b → AreKept tells b c → AreKept tells a c
   kept-then a b c first second = record { plans = second.plans ∙ first.plans; told = told-then a b c first.told second.told }
 
--- ---- fates
-
--- more ticks may have been handed out
-pub once-later : (n size a b : ℕ) (fates : List Attempt) → IsOnce n size a fates → a ≤ b → IsOnce n size b fates
-once-later n size a b fates once later = record {
-  in_order = once.in_order;
-  records_in_order = once.records_in_order;
-  numbered = once.numbered;
-  last_committed = once.last_committed;
-  of_batch = once.of_batch;
-  spans = once.spans;
-  finishes = once.finishes;
-  handed_out = λ k d below. let so = once.handed_out k d below in omega arith;
-}
-
 -- ---- engines
 
 module _ {I : Type 0} {g : Ghosts I} (t : Topology) where
@@ -74,8 +60,7 @@ module _ {I : Type 0} {g : Ghosts I} (t : Topology) where
   -- each batch was committed once at most
   pub ready-once : (cut : Cut) (e new : Engine I g) → IsReady t cut e → IsStill e new → IsOnce cut last_tick new.fates
   ready-once cut e new ready still =
-      subst (λ (fs : List Attempt). IsOnce cut last_tick fs) (sym still.fates)
-      (once-later (length cut.records) cut.size (desk_of e.coordinator).tick last_tick e.fates ready.kept.once ready.ticks)
+      subst (λ (fs : List Attempt). IsOnce cut last_tick fs) (sym still.fates) (kept_once t cut (desk_of e.coordinator) e.fates ready.kept ready.ticks)
 
   -- so it was by a round that met a fault
   pub once-back : (cut : Cut) (mid new : Engine I g) → IsReady t cut mid → IsOnce (cut_in mid) last_tick new.fates → IsOnce cut last_tick new.fates

@@ -1,12 +1,14 @@
 -- Rounds of the caller and stretches, one after another.
 use Rattle.std.proofs.Common.{◌≡◌, ◌<◌, ℕ, ◌+◌, ◌-◌, ◌^◌, false, List, [], ◌∷◌, ◌++◌, length, length-append, drop, min, sum, Result, Ok, Err, refl, sym, ap, subst, ◌∙◌, arith}
-use Rattle.std.specs.Prelude.{OnErr, OnOk}
+use Rattle.std.specs.Prelude.{All, OnErr, OnOk}
+use Rattle.std.specs.List.{AllByRecursion}
 use Rattle.std.specs.Result.{IsErrAnd}
+use Rattle.std.proofs.lemmas.List.Elements.{All-from_recursion, recursion_from_All}
 use Rattle.event_worlds.specs.bolt_ops.RowOp.{Custom}
 use Rattle.worker_stretches.specs.box_rows.declared.mail.Mail.{Mail}
 use Rattle.worker_stretches.specs.event_engine.declared.engine.Engine.{Engine}
 use Rattle.worker_stretches.specs.event_engine.Engines.{IsStill, cut_in, has_ended}
-use Rattle.event_worlds.specs.Rounds.{rounds_needed}
+use Rattle.event_worlds.specs.Rounds.{DoesNotCoincide, rounds_needed}
 use Rattle.pulse_board.specs.declared.seat.Board.{Board}
 use Rattle.pulse_board.specs.declared.seat.BoardSeat.{BoardSeat}
 use Rattle.pulse_board.specs.Seats.{book_of}
@@ -45,6 +47,14 @@ drawn-more tick top drawn later sums n seen ticked rose few = omega arith
 min-more : (tick top a n : ℕ) → tick ≡ min (min a top + n) top → tick ≡ min (a + n) top
 min-more tick top a n is = omega arith
 
+-- what is so of each of two lists is so of each of the first
+All-first : {X : Type 0} (P : X → Type 0) (xs ys : List X) → All P (xs ++ ys) → All P xs
+All-first {X} P xs ys all = All-from_recursion P xs (by xs (recursion_from_All P (xs ++ ys) all))
+  where
+    by : (zs : List X) → AllByRecursion P (zs ++ ys) → AllByRecursion P zs
+    by [] each = tt
+    by (z ∷ zs) each = (each.0, by zs each.1)
+
 short-ok : (X : Type 0) (done : Result (Unit {0}) CommitFault) (error : CommitFault) → IsErrAnd done (λ e. e ≡ error) → OnOk done X
 short-ok X (Ok ok) error exits = absurd exits
 short-ok X (Err e) error exits = tt
@@ -80,7 +90,7 @@ module _ {I S T : Type 0} {g : Ghosts I} (tells : I → (ℕ → ℕ) → ℕ �
       many = refl;
       runs = runs-none tells holds count t custom cut laws e row parts;
       ticked = none;
-      few = λ to_come told low can outcomes all stood. omega arith;
+      few = λ to_come told low can opened apart outcomes all stood. omega arith;
     }
 
     module _ (answers : List ℕ) (old mid : Engine I g) (row mid_row : List (Pass Mail)) (was p : List (StatePart S)) (went : Went tells holds count handed ticking t custom cut before answers old mid row mid_row was p) where
@@ -92,11 +102,12 @@ module _ {I S T : Type 0} {g : Ghosts I} (tells : I → (ℕ → ℕ) → ℕ �
         many = let m = went.many in let l = length-append answers (n ∷ []) in omega arith;
         runs = runs-then tells holds count t custom cut laws went.rounds 1 old mid new row mid_row now_row was p is went.runs next;
         ticked = min-more new.tick (2 ^ 64 - 1) (sum answers) n (ticked ∙ ap (λ (k : ℕ). min (k + n) (2 ^ 64 - 1)) went.ticked) ∙ ap (λ (k : ℕ). min k (2 ^ 64 - 1)) (sym (sum-more answers n));
-        few = λ to_come told low can outcomes all stood.
+        few = λ to_come told low can opened apart outcomes all stood.
             let first = stood-runs tells holds count t custom cut laws went.rounds 1 old mid new row mid_row now_row was p is went.runs next outcomes stood in
-            let most = went.few to_come told low can outcomes all first in
+            let apart_mid = All-first DoesNotCoincide mid.fates next.goes.more (subst (All DoesNotCoincide) next.goes.added apart) in
+            let most = went.few to_come told low can opened apart_mid outcomes all first in
             let below = ticks-below mid.tick went.rounds (rounds_needed t custom cut) t.buckets answers to_come went.ticked went.many (asked.first to_come told) most low in
-            let left = rounds-left tells t custom cut outcomes went.rounds old mid row mid_row went.runs.goes first bounded empty can all below open_still in omega arith;
+            let left = rounds-left tells t custom cut outcomes went.rounds old mid row mid_row went.runs.goes first bounded empty can opened apart_mid all below open_still in omega arith;
       }
 
       -- work that no round is of
@@ -107,9 +118,9 @@ module _ {I S T : Type 0} {g : Ghosts I} (tells : I → (ℕ → ℕ) → ℕ �
             many = let m = went.many in omega arith;
             runs = runs-then tells holds count t custom cut laws went.rounds 0 old mid new row mid_row now_row was p p went.runs next;
             ticked = same ∙ went.ticked;
-            few = λ to_come told low can outcomes all stood.
+            few = λ to_come told low can opened apart outcomes all stood.
                 let first = stood-runs tells holds count t custom cut laws went.rounds 0 old mid new row mid_row now_row was p p went.runs next outcomes stood in
-                let most = went.few to_come told low can outcomes all first in omega arith;
+                let most = went.few to_come told low can opened (subst (All DoesNotCoincide) still.fates apart) outcomes all first in omega arith;
           }
 
   module _ (boxes : List (Mailbox Mail)) (board : Board) where

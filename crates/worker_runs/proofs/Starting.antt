@@ -1,10 +1,10 @@
 -- What stands where a run of workers begins, and what it has come to by words.
-use Rattle.std.proofs.Common.{◌≡◌, ◌<◌, ℕ, zero, suc, ◌+◌, List, [], ◌++◌, All, length, map, None, Some, slice_get, refl, sym, ap, subst, ◌∙◌, append-nil, length-append, arith}
+use Rattle.std.proofs.Common.{◌≡◌, ℕ, zero, suc, ◌+◌, List, [], ◌++◌, All, length, map, None, Some, slice_get, refl, sym, ap, subst, ◌∙◌, append-nil, length-append, arith}
 use Rattle.std.proofs.lemmas.List.Elements.{All-nil}
 use Rattle.std.specs.Prelude.{replicate}
 use Rattle.std.specs.List.{AllByRecursion, range_with_len}
 use Rattle.event_worlds.specs.attempt_fates.declared.fates.Attempt.{Attempt}
-use Rattle.worker_rounds.specs.batch_commits.Standing.{FailuresAreCounted, PartsStand}
+use Rattle.worker_rounds.specs.batch_commits.Standing.{FailuresAreCounted}
 use Rattle.event_worlds.specs.bolt_ops.RowOp.{Custom, IsCustom}
 use Rattle.worker_stretches.specs.box_account.Inboxes.{weigh_acker_inboxes, weigh_inboxes, weigh_task_inboxes}
 use Rattle.worker_stretches.specs.box_rows.declared.mail.Mail.{Mail}
@@ -19,9 +19,10 @@ use Rattle.event_worlds.specs.Accounted.{IsInput}
 use Rattle.event_worlds.specs.Added.{first_history}
 use Rattle.event_worlds.specs.Worlds.{AckerSide, Known, TaskSide, World, first_counts, first_known, first_task, first_world, no_acker, outcomes_of}
 use Rattle.event_worlds.specs.output_collector.Draws.{Draws}
+use Rattle.worker_rounds.proofs.schedule_core.Drives.{stands-then}
 use Rattle.worker_rounds.proofs.schedule_core.Going.{led-beside}
-use Rattle.worker_rounds.specs.schedule_core.Driving.{HasCome, LeadsOn}
-use Rattle.worker_rounds.specs.schedule_core.Laws.{Laws, WorldLaws}
+use Rattle.worker_rounds.specs.schedule_core.Driving.{HasCome, LeadsOn, StandOn}
+use Rattle.worker_rounds.specs.schedule_core.Laws.{Laws}
 use Rattle.event_worlds.specs.state_parts.declared.answer.CommitOutcome.{CommitOutcome}
 use Rattle.event_worlds.specs.state_parts.declared.parts.StatePart.{StatePart}
 use Rattle.event_worlds.specs.state_parts.PartPlans.{AreParts}
@@ -40,6 +41,7 @@ use Rattle.worker_runs.specs.Going.{StoodAt}
 use Rattle.worker_runs.specs.Laws.{RunLaws}
 use Rattle.worker_stretches.specs.Standing.{Stands, beside_it}
 use Rattle.worker_rounds.specs.worker_turns.Carrying.{AreEmpty, IsSwept}
+use Rattle.worker_stretches.specs.world_progress.Rounding.{IsOpen}
 
 -- ---- the first world
 
@@ -52,8 +54,8 @@ no-messages f at zero = refl
 no-messages f at (suc n) = let rest = no-messages f (at + 1) n in omega arith
 
 -- nothing stands in an inbox
-pub no-inboxes : (t : Topology) (words : ℕ → ℕ → ℕ) (f : Packet → ℕ) → weigh_inboxes f (first_world t words) ≡ 0
-no-inboxes t words f = let a = no-tuples t words f 0 0 (tasks_in_all t) in let b = no-messages f 0 t.ackers in omega arith
+pub no-inboxes : (t : Topology) (cut : Cut) (words : ℕ → ℕ → ℕ) (f : Packet → ℕ) → weigh_inboxes f (first_world t cut words) ≡ 0
+no-inboxes t cut words f = let a = no-tuples t words f 0 0 (tasks_in_all t) in let b = no-messages f 0 t.ackers in omega arith
 
 swept-tasks : (t : Topology) (words : ℕ → ℕ → ℕ) (a n : ℕ) → AllByRecursion (λ (side : TaskSide). side.outbox ≡ []) (map (first_task t words) (range_with_len a n))
 swept-tasks t words a zero = tt
@@ -64,37 +66,41 @@ swept-ackers zero = tt
 swept-ackers (suc n) = (refl, swept-ackers n)
 
 -- nothing is to be handed over in it
-pub swept-first : (t : Topology) (words : ℕ → ℕ → ℕ) → IsSwept (first_world t words)
-swept-first t words = record { tasks = swept-tasks t words 0 (tasks_in_all t); ackers = swept-ackers t.ackers; orders = refl }
+pub swept-first : (t : Topology) (cut : Cut) (words : ℕ → ℕ → ℕ) → IsSwept (first_world t cut words)
+swept-first t cut words = record { tasks = swept-tasks t words 0 (tasks_in_all t); ackers = swept-ackers t.ackers; orders = refl }
 
 module _ (t : Topology) (custom : Custom) (cut : Cut) (laws : RunLaws t custom cut) (input : IsInput t cut) (row : List (Pass Mail)) (first : map view_of row ≡ first_views t) where
   -- what stands in it beside the boxes that were made
-  pub stands-first : (words : ℕ → ℕ → ℕ) (outcomes : List CommitOutcome) → Stands t custom cut words outcomes row [] (first_history t words) (first_known t words)
+  pub stands-first : (words : ℕ → ℕ → ℕ) (outcomes : List CommitOutcome) → Stands t custom cut words outcomes row [] (first_history t words) (first_known t cut words)
   stands-first words outcomes =
       let lasting = laws.lasting words input in record {
-        led = led-beside t custom cut words (beside_it row []) (λ f. let e = none-held row (first-empty t row first) f in omega arith) (first_history t words) (first_known t words) lasting.led;
-        through = λ f. let a = none-taken t row first f in let b = no-inboxes t words f in omega arith;
+        led = led-beside t custom cut words (beside_it row []) (λ f. let e = none-held row (first-empty t row first) f in omega arith) (first_history t words) (first_known t cut words) lasting.led;
+        through = λ f. let a = none-taken t row first f in let b = no-inboxes t cut words f in omega arith;
         heard = laws.heard words;
         lasts = λ all few. record { seats = lasting.seats; whole = lasting.whole; fine = lasting.fine };
       }
 
 -- ---- an engine that was started
 
-module _ {I : Type 0} {g : Ghosts I} (told : (ℕ → ℕ → ℕ) → Type 0) (tells : I → (ℕ → ℕ) → ℕ → Type 0) (t : Topology) (e0 : Engine I g) (started : IsStarted told tells t e0) where
+module _ {I : Type 0} {g : Ghosts I} (told : (ℕ → ℕ → ℕ) → Type 0) (tells : I → (ℕ → ℕ) → ℕ → Type 0) (t : Topology) (cut : Cut) (e0 : Engine I g) (started : IsStarted told tells t cut e0) where
   -- it is the first world by some words
-  pub some-first : (words : ℕ → ℕ → ℕ) × (shape e0 ≡ first_world t words)
-  some-first = let all = words_begin told tells t e0 started (λ s. []) in (all.0, started.first all.0 all.1)
+  pub some-first : (words : ℕ → ℕ → ℕ) × (shape e0 ≡ first_world t cut words)
+  some-first = let all = words_begin told tells t cut e0 started (λ s. []) in (all.0, started.first all.0 all.1)
 
   pub swept-start : IsSwept (shape e0)
-  swept-start = let some = some-first in subst IsSwept (sym some.1) (swept-first t some.0)
+  swept-start = let some = some-first in subst IsSwept (sym some.1) (swept-first t cut some.0)
 
   pub no-tick : e0.tick ≡ 0
   no-tick = ap (λ (w : World). w.tick) some-first.1
 
+  -- no partition is shut
+  pub open-start : IsOpen cut (shape e0)
+  open-start = λ some. ap (λ (w : World). w.shut) some-first.1
+
   pub no-fates : e0.fates ≡ []
   no-fates = ap (λ (w : World). w.fates) some-first.1
 
-  module _ {S : Type 0} (holds : S → CellMap → Type 0) (count : S → ℕ) (custom : Custom) (cut : Cut) (run_laws : RunLaws t custom cut) (laws : WorldLaws holds count t custom cut) (steps : Laws count t custom cut) (input : IsInput t cut) (keeps : IsCustom custom) (some : 0 < cut.size)
+  module _ {S : Type 0} (holds : S → CellMap → Type 0) (count : S → ℕ) (custom : Custom) (run_laws : RunLaws t custom cut) (steps : Laws count t custom cut) (input : IsInput t cut) (keeps : IsCustom custom)
       (row : List (Pass Mail)) (first : map view_of row ≡ first_views t) (was : List (StatePart S)) (planned : AreParts t was) where
     no-outcomes : All (IsOutcome t) (outcomes_of e0.fates)
     no-outcomes = subst (λ (fs : List Attempt). All (IsOutcome t) (outcomes_of fs)) (sym no-fates) (All-nil (IsOutcome t))
@@ -141,11 +147,11 @@ module _ {I : Type 0} {g : Ghosts I} (told : (ℕ → ℕ → ℕ) → Type 0) (
 
     -- by some words
     pub came-some : (e : Engine I g) (is : List (StatePart S)) → CameBy e is → (words : ℕ → ℕ → ℕ) × HasCome holds count t custom cut words e was is
-    came-some e is came = let all = words_begin told tells t e0 started came.given in (all.0, (came.by all.0 all.1 all.2).come)
+    came-some e is came = let all = words_begin told tells t cut e0 started came.given in (all.0, (came.by all.0 all.1 all.2).come)
 
     -- and by those that are told
     pub came-told : (e : Engine I g) (is : List (StatePart S)) → CameBy e is → (words : ℕ → ℕ → ℕ) → told words → HasCome holds count t custom cut words e was is
-    came-told e is came words are = (came.by words (started.gives words are) (told_gives told tells t e0 started came.given e came.draws came.none words are)).come
+    came-told e is came words are = (came.by words (started.gives words are) (told_gives told tells t cut e0 started came.given e came.draws came.none words are)).come
 
     -- rounds and stretches came to an engine with empty boxes
     pub came-runs : (n : ℕ) (e : Engine I g) (now_row : List (Pass Mail)) (is : List (StatePart S)) → RunsOn tells holds count t custom cut n e0 e row now_row was is → AreEmpty now_row → CameBy e is
@@ -163,10 +169,9 @@ module _ {I : Type 0} {g : Ghosts I} (told : (ℕ → ℕ → ℕ) → Type 0) (
             come = record {
               counts = later.now;
               led = (later.history, led-here t custom cut words outcomes now_row later.history k empty later.stands);
+              planned = planned;
               plans = runs.plans;
-              stands = λ are.
-                  runs.stands words (first_counts t words) outcomes gives has input keeps good (first_history t words) stands
-                  (subst (λ (n : ℕ). PartsStand holds t custom cut n was) (sym (ap (λ (w : World). w.desk.committed) (started.first words begins))) (laws.begin was some are));
+              stands = subst (λ (fs : List Attempt). StandOn holds t custom cut fs e.fates was is) no-fates (runs.stands words (first_counts t words) outcomes gives has input keeps good (first_history t words) stands planned);
               strange = runs.strange;
               counted = subst (λ (xs : List Attempt). FailuresAreCounted count xs was is) (sym (runs.goes.added ∙ ap (λ (fs : List Attempt). fs ++ runs.goes.more) no-fates)) runs.counted;
             };
@@ -195,8 +200,9 @@ module _ {I : Type 0} {g : Ghosts I} (told : (ℕ → ℕ → ℕ) → Type 0) (
             come = record {
               counts = λ s. at.come.counts s + length (on.given s);
               led = on.led words at.come.counts outcomes gives_on has input keeps good at.come.led;
+              planned = planned;
               plans = on.plans ∙ at.come.plans;
-              stands = λ are. on.stands words at.come.counts outcomes gives_on has input keeps good at.come.led (at.come.stands are);
+              stands = stands-then holds t custom cut [] mid.fates e.fates was q is at.come.stands (on.stands words at.come.counts outcomes gives_on has input keeps good at.come.led (at.come.plans ∙ planned));
               strange = λ key found. at.come.strange key (on.strange key found);
               counted = subst (λ (xs : List Attempt). FailuresAreCounted count xs was is) (sym on.added) (steps.counts_then mid.fates on.more was q is at.come.plans at.come.counted on.counted);
             };

@@ -7,7 +7,7 @@ use Rattle.event_worlds.specs.commit_turns.Outcomes.{IsOutcome}
 use Rattle.worker_stretches.specs.event_engine.declared.engine.Engine.{Engine}
 use Rattle.worker_stretches.specs.event_engine.Engines.{Gives, HasOutcomes, shape}
 use Rattle.event_worlds.specs.Accounted.{IsInput}
-use Rattle.event_worlds.specs.Rounds.{CanFinish, rounds_needed}
+use Rattle.event_worlds.specs.Rounds.{CanFinish, DoesNotCoincide, rounds_needed}
 use Rattle.pulse_board.specs.declared.seat.Board.{Board}
 use Rattle.pulse_board.specs.declared.seat.BoardSeat.{BoardSeat}
 use Rattle.worker_rounds.specs.schedule_core.Driving.{RunsOut}
@@ -30,9 +30,10 @@ use Rattle.worker_runs.specs.WorkerRuns.{DrewEach}
 use Rattle.worker_stretches.specs.Parts.{IsWholeSeat}
 use Rattle.worker_stretches.specs.Standing.{GoesOn, Stands}
 use Rattle.worker_rounds.specs.worker_turns.Carrying.{AreEmpty}
+use Rattle.worker_stretches.specs.world_progress.Rounding.{IsOpen}
 
--- A row of these boxes and a seat at this board have all numbers, and the seat drew a number for each
--- of so many ticks.
+-- A row of these boxes and a seat at this board have all numbers, and the seat drew a number for
+-- each of so many ticks.
 pub record IsAllBack (t : Topology) (boxes : List (Mailbox Mail)) (board : Board)
     (row : List (Pass Mail)) (seat : BoardSeat) (ticks : ℕ) : Type 0 where
   pub row_is : IsFitRow t boxes row
@@ -62,7 +63,8 @@ module _ {I S T : Type 0} {g : Ghosts I} (tells : I → (ℕ → ℕ) → ℕ �
     (t : Topology) (custom : Custom) (cut : Cut) where
   -- A round of the caller for each of these answers of a source of ticks, and stretches between
   -- them, led an engine without a tick to an engine. Where every bolt lets batches through, no
-  -- commit failed and few ticks are to come, there were no more rounds than are needed.
+  -- partition was shut, no ids coincided, no commit failed and few ticks are to come, there were no
+  -- more rounds than are needed.
   pub record Went (before : T) (answers : List ℕ) (old new : Engine I g)
       (row now_row : List (Pass Mail)) (was is : List (StatePart S)) : Type 0 where
     pub rounds : ℕ
@@ -71,6 +73,7 @@ module _ {I S T : Type 0} {g : Ghosts I} (tells : I → (ℕ → ℕ) → ℕ �
     pub ticked : new.tick ≡ min (sum answers) (2 ^ 64 - 1)
     pub few : (to_come : List ℕ) → ticking before to_come
         → sum (first_answers (rounds_needed t custom cut) to_come) < t.buckets → CanFinish t
+        → IsOpen cut (shape old) → All DoesNotCoincide new.fates
         → (outcomes : List CommitOutcome) → All (λ (how : CommitOutcome). how ≡ Done) outcomes
         → StoodAt tells t custom cut outcomes rounds old new row now_row runs.goes
         → rounds ≤ rounds_needed t custom cut

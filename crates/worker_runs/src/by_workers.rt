@@ -77,7 +77,7 @@ where
         Err(_) => return Err(Stop::Memory),
     };
     run_workers(
-        rt, alloc, plan, offers, workers, &mut boxes, &board, &mut seat, ticks, ids, parts,
-        custom, gate, fates,
+        rt, alloc, plan, offers, workers, &mut boxes, &board, &mut seat, ticks, ids, parts, custom,
+        gate, fates,
     )
 }

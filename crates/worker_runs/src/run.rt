@@ -1,4 +1,4 @@
-//! A run of workers over the batches of an input, until all is over.
+//! A run of workers over what a spout offers, until all is over.
 ghost use Rattle.std.specs.Prelude.{◌≡◌, ◌≤◌, ◌<◌, ℕ, List, [], true, All, Err, OnOk, OnErr, length, sum};
 ghost use Rattle.event_worlds.specs.attempt_fates.Fates.{IsOnce};
 ghost use Rattle.worker_rounds.specs.batch_commits.Standing.{failed_commits};
@@ -41,7 +41,9 @@ use worker_rounds::worker_turns::sweep;
 use worker_stretches::box_rows::{Boxes, Posts, Row};
 use worker_stretches::event_engine::Engine;
 use worker_stretches::stretch_once;
-use worker_stretches::world_progress::what_can_be_done_is_bounded;
+use worker_stretches::world_progress::{
+    no_attempt_aborts_with_partitions, what_can_be_done_is_bounded,
+};
 
 // How many of the workers get a task or an acker.
 fn needed(plan: &Plan, workers: u32) -> u32
@@ -162,13 +164,13 @@ fn run_on<
     ensures ran { RanOn I.tells C.tells C.fault_count T.handed_out T.tells posts.now.plan.now
         (O.meaning custom.now) (cut_in engine.old) result engine.old engine.new row.old.items
         row.new.items parts.old parts.new ticks.old ticks.new }
-    ensures once { OnErr result (IsOnce (cut_in engine.old)
-        last_tick engine.new.fates) }
+    ensures once { OnErr result (IsOnce (cut_in engine.old) last_tick engine.new.fates) }
     ensures kept { AreKept C.tells parts.old parts.new }
 {
     // laws: how steps add up, and how much can be done
     laws_of_steps::<C>();
     what_can_be_done_is_bounded();
+    no_attempt_aborts_with_partitions();
     for _ in rt.forever() {
         if engine.is_over() {
             return Ok(());
@@ -197,8 +199,8 @@ fn run_on<
     unreachable!()
 }
 
-/// Runs a plan over the batches of an input by so many workers on threads, until every batch is
-/// committed or all attempts of one ended without a commit.
+/// Runs a plan over what a spout offers from a start on by so many workers on threads, until no
+/// record is left uncommitted or as many attempts of a transaction aborted as the plan allows.
 ///
 /// Before each turn of the coordinator it asks once how many ticks passed, and the board is raised
 /// by the answer. Every tuple, note and verdict goes through the boxes. Nothing says that it ends.

@@ -41,7 +41,7 @@ use Rattle.event_worlds.specs.storm_values.declared.value.Root.{Root}
 use Rattle.event_worlds.specs.tree_model.declared.messages.AckMsg.{AckMsg}
 use Rattle.event_worlds.specs.tree_model.declared.messages.Parcel.{Parcel}
 use Rattle.event_worlds.specs.taken_records.Cuts.{Cut}
-use Rattle.event_worlds.specs.tuple_account.Histories.{History, Opening, Packet, drawn_in, joined}
+use Rattle.event_worlds.specs.tuple_account.Histories.{History, Packet, drawn_in, joined}
 use Rattle.event_worlds.specs.tuple_account.Moves.{HasDrawn, Moves, Station, beside}
 use Rattle.event_worlds.specs.tuple_account.Parts.{weigh_entries}
 use Rattle.event_worlds.specs.tuple_account.Places.{before}
@@ -52,7 +52,7 @@ use Rattle.worker_pool.specs.declared.desk.TaskDesk.{TaskDesk}
 use Rattle.worker_pool.specs.Desks.{given_at, source_at}
 use Rattle.worker_stretches.specs.Leads.{Leads, SeatsDid}
 use Rattle.worker_stretches.specs.Places.{AreAllSeats, IsAckerAt, IsSilent, IsTaskAt, ZipFrom, desk_number}
-use Rattle.world_progress.specs.Lasting.{IsNumbered, IsSeat}
+use Rattle.world_progress.specs.Lasting.{IsSeat}
 use Rattle.box_account.specs.Inboxes.{weigh_acker_inboxes, weigh_task_inboxes}
 use Rattle.box_account.proofs.Hearing.{heard_later}
 use Rattle.worker_stretches.specs.Standing.{GoesOn, IsInTime, IsLasting, Later, beside_it}
@@ -386,7 +386,7 @@ module _ {I : Type 0} {g : Ghosts I} (tells : I → (ℕ → ℕ) → ℕ → Ty
 
       -- nothing was lost
       lasting-after : (first : Book) → IsValid t → IsInTime old.tick first → book.drawn ≡ first.drawn → Tells book → old.tick < t.buckets
-          → IsLasting t cut h (shape old) → IsLasting t cut (joined h worked.history) after_world
+          → IsLasting t h (shape old) → IsLasting t (joined h worked.history) after_world
       lasting-after first valid in_time drew tells_all short lasting =
           let few = saw-few t old.tick first book valid in_time drew tells_all short in
           let seats : SeatsFrom t old.tick 0 old.ackers.items = (λ n. subst (λ (m : ℕ). IsSeat t m old.tick (get_or (map acker_side old.ackers.items) n no_acker)) (let e : n ≡ 0 + n = omega arith in e) (lasting.seats n)) in
@@ -398,8 +398,6 @@ module _ {I : Type 0} {g : Ghosts I} (tells : I → (ℕ → ℕ) → ℕ → Ty
             seats = λ n. subst (λ (m : ℕ). IsSeat t m old.tick (get_or (map acker_side others) n no_acker)) (let e : 0 + n ≡ n = omega arith in e) (young n);
             whole = (λ i. lasting.whole i ++ lasts.1 i);
             fine = lasting.fine;
-            numbers = λ some. subst (AllByRecursion (IsNumbered cut))
-                (sym (ap (λ (os : List Opening). h.begun ++ os) worked.inside.begun ∙ append-nil h.begun)) (lasting.numbers some);
           }
 
     pub leads-after : StretchLaw t custom cut → Leads tells t custom cut old new was.waits is.waits

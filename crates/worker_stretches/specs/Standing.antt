@@ -1,6 +1,6 @@
 -- An engine beside boxes, between stretches: what led to it, where all is that was taken from the
 -- boxes, and that nothing was lost. This project's own.
-use Rattle.std.specs.Prelude.{◌≡◌, ◌≤◌, ◌<◌, ◌^◌, ℕ, ◌+◌, ◌-◌, min, true, List, [], ◌∷◌, ◌++◌, All, length, Some, None, slice_get}
+use Rattle.std.specs.Prelude.{◌≡◌, ◌≤◌, ◌<◌, ◌^◌, ℕ, ◌+◌, ◌-◌, min, true, List, [], ◌++◌, All, length, Some, None, slice_get}
 use Rattle.std.specs.List.{AllByRecursion}
 use Rattle.event_worlds.specs.attempt_fates.declared.fates.Attempt.{Attempt}
 use Rattle.event_worlds.specs.bolt_ops.RowOp.{Custom, IsCustom}
@@ -26,7 +26,7 @@ use Rattle.event_worlds.specs.tree_model.declared.messages.Parcel.{Parcel}
 use Rattle.event_worlds.specs.taken_records.Cuts.{Cut}
 use Rattle.event_worlds.specs.tuple_account.Histories.{History, weigh_parcels}
 use Rattle.world_progress.specs.Doing.{done}
-use Rattle.world_progress.specs.Lasting.{AreSeats, IsFine, IsNumbered}
+use Rattle.world_progress.specs.Lasting.{AreSeats, IsFine}
 use Rattle.world_progress.specs.Rounding.{IsOpen}
 use Rattle.worker_stretches.specs.Teams.{Waiting}
 
@@ -39,11 +39,10 @@ beside_it row left f = held_in row f + weigh_parcels f left
 -- ---- what stands
 
 -- nothing was lost: entries are young, none was dropped, and no commit failed
-pub record IsLasting (t : Topology) (cut : Cut) (h : History) (w : World) : Type 0 where
+pub record IsLasting (t : Topology) (h : History) (w : World) : Type 0 where
   pub seats : AreSeats t w
   pub whole : h.dropped ≡ []
   pub fine : AllByRecursion IsFine w.fates
-  pub numbers : 0 < cut.partitions → AllByRecursion (IsNumbered cut) h.begun
 
 -- A history led to a world and to what waits beside it. All that was taken from boxes was executed,
 -- met or heard, or stands in an inbox, and a verdict was heard before a commit failed. Where no
@@ -55,7 +54,7 @@ pub record Stands (t : Topology) (custom : Custom) (cut : Cut) (words : ℕ → 
   pub through : GoesThrough row h k.world
   pub heard : HeardBeforeFailing h k.world.fates
   pub lasts : All (λ (how : CommitOutcome). how ≡ Done) outcomes → k.world.tick < t.buckets
-      → IsLasting t cut h k.world
+      → IsLasting t h k.world
 
 -- a seat at the board drew a number for each tick, up to 2^64 - 1
 abbrev pub IsInTime : ℕ → Book → Type 0

@@ -1,7 +1,6 @@
 -- Parcels that are handed over as runs, in their order.
-use Rattle.std.proofs.Common.{◌≡◌, ◌<◌, ℕ, ◌+◌, List, [], ◌∷◌, ◌++◌, length, append_assoc, sym, ap, subst, ◌∙◌}
+use Rattle.std.proofs.Common.{◌≡◌, ◌<◌, ℕ, List, [], ◌∷◌, ◌++◌, length, append_assoc, sym, ap, subst, ◌∙◌}
 use Rattle.std.specs.List.{AllByRecursion}
-use Rattle.worker_stretches.specs.box_rows.declared.mail.Mail.TheVariants as mail
 use Rattle.worker_stretches.specs.box_rows.Mails.{IsRunFor, box_of, most_in_run}
 use Rattle.event_worlds.specs.Orderly.{FitsParcel}
 use Rattle.event_worlds.specs.topology_plan.Topology.{Topology}

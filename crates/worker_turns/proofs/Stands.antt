@@ -77,13 +77,8 @@ module _ (t : Topology) (old new : World) (same : IsRearranged old new) where
         young = subst (λ (m : ℕ). AreYoung t n m (acker_at n new).entries) (sym c) (subst (AreYoung t n (acker_at n old).counted) (sym e) (seats n).young);
       }
 
-  lasting-arranged : (cut : Cut) (h : History) → IsLasting t cut h old → IsLasting t cut h new
-  lasting-arranged cut h lasts = record {
-    seats = seats-arranged lasts.seats;
-    whole = lasts.whole;
-    fine = subst (AllByRecursion IsFine) (sym same.fates) lasts.fine;
-    numbers = lasts.numbers;
-  }
+  lasting-arranged : (h : History) → IsLasting t h old → IsLasting t h new
+  lasting-arranged h lasts = record { seats = seats-arranged lasts.seats; whole = lasts.whole; fine = subst (AllByRecursion IsFine) (sym same.fates) lasts.fine }
 
   module _ (custom : Custom) (cut : Cut) (words : ℕ → ℕ → ℕ) (counts : ℕ → ℕ) (before after : Waiting) (h : History) (orderly : IsOrderly t new)
       (moved : (f : Packet → ℕ) → after f + waits_in new f ≡ before f + waits_in old f) where
@@ -129,7 +124,7 @@ stands-carried t custom cut words outcomes counts old new was is h orderly carri
   led = led-arranged t old new carries.arranged custom cut words counts (beside_it was []) (beside_it is []) h orderly (λ f. let w = carries.waits f in omega arith) stands.led;
   through = λ f. let a = stands.through f in let b = carries.through f in omega arith;
   heard = subst (λ (fs : List Attempt). HeardBeforeFailing h fs) (sym carries.arranged.fates) stands.heard;
-  lasts = λ all few. lasting-arranged t old new carries.arranged cut h (stands.lasts all (let k = carries.arranged.tick in omega arith));
+  lasts = λ all few. lasting-arranged t old new carries.arranged h (stands.lasts all (let k = carries.arranged.tick in omega arith));
 }
 
 -- no less was done

@@ -3,11 +3,12 @@ use Rattle.event_worlds.specs.attempt_fates.Fates.{IsOnce}
 use Rattle.event_worlds.specs.commit_turns.Turns.{last_tick}
 use Rattle.worker_stretches.specs.event_engine.Engines.{cut_in}
 use Rattle.pulse_board.specs.Seats.{book_of}
+use Rattle.schedule_core.proofs.Drives.{wants-still}
 use Rattle.event_worlds.specs.state_parts.declared.answer.CommitFault.TheVariants as fault
 use Rattle.event_worlds.specs.taken_records.Cuts.{Cut}
 use Rattle.event_worlds.specs.Rounds.{round_with}
 use Rattle.worker_rounds.proofs.Calling.{handed-on, in-time, kept-none, on-err, once-still, parts-there, ready-after, ready-closed, ready-own, rests-opened}
-use Rattle.worker_rounds.proofs.Driving.{breaks-round, broken-round, drives-round, wants-closed, wants-still, wants-swept}
+use Rattle.worker_rounds.proofs.Driving.{breaks-round, broken-round, drives-round, wants-closed, wants-swept}
 use Rattle.worker_rounds.proofs.Going.{runs-quiet, runs-then}
 use Rattle.worker_rounds.proofs.Rounds.{runs-round, ticked}
 use Rattle.worker_rounds.proofs.round.caller_round.Goals as goal

@@ -3,6 +3,7 @@ use Rattle.worker_stretches.specs.box_rows.AllRows.{Row}
 use Rattle.worker_stretches.specs.box_rows.FitRows.{IsFitRow}
 use Rattle.worker_stretches.specs.event_engine.Engines.{cut_in, has_ended}
 use Rattle.event_worlds.specs.state_parts.declared.answer.CommitFault.TheVariants as fault
+use Rattle.worker_runs.proofs.Few.{bounded-by}
 use Rattle.worker_runs.proofs.Keeping.{gathered-own, kept-then, once-back, ready-back, ready-once}
 use Rattle.worker_runs.proofs.Looping.{err-told, handed-on, no-key, no-key-ok, on-err, parts-now, turned-bad, turned-drew, turned-over, turned-short, turning-none, turning-round, turning-still}
 use Rattle.worker_runs.proofs.run.run_on.Goals as goal
@@ -44,7 +45,7 @@ loop-preserved g c =
     let round = c.in_ok-caller_round.ensures in
     let open_still : has_ended c.loop.engine ≡ false = sym c.is_over.ensures ∙ c.if-is_over.false in
     let next = turning-round g.I.Ids.tells g.C.CellStore.tells g.C.CellStore.fault_count g.T.Ticks.handed_out g.T.Ticks.tells t custom cut boxes board laws e0 row was before c.loop.engine c.loop.row.items c.loop.seat c.loop.parts c.loop.ticks c.loop.invariant
-    c.passed-passed.result c.passed-passed.new.self asked.counted asked.told asked.tells_the_rest (c.what_can_be_done_is_bounded.ensures t custom cut) open_still b c.caller_round.new.row.items c.caller_round.new.seat c.caller_round.new.parts round.gathered round.ticked round.runs c.caller_round.ensures.kept in
+    c.passed-passed.result c.passed-passed.new.self asked.counted asked.told asked.tells_the_rest (bounded-by t custom cut (c.what_can_be_done_is_bounded.ensures t custom cut) (c.no_attempt_aborts_with_partitions.ensures t custom cut)) open_still b c.caller_round.new.row.items c.caller_round.new.seat c.caller_round.new.parts round.gathered round.ticked round.runs c.caller_round.ensures.kept in
     turning-still g.I.Ids.tells g.C.CellStore.tells g.C.CellStore.fault_count g.T.Ticks.handed_out g.T.Ticks.tells t custom cut boxes board laws e0 row was before b c.caller_round.new.row.items c.caller_round.new.seat c.caller_round.new.parts c.passed-passed.new.self next
     c.work_unless.new.engine c.work_unless.new.row.items c.work_unless.new.seat c.in_ok-work_unless.ensures.gathered c.in_ok-work_unless.ensures.ticks c.work_unless.ensures.still c.in_ok-work_unless.ensures.goes
 
@@ -117,7 +118,7 @@ returns-in_err-work_unless-clause-ran g c =
     let round = c.in_ok-caller_round.ensures in
     let open_still : has_ended c.loop.engine ≡ false = sym c.is_over.ensures ∙ c.if-is_over.false in
     let next = turning-round g.I.Ids.tells g.C.CellStore.tells g.C.CellStore.fault_count g.T.Ticks.handed_out g.T.Ticks.tells t custom cut boxes board laws e0 row was before c.loop.engine c.loop.row.items c.loop.seat c.loop.parts c.loop.ticks c.loop.invariant
-    c.passed-passed.result c.passed-passed.new.self asked.counted asked.told asked.tells_the_rest (c.what_can_be_done_is_bounded.ensures t custom cut) open_still b c.caller_round.new.row.items c.caller_round.new.seat c.caller_round.new.parts round.gathered round.ticked round.runs c.caller_round.ensures.kept in
+    c.passed-passed.result c.passed-passed.new.self asked.counted asked.told asked.tells_the_rest (bounded-by t custom cut (c.what_can_be_done_is_bounded.ensures t custom cut) (c.no_attempt_aborts_with_partitions.ensures t custom cut)) open_still b c.caller_round.new.row.items c.caller_round.new.seat c.caller_round.new.parts round.gathered round.ticked round.runs c.caller_round.ensures.kept in
     let exits = c.from_residual-in_err-work_unless in
     turned-short g.I.Ids.tells g.C.CellStore.tells g.C.CellStore.fault_count g.T.Ticks.handed_out g.T.Ticks.tells t custom cut boxes board laws e0 row was before b c.caller_round.new.row.items c.caller_round.new.seat c.caller_round.new.parts c.passed-passed.new.self next
     exits.result _ c.work_unless.new.engine c.work_unless.new.row.items exits.ensures.1 refl c.work_unless.ensures.still

@@ -1,6 +1,6 @@
 use Rattle.std.proofs.Common.{Ok}
 use Rattle.worker_stretches.specs.event_engine.Engines.{cut_in}
-use Rattle.worker_runs.proofs.Beginning.{ended-here, gathered-first, some-size}
+use Rattle.worker_runs.proofs.Beginning.{ended-here, gathered-first}
 use Rattle.worker_runs.proofs.Ending.{comes-not-begun, ends, stopped-end, whole-end}
 use Rattle.worker_runs.proofs.Starting.{no-tick}
 use Rattle.worker_runs.proofs.run.run_workers.Goals as goal
@@ -11,7 +11,7 @@ run_on-done-requires-clause-gathered g c = λ lives bounds.
     c.in-Ok.ensures.ready c.in-Ok.ensures.idle c.in-Ok.ensures.started c.requires.boxes c.requires.seat
 
 pub run_on-done-requires-clause-no_tick : goal.run_on-done-requires-clause-no_tick
-run_on-done-requires-clause-no_tick g c = λ lives bounds. no-tick (g.N.IdMaker.tells c.args.ids.now) g.N.I.Ids.tells c.args.plan.now c.in-Ok.engine c.in-Ok.ensures.started
+run_on-done-requires-clause-no_tick g c = λ lives bounds. no-tick (g.N.IdMaker.tells c.args.ids.now) g.N.I.Ids.tells c.args.plan.now c.args.offers c.in-Ok.engine c.in-Ok.ensures.started
 
 pub returns-in-Err : goal.returns-in-Err
 returns-in-Err g c =
@@ -19,7 +19,7 @@ returns-in-Err g c =
     let custom = g.O.RowOp.meaning c.args.custom.now in
     let cut = c.args.offers in
     record {
-      comes = comes-not-begun (g.N.IdMaker.tells c.args.ids.now) (g.T.Ticks.tells c.args.ticks.now) g.C.CellStore.tells g.C.CellStore.fault_count t custom cut (c.laws_of_runs.ensures t custom cut) (g.T.Ticks.handed_out c.args.ticks.now) c.args.fates.now c.args.parts.now (some-size t cut c.requires.input) c.requires.empty;
+      comes = comes-not-begun (g.N.IdMaker.tells c.args.ids.now) (g.T.Ticks.tells c.args.ticks.now) g.C.CellStore.tells g.C.CellStore.fault_count t custom cut (c.laws_of_runs.ensures t custom cut) (g.T.Ticks.handed_out c.args.ticks.now) c.args.fates.now c.args.parts.now c.requires.input c.requires.empty;
       finishes = λ to_come tells can apart none low. tt;
       row = λ had. absurd had;
       books = λ had. absurd had;
@@ -37,7 +37,7 @@ returns-in_err-end_run g c =
     let e0 = c.in-Ok.engine in
     let so = ended-here g.N.I.Ids.tells g.C.CellStore.tells g.C.CellStore.fault_count g.T.Ticks.handed_out g.T.Ticks.tells custom boxes.posts.boxes.items c.args.board.now c.args.ticks.now run.new.ticks e0 boxes.row.items c.args.parts.now run.result run.new.engine run.new.row.items run.new.seat run.new.parts
     boxes.posts.plan.now t (cut_in e0) cut c.requires.boxes.plan c.in-Ok.ensures.ready.seated.of_cut (record { ran = run.ensures.ran; gathered = run.ensures.gathered; over = run.ensures.over; bad = run.ensures.bad; once = run.ensures.once; kept = run.ensures.kept }) in
-    let all = ends (g.N.IdMaker.tells c.args.ids.now) g.N.I.Ids.tells g.C.CellStore.tells g.C.CellStore.fault_count g.T.Ticks.handed_out g.T.Ticks.tells t custom cut (c.laws_of_workers.ensures t custom cut) (c.laws_of_runs.ensures t custom cut) (c.laws_of_steps.ensures t custom cut) c.requires.input (g.O.RowOp.keeps c.args.custom.now) (some-size t cut c.requires.input)
+    let all = ends (g.N.IdMaker.tells c.args.ids.now) g.N.I.Ids.tells g.C.CellStore.tells g.C.CellStore.fault_count g.T.Ticks.handed_out g.T.Ticks.tells t custom cut (c.laws_of_workers.ensures t custom cut) (c.laws_of_runs.ensures t custom cut) (c.laws_of_steps.ensures t custom cut) c.requires.input (g.O.RowOp.keeps c.args.custom.now)
     boxes.posts.boxes.items c.args.board.now e0 c.in-Ok.ensures.started boxes.row.items c.requires.boxes.first c.args.parts.now c.requires.parts c.args.ticks.now run.new.ticks run.new.engine run.new.row.items run.new.seat run.new.parts
     run.result so c.from_residual.result (stopped-end c.end_run.result _ c.from_residual.result _ c.from_residual.ensures.1 c.end_run.ensures.answer c.in_err-end_run.was) c.end_run.new.fates c.end_run.ensures.fates in
     record { comes = all.comes; finishes = all.finishes; row = all.row_is; books = all.books; seat = all.seat_is; ticked = all.ticked }
@@ -52,7 +52,7 @@ returns g c =
     let e0 = c.in-Ok.engine in
     let so = ended-here g.N.I.Ids.tells g.C.CellStore.tells g.C.CellStore.fault_count g.T.Ticks.handed_out g.T.Ticks.tells custom boxes.posts.boxes.items c.args.board.now c.args.ticks.now run.new.ticks e0 boxes.row.items c.args.parts.now run.result run.new.engine run.new.row.items run.new.seat run.new.parts
     boxes.posts.plan.now t (cut_in e0) cut c.requires.boxes.plan c.in-Ok.ensures.ready.seated.of_cut (record { ran = run.ensures.ran; gathered = run.ensures.gathered; over = run.ensures.over; bad = run.ensures.bad; once = run.ensures.once; kept = run.ensures.kept }) in
-    let all = ends (g.N.IdMaker.tells c.args.ids.now) g.N.I.Ids.tells g.C.CellStore.tells g.C.CellStore.fault_count g.T.Ticks.handed_out g.T.Ticks.tells t custom cut (c.laws_of_workers.ensures t custom cut) (c.laws_of_runs.ensures t custom cut) (c.laws_of_steps.ensures t custom cut) c.requires.input (g.O.RowOp.keeps c.args.custom.now) (some-size t cut c.requires.input)
+    let all = ends (g.N.IdMaker.tells c.args.ids.now) g.N.I.Ids.tells g.C.CellStore.tells g.C.CellStore.fault_count g.T.Ticks.handed_out g.T.Ticks.tells t custom cut (c.laws_of_workers.ensures t custom cut) (c.laws_of_runs.ensures t custom cut) (c.laws_of_steps.ensures t custom cut) c.requires.input (g.O.RowOp.keeps c.args.custom.now)
     boxes.posts.boxes.items c.args.board.now e0 c.in-Ok.ensures.started boxes.row.items c.requires.boxes.first c.args.parts.now c.requires.parts c.args.ticks.now run.new.ticks run.new.engine run.new.row.items run.new.seat run.new.parts
     run.result so (Ok tt) (whole-end run.result run.new.engine c.end_run.result _ run.ensures.over c.end_run.ensures.answer c.in_ok-end_run.was) c.end_run.new.fates c.end_run.ensures.fates in
     record { comes = all.comes; finishes = all.finishes; row = all.row_is; books = all.books; seat = all.seat_is; ticked = all.ticked }
