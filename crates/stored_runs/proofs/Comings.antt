@@ -1,19 +1,22 @@
 -- What a run over the stores of a maker comes to, from what it came to over parts.
-use Rattle.std.proofs.Common.{◌≡◌, ◌≤◌, ◌<◌, ◌+◌, ◌-◌, ◌^◌, inl, inr, ℕ, List, All, IfOk, OnErr, length, sum, Result, Ok, Err, refl, sym, ap, subst, ◌∙◌, arith}
+use Rattle.std.proofs.Common.{◌≡◌, ◌≤◌, ◌<◌, ◌+◌, ◌-◌, ◌^◌, ◌++◌, inl, inr, ℕ, List, [], All, IfOk, OnErr, length, sum, Result, Ok, Err, refl, sym, ap, subst, ◌∙◌, arith}
 use Rattle.std.specs.List.{AllZip}
-use Rattle.std.proofs.lemmas.List.FromFn.{length-range_with_len}
 use Rattle.event_worlds.specs.attempt_fates.declared.fates.Attempt.{Attempt}
-use Rattle.event_worlds.specs.attempt_fates.Fates.{IsWhole}
-use Rattle.batch_commits.specs.Standing.{FailsAtOneOf, FailuresAreCounted, PartsStand, batches_in, failed_commits}
+use Rattle.event_worlds.specs.attempt_fates.Fates.{IsOnce, IsWhole, committed_batches}
+use Rattle.batch_commits.specs.Standing.{FailsAtOneOf, FailuresAreCounted, HoldAll, PartsStand, failed_commits}
 use Rattle.event_worlds.specs.bolt_ops.RowOp.{Custom, IsCustom}
 use Rattle.event_worlds.specs.commit_order.declared.stop.Stop.{Stop}
 use Rattle.event_worlds.specs.commit_order.declared.stop.Stop.TheVariants as stop
+use Rattle.event_worlds.specs.commit_turns.Turns.{last_tick}
 use Rattle.event_worlds.specs.Accounted.{AreCaused, IsInput}
 use Rattle.event_worlds.specs.Rounds.{HasRounds, rounds_needed, ticks_in}
 use Rattle.event_worlds.specs.Worlds.{Step}
 use Rattle.schedule_core.specs.declared.ended.Ended.{Ended}
 use Rattle.schedule_core.specs.declared.ended.Ended.TheVariants as ended
-use Rattle.schedule_core.specs.Runs.{Answers, HasRoundsOf, RoundsCome, RunTells, committed_count, ended as ended_of, first_answers}
+use Rattle.event_worlds.proofs.taken_records.Taking.{times_append}
+use Rattle.event_worlds.specs.record_spans.declared.span.Span.{Span}
+use Rattle.schedule_core.specs.Driving.{AreBefore}
+use Rattle.schedule_core.specs.Runs.{Answers, HasRoundsOf, IsFirst, RoundsCome, RunTells, ended as ended_of, first_answers}
 use Rattle.schedule_core.specs.Schedules.{HadMemory, IsAnswer, IsOfWorld}
 use Rattle.event_worlds.specs.state_parts.Commits.{SameCounts}
 use Rattle.event_worlds.specs.state_parts.declared.parts.StatePart.{StatePart}
@@ -22,30 +25,54 @@ use Rattle.event_worlds.specs.state_parts.PartPlans.{plans_of}
 use Rattle.event_worlds.specs.state_parts.PartTables.{IsTableOver}
 use Rattle.stored_runs.proofs.Faults.{counted_broken, counted_fault, counted_quiet, fail_at_parts}
 use Rattle.stored_runs.proofs.Finished.{given_all, not_raised, rounds_all}
-use Rattle.stored_runs.proofs.Lent.{Lent, are_empty, came_back, had_strange, maps_stand, not_strange}
+use Rattle.stored_runs.proofs.Lent.{Lent, are_empty, came_back, had_strange, maps_stand, not_strange, parts_stood}
 use Rattle.stored_runs.specs.Closing.{Closes}
 use Rattle.stored_runs.specs.declared.ending.RunEnd.{RunEnd}
 use Rattle.stored_runs.specs.declared.ending.RunEnd.TheVariants as end
 use Rattle.stored_runs.specs.Laws.{PartLaws, WorldLaws}
-use Rattle.stored_runs.specs.Makers.{BeganEmpty, CameBack, FaultsAreCounted, FaultsBeforeBadCell, MapsStand, maker_use}
-use Rattle.stored_runs.specs.StoredRuns.{EndComes, FaultsCome, IsAll, IsEndOfWorld, IsRun, IsRunByRounds, IsRunOfWorld, NothingIsInTheWay, StandsWithoutMemory}
+use Rattle.stored_runs.specs.Makers.{BeganEmpty, CameBack, FaultsAreCounted, FaultsBeforeBadCell, MapsStood, maker_use}
+use Rattle.stored_runs.specs.StoredRuns.{AreTablesOfCommits, EndComes, FaultsCome, IsAll, IsEndOfWorld, IsRun, IsRunByRounds, IsRunOfWorld, NothingIsInTheWay, StandAtCommits, StandsWithoutMemory}
 use Rattle.storm_stores.specs.CellMaps.{CellMap}
 use Rattle.event_worlds.specs.topology_plan.Topology.{Topology}
 use Rattle.event_worlds.specs.tree_model.declared.write.Table.{Table}
-use Rattle.event_worlds.specs.tree_model.Tables.{AreTables, states_of}
-use Rattle.event_worlds.specs.tree_model.Trees.{writes}
+use Rattle.event_worlds.specs.tree_model.Tables.{states_of}
 use Rattle.event_worlds.specs.taken_records.Cuts.{Cut}
+use Rattle.event_worlds.specs.taken_records.Taken.{one_if}
 use Rattle.worker_runs.specs.WorkerRuns.{NothingRanOut}
+use Rattle.world_progress.specs.Rounding.{ShutsNone}
 
--- batches of an input have a size
-some_size : (t : Topology) (cut : Cut) → IsInput t cut → 0 < cut.size
-some_size t cut input = subst (λ (n : ℕ). 0 < n) (sym input.size) input.valid.batch.0
+-- the batches of a whole run hold all records, with those before the start
+hold_later : (cut : Cut) (ticks : ℕ) (fates : List Attempt) (before : List (List Span))
+    → AreBefore cut before → IsWhole cut ticks fates
+    → HoldAll cut (before ++ committed_batches fates)
+hold_later cut ticks fates before are whole n first last =
+    let all = whole.all_records n first last in
+    let gone = are.gone n first last in
+    let both = times_append before (committed_batches fates) n in omega (arith, all, gone, both)
 
--- a whole run committed as many batches as there are
-all_committed : (cut : Cut) (ticks : ℕ) (fates : List Attempt)
-    → IsWhole cut ticks fates → committed_count fates ≡ batches_in cut
-all_committed cut ticks fates whole =
-    ap length whole.all_committed ∙ length-range_with_len 1 (batches_in cut)
+hold_first : (cut : Cut) (ticks : ℕ) (fates : List Attempt) → IsFirst cut → IsWhole cut ticks fates
+    → HoldAll cut (committed_batches fates)
+hold_first cut ticks fates is whole n first last =
+    let all = whole.all_records n first last in
+    let none = ap one_if (is.none_gone n first last) in omega (arith, all, none)
+
+-- where no run was begun no batch was committed
+pub once_at_first : (t : Topology) (custom : Custom) (cut : Cut) → WorldLaws t custom cut
+    → IsInput t cut → (fates : List Attempt) → fates ≡ [] → IsOnce cut last_tick fates
+once_at_first t custom cut laws input fates none =
+    let once = (laws.first (λ s j. 0) input).1.kept.once in
+    subst (IsOnce cut last_tick) (sym none)
+    record {
+      in_order = once.in_order;
+      numbered = once.numbered;
+      last_committed = once.last_committed;
+      batches = once.batches;
+      apart = once.apart;
+      fronts = once.fronts;
+      rises = once.rises;
+      finishes = once.finishes;
+      handed_out = tt;
+    }
 
 -- all stores that were lent came back
 pub all_back : {S M : Type 0} {tells : S → CellMap → Type 0} {count : S → ℕ}
@@ -114,28 +141,39 @@ module _ {S M : Type 0} {tells : S → CellMap → Type 0} {count : S → ℕ}
     whole_by is =
         subst (λ (r : Result Ended Stop). Answers t cut ticks fates r) is run.told_so.answers
 
-    stands_by : BeganEmpty t (maker_use tells count holds made faults old new)
-        → PartsStand tells t custom cut (committed_count fates) ran
-    stands_by empty =
-        run.told_so.stands
+    stands_later : (before : List (List Span)) → AreBefore cut before
+        → MapsStood t custom cut before (maker_use tells count holds made faults old new)
+        → PartsStand tells t custom cut (before ++ committed_batches fates) ran
+    stands_later before are stood =
+        run.told_so.stands before are
+        (parts_stood tells count holds made faults t old new custom cut before parts lent.planned
+        lent.began stood)
+
+    stands_first : IsFirst cut → BeganEmpty t (maker_use tells count holds made faults old new)
+        → PartsStand tells t custom cut (committed_batches fates) ran
+    stands_first first empty =
+        run.told_so.stands_first first
         (are_empty tells count holds made faults t old new parts lent.planned lent.began empty)
 
     tables_by : (tables : List Table) → answer ≡ Ok ended.All
         → AllZip (IsTableOver tells ran) (states_of t custom) tables
-        → BeganEmpty t (maker_use tells count holds made faults old new)
-        → AreTables t custom (writes t custom cut.records) tables
-    tables_by tables is read empty =
-        laws.tables ran tables input.wired (some_size t cut input)
-        (lent.kept.plans ∙ lent.planned)
-        (subst (λ (n : ℕ). PartsStand tells t custom cut n ran)
-        (all_committed cut ticks fates (whole_by is))
-        (stands_by empty))
-        read
+        → AreTablesOfCommits t custom cut (maker_use tells count holds made faults old new) fates
+        tables
+    tables_by tables is read = record {
+      later = λ before are stood.
+          laws.tables (before ++ committed_batches fates) ran tables input.wired
+          (lent.kept.plans ∙ lent.planned)
+          (hold_later cut ticks fates before are (whole_by is)) (stands_later before are stood) read;
+      first = λ first empty.
+          laws.tables (committed_batches fates) ran tables input.wired
+          (lent.kept.plans ∙ lent.planned) (hold_first cut ticks fates first (whole_by is))
+          (stands_first first empty) read;
+    }
 
     end_comes : (ending : RunEnd) → ClosesAs ending
         → EndComes t custom cut ticks (maker_use tells count holds made faults old new) fates ending
     end_comes (end.All tables) closes =
-        (whole_by closes.0, λ empty. tables_by tables closes.0 (closes.1 custom) empty)
+        (whole_by closes.0, tables_by tables closes.0 (closes.1 custom))
     end_comes (end.Exhausted txid) closes =
         subst (λ (r : Result Ended Stop). Answers t cut ticks fates r) closes run.told_so.answers
     end_comes (end.Unfinished k) closes =
@@ -201,12 +239,17 @@ module _ {S M : Type 0} {tells : S → CellMap → Type 0} {count : S → ℕ}
     -- ---- the run
 
     -- whatever was answered, maps stand where parts do
-    stands_at : BeganEmpty t (maker_use tells count holds made faults old new)
-        → MapsStand t custom cut (committed_count fates)
-        (maker_use tells count holds made faults old new)
-    stands_at empty =
-        maps_stand tells count holds made faults t old mid new custom cut (committed_count fates)
-        parts ran closed lent (stands_by empty)
+    stands_at : StandAtCommits t custom cut (maker_use tells count holds made faults old new) fates
+    stands_at = record {
+      later = λ before are stood.
+          maps_stand tells count holds made faults t old mid new custom cut
+          (before ++ committed_batches fates) parts ran closed lent
+          (laws.hold_known (before ++ committed_batches fates)) (stands_later before are stood);
+      first = λ first empty.
+          maps_stand tells count holds made faults t old mid new custom cut
+          (committed_batches fates) parts ran closed lent
+          (laws.hold_known (committed_batches fates)) (stands_first first empty);
+    }
 
     run_at : (ending : RunEnd) → ClosesAs ending → Quiet ending
         → IsRun told t custom cut ticks (maker_use tells count holds made faults old new) fates
@@ -221,6 +264,7 @@ module _ {S M : Type 0} {tells : S → CellMap → Type 0} {count : S → ℕ}
             by_told = λ words are. run.drawn words are ok;
           };
           failed_in_turn = run.told_so.failed_in_turn ok;
+          drops = run.told_so.drops ok;
           counted = counted_by ending closes quiet;
           stands = stands_at;
         }
@@ -385,24 +429,26 @@ module _ {S M : Type 0} {tells : S → CellMap → Type 0} {count : S → ℕ}
             → ((r ≡ Ok end.StoreFault → ⊥) → SameCounts count ran closed)
             → NothingIsInTheWay t (maker_use tells count holds made faults old new) fates
             → HasRounds t (rounds_needed t custom cut) steps → ticks_in steps < t.buckets
-            → IfOk r IsAll
-        given_finishes worlds keeps r closes quiet free rounds few =
+            → (0 < t.partitions → All ShutsNone steps) → IfOk r IsAll
+        given_finishes worlds keeps r closes quiet free rounds few opened =
             all_by r closes quiet free
             (λ ok none.
             let of_world = world.by_some ok in
             given_all t custom cut worlds input keeps free.can_finish of_world.0 fates none
-            free.no_coincidence steps answer of_world.1 rounds few)
+            free.no_coincidence steps answer of_world.1 rounds few
+            (λ some. opened (subst (λ (n : ℕ). 0 < n) input.partitions some)))
 
         -- so does a run of rounds, with few ticks in the first of them
         pub rounds_finish : WorldLaws t custom cut → IsCustom custom
             → (done : Result (Unit {0}) Stop) → answer ≡ ended_of done → (answers to_come : List ℕ)
-            → HasRoundsOf t answers steps → answers ≡ first_answers (length answers) to_come
+            → HasRoundsOf t answers steps → All ShutsNone steps
+            → answers ≡ first_answers (length answers) to_come
             → (r : Result RunEnd E) → Closes tells count t answer ran closed r
             → ((r ≡ Ok end.StoreFault → ⊥) → SameCounts count ran closed)
             → NothingIsInTheWay t (maker_use tells count holds made faults old new) fates
             → sum (first_answers (rounds_needed t custom cut) to_come) < t.buckets
             → IfOk r IsAll
-        rounds_finish worlds keeps done is answers to_come has are r closes quiet free few =
+        rounds_finish worlds keeps done is answers to_come has opened are r closes quiet free few =
             all_by r closes quiet free
             (λ ok none.
             let of_world = world.by_some ok in
@@ -411,7 +457,7 @@ module _ {S M : Type 0} {tells : S → CellMap → Type 0} {count : S → ℕ}
             free.no_coincidence steps answers to_come done
             (subst (λ (s : Result Ended Stop). IsOfWorld t custom cut of_world.0 steps s fates) is
             of_world.1)
-            has are few)
+            has opened are few)
 
 -- nothing is left open where rounds go on until all is over
 pub none_left : {S E : Type 0} (tells : S → CellMap → Type 0) (count : S → ℕ) (t : Topology)

@@ -1,17 +1,17 @@
 -- Where nothing is lost a run of enough rounds answers that every batch is committed.
-use Rattle.std.proofs.Common.{◌≡◌, ◌≤◌, ◌<◌, ◌-◌, ◌^◌, ◌⊎◌, ◌==◌, inl, inr, ℕ, zero, suc, Bool, true, false, cond, List, [], ◌∷◌, ◌++◌, All, length, map, filter, sum, Option, None, Some, is_some, Result, Ok, Err, refl, sym, ap, subst, ◌∙◌, arith, eqb-true}
+use Rattle.std.proofs.Common.{◌≡◌, ◌≤◌, ◌<◌, ◌-◌, ◌^◌, ◌⊎◌, ◌==◌, ◌&&◌, inl, inr, ℕ, zero, suc, Bool, true, false, cond, List, [], ◌∷◌, ◌++◌, All, length, filter, sum, Option, None, Some, is_some, Result, Ok, Err, refl, sym, ap, subst, ◌∙◌, arith, eqb-true, true≢false}
 use Rattle.std.specs.List.{AllByRecursion, cons_option}
 use Rattle.std.proofs.lemmas.Bool.{cases_lt}
 use Rattle.std.proofs.lemmas.List.Elements.{All-from_recursion, All-weaker, recursion_from_All}
 use Rattle.event_worlds.specs.attempt_fates.declared.fates.Attempt.{Attempt}
 use Rattle.event_worlds.specs.attempt_fates.declared.fates.End.{End}
 use Rattle.event_worlds.specs.attempt_fates.declared.fates.End.TheVariants as end
-use Rattle.event_worlds.specs.attempt_fates.Fates.{IsOfBatch, attempt_numbers}
-use Rattle.batch_commits.specs.Standing.{failed_commits}
+use Rattle.event_worlds.specs.attempt_fates.Fates.{HasBatch, aborts_of, is_abort, is_failed_commit}
+use Rattle.batch_commits.specs.Standing.{batches_in, failed_commits}
 use Rattle.event_worlds.specs.bolt_ops.RowOp.{Custom, IsCustom}
 use Rattle.event_worlds.specs.commit_order.declared.stop.Stop.{Stop}
 use Rattle.event_worlds.specs.commit_turns.Desks.{Desk}
-use Rattle.event_worlds.specs.commit_turns.Kept.{IsKept, is_failed_commit}
+use Rattle.event_worlds.specs.commit_turns.Kept.{IsKept}
 use Rattle.event_worlds.specs.commit_turns.Outcomes.{IsOutcome}
 use Rattle.event_worlds.specs.commit_turns.Turns.{is_finished}
 use Rattle.event_worlds.proofs.counted_items.Each.{each-front}
@@ -29,7 +29,9 @@ use Rattle.event_worlds.specs.storm_values.Counts.{Rose}
 use Rattle.stored_runs.proofs.Prefixes.{Front, front_of, grows-run, over-finished, run-both, run-over, sum_of_first}
 use Rattle.stored_runs.specs.Laws.{WorldLaws}
 use Rattle.event_worlds.specs.topology_plan.Topology.{Topology}
-use Rattle.event_worlds.specs.trident_batches.Batches.{Cut, batch_count}
+use Rattle.event_worlds.specs.taken_records.Cuts.{Cut, IsStart}
+use Rattle.world_progress.specs.Lasting.{NoneAborted}
+use Rattle.world_progress.specs.Rounding.{ShutsNone}
 
 -- ---- no commit failed
 
@@ -62,6 +64,7 @@ done_each (a ∷ fates) none = by (λ few. done_each fates few) a.end none
     by rest end.TimedOut few = rest few
     by rest (end.Coincided list) few = rest few
     by rest (end.CommitFailed c p before after) few = absurd (omega arith)
+    by rest (end.Dropped root) few = rest few
 
 -- where no commit failed all outcomes are done
 are_done : (fates : List Attempt) → failed_commits fates ≡ 0
@@ -72,44 +75,73 @@ are_done fates none =
 
 -- ---- no transaction ran out of attempts
 
--- a transaction with an attempt is of a batch that is there
-of_batch : (n size txid : ℕ) (fates : List Attempt) → AllByRecursion (IsOfBatch n size) fates
-    → 1 ≤ length (attempt_numbers txid fates) → txid ≤ batch_count n size
-of_batch n size txid [] each some = absurd (omega arith)
-of_batch n size txid (a ∷ fates) each some =
-    by (of_batch n size txid fates each.1) (a.root.txid == txid) refl some
+-- where no attempt aborts none of a transaction does
+no_abort : (txid : ℕ) (fates : List Attempt)
+    → AllByRecursion (λ (a : Attempt). is_abort a.end ≡ false) fates → aborts_of txid fates ≡ 0
+no_abort txid [] none = refl
+no_abort txid (a ∷ fates) none =
+    by (a.root.txid == txid) (is_abort a.end) none.0 ∙ no_abort txid fates none.1
   where
-    by : (1 ≤ length (attempt_numbers txid fates) → txid ≤ batch_count n size) → (b : Bool)
+    by : (b c : Bool) → c ≡ false
+        → length
+        (cond (b && c) (a ∷ filter (λ (x : Attempt). (x.root.txid == txid) && is_abort x.end) fates)
+        (filter (λ (x : Attempt). (x.root.txid == txid) && is_abort x.end) fates))
+        ≡ aborts_of txid fates
+    by true true is = absurd (true≢false is)
+    by true false is = refl
+    by false c is = refl
+
+-- without partitions a transaction of which an attempt aborted is that of a batch that is there
+of_batch : (cut : Cut) (txid : ℕ) (fates : List Attempt) → cut.partitions ≡ 0
+    → AllByRecursion (λ (a : Attempt). HasBatch cut a.root.txid a.spans) fates
+    → 1 ≤ aborts_of txid fates → txid ≤ batches_in cut
+of_batch cut txid [] none each some = absurd (omega (arith, some))
+of_batch cut txid (a ∷ fates) none each some =
+    by (of_batch cut txid fates none each.1) (a.root.txid == txid) (is_abort a.end) refl some
+  where
+    by : (1 ≤ aborts_of txid fates → txid ≤ batches_in cut) → (b c : Bool)
         → (a.root.txid == txid) ≡ b
         → 1 ≤ length
-        (map (λ (x : Attempt). x.root.attempt)
-        (cond b (a ∷ filter (λ (x : Attempt). x.root.txid == txid) fates)
-        (filter (λ (x : Attempt). x.root.txid == txid) fates)))
-        → txid ≤ batch_count n size
-    by rest true is more =
-        let same : a.root.txid ≡ txid = eqb-true a.root.txid txid is in
-        let there = each.0.is_there.1 in omega arith
-    by rest false is more = rest more
+        (cond (b && c) (a ∷ filter (λ (x : Attempt). (x.root.txid == txid) && is_abort x.end) fates)
+        (filter (λ (x : Attempt). (x.root.txid == txid) && is_abort x.end) fates))
+        → txid ≤ batches_in cut
+    by rest true true is more =
+        subst (λ (n : ℕ). n ≤ batches_in cut) (eqb-true a.root.txid txid is)
+        (each.0.numbered none).0
+    by rest true false is more = rest more
+    by rest false c is more = rest more
 
--- where every batch is committed no transaction ran out of attempts
-not_exhausted : (t : Topology) (cut : Cut) (d : Desk) (fates : List Attempt) → IsKept t cut d fates
+-- where no record is left uncommitted no transaction ran out of attempts
+not_exhausted : (t : Topology) (custom : Custom) (cut : Cut) (d : Desk) (fates : List Attempt)
+    → WorldLaws t custom cut → IsStart cut → IsKept t cut d fates → NoneAborted cut fates
     → 1 ≤ t.attempts → is_finished t cut d ≡ true → (txid : ℕ) → d.exhausted ≡ Some txid → ⊥
-not_exhausted t cut d fates kept some done txid is =
-    let out = kept.ran_out txid is in
-    let all : d.committed ≡ batch_count (length cut.records) cut.size =
-    eqb-true d.committed (batch_count (length cut.records) cut.size) done in
-    let many = out.0 in
-    let few = out.1 in
-    let there = of_batch (length cut.records) cut.size txid fates
-    (recursion_from_All (IsOfBatch (length cut.records) cut.size) fates kept.once.of_batch)
-    (omega arith) in omega arith
+not_exhausted t custom cut d fates laws start kept none_abort some done txid is =
+    by (cases_lt 0 cut.partitions)
+  where
+    out : (aborts_of txid fates ≡ t.attempts) × (d.committed < txid)
+    out = kept.ran_out txid is
+
+    by : (0 < cut.partitions) ⊎ (cut.partitions ≤ 0) → ⊥
+    by (inl more) =
+        let all = out.0 in
+        let none = no_abort txid fates
+        (recursion_from_All (λ (a : Attempt). is_abort a.end ≡ false) fates (none_abort more)) in
+        omega (arith, all, none, some)
+    by (inr fewer) =
+        let none : cut.partitions ≡ 0 = omega (arith, fewer) in
+        let last : d.committed ≡ batches_in cut = (laws.at_last_batch d fates start kept none).0 done in
+        let all = out.0 in
+        let there = of_batch cut txid fates none kept.once.batches (omega (arith, all, some)) in
+        let few = out.1 in omega (arith, last, there, few)
 
 -- so it answers that all is committed
-finished_answer : (t : Topology) (cut : Cut) (w : World) → IsKept t cut w.desk w.fates
-    → 1 ≤ t.attempts → is_finished t cut w.desk ≡ true → answer_of t cut w ≡ Ok ended.All
-finished_answer t cut w kept some done =
+finished_answer : (t : Topology) (custom : Custom) (cut : Cut) (w : World)
+    → WorldLaws t custom cut → IsStart cut → IsKept t cut w.desk w.fates
+    → NoneAborted cut w.fates → 1 ≤ t.attempts → is_finished t cut w.desk ≡ true
+    → answer_of t cut w ≡ Ok ended.All
+finished_answer t custom cut w laws start kept none_abort some done =
     by w.desk.exhausted (is_finished t cut w.desk)
-    (not_exhausted t cut w.desk w.fates kept some done) done
+    (not_exhausted t custom cut w.desk w.fates laws start kept none_abort some done) done
   where
     by : (o : Option ℕ) (b : Bool) → ((txid : ℕ) → o ≡ Some txid → ⊥) → b ≡ true
         → answer_by o b w.desk.committed ≡ Ok ended.All
@@ -138,7 +170,7 @@ module _ (t : Topology) (custom : Custom) (cut : Cut) (laws : WorldLaws t custom
     (fates : List Attempt) (no_failure : failed_commits fates ≡ 0)
     (apart : All DoesNotCoincide fates) where
   abbrev after : List Step → Known
-  after steps = run t custom cut words (outcomes_of fates) steps (first_known t words)
+  after steps = run t custom cut words (outcomes_of fates) steps (first_known t cut words)
 
   good : All (IsOutcome t) (outcomes_of fates)
   good =
@@ -147,35 +179,42 @@ module _ (t : Topology) (custom : Custom) (cut : Cut) (laws : WorldLaws t custom
 
   kept_after : (steps : List Step) → IsKept t cut (after steps).world.desk (after steps).world.fates
   kept_after steps =
-      (laws.led words (outcomes_of fates) steps (first_known t words) input keeps good
+      (laws.led words (outcomes_of fates) steps (first_known t cut words) input keeps good
       (laws.first words input)).1.kept
 
   -- the answer where the world after these steps has committed all
   from_finished : (steps : List Step) (answer : Result Ended Stop)
       → IsOfWorld t custom cut words steps answer fates
+      → NoneAborted cut (after steps).world.fates
       → is_finished t cut (after steps).world.desk ≡ true → answer ≡ Ok ended.All
-  from_finished steps answer is done =
+  from_finished steps answer is none_abort done =
       is.answer_is
-      ∙ finished_answer t cut (after steps).world (kept_after steps) input.valid.attempts.0 done
+      ∙ finished_answer t custom cut (after steps).world laws input.start (kept_after steps)
+      none_abort input.valid.attempts.0 done
 
   -- a schedule with enough rounds
   pub given_all : (steps : List Step) (answer : Result Ended Stop)
       → IsOfWorld t custom cut words steps answer fates
       → HasRounds t (rounds_needed t custom cut) steps → ticks_in steps < t.buckets
-      → answer ≡ Ok ended.All
-  given_all steps answer is rounds few =
+      → (0 < cut.partitions → All ShutsNone steps) → answer ≡ Ok ended.All
+  given_all steps answer is rounds few opened =
       from_finished steps answer is
+      (laws.none_abort words (outcomes_of fates) steps input keeps can (are_done fates no_failure)
+      few (subst (All DoesNotCoincide) is.fates_are apart))
       (laws.rounds words (outcomes_of fates) steps input keeps can (are_done fates no_failure)
-      (subst (All DoesNotCoincide) is.fates_are apart) rounds few)
+      (subst (All DoesNotCoincide) is.fates_are apart) rounds few opened)
 
   -- a run of rounds of which the first are enough
   pub rounds_all : (steps : List Step) (answers to_come : List ℕ) (done : Result (Unit {0}) Stop)
       → IsOfWorld t custom cut words steps (ended_of done) fates → HasRoundsOf t answers steps
-      → answers ≡ first_answers (length answers) to_come
+      → All ShutsNone steps → answers ≡ first_answers (length answers) to_come
       → sum (first_answers (rounds_needed t custom cut) to_come) < t.buckets
       → ended_of done ≡ Ok ended.All
-  rounds_all steps answers to_come done is has are few =
+  rounds_all steps answers to_come done is has opened are few =
       from_finished steps (ended_of done) is
+      (subst (λ (k : Known). NoneAborted cut k.world.fates) (sym same)
+      (laws.none_abort words (outcomes_of fates) f.front input keeps can
+      (are_done fates no_failure) few_ticks first_apart))
       (subst (λ (k : Known). is_finished t cut k.world.desk ≡ true) (sym same) finished)
     where
       f : Front t (rounds_needed t custom cut) answers steps
@@ -188,12 +227,12 @@ module _ (t : Topology) (custom : Custom) (cut : Cut) (laws : WorldLaws t custom
       longer : after (f.front ++ f.rest) ≡ after steps
       longer =
           ap after (sym f.same)
-          ∙ run-both t custom cut words (outcomes_of fates) steps f.more (first_known t words)
+          ∙ run-both t custom cut words (outcomes_of fates) steps f.more (first_known t cut words)
           ∙ run-over t custom cut words (outcomes_of fates) f.more (after steps) over
 
       split : after (f.front ++ f.rest)
           ≡ run t custom cut words (outcomes_of fates) f.rest (after f.front)
-      split = run-both t custom cut words (outcomes_of fates) f.front f.rest (first_known t words)
+      split = run-both t custom cut words (outcomes_of fates) f.front f.rest (first_known t cut words)
 
       first_apart : All DoesNotCoincide (after f.front).world.fates
       first_apart =
@@ -206,12 +245,17 @@ module _ (t : Topology) (custom : Custom) (cut : Cut) (laws : WorldLaws t custom
           (recursion_from_All DoesNotCoincide ((after f.front).world.fates ++ grows.more)
           (subst (All DoesNotCoincide) (sym all) apart)))
 
+      few_ticks : ticks_in f.front < t.buckets
+      few_ticks =
+          let sums = sum_of_first to_come answers (rounds_needed t custom cut) are in
+          let own = f.ticks in omega arith
+
       finished : is_finished t cut (after f.front).world.desk ≡ true
       finished =
           laws.rounds words (outcomes_of fates) f.front input keeps can
-          (are_done fates no_failure) first_apart f.rounds
-          (let sums = sum_of_first to_come answers (rounds_needed t custom cut) are in
-          let own = f.ticks in omega arith)
+          (are_done fates no_failure) first_apart f.rounds few_ticks
+          (λ some. All-from_recursion ShutsNone f.front
+          (f.shut_none (recursion_from_All ShutsNone steps opened)))
 
       same : after steps ≡ after f.front
       same =

@@ -1,14 +1,14 @@
 -- What is known of a maker by the parts over its stores: before a run, and when they came back.
-use Rattle.std.proofs.Common.{◌≡◌, ◌≤◌, ◌+◌, ◌⊎◌, inl, inr, Result, Ok, Err, OnErr, ℕ, zero, suc, List, [], ◌∷◌, All, map, Option, None, Some, IsSome, slice_get, rules, refl, sym, ap, subst, ◌∙◌, arith}
+use Rattle.std.proofs.Common.{◌≡◌, ◌≤◌, ◌⊎◌, inl, inr, Result, Ok, Err, OnErr, ℕ, zero, suc, List, [], ◌∷◌, All, length, map, Option, None, Some, IsSome, slice_get, rules, refl, sym, ap, subst, ◌∙◌, append-nil, arith}
 use Rattle.std.specs.List.{AllByRecursion, AllZip}
-use Rattle.std.proofs.lemmas.Bool.{cases_eq}
 use Rattle.std.proofs.lemmas.List.Elements.{All-from_recursion, All-weaker, recursion_from_All}
-use Rattle.batch_commits.specs.Standing.{HasStrangeAt, IsStrange, PartsStand, batches_in, writes_at, writes_to}
+use Rattle.batch_commits.specs.Standing.{HasStrangeAt, HoldAll, IsNextBatch, IsStrange, PartsStand, writes_at, writes_of}
 use Rattle.event_worlds.specs.tree_model.Tables.{folded}
 use Rattle.event_worlds.specs.bolt_ops.RowOp.{Custom}
 use Rattle.cell_format.proofs.CommitLemmas.{Stands-none}
 use Rattle.cell_format.specs.Standing.{Stands}
 use Rattle.event_worlds.proofs.counted_items.Each.{each-map, each-to_map}
+use Rattle.event_worlds.specs.record_spans.declared.span.Span.{Span}
 use Rattle.schedule_core.specs.Driving.{AreKept, StillTells}
 use Rattle.event_worlds.specs.state_parts.Commits.{SameCounts}
 use Rattle.event_worlds.specs.state_parts.declared.parts.StatePart.{StatePart}
@@ -16,7 +16,8 @@ use Rattle.event_worlds.specs.state_parts.Makers.{AreMade, Began, CameBack as Pa
 use Rattle.event_worlds.specs.state_parts.PartPlans.{AreParts, IsOneOf, PartPlan, plan_of, planned_parts, plans_of}
 use Rattle.event_worlds.specs.state_parts.PartTables.{AreRead, IsRead}
 use Rattle.event_worlds.specs.state_parts.Standing.{IsEmpty, PartIsAt, PartStands}
-use Rattle.stored_runs.specs.Makers.{BeganEmpty, CameBack, HadStrangeAt, MapsStand, StandsAt, StillTold, maker_use, writes_of_part}
+use Rattle.stored_runs.specs.Makers.{AllStandAt, BeganEmpty, CameBack, HadStrangeAt, MapsStand, MapsStood, StandsAt, StillTold, maker_use, writes_of_part}
+use Rattle.stored_runs.specs.StoredRuns.{StandAtCommits}
 use Rattle.storm_stores.specs.CellMaps.{CellMap, cell_at}
 use Rattle.event_worlds.specs.storm_values.Counts.{raised_by}
 use Rattle.event_worlds.specs.topology_plan.declared.parts.Kind.{Kind}
@@ -140,6 +141,68 @@ module _ {S M : Type 0} (tells : S → CellMap → Type 0) (count : S → ℕ)
       (from_planned (λ (part : PartPlan). holds old part.component part.part []) t parts planned
       empty))
 
+  module _ (custom : Custom) (cut : Cut) (batches : List (List Span)) (spans : List Span) where
+    one_stood : (x : StatePart S) → Began tells holds old x
+        → StandsAt t custom cut batches spans (holds old) (plan_of x)
+        → PartStands tells t custom (length batches) (writes_of t custom cut batches)
+        (writes_at t custom cut spans) x
+    one_stood x began at =
+        record { cells = at.cells; told = began at.cells at.told; stands = at.stands }
+
+    one_was : HoldAll cut batches → (x : StatePart S) → Began tells holds old x
+        → StandsAt t custom cut batches spans (holds old) (plan_of x)
+        → PartIsAt tells t custom (length batches) (writes_of t custom cut batches)
+        (writes_at t custom cut spans) x
+    one_was all x began at = record {
+      cells = at.cells;
+      told = began at.cells at.told;
+      stands = at.stands;
+      within = at.within all;
+    }
+
+    stood_each : (xs : List (StatePart S)) → AllByRecursion (Began tells holds old) xs
+        → AllByRecursion
+        (λ (x : StatePart S). StandsAt t custom cut batches spans (holds old) (plan_of x)) xs
+        → AllByRecursion
+        (PartStands tells t custom (length batches) (writes_of t custom cut batches)
+        (writes_at t custom cut spans)) xs
+    stood_each [] began at = tt
+    stood_each (x ∷ xs) began at = (one_stood x began.0 at.0, stood_each xs began.1 at.1)
+
+    was_each : HoldAll cut batches → (xs : List (StatePart S))
+        → AllByRecursion (Began tells holds old) xs
+        → AllByRecursion
+        (λ (x : StatePart S). StandsAt t custom cut batches spans (holds old) (plan_of x)) xs
+        → AllByRecursion
+        (PartIsAt tells t custom (length batches) (writes_of t custom cut batches)
+        (writes_at t custom cut spans)) xs
+    was_each all [] began at = tt
+    was_each all (x ∷ xs) began at = (one_was all x began.0 at.0, was_each all xs began.1 at.1)
+
+  -- parts that were made of what the maker held stand where its maps stood
+  pub parts_stood : (custom : Custom) (cut : Cut) (batches : List (List Span))
+      (parts : List (StatePart S)) → AreParts t parts → All (Began tells holds old) parts
+      → MapsStood t custom cut batches (maker_use tells count holds made faults old new)
+      → PartsStand tells t custom cut batches parts
+  parts_stood custom cut batches parts planned began stood = record {
+    stand = λ spans next.
+        All-from_recursion
+        (PartStands tells t custom (length batches) (writes_of t custom cut batches)
+        (writes_at t custom cut spans)) parts
+        (stood_each custom cut batches spans parts
+        (recursion_from_All (Began tells holds old) parts began)
+        (from_planned (StandsAt t custom cut batches spans (holds old)) t parts planned
+        (stood spans next)));
+    at_end = λ all spans next.
+        All-from_recursion
+        (PartIsAt tells t custom (length batches) (writes_of t custom cut batches)
+        (writes_at t custom cut spans)) parts
+        (was_each custom cut batches spans all parts
+        (recursion_from_All (Began tells holds old) parts began)
+        (from_planned (StandsAt t custom cut batches spans (holds old)) t parts planned
+        (stood spans next)));
+  }
+
   -- a part with a strange cell had it where it was made of what the maker held
   pub had_strange : (parts : List (StatePart S)) (key : List ℕ) → AreParts t parts
       → All (Began tells holds old) parts → HasStrangeAt tells parts key
@@ -218,83 +281,89 @@ module _ {S M : Type 0} (tells : S → CellMap → Type 0) (count : S → ℕ)
     never_falls = let up = lent.never_falls in let same = lent.same_count in omega arith;
   }
 
-  module _ (custom : Custom) (cut : Cut) (n : ℕ) where
-    one_stands : (y z : StatePart S) → plan_of z ≡ plan_of y
-        → PartStands tells t custom n (writes_to t custom cut n) (writes_at t custom cut (n + 1)) y
-        → IsRead tells count y z → PartCameBack tells holds new z → (n ≡ batches_in cut → ⊥)
-        → StandsAt t custom cut n (holds new) (plan_of y)
-    one_stands y z plan at read back fewer = record {
-      cells = at.cells;
-      told = subst (λ (part : PartPlan). holds new part.component part.part at.cells) plan
-          (back at.cells (read.same at.cells at.told));
-      stands = at.stands;
-      within = λ all. absurd (fewer all);
-    }
+  module _ (custom : Custom) (cut : Cut) (batches : List (List Span)) where
+    module _ (spans : List Span) where
+      abbrev StandsThere : StatePart S → Type 0
+      StandsThere =
+          PartStands tells t custom (length batches) (writes_of t custom cut batches)
+          (writes_at t custom cut spans)
 
-    one_ends : (y z : StatePart S) → plan_of z ≡ plan_of y
-        → PartIsAt tells t custom n (writes_to t custom cut n) (writes_at t custom cut (n + 1)) y
-        → IsRead tells count y z → PartCameBack tells holds new z
-        → StandsAt t custom cut n (holds new) (plan_of y)
-    one_ends y z plan at read back = record {
-      cells = at.cells;
-      told = subst (λ (part : PartPlan). holds new part.component part.part at.cells) plan
-          (back at.cells (read.same at.cells at.told));
-      stands = at.stands;
-      within = λ all. at.within;
-    }
+      abbrev IsThere : StatePart S → Type 0
+      IsThere =
+          PartIsAt tells t custom (length batches) (writes_of t custom cut batches)
+          (writes_at t custom cut spans)
 
-    stand_each : (ys zs : List (StatePart S)) → plans_of zs ≡ plans_of ys
-        → AllByRecursion
-        (PartStands tells t custom n (writes_to t custom cut n) (writes_at t custom cut (n + 1))) ys
-        → AllZip (IsRead tells count) ys zs → AllByRecursion (PartCameBack tells holds new) zs
-        → (n ≡ batches_in cut → ⊥)
-        → AllByRecursion (λ (y : StatePart S). StandsAt t custom cut n (holds new) (plan_of y)) ys
-    stand_each [] zs same at read back fewer = tt
-    stand_each (y ∷ ys) [] same at read back fewer = absurd read
-    stand_each (y ∷ ys) (z ∷ zs) same at read back fewer =
-        let plan : plan_of z ≡ plan_of y = cc in
-        let plans : plans_of zs ≡ plans_of ys = cc in (
-          one_stands y z plan at.0 read.0 back.0 fewer,
-          stand_each ys zs plans at.1 read.1 back.1 fewer,
-        )
+      abbrev ComesThere : StatePart S → Type 0
+      ComesThere y = StandsAt t custom cut batches spans (holds new) (plan_of y)
 
-    end_each : (ys zs : List (StatePart S)) → plans_of zs ≡ plans_of ys
-        → AllByRecursion
-        (PartIsAt tells t custom n (writes_to t custom cut n) (writes_at t custom cut (n + 1))) ys
-        → AllZip (IsRead tells count) ys zs → AllByRecursion (PartCameBack tells holds new) zs
-        → AllByRecursion (λ (y : StatePart S). StandsAt t custom cut n (holds new) (plan_of y)) ys
-    end_each [] zs same at read back = tt
-    end_each (y ∷ ys) [] same at read back = absurd read
-    end_each (y ∷ ys) (z ∷ zs) same at read back =
-        let plan : plan_of z ≡ plan_of y = cc in
-        let plans : plans_of zs ≡ plans_of ys = cc in
-        (one_ends y z plan at.0 read.0 back.0, end_each ys zs plans at.1 read.1 back.1)
+      one_stands : (y z : StatePart S) → plan_of z ≡ plan_of y → StandsThere y
+          → IsRead tells count y z → PartCameBack tells holds new z → (HoldAll cut batches → ⊥)
+          → ComesThere y
+      one_stands y z plan at read back fewer = record {
+        cells = at.cells;
+        told = subst (λ (part : PartPlan). holds new part.component part.part at.cells) plan
+            (back at.cells (read.same at.cells at.told));
+        stands = at.stands;
+        within = λ all. absurd (fewer all);
+      }
+
+      one_ends : (y z : StatePart S) → plan_of z ≡ plan_of y → IsThere y
+          → IsRead tells count y z → PartCameBack tells holds new z → ComesThere y
+      one_ends y z plan at read back = record {
+        cells = at.cells;
+        told = subst (λ (part : PartPlan). holds new part.component part.part at.cells) plan
+            (back at.cells (read.same at.cells at.told));
+        stands = at.stands;
+        within = λ all. at.within;
+      }
+
+      stand_each : (ys zs : List (StatePart S)) → plans_of zs ≡ plans_of ys
+          → AllByRecursion StandsThere ys → AllZip (IsRead tells count) ys zs
+          → AllByRecursion (PartCameBack tells holds new) zs → (HoldAll cut batches → ⊥)
+          → AllByRecursion ComesThere ys
+      stand_each [] zs same at read back fewer = tt
+      stand_each (y ∷ ys) [] same at read back fewer = absurd read
+      stand_each (y ∷ ys) (z ∷ zs) same at read back fewer =
+          let plan : plan_of z ≡ plan_of y = cc in
+          let plans : plans_of zs ≡ plans_of ys = cc in (
+            one_stands y z plan at.0 read.0 back.0 fewer,
+            stand_each ys zs plans at.1 read.1 back.1 fewer,
+          )
+
+      end_each : (ys zs : List (StatePart S)) → plans_of zs ≡ plans_of ys
+          → AllByRecursion IsThere ys → AllZip (IsRead tells count) ys zs
+          → AllByRecursion (PartCameBack tells holds new) zs → AllByRecursion ComesThere ys
+      end_each [] zs same at read back = tt
+      end_each (y ∷ ys) [] same at read back = absurd read
+      end_each (y ∷ ys) (z ∷ zs) same at read back =
+          let plan : plan_of z ≡ plan_of y = cc in
+          let plans : plans_of zs ≡ plans_of ys = cc in
+          (one_ends y z plan at.0 read.0 back.0, end_each ys zs plans at.1 read.1 back.1)
 
     -- the maps stand where the parts stood
     pub maps_stand : (parts ran closed : List (StatePart S))
         → Lent tells count holds faults t old mid new parts ran closed
-        → PartsStand tells t custom cut n ran
-        → MapsStand t custom cut n (maker_use tells count holds made faults old new)
-    maps_stand parts ran closed lent stands =
-        to_planned (StandsAt t custom cut n (holds new)) t ran (lent.kept.plans ∙ lent.planned)
-        (by (cases_eq n (batches_in cut)))
+        → HoldAll cut batches ⊎ (HoldAll cut batches → ⊥)
+        → PartsStand tells t custom cut batches ran
+        → MapsStand t custom cut batches (maker_use tells count holds made faults old new)
+    maps_stand parts ran closed lent known stands = λ spans next.
+        to_planned (StandsAt t custom cut batches spans (holds new)) t ran
+        (lent.kept.plans ∙ lent.planned) (by spans next known)
       where
         back_each : AllByRecursion (PartCameBack tells holds new) closed
         back_each = recursion_from_All (PartCameBack tells holds new) closed lent.back
 
-        by : (n ≡ batches_in cut) ⊎ (n ≡ batches_in cut → ⊥)
-            → AllByRecursion
-            (λ (y : StatePart S). StandsAt t custom cut n (holds new) (plan_of y)) ran
-        by (inl all) =
-            end_each ran closed lent.plans
-            (recursion_from_All
-            (PartIsAt tells t custom n (writes_to t custom cut n) (writes_at t custom cut (n + 1))) ran
-            (stands.at_end all)) lent.read back_each
-        by (inr fewer) =
-            stand_each ran closed lent.plans
-            (recursion_from_All
-            (PartStands tells t custom n (writes_to t custom cut n) (writes_at t custom cut (n + 1))) ran
-            stands.stand) lent.read back_each fewer
+        by : (spans : List Span) → IsNextBatch cut batches spans
+            → HoldAll cut batches ⊎ (HoldAll cut batches → ⊥)
+            → AllByRecursion (ComesThere spans) ran
+        by spans next (inl all) =
+            end_each spans ran closed lent.plans
+            (recursion_from_All (IsThere spans) ran (stands.at_end all spans next)) lent.read
+            back_each
+        by spans next (inr fewer) =
+            stand_each spans ran closed lent.plans
+            (recursion_from_All (StandsThere spans) ran (stands.stand spans next)) lent.read
+            back_each fewer
 
 -- ---- where no run was begun
 
@@ -306,31 +375,52 @@ on_err (Err e) holds = holds
 module _ {S M : Type 0} (tells : S → CellMap → Type 0) (count : S → ℕ)
     (holds : M → ℕ → ℕ → CellMap → Type 0) (made : M → ℕ → ℕ → Type 0) (faults : M → ℕ)
     (t : Topology) (old new : M) (custom : Custom) (cut : Cut) where
-  none_written : writes_to t custom cut 0 ≡ []
+  none_written : writes_of t custom cut [] ≡ []
   unfolding nodes_of
   none_written = refl
 
-  one_idle : (part : PartPlan) → holds new part.component part.part []
-      → StandsAt t custom cut 0 (holds new) part
-  one_idle part held = record {
+  one_idle : (spans : List Span) (part : PartPlan) → holds new part.component part.part []
+      → StandsAt t custom cut [] spans (holds new) part
+  one_idle spans part held = record {
     cells = [];
     told = held;
     stands =
         subst
         (λ (done : List Write).
         Stands part.kind (folded custom part.by) (tasks_of t part.component) part.part 0 (writes_of_part part done)
-        (writes_of_part part (writes_at t custom cut 1)) (cell_at []))
+        (writes_of_part part (writes_at t custom cut spans)) (cell_at []))
         (sym none_written)
         (Stands-none part.kind (folded custom part.by) (tasks_of t part.component) part.part
-        (writes_of_part part (writes_at t custom cut 1)));
+        (writes_of_part part (writes_at t custom cut spans)));
     within = λ all key cell is. absurd is.bytes;
   }
 
-  -- maps that held no cell, and that hold what they held, stand where no batch was committed
+  same_stands : (batches : List (List Span)) (spans : List Span)
+      → ((c p : ℕ) (cells : CellMap) → holds old c p cells → holds new c p cells)
+      → (part : PartPlan) → StandsAt t custom cut batches spans (holds old) part
+      → StandsAt t custom cut batches spans (holds new) part
+  same_stands batches spans same part at = record {
+    cells = at.cells;
+    told = same part.component part.part at.cells at.told;
+    stands = at.stands;
+    within = at.within;
+  }
+
+  -- maps that hold what they held stand where they stood, and those that held no cell where no
+  -- batch was committed
   pub idle_stand : ((c p : ℕ) (cells : CellMap) → holds old c p cells → holds new c p cells)
-      → BeganEmpty t (maker_use tells count holds made faults old new)
-      → MapsStand t custom cut 0 (maker_use tells count holds made faults old new)
-  idle_stand same empty =
-      All-weaker (λ (part : PartPlan). holds old part.component part.part [])
-      (StandsAt t custom cut 0 (holds new))
-      (λ part held. one_idle part (same part.component part.part [] held)) (planned_parts t) empty
+      → StandAtCommits t custom cut (maker_use tells count holds made faults old new) []
+  idle_stand same = record {
+    later = λ before are stood.
+        subst (λ (bs : List (List Span)). AllStandAt t custom cut bs (holds new))
+        (sym (append-nil before))
+        (λ spans next.
+        All-weaker (StandsAt t custom cut before spans (holds old))
+        (StandsAt t custom cut before spans (holds new)) (same_stands before spans same)
+        (planned_parts t) (stood spans next));
+    first = λ first empty spans next.
+        All-weaker (λ (part : PartPlan). holds old part.component part.part [])
+        (StandsAt t custom cut [] spans (holds new))
+        (λ part held. one_idle spans part (same part.component part.part [] held))
+        (planned_parts t) empty;
+  }

@@ -1,7 +1,7 @@
 -- The first steps of a run: the rounds among them, the fates that they left, and that nothing
 -- changes when all is over.
 use Rattle.std.proofs.Common.{◌≡◌, ◌≤◌, ◌+◌, ℕ, zero, suc, Bool, true, false, cond, List, [], ◌∷◌, ◌++◌, length, map, filter, replicate, get_or, sum, Option, None, Some, is_some, refl, sym, ap, subst, ◌∙◌, append_assoc, append-nil, arith}
-use Rattle.std.specs.List.{range_with_len}
+use Rattle.std.specs.List.{AllByRecursion, range_with_len}
 use Rattle.std.proofs.lemmas.List.{length-append}
 use Rattle.std.proofs.lemmas.List.Elements.{filter-append}
 use Rattle.std.proofs.lemmas.List.Sums.{sum_by-cons}
@@ -10,13 +10,16 @@ use Rattle.event_worlds.specs.bolt_ops.RowOp.{Custom}
 use Rattle.event_worlds.specs.commit_turns.Desks.{Progress}
 use Rattle.event_worlds.specs.commit_turns.Turns.{decided, is_finished}
 use Rattle.event_worlds.specs.Rounds.{HasRounds, is_tick, round_with, ticks_in}
-use Rattle.event_worlds.specs.Worlds.{Acted, Known, Step, World, acted, coordinator_steps, delivered, is_over, next, next_outcome, next_words, of_acker, of_outcome, of_task, of_tick, of_turn, run, sent, step, task_at, task_needs, turn_needs, turn_past, with_progress, with_task}
+use Rattle.event_worlds.specs.Worlds.{Acted, Known, Step, World, acted, coordinator_steps, delivered, is_over, next, next_outcome, next_words, of_acker, of_open, of_outcome, of_shut, of_task, of_tick, of_turn, run, sent, step, task_at, task_needs, turn_needs, turn_past, with_progress, with_task}
+use Rattle.event_worlds.proofs.counted_items.Each.{each-append, each-back, each-front}
+use Rattle.schedule_core.proofs.Rounding.{open-round}
 use Rattle.schedule_core.specs.Runs.{HasRoundsOf, first_answers}
 use Rattle.event_worlds.specs.state_parts.declared.answer.CommitOutcome.{CommitOutcome}
 use Rattle.event_worlds.specs.topology_plan.Topology.{Topology, tasks_in_all}
 use Rattle.event_worlds.specs.tree_model.declared.messages.Parcel.{Parcel}
 use Rattle.event_worlds.specs.tree_model.declared.messages.Parcel.TheVariants.{ToAcker, ToTask}
 use Rattle.event_worlds.specs.taken_records.Cuts.{Cut}
+use Rattle.world_progress.specs.Rounding.{ShutsNone}
 
 -- ---- ticks
 
@@ -69,6 +72,12 @@ ticks-quiet t (suc n) =
     let both = ticks-both (round_with t 0) (quiet_rounds t n) in
     let none = ticks-of_round t 0 in let rest = ticks-quiet t n in omega arith
 
+open-quiet : (t : Topology) (n : ℕ) → AllByRecursion ShutsNone (quiet_rounds t n)
+unfolding quiet_rounds
+open-quiet t zero = tt
+open-quiet t (suc n) =
+    each-append ShutsNone (round_with t 0) (quiet_rounds t n) (open-round t 0) (open-quiet t n)
+
 -- the sum of the first so many
 pub sum_first : ℕ → List ℕ → ℕ
 sum_first zero ns = 0
@@ -93,7 +102,7 @@ sum_of_first to_come answers k are =
     (sum_first-le (λ (j : ℕ). get_or to_come j 0) 0 (length answers) k)
 
 -- Steps of rounds, with more rounds where there are too few, begin with so many rounds, whose ticks
--- are the first of the answers.
+-- are the first of the answers. They shut no partition where the steps shut none.
 pub record Front (t : Topology) (count : ℕ) (answers : List ℕ) (steps : List Step) : Type 0 where
   pub front : List Step
   pub rest : List Step
@@ -101,6 +110,7 @@ pub record Front (t : Topology) (count : ℕ) (answers : List ℕ) (steps : List
   pub same : steps ++ more ≡ front ++ rest
   pub rounds : HasRounds t count front
   pub ticks : ticks_in front ≡ sum_first count answers
+  pub shut_none : AllByRecursion ShutsNone steps → AllByRecursion ShutsNone front
 
 regrouped : (first round xs more ys rest : List Step) → xs ++ more ≡ ys ++ rest
     → (first ++ (round ++ xs)) ++ more ≡ (first ++ (round ++ ys)) ++ rest
@@ -121,6 +131,7 @@ front_of t zero answers steps has = record {
   same = append-nil steps;
   rounds = tt;
   ticks = refl;
+  shut_none = λ all. tt;
 }
 front_of t (suc n) [] steps has = record {
   front = steps ++ quiet_rounds t (suc n);
@@ -131,6 +142,8 @@ front_of t (suc n) [] steps has = record {
   ticks =
       let both = ticks-both steps (quiet_rounds t (suc n)) in
       let none = ticks-quiet t (suc n) in omega arith;
+  shut_none = λ all.
+      each-append ShutsNone steps (quiet_rounds t (suc n)) all (open-quiet t (suc n));
 }
 front_of t (suc n) (a ∷ answers) steps has =
     let later : Front t n answers has.1 = front_of t n answers has.1 has.4 in
@@ -148,6 +161,14 @@ front_of t (suc n) (a ∷ answers) steps has =
           let first = has.3 in
           let round = ticks-of_round t a in
           let last = later.ticks in omega arith;
+      shut_none = λ all.
+          let parts : AllByRecursion ShutsNone (has.0 ++ (round_with t a ++ has.1)) =
+          subst (AllByRecursion ShutsNone) has.2 all in
+          let own = each-back ShutsNone has.0 (round_with t a ++ has.1) parts in
+          each-append ShutsNone has.0 (round_with t a ++ later.front)
+          (each-front ShutsNone has.0 (round_with t a ++ has.1) parts)
+          (each-append ShutsNone (round_with t a) later.front (open-round t a)
+          (later.shut_none (each-back ShutsNone (round_with t a) has.1 own)));
     }
 
 -- ---- fates
@@ -207,6 +228,8 @@ module _ (t : Topology) (custom : Custom) (cut : Cut) (words : ℕ → ℕ → �
       grows-told k.world.desk.out (with_progress t cut to k.world) k.world
       (record { more = to.ended; added = refl })
   grows-step of_tick k = grows-none k.world.fates k.world.fates refl
+  grows-step (of_shut q) k = grows-none k.world.fates k.world.fates refl
+  grows-step (of_open q) k = grows-none k.world.fates k.world.fates refl
 
   grows-next : (s : Step) (k : Known)
       → Grows k.world.fates (next t custom cut words outcomes s k).world.fates
@@ -246,7 +269,7 @@ module _ (t : Topology) (custom : Custom) (cut : Cut) (words : ℕ → ℕ → �
       over
       ∙ run-over steps k over
 
--- where every batch is committed all is over
+-- where no record is left uncommitted all is over
 pub over-finished : (t : Topology) (cut : Cut) (w : World)
     → is_finished t cut w.desk ≡ true → is_over t cut w ≡ true
 over-finished t cut w done = by (is_some w.desk.exhausted)

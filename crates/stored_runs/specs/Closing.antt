@@ -14,15 +14,16 @@ use Rattle.event_worlds.specs.bolt_ops.RowOp.{Custom}
 use Rattle.event_worlds.specs.topology_plan.Topology.{Topology}
 use Rattle.event_worlds.specs.tree_model.Tables.{states_of}
 
--- Where every batch was committed the parts were read: they have these tables, or a store failed,
--- or one has a cell that no table takes. All other answers stand as they are.
+-- Where no record was left uncommitted the parts were read: they have these tables, or a store
+-- failed, or one has a cell that no table takes. All other answers stand as they are.
 abbrev pub Closes : {S E : Type 0} → (S → CellMap → Type 0) → (S → ℕ) → Topology
     → Result Ended Stop → List (StatePart S) → List (StatePart S) → Result RunEnd E → Type 0
 Closes tells count t answer old new (Ok (end.All tables)) =
     (answer ≡ Ok ended.All)
     × ((custom : Custom) → AllZip (IsTableOver tells old) (states_of t custom) tables)
 Closes tells count t answer old new (Ok (end.Exhausted txid)) = answer ≡ Err (stop.Exhausted txid)
-Closes tells count t answer old new (Ok (end.Unfinished k)) = answer ≡ Ok (ended.Unfinished k)
+Closes tells count t answer old new (Ok (end.Unfinished txid)) =
+    answer ≡ Ok (ended.Unfinished txid)
 Closes tells count t answer old new (Ok end.StoreFault) =
     (answer ≡ Ok ended.All) × OneRaised count old new
 Closes tells count t answer old new (Ok (end.BadCell key)) =

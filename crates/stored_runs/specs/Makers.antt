@@ -1,10 +1,11 @@
 -- A maker of stores before and after a run over its stores. This project's own.
-use Rattle.std.specs.Prelude.{◌≡◌, ◌≤◌, ◌+◌, ℕ, List, [], All, Some, slice_get, sum}
+use Rattle.std.specs.Prelude.{◌≡◌, ◌≤◌, ◌+◌, ℕ, List, [], All, Some, filter, length, slice_get, sum}
 use Rattle.std.specs.List.{AllZip}
 use Rattle.event_worlds.specs.attempt_fates.declared.fates.Attempt.{Attempt}
-use Rattle.batch_commits.specs.Standing.{CountsRun, IsStrange, batches_in, failed_commits, writes_at, writes_to}
+use Rattle.batch_commits.specs.Standing.{CountsRun, HoldAll, IsNextBatch, IsStrange, failed_commits, writes_at, writes_of}
 use Rattle.event_worlds.specs.bolt_ops.RowOp.{Custom}
 use Rattle.cell_format.specs.Standing.{IsWithin, Stands}
+use Rattle.event_worlds.specs.record_spans.declared.span.Span.{Span}
 use Rattle.event_worlds.specs.state_parts.Commits.{FailedOnceAtMost, is_for_part}
 use Rattle.event_worlds.specs.state_parts.Makers.{RoseBySum}
 use Rattle.event_worlds.specs.state_parts.PartPlans.{IsOneOf, PartPlan, planned_parts}
@@ -14,7 +15,6 @@ use Rattle.event_worlds.specs.topology_plan.Topology.{Topology, tasks_of}
 use Rattle.event_worlds.specs.tree_model.Tables.{folded}
 use Rattle.event_worlds.specs.tree_model.declared.write.Write.{Write}
 use Rattle.event_worlds.specs.taken_records.Cuts.{Cut}
-use Rattle.std.specs.Prelude.{filter}
 
 -- A store, as it stood at some moment, told these cells and had failed so often. Only the calls of
 -- a store make a store, so there is none that no run of such calls leads to.
@@ -49,7 +49,36 @@ maker_use tells count holds made faults old new = record {
   stood = StoreStood tells count;
 }
 
+-- ---- where maps stand
+
+-- the writes of a part, in their order
+abbrev pub writes_of_part : PartPlan → List Write → List Write
+writes_of_part part writes = filter (is_for_part part.component part.part) writes
+
+-- Cells are told of a part that stand at these batches, which the transactions 1 and on committed
+-- in this order. The commit of the next transaction, with this batch, may have been begun. Where
+-- the batches hold all records no cell has a larger transaction.
+pub record StandsAt (t : Topology) (custom : Custom) (cut : Cut) (batches : List (List Span))
+    (spans : List Span) (holds : ℕ → ℕ → CellMap → Type 0) (part : PartPlan) : Type 0 where
+  pub cells : CellMap
+  pub told : holds part.component part.part cells
+  pub stands : Stands part.kind (folded custom part.by) (tasks_of t part.component) part.part
+      (length batches) (writes_of_part part (writes_of t custom cut batches))
+      (writes_of_part part (writes_at t custom cut spans)) (cell_at cells)
+  pub within : HoldAll cut batches → IsWithin part.kind (length batches) (cell_at cells)
+
+-- so it is with all parts, whatever the batch of the next transaction is
+abbrev pub AllStandAt : Topology → Custom → Cut → List (List Span)
+    → (ℕ → ℕ → CellMap → Type 0) → Type 0
+AllStandAt t custom cut batches holds =
+    (spans : List Span) → IsNextBatch cut batches spans
+    → All (StandsAt t custom cut batches spans holds) (planned_parts t)
+
 -- ---- what it told before
+
+-- the maps of all parts stood at these batches
+abbrev pub MapsStood : Topology → Custom → Cut → List (List Span) → MakerUse → Type 0
+MapsStood t custom cut batches maker = AllStandAt t custom cut batches maker.held
 
 -- it told of each part of the plan's states that it has no cell
 abbrev pub BeganEmpty : Topology → MakerUse → Type 0
@@ -67,24 +96,9 @@ pub record HadStrangeAt (t : Topology) (maker : MakerUse) (key : List ℕ) : Typ
 
 -- ---- what it tells after
 
--- the writes of a part, in their order
-abbrev pub writes_of_part : PartPlan → List Write → List Write
-writes_of_part part writes = filter (is_for_part part.component part.part) writes
-
--- The maker tells cells of a part that stand at n committed batches. Where these are all batches no
--- cell has a larger transaction.
-pub record StandsAt (t : Topology) (custom : Custom) (cut : Cut) (n : ℕ)
-    (holds : ℕ → ℕ → CellMap → Type 0) (part : PartPlan) : Type 0 where
-  pub cells : CellMap
-  pub told : holds part.component part.part cells
-  pub stands : Stands part.kind (folded custom part.by) (tasks_of t part.component) part.part n
-      (writes_of_part part (writes_to t custom cut n))
-      (writes_of_part part (writes_at t custom cut (n + 1))) (cell_at cells)
-  pub within : n ≡ batches_in cut → IsWithin part.kind n (cell_at cells)
-
--- so do the maps of all parts
-abbrev pub MapsStand : Topology → Custom → Cut → ℕ → MakerUse → Type 0
-MapsStand t custom cut n maker = All (StandsAt t custom cut n maker.holds) (planned_parts t)
+-- the maps of all parts stand at these batches
+abbrev pub MapsStand : Topology → Custom → Cut → List (List Span) → MakerUse → Type 0
+MapsStand t custom cut batches maker = AllStandAt t custom cut batches maker.holds
 
 -- a part of which cells were told is told still
 abbrev pub StillTold : MakerUse → PartPlan → Type 0

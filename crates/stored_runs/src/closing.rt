@@ -17,7 +17,8 @@ use state_cells::PartFault;
 use std::alloc::AllocError;
 use storm_stores::CellStore;
 
-/// The end of a run that came to this answer. Where every batch is committed the tables are read.
+/// The end of a run that came to this answer. Where no record is left uncommitted the tables are
+/// read.
 pub(crate) fn close<C: CellStore>(
     plan: &Plan,
     parts: &mut Parts<C>,
@@ -38,7 +39,7 @@ pub(crate) fn close<C: CellStore>(
     }
 }
 
-// The end of a run that committed every batch.
+// The end of a run that left no record uncommitted.
 fn read<C: CellStore>(plan: &Plan, parts: &mut Parts<C>) -> Result<RunEnd, Memory>
     ensures closes { Closes C.tells C.fault_count plan.now (Ok of_run.All) parts.old parts.new
         result }
@@ -55,7 +56,7 @@ fn read<C: CellStore>(plan: &Plan, parts: &mut Parts<C>) -> Result<RunEnd, Memor
     }
 }
 
-/// What a run of rounds answers that nothing stopped: every batch is committed.
+/// What a run of rounds answers that nothing stopped: no record is left uncommitted.
 pub(crate) fn as_ended(done: Result<(), Stop>) -> Result<Ended, Stop>
     ensures { result ≡ ended done }
 {

@@ -1,5 +1,5 @@
 //! A given schedule over the stores of a maker.
-ghost use Rattle.std.specs.Prelude.{◌≡◌, ◌<◌, [], IfOk, OnErr, length};
+ghost use Rattle.std.specs.Prelude.{◌≡◌, ◌<◌, [], All, IfOk, OnErr};
 ghost use Rattle.std.specs.List.{AllByRecursion};
 ghost use Rattle.event_worlds.specs.attempt_fates.Fates.{IsOnce};
 ghost use Rattle.event_worlds.specs.commit_turns.Turns.{last_tick};
@@ -9,6 +9,7 @@ ghost use Rattle.schedule_core.specs.Schedules.{all_steps};
 ghost use Rattle.schedule_reader.specs.Events.{FitsEvent};
 ghost use Rattle.stored_runs.specs.Makers.{CameBack, maker_use};
 ghost use Rattle.stored_runs.specs.StoredRuns.{IsAll, IsRun, IsRunOfWorld, NothingIsInTheWay, StandsWithoutMemory};
+ghost use Rattle.world_progress.specs.Rounding.{ShutsNone};
 
 use crate::closing::close;
 use crate::ending::RunEnd;
@@ -24,8 +25,8 @@ use schedule_core::{Events, replay};
 use std::alloc::Global;
 use storm_stores::StoreMaker;
 
-/// Carries out a given schedule over stores that the maker makes, reads the tables where every
-/// batch is committed, and gives the stores back.
+/// Carries out a given schedule over stores that the maker makes, reads the tables where no record
+/// is left uncommitted, and gives the stores back.
 ///
 /// It costs what `replay` does, and one look at each key. The attempts that ended are in the fates,
 /// whatever the answer. With want of memory too all stores come back.
@@ -60,13 +61,16 @@ pub fn replay_over<N: IdMaker, M: StoreMaker, O: RowOp>(
     ensures world { IfOk result (IsRunOfWorld (N.tells ids.old) plan.now (O.meaning custom.now)
         offers (all_steps plan.now events.now) fates.new) }
 
-    // With rounds enough and few ticks every batch is committed, where nothing is in the way.
+    // With rounds enough, few ticks and no partition shut every record is committed, where nothing
+    // is in the way.
     ensures finishes { NothingIsInTheWay plan.now
         (maker_use M.C.tells M.C.fault_count M.holds M.has_made M.fault_count
         stores.old stores.new) fates.new
         → HasRounds plan.now (rounds_needed plan.now (O.meaning custom.now) offers)
         (all_steps plan.now events.now)
-        → ticks_in (all_steps plan.now events.now) < plan.now.buckets → IfOk result IsAll }
+        → ticks_in (all_steps plan.now events.now) < plan.now.buckets
+        → (0 < plan.now.partitions → All ShutsNone (all_steps plan.now events.now))
+        → IfOk result IsAll }
 {
     laws_of_runs::<M::C>();
     let mut parts = Parts::make(alloc, plan, stores)?;

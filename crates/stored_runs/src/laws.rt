@@ -5,12 +5,15 @@ ghost use Rattle.event_worlds.specs.topology_plan.Topology.{Topology};
 ghost use Rattle.event_worlds.specs.taken_records.Cuts.{Cut};
 
 use batch_commits::{
-    counts_run_on, failures_of_commits_are_counted, parts_that_stand_have_the_tables,
-    strange_cells_were_there,
+    all_batches_hold_all_records, counts_run_on, failures_of_commits_are_counted,
+    parts_that_stand_have_the_tables, strange_cells_were_there,
 };
+use event_worlds::commit_turns::finished_runs_are_whole;
 use event_worlds::worlds_are_accounted;
 use storm_stores::CellStore;
-use world_progress::enough_rounds_finish;
+use world_progress::{
+    enough_rounds_finish, lasting_worlds_go_on, no_attempt_aborts_with_partitions,
+};
 
 /// Laws of worlds, and of parts.
 pub(crate) fn laws_of_runs<C: CellStore>()
@@ -19,7 +22,11 @@ pub(crate) fn laws_of_runs<C: CellStore>()
         → PartLaws C.tells C.fault_count t custom cut }
 {
     worlds_are_accounted();
+    finished_runs_are_whole();
+    lasting_worlds_go_on();
+    no_attempt_aborts_with_partitions();
     enough_rounds_finish();
+    all_batches_hold_all_records();
     failures_of_commits_are_counted::<C>();
     counts_run_on::<C>();
     parts_that_stand_have_the_tables::<C>();

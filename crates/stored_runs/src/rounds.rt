@@ -1,5 +1,5 @@
 //! Rounds with the ticks of a source, over the stores of a maker.
-ghost use Rattle.std.specs.Prelude.{◌≡◌, ◌<◌, ℕ, List, [], IfOk, OnErr, length, sum};
+ghost use Rattle.std.specs.Prelude.{◌≡◌, ◌<◌, ℕ, List, [], IfOk, OnErr, sum};
 ghost use Rattle.event_worlds.specs.attempt_fates.Fates.{IsOnce};
 ghost use Rattle.event_worlds.specs.commit_turns.Turns.{last_tick};
 ghost use Rattle.event_worlds.specs.Accounted.{IsInput};
@@ -24,9 +24,9 @@ use std::sync::Wait;
 use storm_stores::StoreMaker;
 use storm_ticks::Ticks;
 
-/// Runs a plan by rounds over stores that the maker makes, until every batch is committed or all
-/// attempts of one ended without a commit. Then it reads the tables where every batch is committed,
-/// and gives the stores back.
+/// Runs a plan by rounds over stores that the maker makes, until no record is left uncommitted or
+/// as many attempts of a transaction aborted as the plan allows. Then it reads the tables where no
+/// record is left, and gives the stores back.
 ///
 /// It costs what `run_rounds` does, and one look at each key. The attempts that ended are in the
 /// fates, whatever the answer. With want of memory too all stores come back. It is never
@@ -64,8 +64,8 @@ pub fn run_over_rounds<R: Wait, T: Ticks, N: IdMaker, M: StoreMaker, O: RowOp>(
         (O.meaning custom.now) offers (T.handed_out ticks.old) (T.handed_out ticks.new)
         fates.new) }
 
-    // Where few ticks are to come in so many rounds as a run needs, every batch is committed, where
-    // nothing is in the way.
+    // Where few ticks are to come in so many rounds as a run needs, every record is committed,
+    // where nothing is in the way.
     ensures finishes { (to_come : List ℕ) → T.tells ticks.old to_come
         → NothingIsInTheWay plan.now
         (maker_use M.C.tells M.C.fault_count M.holds M.has_made M.fault_count

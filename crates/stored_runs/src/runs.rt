@@ -1,6 +1,6 @@
 //! A run with the ticks of a source, over the stores of a maker: by rounds for one worker, and by
 //! workers on threads for more.
-ghost use Rattle.std.specs.Prelude.{◌≡◌, ◌≤◌, ◌<◌, ℕ, List, [], IfOk, OnErr, length, sum};
+ghost use Rattle.std.specs.Prelude.{◌≡◌, ◌≤◌, ◌<◌, ℕ, List, [], IfOk, OnErr, sum};
 ghost use Rattle.event_worlds.specs.attempt_fates.Fates.{IsOnce};
 ghost use Rattle.event_worlds.specs.commit_turns.Turns.{last_tick};
 ghost use Rattle.event_worlds.specs.Accounted.{IsInput};
@@ -25,9 +25,9 @@ use storm_gates::Gate;
 use storm_stores::StoreMaker;
 use storm_ticks::Ticks;
 
-/// Runs a plan by so many workers over stores that the maker makes, until every batch is committed
-/// or all attempts of one ended without a commit. Then it reads the tables where every batch is
-/// committed, and gives the stores back.
+/// Runs a plan by so many workers over stores that the maker makes, until no record is left
+/// uncommitted or as many attempts of a transaction aborted as the plan allows. Then it reads the
+/// tables where no record is left, and gives the stores back.
 ///
 /// One worker goes by rounds on the caller's thread, without boxes, and passes no gate: no
 /// execution is beside another there. It costs what `run_rounds` or `run_by_workers` does, and one
@@ -68,8 +68,8 @@ where
         (maker_use M.C.tells M.C.fault_count M.holds M.has_made M.fault_count
         stores.old stores.new) fates.new) }
 
-    // Where few ticks are to come in so many rounds as a run needs, every batch is committed, where
-    // nothing is in the way.
+    // Where few ticks are to come in so many rounds as a run needs, every record is committed,
+    // where nothing is in the way.
     ensures finishes { (to_come : List ℕ) → T.tells ticks.old to_come
         → NothingIsInTheWay plan.now
         (maker_use M.C.tells M.C.fault_count M.holds M.has_made M.fault_count

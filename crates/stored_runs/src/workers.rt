@@ -1,5 +1,5 @@
 //! Runs by workers with the ticks of a source, over the stores of a maker.
-ghost use Rattle.std.specs.Prelude.{◌≡◌, ◌≤◌, ◌<◌, ℕ, List, [], IfOk, OnErr, length, sum};
+ghost use Rattle.std.specs.Prelude.{◌≡◌, ◌≤◌, ◌<◌, ℕ, List, [], IfOk, OnErr, sum};
 ghost use Rattle.event_worlds.specs.attempt_fates.Fates.{IsOnce};
 ghost use Rattle.event_worlds.specs.commit_turns.Turns.{last_tick};
 ghost use Rattle.event_worlds.specs.Accounted.{IsInput};
@@ -26,9 +26,9 @@ use storm_stores::StoreMaker;
 use storm_ticks::Ticks;
 use worker_runs::run_by_workers;
 
-/// Runs a plan by so many workers over stores that the maker makes, until every batch is committed
-/// or all attempts of one ended without a commit. Then it reads the tables where every batch is
-/// committed, and gives the stores back.
+/// Runs a plan by so many workers over stores that the maker makes, until no record is left
+/// uncommitted or as many attempts of a transaction aborted as the plan allows. Then it reads the
+/// tables where no record is left, and gives the stores back.
 ///
 /// It costs what `run_by_workers` does, and one look at each key. The attempts that ended are in
 /// the fates, whatever the answer. With want of memory too all stores come back. It is never
@@ -75,8 +75,8 @@ where
         (maker_use M.C.tells M.C.fault_count M.holds M.has_made M.fault_count
         stores.old stores.new) fates.new) }
 
-    // Where few ticks are to come in so many rounds as a run needs, every batch is committed, where
-    // nothing is in the way.
+    // Where few ticks are to come in so many rounds as a run needs, every record is committed,
+    // where nothing is in the way.
     ensures finishes { (to_come : List ℕ) → T.tells ticks.old to_come
         → NothingIsInTheWay plan.now
         (maker_use M.C.tells M.C.fault_count M.holds M.has_made M.fault_count

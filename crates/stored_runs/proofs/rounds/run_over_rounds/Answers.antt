@@ -2,10 +2,11 @@ use Rattle.std.proofs.Common.{List, Result, refl, subst, sym}
 use Rattle.event_worlds.specs.attempt_fates.declared.fates.Attempt.{Attempt}
 use Rattle.event_worlds.specs.commit_order.declared.stop.Stop.{Stop}
 use Rattle.schedule_core.specs.declared.ended.Ended.{Ended}
-use Rattle.schedule_core.specs.Runs.{committed_count, ended, ticks_between}
-use Rattle.stored_runs.proofs.Comings.{OfWorld, Ran, all_back, by_rounds, none_left, rounds_finish, run_is, short_is, world_is}
+use Rattle.schedule_core.specs.Runs.{ended, ticks_between}
+use Rattle.stored_runs.proofs.Comings.{OfWorld, Ran, all_back, by_rounds, none_left, rounds_finish, once_at_first, run_is, short_is, world_is}
 use Rattle.stored_runs.proofs.Lent.{Lent, idle_stand, on_err, still_made}
-use Rattle.stored_runs.specs.Makers.{MapsStand, maker_use}
+use Rattle.stored_runs.specs.Makers.{maker_use}
+use Rattle.stored_runs.specs.StoredRuns.{StandAtCommits}
 use Rattle.stored_runs.specs.Closing.{Closes}
 use Rattle.stored_runs.proofs.rounds.run_over_rounds.Goals as goal
 
@@ -72,21 +73,26 @@ returns g c =
       world = by_rounds asked r (world_is made lent laws input run _ world r closes);
       finishes = λ to_come tells free few.
           rounds_finish made lent laws input run _ ends world worlds keeps c.run_rounds-done.result refl
-          asked.answers to_come asked.rounds (asked.asked to_come tells) r closes quiet free few;
+          asked.answers to_come asked.rounds asked.shut_none (asked.asked to_come tells) r closes quiet free few;
     }
 
 pub returns-in_err-parts-clause-short : goal.returns-in_err-parts-clause-short
 returns-in_err-parts-clause-short g c =
     on_err c.from_residual.result
-    (λ began.
-    subst
+    (subst
     (λ (fates : List Attempt).
-    MapsStand c.args.plan.now (g.O.RowOp.meaning c.args.custom.now) c.args.offers
-    (committed_count fates)
+    StandAtCommits c.args.plan.now (g.O.RowOp.meaning c.args.custom.now) c.args.offers
     (maker_use g.M.C.CellStore.tells g.M.C.CellStore.fault_count g.M.StoreMaker.holds
-    g.M.StoreMaker.has_made g.M.StoreMaker.fault_count c.args.stores.now c.make.new.stores))
+    g.M.StoreMaker.has_made g.M.StoreMaker.fault_count c.args.stores.now c.make.new.stores) fates)
     (sym c.requires.empty)
     (idle_stand g.M.C.CellStore.tells g.M.C.CellStore.fault_count g.M.StoreMaker.holds
     g.M.StoreMaker.has_made g.M.StoreMaker.fault_count c.args.plan.now c.args.stores.now
     c.make.new.stores (g.O.RowOp.meaning c.args.custom.now) c.args.offers
-    c.in_err-parts.ensures.not_made began))
+    c.in_err-parts.ensures.not_made))
+
+pub returns-in_err-parts-clause-once : goal.returns-in_err-parts-clause-once
+returns-in_err-parts-clause-once g c =
+    once_at_first c.args.plan.now (g.O.RowOp.meaning c.args.custom.now) c.args.offers
+    (c.laws_of_runs.ensures.worlds c.args.plan.now (g.O.RowOp.meaning c.args.custom.now)
+    c.args.offers)
+    c.requires.input c.args.fates.now c.requires.empty
