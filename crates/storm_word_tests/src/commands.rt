@@ -5,11 +5,11 @@ use test_kit::{Mismatch, compare};
 
 const NONE: &str = "none";
 
-const USAGE_LINE: &str =
-    "usage: storm check T | plain T I | replay T I S | run T I [W] | load N SEED | track T I [W]\n";
+const USAGE_LINE: &str = "usage: storm check T | plain T I | replay T I S | run T I [W] \
+     | load N SEED | track T I [W] | fold T I [W]\n";
 
 // Words, and their command with its texts and numbers between bars.
-const COMMANDS: [(&[&str], &str); 39] = [
+const COMMANDS: [(&[&str], &str); 45] = [
     (&["check", "t"], "check|t"),
     (&["check", "check"], "check|check"),
     (&["check", "help"], "check|help"),
@@ -49,10 +49,16 @@ const COMMANDS: [(&[&str], &str); 39] = [
     (&["track", "t", "i", "08"], "track|t|i|8"),
     (&["track", "t", "i", "00064"], "track|t|i|64"),
     (&["track", "track", "run", "64"], "track|track|run|64"),
+    (&["fold", "t", "i"], "fold|t|i|4"),
+    (&["fold", "t", "t"], "fold|t|t|4"),
+    (&["fold", "t", "i", "1"], "fold|t|i|1"),
+    (&["fold", "t", "i", "08"], "fold|t|i|8"),
+    (&["fold", "t", "i", "00064"], "fold|t|i|64"),
+    (&["fold", "fold", "track", "64"], "fold|fold|track|64"),
 ];
 
 // Words that are no command: too few of them, or too many.
-const TOO_FEW_OR_MANY: [&[&str]; 23] = [
+const TOO_FEW_OR_MANY: [&[&str]; 27] = [
     &[],
     &["check"],
     &["check", "t", "u"],
@@ -75,11 +81,15 @@ const TOO_FEW_OR_MANY: [&[&str]; 23] = [
     &["track", "t"],
     &["track", "t", "i", "4", "4"],
     &["track", "t", "i", "4", "5", "6"],
+    &["fold"],
+    &["fold", "t"],
+    &["fold", "t", "i", "4", "4"],
+    &["fold", "t", "i", "4", "5", "6"],
     &["storm", "check", "t"],
 ];
 
 // No command has the name of the first of these.
-const OTHER_NAMES: [&[&str]; 16] = [
+const OTHER_NAMES: [&[&str]; 19] = [
     &["t"],
     &["t", "check"],
     &["help"],
@@ -91,6 +101,9 @@ const OTHER_NAMES: [&[&str]; 16] = [
     &["Track", "t", "i"],
     &["trac", "t", "i"],
     &["tracks", "t", "i"],
+    &["Fold", "t", "i"],
+    &["fol", "t", "i"],
+    &["folds", "t", "i"],
     &["chec", "t"],
     &["checks", "t"],
     &[" check", "t"],
@@ -99,7 +112,7 @@ const OTHER_NAMES: [&[&str]; 16] = [
 ];
 
 // A word that is empty or begins with `-` stands among these.
-const NO_WORDS: [&[&str]; 26] = [
+const NO_WORDS: [&[&str]; 28] = [
     &[""],
     &["", "t"],
     &["check", ""],
@@ -110,6 +123,8 @@ const NO_WORDS: [&[&str]; 26] = [
     &["load", "", "1"],
     &["track", "t", ""],
     &["track", "t", "i", ""],
+    &["fold", "t", ""],
+    &["fold", "t", "i", ""],
     &["-"],
     &["--"],
     &["-h"],
@@ -128,7 +143,8 @@ const NO_WORDS: [&[&str]; 26] = [
     &["load", "-1", "1"],
 ];
 
-// The last word of a run or a tracking, and words of a load, that are no number within its range.
+// The last word of a run, a tracking or a fold, and words of a load, that are no number within its
+// range.
 const NO_WORKERS: [&str; 16] = [
     "0", "00000", "65", "00065", "99999", "100000", "000004", "+4", "4.0", "4 ", " 4", "four",
     "0x4", "1e1", "4,0", "٤",
@@ -183,6 +199,13 @@ fn told(alloc: Global, words: &[&str]) -> Result<String, Mismatch> {
                 workers,
             },
         ) => format!(in alloc; "track|{topology}|{input}|{workers}")?,
+        Some(
+            Command::Fold {
+                topology,
+                input,
+                workers,
+            },
+        ) => format!(in alloc; "fold|{topology}|{input}|{workers}")?,
     };
     Ok(text)
 }
@@ -218,6 +241,7 @@ fn words_of_none(rt: HostRuntime) -> Result<(), Mismatch> {
     for workers in NO_WORKERS {
         check(alloc, &["run", "t", "i", workers], NONE)?;
         check(alloc, &["track", "t", "i", workers], NONE)?;
+        check(alloc, &["fold", "t", "i", workers], NONE)?;
     }
     Ok(())
 }

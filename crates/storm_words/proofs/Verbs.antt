@@ -9,7 +9,7 @@ use Rattle.clap.specs.Simple.{built, built_leaf, entered, inherited, rows_at}
 use Rattle.clap.specs.Walk.{Walk, nothing_held, finished, walk, walked}
 use Rattle.clap.specs.Faults.{level_fault, walk_fault, defaults_fault}
 use Rattle.storm_words.specs.Words.{Command, is_word, command_of}
-use Rattle.storm_words.specs.steps.Parser.{storm_app, check_app, plain_app, replay_app, run_app, load_app, track_app}
+use Rattle.storm_words.specs.steps.Parser.{storm_app, check_app, plain_app, replay_app, run_app, load_app, track_app, fold_app}
 use Rattle.storm_words.specs.steps.Reading.{read_of}
 use Rattle.storm_words.proofs.Walks.{GoesOn, GoesOnTwo, GoesOnThree, after_one, after_two, after_three, start, enters, leaf_ending, one_text, two_texts, three_texts, one_fault, two_faults, three_faults, four_faults}
 
@@ -289,3 +289,42 @@ track_agrees (a ∷ b ∷ c ∷ d ∷ rest) g =
     let g2 = and_parts (is_word c) (list_all is_word (d ∷ rest)) g1.1 in
     let g3 = and_parts (is_word d) (list_all is_word (rest)) g2.1 in
     long track_leaf (codes "track") (a ∷ b ∷ c ∷ d ∷ rest) track_enters _ _ (four_faults track_leaf a b c d (rest) track_on_three g0.0 g1.0 g2.0 g3.0) refl
+
+-- ---- fold
+
+abbrev fold_leaf : Shape
+fold_leaf = leaf fold_app
+
+fold_enters : Enters fold_leaf (codes "fold")
+unfolding walked walk_fault defaults_fault
+fold_enters rest =
+    let e = enters app (codes "fold") rest refl refl in
+    (e.0, ap (λ (w : Walk). entered app w.stopped) e.1)
+
+fold_on : GoesOnTwo fold_leaf
+fold_on = (λ a. refl, λ a b. refl)
+
+fold_on_three : GoesOnThree fold_leaf
+fold_on_three = (fold_on, λ a b c. refl)
+
+pub fold_agrees : (rest : List Text) → list_all is_word rest ≡ true → Agrees (codes "fold" ∷ rest)
+unfolding walk_fault defaults_fault
+fold_agrees [] g = short fold_leaf (codes "fold") [] fold_enters start refl refl refl refl
+fold_agrees (a ∷ []) g =
+    let g0 = and_parts (is_word a) (list_all is_word ([])) g in
+    short fold_leaf (codes "fold") (a ∷ []) fold_enters (after_one fold_leaf a) (one_text fold_leaf a [] g0.0) (one_fault fold_leaf a [] g0.0) refl refl
+fold_agrees (a ∷ b ∷ []) g =
+    let g0 = and_parts (is_word a) (list_all is_word (b ∷ [])) g in
+    let g1 = and_parts (is_word b) (list_all is_word ([])) g0.1 in
+    good fold_leaf (codes "fold") (a ∷ b ∷ []) fold_enters (after_two fold_leaf a b) (two_texts fold_leaf a b [] fold_on.0 g0.0 g1.0) (two_faults fold_leaf a b [] fold_on.0 g0.0 g1.0) refl refl
+fold_agrees (a ∷ b ∷ c ∷ []) g =
+    let g0 = and_parts (is_word a) (list_all is_word (b ∷ c ∷ [])) g in
+    let g1 = and_parts (is_word b) (list_all is_word (c ∷ [])) g0.1 in
+    let g2 = and_parts (is_word c) (list_all is_word ([])) g1.1 in
+    good fold_leaf (codes "fold") (a ∷ b ∷ c ∷ []) fold_enters (after_three fold_leaf a b c) (three_texts fold_leaf a b c [] fold_on g0.0 g1.0 g2.0) (three_faults fold_leaf a b c [] fold_on g0.0 g1.0 g2.0) refl refl
+fold_agrees (a ∷ b ∷ c ∷ d ∷ rest) g =
+    let g0 = and_parts (is_word a) (list_all is_word (b ∷ c ∷ d ∷ rest)) g in
+    let g1 = and_parts (is_word b) (list_all is_word (c ∷ d ∷ rest)) g0.1 in
+    let g2 = and_parts (is_word c) (list_all is_word (d ∷ rest)) g1.1 in
+    let g3 = and_parts (is_word d) (list_all is_word (rest)) g2.1 in
+    long fold_leaf (codes "fold") (a ∷ b ∷ c ∷ d ∷ rest) fold_enters _ _ (four_faults fold_leaf a b c d (rest) fold_on_three g0.0 g1.0 g2.0 g3.0) refl

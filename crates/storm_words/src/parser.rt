@@ -6,7 +6,7 @@ ghost use Rattle.storm_words.specs.steps.Parser.{app_with, positional, storm_app
 use clap::{Arg, Command};
 use std::alloc::{AllocError, Global};
 
-/// Six subcommands, each with positional texts.
+/// Seven subcommands, each with positional texts.
 pub fn storm_parser<'a>(alloc: Global) -> Result<Command<'a>, AllocError>
     ensures app { IfOk result (λ made. app_of made ≡ storm_app) }
     ensures local { IfOk result (λ made. (fields_of made).has_globals ≡ false) }
@@ -18,12 +18,14 @@ pub fn storm_parser<'a>(alloc: Global) -> Result<Command<'a>, AllocError>
     let load = with_text(alloc, Command::new(alloc, "load"), "records")?;
     let load = with_text(alloc, load, "seed")?;
     let track = with_workers(alloc, over_files(alloc, "track")?)?;
+    let fold = with_workers(alloc, over_files(alloc, "fold")?)?;
     let storm = with_command(top(alloc), check)?;
     let storm = with_command(storm, plain)?;
     let storm = with_command(storm, replay)?;
     let storm = with_command(storm, run)?;
     let storm = with_command(storm, load)?;
-    with_command(storm, track)
+    let storm = with_command(storm, track)?;
+    with_command(storm, fold)
 }
 
 fn top<'a>(alloc: Global) -> Command<'a>

@@ -4,7 +4,7 @@ ghost use Rattle.std.specs.Char.{is_ascii_digit};
 ghost use Rattle.clap.specs.Words.{first_of, found_of, rows_of, subcommand_rows_of};
 ghost use Rattle.storm_words.specs.Commands.{command_of_words, IsWithin};
 ghost use Rattle.storm_values.specs.Limits.{most_workers};
-ghost use Rattle.storm_words.specs.Words.{is_word, digits_value, number_word, command, load, run, track};
+ghost use Rattle.storm_words.specs.Words.{is_word, digits_value, number_word, command, load, run, track, fold_over};
 ghost use Rattle.storm_words.specs.steps.Reading.{read_of, text_of, workers_of};
 
 use crate::parser::storm_parser;
@@ -14,8 +14,8 @@ use std::alloc::{AllocError, Global};
 use storm_values::{MOST_WORKERS, Memory};
 
 /// The line that refuses words.
-pub const USAGE: &str =
-    "usage: storm check T | plain T I | replay T I S | run T I [W] | load N SEED | track T I [W]\n";
+pub const USAGE: &str = "usage: storm check T | plain T I | replay T I S | run T I [W] \
+     | load N SEED | track T I [W] | fold T I [W]\n";
 
 /// How many workers there are where the words do not say it.
 const WORKERS: u32 = 4;
@@ -50,6 +50,11 @@ pub enum Command<'a> {
         seed: u32,
     },
     Track {
+        topology: &'a str,
+        input: &'a str,
+        workers: u32,
+    },
+    Fold {
         topology: &'a str,
         input: &'a str,
         workers: u32,
@@ -93,7 +98,8 @@ fn command_in<'a>(matches: &ArgMatches<'a>) -> Option<Command<'a>>
         }),
         "run" => run_of(topology, input, text_given(given, "workers")),
         "load" => load_of(text(given, "records"), text(given, "seed")),
-        _ => track_of(topology, input, text_given(given, "workers")),
+        "track" => track_of(topology, input, text_given(given, "workers")),
+        _ => fold_of(topology, input, text_given(given, "workers")),
     }
 }
 
@@ -135,6 +141,20 @@ fn track_of<'a>(topology: &'a str, input: &'a str, workers: Option<&str>) -> Opt
 {
     let workers = workers_of(workers)?;
     Some(Command::Track {
+        topology,
+        input,
+        workers,
+    })
+}
+
+fn fold_of<'a>(topology: &'a str, input: &'a str, workers: Option<&str>) -> Option<Command<'a>>
+    ensures command { option_map command_of_words result ≡ option_and_then
+        (λ w. Some (fold_over topology.now input.now w))
+        (workers_of (option_map (λ s. s.now) workers.entry)) }
+    ensures range { IfSome result IsWithin }
+{
+    let workers = workers_of(workers)?;
+    Some(Command::Fold {
         topology,
         input,
         workers,

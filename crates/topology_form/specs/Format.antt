@@ -7,6 +7,7 @@ use Rattle.topology_form.specs.declared.parts.GroupingPart.TheVariants as said
 use Rattle.topology_form.specs.declared.parts.GroupingWord.TheVariants as word
 use Rattle.topology_form.specs.Operations.{an_operation}
 use Rattle.topology_form.specs.Reading.{Reader, ◌>>=◌, done, required, optional, a_number, a_name, a_word, some_names, an_object, some_objects}
+use Rattle.topology_plan.specs.declared.parts.Fold.TheVariants as fold_of
 
 abbrev pub kinds : List (List ℕ × Kind)
 kinds = (codes "transactional", Transactional) ∷ (codes "opaque", Opaque) ∷ []
@@ -79,7 +80,8 @@ a_bolt = do
 -- ---- states
 
 abbrev pub folds : List (List ℕ × Fold)
-folds = (codes "count", Count) ∷ (codes "sum", Sum) ∷ (codes "last", Last) ∷ (codes "max", Max) ∷ []
+folds = (codes "count", Count) ∷ (codes "sum", Sum) ∷ (codes "last", Last) ∷ (codes "max", Max)
+    ∷ (codes "custom", fold_of.Custom) ∷ []
 
 -- the amount that every fold but a count has
 abbrev pub amount_for : Fold → Reader (Option (List ℕ))

@@ -150,11 +150,12 @@ impl Reader<ComponentPart> for Bolt {
     }
 }
 
-const FOLDS: [(&str, Fold); 4] = [
+const FOLDS: [(&str, Fold); 5] = [
     ("count", Fold::Count),
     ("sum", Fold::Sum),
     ("last", Fold::Last),
     ("max", Fold::Max),
+    ("custom", Fold::Custom),
 ];
 
 fn amount_from(object: &mut Object, fold: Fold) -> Result<Option<Txt>, TopoFault>

@@ -40,6 +40,8 @@ const LACKING: &str = r#"
 "amount":"b", | | missing "amount"
 "fold":"sum","amount":"b" | "fold":"last" | missing "amount"
 "fold":"sum","amount":"b" | "fold":"max" | missing "amount"
+"fold":"sum","amount":"b" | "fold":"custom" | missing "amount"
+"fold":"sum" | "fold":"custom" | no fault
 ,"inputs":["r"] | | missing "inputs"
 "ackers":6, | | no fault
 "pending":7, | | no fault
@@ -149,7 +151,8 @@ const UNKNOWN: &str = r#"
 "grouping":"shuffle" | "grouping":"a\"b\\" | unknown "a\"b\\"
 "t","kind":"transactional" | "t","kind":"opaque " | unknown "opaque "
 "fold":"sum" | "fold":"min" | unknown "min"
-"fold":"sum" | "fold":"custom" | unknown "custom"
+"fold":"sum" | "fold":"Custom" | unknown "Custom"
+"fold":"sum" | "fold":"first" | unknown "first"
 "fold":"sum" | "fold":"\u00e9\u0001\/\n" | unknown "é\u0001/\n"
 "version":1 | "version":1,"strange":0 | unknown "strange"
 "version":1 | "version":1,"strange":null | unknown "strange"

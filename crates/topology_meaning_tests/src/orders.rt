@@ -56,6 +56,7 @@ const WALK_FROM_STATES: &str = r#"
 "parts":63 | "parts":65 | "parts" is 65, not from 1 to 64 | "key":["a"] | "key":[] | "key" is 0, not from 1 to 8
 "key":["a"] | "key":["A"] | wrong kind "key" | "fold":"sum" | "fold":"min" | unknown "min"
 "fold":"sum" | "fold":"min" | unknown "min" | "amount":"b" | "amount":7 | wrong kind "amount"
+"fold":"sum","amount":"b" | "fold":"custom" | missing "amount" | "inputs":["r"] | "inputs":[] | "inputs" is 0, not from 1 to 33
 "amount":"b" | "amount":null | wrong kind "amount" | "inputs":["r"] | "inputs":[] | "inputs" is 0, not from 1 to 33
 "inputs":["r"] | "inputs":[7] | wrong kind "inputs" | "name":"t" | "a":0,"name":"t" | unknown "a"
 "inputs":["q"] | "inputs":"q" | wrong kind "inputs" | "fold":"count" | "fold":"count","amount":0 | unknown "amount"

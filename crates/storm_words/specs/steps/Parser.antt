@@ -54,6 +54,9 @@ abbrev pub track_app : App
 track_app =
     with_rule (app_with (codes "track") (topology ∷ input ∷ [])) (positional workers false)
 
+abbrev pub fold_app : App
+fold_app = with_rule (app_with (codes "fold") (topology ∷ input ∷ [])) (positional workers false)
+
 -- the words are those after the program's name, and there is no help
 abbrev pub top_shape : Shape
 top_shape = record (new_shape (codes "storm")) {
@@ -69,5 +72,5 @@ top_app = record { top = top_shape; subs = [] }
 abbrev pub storm_app : App
 storm_app =
     with_subcommand (with_subcommand (with_subcommand (with_subcommand (with_subcommand
-    (with_subcommand top_app check_app.top) plain_app.top) replay_app.top) run_app.top)
-    load_app.top) track_app.top
+    (with_subcommand (with_subcommand top_app check_app.top) plain_app.top) replay_app.top)
+    run_app.top) load_app.top) track_app.top) fold_app.top
