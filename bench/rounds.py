@@ -35,7 +35,7 @@ def cells(name, size):
         return [line for line in file if not line.startswith(b"attempt ")]
 
 
-names = ["single", "plain", "run 1", "run 2", "run 4"]
+names = ["single", "plain", "fold 1", "fold 2", "fold 4", "run 1", "run 2", "run 4"]
 runs = {(name, size): [] for size in SIZES for name in names}
 for _ in range(ROUNDS):
     for name, size in runs:

@@ -1,9 +1,11 @@
-"""The refusals of docs/FORMATS.md, written from that page alone and without a look at the program.
+"""The refusals and the reports of docs/FORMATS.md, written from that page alone and without a look at the program.
 
 topology_of(bytes) answers the text of the first fault, or the numbers of a valid topology; input_fault and
-schedule_fault answer a text or None.
+schedule_fault answer a text or None. report_of(text) reads a report, and report_fault says what no run of a topology
+over so many records can have written in it, or None.
 """
 
+import collections
 import json
 import re
 
@@ -215,7 +217,7 @@ def bolt_of(it):
 def state_of(it):
     made = {"name": it.name("name"), "kind": it.word("kind", ("transactional", "opaque"))}
     made |= {"tasks": it.number("parts", 1, 64), "key": it.names("key", MOST_FIELDS)}
-    made["fold"] = it.word("fold", ("count", "sum", "last", "max"))
+    made["fold"] = it.word("fold", ("count", "sum", "last", "max", "custom"))
     made["amount"] = [] if made["fold"] == "count" else [it.name("amount")]
     made["inputs"] = it.names("inputs", 33)
     it.end()
@@ -380,7 +382,8 @@ def plan_of(data):
     line = f"valid components {len(components)} tasks {tasks} weight {weight} depth {max(depths.values())}\n"
     mutes = any(it["op"]["do"] == "mute" for it in made["bolts"])
     spout = made["spout"]
-    sizes = {"tasks": tasks, "ackers": made["ackers"], "partitions": spout["partitions"]}
+    sizes = {it: made[it] for it in ("ackers", "pending", "buckets", "attempts")}
+    sizes |= {"tasks": tasks, "batch": spout["batch"], "partitions": spout["partitions"]}
     return {"line": line, "fields": len(spout["fields"]), "mutes": mutes} | sizes
 
 
@@ -438,4 +441,186 @@ def schedule_fault(data, tasks, ackers, partitions):
         most = {b"task": tasks, b"acker": ackers, b"shut": partitions, b"open": partitions}.get(found[1])
         if most is not None and int(found[2]) >= most:
             return f"schedule: line {at + 1}: no such number\n"
+    return None
+
+
+# ---- reports
+
+Attempt = collections.namedtuple("Attempt", "txid number spans start finish end more")
+ATTEMPT = re.compile(
+    r"attempt ([0-9]+)\.([0-9]+) records ([0-9]+-[0-9]+(?:,[0-9]+-[0-9]+)*) ticks ([0-9]+)-([0-9]+) "
+    r"(?:(committed|timed out)|(failed|coincided|commit failed|dropped) (.+))"
+)
+TAIL = re.compile(r"(ok|exhausted|unfinished) ([0-9]+)(?: records ([0-9]+) batches)?")
+STATUSES = {"ok": 0, "exhausted": 7, "unfinished": 8}
+
+
+def attempt_of(line):
+    found = ATTEMPT.fullmatch(line)
+    if not found:
+        raise ValueError(f"no line of a report: {line[:200]!r}")
+    spans = [tuple(map(int, it.split("-"))) for it in found[3].split(",")]
+    return Attempt(int(found[1]), int(found[2]), spans, int(found[4]), int(found[5]), found[6] or found[7], found[8])
+
+
+def report_of(text):
+    """The attempts, the lines of cells and the words of the last line of a report. ValueError where it is none."""
+    lines = text.split("\n")
+    found = TAIL.fullmatch(lines[-2]) if len(lines) > 1 and not lines[-1] else None
+    if not found or (found[1] == "ok") != (found[3] is not None):
+        raise ValueError(f"no end of a report: {text[-200:]!r}")
+    count = sum(it.startswith("attempt ") for it in lines)
+    cells = lines[count:-2]
+    if not all(it.startswith("cell ") for it in cells) or (cells and found[1] != "ok"):
+        raise ValueError("lines that are out of place")
+    return [attempt_of(it) for it in lines[:count]], cells, found
+
+
+def numbers_of(spans):
+    return [number for first, last in spans for number in range(first, last + 1)]
+
+
+def committed_records(attempts):
+    """The numbers of the records that were committed, in the order of the commits."""
+    return [number for it in attempts if it.end == "committed" for number in numbers_of(it.spans)]
+
+
+class Wrong(Exception):
+    """What no run can have written."""
+
+
+def holds(fact, text):
+    if not fact:
+        raise Wrong(text)
+
+
+class Walk:
+    """Goes through the attempts of a report in the order of their ends."""
+
+    def __init__(self, plan, records):
+        self.plan, self.records = plan, records
+        self.gone, self.commits, self.clock = set(), 0, 0
+        # How many records of each partition are committed.
+        self.fronts = collections.Counter()
+        # The last number of a transaction's attempts, and how many of them ended without a commit and undropped.
+        self.numbers, self.aborts = collections.Counter(), collections.Counter()
+        # The attempts that ended so in the last turn, and those that were dropped with them.
+        self.stroke, self.drops = [], []
+        self.clocks_of_strokes, self.used_up = set(), None
+
+    def batch(self, txid):
+        size = self.plan["batch"]
+        return [((txid - 1) * size + 1, min(txid * size, self.records))]
+
+    def take(self, it):
+        plan = self.plan
+        self.numbers[it.txid] += 1
+        holds(it.number == self.numbers[it.txid], "the number of the attempt")
+        holds(it.txid > self.commits, "a transaction that is committed")
+        holds(it.txid <= self.commits + plan["pending"], "more pending than may be")
+        holds(it.start <= it.finish and self.clock <= it.finish, "the ticks")
+        self.clock = it.finish
+        # Below 0 lies no record, and none touches the one before.
+        ends = [-1, *[number for span in it.spans for number in span]]
+        apart = all(ends[at] + 1 < ends[at + 1] <= ends[at + 2] for at in range(0, len(ends) - 1, 2))
+        holds(apart and 1 <= ends[1] and ends[-1] <= self.records, "the spans")
+        numbers = numbers_of(it.spans)
+        holds(len(numbers) <= plan["batch"], "the size of the batch")
+        if not plan["partitions"]:
+            holds(it.spans == self.batch(it.txid), "the records of the batch")
+        # What is committed now was pending, or committed already, when this attempt began.
+        holds(self.gone.isdisjoint(numbers), "records that were committed before it")
+        if it.end == "committed":
+            self.commit(it, numbers)
+        elif it.end == "dropped":
+            self.drop(it, numbers)
+        else:
+            self.abort(it, numbers)
+
+    def commit(self, it, numbers):
+        holds(it.txid == self.commits + 1, "the order of commits")
+        holds(self.used_up is None, "a commit after the last attempt")
+        self.commits += 1
+        self.gone.update(numbers)
+        self.stroke, self.drops = [], []
+        partitions = self.plan["partitions"]
+        if partitions:
+            for number in numbers:
+                partition = (number - 1) % partitions
+                first_left = self.fronts[partition] * partitions + partition + 1
+                holds(number == first_left, "what is committed is no front of its partition")
+                self.fronts[partition] += 1
+
+    def abort(self, it, numbers):
+        if it.end == "timed out":
+            holds(it.finish == it.start + self.plan["buckets"], "the time-out")
+        if it.end == "commit failed":
+            holds(it.txid == self.commits + 1, "the order of commits")
+        last = self.stroke[-1] if self.stroke and not self.drops else None
+        if not (last and last.end == it.end == "timed out" and last.finish == it.finish):
+            holds(self.used_up is None, "a turn after the last attempt")
+            holds(it.end != "timed out" or it.finish not in self.clocks_of_strokes, "time-outs at one tick that stand apart")
+            self.stroke, self.drops = [], []
+        if it.end == "timed out":
+            self.clocks_of_strokes.add(it.finish)
+        self.is_beside(it, numbers)
+        self.stroke.append(it)
+        self.aborts[it.txid] += 1
+        holds(self.aborts[it.txid] <= self.plan["attempts"], "more attempts than may be")
+        if self.aborts[it.txid] == self.plan["attempts"] and self.used_up is None:
+            self.used_up = it.txid
+
+    def drop(self, it, numbers):
+        holds(self.plan["partitions"], "a drop without partitions")
+        holds(self.stroke, "a drop that is not right behind the end that it names")
+        by = min(self.stroke)
+        holds(it.more == f"{by.txid}.{by.number}", "the attempt that the drop names")
+        holds(it.finish == by.finish and it.txid > by.txid, "what is dropped")
+        holds(not self.drops or it.txid > self.drops[-1].txid, "the order of drops")
+        self.is_beside(it, numbers)
+        self.drops.append(it)
+
+    def is_beside(self, it, numbers):
+        """That an attempt has no records of the others that were pending when it ended."""
+        for other in self.stroke + self.drops:
+            is_apart = it.txid != other.txid and set(numbers).isdisjoint(numbers_of(other.spans))
+            holds(is_apart, "records of another that was pending")
+        holds(len(self.stroke + self.drops) < self.plan["pending"], "more pending than may be")
+
+    def end(self, tail):
+        word, number = tail[1], int(tail[2])
+        if word == "ok":
+            holds(len(self.gone) == self.records == number and int(tail[3]) == self.commits, "the last line")
+        elif word == "unfinished":
+            holds(len(self.gone) < self.records and number == self.commits, "the last line")
+        holds((word == "exhausted") == (self.used_up is not None), "the last line")
+        holds(word != "exhausted" or number == self.used_up, "the last line")
+
+
+def were_pending(attempts):
+    """That nothing which was pending as another ended without a commit, by their ticks, ended later and was not dropped."""
+    for at, it in enumerate(attempts):
+        if it.end in ("committed", "dropped"):
+            continue
+        for later in attempts[at + 1 :]:
+            is_stroke = later.finish == it.finish and later.end in ("timed out", "dropped")
+            holds(is_stroke or later.txid < it.txid or later.start >= it.finish, f"{later.txid}.{later.number}: was not dropped")
+
+
+def report_fault(report, status, plan, records):
+    """What no run over so many records can have written in a report, or None."""
+    attempts, _, tail = report
+    walk = Walk(plan, records)
+    try:
+        for it in attempts:
+            try:
+                walk.take(it)
+            except Wrong as fault:
+                return f"{it.txid}.{it.number}: {fault}"
+        walk.end(tail)
+        holds(status == STATUSES[tail[1]], "the status")
+        if plan["partitions"]:
+            were_pending(attempts)
+    except Wrong as fault:
+        return str(fault)
     return None

@@ -1,6 +1,6 @@
 #!/usr/bin/env bash
-# Times the built program's `plain`, and its `run` with 1, 2 and 4 workers, on word counts of 1, 4 and 16 MiB, and of 10,000,
-# 100,000 and 1,000,000 lines of ten words, beside `single`, the word count by hand in one thread. Five rounds over
+# Times the built program's `plain`, and its `fold` and `run` with 1, 2 and 4 workers, on word counts of 1, 4 and 16 MiB, and of
+# 10,000, 100,000 and 1,000,000 lines of ten words, beside `single`, the word count by hand in one thread. Five rounds over
 # all commands in turn; the table has the medians of seconds, and the most memory that a command had at once.
 # Needs rustc and python3, and the proved program (./storm --prove builds it).
 set -euo pipefail

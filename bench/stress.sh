@@ -1,6 +1,6 @@
 #!/usr/bin/env bash
-# bench/stress.sh [COUNT] [SEED]: compares `run` with `plain` on COUNT random topologies, 1000 if left
-# out, each with an input and a number of workers. Both have to end with status 0 within 60 seconds,
+# bench/stress.sh [COUNT] [SEED]: compares `run` and `fold` with `plain` on COUNT random topologies, 1000
+# if left out, each with an input and a number of workers. All have to end with status 0 within 60 seconds,
 # and to print the same lines but for those of attempts.
 # The first topology has the seed SEED, 1 if left out, and each next one the seed after it. So
 # `bench/stress.sh 1 N` tries again the one of seed N.
@@ -46,6 +46,11 @@ compares() {
   ends_well "$1" run "$2" || return 1
   if ! cmp -s "$1/plain.txt" <(grep -v '^attempt ' "$1/run.txt"); then
     echo "run and plain differ"
+    return 1
+  fi
+  ends_well "$1" fold "$2" || return 1
+  if ! cmp -s "$1/plain.txt" "$1/fold.txt"; then
+    echo "fold and plain differ"
     return 1
   fi
 }

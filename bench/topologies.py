@@ -23,7 +23,7 @@ MOST_ATTEMPTS = 500
 DEFAULT_ATTEMPTS = 10
 
 GROUPINGS = ["shuffle", "fields", "all", "global", "none", "local_or_shuffle"]
-FOLDS = ["count", "sum", "last", "max"]
+FOLDS = ["count", "sum", "last", "max", "custom"]
 OPERATIONS = ["split", "project", "filter", "set", "len", "route", "flaky", "mute", "custom"]
 WORDS = ["a", "b", "the", "stone", "", "0", "-1", "A", "é", "日本", "🌀", '"', "\\", "/", "\n", "\0", "\x7f", "word" * 16]
 NUMBERS = [0, 1, -1, 2, 7, 1000, 2**31, -(2**32), 2**63 - 1, -(2**63)]

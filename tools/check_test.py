@@ -52,11 +52,11 @@ class Documents(unittest.TestCase):
             self.assertIn(it, faults[0])
 
     def test_ways_down(self):
-        names = [f"a{it}" for it in range(16)]
+        names = [f"a{it}" for it in range(17)]
         self.write("crates.txt", "# a line\n" + "".join(f"{it} may_wait=1: {' '.join(names[:at])} std\n" for at, it in enumerate(names)))
         faults = self.check.ways()
-        self.assertEqual([it.split(":")[1].split(" has ")[0].strip() for it in faults], ["a15"])
-        self.assertIn("32,768 ways down", faults[0])
+        self.assertEqual([it.split(":")[1].split(" has ")[0].strip() for it in faults], ["a16"])
+        self.assertIn("65,536 ways down", faults[0])
         self.write("crates.txt", "".join(f"{it}: {names[max(at - 1, 0)] if at else ''}\n" for at, it in enumerate(names)))
         self.assertEqual(self.check.ways(), [])
 

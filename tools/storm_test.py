@@ -1,6 +1,7 @@
 """Tests of ./storm: of what it builds when, with a stand-in for the toolchain in a small copy of the repository."""
 
 import os
+import re
 import shutil
 import subprocess
 import tempfile
@@ -81,6 +82,8 @@ class Storm(unittest.TestCase):
     def test_explains_itself(self):
         with open(f"{TOP}/crates/storm_words/src/words.rt", encoding="utf-8") as file:
             usage = file.read().split('USAGE: &str =')[1].split('"')[1].removesuffix("\\n")
+        # A backslash at the end of a line goes, with the line end and the blanks behind it.
+        usage = re.sub(r"\\\n *", "", usage)
         for words in [(), ("-h",), ("--help",), ("help",)]:
             ran, calls = self.call(*words)
             self.assertEqual((ran.returncode, ran.stdout, calls), (2, usage + "\n", []))

@@ -39,6 +39,22 @@ const NO_PARTITIONS: [Step; 12] = [
     Left(3),
 ];
 
+const EVEN_BATCHES: [Step; 4] = [
+    Count(2),
+    Offer(1, 0, &[(1, 2)]),
+    Offer(2, 0, &[(3, 4)]),
+    Offer(3, 0, &[]),
+];
+
+const BATCHES_OF_ONE: [Step; 4] = [
+    Count(4),
+    Offer(1, 0, &[(1, 1)]),
+    Offer(4, 0, &[(4, 4)]),
+    Offer(5, 0, &[]),
+];
+
+const ONE_BATCH: [Step; 3] = [Count(1), Offer(1, 0, &[(1, 4)]), Offer(2, 0, &[])];
+
 // Partition 1 has the records 2, 5 and 8.
 const RECORDS_COME_BACK: [Step; 12] = [
     Offer(1, 0, &[(1, 3)]),
@@ -88,6 +104,21 @@ fn two_partitions_of_four_records(rt: HostRuntime) -> Result<(), Trouble> {
 #[test]
 fn batches_without_partitions(rt: HostRuntime) -> Result<(), Trouble> {
     check(rt.alloc(), 5, 2, 0, &NO_PARTITIONS)
+}
+
+#[test]
+fn batches_that_come_out_even(rt: HostRuntime) -> Result<(), Trouble> {
+    check(rt.alloc(), 4, 2, 0, &EVEN_BATCHES)
+}
+
+#[test]
+fn batches_of_one_record(rt: HostRuntime) -> Result<(), Trouble> {
+    check(rt.alloc(), 4, 1, 0, &BATCHES_OF_ONE)
+}
+
+#[test]
+fn one_batch_of_all_records(rt: HostRuntime) -> Result<(), Trouble> {
+    check(rt.alloc(), 4, u32::MAX, 0, &ONE_BATCH)
 }
 
 #[test]

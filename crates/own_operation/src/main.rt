@@ -1,5 +1,6 @@
 //! A program of one's own over the crates of storm: it counts the links of each page, whichever
-//! way they lead. Copy it to run topologies with an operation that you write in Rattle.
+//! way they lead, and adds the squares of their clicks. Copy it to run topologies with an
+//! operation and a fold that you write in Rattle.
 //!
 //! It runs `topology.json` over `input.jsonl` in the current folder, and prints the report.
 #![tactic(auto)]
@@ -17,7 +18,8 @@ use storm_stores::MemMaker;
 use storm_ticks::ClockTicks;
 use storm_values::{Duplicate, Memory, Row, Rows};
 
-/// Makes two rows of one: the row, and the row with its values in reverse order.
+/// Makes two rows of one: the row, and the row with its values in reverse order. A custom fold
+/// adds the squares of the amounts; the sum wraps round at 128 bits.
 struct BothWays;
 
 impl RowOp for BothWays {
@@ -37,11 +39,12 @@ impl RowOp for BothWays {
     }
 
     fn one(&self, amount: i64) -> i128 {
-        i128::from(amount)
+        let wide = i128::from(amount);
+        wide.wrapping_mul(wide)
     }
 
-    fn combine(&self, _earlier: i128, later: i128) -> i128 {
-        later
+    fn combine(&self, earlier: i128, later: i128) -> i128 {
+        earlier.wrapping_add(later)
     }
 }
 

@@ -171,6 +171,49 @@ pub const MUTE_ALWAYS: &str = r#"{"version":1,
    "fold":"count","inputs":["shaky"]}],
  "ackers":1,"pending":1,"buckets":3,"attempts":4}"#;
 
+/// A count of the words of two partitions, with batches of two records.
+pub const TWO_PARTITIONS: &str = r#"{"version":2,
+ "spout":{"name":"words","kind":"opaque","fields":["word"],"batch":2,"partitions":2},
+ "bolts":[],
+ "states":[{"name":"counts","kind":"opaque","parts":1,"key":["word"],
+   "fold":"count","inputs":["words"]}],
+ "pending":2}"#;
+
+/// A count of the words of one partition behind a bolt that fails the attempts below 2, with
+/// batches of one record.
+pub const DROPS_ONCE: &str = r#"{"version":2,
+ "spout":{"name":"words","kind":"opaque","fields":["word"],"batch":1,"partitions":1},
+ "bolts":[{"name":"shaky","tasks":1,"op":{"do":"flaky","below":2},
+   "inputs":[{"from":"words","grouping":"shuffle"}]}],
+ "states":[{"name":"counts","kind":"opaque","parts":1,"key":["word"],
+   "fold":"count","inputs":["shaky"]}],
+ "ackers":1,"pending":2,"buckets":3,"attempts":4}"#;
+
+/// The same with two attempts, which both fail.
+pub const DROPS_ALWAYS: &str = r#"{"version":2,
+ "spout":{"name":"words","kind":"opaque","fields":["word"],"batch":1,"partitions":1},
+ "bolts":[{"name":"shaky","tasks":1,"op":{"do":"flaky","below":9},
+   "inputs":[{"from":"words","grouping":"shuffle"}]}],
+ "states":[{"name":"counts","kind":"opaque","parts":1,"key":["word"],
+   "fold":"count","inputs":["shaky"]}],
+ "ackers":1,"pending":2,"buckets":3,"attempts":2}"#;
+
+/// The same with a bolt for the word `a` that fails one attempt, and one for `b` that fails two.
+pub const DROPS_THEN_FAILS: &str = r#"{"version":2,
+ "spout":{"name":"words","kind":"opaque","fields":["word"],"batch":1,"partitions":1},
+ "bolts":[
+  {"name":"first","tasks":1,"op":{"do":"filter","field":"word","test":"eq","value":"a"},
+   "inputs":[{"from":"words","grouping":"shuffle"}]},
+  {"name":"once","tasks":1,"op":{"do":"flaky","below":2},
+   "inputs":[{"from":"first","grouping":"shuffle"}]},
+  {"name":"second","tasks":1,"op":{"do":"filter","field":"word","test":"eq","value":"b"},
+   "inputs":[{"from":"words","grouping":"shuffle"}]},
+  {"name":"twice","tasks":1,"op":{"do":"flaky","below":3},
+   "inputs":[{"from":"second","grouping":"shuffle"}]}],
+ "states":[{"name":"counts","kind":"opaque","parts":1,"key":["word"],
+   "fold":"count","inputs":["once","twice"]}],
+ "ackers":1,"pending":2,"buckets":3,"attempts":2}"#;
+
 /// A count of words behind one bolt.
 const ONE_BOLT: &str = r#"{"version":1,
  "spout":{"name":"words","kind":"SPOUT","fields":["word"],"batch":1},

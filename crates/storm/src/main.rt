@@ -1,16 +1,18 @@
 //! Runs the command that the words after the program's name give. Bolts with the operation `custom`
-//! turn a row's values round.
+//! turn a row's values round, and states with the fold `custom` keep the first amount of a key.
 //!
 //! A run has a tick each 10 seconds, keeps the cells of its states in memory, and has its ids from
 //! ChaCha20 with a key of 32 zero bytes.
 #![tactic(auto)]
 
 ghost use Rattle.std.specs.Prelude.{◌≡◌, map, replicate, string_bytes};
-ghost use Rattle.bolt_ops.specs.RowOp.{reversed, reversed_rows};
+ghost use Rattle.bolt_ops.specs.RowOp.{reversed_rows};
 ghost use Rattle.bolt_ops.specs.Stored.{Keeps};
+ghost use Rattle.storm.specs.Operation.{first, reversed_and_first, same};
 ghost use Rattle.storm_program.specs.Outside.{run_use, shelf_use, sink_use, ticks_use};
 ghost use Rattle.storm_program.specs.Storm.{Exits};
 ghost use Rattle.storm_program.specs.stored_runs.Makers.{maker_use};
+ghost use Rattle.stored_folds.specs.Folds.{Keeps as KeepsFold};
 
 mod arguments;
 
@@ -20,6 +22,7 @@ use std::alloc::Global;
 use std::process::ExitCode;
 use std::sync::Wait;
 use std::thread::Threads;
+use stored_folds::{CombineFn, First, OneFn, StoredFold};
 use storm_gates::OpenGate;
 use storm_ids::{ChaChaMaker, IdMaker};
 use storm_outside::{FileShelf, OutSink, Shelf, Sink};
@@ -46,7 +49,7 @@ fn exit_status<R: Threads + Wait + Sync, H: Shelf, K: Sink, T: Ticks, M: StoreMa
 where
     N::I: Send,
     M::C: Send,
-    ensures { Exits reversed (map string_bytes words.now)
+    ensures { Exits reversed_and_first (map string_bytes words.now)
         (shelf_use H.holds H.ready H.fetches H.faults shelf.old shelf.new)
         (sink_use K.taken K.faults out.old out.new)
         (run_use (maker_use M.C.tells M.C.fault_count M.holds M.has_made M.fault_count
@@ -55,10 +58,14 @@ where
         (ticks_use T.handed_out T.tells ticks.old ticks.new) result }
 {
     let turn = |alloc: Global, row: &Row| reversed_row(alloc, row);
-    status_over(rt, alloc, words, shelf, out, ticks, stores, ids, turn)
+    let one = |amount: i64| i128::from(amount);
+    let first = |earlier: i128, _later: i128| earlier;
+    status_over(
+        rt, alloc, words, shelf, out, ticks, stores, ids, turn, one, first,
+    )
 }
 
-// As `exit_status`, by a closure for `custom` bolts.
+// As `exit_status`, by a closure for `custom` bolts and two for `custom` folds.
 fn status_over<
     R: Threads + Wait + Sync,
     H: Shelf,
@@ -67,6 +74,8 @@ fn status_over<
     M: StoreMaker,
     N: IdMaker,
     F: RowFn + Sync + Drop,
+    A: OneFn + Sync + Drop,
+    B: CombineFn + Sync + Drop,
 >(
     rt: &R,
     alloc: Global,
@@ -77,12 +86,16 @@ fn status_over<
     stores: &mut M,
     ids: &mut N,
     turn: F,
+    one: A,
+    combine: B,
 ) -> u8
 where
     N::I: Send,
     M::C: Send,
-    requires { Keeps reversed_rows (F.may_make turn) (F.makes turn) }
-    ensures { Exits reversed (map string_bytes words.now)
+    requires rows { Keeps reversed_rows (F.may_make turn) (F.makes turn) }
+    requires fold { KeepsFold same first
+        (A.may_make one) (A.makes one) (B.may_make combine) (B.makes combine) }
+    ensures { Exits reversed_and_first (map string_bytes words.now)
         (shelf_use H.holds H.ready H.fetches H.faults shelf.old shelf.new)
         (sink_use K.taken K.faults out.old out.new)
         (run_use (maker_use M.C.tells M.C.fault_count M.holds M.has_made M.fault_count
@@ -91,7 +104,8 @@ where
         (ticks_use T.handed_out T.tells ticks.old ticks.new) result }
 {
     let mut fates = Fates::new(alloc);
-    let op = StoredOp::<Reverse, F>::new(turn);
+    let rows = StoredOp::<Reverse, F>::new(turn);
+    let op = StoredFold::<First, StoredOp<Reverse, F>, A, B>::new(rows, one, combine);
     let gate = OpenGate {};
     let status = storm(
         rt, alloc, words, shelf, out, ticks, stores, ids, &op, &gate, &mut fates,

@@ -1,14 +1,14 @@
 //! Calls `storm` over each folder of `examples`, and tells whether it prints what lies there.
 //!
 //! A folder has `topology.json` and `input.jsonl`. One of an operation or a grouping has in
-//! `plain.txt` what `plain` prints, and a run prints the same after its attempt lines, whatever its
-//! number of workers. One of an end has in `report.txt` what a run prints, or a replay of its
-//! `schedule.txt`, and one of a tracking in `tracked.txt` what `track` prints.
+//! `plain.txt` what `plain` prints; a fold prints the same, and a run after its attempt lines,
+//! whatever the number of workers. One of an end has in `report.txt` what a run prints, or a replay
+//! of its `schedule.txt`, and one of a tracking in `tracked.txt` what `track` prints.
 #![tactic(auto)]
 
 ghost use Rattle.std.specs.Prelude.{[]};
 
-use sample_operations::Backwards;
+use sample_operations::First;
 use std::alloc::Global;
 use std::process::ExitCode;
 use std::sync::Wait;
@@ -35,7 +35,7 @@ enum Handed {
 }
 
 // The folders of operations and groupings, and what is handed in to a run.
-const OPERATIONS: [(&str, Handed); 20] = [
+const OPERATIONS: [(&str, Handed); 21] = [
     ("word_count", Handed::Nothing),
     ("pairs", Handed::Nothing),
     ("log_lines", Handed::Nothing),
@@ -49,6 +49,7 @@ const OPERATIONS: [(&str, Handed); 20] = [
     ("flaky", Handed::Nothing),
     ("mute", Handed::SlowTicks),
     ("custom", Handed::Nothing),
+    ("custom_fold", Handed::Nothing),
     ("grouping_shuffle", Handed::Nothing),
     ("grouping_none", Handed::Nothing),
     ("grouping_local_or_shuffle", Handed::Nothing),
@@ -58,11 +59,11 @@ const OPERATIONS: [(&str, Handed); 20] = [
     ("grouping_direct", Handed::Nothing),
 ];
 
-// The numbers of workers by which each of these is run.
+// The numbers of workers by which each of these is folded and run.
 const WORKERS: [&str; 4] = ["1", "2", "3", "7"];
 
 // The folders of ends, the command, and what is handed in.
-const ENDS: [(&str, &str, Handed); 11] = [
+const ENDS: [(&str, &str, Handed); 15] = [
     ("end_committed", "run", Handed::Nothing),
     ("end_failed", "run", Handed::Nothing),
     ("end_timed_out", "replay", Handed::Nothing),
@@ -76,15 +77,23 @@ const ENDS: [(&str, &str, Handed); 11] = [
         Handed::FailingPut(FOURTH_PUT),
     ),
     ("retries", "replay", Handed::Nothing),
+    ("drop_failed", "replay", Handed::Nothing),
+    ("drop_timed_out", "replay", Handed::Nothing),
+    (
+        "drop_commit_failed",
+        "replay",
+        Handed::FailingPut(FOURTH_PUT),
+    ),
+    ("drop_coincided", "replay", Handed::TwoOfOneId),
     ("tracked_late", "track", Handed::Nothing),
     ("tracked_lost", "track", Handed::Nothing),
 ];
 
-// Of `end_coincided` the task is the source 0 of ids, and the coordinator the source 2. The first
-// word of each is where its shuffle begins.
-const TASK_WORDS: [u64; 5] = [0, 9, 9, 7, 8];
+// Of `end_coincided` and `drop_coincided` the task is the source 0 of ids, and the coordinator the
+// source 2. The first word of each is where its shuffle begins. The second topology draws all.
+const TASK_WORDS: [u64; 7] = [0, 9, 9, 7, 8, 13, 14];
 
-const COORDINATOR_WORDS: [u64; 3] = [0, 5, 6];
+const COORDINATOR_WORDS: [u64; 5] = [0, 5, 6, 11, 12];
 
 // Where a put fails the state is the component 1, and has one part.
 const FIRST_PUT: FailAt = FailAt {
@@ -93,8 +102,8 @@ const FIRST_PUT: FailAt = FailAt {
     happened: true,
 };
 
-// Of two batches with two keys each it is the second batch's second put, so that of its first
-// attempt one cell is written and the other is not.
+// Of batches with two keys each it is the second batch's second put, so that of its first attempt
+// one cell is written and the other is not.
 const FOURTH_PUT: FailAt = FailAt {
     kind: CallKind::Put,
     number: 4,
@@ -187,7 +196,7 @@ where
         &mut ticks,
         &mut stores,
         ids,
-        &Backwards,
+        &First,
         &OpenGate {},
         &mut fates,
     );
@@ -277,21 +286,22 @@ fn tell_plain<R: Threads + Wait + Sync, H: Shelf, K: Sink>(
     tell(alloc, out, "plain", name, same)
 }
 
-// Tells whether runs on a folder's files, by each of the numbers of workers, print its tables.
-fn tell_runs<R: Threads + Wait + Sync, H: Shelf, K: Sink>(
+// Tells whether a command on a folder's files prints its tables, by each number of workers.
+fn tell_workers<R: Threads + Wait + Sync, H: Shelf, K: Sink>(
     rt: &R,
     alloc: Global,
     shelf: &mut H,
     out: &mut K,
+    command: &str,
     name: &str,
     handed: Handed,
 ) -> Result<(), InFault> {
     let mut same = true;
     for workers in WORKERS {
-        same &= has_tables(rt, alloc, shelf, "run", name, Some(workers), handed)?;
+        same &= has_tables(rt, alloc, shelf, command, name, Some(workers), handed)?;
     }
     let of = format!(in alloc; "{name} with 1, 2, 3 and 7 workers")?;
-    tell(alloc, out, "run", of.as_str(), same)
+    tell(alloc, out, command, of.as_str(), same)
 }
 
 // Where a folder has what a command prints.
@@ -329,7 +339,8 @@ fn tell_all<R: Threads + Wait + Sync, H: Shelf, K: Sink>(
 ) -> Result<(), InFault> {
     for (name, handed) in OPERATIONS {
         tell_plain(rt, alloc, shelf, out, name)?;
-        tell_runs(rt, alloc, shelf, out, name, handed)?;
+        tell_workers(rt, alloc, shelf, out, "fold", name, handed)?;
+        tell_workers(rt, alloc, shelf, out, "run", name, handed)?;
     }
     for (name, command, handed) in ENDS {
         tell_report(rt, alloc, shelf, out, command, name, handed)?;

@@ -2,8 +2,8 @@
 use Rattle.std.proofs.Common.{◌≡◌, ◌⊎◌, ℕ, List, [], Result, Ok, Err, IfOk, IfErr, IsErrAnd, refl, sym, subst, inl, inr, String, string_bytes}
 use Rattle.storm_program.specs.declared.status.Status.{Status}
 use Rattle.storm_program.specs.declared.status.Status.TheVariants as status
-use Rattle.storm_program.specs.declared.stop.Stop.{Stop}
-use Rattle.storm_program.specs.declared.stop.Stop.TheVariants.{Memory, Told}
+use Rattle.storm_program.specs.declared.early_end.EarlyEnd.{EarlyEnd}
+use Rattle.storm_program.specs.declared.early_end.EarlyEnd.TheVariants.{Memory, Told}
 use Rattle.storm_program.specs.Ends.{AnswersCall, HasText, IsCut, IsDoneOrShort, Ends, TakesThePlace, IsAnswered}
 use Rattle.storm_program.specs.Outside.{ShelfUse, SinkFailed, SinkUse, TookText}
 use Rattle.storm_program.specs.steps.Stops.{IsMemory, Stops, IsWritten, IsStopWritten}
@@ -16,12 +16,12 @@ IfErr-exit (Ok x) error P exits holds = tt
 IfErr-exit (Err e) error P exits holds = subst P (sym exits) holds
 
 -- a stop of one meaning is one of a weaker meaning
-pub Stops-weaker : (P Q : Status → List ℕ → Type 0) (stop : Stop) → ((s : Status) (text : List ℕ) → P s text → Q s text) → Stops P stop → Stops Q stop
+pub Stops-weaker : (P Q : Status → List ℕ → Type 0) (stop : EarlyEnd) → ((s : Status) (text : List ℕ) → P s text → Q s text) → Stops P stop → Stops Q stop
 Stops-weaker P Q Memory weaker comes = weaker status.Memory [] comes
 Stops-weaker P Q (Told s line) weaker (has, comes) = (has, weaker s (string_bytes line) comes)
 
 -- the same where the stop is handed on
-pub stops_on : {T : Type 0} (P Q : Status → List ℕ → Type 0) (r : Result T Stop) → ((s : Status) (text : List ℕ) → P s text → Q s text) → IfErr r (Stops P) → IfErr r (Stops Q)
+pub stops_on : {T : Type 0} (P Q : Status → List ℕ → Type 0) (r : Result T EarlyEnd) → ((s : Status) (text : List ℕ) → P s text → Q s text) → IfErr r (Stops P) → IfErr r (Stops Q)
 stops_on P Q (Ok x) weaker stops = tt
 stops_on P Q (Err stop) weaker stops = Stops-weaker P Q stop weaker stops
 
@@ -49,12 +49,12 @@ module _ (Comes : Status → List ℕ → Type 0) (sink : SinkUse) where
       let is_cut : IsCut Comes sink = record { rose = rose; replaced = s; has_text = has; text = text; comes = comes; front = front } in
       subst (Ends Comes sink) (sym is) (ends_cut is_cut)
 
-  ends_stop : (stop : Stop) (answer : Status) → Stops Comes stop → IsStopWritten stop sink answer → Ends Comes sink answer
+  ends_stop : (stop : EarlyEnd) (answer : Status) → Stops Comes stop → IsStopWritten stop sink answer → Ends Comes sink answer
   ends_stop Memory answer comes (is, nothing) = subst (Ends Comes sink) (sym is) (ends_memory comes nothing)
   ends_stop (Told s line) answer (has, comes) written = ends_written s answer (string_bytes line) has comes written
 
   -- what a command came to was written
-  pub ends_answer : {A : Type 0} (came : Result (String A) Stop) (answer : Status) → IfOk came (λ text. Comes status.Done (string_bytes text)) → IfErr came (Stops Comes) → IfOk came (λ text. IsWritten status.Done (string_bytes text) sink answer) → IfErr came (λ stop. IsStopWritten stop sink answer) → Ends Comes sink answer
+  pub ends_answer : {A : Type 0} (came : Result (String A) EarlyEnd) (answer : Status) → IfOk came (λ text. Comes status.Done (string_bytes text)) → IfErr came (Stops Comes) → IfOk came (λ text. IsWritten status.Done (string_bytes text) sink answer) → IfErr came (λ stop. IsStopWritten stop sink answer) → Ends Comes sink answer
   ends_answer (Ok text) answer done stop written stopped = ends_written status.Done answer (string_bytes text) tt done written
   ends_answer (Err stop) answer done stops written stopped = ends_stop stop answer stops stopped
 
@@ -63,7 +63,7 @@ written_done : (text : List ℕ) (sink : SinkUse) (answer : Status) → (SinkFai
 written_done text sink answer fine (inl written) = inl written.0
 written_done text sink answer fine (inr cut) = absurd (fine cut.1)
 
-pub done_or_short : {A : Type 0} (came : Result (String A) Stop) (sink : SinkUse) (answer : Status) → (SinkFailed sink → ⊥) → IfErr came IsMemory → IfOk came (λ text. IsWritten status.Done (string_bytes text) sink answer) → IfErr came (λ stop. IsStopWritten stop sink answer) → IsDoneOrShort answer
+pub done_or_short : {A : Type 0} (came : Result (String A) EarlyEnd) (sink : SinkUse) (answer : Status) → (SinkFailed sink → ⊥) → IfErr came IsMemory → IfOk came (λ text. IsWritten status.Done (string_bytes text) sink answer) → IfErr came (λ stop. IsStopWritten stop sink answer) → IsDoneOrShort answer
 done_or_short (Ok text) sink answer fine short written stopped = written_done (string_bytes text) sink answer fine written
 done_or_short (Err Memory) sink answer fine short written stopped = inr stopped.0
 done_or_short (Err (Told s line)) sink answer fine short written stopped = absurd short

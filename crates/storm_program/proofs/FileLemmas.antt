@@ -20,8 +20,8 @@ use Rattle.topology_reader.specs.FirstFault.{first_fault, IsFilePlan}
 use Rattle.topology_reader.proofs.FilePlans.{plan_of_front, IsRefusedAlike, refused_by_front}
 use Rattle.storm_program.specs.declared.status.Status.{Status}
 use Rattle.storm_program.specs.declared.status.Status.TheVariants as status
-use Rattle.storm_program.specs.declared.stop.Stop.{Stop}
-use Rattle.storm_program.specs.declared.stop.Stop.TheVariants.{Memory, Told}
+use Rattle.storm_program.specs.declared.early_end.EarlyEnd.{EarlyEnd}
+use Rattle.storm_program.specs.declared.early_end.EarlyEnd.TheVariants.{Memory, Told}
 use Rattle.storm_program.specs.Ends.{HasText}
 use Rattle.storm_program.specs.Files.{IsAccepted, AreAccepted, AreRecords, IsTopologyLine, IsInputLine, IsNotRead, of_topology, of_input, FilesCome}
 use Rattle.storm_program.specs.Outside.{ShelfUse, AreBytesOf, Fetched}
@@ -93,13 +93,13 @@ refused_input_line holds plan name front slice want fault text read sliced wants
     }
 
 -- a topology that was refused
-pub topology_refused : (shelf : ShelfUse) (name front slice : List ℕ) (fault : TopoFault) (stop : Stop) → WasRead shelf.holds name 65537 front → slice ≡ front → (fault ≢ topology_fault.Memory → first_fault slice ≡ Some fault) → Fetched 1 shelf → IfTold stop (λ ending text. (fault ≢ topology_fault.Memory) × (ending ≡ status.Topology) × (text ≡ topology_line fault)) → Stops (TopologyComes shelf name) stop
+pub topology_refused : (shelf : ShelfUse) (name front slice : List ℕ) (fault : TopoFault) (stop : EarlyEnd) → WasRead shelf.holds name 65537 front → slice ≡ front → (fault ≢ topology_fault.Memory → first_fault slice ≡ Some fault) → Fetched 1 shelf → IfTold stop (λ ending text. (fault ≢ topology_fault.Memory) × (ending ≡ status.Topology) × (text ≡ topology_line fault)) → Stops (TopologyComes shelf name) stop
 topology_refused shelf name front slice fault Memory read sliced refused once told = once
 topology_refused shelf name front slice fault (Told s line) read sliced refused once (tells, is, printed) =
     subst (λ t. HasText t × TopologyComes shelf name t (string_bytes line)) (sym is) (tt, (once, refused_line shelf.holds name front slice fault (string_bytes line) read sliced (refused tells) printed))
 
 -- an input that was refused
-pub input_refused : (shelf : ShelfUse) (plan : Topology) (name front slice : List ℕ) (want : ℕ) (fault : InputFault) (stop : Stop) → WasRead shelf.holds name 67108865 front → slice ≡ front → want ≡ length plan.spout_fields → (fault ≢ input_fault_is.Memory → input_fault slice want ≡ Some fault) → IfTold stop (λ ending text. (fault ≢ input_fault_is.Memory) × (ending ≡ status.Input) × (text ≡ input_line fault)) → Stops (InputComes shelf plan name) stop
+pub input_refused : (shelf : ShelfUse) (plan : Topology) (name front slice : List ℕ) (want : ℕ) (fault : InputFault) (stop : EarlyEnd) → WasRead shelf.holds name 67108865 front → slice ≡ front → want ≡ length plan.spout_fields → (fault ≢ input_fault_is.Memory → input_fault slice want ≡ Some fault) → IfTold stop (λ ending text. (fault ≢ input_fault_is.Memory) × (ending ≡ status.Input) × (text ≡ input_line fault)) → Stops (InputComes shelf plan name) stop
 input_refused shelf plan name front slice want fault Memory read sliced wants refused told = tt
 input_refused shelf plan name front slice want fault (Told s line) read sliced wants refused (tells, is, printed) =
     subst (λ t. HasText t × InputComes shelf plan name t (string_bytes line)) (sym is) (tt, refused_input_line shelf.holds plan name front slice want fault (string_bytes line) read sliced wants (refused tells) printed)
@@ -134,7 +134,7 @@ refused_schedule_line fault_of holds plan name front slice fault text read slice
     }
 
 -- a schedule that was refused
-pub schedule_refused : FaultOfFront → (shelf : ShelfUse) (plan : Topology) (name front slice : List ℕ) (fault : ScheduleFault) (stop : Stop) → WasRead shelf.holds name 1048577 front → slice ≡ front → (fault ≢ schedule_fault_is.Memory → schedule_fault slice plan ≡ Some fault) → IfTold stop (λ ending text. (fault ≢ schedule_fault_is.Memory) × (ending ≡ status.Schedule) × (text ≡ schedule_line fault)) → Stops (ScheduleComes shelf plan name) stop
+pub schedule_refused : FaultOfFront → (shelf : ShelfUse) (plan : Topology) (name front slice : List ℕ) (fault : ScheduleFault) (stop : EarlyEnd) → WasRead shelf.holds name 1048577 front → slice ≡ front → (fault ≢ schedule_fault_is.Memory → schedule_fault slice plan ≡ Some fault) → IfTold stop (λ ending text. (fault ≢ schedule_fault_is.Memory) × (ending ≡ status.Schedule) × (text ≡ schedule_line fault)) → Stops (ScheduleComes shelf plan name) stop
 schedule_refused fault_of shelf plan name front slice fault Memory read sliced refused told = tt
 schedule_refused fault_of shelf plan name front slice fault (Told s line) read sliced refused (tells, is, printed) =
     subst (λ t. HasText t × ScheduleComes shelf plan name t (string_bytes line)) (sym is) (tt, refused_schedule_line fault_of shelf.holds plan name front slice fault (string_bytes line) read sliced (refused tells) printed)

@@ -1,6 +1,7 @@
 -- What a load comes to, from what its parts came to.
-use Rattle.std.proofs.Common.{◌≡◌, ◌⊎◌, ◌<◌, ℕ, ◌+◌, ◌*◌, List, [], ◌∷◌, ◌++◌, length, map, flat_map, inl, inr, refl, sym, ap, ◌∙◌, subst, append_assoc, arith}
-use Rattle.std.specs.List.{range_with_len}
+use Rattle.std.proofs.Common.{◌≡◌, ◌⊎◌, ◌<◌, ℕ, ◌+◌, ◌*◌, List, [], ◌∷◌, ◌++◌, All, length, map, flat_map, inl, inr, refl, sym, ap, ◌∙◌, subst, append_assoc, arith}
+use Rattle.std.specs.List.{AllByRecursion, range_with_len}
+use Rattle.std.proofs.lemmas.List.Elements.{All-from_recursion}
 use Rattle.std.proofs.lemmas.List.{append-nil}
 use Rattle.std.proofs.lemmas.List.FromFn.{length-range_with_len}
 use Rattle.load_source.specs.File.{load_text}
@@ -12,7 +13,10 @@ use Rattle.storm_program.specs.Outside.{RunUse}
 use Rattle.storm_program.specs.Replay.{ReplayEndsSo, ticks_of_schedule}
 use Rattle.storm_program.specs.Run.{IsNotBegun, IsShort}
 use Rattle.storm_program.specs.steps.Ended.{WorkStops}
+use Rattle.schedule_core.proofs.Rounding.{open-round}
 use Rattle.schedule_core.proofs.TicksOfRuns.{ticks-of-rounds}
+use Rattle.event_worlds.proofs.counted_items.Each.{each-append}
+use Rattle.world_progress.specs.Rounding.{ShutsNone}
 use Rattle.event_worlds.specs.attempt_fates.declared.fates.Attempt.{Attempt}
 use Rattle.event_worlds.specs.bolt_ops.RowOp.{Custom}
 use Rattle.event_worlds.specs.Rounds.{HasRounds, round_with, rounds_needed, ticks_in}
@@ -22,7 +26,8 @@ use Rattle.schedule_reader.specs.declared.event.Event.{Event}
 use Rattle.schedule_reader.specs.declared.event.Event.TheVariants.{Rounds}
 use Rattle.event_worlds.specs.storm_values.declared.value.Value.{Value}
 use Rattle.event_worlds.specs.tree_model.Trees.{node_count}
-use Rattle.event_worlds.specs.trident_batches.Batches.{Cut, batch_count}
+use Rattle.event_worlds.specs.record_offers.Offers.{batch_count}
+use Rattle.event_worlds.specs.taken_records.Cuts.{Cut}
 use Rattle.storm_program.specs.Reports.{cut_by}
 use Rattle.event_worlds.specs.topology_plan.Topology.{Topology, tasks_in_all}
 use Rattle.topology_reader.specs.FirstFault.{IsFilePlan}
@@ -80,6 +85,20 @@ pub no_ticks_of_load : (t : Topology) (n : ℕ) → ticks_of_schedule t (Rounds 
 no_ticks_of_load t n =
     none-more _ _ _ (ticks-of-rounds (rounds_steps t n) []) (over_ticks t (range_with_len 0 n)) refl
 
+open_round : (t : Topology) → AllByRecursion ShutsNone (round_steps t)
+open_round t = subst (λ (steps : List Step). AllByRecursion ShutsNone steps) (sym (round_is t)) (open-round t 0)
+
+open_over : (t : Topology) (ks : List ℕ) → AllByRecursion ShutsNone (flat_map (λ k. round_steps t) ks ++ [])
+open_over t [] = tt
+open_over t (k ∷ ks) =
+    let more : List Step = flat_map (λ k. round_steps t) ks in
+    subst (λ (steps : List Step). AllByRecursion ShutsNone steps) (sym (append_assoc (round_steps t) more []))
+    (each-append ShutsNone (round_steps t) (more ++ []) (open_round t) (open_over t ks))
+
+-- and shut no partition
+pub open_of_load : (t : Topology) (n : ℕ) → All ShutsNone (all_steps t (Rounds n ∷ []))
+open_of_load t n = All-from_recursion ShutsNone (rounds_steps t n ++ []) (open_over t (range_with_len 0 n))
+
 module _ (plan : Topology) (custom : Custom) (cut : Cut) (b : ℕ) (b_is : b ≡ batch_count (length cut.records) cut.size) (events : List Event) (is : events ≡ Rounds (64 * (node_count plan custom cut.records + b + 1)) ∷ []) where
   -- the one event is that of a load
   pub events_are : (records : List (List Value)) → cut ≡ cut_by plan records → events ≡ load_events plan custom records
@@ -103,6 +122,11 @@ module _ (plan : Topology) (custom : Custom) (cut : Cut) (b : ℕ) (b_is : b ≡
       let none : ticks_of_schedule plan events ≡ 0 =
       ap (ticks_of_schedule plan) is ∙ no_ticks_of_load plan (64 * (node_count plan custom cut.records + b + 1))
       in omega arith
+
+  pub shuts_none : All ShutsNone (all_steps plan events)
+  shuts_none =
+      subst (λ (es : List Event). All ShutsNone (all_steps plan es)) (sym is)
+      (open_of_load plan (64 * (node_count plan custom cut.records + b + 1)))
 
 -- ---- what it comes to
 

@@ -1,9 +1,7 @@
 -- What is written of a run over accepted files, from what the run came to.
-use Rattle.std.proofs.Common.{◌≡◌, ℕ, List, All, length, Result, Ok, Err, IfOk, IfErr, sym, ap, subst, ◌∙◌, String, string_bytes}
+use Rattle.std.proofs.Common.{◌≡◌, ◌⊎◌, inr, ℕ, List, All, length, Result, Ok, Err, IfOk, IfErr, refl, sym, ap, subst, ◌∙◌, String, string_bytes}
 use Rattle.std.specs.List.{AllByRecursion}
 use Rattle.std.proofs.lemmas.List.Elements.{All-from_recursion}
-use Rattle.std.proofs.lemmas.List.FromFn.{length-range_with_len}
-use Rattle.event_worlds.proofs.attempt_fates.RecordLemmas.{records_are_all}
 use Rattle.event_worlds.specs.attempt_fates.declared.fates.Attempt.{Attempt}
 use Rattle.event_worlds.specs.attempt_fates.declared.fates.End.{End}
 use Rattle.event_worlds.specs.attempt_fates.Fates.{IsOnce, records_in}
@@ -11,31 +9,30 @@ use Rattle.event_worlds.specs.bolt_ops.RowOp.{Custom}
 use Rattle.event_worlds.specs.commit_turns.Account.{ended_of, ending_of}
 use Rattle.event_worlds.specs.commit_turns.Turns.{last_tick}
 use Rattle.event_worlds.proofs.counted_items.Each.{each-weaker}
-use Rattle.schedule_core.specs.Runs.{committed_count}
 use Rattle.schedule_core.specs.Schedules.{all_steps}
 use Rattle.schedule_reader.specs.declared.event.Event.{Event}
 use Rattle.storm_program.specs.declared.status.Status.{Status}
-use Rattle.storm_program.specs.declared.stop.Stop.{Stop}
-use Rattle.storm_program.specs.declared.stop.Stop.TheVariants.{Memory, Told}
+use Rattle.storm_program.specs.declared.early_end.EarlyEnd.{EarlyEnd}
+use Rattle.storm_program.specs.declared.early_end.EarlyEnd.TheVariants.{Memory, Told}
 use Rattle.storm_program.specs.Ends.{HasText}
 use Rattle.storm_program.specs.Load.{IsLoadLine, line_of}
 use Rattle.storm_program.specs.Outside.{RunUse}
 use Rattle.storm_program.specs.Replay.{IsReplayReport, ticks_of_schedule}
 use Rattle.storm_program.specs.Reports.{EndsSo, IsEndText, IsReport, WasAcked, cut_by}
-use Rattle.storm_program.specs.Run.{IsShort}
+use Rattle.storm_program.specs.Run.{IsNotBegun, IsShort}
 use Rattle.storm_program.specs.steps.Ended.{IsLineOfEnd, IsRoundsEnd, IsStopOfEnd, WorkStops, status_of}
 use Rattle.storm_program.specs.steps.Stops.{IsMemory, Stops}
 use Rattle.event_worlds.specs.storm_values.declared.value.Value.{Value}
 use Rattle.stored_runs.specs.declared.ending.RunEnd.{RunEnd}
 use Rattle.stored_runs.specs.declared.ending.RunEnd.TheVariants as end
-use Rattle.stored_runs.specs.Makers.{CameBack, MapsStand}
+use Rattle.stored_runs.specs.Makers.{CameBack}
 use Rattle.stored_runs.specs.StoredRuns.{IsAll, IsRun, IsRunOfWorld, StandsWithoutMemory}
+use Rattle.event_worlds.specs.record_offers.Offers.{batch_count}
+use Rattle.event_worlds.specs.taken_records.Cuts.{Cut}
 use Rattle.event_worlds.specs.topology_plan.Topology.{Topology}
-use Rattle.event_worlds.specs.tree_model.Tables.{AreTables}
-use Rattle.event_worlds.specs.tree_model.Trees.{writes}
-use Rattle.event_worlds.specs.trident_batches.Batches.{Cut, batch_count}
 use Rattle.event_worlds.specs.tuple_account.Ends.{CauseBy}
-use Rattle.event_worlds.specs.Accounted.{IsCausedEnd}
+use Rattle.event_worlds.specs.Accounted.{IsCausedEnd, IsInput}
+use Rattle.storm_program.proofs.InOrder.{all_batches, begins_first, records_in_order}
 
 module _ (custom : Custom) (plan : Topology) (records : List (List Value)) (base : RunUse) (ticks : ℕ) (fates : List Attempt) where
   -- a committed attempt's cause is that its tree was acked
@@ -46,98 +43,100 @@ module _ (custom : Custom) (plan : Topology) (records : List (List Value)) (base
   acked_all causes =
       All-from_recursion (WasAcked plan custom records) fates (each-weaker (IsCausedEnd plan custom (cut_by plan records) ticks) (WasAcked plan custom records) acked_by fates causes)
 
-  -- all batches committed: the report
-  report_of : (r b : ℕ) → r ≡ length records → b ≡ batch_count (length records) plan.batch → (ending : RunEnd) (text : List ℕ) → IsAll ending → IsEndText plan r b fates ending text → IsRun base.words plan custom (cut_by plan records) ticks base.stores fates ending → CameBack plan base.stores
+  -- no record is left: the report
+  report_of : (r : ℕ) → r ≡ length records → IsInput plan (cut_by plan records) → (ending : RunEnd) (text : List ℕ) → IsAll ending → IsEndText plan r fates ending text → IsRun base.words plan custom (cut_by plan records) ticks base.stores fates ending → CameBack plan base.stores
       → IsReport custom plan records base ticks fates text
-  report_of r b r_is b_is (end.All tables) text all printed run back =
+  report_of r r_is input (end.All tables) text all printed run back =
       let whole = run.comes.0 in
-      let count : committed_count fates ≡ batch_count (length records) plan.batch = ap length whole.all_committed ∙ length-range_with_len 1 (batch_count (length records) plan.batch) in
       record {
         tables = tables;
-        printed =
-            subst (λ (n : ℕ). IsEndText plan n (batch_count (length records) plan.batch) fates (end.All tables) text) r_is
-            (subst (λ (n : ℕ). IsEndText plan r n fates (end.All tables) text) b_is printed);
-        of_commits = λ empty. subst (λ (rs : List (List Value)). AreTables plan custom (writes plan custom rs) tables) (sym (records_are_all records plan.batch ticks fates whole)) (run.comes.1 empty);
+        printed = subst (λ (n : ℕ). IsEndText plan n fates (end.All tables) text) r_is printed;
+        of_commits = run.comes.1.first (begins_first plan records);
+        in_order = λ none. records_in_order (cut_by plan records) ticks fates input.start refl none whole;
+        all_batches = λ none. all_batches (cut_by plan records) ticks fates input.start refl none whole;
         whole = whole;
         acked = acked_all run.caused.by_some.1.each;
         caused = run.caused;
         failed_in_turn = run.failed_in_turn;
+        drops = run.drops;
         counted = run.counted;
         back = back;
-        stands = λ empty. subst (λ (n : ℕ). MapsStand plan custom (cut_by plan records) n base.stores) count (run.stands empty);
+        stands = run.stands.first (begins_first plan records);
       }
-  report_of r b r_is b_is (end.Exhausted txid) text all printed run back = absurd all
-  report_of r b r_is b_is (end.Unfinished k) text all printed run back = absurd all
-  report_of r b r_is b_is end.StoreFault text all printed run back = absurd all
-  report_of r b r_is b_is (end.BadCell key) text all printed run back = absurd all
+  report_of r r_is input (end.Exhausted txid) text all printed run back = absurd all
+  report_of r r_is input (end.Unfinished k) text all printed run back = absurd all
+  report_of r r_is input end.StoreFault text all printed run back = absurd all
+  report_of r r_is input (end.BadCell key) text all printed run back = absurd all
 
-  -- over batches that are those of the plan, of so many records
-  module _ (cut : Cut) (cut_is : cut ≡ cut_by plan records) (r b : ℕ) (r_is : r ≡ length cut.records) (b_is : b ≡ batch_count (length cut.records) cut.size) where
+  -- over offers that are those of the plan, of so many records
+  module _ (cut : Cut) (cut_is : cut ≡ cut_by plan records) (r : ℕ) (r_is : r ≡ length cut.records) where
     r_of : r ≡ length records
     r_of = r_is ∙ ap (λ (k : Cut). length k.records) cut_is
 
-    b_of : b ≡ batch_count (length records) plan.batch
-    b_of = b_is ∙ ap (λ (k : Cut). batch_count (length k.records) k.size) cut_is
-
-    pub report_if : {A : Type 0} (ending : RunEnd) (result : Result (String A) Stop) → IfOk result (λ text. IsAll ending) → IfOk result (λ text. IsEndText plan r b fates ending (string_bytes text)) → IsRun base.words plan custom cut ticks base.stores fates ending → CameBack plan base.stores
+    pub report_if : {A : Type 0} (ending : RunEnd) (result : Result (String A) EarlyEnd) → IsInput plan cut → IfOk result (λ text. IsAll ending) → IfOk result (λ text. IsEndText plan r fates ending (string_bytes text)) → IsRun base.words plan custom cut ticks base.stores fates ending → CameBack plan base.stores
         → IfOk result (λ text. IsReport custom plan records base ticks fates (string_bytes text))
-    report_if ending (Ok text) all printed run back = report_of r b r_of b_of ending (string_bytes text) all printed (subst (λ (k : Cut). IsRun base.words plan custom k ticks base.stores fates ending) cut_is run) back
-    report_if ending (Err stop) all printed run back = tt
+    report_if ending (Ok text) input all printed run back =
+        report_of r r_of (subst (λ (k : Cut). IsInput plan k) cut_is input) ending (string_bytes text) all printed (subst (λ (k : Cut). IsRun base.words plan custom k ticks base.stores fates ending) cut_is run) back
+    report_if ending (Err stop) input all printed run back = tt
 
     -- not all: the end and its text
-    pub ends_so : (ending : RunEnd) → IsRun base.words plan custom cut ticks base.stores fates ending → CameBack plan base.stores → (text : List ℕ) → IsEndText plan r b fates ending text → EndsSo custom plan records base ticks fates ending text
+    pub ends_so : (ending : RunEnd) → IsRun base.words plan custom cut ticks base.stores fates ending → CameBack plan base.stores → (text : List ℕ) → IsEndText plan r fates ending text → EndsSo custom plan records base ticks fates ending text
     ends_so ending run back text printed = record {
       run = subst (λ (k : Cut). IsRun base.words plan custom k ticks base.stores fates ending) cut_is run;
       back = back;
-      printed =
-          subst (λ (n : ℕ). IsEndText plan n (batch_count (length records) plan.batch) fates ending text) r_of
-          (subst (λ (n : ℕ). IsEndText plan r n fates ending text) b_of printed);
+      printed = subst (λ (n : ℕ). IsEndText plan n fates ending text) r_of printed;
     }
 
-    pub short_of : IsOnce (length cut.records) cut.size last_tick fates → CameBack plan base.stores → StandsWithoutMemory plan custom cut base.stores fates → IsShort custom plan records base fates
-    short_of once back stands = record {
-      once = subst (λ (k : Cut). IsOnce k last_tick fates) cut_is once;
-      back = back;
-      stands = subst (λ (k : Cut). StandsWithoutMemory plan custom k base.stores fates) cut_is stands;
-    }
+  -- want of memory
+  short_of : (cut : Cut) → cut ≡ cut_by plan records → IsOnce cut last_tick fates → CameBack plan base.stores → StandsWithoutMemory plan custom cut base.stores fates → IsShort custom plan records base fates
+  short_of cut cut_is once back stands = record {
+    once = subst (λ (k : Cut). IsOnce k last_tick fates) cut_is once;
+    back = back;
+    stands = subst (λ (k : Cut). StandsWithoutMemory plan custom k base.stores fates) cut_is stands;
+  }
+
+  pub work_short : (cut : Cut) → cut ≡ cut_by plan records → IsOnce cut last_tick fates → CameBack plan base.stores → StandsWithoutMemory plan custom cut base.stores fates → IsNotBegun base fates ⊎ IsShort custom plan records base fates
+  work_short cut cut_is once back stands = inr (short_of cut cut_is once back stands)
 
 -- the report of a replay, whose fates are those of the world
-module _ (custom : Custom) (plan : Topology) (records : List (List Value)) (base : RunUse) (fates : List Attempt) (cut : Cut) (cut_is : cut ≡ cut_by plan records) (r b : ℕ) (r_is : r ≡ length cut.records) (b_is : b ≡ batch_count (length cut.records) cut.size) (events : List Event) where
-  pub replay_report_if : {A : Type 0} (ending : RunEnd) (result : Result (String A) Stop) → IfOk result (λ text. IsAll ending) → IfOk result (λ text. IsEndText plan r b fates ending (string_bytes text)) → IsRun base.words plan custom cut (ticks_of_schedule plan events) base.stores fates ending → CameBack plan base.stores
+module _ (custom : Custom) (plan : Topology) (records : List (List Value)) (base : RunUse) (fates : List Attempt) (cut : Cut) (cut_is : cut ≡ cut_by plan records) (r : ℕ) (r_is : r ≡ length cut.records) (events : List Event) where
+  pub replay_report_if : {A : Type 0} (ending : RunEnd) (result : Result (String A) EarlyEnd) → IsInput plan cut → IfOk result (λ text. IsAll ending) → IfOk result (λ text. IsEndText plan r fates ending (string_bytes text)) → IsRun base.words plan custom cut (ticks_of_schedule plan events) base.stores fates ending → CameBack plan base.stores
       → IsRunOfWorld base.words plan custom cut (all_steps plan events) fates ending → IfOk result (λ text. IsReplayReport custom plan records events base fates (string_bytes text))
   unfolding report_of
-  replay_report_if ending (Err stop) all printed run back world = tt
-  replay_report_if (end.All tables) (Ok text) all printed run back world = record {
+  replay_report_if ending (Err stop) input all printed run back world = tt
+  replay_report_if (end.All tables) (Ok text) input all printed run back world = record {
     report =
-        report_of custom plan records base (ticks_of_schedule plan events) fates r b
-        (r_is ∙ ap (λ (k : Cut). length k.records) cut_is) (b_is ∙ ap (λ (k : Cut). batch_count (length k.records) k.size) cut_is)
-        (end.All tables) (string_bytes text) tt printed (subst (λ (k : Cut). IsRun base.words plan custom k (ticks_of_schedule plan events) base.stores fates (end.All tables)) cut_is run) back;
+        report_of custom plan records base (ticks_of_schedule plan events) fates r (r_is ∙ ap (λ (k : Cut). length k.records) cut_is)
+        (subst (λ (k : Cut). IsInput plan k) cut_is input) (end.All tables) (string_bytes text) tt printed
+        (subst (λ (k : Cut). IsRun base.words plan custom k (ticks_of_schedule plan events) base.stores fates (end.All tables)) cut_is run) back;
     of_world = subst (λ (k : Cut). IsRunOfWorld base.words plan custom k (all_steps plan events) fates (end.All tables)) cut_is world;
   }
-  replay_report_if (end.Exhausted txid) (Ok text) all printed run back world = absurd all
-  replay_report_if (end.Unfinished k) (Ok text) all printed run back world = absurd all
-  replay_report_if end.StoreFault (Ok text) all printed run back world = absurd all
-  replay_report_if (end.BadCell key) (Ok text) all printed run back world = absurd all
+  replay_report_if (end.Exhausted txid) (Ok text) input all printed run back world = absurd all
+  replay_report_if (end.Unfinished k) (Ok text) input all printed run back world = absurd all
+  replay_report_if end.StoreFault (Ok text) input all printed run back world = absurd all
+  replay_report_if (end.BadCell key) (Ok text) input all printed run back world = absurd all
 
   -- the line of a load in place of the report
-  pub load_line_if : (ending : RunEnd) (report text : List ℕ) → IsAll ending → IsEndText plan r b fates ending report → IsLineOfEnd r b ending text → IsRun base.words plan custom cut (ticks_of_schedule plan events) base.stores fates ending → CameBack plan base.stores
+  pub load_line_if : (b : ℕ) → b ≡ batch_count (length cut.records) cut.size → (ending : RunEnd) (report text : List ℕ) → IsInput plan cut → IsAll ending → IsEndText plan r fates ending report → IsLineOfEnd r b ending text → IsRun base.words plan custom cut (ticks_of_schedule plan events) base.stores fates ending → CameBack plan base.stores
       → IsRunOfWorld base.words plan custom cut (all_steps plan events) fates ending → IsLoadLine custom plan records events base fates text
   unfolding report_of
-  load_line_if (end.All tables) report text all printed line run back world =
+  load_line_if b b_is (end.All tables) report text input all printed line run back world =
       let r_of : r ≡ length records = r_is ∙ ap (λ (k : Cut). length k.records) cut_is in
       let b_of : b ≡ batch_count (length records) plan.batch = b_is ∙ ap (λ (k : Cut). batch_count (length k.records) k.size) cut_is in
       record {
         report = report;
         replayed = record {
-          report = report_of custom plan records base (ticks_of_schedule plan events) fates r b r_of b_of (end.All tables) report tt printed (subst (λ (k : Cut). IsRun base.words plan custom k (ticks_of_schedule plan events) base.stores fates (end.All tables)) cut_is run) back;
+          report =
+              report_of custom plan records base (ticks_of_schedule plan events) fates r r_of (subst (λ (k : Cut). IsInput plan k) cut_is input) (end.All tables) report tt printed
+              (subst (λ (k : Cut). IsRun base.words plan custom k (ticks_of_schedule plan events) base.stores fates (end.All tables)) cut_is run) back;
           of_world = subst (λ (k : Cut). IsRunOfWorld base.words plan custom k (all_steps plan events) fates (end.All tables)) cut_is world;
         };
         printed = line ∙ (ap (λ (n : ℕ). line_of n b tables) r_of ∙ ap (λ (n : ℕ). line_of (length records) n tables) b_of);
       }
-  load_line_if (end.Exhausted txid) report text all printed line run back world = absurd all
-  load_line_if (end.Unfinished k) report text all printed line run back world = absurd all
-  load_line_if end.StoreFault report text all printed line run back world = absurd all
-  load_line_if (end.BadCell key) report text all printed line run back world = absurd all
+  load_line_if b b_is (end.Exhausted txid) report text input all printed line run back world = absurd all
+  load_line_if b b_is (end.Unfinished k) report text input all printed line run back world = absurd all
+  load_line_if b b_is end.StoreFault report text input all printed line run back world = absurd all
+  load_line_if b b_is (end.BadCell key) report text input all printed line run back world = absurd all
 
 -- a run by rounds does not end unfinished
 pub rounds_end : {E : Type 0} (r : Result RunEnd E) (ending : RunEnd) → r ≡ Ok ending → ((k : ℕ) → r ≡ Ok (end.Unfinished k) → ⊥) → IsRoundsEnd ending
@@ -155,17 +154,17 @@ work_told Ends Short (end.Unfinished k) text not_all ends = (tt, (k, ends))
 work_told Ends Short end.StoreFault text not_all ends = (tt, ends)
 work_told Ends Short (end.BadCell key) text not_all ends = (tt, (key, ends))
 
-pub work_stops : {T : Type 0} (Ends : RunEnd → List ℕ → Type 0) (Short : Type 0) (plan : Topology) (r b : ℕ) (fates : List Attempt) (ending : RunEnd) (result : Result T Stop) → ((text : List ℕ) → IsEndText plan r b fates ending text → Ends ending text) → Short → IfErr result (IsStopOfEnd plan r b fates ending) → IfErr result (Stops (WorkStops Ends Short))
-work_stops Ends Short plan r b fates ending (Ok x) makes short stops = tt
-work_stops Ends Short plan r b fates ending (Err Memory) makes short stops = short
-work_stops Ends Short plan r b fates ending (Err (Told s line)) makes short (not_all, is, printed) =
+pub work_stops : {T : Type 0} (Ends : RunEnd → List ℕ → Type 0) (Short : Type 0) (plan : Topology) (r : ℕ) (fates : List Attempt) (ending : RunEnd) (result : Result T EarlyEnd) → ((text : List ℕ) → IsEndText plan r fates ending text → Ends ending text) → Short → IfErr result (IsStopOfEnd plan r fates ending) → IfErr result (Stops (WorkStops Ends Short))
+work_stops Ends Short plan r fates ending (Ok x) makes short stops = tt
+work_stops Ends Short plan r fates ending (Err Memory) makes short stops = short
+work_stops Ends Short plan r fates ending (Err (Told s line)) makes short (not_all, is, printed) =
     subst (λ (t : Status). HasText t × WorkStops Ends Short t (string_bytes line)) (sym is) (work_told Ends Short ending (string_bytes line) not_all (makes (string_bytes line) printed))
 
 -- where all had to be committed, only memory can stop it
-pub work_finishes : {T : Type 0} (plan : Topology) (r b : ℕ) (fates : List Attempt) (ending : RunEnd) (result : Result T Stop) → IsAll ending → IfErr result (IsStopOfEnd plan r b fates ending) → IfErr result IsMemory
-work_finishes plan r b fates ending (Ok x) all stops = tt
-work_finishes plan r b fates ending (Err Memory) all stops = tt
-work_finishes plan r b fates ending (Err (Told s line)) all (not_all, is, printed) = absurd (not_all all)
+pub work_finishes : {T : Type 0} (plan : Topology) (r : ℕ) (fates : List Attempt) (ending : RunEnd) (result : Result T EarlyEnd) → IsAll ending → IfErr result (IsStopOfEnd plan r fates ending) → IfErr result IsMemory
+work_finishes plan r fates ending (Ok x) all stops = tt
+work_finishes plan r fates ending (Err Memory) all stops = tt
+work_finishes plan r fates ending (Err (Told s line)) all (not_all, is, printed) = absurd (not_all all)
 
 -- all was committed where it had to be
 pub all_of : {E : Type 0} (r : Result RunEnd E) (ending : RunEnd) → r ≡ Ok ending → IfOk r IsAll → IsAll ending

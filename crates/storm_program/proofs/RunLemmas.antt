@@ -1,5 +1,5 @@
 -- What a check, a `plain`, a run and a replay come to, from what their parts came to.
-use Rattle.std.proofs.Common.{◌≡◌, ◌⊎◌, ◌<◌, ℕ, List, [], Option, Some, None, Result, Ok, Err, IfOk, String, string_bytes, inl, inr, refl, sym, subst, sum}
+use Rattle.std.proofs.Common.{◌≡◌, ◌⊎◌, ◌<◌, ℕ, List, [], All, Option, Some, None, Result, Ok, Err, IfOk, String, string_bytes, inl, inr, refl, sym, subst, sum}
 use Rattle.event_worlds.specs.bolt_ops.RowOp.{Custom}
 use Rattle.event_worlds.specs.attempt_fates.declared.fates.Attempt.{Attempt}
 use Rattle.event_worlds.specs.Rounds.{HasRounds, rounds_needed}
@@ -8,8 +8,8 @@ use Rattle.schedule_core.specs.Schedules.{all_steps}
 use Rattle.schedule_reader.specs.declared.event.Event.{Event}
 use Rattle.storm_program.specs.declared.status.Status.{Status}
 use Rattle.storm_program.specs.declared.status.Status.TheVariants as status
-use Rattle.storm_program.specs.declared.stop.Stop.{Stop}
-use Rattle.storm_program.specs.declared.stop.Stop.TheVariants.{Memory, Told}
+use Rattle.storm_program.specs.declared.early_end.EarlyEnd.{EarlyEnd}
+use Rattle.storm_program.specs.declared.early_end.EarlyEnd.TheVariants.{Memory, Told}
 use Rattle.storm_program.specs.Check.{CheckComes, check_promise}
 use Rattle.storm_program.specs.Files.{AreAccepted, FilesCome, IsReadFaultLine, TellsInput, TellsPlan, of_input, of_topology}
 use Rattle.storm_program.specs.steps.Ended.{IsRoundsEnd, WorkStops}
@@ -25,7 +25,7 @@ use Rattle.storm_program.specs.Schedules.{AllFilesCome, AreAllAccepted, TellsEve
 use Rattle.storm_program.specs.Storm.{ComesOfWords, IsNotStarted, WordsCome, command_promise, promise}
 use Rattle.storm_program.specs.Texts.{usage}
 use Rattle.storm_program.specs.Track.{TrackComes, track_promise}
-use Rattle.storm_words.specs.Words.{Command, check, plain, load, track}
+use Rattle.storm_words.specs.Words.{Command, check, plain, load, track, fold_over}
 use Rattle.storm_program.specs.steps.Stops.{IsMemory, IsWritten, Stops}
 use Rattle.storm_program.proofs.CauseLemmas.{never_bad, never_bad_schedule, never_refused, same_events, same_plan, same_records}
 use Rattle.storm_program.proofs.EndLemmas.{Ends-weaker, ends_memory, ends_written}
@@ -35,6 +35,7 @@ use Rattle.stored_runs.specs.Makers.{IsUntouched, maker_use}
 use Rattle.stored_runs.specs.StoredRuns.{NothingIsInTheWay}
 use Rattle.storm_stores.specs.CellMaps.{CellMap}
 use Rattle.event_worlds.specs.topology_plan.Topology.{Topology}
+use Rattle.world_progress.specs.Rounding.{ShutsNone}
 
 -- what a topology comes to that is not accepted comes of a check
 pub check_of_topology : (shelf : ShelfUse) (topology : List ℕ) (s : Status) (text : List ℕ) → TopologyComes shelf topology s text → CheckComes shelf topology s text
@@ -86,11 +87,11 @@ module _ (shelf : ShelfUse) (topology input : List ℕ) (plan : Topology) (tells
       never_bad_schedule shelf.holds topology input plan comes.1.plan tells_plan comes.1.accepted.topology_file schedule text events tells comes.1.comes
   all_files_never schedule events tells s text has comes = files_never s text has comes
 
-  pub finishes_by_files : (stop : Stop) → Stops (FilesCome shelf topology input) stop → IsMemory stop
+  pub finishes_by_files : (stop : EarlyEnd) → Stops (FilesCome shelf topology input) stop → IsMemory stop
   finishes_by_files Memory stops = tt
   finishes_by_files (Told s line) stops = absurd (files_never s (string_bytes line) stops.0 stops.1)
 
-  pub finishes_by_all_files : (schedule : List ℕ) (events : List Event) → TellsEvents shelf.holds plan schedule events → (stop : Stop) → Stops (AllFilesCome shelf topology input schedule) stop → IsMemory stop
+  pub finishes_by_all_files : (schedule : List ℕ) (events : List Event) → TellsEvents shelf.holds plan schedule events → (stop : EarlyEnd) → Stops (AllFilesCome shelf topology input schedule) stop → IsMemory stop
   finishes_by_all_files schedule events tells Memory stops = tt
   finishes_by_all_files schedule events tells (Told s line) stops = absurd (all_files_never schedule events tells s (string_bytes line) stops.0 stops.1)
 
@@ -106,15 +107,16 @@ module _ (custom : Custom) (shelf : ShelfUse) (base : RunUse) (ticks : TicksUse)
   run_of_files idle _ text comes = absurd comes
 
   -- what a run of accepted files comes to that made its report
-  pub done_of_report : (plan : Topology) (records : List (List Value)) → Fetched 2 shelf → AreAccepted shelf.holds topology input plan records → {A : Type 0} (result : Result (String A) Stop) → IfOk result (λ text. IsReport custom plan records base (ticks_of_run ticks) fates (string_bytes text))
+  pub done_of_report : (plan : Topology) (records : List (List Value)) → Fetched 2 shelf → AreAccepted shelf.holds topology input plan records → {A : Type 0} (result : Result (String A) EarlyEnd) → IfOk result (λ text. IsReport custom plan records base (ticks_of_run ticks) fates (string_bytes text))
       → IfOk result (λ text. RunComes custom shelf base ticks topology input fates status.Done (string_bytes text))
   done_of_report plan records twice accepted (Ok text) report = (twice, record { plan = plan; records = records; accepted = accepted; comes = report })
   done_of_report plan records twice accepted (Err stop) report = tt
 
   -- what it comes to that made no report
   pub run_of_work : (plan : Topology) (records : List (List Value)) → Fetched 2 shelf → AreAccepted shelf.holds topology input plan records → (s : Status) (text : List ℕ)
-      → WorkStops (λ ending said. IsRoundsEnd ending × EndsSo custom plan records base (ticks_of_run ticks) fates ending said) (IsShort custom plan records base fates) s text → RunComes custom shelf base ticks topology input fates s text
-  run_of_work plan records twice accepted status.Memory text comes = inr (twice, record { plan = plan; records = records; accepted = accepted; comes = comes })
+      → WorkStops (λ ending said. IsRoundsEnd ending × EndsSo custom plan records base (ticks_of_run ticks) fates ending said) (IsNotBegun base fates ⊎ IsShort custom plan records base fates) s text → RunComes custom shelf base ticks topology input fates s text
+  run_of_work plan records twice accepted status.Memory text (inl idle) = inl (inr twice, idle)
+  run_of_work plan records twice accepted status.Memory text (inr short) = inr (twice, record { plan = plan; records = records; accepted = accepted; comes = short })
   run_of_work plan records twice accepted status.Exhausted text comes = (comes.0, (twice, record { plan = plan; records = records; accepted = accepted; comes = comes.1.1 }))
   run_of_work plan records twice accepted status.Unfinished text comes = absurd comes.1.0
   run_of_work plan records twice accepted status.StoreFault text comes = (twice, record { plan = plan; records = records; accepted = accepted; comes = comes.1 })
@@ -152,14 +154,15 @@ module _ (custom : Custom) (shelf : ShelfUse) (base : RunUse) (topology input sc
   replay_of_files idle status.Schedule text comes = (comes, idle)
   replay_of_files idle _ text comes = absurd comes
 
-  pub done_of_replay : (plan : Topology) (records : List (List Value)) (events : List Event) → Fetched 3 shelf → AreAllAccepted shelf.holds topology input schedule plan records events → {A : Type 0} (result : Result (String A) Stop) → IfOk result (λ text. IsReplayReport custom plan records events base fates (string_bytes text))
+  pub done_of_replay : (plan : Topology) (records : List (List Value)) (events : List Event) → Fetched 3 shelf → AreAllAccepted shelf.holds topology input schedule plan records events → {A : Type 0} (result : Result (String A) EarlyEnd) → IfOk result (λ text. IsReplayReport custom plan records events base fates (string_bytes text))
       → IfOk result (λ text. ReplayComes custom shelf base topology input schedule fates status.Done (string_bytes text))
   done_of_replay plan records events thrice accepted (Ok text) report = (thrice, record { plan = plan; records = records; events = events; accepted = accepted; comes = report })
   done_of_replay plan records events thrice accepted (Err stop) report = tt
 
   pub replay_of_work : (plan : Topology) (records : List (List Value)) (events : List Event) → Fetched 3 shelf → AreAllAccepted shelf.holds topology input schedule plan records events → (s : Status) (text : List ℕ)
-      → WorkStops (ReplayEndsSo custom plan records events base fates) (IsShort custom plan records base fates) s text → ReplayComes custom shelf base topology input schedule fates s text
-  replay_of_work plan records events thrice accepted status.Memory text comes = inr (thrice, record { plan = plan; records = records; events = events; accepted = accepted; comes = comes })
+      → WorkStops (ReplayEndsSo custom plan records events base fates) (IsNotBegun base fates ⊎ IsShort custom plan records base fates) s text → ReplayComes custom shelf base topology input schedule fates s text
+  replay_of_work plan records events thrice accepted status.Memory text (inl idle) = inl (inr thrice, idle)
+  replay_of_work plan records events thrice accepted status.Memory text (inr short) = inr (thrice, record { plan = plan; records = records; events = events; accepted = accepted; comes = short })
   replay_of_work plan records events thrice accepted status.Exhausted text comes = (comes.0, (thrice, record { plan = plan; records = records; events = events; accepted = accepted; comes = comes.1 }))
   replay_of_work plan records events thrice accepted status.Unfinished text comes = (comes.0, (thrice, record { plan = plan; records = records; events = events; accepted = accepted; comes = comes.1 }))
   replay_of_work plan records events thrice accepted status.StoreFault text comes = (thrice, record { plan = plan; records = records; events = events; accepted = accepted; comes = comes })
@@ -170,6 +173,7 @@ module _ (custom : Custom) (shelf : ShelfUse) (base : RunUse) (topology input sc
     pub free : NothingIsInTheWay plan base.stores fates
     pub rounds : HasRounds plan (rounds_needed plan custom (cut_by plan records)) (all_steps plan events)
     pub few : ticks_of_schedule plan events < plan.buckets
+    pub shuts_none : 0 < plan.partitions → All ShutsNone (all_steps plan events)
 
   pub replay_goes_through : (plan : Topology) (records : List (List Value)) (events : List Event) → AreAllAccepted shelf.holds topology input schedule plan records events → ReplayMustCommitAll custom shelf base topology input schedule fates → ReplayGoesThrough plan records events
   replay_goes_through plan records events accepted must =
@@ -186,6 +190,9 @@ module _ (custom : Custom) (shelf : ShelfUse) (base : RunUse) (topology input sc
         few =
             subst (λ (p : Topology). ticks_of_schedule p events < p.buckets) (sym of_plan)
             (subst (λ (es : List Event). ticks_of_schedule must.plan es < must.plan.buckets) (sym of_events) must.few_ticks);
+        shuts_none =
+            subst (λ (p : Topology). 0 < p.partitions → All ShutsNone (all_steps p events)) (sym of_plan)
+            (subst (λ (es : List Event). 0 < must.plan.partitions → All ShutsNone (all_steps must.plan es)) (sym of_events) must.shuts_none);
       }
 
 -- ---- the call by words
@@ -211,6 +218,12 @@ module _ (custom : Custom) (shelf : ShelfUse) (sink : SinkUse) (base : RunUse) (
   pub ends_plain : (topology input : List ℕ) → said ≡ Some (plain topology input) → fates ≡ [] → IsUntouched base.stores → Ends (PlainComes custom shelf topology input) sink answer → Ends (promise custom shelf sink base ticks fates said).comes sink answer
   ends_plain topology input is none idle ends =
       ends_own (Some (plain topology input)) is
+      (Ends-weaker (PlainComes custom shelf topology input) (plain_promise custom shelf base.stores fates topology input).comes sink answer (λ s text comes. (comes, none, idle)) ends)
+
+  -- a fold comes to what `plain` does
+  pub ends_fold : (topology input : List ℕ) (workers : ℕ) → said ≡ Some (fold_over topology input workers) → fates ≡ [] → IsUntouched base.stores → Ends (PlainComes custom shelf topology input) sink answer → Ends (promise custom shelf sink base ticks fates said).comes sink answer
+  ends_fold topology input workers is none idle ends =
+      ends_own (Some (fold_over topology input workers)) is
       (Ends-weaker (PlainComes custom shelf topology input) (plain_promise custom shelf base.stores fates topology input).comes sink answer (λ s text comes. (comes, none, idle)) ends)
 
   pub ends_track : (topology input : List ℕ) (workers : ℕ) → said ≡ Some (track topology input workers) → fates ≡ [] → IsUntouched base.stores → Ends (TrackComes custom shelf topology input) sink answer → Ends (promise custom shelf sink base ticks fates said).comes sink answer

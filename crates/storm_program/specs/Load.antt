@@ -16,13 +16,13 @@ use Rattle.stored_runs.specs.declared.ending.RunEnd.{RunEnd}
 use Rattle.stored_runs.specs.declared.ending.RunEnd.TheVariants as run_end
 use Rattle.schedule_reader.specs.declared.event.Event.{Event}
 use Rattle.schedule_reader.specs.declared.event.Event.TheVariants.{Rounds}
+use Rattle.event_worlds.specs.record_offers.Offers.{batch_count}
 use Rattle.event_worlds.specs.storm_values.declared.value.Value.{Value}
 use Rattle.stored_runs.specs.StoredRuns.{NothingIsInTheWay}
 use Rattle.event_worlds.specs.topology_plan.Topology.{Topology}
 use Rattle.event_worlds.specs.tree_model.declared.write.Pair.{Pair}
 use Rattle.event_worlds.specs.tree_model.declared.write.Table.{Table}
 use Rattle.event_worlds.specs.tree_model.Trees.{node_count}
-use Rattle.event_worlds.specs.trident_batches.Batches.{batch_count}
 use Rattle.topology_reader.specs.FirstFault.{IsFilePlan}
 
 -- ---- its line

@@ -6,7 +6,7 @@ use Rattle.event_worlds.specs.topology_plan.Topology.{Topology}
 use Rattle.event_worlds.specs.tree_model.declared.write.Table.{Table}
 use Rattle.event_worlds.specs.tree_model.Trees.{writes}
 use Rattle.event_worlds.specs.tree_model.Tables.{AreTables}
-use Rattle.event_worlds.specs.trident_batches.Batches.{batch_count}
+use Rattle.event_worlds.specs.record_offers.Offers.{batch_count}
 use Rattle.event_worlds.specs.attempt_fates.declared.fates.Attempt.{Attempt}
 use Rattle.run_report.specs.Cells.{cells_of}
 use Rattle.run_report.specs.Report.{ok, report_text}

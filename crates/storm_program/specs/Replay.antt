@@ -1,5 +1,5 @@
 -- The command `replay`.
-use Rattle.std.specs.Prelude.{◌⊎◌, ◌<◌, ℕ, List, []}
+use Rattle.std.specs.Prelude.{◌⊎◌, ◌<◌, ℕ, List, [], All}
 use Rattle.event_worlds.specs.attempt_fates.declared.fates.Attempt.{Attempt}
 use Rattle.event_worlds.specs.bolt_ops.RowOp.{Custom}
 use Rattle.event_worlds.specs.Rounds.{HasRounds, rounds_needed, ticks_in}
@@ -19,6 +19,7 @@ use Rattle.stored_runs.specs.declared.ending.RunEnd.{RunEnd}
 use Rattle.stored_runs.specs.declared.ending.RunEnd.TheVariants as run_end
 use Rattle.stored_runs.specs.StoredRuns.{IsRunOfWorld, NothingIsInTheWay}
 use Rattle.event_worlds.specs.topology_plan.Topology.{Topology}
+use Rattle.world_progress.specs.Rounding.{ShutsNone}
 
 -- how many ticks a schedule hands out
 abbrev pub ticks_of_schedule : Topology → List Event → ℕ
@@ -93,7 +94,8 @@ abbrev pub ReplayCalls : (List ℕ → List ℕ → Type 0) → List ℕ → Lis
 ReplayCalls = AllFilesCall
 
 -- A replay has to commit every batch: the told files are accepted, the files did not fail, nothing
--- is in the way, and the schedule has as many rounds as a run needs and few ticks.
+-- is in the way, and the schedule has as many rounds as a run needs and few ticks, and shuts no
+-- partition.
 pub record ReplayMustCommitAll (custom : Custom) (shelf : ShelfUse) (base : RunUse)
     (topology input schedule : List ℕ) (fates : List Attempt) : Type 0 where
   pub plan : Topology
@@ -108,6 +110,8 @@ pub record ReplayMustCommitAll (custom : Custom) (shelf : ShelfUse) (base : RunU
       (rounds_needed plan custom (cut_by plan (records_of tells_input.bytes)))
       (all_steps plan events)
   pub few_ticks : ticks_of_schedule plan events < plan.buckets
+  -- with partitions, the schedule shuts none
+  pub shuts_none : 0 < plan.partitions → All ShutsNone (all_steps plan events)
 
 -- so it has to be done, where the sink did not fail either
 abbrev pub ReplayMustFinish : Custom → ShelfUse → SinkUse → RunUse → List ℕ → List ℕ → List ℕ

@@ -3,9 +3,10 @@
 use Rattle.std.specs.Prelude.{◌≡◌, ℕ, List, [], All, length}
 use Rattle.event_worlds.specs.attempt_fates.declared.fates.Attempt.{Attempt}
 use Rattle.event_worlds.specs.attempt_fates.declared.fates.End.TheVariants as end
-use Rattle.event_worlds.specs.attempt_fates.Fates.{committed_records, IsWhole, records_in}
+use Rattle.event_worlds.specs.attempt_fates.Fates.{DropsFollow, IsWhole, committed, committed_batches, committed_records, records_in}
 use Rattle.event_worlds.specs.bolt_ops.RowOp.{Custom}
 use Rattle.event_worlds.specs.commit_turns.Kept.{FailsInTurn}
+use Rattle.event_worlds.specs.record_offers.Offers.{batch_count, fresh}
 use Rattle.run_report.specs.Cells.{cells_of}
 use Rattle.run_report.specs.Fated.{AreLinesOf}
 use Rattle.run_report.specs.Report.{AttemptText, CellText, TailText, exhausted, ok, report_text, unfinished}
@@ -16,18 +17,18 @@ use Rattle.stored_runs.specs.declared.ending.RunEnd.{RunEnd}
 use Rattle.stored_runs.specs.declared.ending.RunEnd.TheVariants as run_end
 use Rattle.stored_runs.specs.Makers.{BeganEmpty, CameBack, FaultsAreCounted, MapsStand}
 use Rattle.stored_runs.specs.StoredRuns.{HaveCauses, IsRun}
+use Rattle.event_worlds.specs.taken_records.Cuts.{Cut}
 use Rattle.event_worlds.specs.topology_plan.Topology.{Topology}
 use Rattle.event_worlds.specs.tree_model.declared.messages.AckMsg.{AckMsg}
 use Rattle.event_worlds.specs.tree_model.declared.write.Table.{Table}
 use Rattle.event_worlds.specs.tree_model.Lists.{Covers, IsClosed}
 use Rattle.event_worlds.specs.tree_model.Tables.{AreTables}
 use Rattle.event_worlds.specs.tree_model.Trees.{writes}
-use Rattle.event_worlds.specs.trident_batches.Batches.{Cut, batch_count}
 use Rattle.event_worlds.specs.tuple_account.Sound.{IsSound}
 
--- the records of an input, cut by a plan
+-- the records of an input, offered as a plan says; none of them is gone
 abbrev pub cut_by : Topology → List (List Value) → Cut
-cut_by plan records = record { records = records; size = plan.batch }
+cut_by plan records = fresh records plan.batch plan.partitions
 
 -- the text has the attempt lines of these fates, these cells and this tail
 pub record IsTextOf (plan : Topology) (fates : List Attempt) (cells : List CellText)
@@ -54,39 +55,43 @@ pub record IsReport (custom : Custom) (plan : Topology) (records : List (List Va
   -- the printed tables, and the attempt lines
   pub tables : List Table
   pub printed : IsTextOf plan fates (cells_of tables)
-      (ok (length records) (batch_count (length records) plan.batch)) text
+      (ok (length records) (length (committed fates))) text
   -- over stores that began empty they are those of one machine, in transaction order
   pub of_commits : BeganEmpty plan base.stores
       → AreTables plan custom (writes plan custom (committed_records records fates)) tables
+  -- without partitions that is the order of the input, and each of its batches is committed
+  pub in_order : plan.partitions ≡ 0 → committed_records records fates ≡ records
+  pub all_batches : plan.partitions ≡ 0
+      → length (committed fates) ≡ batch_count (length records) plan.batch
   -- every record stands in exactly one committed batch
-  pub whole : IsWhole (length records) plan.batch ticks fates
+  pub whole : IsWhole (cut_by plan records) ticks fates
   -- each committed attempt's whole tuple tree was acked
   pub acked : All (WasAcked plan custom records) fates
   -- every end has its cause
   pub caused : HaveCauses base.words plan custom (cut_by plan records) ticks fates
-  pub failed_in_turn : FailsInTurn fates
+  pub failed_in_turn : FailsInTurn (cut_by plan records) fates
+  -- attempts are dropped with partitions alone, each with one of a lower transaction
+  pub drops : DropsFollow (cut_by plan records) fates
   pub counted : FaultsAreCounted plan base.stores fates
   -- the stores came back, and over stores that began empty they stand at all batches
   pub back : CameBack plan base.stores
   pub stands : BeganEmpty plan base.stores
-      → MapsStand plan custom (cut_by plan records)
-      (batch_count (length records) plan.batch) base.stores
+      → MapsStand plan custom (cut_by plan records) (committed_batches fates) base.stores
 
--- the text of a run over so many records and batches that ended so
-abbrev pub IsEndText : Topology → ℕ → ℕ → List Attempt → RunEnd → List ℕ → Type 0
-IsEndText plan records batches fates (run_end.All tables) text =
-    IsTextOf plan fates (cells_of tables) (ok records batches) text
-IsEndText plan records batches fates (run_end.Exhausted txid) text =
+-- the text of a run over so many records that ended so
+abbrev pub IsEndText : Topology → ℕ → List Attempt → RunEnd → List ℕ → Type 0
+IsEndText plan records fates (run_end.All tables) text =
+    IsTextOf plan fates (cells_of tables) (ok records (length (committed fates))) text
+IsEndText plan records fates (run_end.Exhausted txid) text =
     IsTextOf plan fates [] (exhausted txid) text
-IsEndText plan records batches fates (run_end.Unfinished k) text =
+IsEndText plan records fates (run_end.Unfinished k) text =
     IsTextOf plan fates [] (unfinished k) text
-IsEndText plan records batches fates run_end.StoreFault text = text ≡ store_fault_line
-IsEndText plan records batches fates (run_end.BadCell key) text = text ≡ bad_cell_line
+IsEndText plan records fates run_end.StoreFault text = text ≡ store_fault_line
+IsEndText plan records fates (run_end.BadCell key) text = text ≡ bad_cell_line
 
 -- A run over the records of an input ended so, left these fates, and this is its text.
 pub record EndsSo (custom : Custom) (plan : Topology) (records : List (List Value)) (base : RunUse)
     (ticks : ℕ) (fates : List Attempt) (ending : RunEnd) (text : List ℕ) : Type 0 where
   pub run : IsRun base.words plan custom (cut_by plan records) ticks base.stores fates ending
   pub back : CameBack plan base.stores
-  pub printed : IsEndText plan (length records) (batch_count (length records) plan.batch) fates
-      ending text
+  pub printed : IsEndText plan (length records) fates ending text

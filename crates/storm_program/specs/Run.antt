@@ -1,5 +1,5 @@
 -- The command `run`.
-use Rattle.std.specs.Prelude.{◌≡◌, ◌⊎◌, ◌<◌, ℕ, List, [], length, sum}
+use Rattle.std.specs.Prelude.{◌≡◌, ◌⊎◌, ◌<◌, ℕ, List, [], sum}
 use Rattle.event_worlds.specs.attempt_fates.declared.fates.Attempt.{Attempt}
 use Rattle.event_worlds.specs.attempt_fates.Fates.{IsOnce}
 use Rattle.event_worlds.specs.bolt_ops.RowOp.{Custom}
@@ -45,7 +45,7 @@ RunEnds custom shelf base ticks topology input fates ending text =
 -- committed.
 pub record IsShort (custom : Custom) (plan : Topology) (records : List (List Value)) (base : RunUse)
     (fates : List Attempt) : Type 0 where
-  pub once : IsOnce (length records) plan.batch last_tick fates
+  pub once : IsOnce (cut_by plan records) last_tick fates
   pub back : CameBack plan base.stores
   pub stands : StandsWithoutMemory plan custom (cut_by plan records) base.stores fates
 

@@ -14,7 +14,7 @@ use Rattle.storm_program.specs.Run.{IsNotBegun, run_promise}
 use Rattle.storm_program.specs.Statuses.{code_of}
 use Rattle.storm_program.specs.Texts.{usage}
 use Rattle.storm_program.specs.Track.{track_promise}
-use Rattle.storm_words.specs.Words.{Command, check, plain, replay, run, load, track, command}
+use Rattle.storm_words.specs.Words.{Command, check, plain, replay, run, load, track, fold_over, command}
 
 -- Words that are no command come to the usage line: no file is fetched, and nothing is run.
 abbrev pub WordsCome : ShelfUse → RunUse → List Attempt → Status → List ℕ → Type 0
@@ -30,7 +30,8 @@ words_promise shelf base fates = record {
   must_finish = ⊥;
 }
 
--- What each command promises of its own. One line a command.
+-- What each command promises of its own. One line a command. A fold promises what `plain` does,
+-- whatever the number of workers.
 abbrev pub command_promise : Custom → ShelfUse → SinkUse → RunUse → TicksUse → List Attempt
     → Option Command → Promise
 command_promise custom shelf sink base ticks fates (Some (check topology)) =
@@ -45,6 +46,8 @@ command_promise custom shelf sink base ticks fates (Some (load count seed)) =
     load_promise custom shelf sink base fates count seed
 command_promise custom shelf sink base ticks fates (Some (track topology input workers)) =
     track_promise custom shelf base.stores fates topology input
+command_promise custom shelf sink base ticks fates (Some (fold_over topology input workers)) =
+    plain_promise custom shelf base.stores fates topology input
 command_promise custom shelf sink base ticks fates None = words_promise shelf base fates
 
 -- no file is fetched, and nothing is run

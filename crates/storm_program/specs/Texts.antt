@@ -11,8 +11,8 @@ use Rattle.topology_reader.specs.Faults.{fault_text}
 -- the line that refuses the words
 abbrev pub usage : List ℕ
 usage =
-    codes
-    "usage: storm check T | plain T I | replay T I S | run T I [W] | load N SEED | track T I [W]\n"
+    codes "usage: storm check T | plain T I | replay T I S | run T I [W] "
+    ++ codes "| load N SEED | track T I [W] | fold T I [W]\n"
 
 -- the lines that refuse a topology, an input and a schedule
 abbrev pub topology_line : TopoFault → List ℕ

@@ -5,8 +5,8 @@ ghost use Rattle.storm_program.specs.Outside.{shelf_use};
 ghost use Rattle.storm_program.specs.Texts.{size_line, valid_line};
 ghost use Rattle.storm_program.specs.steps.Stops.{Stops};
 
+use crate::early_end::EarlyEnd;
 use crate::files::read_plan;
-use crate::stop::Stop;
 use event_worlds::storm_values::Memory;
 use event_worlds::topology_plan::Plan;
 use std::alloc::Global;
@@ -14,7 +14,11 @@ use std::fmt::Write;
 use storm_outside::Shelf;
 
 /// Reads a topology, and tells the size of its plan.
-pub fn check_file<H: Shelf>(alloc: Global, topology: &str, shelf: &mut H) -> Result<String, Stop>
+pub fn check_file<H: Shelf>(
+    alloc: Global,
+    topology: &str,
+    shelf: &mut H,
+) -> Result<String, EarlyEnd>
     ensures done { IfOk result (λ text. CheckComes
         (shelf_use H.holds H.ready H.fetches H.faults shelf.old shelf.new) topology.now
         Status.Done (string_bytes text)) }

@@ -6,8 +6,8 @@ ghost use Rattle.storm_program.specs.Outside.{shelf_use, Fetched};
 ghost use Rattle.storm_program.specs.steps.Reading.{TopologyComes, WasRead, NotReadComes, InputComes};
 ghost use Rattle.storm_program.specs.steps.Stops.{Stops};
 
+use crate::early_end::{EarlyEnd, refused_input, refused_topology, told};
 use crate::status::Status;
-use crate::stop::{Stop, refused_input, refused_topology, told};
 use event_worlds::storm_values::{Bytes, MOST_INPUT_BYTES, MOST_TOPOLOGY_BYTES, Rows, read_input};
 use event_worlds::topology_plan::Plan;
 use std::alloc::Global;
@@ -33,7 +33,7 @@ pub fn read_files<H: Shelf>(
     topology: &str,
     input: &str,
     shelf: &mut H,
-) -> Result<Accepted, Stop>
+) -> Result<Accepted, EarlyEnd>
     ensures accepted { IfOk result (λ files. AreAccepted (H.holds shelf.old)
         topology.now input.now files.plan files.rows) }
     ensures rows { IfOk result (λ files.
@@ -53,7 +53,7 @@ pub fn read_files<H: Shelf>(
 }
 
 /// Reads a topology, or refuses it.
-pub fn read_plan<H: Shelf>(alloc: Global, name: &str, shelf: &mut H) -> Result<Plan, Stop>
+pub fn read_plan<H: Shelf>(alloc: Global, name: &str, shelf: &mut H) -> Result<Plan, EarlyEnd>
     ensures plan { IfOk result (IsAccepted (H.holds shelf.old) name.now) }
     ensures stop { IfErr result (Stops (TopologyComes
         (shelf_use H.holds H.ready H.fetches H.faults shelf.old shelf.new) name.now)) }
@@ -75,7 +75,7 @@ fn read_records<H: Shelf>(
     name: &str,
     plan: &Plan,
     shelf: &mut H,
-) -> Result<Rows, Stop>
+) -> Result<Rows, EarlyEnd>
     ensures records { IfOk result (AreRecords (H.holds shelf.old) plan.now name.now) }
     ensures rows { IfOk result (All (IsRow (length plan.now.spout_fields))) }
     ensures stop { IfErr result (Stops (InputComes
@@ -100,7 +100,7 @@ pub fn read_file<H: Shelf>(
     most: u64,
     line: &str,
     shelf: &mut H,
-) -> Result<Bytes, Stop>
+) -> Result<Bytes, EarlyEnd>
     requires { most < 2 ^ 64 - 1 }
     ensures bytes { IfOk result (WasRead (H.holds shelf.old) name.now (most + 1)) }
     ensures stop { IfErr result (Stops (NotReadComes
@@ -113,7 +113,7 @@ pub fn read_file<H: Shelf>(
     match fetch_file(alloc, name, most, shelf) {
         Ok(bytes) => Ok(bytes),
         Err(InFault::Failed) => Err(told(alloc, Status::ReadFault, line)),
-        Err(InFault::Memory) => Err(Stop::Memory),
+        Err(InFault::Memory) => Err(EarlyEnd::Memory),
     }
 }
 

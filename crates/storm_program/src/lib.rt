@@ -2,7 +2,9 @@
 #![tactic(auto)]
 
 mod check;
+mod early_end;
 mod files;
+mod fold;
 mod load;
 mod output;
 mod plain;
@@ -12,12 +14,12 @@ mod report;
 mod run;
 mod schedule;
 mod status;
-mod stop;
 mod track;
 
 pub use event_worlds::attempt_fates::{
     Attempt, End, Fates, committed_records_are_all, each_record_is_committed_once,
 };
+pub use fold::storm_fold;
 pub use program::{
     storm, storm_check, storm_load, storm_plain, storm_replay, storm_run, storm_track,
 };

@@ -15,9 +15,9 @@ ghost use Rattle.event_worlds.specs.topology_plan.Wired.{width_of};
 ghost use Rattle.event_worlds.specs.tree_model.Trees.{node_count};
 ghost use Rattle.topology_reader.specs.FirstFault.{IsFilePlan};
 
+use crate::early_end::EarlyEnd;
 use crate::files::Accepted;
-use crate::report::{Counted, batches_of, counted_in, text_of_end};
-use crate::stop::Stop;
+use crate::report::{Counted, counted_in, offers_of, text_of_end};
 use event_worlds::attempt_fates::Fates;
 use event_worlds::bolt_ops::RowOp;
 use event_worlds::storm_ids::IdMaker;
@@ -41,7 +41,7 @@ pub fn load_records_of<M: StoreMaker, N: IdMaker, O: RowOp>(
     ids: &mut N,
     custom: &O,
     fates: &mut Fates,
-) -> Result<String, Stop>
+) -> Result<String, EarlyEnd>
     requires seed { seed < 65537 }
     requires fates { fates.old ≡ [] }
     ensures done { IfOk result (λ text. LoadComes (O.meaning custom.now)
@@ -73,7 +73,7 @@ fn load_accepted<M: StoreMaker, N: IdMaker, O: RowOp>(
     ids: &mut N,
     custom: &O,
     fates: &mut Fates,
-) -> Result<String, Stop>
+) -> Result<String, EarlyEnd>
     requires fates { fates.old ≡ [] }
     requires rows { All (IsRow (length files.plan.spout_fields)) files.rows }
     ensures line { IfOk result (λ text. IsLoadLine (O.meaning custom.now) files.plan files.rows
@@ -102,11 +102,11 @@ fn load_accepted<M: StoreMaker, N: IdMaker, O: RowOp>(
     ensures store_faults { M.fault_count stores.old ≤ M.fault_count stores.new }
 {
     let Accepted { plan, rows } = files;
-    let batches = batches_of(&plan, rows);
-    let counted = counted_in(&batches);
-    let events = rounds_enough(alloc, &plan, batches.rows(), counted.batches, custom)?;
-    let ending = replay_over(alloc, &plan, batches, &events, ids, stores, custom, fates)?;
-    let _ = text_of_end(alloc, &plan, counted, fates, &ending)?;
+    let offers = offers_of(&plan, rows)?;
+    let counted = counted_in(&offers);
+    let events = rounds_enough(alloc, &plan, offers.rows(), counted.batches, custom)?;
+    let ending = replay_over(alloc, &plan, offers, &events, ids, stores, custom, fates)?;
+    let _ = text_of_end(alloc, &plan, counted.records, fates, &ending)?;
     let line = line_of_end(alloc, counted, &ending)?;
     Ok(line)
 }

@@ -2,13 +2,13 @@ ghost use Rattle.std.specs.Prelude.{◌≡◌, ◌≤◌, IfOk, IfErr, string_by
 ghost use Rattle.storm_program.specs.Outside.{sink_use};
 ghost use Rattle.storm_program.specs.steps.Stops.{IsWritten, IsStopWritten};
 
+use crate::early_end::EarlyEnd;
 use crate::status::Status;
-use crate::stop::Stop;
 use storm_outside::{Sink, write_all};
 
 /// Writes what a command came to: the text of its own work, or why it stopped.
 /// Answers how it ended then.
-pub fn write_answer<K: Sink>(came: Result<String, Stop>, out: &mut K) -> Status
+pub fn write_answer<K: Sink>(came: Result<String, EarlyEnd>, out: &mut K) -> Status
     ensures done { IfOk came (λ text. IsWritten Status.Done (string_bytes text)
         (sink_use K.taken K.faults out.old out.new) result) }
     ensures stop { IfErr came (λ stop. IsStopWritten stop
@@ -17,8 +17,8 @@ pub fn write_answer<K: Sink>(came: Result<String, Stop>, out: &mut K) -> Status
 {
     match came {
         Ok(text) => write_text(Status::Done, text.as_bytes(), out),
-        Err(Stop::Told(status, line)) => write_text(status, line.as_bytes(), out),
-        Err(Stop::Memory) => Status::Memory,
+        Err(EarlyEnd::Told(status, line)) => write_text(status, line.as_bytes(), out),
+        Err(EarlyEnd::Memory) => Status::Memory,
     }
 }
 

@@ -1,16 +1,19 @@
 ghost use Rattle.std.specs.Prelude.{◌≡◌, ◌≤◌, length, All, IfOk, IfErr, string_bytes};
+ghost use Rattle.event_worlds.specs.bolt_ops.RowOp.{Custom};
 ghost use Rattle.event_worlds.specs.storm_values.Rows.{IsRow};
+ghost use Rattle.event_worlds.specs.tree_model.Tables.{AreTables};
+ghost use Rattle.event_worlds.specs.tree_model.Trees.{writes};
 ghost use Rattle.storm_program.specs.declared.status.Status.{Status};
 ghost use Rattle.storm_program.specs.Outside.{shelf_use};
 ghost use Rattle.storm_program.specs.Plain.{IsPlainReport, PlainComes};
 ghost use Rattle.storm_program.specs.steps.Stops.{Stops};
 
+use crate::early_end::EarlyEnd;
 use crate::files::{Accepted, read_files};
-use crate::stop::Stop;
 use event_worlds::bolt_ops::RowOp;
-use event_worlds::storm_values::Memory;
-use event_worlds::tree_model::plain_tables;
-use event_worlds::trident_batches::Batches;
+use event_worlds::storm_values::{Memory, Rows};
+use event_worlds::topology_plan::Plan;
+use event_worlds::tree_model::{Tables, plain_tables};
 use run_report::{Tail, report_text};
 use std::alloc::Global;
 use storm_outside::Shelf;
@@ -22,7 +25,7 @@ pub fn plain_files<H: Shelf, O: RowOp>(
     input: &str,
     shelf: &mut H,
     custom: &O,
-) -> Result<String, Stop>
+) -> Result<String, EarlyEnd>
     ensures done { IfOk result (λ text. PlainComes (O.meaning custom.now)
         (shelf_use H.holds H.ready H.fetches H.faults shelf.old shelf.new) topology.now input.now
         Status.Done (string_bytes text)) }
@@ -43,12 +46,25 @@ fn plain_report<O: RowOp>(alloc: Global, files: Accepted, custom: &O) -> Result<
         files.plan files.rows (string_bytes text)) }
 {
     let Accepted { plan, rows } = files;
-    let batches = Batches::cut(rows, plan.batch());
-    let tables = plain_tables(alloc, &plan, batches.rows(), custom)?;
-    let records = batches.rows().len() as u64;
+    let tables = plain_tables(alloc, &plan, &rows, custom)?;
+    report_of_tables(alloc, &plan, &rows, &tables)
+}
+
+/// The report of the tables of all records of an input.
+pub fn report_of_tables(
+    alloc: Global,
+    plan: &Plan,
+    rows: &Rows,
+    tables: &Tables,
+) -> Result<String, Memory>
+    ensures { IfOk result (λ text. (custom : Custom)
+        → AreTables plan.now custom (writes plan.now custom rows.now) tables.now
+        → IsPlainReport custom plan.now rows.now (string_bytes text)) }
+{
+    let records = rows.len() as u64;
     let tail = Tail::Ok {
         records,
-        batches: batches.count(),
+        batches: records.div_ceil(u64::from(plan.batch())),
     };
-    report_text(alloc, &plan, &[], tables.as_slice(), tail)
+    report_text(alloc, plan, &[], tables.as_slice(), tail)
 }

@@ -13,6 +13,7 @@ ghost use Rattle.storm_words.specs.Words.{command};
 ghost use Rattle.stored_runs.specs.Makers.{maker_use};
 
 use crate::check::check_file;
+use crate::fold::storm_fold;
 use crate::load::load_records_of;
 use crate::output::{write_answer, write_text};
 use crate::plain::plain_files;
@@ -34,10 +35,10 @@ use storm_words::{Command, USAGE, read_words};
 
 /// Carries out the command that the words after the program's name give.
 ///
-/// The words are those of `check`, `plain`, `replay`, `run`, `load` and `track`; all others get the
-/// usage line. Bolts with the operation `custom` do what is handed in. Stores are made by `stores` and
-/// given back, ids come of sources that `ids` makes, and ticks of `ticks`. A run of two workers or
-/// more passes `gate` before each execution.
+/// The words are those of `check`, `plain`, `replay`, `run`, `load`, `track` and `fold`; all others
+/// get the usage line. Bolts with the operation `custom`, and states with the fold `custom`, do
+/// what is handed in. Stores are made by `stores` and given back, ids come of sources that `ids`
+/// makes, and ticks of `ticks`. A run of two workers or more passes `gate` before each execution.
 pub fn storm<
     R: Threads + Wait + Sync,
     H: Shelf,
@@ -140,6 +141,11 @@ where
             input,
             workers,
         } => storm_track(rt, alloc, topology, input, workers, shelf, out, ids, custom),
+        Command::Fold {
+            topology,
+            input,
+            workers,
+        } => storm_fold(rt, alloc, topology, input, workers, shelf, out, custom),
     }
 }
 

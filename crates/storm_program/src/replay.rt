@@ -1,4 +1,4 @@
-ghost use Rattle.std.specs.Prelude.{◌≡◌, ◌≤◌, ◌<◌, [], length, All, IfOk, IfErr, string_bytes};
+ghost use Rattle.std.specs.Prelude.{◌≡◌, ◌≤◌, ◌<◌, ◌⊎◌, [], length, All, IfOk, IfErr, string_bytes};
 ghost use Rattle.std.specs.List.{AllByRecursion};
 ghost use Rattle.event_worlds.specs.Rounds.{HasRounds, rounds_needed};
 ghost use Rattle.schedule_core.specs.Schedules.{all_steps};
@@ -7,17 +7,18 @@ ghost use Rattle.storm_program.specs.declared.status.Status.{Status};
 ghost use Rattle.storm_program.specs.Outside.{run_use, shelf_use};
 ghost use Rattle.storm_program.specs.Replay.{IsReplayReport, ReplayComes, ReplayEndsSo, ReplayMustCommitAll, ticks_of_schedule};
 ghost use Rattle.storm_program.specs.Reports.{cut_by};
-ghost use Rattle.storm_program.specs.Run.{IsShort};
+ghost use Rattle.storm_program.specs.Run.{IsNotBegun, IsShort};
 ghost use Rattle.storm_program.specs.steps.Ended.{WorkStops};
 ghost use Rattle.storm_program.specs.steps.Stops.{IsMemory, Stops};
 ghost use Rattle.event_worlds.specs.storm_values.Rows.{IsRow};
 ghost use Rattle.stored_runs.specs.Makers.{maker_use};
 ghost use Rattle.stored_runs.specs.StoredRuns.{NothingIsInTheWay};
+ghost use Rattle.world_progress.specs.Rounding.{ShutsNone};
 
+use crate::early_end::EarlyEnd;
 use crate::files::{Accepted, read_files};
-use crate::report::{batches_of, counted_in, text_of_end};
+use crate::report::{offers_of, text_of_end};
 use crate::schedule::read_events;
-use crate::stop::Stop;
 use event_worlds::attempt_fates::Fates;
 use event_worlds::bolt_ops::RowOp;
 use event_worlds::storm_ids::IdMaker;
@@ -38,7 +39,7 @@ pub fn replay_files<H: Shelf, M: StoreMaker, N: IdMaker, O: RowOp>(
     ids: &mut N,
     custom: &O,
     fates: &mut Fates,
-) -> Result<String, Stop>
+) -> Result<String, EarlyEnd>
     requires { fates.old ≡ [] }
     ensures done { IfOk result (λ text. ReplayComes (O.meaning custom.now)
         (shelf_use H.holds H.ready H.fetches H.faults shelf.old shelf.new)
@@ -75,7 +76,7 @@ fn replay_accepted<M: StoreMaker, N: IdMaker, O: RowOp>(
     ids: &mut N,
     custom: &O,
     fates: &mut Fates,
-) -> Result<String, Stop>
+) -> Result<String, EarlyEnd>
     requires fates { fates.old ≡ [] }
     requires rows { All (IsRow (length files.plan.spout_fields)) files.rows }
     requires fit { AllByRecursion (FitsEvent files.plan) events.now }
@@ -89,7 +90,11 @@ fn replay_accepted<M: StoreMaker, N: IdMaker, O: RowOp>(
         (run_use (maker_use M.C.tells M.C.fault_count M.holds M.has_made M.fault_count
         stores.old stores.new)
         (N.tells ids.old)) fates.new)
-        (IsShort (O.meaning custom.now) files.plan files.rows
+        (IsNotBegun
+        (run_use (maker_use M.C.tells M.C.fault_count M.holds M.has_made M.fault_count
+        stores.old stores.new)
+        (N.tells ids.old)) fates.new
+        ⊎ IsShort (O.meaning custom.now) files.plan files.rows
         (run_use (maker_use M.C.tells M.C.fault_count M.holds M.has_made M.fault_count
         stores.old stores.new)
         (N.tells ids.old)) fates.new))) }
@@ -99,12 +104,14 @@ fn replay_accepted<M: StoreMaker, N: IdMaker, O: RowOp>(
         → HasRounds files.plan
         (rounds_needed files.plan (O.meaning custom.now) (cut_by files.plan files.rows))
         (all_steps files.plan events.now)
-        → ticks_of_schedule files.plan events.now < files.plan.buckets → IfErr result IsMemory }
+        → ticks_of_schedule files.plan events.now < files.plan.buckets
+        → (0 < files.plan.partitions → All ShutsNone (all_steps files.plan events.now))
+        → IfErr result IsMemory }
     ensures store_faults { M.fault_count stores.old ≤ M.fault_count stores.new }
 {
     let Accepted { plan, rows } = files;
-    let batches = batches_of(&plan, rows);
-    let counted = counted_in(&batches);
-    let ending = replay_over(alloc, &plan, batches, events, ids, stores, custom, fates)?;
-    text_of_end(alloc, &plan, counted, fates, &ending)
+    let offers = offers_of(&plan, rows)?;
+    let records = offers.rows().len() as u64;
+    let ending = replay_over(alloc, &plan, offers, events, ids, stores, custom, fates)?;
+    text_of_end(alloc, &plan, records, fates, &ending)
 }

@@ -1,17 +1,18 @@
 ghost use Rattle.std.specs.Prelude.{◌≡◌, All, IfOk, IfErr, length, string_bytes};
 ghost use Rattle.event_worlds.specs.Accounted.{IsInput};
+ghost use Rattle.event_worlds.specs.attempt_fates.Fates.{committed, is_committed};
+ghost use Rattle.event_worlds.specs.record_offers.Offers.{batch_count};
+ghost use Rattle.event_worlds.specs.storm_values.Rows.{IsRow};
 ghost use Rattle.storm_program.specs.Reports.{IsEndText, cut_by};
 ghost use Rattle.storm_program.specs.steps.Ended.{IsStopOfEnd};
-ghost use Rattle.event_worlds.specs.storm_values.Rows.{IsRow};
 ghost use Rattle.stored_runs.specs.StoredRuns.{IsAll};
-ghost use Rattle.event_worlds.specs.trident_batches.Batches.{batch_count};
 
+use crate::early_end::{EarlyEnd, told};
 use crate::status::Status;
-use crate::stop::{Stop, told};
-use event_worlds::attempt_fates::Fates;
-use event_worlds::storm_values::Rows;
+use event_worlds::attempt_fates::{Attempt, End, Fates};
+use event_worlds::record_offers::Offers;
+use event_worlds::storm_values::{Memory, Rows};
 use event_worlds::topology_plan::Plan;
-use event_worlds::trident_batches::Batches;
 use run_report::{Tail, report_text};
 use std::alloc::Global;
 use stored_runs::RunEnd;
@@ -23,25 +24,44 @@ pub struct Counted {
     pub batches: u64,
 }
 
-/// The records of an input, cut into the batches of a plan.
-pub fn batches_of(plan: &Plan, rows: Rows) -> Batches
+/// The records of an input, offered as a plan says. None of them is gone.
+pub fn offers_of(plan: &Plan, rows: Rows) -> Result<Offers, Memory>
     requires { All (IsRow (length plan.now.spout_fields)) rows }
-    ensures cut { result ≡ cut_by plan.now rows }
-    ensures input { IsInput plan.now result }
+    ensures cut { IfOk result (λ offers. offers ≡ cut_by plan.now rows) }
+    ensures input { IfOk result (IsInput plan.now) }
 {
     plan.facts();
-    Batches::cut(rows, plan.batch())
+    Offers::new(rows, plan.batch(), plan.partitions())
 }
 
 /// How many of each there are.
-pub fn counted_in(batches: &Batches) -> Counted
-    ensures records { result.records ≡ length batches.now.records }
-    ensures batches { result.batches ≡ batch_count (length batches.now.records) batches.now.size }
+pub fn counted_in(offers: &Offers) -> Counted
+    ensures records { result.records ≡ length offers.now.records }
+    ensures batches { result.batches ≡ batch_count (length offers.now.records) offers.now.size }
 {
     Counted {
-        records: batches.rows().len() as u64,
-        batches: batches.count(),
+        records: offers.rows().len() as u64,
+        batches: offers.count(),
     }
+}
+
+/// How many batches were committed.
+fn committed_in(fates: &[Attempt]) -> u64
+    ensures { result ≡ length (committed fates.now) }
+{
+    let mut count = 0;
+    for attempt in fates {
+        if is_committed(&attempt.end) {
+            count += 1;
+        }
+    }
+    count
+}
+
+fn is_committed(end: &End) -> bool
+    ensures { result ≡ is_committed end.now }
+{
+    matches!(end, End::Committed(_))
 }
 
 /// What is written of a run that ended so: its report where every batch is committed, and else why
@@ -49,32 +69,31 @@ pub fn counted_in(batches: &Batches) -> Counted
 pub fn text_of_end(
     alloc: Global,
     plan: &Plan,
-    counted: Counted,
+    records: u64,
     fates: &Fates,
     ending: &RunEnd,
-) -> Result<String, Stop>
+) -> Result<String, EarlyEnd>
     ensures all { IfOk result (λ _. IsAll ending.now) }
-    ensures done { IfOk result (λ text. IsEndText plan.now counted.records counted.batches
-        fates.now ending.now (string_bytes text)) }
-    ensures stop { IfErr result
-        (IsStopOfEnd plan.now counted.records counted.batches fates.now ending.now) }
+    ensures done { IfOk result (λ text.
+        IsEndText plan.now records fates.now ending.now (string_bytes text)) }
+    ensures stop { IfErr result (IsStopOfEnd plan.now records fates.now ending.now) }
 {
     match ending {
         RunEnd::All(tables) => {
             let tail = Tail::Ok {
-                records: counted.records,
-                batches: counted.batches,
+                records,
+                batches: committed_in(fates.as_slice()),
             };
             let text = report_text(alloc, plan, fates.as_slice(), tables.as_slice(), tail)?;
             Ok(text)
         }
         RunEnd::Exhausted(txid) => {
             let text = report_text(alloc, plan, fates.as_slice(), &[], Tail::Exhausted(*txid))?;
-            Err(Stop::Told(Status::Exhausted, text))
+            Err(EarlyEnd::Told(Status::Exhausted, text))
         }
         RunEnd::Unfinished(count) => {
             let text = report_text(alloc, plan, fates.as_slice(), &[], Tail::Unfinished(*count))?;
-            Err(Stop::Told(Status::Unfinished, text))
+            Err(EarlyEnd::Told(Status::Unfinished, text))
         }
         RunEnd::StoreFault => Err(told(alloc, Status::StoreFault, "store fault\n")),
         RunEnd::BadCell(_) => Err(told(alloc, Status::BadCell, "bad cell\n")),

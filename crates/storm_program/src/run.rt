@@ -1,11 +1,10 @@
-ghost use Rattle.std.specs.Prelude.{◌≡◌, ◌≤◌, ◌<◌, ℕ, List, [], length, All, IfOk, IfErr, string_bytes, sum};
-ghost use Rattle.event_worlds.specs.Accounted.{IsInput};
+ghost use Rattle.std.specs.Prelude.{◌≡◌, ◌≤◌, ◌<◌, ◌⊎◌, ℕ, List, [], length, All, IfOk, IfErr, string_bytes, sum};
 ghost use Rattle.event_worlds.specs.Rounds.{rounds_needed};
 ghost use Rattle.schedule_core.specs.Runs.{first_answers};
 ghost use Rattle.storm_program.specs.declared.status.Status.{Status};
 ghost use Rattle.storm_program.specs.Outside.{run_use, shelf_use, ticks_use};
 ghost use Rattle.storm_program.specs.Reports.{EndsSo, IsReport, cut_by};
-ghost use Rattle.storm_program.specs.Run.{IsShort, MustCommitAll, RunComes, ticks_of_run};
+ghost use Rattle.storm_program.specs.Run.{IsNotBegun, IsShort, MustCommitAll, RunComes, ticks_of_run};
 ghost use Rattle.storm_program.specs.steps.Ended.{IsRoundsEnd, WorkStops};
 ghost use Rattle.storm_program.specs.steps.Stops.{IsMemory, Stops};
 ghost use Rattle.event_worlds.specs.storm_values.Limits.{most_workers};
@@ -13,9 +12,9 @@ ghost use Rattle.event_worlds.specs.storm_values.Rows.{IsRow};
 ghost use Rattle.stored_runs.specs.Makers.{maker_use};
 ghost use Rattle.stored_runs.specs.StoredRuns.{NothingIsInTheWay};
 
+use crate::early_end::EarlyEnd;
 use crate::files::{Accepted, read_files};
-use crate::report::{batches_of, counted_in, text_of_end};
-use crate::stop::Stop;
+use crate::report::{offers_of, text_of_end};
 use event_worlds::attempt_fates::Fates;
 use event_worlds::bolt_ops::RowOp;
 use event_worlds::storm_ids::IdMaker;
@@ -50,7 +49,7 @@ pub fn run_files<
     custom: &O,
     gate: &G,
     fates: &mut Fates,
-) -> Result<String, Stop>
+) -> Result<String, EarlyEnd>
 where
     N::I: Send,
     M::C: Send,
@@ -96,7 +95,7 @@ fn run_accepted<R: Threads + Wait + Sync, T: Ticks, M: StoreMaker, N: IdMaker, O
     custom: &O,
     gate: &G,
     fates: &mut Fates,
-) -> Result<String, Stop>
+) -> Result<String, EarlyEnd>
 where
     N::I: Send,
     M::C: Send,
@@ -118,7 +117,11 @@ where
         (N.tells ids.old))
         (ticks_of_run (ticks_use T.handed_out T.tells ticks.old ticks.new))
         fates.new ending text)
-        (IsShort (O.meaning custom.now) files.plan files.rows
+        (IsNotBegun
+        (run_use (maker_use M.C.tells M.C.fault_count M.holds M.has_made M.fault_count
+        stores.old stores.new)
+        (N.tells ids.old)) fates.new
+        ⊎ IsShort (O.meaning custom.now) files.plan files.rows
         (run_use (maker_use M.C.tells M.C.fault_count M.holds M.has_made M.fault_count
         stores.old stores.new)
         (N.tells ids.old)) fates.new))) }
@@ -132,10 +135,10 @@ where
     ensures store_faults { M.fault_count stores.old ≤ M.fault_count stores.new }
 {
     let Accepted { plan, rows } = files;
-    let batches = batches_of(&plan, rows);
-    let counted = counted_in(&batches);
+    let offers = offers_of(&plan, rows)?;
+    let records = offers.rows().len() as u64;
     let ending = run_over(
-        rt, alloc, &plan, batches, workers, ticks, ids, stores, custom, gate, fates,
+        rt, alloc, &plan, offers, workers, ticks, ids, stores, custom, gate, fates,
     )?;
-    text_of_end(alloc, &plan, counted, fates, &ending)
+    text_of_end(alloc, &plan, records, fates, &ending)
 }

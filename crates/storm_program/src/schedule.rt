@@ -6,8 +6,8 @@ ghost use Rattle.storm_program.specs.Schedules.{AreEvents};
 ghost use Rattle.storm_program.specs.steps.Reading.{ScheduleComes};
 ghost use Rattle.storm_program.specs.steps.Stops.{Stops};
 
+use crate::early_end::{EarlyEnd, refused_schedule};
 use crate::files::read_file;
-use crate::stop::{Stop, refused_schedule};
 use event_worlds::topology_plan::Plan;
 use schedule_reader::{
     Events, MOST_SCHEDULE_BYTES, one_byte_past_the_limit_suffices, read_schedule,
@@ -24,7 +24,7 @@ pub fn read_events<H: Shelf>(
     name: &str,
     plan: &Plan,
     shelf: &mut H,
-) -> Result<Events, Stop>
+) -> Result<Events, EarlyEnd>
     ensures events { IfOk result (AreEvents (H.holds shelf.old) plan.now name.now) }
     ensures fit { IfOk result (AllByRecursion (FitsEvent plan.now)) }
     ensures stop { IfErr result (Stops (ScheduleComes

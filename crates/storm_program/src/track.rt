@@ -7,8 +7,8 @@ ghost use Rattle.storm_program.specs.Track.{TrackComes};
 ghost use Rattle.storm_program.specs.steps.Stops.{Stops};
 ghost use Rattle.track_runs.specs.Tracked.{IsTrackText};
 
+use crate::early_end::EarlyEnd;
 use crate::files::{Accepted, read_files};
-use crate::stop::Stop;
 use event_worlds::bolt_ops::RowOp;
 use event_worlds::storm_ids::IdMaker;
 use event_worlds::storm_values::Memory;
@@ -27,7 +27,7 @@ pub fn track_files<R: Threads + Sync, H: Shelf, N: IdMaker, O: RowOp>(
     shelf: &mut H,
     ids: &mut N,
     custom: &O,
-) -> Result<String, Stop>
+) -> Result<String, EarlyEnd>
     requires some { 1 ≤ workers }
     requires few { workers ≤ most_workers }
     ensures done { IfOk result (λ text. TrackComes (O.meaning custom.now)

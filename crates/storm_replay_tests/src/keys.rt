@@ -2,6 +2,7 @@
 ghost use Rattle.std.specs.Prelude.{◌≡◌, IfOk};
 ghost use Rattle.event_worlds.specs.Accounted.{IsInput};
 
+use event_worlds::record_offers::Offers;
 use sample_operations::Backwards;
 use sample_topologies::STEADY;
 use schedule_core::read_schedule;
@@ -12,7 +13,6 @@ use storm_test_kit::{CALM, Cell, Outside, stores};
 use storm_values::read_input;
 use test_kit::Mismatch;
 use topology_reader::{Plan, read_topology};
-use trident_batches::Batches;
 
 const RECORD: &str = "[\"a\"]";
 
@@ -23,12 +23,12 @@ fn case_of(alloc: Global, of: &str) -> Mismatch {
     }
 }
 
-fn batches_of(alloc: Global, plan: &Plan) -> Result<Batches, Mismatch>
-    ensures { IfOk result (λ batches. IsInput plan.now batches) }
+fn offers_of(alloc: Global, plan: &Plan) -> Result<Offers, Mismatch>
+    ensures { IfOk result (λ offers. IsInput plan.now offers) }
 {
     plan.facts();
     match read_input(alloc, RECORD.as_bytes(), plan.spout_fields()) {
-        Ok(rows) => Ok(Batches::cut(rows, plan.batch())),
+        Ok(rows) => Ok(Offers::new(rows, plan.batch(), plan.partitions())?),
         Err(_) => Err(case_of(alloc, RECORD)),
     }
 }
@@ -42,14 +42,14 @@ fn end_over(alloc: Global, plan: &Plan, cell: Cell) -> Result<RunEnd, Mismatch> 
         cells: &[cell],
         ..CALM
     };
-    let batches = batches_of(alloc, plan)?;
+    let offers = offers_of(alloc, plan)?;
     let mut stores = stores(alloc, outside)?;
     let mut ids = ChaChaMaker { key: [0; 32] };
     let mut fates = Fates::new(alloc);
     let ended = replay_over(
         alloc,
         plan,
-        batches,
+        offers,
         &events,
         &mut ids,
         &mut stores,

@@ -4,6 +4,8 @@
 #[cfg(test)]
 mod keys;
 #[cfg(test)]
+mod partitions;
+#[cfg(test)]
 mod refusals;
 #[cfg(test)]
 mod reports;

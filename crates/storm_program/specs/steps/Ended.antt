@@ -3,7 +3,7 @@ use Rattle.std.specs.Prelude.{◌≡◌, ℕ, List}
 use Rattle.event_worlds.specs.attempt_fates.declared.fates.Attempt.{Attempt}
 use Rattle.storm_program.specs.declared.status.Status.{Status}
 use Rattle.storm_program.specs.declared.status.Status.TheVariants as status
-use Rattle.storm_program.specs.declared.stop.Stop.{Stop}
+use Rattle.storm_program.specs.declared.early_end.EarlyEnd.{EarlyEnd}
 use Rattle.storm_program.specs.Load.{line_of}
 use Rattle.storm_program.specs.Reports.{IsEndText}
 use Rattle.storm_program.specs.steps.Stops.{IfTold}
@@ -21,12 +21,12 @@ status_of end.StoreFault = status.StoreFault
 status_of (end.BadCell key) = status.BadCell
 
 -- the stop tells a run that did not commit all, by its status and its text
-abbrev pub IsStopOfEnd : Topology → ℕ → ℕ → List Attempt → RunEnd → Stop → Type 0
-IsStopOfEnd plan records batches fates ending stop =
+abbrev pub IsStopOfEnd : Topology → ℕ → List Attempt → RunEnd → EarlyEnd → Type 0
+IsStopOfEnd plan records fates ending stop =
     IfTold stop
     (λ s text.
     (IsAll ending → ⊥) × (s ≡ status_of ending)
-    × IsEndText plan records batches fates ending text)
+    × IsEndText plan records fates ending text)
 
 -- What a run over accepted files comes to that is no report, where `Ends` says what each end comes
 -- to by its text, and `Short` what want of memory leaves.

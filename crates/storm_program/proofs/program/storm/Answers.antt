@@ -1,7 +1,7 @@
 use Rattle.std.proofs.Common.{◌≡◌, None, Some, map, refl, rules, string_bytes}
 use Rattle.storm_program.specs.Outside.{run_use, shelf_use, sink_use, ticks_use}
-use Rattle.storm_program.proofs.RunLemmas.{ends_check, ends_load, ends_own, ends_plain, ends_track, ends_words, untouched}
-use Rattle.storm_words.specs.Words.{check, command, load, plain, replay, run, track}
+use Rattle.storm_program.proofs.RunLemmas.{ends_check, ends_fold, ends_load, ends_own, ends_plain, ends_track, ends_words, untouched}
+use Rattle.storm_words.specs.Words.{check, command, fold_over, load, plain, replay, run, track}
 use Rattle.stored_runs.specs.Makers.{maker_use}
 use Rattle.storm_program.proofs.program.storm.Goals as goal
 
@@ -76,6 +76,18 @@ returns-in-Track-clause-ends g c =
     (ticks_use g.T.Ticks.handed_out g.T.Ticks.tells c.args.ticks.now c.args.ticks.now)
     c.args.fates.now (command (map string_bytes c.args.words.now)) c.storm_track.result
     c.in-Track.topology.now c.in-Track.input.now c.in-Track.workers is c.requires (untouched g.M.C.CellStore.tells g.M.C.CellStore.fault_count g.M.StoreMaker.holds g.M.StoreMaker.has_made g.M.StoreMaker.fault_count c.args.stores.now) c.storm_track.ensures.ends
+
+pub returns-in-Fold-clause-ends : goal.returns-in-Fold-clause-ends
+returns-in-Fold-clause-ends g c =
+    let is : command (map string_bytes c.args.words.now) ≡ Some (fold_over c.in-Fold.topology.now c.in-Fold.input.now c.in-Fold.workers) = search rules in
+    ends_fold
+    (g.O.RowOp.meaning c.args.custom.now)
+    (shelf_use g.H.Shelf.holds g.H.Shelf.ready g.H.Shelf.fetches g.H.Shelf.faults c.args.shelf.now c.storm_fold.new.shelf)
+    (sink_use g.K.Sink.taken g.K.Sink.faults c.args.out.now c.storm_fold.new.out)
+    (run_use (maker_use g.M.C.CellStore.tells g.M.C.CellStore.fault_count g.M.StoreMaker.holds g.M.StoreMaker.has_made g.M.StoreMaker.fault_count c.args.stores.now c.args.stores.now) (g.N.IdMaker.tells c.args.ids.now))
+    (ticks_use g.T.Ticks.handed_out g.T.Ticks.tells c.args.ticks.now c.args.ticks.now)
+    c.args.fates.now (command (map string_bytes c.args.words.now)) c.storm_fold.result
+    c.in-Fold.topology.now c.in-Fold.input.now c.in-Fold.workers is c.requires (untouched g.M.C.CellStore.tells g.M.C.CellStore.fault_count g.M.StoreMaker.holds g.M.StoreMaker.has_made g.M.StoreMaker.fault_count c.args.stores.now) c.storm_fold.ensures.ends
 
 pub returns-in-Ok-None-clause-ends : goal.returns-in-Ok-None-clause-ends
 returns-in-Ok-None-clause-ends g c =

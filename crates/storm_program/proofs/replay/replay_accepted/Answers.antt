@@ -1,41 +1,35 @@
-use Rattle.std.proofs.Common.{List, sym, subst}
+use Rattle.std.proofs.Common.{◌≡◌, ◌⊎◌, List, length, rules, sym, subst}
 use Rattle.event_worlds.specs.Rounds.{HasRounds, rounds_needed}
-use Rattle.schedule_core.specs.Schedules.{all_steps}
-use Rattle.storm_program.proofs.EndLemmas.{IfErr-exit}
-use Rattle.storm_program.proofs.ReportLemmas.{ends_so, replay_report_if, short_of, work_finishes, work_stops}
 use Rattle.event_worlds.specs.attempt_fates.declared.fates.Attempt.{Attempt}
+use Rattle.event_worlds.specs.taken_records.Cuts.{Cut}
+use Rattle.schedule_core.specs.Schedules.{all_steps}
+use Rattle.storm_program.proofs.ReportLemmas.{ends_so, replay_report_if, work_finishes, work_short, work_stops}
 use Rattle.storm_program.specs.Outside.{RunUse, run_use}
 use Rattle.storm_program.specs.Replay.{ReplayEndsSo, ticks_of_schedule}
-use Rattle.storm_program.specs.declared.stop.Stop.TheVariants.{Memory}
-use Rattle.storm_program.specs.Run.{IsShort}
+use Rattle.storm_program.specs.Run.{IsNotBegun, IsShort}
 use Rattle.stored_runs.specs.Makers.{maker_use}
 use Rattle.stored_runs.specs.StoredRuns.{IsRunOfWorld}
-use Rattle.event_worlds.specs.trident_batches.Batches.{Cut}
 use Rattle.storm_program.proofs.replay.replay_accepted.Goals as goal
 
 pub returns-clause-report : goal.returns-clause-report
 returns-clause-report g c =
-    replay_report_if _ _ _ _ _ _ c.batches_of-batches.ensures.cut _ _ c.counted_in-counted.ensures.records c.counted_in-counted.ensures.batches c.args.events.now c.in_ok-ending.ending c.text_of_end.result c.text_of_end.ensures.all c.text_of_end.ensures.done c.in_ok-ending.ensures.comes c.replay_over.ensures.back c.in_ok-ending.ensures.world
+    let many : c.len-records.result ≡ length c.in_ok-offers.offers.records = search rules in
+    replay_report_if _ _ _ _ _ _ c.in_ok-offers.ensures.cut _ many c.args.events.now c.in_ok-ending.ending c.text_of_end.result c.in_ok-offers.ensures.input c.text_of_end.ensures.all c.text_of_end.ensures.done c.in_ok-ending.ensures.comes c.replay_over.ensures.back c.in_ok-ending.ensures.world
 
 pub returns-clause-stop : goal.returns-clause-stop
 returns-clause-stop g c =
+    let many : c.len-records.result ≡ length c.in_ok-offers.offers.records = search rules in
     let base : RunUse = (run_use (maker_use g.M.C.CellStore.tells g.M.C.CellStore.fault_count g.M.StoreMaker.holds g.M.StoreMaker.has_made g.M.StoreMaker.fault_count c.args.stores.now c.replay_over.new.stores) (g.N.IdMaker.tells c.args.ids.now)) in
     let fates : List Attempt = c.replay_over.new.fates in
-    work_stops (ReplayEndsSo (g.O.RowOp.meaning c.args.custom.now) c.args.files.plan c.args.files.rows c.args.events.now base fates) (IsShort (g.O.RowOp.meaning c.args.custom.now) c.args.files.plan c.args.files.rows base fates) _ _ _ _ c.in_ok-ending.ending c.text_of_end.result
+    work_stops (ReplayEndsSo (g.O.RowOp.meaning c.args.custom.now) c.args.files.plan c.args.files.rows c.args.events.now base fates) (IsNotBegun base fates ⊎ IsShort (g.O.RowOp.meaning c.args.custom.now) c.args.files.plan c.args.files.rows base fates) _ _ _ c.in_ok-ending.ending c.text_of_end.result
     (λ text printed. record {
-      ends = ends_so _ _ _ _ _ _ _ c.batches_of-batches.ensures.cut _ _ c.counted_in-counted.ensures.records c.counted_in-counted.ensures.batches c.in_ok-ending.ending c.in_ok-ending.ensures.comes c.replay_over.ensures.back text printed;
-      of_world = subst (λ (k : Cut). IsRunOfWorld (g.N.IdMaker.tells c.args.ids.now) c.args.files.plan (g.O.RowOp.meaning c.args.custom.now) k (all_steps c.args.files.plan c.args.events.now) c.replay_over.new.fates c.in_ok-ending.ending) c.batches_of-batches.ensures.cut c.in_ok-ending.ensures.world;
+      ends = ends_so _ _ _ _ _ _ _ c.in_ok-offers.ensures.cut _ many c.in_ok-ending.ending c.in_ok-ending.ensures.comes c.replay_over.ensures.back text printed;
+      of_world = subst (λ (k : Cut). IsRunOfWorld (g.N.IdMaker.tells c.args.ids.now) c.args.files.plan (g.O.RowOp.meaning c.args.custom.now) k (all_steps c.args.files.plan c.args.events.now) fates c.in_ok-ending.ending) c.in_ok-offers.ensures.cut c.in_ok-ending.ensures.world;
     })
-    (short_of (g.O.RowOp.meaning c.args.custom.now) c.args.files.plan c.args.files.rows base (ticks_of_schedule c.args.files.plan c.args.events.now) fates _ c.batches_of-batches.ensures.cut _ _ c.counted_in-counted.ensures.records c.counted_in-counted.ensures.batches c.replay_over.ensures.once c.replay_over.ensures.back c.in_ok-ending.ensures.comes.stands)
+    (work_short (g.O.RowOp.meaning c.args.custom.now) c.args.files.plan c.args.files.rows base (ticks_of_schedule c.args.files.plan c.args.events.now) fates _ c.in_ok-offers.ensures.cut c.replay_over.ensures.once c.replay_over.ensures.back c.in_ok-ending.ensures.comes.stands)
     c.text_of_end.ensures.stop
 
 pub returns-clause-finishes : goal.returns-clause-finishes
-returns-clause-finishes g c = λ free rounds few.
-    let here = subst (λ (k : Cut). HasRounds c.args.files.plan (rounds_needed c.args.files.plan (g.O.RowOp.meaning c.args.custom.now) k) (all_steps c.args.files.plan c.args.events.now)) (sym c.batches_of-batches.ensures.cut) rounds in
-    work_finishes _ _ _ _ c.in_ok-ending.ending c.text_of_end.result (c.in_ok-ending.ensures.finishes free here few) c.text_of_end.ensures.stop
-
-pub returns-in_err-ending-clause-stop : goal.returns-in_err-ending-clause-stop
-returns-in_err-ending-clause-stop g c =
-    IfErr-exit c.from_residual.result Memory _ c.from_residual.ensures.1
-    (short_of (g.O.RowOp.meaning c.args.custom.now) c.args.files.plan c.args.files.rows (run_use (maker_use g.M.C.CellStore.tells g.M.C.CellStore.fault_count g.M.StoreMaker.holds g.M.StoreMaker.has_made g.M.StoreMaker.fault_count c.args.stores.now c.replay_over.new.stores) (g.N.IdMaker.tells c.args.ids.now))
-    (ticks_of_schedule c.args.files.plan c.args.events.now) c.replay_over.new.fates _ c.batches_of-batches.ensures.cut _ _ c.counted_in-counted.ensures.records c.counted_in-counted.ensures.batches c.replay_over.ensures.once c.replay_over.ensures.back c.in_err-ending.ensures.short)
+returns-clause-finishes g c = λ free rounds few shuts_none.
+    let here = subst (λ (k : Cut). HasRounds c.args.files.plan (rounds_needed c.args.files.plan (g.O.RowOp.meaning c.args.custom.now) k) (all_steps c.args.files.plan c.args.events.now)) (sym c.in_ok-offers.ensures.cut) rounds in
+    work_finishes _ _ _ c.in_ok-ending.ending c.text_of_end.result (c.in_ok-ending.ensures.finishes free here few shuts_none) c.text_of_end.ensures.stop

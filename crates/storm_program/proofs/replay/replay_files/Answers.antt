@@ -58,4 +58,4 @@ pub returns-clause-finishes : goal.returns-clause-finishes
 returns-clause-finishes g c = λ must.
     let accepted = all_accepted (shelf_use g.H.Shelf.holds g.H.Shelf.ready g.H.Shelf.fetches g.H.Shelf.faults c.args.shelf.now c.read_events.new.shelf) (shelf_use g.H.Shelf.holds g.H.Shelf.ready g.H.Shelf.fetches g.H.Shelf.faults c.read_files.new.shelf c.read_events.new.shelf) c.in_ok-files.ensures.files c.args.topology.now c.args.input.now c.args.schedule.now _ _ _ c.in_ok-files.ensures.accepted c.in_ok-events.ensures.events in
     let through = replay_goes_through (g.O.RowOp.meaning c.args.custom.now) (shelf_use g.H.Shelf.holds g.H.Shelf.ready g.H.Shelf.fetches g.H.Shelf.faults c.args.shelf.now c.read_events.new.shelf) (run_use (maker_use g.M.C.CellStore.tells g.M.C.CellStore.fault_count g.M.StoreMaker.holds g.M.StoreMaker.has_made g.M.StoreMaker.fault_count c.args.stores.now c.replay_accepted.new.stores) (g.N.IdMaker.tells c.args.ids.now)) c.args.topology.now c.args.input.now c.args.schedule.now c.replay_accepted.new.fates _ _ _ accepted must in
-    c.replay_accepted.ensures.finishes through.free through.rounds through.few
+    c.replay_accepted.ensures.finishes through.free through.rounds through.few through.shuts_none
