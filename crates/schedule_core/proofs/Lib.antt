@@ -1,7 +1,6 @@
 pub mod Keeping
 pub mod Drives
 mod Quiet
-pub mod Following
 pub mod Coordinating
 pub mod Resting
 mod Boosting
