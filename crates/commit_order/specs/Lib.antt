@@ -1,5 +1,6 @@
 pub mod Offices
 pub mod Orders
+pub mod Follows
 pub use Rattle.tuple_account.specs.acker_core as acker_core
 pub use Rattle.attempt_fates.specs as attempt_fates
 pub use Rattle.tuple_account.specs.bolt_ops as bolt_ops

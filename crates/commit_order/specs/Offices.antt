@@ -115,12 +115,12 @@ pub record DropsAll (first : Root) (old new : Office) (told tells : List Attempt
   pub fates : tells
       ≡ told ++ drops old.topology old.cut old.desk.tick first old.desk.pending
 
--- the commit of a pending attempt that is settled
+-- the commit of a pending attempt that is settled, with its records
 abbrev pub IsCommitOf : Option Wait → Option Commit → Type 0
 IsCommitOf None commit = commit ≡ None
 IsCommitOf (Some w) None = ⊥
 IsCommitOf (Some w) (Some commit) =
-    (commit.root ≡ w.root)
+    (commit.root ≡ w.root) × (commit.spans ≡ w.spans)
     × ((list : List AckMsg) → w.settled ≡ Some list → AreWritesOf list commit.writes)
 
 -- a pending attempt is committed

@@ -113,9 +113,11 @@ fn commit_of(alloc: Global, entry: &Entry<Settled>) -> Result<Commit, Memory>
     let Some(settled) = entry.settled.as_ref() else {
         unreachable!()
     };
+    let spans = entry.spans.copy()?;
     let writes = settled.writes(alloc)?;
     Ok(Commit {
         root: entry.root,
+        spans,
         writes,
     })
 }

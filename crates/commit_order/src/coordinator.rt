@@ -119,6 +119,7 @@ impl<'p, I: Ids> Coordinator<'p, I> {
         ensures again { (stop : Stop) → stop_of self.old ≡ Some stop
             → (result ≡ Err stop) × (self.new ≡ self.old) × (fates.new ≡ fates.old) }
         ensures no_cell { (key : List ℕ) → result ≡ Err (stop.BadCell key) → ⊥ }
+        ensures no_follower { (txid : ℕ) → result ≡ Err (stop.Follow txid) → ⊥ }
     {
         if let Some(stop) = self.stopped() {
             return Err(stop);
@@ -155,6 +156,7 @@ impl<'p, I: Ids> Coordinator<'p, I> {
         ensures again { (stop : Stop) → stop_of self.old ≡ Some stop
             → (result ≡ Err stop) × (self.new ≡ self.old) × (fates.new ≡ fates.old) }
         ensures no_cell { (key : List ℕ) → result ≡ Err (stop.BadCell key) → ⊥ }
+        ensures no_follower { (txid : ℕ) → result ≡ Err (stop.Follow txid) → ⊥ }
     {
         if let Some(stop) = self.stopped() {
             return Err(stop);

@@ -13,6 +13,9 @@ pub enum Stop {
     /// A store has a cell at this key that its part does not take.
     #[error("a store has a bad cell at the key {key:?}", key = .0.as_slice())]
     BadCell(Bytes),
+    /// A follower failed when it was told the commit of this transaction, which was done.
+    #[error("a follower failed after the commit of transaction {0}")]
+    Follow(u64),
     #[error("out of memory")]
     Memory,
 }

@@ -156,15 +156,16 @@ module _ {I : Type 0} {g : Ghosts I} (tells : I → (ℕ → ℕ) → ℕ → Ty
 
 -- ---- what a turn answers
 
-no_stop_left : (why : Stop) → (why ≡ stop.Memory → ⊥) → ((key : List ℕ) → why ≡ stop.BadCell key → ⊥) → (txid : ℕ) × (why ≡ stop.Exhausted txid)
-no_stop_left (stop.Exhausted txid) memory cell = (txid, refl)
-no_stop_left (stop.BadCell key) memory cell = absurd (cell key refl)
-no_stop_left stop.Memory memory cell = absurd (memory refl)
+no_stop_left : (why : Stop) → (why ≡ stop.Memory → ⊥) → ((key : List ℕ) → why ≡ stop.BadCell key → ⊥) → ((txid : ℕ) → why ≡ stop.Follow txid → ⊥) → (txid : ℕ) × (why ≡ stop.Exhausted txid)
+no_stop_left (stop.Exhausted txid) memory cell follower = (txid, refl)
+no_stop_left (stop.BadCell key) memory cell follower = absurd (cell key refl)
+no_stop_left (stop.Follow txid) memory cell follower = absurd (follower txid refl)
+no_stop_left stop.Memory memory cell follower = absurd (memory refl)
 
 -- a stop that is not for want of memory has its transaction
 pub stop_of_txid : {X : Type 0} (result : Result X Stop) (why : Stop) → result ≡ Err why → (why ≡ stop.Memory → ⊥) → ((key : List ℕ) → result ≡ Err (stop.BadCell key) → ⊥)
-    → (txid : ℕ) × (result ≡ Err (stop.Exhausted txid))
-stop_of_txid result why is memory cell = let found = no_stop_left why memory (λ key same. cell key (is ∙ ap Err same)) in (found.0, is ∙ ap Err found.1)
+    → ((txid : ℕ) → result ≡ Err (stop.Follow txid) → ⊥) → (txid : ℕ) × (result ≡ Err (stop.Exhausted txid))
+stop_of_txid result why is memory cell follower = let found = no_stop_left why memory (λ key same. cell key (is ∙ ap Err same)) (λ txid same. follower txid (is ∙ ap Err same)) in (found.0, is ∙ ap Err found.1)
 
 none_of : (w : Option Wait) → IsCommitOf w None → w ≡ None
 none_of None is = refl

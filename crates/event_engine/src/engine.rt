@@ -382,5 +382,6 @@ fn fail_without_memory(why: Stop) -> Result<(), Memory>
         Stop::Memory => Err(AllocError),
         Stop::Exhausted(_) => Ok(()),
         Stop::BadCell(_) => Ok(()),
+        Stop::Follow(_) => Ok(()),
     }
 }

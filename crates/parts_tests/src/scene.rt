@@ -10,7 +10,7 @@ use state_parts::{Commit, CommitFault, CommitOutcome, Parts};
 use std::alloc::Global;
 use storm_stores::{CallKind, FailAt, MemMaker, MemStore};
 use topology_reader::{TopoFault, read_topology};
-use tree_model::storm_values::{Bytes, Memory, Root, Txt};
+use tree_model::storm_values::{Bytes, Memory, Root, Seq, Txt};
 use tree_model::topology_plan::Plan;
 use tree_model::{PackedWrites, Table, Write};
 
@@ -96,6 +96,7 @@ fn commit_of(alloc: Global, txid: u64) -> Result<Commit, Memory> {
     }
     Ok(Commit {
         root: Root { txid, attempt: 1 },
+        spans: Seq::new(alloc),
         writes,
     })
 }
@@ -108,7 +109,8 @@ pub fn commit(
 ) -> Result<CommitOutcome, Trouble>
     ensures { plans_of parts.new ≡ plans_of parts.old }
 {
-    Ok(parts.commit_all(commit_of(alloc, txid)?, &Backwards)?)
+    let commit = commit_of(alloc, txid)?;
+    Ok(parts.commit_all(&commit, &Backwards)?)
 }
 
 // The parts over these stores, after one commit of the batch, whatever came of it.

@@ -1,6 +1,7 @@
 -- The coordinator's steps over the parts.
 use Rattle.std.proofs.Common.{◌≡◌, ℕ, suc, ◌+◌, ◌==◌, ◌&&◌, Bool, true, false, cond, List, [], ◌∷◌, ◌++◌, All, length, find, get_or, Option, None, Some, is_some, Result, Ok, Err, refl, sym, ap, subst, ◌∙◌, append_assoc, append-nil, true≢false}
-use Rattle.std.specs.Prelude.{slice_get}
+use Rattle.std.specs.Prelude.{◌⊎◌, inl, inr, OnOk, slice_get}
+use Rattle.std.specs.List.{AllZip}
 use Rattle.std.specs.Result.{IsErrAnd}
 use Rattle.std.proofs.lemmas.List.{append_cancel_left}
 use Rattle.std.proofs.lemmas.List.Elements.{All-append, All-cons, All-nil}
@@ -8,9 +9,11 @@ use Rattle.std.proofs.lemmas.List.FromFn.{fill_by_all}
 use Rattle.event_worlds.specs.storm_values.declared.value.Root.{Root}
 use Rattle.event_worlds.specs.acker_core.declared.verdict.Verdict.{Verdict}
 use Rattle.event_worlds.specs.attempt_fates.declared.fates.Attempt.{Attempt}
-use Rattle.event_worlds.specs.attempt_fates.Fates.{committed_batches}
+use Rattle.event_worlds.specs.attempt_fates.declared.fates.End.TheVariants.{Committed}
+use Rattle.event_worlds.specs.attempt_fates.Fates.{committed, committed_batches, committed_txids, is_committed}
 use Rattle.batch_commits.specs.Standing.{FailuresAreCounted, HasTextKey, HoldAll, IsNextBatch, PartsStand, TellsFailedPart, failed_commits, writes_at}
 use Rattle.event_worlds.specs.bolt_ops.RowOp.{Custom}
+use Rattle.event_worlds.specs.commit_order.Follows.{AreCommitsOf, FailsAtLast, Follows, IsCommitBy, IsTaken}
 use Rattle.event_worlds.specs.commit_order.Offices.{AddsSome, IsCommitOf}
 use Rattle.event_worlds.specs.commit_turns.Account.{rows_at}
 use Rattle.event_worlds.specs.commit_turns.declared.wait.Wait.{Wait}
@@ -19,6 +22,7 @@ use Rattle.event_worlds.specs.commit_turns.Kept.{IsKept}
 use Rattle.event_worlds.specs.commit_turns.Outcomes.{IsOutcome}
 use Rattle.event_worlds.specs.commit_turns.Turns.{decided, decided_by, drops, end_by, next_to_commit, turned}
 use Rattle.event_worlds.proofs.commit_writes.Whole.{whole_writes}
+use Rattle.event_worlds.specs.commit_writes.Writes.{AreWritesOf}
 use Rattle.event_engine.proofs.GoesLemmas.{goes-idle, next-told, outcomes-append}
 use Rattle.event_engine.proofs.LoopLemmas.{goes_there}
 use Rattle.event_engine.specs.declared.engine.Engine.{Engine}
@@ -28,9 +32,13 @@ use Rattle.event_worlds.specs.Worlds.{Known, Step, World, is_over, next_outcome,
 use Rattle.event_worlds.specs.record_spans.declared.span.Span.{Span}
 use Rattle.event_worlds.specs.taken_records.Taken.{one_if}
 use Rattle.schedule_core.specs.Driving.{AreBefore, Breaks, Drives, HasDeskOf, Leaves, StandOn, WantsMemory}
+use Rattle.schedule_core.specs.declared.fault.RunFault.{RunFault}
+use Rattle.schedule_core.specs.declared.fault.RunFault.TheVariants as fault
+use Rattle.schedule_core.specs.Following.{Followed, TellsOf, Unfollowed, next_txid}
 use Rattle.schedule_core.specs.Laws.{CommitLaws, Laws}
+use Rattle.schedule_core.proofs.Following.{fails-then, follows-quiet, follows-then, many_committed, taken_next, taken_same}
 use Rattle.schedule_core.proofs.Drives.{drives-none, drives-still, drives-then, stands-same, stands-then}
-use Rattle.schedule_core.proofs.Quiet.{IsQuiet, batches_append, batches_quiet, first_none, none_batches, none_failed_of, none_of_drops, none_turned, quiet_nothing, quiet_same, quiet_turn, some_none}
+use Rattle.schedule_core.proofs.Quiet.{IsQuiet, batches_append, batches_quiet, first_none, none_batches, none_done_of, none_failed_of, none_of_drops, none_turned, quiet_nothing, quiet_same, quiet_turn, some_none}
 use Rattle.event_worlds.specs.state_parts.Commits.{AreCommitted, ArePerhapsCommitted, CountsFollow, FailOnceAtMost, IsBadAt}
 use Rattle.event_worlds.specs.state_parts.declared.answer.Commit.{Commit}
 use Rattle.event_worlds.specs.state_parts.declared.answer.CommitOutcome.{CommitOutcome}
@@ -106,7 +114,7 @@ module _ {S : Type 0} (holds : S → CellMap → Type 0) (count : S → ℕ) (t 
       by None same some i at = absurd (true≢false (sym some))
       by (Some list) same some i at =
           let whole = more.settled words all h k input led i w list at same in
-          whole_writes t custom (rows_at cut w.spans) w.root list commit.writes input.valid whole.0.is_true whole.0.is_single whole.2 (is.1 list same)
+          whole_writes t custom (rows_at cut w.spans) w.root list commit.writes input.valid whole.0.is_true whole.0.is_single whole.2 (is.1.1 list same)
 
 -- ---- the attempt whose commit was ordered ends
 
@@ -382,3 +390,170 @@ module _ {I S : Type 0} {g : Ghosts I} (tells : I → (ℕ → ℕ) → ℕ → 
           counted = more.all_told some.done parts parts (more.quiet_counts some.done parts (none_failed_of some.done quiet));
         };
       }
+
+  -- ---- what a follower is told
+
+  -- the attempt whose commit is ordered next is settled
+  settled_next : (d : Desk) (w : Wait) → next_to_commit t cut d ≡ Some w → is_some w.settled ≡ true
+  settled_next d w next =
+      let found = found_at (λ (x : Wait). (x.root.txid == d.committed + 1) && is_some x.settled) d.pending w next in both_true (w.root.txid == d.committed + 1) (is_some w.settled) found.2
+
+  done_is : (o : Option (List AckMsg)) → is_committed (end_by t cut Done o) ≡ true
+  done_is None = refl
+  done_is (Some list) = refl
+
+  module _ {W : Type 0} (ftells : W → List Commit → Type 0) (takes : W → Option ℕ) (fcount : W → ℕ) (old mid new : Engine I g) (goes : Goes tells t custom cut (of_turn ∷ []) old mid) where
+    -- nothing in a turn
+    pub follows-turn : (w : W) → Follows ftells fcount old.fates mid.fates w w
+    follows-turn w =
+        let q = turn_quiet old mid goes in
+        follows-quiet ftells fcount old.fates q.more mid.fates w q.added (none_done_of q.more q.quiet)
+
+    turn_many : length (committed_txids mid.fates) ≡ length (committed_txids old.fates)
+    turn_many =
+        let q = turn_quiet old mid goes in
+        let all : length (committed_txids mid.fates) ≡ length (committed_txids old.fates) + length (committed q.more) = ap (λ (fs : List Attempt). length (committed_txids fs)) q.added ∙ many_committed old.fates q.more in
+        let none : length (committed q.more) ≡ 0 = ap (λ (fs : List Attempt). length fs) (none_done_of q.more q.quiet) in
+        omega arith
+
+    pub turn_txid : next_txid cut mid.fates ≡ next_txid cut old.fates
+    turn_txid = ap (λ (n : ℕ). cut.start + n + 1) turn_many
+
+    module _ (commit : Commit) (ready : IsReady t cut mid) (order : IsOrder commit mid) where
+      w_next : next_to_commit t cut (shape mid).desk ≡ Some order.wait
+      w_next = sym (next_here mid ready) ∙ order.ordered.next
+
+      -- the commit that is ordered is of the transaction that is taken next
+      pub order_taken : (w : W) → IsTaken (next_txid cut old.fates) (takes w) → IsTaken commit.root.txid (takes w)
+      order_taken w taken =
+          let here : (shape mid).desk.committed + 1 ≡ next_txid cut mid.fates = ap (λ (n : ℕ). n + 1) ready.kept.commits in
+          taken_same (next_txid cut old.fates) commit.root.txid (takes w) (order.txid ∙ here ∙ turn_txid) taken
+
+      -- the attempt whose commit was done ended by it
+      by_commit : IsCommitBy (told_end t cut (shape mid).desk order.wait Done) commit
+      by_commit = record {
+        root = order.is.0;
+        spans = order.is.1.0;
+        writes = λ list is. by order.wait.settled refl (settled_next (shape mid).desk order.wait w_next) list is;
+      }
+        where
+          by : (o : Option (List AckMsg)) → order.wait.settled ≡ o → is_some o ≡ true → (list : List AckMsg) → end_by t cut Done o ≡ Committed list → AreWritesOf list commit.writes
+          by None same some list is = absurd (true≢false (sym some))
+          by (Some l) same some list is = subst (λ (ms : List AckMsg). AreWritesOf ms commit.writes) (let e : Committed l ≡ Committed list = is in cc) (order.is.1.1 l same)
+
+      done_are : AreCommitsOf (told_end t cut (shape mid).desk order.wait Done ∷ []) (commit ∷ [])
+      done_are =
+          subst (λ (b : Bool). AllZip IsCommitBy (cond b (told_end t cut (shape mid).desk order.wait Done ∷ []) []) (commit ∷ [])) (sym (done_is order.wait.settled)) (by_commit, tt)
+
+      done_many : length (committed (told_end t cut (shape mid).desk order.wait Done ∷ [])) ≡ 1
+      done_many = ap (λ (b : Bool). length (cond b (told_end t cut (shape mid).desk order.wait Done ∷ []) [])) (done_is order.wait.settled)
+
+      -- the fates after an outcome
+      ends_added : (how : CommitOutcome) → Goes tells t custom cut (of_outcome ∷ []) mid new → outcomes_of new.fates ≡ outcomes_of mid.fates ++ how ∷ [] → new.fates ≡ mid.fates ++ (decided t cut how (shape mid).desk).ended
+      ends_added how after told = ap (λ (x : World). x.fates) (outcome_is mid new how (sym (ended_here mid ready) ∙ order.ordered.goes_on) order.ordered.out told after)
+
+      done_added : Goes tells t custom cut (of_outcome ∷ []) mid new → outcomes_of new.fates ≡ outcomes_of mid.fates ++ Done ∷ [] → new.fates ≡ mid.fates ++ told_end t cut (shape mid).desk order.wait Done ∷ []
+      done_added after told = ends_added Done after told ∙ ap (λ (o : Option Wait). mid.fates ++ (decided_by t cut Done o (shape mid).desk).ended) w_next
+
+      -- a commit that failed is no commit
+      failed_quiet : (component part before later : ℕ) → Goes tells t custom cut (of_outcome ∷ []) mid new → outcomes_of new.fates ≡ outcomes_of mid.fates ++ Failed component part before later ∷ []
+          → (more : List Attempt) × (new.fates ≡ mid.fates ++ more) × (committed more ≡ [])
+      failed_quiet component part before later after told =
+          let ends = decided_ends t cut (shape mid).desk order.wait (Failed component part before later) w_next in (
+            told_end t cut (shape mid).desk order.wait (Failed component part before later) ∷ ends.0,
+            ends_added (Failed component part before later) after told ∙ ap (λ (xs : List Attempt). mid.fates ++ xs) ends.1,
+            none_done_of ends.0 ends.2,
+          )
+
+      -- what a follower was told of it
+      pub followed-ordered : (how : CommitOutcome) (r : Result (Unit {0}) RunFault) (x y : W) → Goes tells t custom cut (of_outcome ∷ []) mid new → outcomes_of new.fates ≡ outcomes_of mid.fates ++ how ∷ []
+          → TellsOf ftells takes fcount how commit r x y → Followed ftells fcount r old.fates new.fates x y
+      followed-ordered Done (Ok ok) x y after told was =
+          let next : Follows ftells fcount mid.fates new.fates x y = record {
+            more = told_end t cut (shape mid).desk order.wait Done ∷ [];
+            added = done_added after told;
+            commits = commit ∷ [];
+            are = done_are;
+            told = was.told;
+            quiet = was.quiet;
+          } in
+          follows-then ftells fcount old.fates mid.fates new.fates x x y (follows-turn x) next
+      followed-ordered Done (Err (fault.BadCell key)) x y after told was = absurd was
+      followed-ordered Done (Err (fault.Follow txid)) x y after told was =
+          let last : FailsAtLast ftells fcount txid mid.fates new.fates x y = record {
+            more = [];
+            last = told_end t cut (shape mid).desk order.wait Done;
+            added = done_added after told;
+            done = done_is order.wait.settled;
+            number = sym (ap (λ (k : Root). k.txid) order.is.0) ∙ was.number;
+            commits = [];
+            are = tt;
+            commit = commit;
+            is_last = by_commit;
+            told = λ earlier is. either earlier (was.perhaps earlier is);
+            failed = was.failed;
+          } in
+          fails-then ftells fcount txid old.fates mid.fates new.fates x x y (follows-turn x) last
+        where
+          either : (earlier : List Commit) → ftells y earlier ⊎ ftells y (earlier ++ commit ∷ []) → ftells y (earlier ++ []) ⊎ ftells y (earlier ++ commit ∷ [])
+          either earlier (inl is) = inl (subst (λ (cs : List Commit). ftells y cs) (sym (append-nil earlier)) is)
+          either earlier (inr is) = inr is
+      followed-ordered Done (Err fault.Memory) x y after told was = tt
+      followed-ordered (Failed component part before later) (Ok ok) x y after told was =
+          let q = failed_quiet component part before later after told in
+          let all = follows-then ftells fcount old.fates mid.fates new.fates x x x (follows-turn x) (follows-quiet ftells fcount mid.fates q.0 new.fates x q.1 q.2) in
+          subst (λ (w : W). Follows ftells fcount old.fates new.fates x w) (sym was) all
+      followed-ordered (Failed component part before later) (Err why) x y after told was = absurd was
+
+      -- and the transaction that it takes next
+      pub taken-ordered : (how : CommitOutcome) (r : Result (Unit {0}) RunFault) (x y : W) → Goes tells t custom cut (of_outcome ∷ []) mid new → outcomes_of new.fates ≡ outcomes_of mid.fates ++ how ∷ []
+          → TellsOf ftells takes fcount how commit r x y → IsTaken (next_txid cut old.fates) (takes x) → OnOk r (IsTaken (next_txid cut new.fates) (takes y))
+      taken-ordered Done (Ok ok) x y after told was taken =
+          let all : length (committed_txids new.fates) ≡ length (committed_txids mid.fates) + length (committed (told_end t cut (shape mid).desk order.wait Done ∷ [])) =
+          ap (λ (fs : List Attempt). length (committed_txids fs)) (done_added after told) ∙ many_committed mid.fates (told_end t cut (shape mid).desk order.wait Done ∷ []) in
+          let one = done_many in
+          let turn = turn_many in
+          let more : next_txid cut new.fates ≡ next_txid cut old.fates + 1 = omega arith in
+          taken_next (next_txid cut old.fates) (next_txid cut new.fates) (takes x) (takes y) was.takes_next more taken
+      taken-ordered (Failed component part before later) (Ok ok) x y after told was taken =
+          let q = failed_quiet component part before later after told in
+          let all : length (committed_txids new.fates) ≡ length (committed_txids mid.fates) + length (committed q.0) = ap (λ (fs : List Attempt). length (committed_txids fs)) q.1 ∙ many_committed mid.fates q.0 in
+          let none : length (committed q.0) ≡ 0 = ap (λ (fs : List Attempt). length fs) q.2 in
+          let turn = turn_many in
+          let same : next_txid cut new.fates ≡ next_txid cut old.fates = omega arith in
+          subst (λ (w : W). IsTaken (next_txid cut new.fates) (takes w)) (sym was) (taken_same (next_txid cut old.fates) (next_txid cut new.fates) (takes x) same taken)
+      taken-ordered how (Err why) x y after told was taken = tt
+
+      -- or it failed at it
+      pub unfollowed-ordered : (was is : List (StatePart S)) (how : CommitOutcome) (r : Result (Unit {0}) RunFault) (x y : W) (txid : ℕ) → Goes tells t custom cut (of_outcome ∷ []) mid new → outcomes_of new.fates ≡ outcomes_of mid.fates ++ how ∷ []
+          → TellsOf ftells takes fcount how commit r x y → r ≡ Err (fault.Follow txid)
+          → Drives tells holds count t custom cut coordinator_steps old new was is → WantsMemory tells holds count t custom cut old mid.fates was is
+          → Unfollowed tells holds count t custom cut coordinator_steps txid old new was is
+      unfollowed-ordered was is Done (Ok ok) x y txid after told tells_so failed drives less = absurd (let e : Ok ok ≡ Err (fault.Follow txid) = failed in cc)
+      unfollowed-ordered was is Done (Err (fault.BadCell key)) x y txid after told tells_so failed drives less = absurd tells_so
+      unfollowed-ordered was is Done (Err fault.Memory) x y txid after told tells_so failed drives less = absurd (let e : Err fault.Memory ≡ Err (fault.Follow txid) = failed in cc)
+      unfollowed-ordered was is Done (Err (fault.Follow own)) x y txid after told tells_so failed drives less =
+          let same : own ≡ txid = (let e : Err (fault.Follow own) ≡ Err (fault.Follow txid) = failed in cc) in record {
+            steps = coordinator_steps;
+            rest = [];
+            first = refl;
+            drives = drives;
+            ends = record {
+              earlier = mid.fates;
+              last = told_end t cut (shape mid).desk order.wait Done;
+              added = done_added after told;
+              done = done_is order.wait.settled;
+              number = sym (ap (λ (k : Root). k.txid) order.is.0) ∙ tells_so.number ∙ same;
+            };
+            less = less;
+          }
+      unfollowed-ordered was is (Failed component part before later) (Ok ok) x y txid after told tells_so failed drives less = absurd (let e : Ok ok ≡ Err (fault.Follow txid) = failed in cc)
+      unfollowed-ordered was is (Failed component part before later) (Err why) x y txid after told tells_so failed drives less = absurd tells_so
+
+-- a follower meets no bad cell
+pub tells_no_cell : {W : Type 0} (ftells : W → List Commit → Type 0) (takes : W → Option ℕ) (fcount : W → ℕ) (how : CommitOutcome) (commit : Commit) (r : Result (Unit {0}) RunFault) (x y : W) (key : List ℕ) → TellsOf ftells takes fcount how commit r x y → r ≡ Err (fault.BadCell key) → ⊥
+tells_no_cell ftells takes fcount how commit (Ok ok) x y key was is = cc
+tells_no_cell ftells takes fcount Done commit (Err (fault.BadCell k)) x y key was is = was
+tells_no_cell ftells takes fcount Done commit (Err (fault.Follow txid)) x y key was is = cc
+tells_no_cell ftells takes fcount Done commit (Err fault.Memory) x y key was is = cc
+tells_no_cell ftells takes fcount (Failed component part before later) commit (Err why) x y key was is = was

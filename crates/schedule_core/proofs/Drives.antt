@@ -12,6 +12,7 @@ use Rattle.event_worlds.specs.Accounted.{Accounted}
 use Rattle.event_worlds.specs.Worlds.{Known, Step, World, is_over, outcomes_of, run}
 use Rattle.event_worlds.specs.record_spans.declared.span.Span.{Span}
 use Rattle.schedule_core.specs.Driving.{Breaks, Drives, Leaves, StandOn, WantsMemory}
+use Rattle.schedule_core.specs.Following.{Unfollowed}
 use Rattle.schedule_core.specs.Laws.{Laws}
 use Rattle.event_worlds.specs.state_parts.declared.parts.StatePart.{StatePart}
 use Rattle.event_worlds.specs.storm_ids.declared.ids.Ids.{Ghosts}
@@ -96,6 +97,17 @@ module _ {I S : Type 0} {g : Ghosts I} (tells : I → (ℕ → ℕ) → ℕ → 
     leaves = second.leaves;
   }
 
+  -- or up to a commit at which a follower failed
+  pub unfollowed-then : (xs ys : List Step) (txid : ℕ) (a b c : Engine I g) (p q r : List (StatePart S)) → Drives tells holds count t custom cut xs a b p q → Unfollowed tells holds count t custom cut ys txid b c q r → Unfollowed tells holds count t custom cut (xs ++ ys) txid a c p r
+  unfollowed-then xs ys txid a b c p q r first second = record {
+    steps = xs ++ second.steps;
+    rest = second.rest;
+    first = ap (λ (zs : List Step). xs ++ zs) second.first ∙ sym (append_assoc xs second.steps second.rest);
+    drives = drives-then xs second.steps a b c p q r first second.drives;
+    ends = second.ends;
+    less = wants-then xs a b second.ends.earlier p q r first second.less;
+  }
+
   -- an engine that stopped with the fates and the parts that it had
   pub leaves-still : (e : Engine I g) (fates : List Attempt) (parts : List (StatePart S)) → fates ≡ e.fates → Leaves holds count t custom cut e fates parts parts
   leaves-still e fates parts same = record {
@@ -108,6 +120,22 @@ module _ {I S : Type 0} {g : Ghosts I} (tells : I → (ℕ → ℕ) → ℕ → 
 
   pub wants-still : (e : Engine I g) (fates : List Attempt) (parts : List (StatePart S)) → fates ≡ e.fates → WantsMemory tells holds count t custom cut e fates parts parts
   wants-still e fates parts same = record { steps = []; mid = e; between = parts; drives = drives-none e parts; leaves = leaves-still e fates parts same }
+
+  -- it went through steps first
+  pub wants-after : (xs : List Step) (a b : Engine I g) (p q : List (StatePart S)) → Drives tells holds count t custom cut xs a b p q → WantsMemory tells holds count t custom cut a b.fates p q
+  wants-after xs a b p q drives = wants-then xs a b b.fates p q q drives (wants-still b b.fates q refl)
+
+-- more steps were to come behind a commit at which a follower failed
+pub unfollowed-longer : {I S : Type 0} {g : Ghosts I} (tells : I → (ℕ → ℕ) → ℕ → Type 0) (holds : S → CellMap → Type 0) (count : S → ℕ) (t : Topology) (custom : Custom) (cut : Cut) (whole more all : List Step) (txid : ℕ) (a b : Engine I g) (p q : List (StatePart S))
+    → all ≡ whole ++ more → Unfollowed tells holds count t custom cut whole txid a b p q → Unfollowed tells holds count t custom cut all txid a b p q
+unfollowed-longer tells holds count t custom cut whole more all txid a b p q are stops = record {
+  steps = stops.steps;
+  rest = stops.rest ++ more;
+  first = are ∙ ap (λ (zs : List Step). zs ++ more) stops.first ∙ append_assoc stops.steps stops.rest more;
+  drives = stops.drives;
+  ends = stops.ends;
+  less = stops.less;
+}
 
 -- more steps were to come
 pub breaks-longer : {I S : Type 0} {g : Ghosts I} (tells : I → (ℕ → ℕ) → ℕ → Type 0) (holds : S → CellMap → Type 0) (count : S → ℕ) (t : Topology) (custom : Custom) (cut : Cut) (whole more all : List Step) (key : List ℕ) (a b : Engine I g) (p q : List (StatePart S))

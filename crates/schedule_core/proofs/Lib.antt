@@ -1,6 +1,7 @@
 pub mod Keeping
 pub mod Drives
 mod Quiet
+pub mod Following
 pub mod Coordinating
 pub mod Resting
 mod Boosting

@@ -9,9 +9,10 @@ use Rattle.event_engine.specs.declared.engine.Engine.{Engine}
 use Rattle.event_engine.specs.Engines.{cut_in, has_ended, shape, topology_in}
 use Rattle.event_worlds.specs.Worlds.{Step, is_over, round_steps, rounds_steps}
 use Rattle.schedule_core.specs.Driving.{AreKept, Breaks, Drives, IsAtRest, IsOfSameRun, WantsMemory}
-use Rattle.schedule_core.proofs.Drives.{breaks-longer, breaks-then, drives-none, drives-over, drives-then, wants-then}
+use Rattle.schedule_core.proofs.Drives.{breaks-longer, breaks-then, drives-none, drives-over, drives-then, unfollowed-longer, unfollowed-then, wants-then}
 use Rattle.schedule_core.proofs.Keeping.{kept-none, kept-then}
-use Rattle.schedule_core.proofs.Resting.{breaks_there, drives_there, wants_there}
+use Rattle.schedule_core.proofs.Resting.{breaks_there, drives_there, unfollowed_there, wants_there}
+use Rattle.schedule_core.specs.Following.{Unfollowed}
 use Rattle.schedule_core.specs.Laws.{Laws}
 use Rattle.schedule_reader.specs.declared.event.Event.{Event}
 use Rattle.schedule_reader.specs.Events.{FitsEvent}
@@ -137,6 +138,14 @@ module _ {I S : Type 0} {g : Ghosts I} (tells : I → (ℕ → ℕ) → ℕ → 
           let t = topology_in old in
           breaks-longer tells holds count t custom (cut_in old) (first ++ steps t) more all key old new p r are
           (breaks-then tells holds count t custom (cut_in old) laws first (steps t) key old mid new p q r kept.drives (breaks_there tells holds count custom steps key old mid new q r kept.same_run own))
+
+      -- or up to a commit at which a follower failed
+      pub driven-unfollowed : (all more : List Step) (steps : Topology → List Step) (txid : ℕ) (new : Engine I g) (r : List (StatePart S)) → all ≡ (first ++ steps (topology_in old)) ++ more
+          → Unfollowed tells holds count (topology_in mid) custom (cut_in mid) (steps (topology_in mid)) txid mid new q r → Unfollowed tells holds count (topology_in old) custom (cut_in old) all txid old new p r
+      driven-unfollowed all more steps txid new r are own =
+          let t = topology_in old in
+          unfollowed-longer tells holds count t custom (cut_in old) (first ++ steps t) more all txid old new p r are
+          (unfollowed-then tells holds count t custom (cut_in old) laws first (steps t) txid old mid new p q r kept.drives (unfollowed_there tells holds count custom steps txid old mid new q r kept.same_run own))
 
       -- or up to where memory was wanted
       pub driven-wants : (fates : List Attempt) (r : List (StatePart S)) → WantsMemory tells holds count (topology_in mid) custom (cut_in mid) mid fates q r → WantsMemory tells holds count (topology_in old) custom (cut_in old) old fates p r

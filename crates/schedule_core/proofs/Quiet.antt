@@ -42,7 +42,7 @@ none_failed_of (x ∷ xs) none = at (λ told. none_failed_of xs told) x.end none
     at rest (end.CommitFailed component part before after) told = absurd (let e : Failed component part before after ∷ outcomes_of xs ≡ [] = told in cc)
     at rest (end.Dropped by) told = rest told
 
-none_done_of : (xs : List Attempt) → outcomes_of xs ≡ [] → committed xs ≡ []
+pub none_done_of : (xs : List Attempt) → outcomes_of xs ≡ [] → committed xs ≡ []
 none_done_of [] none = refl
 none_done_of (x ∷ xs) none = at (λ told. none_done_of xs told) x.end none
   where

@@ -11,10 +11,11 @@ use Rattle.event_engine.specs.declared.engine.Engine.{Engine}
 use Rattle.event_engine.specs.Engines.{Goes, IsReady, IsStill, cut_in, has_ended, topology_in}
 use Rattle.event_worlds.specs.Rounds.{round_with}
 use Rattle.event_worlds.specs.Worlds.{Step, coordinator_steps, of_acker, of_task, of_tick}
-use Rattle.schedule_core.proofs.Drives.{breaks-then, drives-still, drives-then, wants-then}
+use Rattle.schedule_core.proofs.Drives.{breaks-then, drives-still, drives-then, unfollowed-then, wants-then}
 use Rattle.schedule_core.specs.Laws.{Laws}
 use Rattle.schedule_core.specs.Rounding.{closing_steps, opening_steps}
 use Rattle.schedule_core.specs.Driving.{Breaks, Drives, IsAtRest, IsOfSameRun, WantsMemory}
+use Rattle.schedule_core.specs.Following.{Unfollowed}
 use Rattle.schedule_core.specs.Schedules.{steps_of}
 use Rattle.schedule_reader.specs.declared.event.Event.{Event}
 use Rattle.event_worlds.specs.state_parts.declared.parts.StatePart.{StatePart}
@@ -91,6 +92,13 @@ module _ {I S : Type 0} {g : Ghosts I} (tells : I → (ℕ → ℕ) → ℕ → 
       subst (λ (u : Topology). Breaks tells holds count u custom (cut_in old) (steps u) key mid new p q) same.topology
       (subst (λ (k : Cut). Breaks tells holds count (topology_in mid) custom k (steps (topology_in mid)) key mid new p q) same.cut own)
 
+  pub unfollowed_there : (steps : Topology → List Step) (txid : ℕ) (old mid new : Engine I g) (p q : List (StatePart S)) → IsOfSameRun old mid
+      → Unfollowed tells holds count (topology_in mid) custom (cut_in mid) (steps (topology_in mid)) txid mid new p q
+      → Unfollowed tells holds count (topology_in old) custom (cut_in old) (steps (topology_in old)) txid mid new p q
+  unfollowed_there steps txid old mid new p q same own =
+      subst (λ (u : Topology). Unfollowed tells holds count u custom (cut_in old) (steps u) txid mid new p q) same.topology
+      (subst (λ (k : Cut). Unfollowed tells holds count (topology_in mid) custom k (steps (topology_in mid)) txid mid new p q) same.cut own)
+
   pub wants_there : (old mid : Engine I g) (fates : List Attempt) (p q : List (StatePart S)) → IsOfSameRun old mid
       → WantsMemory tells holds count (topology_in mid) custom (cut_in mid) mid fates p q
       → WantsMemory tells holds count (topology_in old) custom (cut_in old) mid fates p q
@@ -114,6 +122,13 @@ module _ {I S : Type 0} {g : Ghosts I} (tells : I → (ℕ → ℕ) → ℕ → 
   breaks_as t cut event known key old new p q of_event breaks =
       subst (λ (k : Event). Breaks tells holds count t custom cut (steps_of t k) key old new p q) (sym of_event) breaks
 
+  -- and of a commit at which a follower failed
+  pub unfollowed_as : (t : Topology) (cut : Cut) (event known : Event) (txid : ℕ) (old new : Engine I g) (p q : List (StatePart S)) → event ≡ known
+      → Unfollowed tells holds count t custom cut (steps_of t known) txid old new p q
+      → Unfollowed tells holds count t custom cut (steps_of t event) txid old new p q
+  unfollowed_as t cut event known txid old new p q of_event ends =
+      subst (λ (k : Event). Unfollowed tells holds count t custom cut (steps_of t k) txid old new p q) (sym of_event) ends
+
   -- steps that leave the coordinator alone, and then others
   module _ (first next : Topology → List Step) (a b d : Engine I g) (p q : List (StatePart S)) (laws : Laws count (topology_in a) custom (cut_in a)) (same : IsOfSameRun a b)
       (goes : Goes tells (topology_in a) custom (cut_in a) (first (topology_in a)) a b) (still : IsStill a b) where
@@ -131,6 +146,14 @@ module _ {I S : Type 0} {g : Ghosts I} (tells : I → (ℕ → ℕ) → ℕ → 
         breaks-then tells holds count (topology_in a) custom (cut_in a) laws (first (topology_in a)) (next (topology_in a)) key a b d p p q
         (drives-still tells holds count (topology_in a) custom (cut_in a) laws (first (topology_in a)) a b p goes still)
         (breaks_there next key a b d p q same last)
+
+    -- or up to a commit at which a follower failed
+    pub unfollowed_on : (txid : ℕ) → Unfollowed tells holds count (topology_in b) custom (cut_in b) (next (topology_in b)) txid b d p q
+        → Unfollowed tells holds count (topology_in a) custom (cut_in a) (first (topology_in a) ++ next (topology_in a)) txid a d p q
+    unfollowed_on txid last =
+        unfollowed-then tells holds count (topology_in a) custom (cut_in a) laws (first (topology_in a)) (next (topology_in a)) txid a b d p p q
+        (drives-still tells holds count (topology_in a) custom (cut_in a) laws (first (topology_in a)) a b p goes still)
+        (unfollowed_there next txid a b d p q same last)
 
   -- or up to where memory was wanted
   pub wants_on : (first : Topology → List Step) (a b : Engine I g) (fates : List Attempt) (p q : List (StatePart S)) → Laws count (topology_in a) custom (cut_in a) → IsOfSameRun a b

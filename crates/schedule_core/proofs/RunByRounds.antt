@@ -17,19 +17,20 @@ use Rattle.event_worlds.specs.Accounted.{IsInput}
 use Rattle.event_worlds.specs.Rounds.{round_with, ticks_in}
 use Rattle.event_worlds.specs.Worlds.{Step}
 use Rattle.schedule_core.proofs.Drives.{wants-still}
-use Rattle.schedule_core.proofs.Ending.{Ends, ends, not_begun, ran-from}
-use Rattle.schedule_core.proofs.Looping.{Driven, driven-breaks, driven-none, driven-then, driven-wants}
-use Rattle.schedule_core.proofs.Resting.{breaks_on, drives_on, quiet_parts, same_run_then, wants_on}
+use Rattle.schedule_core.proofs.Ending.{Ends, ends, ends_less, not_begun, ran-from}
+use Rattle.schedule_core.proofs.Looping.{Driven, driven-breaks, driven-none, driven-then, driven-unfollowed, driven-wants}
+use Rattle.schedule_core.proofs.Resting.{breaks_on, drives_on, quiet_parts, same_run_then, unfollowed_on, wants_on}
 use Rattle.schedule_core.proofs.Rounding.{allows-between, asked-more, asked-none, one-round-more, open-round-more}
 use Rattle.schedule_core.specs.declared.ended.Ended.{Ended}
 use Rattle.schedule_core.specs.declared.ended.Ended.TheVariants as ending
 use Rattle.schedule_core.specs.Driving.{AreKept, Breaks, Drives, IsAtRest, IsOfSameRun, WantsMemory}
+use Rattle.schedule_core.specs.Following.{StandLess, Unfollowed}
 use Rattle.schedule_core.specs.Laws.{Laws, WorldLaws}
 use Rattle.schedule_core.specs.Rounding.{Asked, Rounded, closing_steps, end_by, opening_steps}
 use Rattle.schedule_core.specs.Runs.{HasRoundsOf, RoundsCome, ended, ticks_between}
 use Rattle.schedule_core.specs.Schedules.{answer_by, answer_of}
-use Rattle.event_worlds.specs.state_parts.declared.answer.CommitFault.{CommitFault}
-use Rattle.event_worlds.specs.state_parts.declared.answer.CommitFault.TheVariants as fault
+use Rattle.schedule_core.specs.declared.fault.RunFault.{RunFault}
+use Rattle.schedule_core.specs.declared.fault.RunFault.TheVariants as fault
 use Rattle.event_worlds.specs.state_parts.declared.parts.StatePart.{StatePart}
 use Rattle.event_worlds.specs.state_parts.PartPlans.{AreParts}
 use Rattle.event_worlds.specs.storm_ids.declared.ids.Ids.{Ghosts}
@@ -76,9 +77,10 @@ whole_by (Some txid) b n how over is = absurd (let e : Err (stop.Exhausted txid)
 whole_by None true n how over is = refl
 whole_by None false n how over is = absurd (true≢false (sym over))
 
-pub whole_end : {I : Type 0} {g : Ghosts I} (done : Result (Unit {0}) CommitFault) (e : Engine I g) (end : Result Ended Stop) (how : Ended) → OnOk done (has_ended e ≡ true) → end ≡ end_by done (answer_of (topology_in e) (cut_in e) (shape e)) → end ≡ Ok how → end ≡ ended (Ok tt)
+pub whole_end : {I : Type 0} {g : Ghosts I} (done : Result (Unit {0}) RunFault) (e : Engine I g) (end : Result Ended Stop) (how : Ended) → OnOk done (has_ended e ≡ true) → end ≡ end_by done (answer_of (topology_in e) (cut_in e) (shape e)) → end ≡ Ok how → end ≡ ended (Ok tt)
 whole_end (Ok ok) e end how over is whole = is ∙ whole_by (shape e).desk.exhausted (is_finished (topology_in e) (cut_in e) (shape e).desk) (shape e).desk.committed how over (sym is ∙ whole)
 whole_end (Err (fault.BadCell key)) e end how over is whole = absurd (let a : end ≡ Err (stop.BadCell key) = is in let b = whole in cc)
+whole_end (Err (fault.Follow txid)) e end how over is whole = absurd (let a : end ≡ Err (stop.Follow txid) = is in let b = whole in cc)
 whole_end (Err fault.Memory) e end how over is whole = absurd (let a : end ≡ Err stop.Memory = is in let b = whole in cc)
 
 -- an error is handed on
@@ -89,14 +91,19 @@ stopped_end end (Err e) error exits is = is ∙ ap (λ (x : Stop). Err x) (sym e
 -- ---- rounds
 
 -- an error is no success
-short_ok : (X : Type 0) (done : Result (Unit {0}) CommitFault) (error : CommitFault) → IsErrAnd done (λ e. e ≡ error) → OnOk done X
+short_ok : (X : Type 0) (done : Result (Unit {0}) RunFault) (error : RunFault) → IsErrAnd done (λ e. e ≡ error) → OnOk done X
 short_ok X (Ok ok) error exits = absurd exits
 short_ok X (Err e) error exits = tt
 
 -- want of memory is no bad cell
-no_key : (done : Result (Unit {0}) CommitFault) (error : CommitFault) (key : List ℕ) → IsErrAnd done (λ e. e ≡ error) → error ≡ fault.Memory → done ≡ Err (fault.BadCell key) → ⊥
+no_key : (done : Result (Unit {0}) RunFault) (error : RunFault) (key : List ℕ) → IsErrAnd done (λ e. e ≡ error) → error ≡ fault.Memory → done ≡ Err (fault.BadCell key) → ⊥
 no_key (Ok ok) error key exits is bad = absurd exits
 no_key (Err e) error key exits is bad = let a : e ≡ error = exits in cc
+
+-- nor a fault of a follower
+no_number : (done : Result (Unit {0}) RunFault) (error : RunFault) (txid : ℕ) → IsErrAnd done (λ e. e ≡ error) → error ≡ fault.Memory → done ≡ Err (fault.Follow txid) → ⊥
+no_number (Ok ok) error txid exits is met = absurd exits
+no_number (Err e) error txid exits is met = let a : e ≡ error = exits in cc
 
 module _ {I S T : Type 0} {g : Ghosts I} (tells : I → (ℕ → ℕ) → ℕ → Type 0) (holds : S → CellMap → Type 0) (count : S → ℕ) (handed : T → ℕ) (ticking : T → List ℕ → Type 0) (custom : Custom) where
   -- rounds were carried out with these answers, and the next may come
@@ -121,7 +128,7 @@ module _ {I S T : Type 0} {g : Ghosts I} (tells : I → (ℕ → ℕ) → ℕ �
 
     module _ (mid : Engine I g) (q : List (StatePart S)) (now : T) (turning : Turning old mid p q before now) where
       -- memory was wanted before the source was asked
-      pub turned-short : (done : Result (Unit {0}) CommitFault) (error : CommitFault) (b : Engine I g) → IsErrAnd done (λ e. e ≡ error) → error ≡ fault.Memory → IsStill mid b → Rounded tells holds count handed ticking (topology_in old) custom (cut_in old) done old b p q before now
+      pub turned-short : (done : Result (Unit {0}) RunFault) (error : RunFault) (b : Engine I g) → IsErrAnd done (λ e. e ≡ error) → error ≡ fault.Memory → IsStill mid b → Rounded tells holds count handed ticking (topology_in old) custom (cut_in old) done old b p q before now
       turned-short done error b exits is still = record {
         answers = turning.answers;
         asked = turning.asked;
@@ -130,6 +137,7 @@ module _ {I S T : Type 0} {g : Ghosts I} (tells : I → (ℕ → ℕ) → ℕ �
         shut_none = turning.shut_none;
         drives = short_ok _ done error exits;
         bad = λ key bad. absurd (no_key done error key exits is bad);
+        failed = λ txid met. absurd (no_number done error txid exits is met);
         short = λ met.
             driven-wants tells holds count custom old p (laws (topology_in old) (cut_in old)) turning.steps mid q turning.driven b.fates q
             (wants-still tells holds count (topology_in mid) custom (cut_in mid) (laws (topology_in mid) (cut_in mid)) mid b.fates q still.fates);
@@ -155,11 +163,12 @@ module _ {I S T : Type 0} {g : Ghosts I} (tells : I → (ℕ → ℕ) → ℕ �
           }
 
           -- or it met a fault
-          pub turned-bad : (done : Result (Unit {0}) CommitFault) (error : CommitFault) → IsErrAnd done (λ e. e ≡ error)
+          pub turned-bad : (done : Result (Unit {0}) RunFault) (error : RunFault) → IsErrAnd done (λ e. e ≡ error)
               → ((key : List ℕ) → done ≡ Err (fault.BadCell key) → Breaks tells holds count (topology_in b) custom (cut_in b) (closing_steps n) key b c q r)
+              → ((txid : ℕ) → done ≡ Err (fault.Follow txid) → Unfollowed tells holds count (topology_in b) custom (cut_in b) (closing_steps n) txid b c q r)
               → (done ≡ Err fault.Memory → WantsMemory tells holds count (topology_in b) custom (cut_in b) b c.fates q r)
               → Rounded tells holds count handed ticking (topology_in old) custom (cut_in old) done old c p r before later
-          turned-bad done error exits bad short = record {
+          turned-bad done error exits bad failed short = record {
             answers = turning.answers ++ n ∷ [];
             asked = asked-more handed ticking turning.answers n before now later turning.asked counted first rest;
             steps = turning.steps ++ (quiet ++ round_with (topology_in old) n);
@@ -171,6 +180,11 @@ module _ {I S T : Type 0} {g : Ghosts I} (tells : I → (ℕ → ℕ) → ℕ �
                 (sym (append-nil (turning.steps ++ (quiet ++ round_with (topology_in old) n))))
                 (subst (λ (steps : List Step). Breaks tells holds count (topology_in mid) custom (cut_in mid) steps key mid c q r) (quiet_parts (topology_in mid) quiet n)
                 (breaks_on tells holds count custom (λ (u : Topology). quiet ++ opening_steps u) (λ (u : Topology). closing_steps n) mid b c q r (laws (topology_in mid) (cut_in mid)) same goes still key (bad key is)));
+            failed = λ txid is.
+                driven-unfollowed tells holds count custom old p (laws (topology_in old) (cut_in old)) turning.steps mid q turning.driven (turning.steps ++ (quiet ++ round_with (topology_in old) n)) [] (λ (u : Topology). quiet ++ round_with u n) txid c r
+                (sym (append-nil (turning.steps ++ (quiet ++ round_with (topology_in old) n))))
+                (subst (λ (steps : List Step). Unfollowed tells holds count (topology_in mid) custom (cut_in mid) steps txid mid c q r) (quiet_parts (topology_in mid) quiet n)
+                (unfollowed_on tells holds count custom (λ (u : Topology). quiet ++ opening_steps u) (λ (u : Topology). closing_steps n) mid b c q r (laws (topology_in mid) (cut_in mid)) same goes still txid (failed txid is)));
             short = λ is.
                 driven-wants tells holds count custom old p (laws (topology_in old) (cut_in old)) turning.steps mid q turning.driven c.fates r
                 (wants_on tells holds count custom (λ (u : Topology). quiet ++ opening_steps u) mid b c.fates q r (laws (topology_in mid) (cut_in mid)) same goes still (short is));
@@ -181,7 +195,7 @@ module _ {I S T : Type 0} {g : Ghosts I} (tells : I → (ℕ → ℕ) → ℕ �
 module _ {I S T : Type 0} {g : Ghosts I} (told : (ℕ → ℕ → ℕ) → Type 0) (tells : I → (ℕ → ℕ) → ℕ → Type 0) (holds : S → CellMap → Type 0) (count : S → ℕ) (handed : T → ℕ) (ticking : T → List ℕ → Type 0) (t : Topology) (custom : Custom) (cut : Cut)
     (laws : WorldLaws holds count t custom cut) (input : IsInput t cut) (keeps : IsCustom custom) where
   -- what a run by rounds comes to whose steps came to this
-  pub rounds-end : (done : Result (Unit {0}) CommitFault) (e0 e : Engine I g) (was is : List (StatePart S)) (before after : T) (answer : Result (Unit {0}) Stop) (end : Result Ended Stop) (fates : List Attempt)
+  pub rounds-end : (done : Result (Unit {0}) RunFault) (e0 e : Engine I g) (was is : List (StatePart S)) (before after : T) (answer : Result (Unit {0}) Stop) (end : Result Ended Stop) (fates : List Attempt)
       → IsReady t cut e0 → IsStarted told tells t cut e0 → AreParts t was → OnOk done (IsOfSameRun e0 e)
       → Rounded tells holds count handed ticking (topology_in e0) custom (cut_in e0) done e0 e was is before after
       → OnErr done (IsOnce (cut_in e0) last_tick e.fates) → AreKept holds was is
@@ -190,6 +204,20 @@ module _ {I S T : Type 0} {g : Ghosts I} (told : (ℕ → ℕ → ℕ) → Type 
   rounds-end done e0 e was is before after answer end fates ready started planned same rounded once kept end_is fates_are answer_is =
       let ticks : ℕ = ticks_between (handed before) (handed after) in
       let rounds : HasRoundsOf t rounded.answers rounded.steps = subst (λ (u : Topology). HasRoundsOf u rounded.answers rounded.steps) ready.seated.of_topology rounded.rounds in
-      let ran = ran-from told tells holds count t custom cut laws input keeps (λ (u : Topology). rounded.steps) ticks done e0 e was is ready started planned (allows-between t rounded.answers rounded.steps (handed before) (handed after) rounds rounded.asked.handed_out) same rounded.drives rounded.bad rounded.short once kept in
+      let ran = ran-from told tells holds count t custom cut laws input keeps (λ (u : Topology). rounded.steps) ticks done e0 e was is ready started planned (allows-between t rounded.answers rounded.steps (handed before) (handed after) rounds rounded.asked.handed_out) same rounded.drives rounded.bad rounded.failed rounded.short once kept in
       let ends_so = ends told tells holds count t custom cut laws input keeps rounded.steps ticks done e0 e was is end fates ran end_is fates_are in
       rounds-come handed ticking told holds count t custom cut rounded.answers rounded.steps before after answer end fates was is rounded.asked rounds rounded.shut_none answer_is ends_so
+
+  -- and where parts stand too whose follower failed
+  pub rounds-less : (txid : ℕ) (done : Result (Unit {0}) RunFault) (e0 e : Engine I g) (was is : List (StatePart S)) (before after : T) (answer : Result (Unit {0}) Stop) (end : Result Ended Stop) (fates : List Attempt)
+      → IsReady t cut e0 → IsStarted told tells t cut e0 → AreParts t was → OnOk done (IsOfSameRun e0 e)
+      → Rounded tells holds count handed ticking (topology_in e0) custom (cut_in e0) done e0 e was is before after
+      → OnErr done (IsOnce (cut_in e0) last_tick e.fates) → AreKept holds was is
+      → end ≡ end_by done (answer_of (topology_in e) (cut_in e) (shape e)) → fates ≡ e.fates → end ≡ ended answer
+      → answer ≡ Err (stop.Follow txid) → StandLess holds t custom cut fates was is
+  rounds-less txid done e0 e was is before after answer end fates ready started planned same rounded once kept end_is fates_are answer_is failed =
+      let ticks : ℕ = ticks_between (handed before) (handed after) in
+      let rounds : HasRoundsOf t rounded.answers rounded.steps = subst (λ (u : Topology). HasRoundsOf u rounded.answers rounded.steps) ready.seated.of_topology rounded.rounds in
+      let ran = ran-from told tells holds count t custom cut laws input keeps (λ (u : Topology). rounded.steps) ticks done e0 e was is ready started planned (allows-between t rounded.answers rounded.steps (handed before) (handed after) rounds rounded.asked.handed_out) same rounded.drives rounded.bad rounded.failed rounded.short once kept in
+      let met : end ≡ Err (stop.Follow txid) = answer_is ∙ ap ended failed in
+      ends_less told tells holds count t custom cut laws input keeps rounded.steps ticks txid done e0 e was is end fates ran end_is fates_are met

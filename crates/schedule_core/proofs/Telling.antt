@@ -1,6 +1,6 @@
 -- What a run tells of its answer, its fates and its parts, from what it has come to. It names no
 -- step.
-use Rattle.std.proofs.Common.{◌≡◌, ◌≤◌, ℕ, Bool, true, false, List, [], ◌++◌, All, Option, None, Some, Result, Ok, Err, refl, sym, ap, subst, ◌∙◌, append-nil, arith}
+use Rattle.std.proofs.Common.{◌≡◌, ◌≤◌, ℕ, Bool, true, false, List, [], ◌∷◌, ◌++◌, All, Option, None, Some, Result, Ok, Err, refl, sym, ap, subst, ◌∙◌, append-nil, arith}
 use Rattle.std.specs.Prelude.{OnErr, OnOk}
 use Rattle.event_worlds.specs.attempt_fates.Fates.{DropsFollow, IsOnce, committed_batches}
 use Rattle.event_worlds.specs.attempt_fates.declared.fates.Attempt.{Attempt}
@@ -25,12 +25,13 @@ use Rattle.schedule_core.proofs.Keeping.{kept-none}
 use Rattle.schedule_core.proofs.TicksOfRuns.{caused-later}
 use Rattle.schedule_core.specs.declared.ended.Ended.{Ended}
 use Rattle.schedule_core.specs.Driving.{AreBefore, AreKept, BreaksOff, HasCome, IsOfSameRun, LeadsOn, Leaves, RunsOut, StandOn}
+use Rattle.schedule_core.specs.Following.{EndsByCommit, LedUnfollowed, StandLess}
 use Rattle.schedule_core.specs.Laws.{WorldLaws}
 use Rattle.schedule_core.specs.Rounding.{end_by}
 use Rattle.schedule_core.specs.Runs.{Answers, IsFirst, RunTells}
 use Rattle.schedule_core.specs.Schedules.{HadMemory, answer_by, answer_of}
-use Rattle.event_worlds.specs.state_parts.declared.answer.CommitFault.{CommitFault}
-use Rattle.event_worlds.specs.state_parts.declared.answer.CommitFault.TheVariants as fault
+use Rattle.schedule_core.specs.declared.fault.RunFault.{RunFault}
+use Rattle.schedule_core.specs.declared.fault.RunFault.TheVariants as fault
 use Rattle.event_worlds.specs.state_parts.declared.parts.StatePart.{StatePart}
 use Rattle.event_worlds.specs.state_parts.Commits.{IsBadAt}
 use Rattle.event_worlds.specs.state_parts.PartPlans.{AreParts}
@@ -51,6 +52,32 @@ no_bad_cell : (o : Option ℕ) (b : Bool) (n : ℕ) (key : List ℕ) → answer_
 no_bad_cell (Some txid) b n key is = cc
 no_bad_cell None true n key is = cc
 no_bad_cell None false n key is = cc
+
+no_follower : (o : Option ℕ) (b : Bool) (n txid : ℕ) → answer_by o b n ≡ Err (stop.Follow txid) → ⊥
+no_follower (Some k) b n txid is = cc
+no_follower None true n txid is = cc
+no_follower None false n txid is = cc
+
+follow_no_cell : (answer : Result Ended Stop) (txid : ℕ) (key : List ℕ) → answer ≡ Err (stop.Follow txid) → answer ≡ Err (stop.BadCell key) → ⊥
+follow_no_cell answer txid key one two = cc
+
+-- the earlier fates are those before the last one
+same_earlier : (xs ys : List Attempt) (a b : Attempt) → xs ++ a ∷ [] ≡ ys ++ b ∷ [] → xs ≡ ys
+same_earlier [] [] a b is = refl
+same_earlier [] (y ∷ ys) a b is = absurd (no_more ys b (let e : a ∷ [] ≡ y ∷ (ys ++ b ∷ []) = is in cc))
+  where
+    no_more : (zs : List Attempt) (c : Attempt) → [] ≡ zs ++ c ∷ [] → ⊥
+    no_more [] c e = cc
+    no_more (z ∷ zs) c e = cc
+same_earlier (x ∷ xs) [] a b is = absurd (no_more xs a (let e : x ∷ (xs ++ a ∷ []) ≡ b ∷ [] = is in cc))
+  where
+    no_more : (zs : List Attempt) (c : Attempt) → zs ++ c ∷ [] ≡ [] → ⊥
+    no_more [] c e = cc
+    no_more (z ∷ zs) c e = cc
+same_earlier (x ∷ xs) (y ∷ ys) a b is =
+    let first : x ≡ y = (let e : x ∷ (xs ++ a ∷ []) ≡ y ∷ (ys ++ b ∷ []) = is in cc) in
+    let rest : xs ++ a ∷ [] ≡ ys ++ b ∷ [] = (let e : x ∷ (xs ++ a ∷ []) ≡ y ∷ (ys ++ b ∷ []) = is in cc) in
+    λ i. first i ∷ same_earlier xs ys a b rest i
 
 is_no_cell : (answer : Result Ended Stop) (key : List ℕ) → answer ≡ Err stop.Memory → answer ≡ Err (stop.BadCell key) → ⊥
 is_no_cell answer key short bad = cc
@@ -145,10 +172,28 @@ module _ {I S : Type 0} {g : Ghosts I} (holds : S → CellMap → Type 0) (count
       kept = kept;
     }
 
+    -- a follower failed at the last commit
+    pub unfollowed_come : (ticks txid : ℕ) → (shape e).desk.tick ≤ ticks → AreKept holds was is → EndsByCommit txid e.fates → RunTells holds count t custom cut ticks (Err (stop.Follow txid)) e.fates was is
+    unfollowed_come ticks txid low kept ends = record {
+      once = once-later cut (shape e).desk.tick last_tick e.fates come_kept.once come_last;
+      in_time = λ ok. once-later cut (shape e).desk.tick ticks e.fates come_kept.once low;
+      answers = ends;
+      caused = λ ok. (words, come_caused ticks low);
+      failed_in_turn = λ ok. come_kept.fails_in_turn;
+      drops = λ ok. come_kept.drops;
+      strange = come.strange;
+      bad_cell = λ key is_bad. absurd (follow_no_cell (Err (stop.Follow txid)) txid key refl is_bad);
+      stands = stands_behind holds count t custom cut laws e.fates was is come.stands;
+      stands_first = stands_first holds count t custom cut laws e.fates was is (stands_behind holds count t custom cut laws e.fates was is come.stands);
+      counted = λ ok. absurd ok;
+      but_last = laws.all_told e.fates was is come.counted;
+      kept = kept;
+    }
+
   -- ---- one that a fault stopped
 
   module _ (words : ℕ → ℕ → ℕ) (e : Engine I g) (fates : List Attempt) (was between is : List (StatePart S)) (come : HasCome holds count t custom cut words e was between) (leaves : Leaves holds count t custom cut e fates between is) where
-    left_stands : StandOn holds t custom cut [] fates was is
+    pub left_stands : StandOn holds t custom cut [] fates was is
     left_stands =
         let k : Known = record { world = shape e; counts = come.counts } in
         stands-then holds t custom cut [] e.fates fates was between is come.stands
@@ -195,7 +240,7 @@ pub record Tells {S : Type 0} (told : (ℕ → ℕ → ℕ) → Type 0) (holds :
 
 module _ {I S : Type 0} {g : Ghosts I} (told : (ℕ → ℕ → ℕ) → Type 0) (tells : I → (ℕ → ℕ) → ℕ → Type 0) (holds : S → CellMap → Type 0) (count : S → ℕ) (t : Topology) (custom : Custom) (cut : Cut) where
   -- An engine was started and went on, and what was carried out came to this.
-  pub record WentOn (ticks : ℕ) (done : Result (Unit {0}) CommitFault) (e0 e : Engine I g) (was is : List (StatePart S)) : Type 0 where
+  pub record WentOn (ticks : ℕ) (done : Result (Unit {0}) RunFault) (e0 e : Engine I g) (was is : List (StatePart S)) : Type 0 where
     pub ready : IsReady t cut e0
     pub started : IsStarted told tells t cut e0
     pub planned : AreParts t was
@@ -204,12 +249,13 @@ module _ {I S : Type 0} {g : Ghosts I} (told : (ℕ → ℕ → ℕ) → Type 0)
     pub same_run : OnOk done (IsOfSameRun e0 e)
     pub leads : OnOk done (LeadsOn tells holds count t custom cut e0 e was is)
     pub bad : (key : List ℕ) → done ≡ Err (fault.BadCell key) → BreaksOff tells holds count t custom cut key e0 e was is
+    pub failed : (txid : ℕ) → done ≡ Err (fault.Follow txid) → LedUnfollowed tells holds count t custom cut txid e0 e was is
     pub short : done ≡ Err fault.Memory → RunsOut tells holds count t custom cut e0 e.fates was is
     pub once : OnErr done (IsOnce cut last_tick e.fates)
     pub kept : AreKept holds was is
 
   module _ (laws : WorldLaws holds count t custom cut) (input : IsInput t cut) (keeps : IsCustom custom) where
-    tells_by : (ticks : ℕ) (done : Result (Unit {0}) CommitFault) (e0 e : Engine I g) (was is : List (StatePart S)) → WentOn ticks done e0 e was is → Tells told holds count t custom cut ticks (end_by done (answer_of (topology_in e) (cut_in e) (shape e))) e.fates was is
+    tells_by : (ticks : ℕ) (done : Result (Unit {0}) RunFault) (e0 e : Engine I g) (was is : List (StatePart S)) → WentOn ticks done e0 e was is → Tells told holds count t custom cut ticks (end_by done (answer_of (topology_in e) (cut_in e) (shape e))) e.fates was is
     tells_by ticks (Ok ok) e0 e was is went =
         let one = some_come tells holds count t custom cut laws input keeps told e0 e was is went.started went.planned went.leads in
         let low = come_low holds count t custom cut laws input one.0 e was is one.1 ticks (went.allows (λ no. cc)) in record {
@@ -227,6 +273,14 @@ module _ {I S : Type 0} {g : Ghosts I} (told : (ℕ → ℕ → ℕ) → Type 0)
           drawn = λ words are had.
               come_caused holds count t custom cut laws input words e was breaks.between (told_come tells holds count t custom cut laws input keeps told e0 e was breaks.between went.started went.planned breaks.leads words are) ticks low;
         }
+    tells_by ticks (Err (fault.Follow txid)) e0 e was is went =
+        let failed = went.failed txid refl in
+        let one = some_come tells holds count t custom cut laws input keeps told e0 e was is went.started went.planned failed.leads in
+        let low = come_low holds count t custom cut laws input one.0 e was is one.1 ticks (went.allows (λ no. cc)) in record {
+          tells_so = unfollowed_come holds count t custom cut laws input one.0 e was is one.1 ticks txid low went.kept failed.ends;
+          drawn = λ words are had.
+              come_caused holds count t custom cut laws input words e was is (told_come tells holds count t custom cut laws input keeps told e0 e was is went.started went.planned failed.leads words are) ticks low;
+        }
     tells_by ticks (Err fault.Memory) e0 e was is went =
         let short = went.short refl in
         let one = some_come tells holds count t custom cut laws input keeps told e0 short.mid was short.between went.started went.planned short.leads in record {
@@ -235,8 +289,24 @@ module _ {I S : Type 0} {g : Ghosts I} (told : (ℕ → ℕ → ℕ) → Type 0)
         }
 
     -- so it is with the answer and the fates of a run
-    pub tells_at_end : (ticks : ℕ) (done : Result (Unit {0}) CommitFault) (e0 e : Engine I g) (was is : List (StatePart S)) (answer : Result Ended Stop) (fates : List Attempt) → WentOn ticks done e0 e was is
+    pub tells_at_end : (ticks : ℕ) (done : Result (Unit {0}) RunFault) (e0 e : Engine I g) (was is : List (StatePart S)) (answer : Result Ended Stop) (fates : List Attempt) → WentOn ticks done e0 e was is
         → answer ≡ end_by done (answer_of (topology_in e) (cut_in e) (shape e)) → fates ≡ e.fates → Tells told holds count t custom cut ticks answer fates was is
     tells_at_end ticks done e0 e was is answer fates went answer_is fates_are =
         subst (λ (r : Result Ended Stop). Tells told holds count t custom cut ticks r fates was is) (sym answer_is)
         (subst (λ (fs : List Attempt). Tells told holds count t custom cut ticks (end_by done (answer_of (topology_in e) (cut_in e) (shape e))) fs was is) (sym fates_are) (tells_by ticks done e0 e was is went))
+
+    -- Where a follower failed, parts stand at what was committed before too.
+    pub less_at_end : (ticks txid : ℕ) (done : Result (Unit {0}) RunFault) (e0 e : Engine I g) (was is : List (StatePart S)) (answer : Result Ended Stop) (fates : List Attempt) → WentOn ticks done e0 e was is
+        → answer ≡ end_by done (answer_of (topology_in e) (cut_in e) (shape e)) → fates ≡ e.fates → answer ≡ Err (stop.Follow txid) → StandLess holds t custom cut fates was is
+    less_at_end ticks txid (Ok ok) e0 e was is answer fates went answer_is fates_are is_follow =
+        absurd (no_follower (shape e).desk.exhausted (is_finished (topology_in e) (cut_in e) (shape e).desk) (shape e).desk.committed txid (sym answer_is ∙ is_follow))
+    less_at_end ticks txid (Err (fault.BadCell key)) e0 e was is answer fates went answer_is fates_are is_follow = absurd (follow_no_cell answer txid key is_follow answer_is)
+    less_at_end ticks txid (Err fault.Memory) e0 e was is answer fates went answer_is fates_are is_follow = absurd (let a : answer ≡ Err stop.Memory = answer_is in let b = is_follow in cc)
+    less_at_end ticks txid (Err (fault.Follow own)) e0 e was is answer fates went answer_is fates_are is_follow =
+        let failed = went.failed own refl in
+        let less = failed.less in
+        let one = some_come tells holds count t custom cut laws input keeps told e0 less.mid was less.between went.started went.planned less.leads in
+        let stands = stands_behind holds count t custom cut laws failed.ends.earlier was is (left_stands holds count t custom cut laws input one.0 less.mid failed.ends.earlier was less.between is one.1 less.leaves) in
+        λ earlier last added before are stand.
+        let same : failed.ends.earlier ≡ earlier = same_earlier failed.ends.earlier earlier failed.ends.last last (sym failed.ends.added ∙ sym fates_are ∙ added) in
+        subst (λ (fs : List Attempt). PartsStand holds t custom cut (before ++ committed_batches fs) is) same (stands before are stand)

@@ -9,10 +9,11 @@ use Rattle.event_engine.specs.Engines.{Goes}
 use Rattle.event_engine.specs.declared.engine.Engine.{Engine}
 use Rattle.event_worlds.specs.Worlds.{Step, coordinator_steps, of_acker, of_task, of_tick}
 use Rattle.schedule_core.specs.declared.ended.Ended.{Ended}
+use Rattle.schedule_core.specs.declared.fault.RunFault.{RunFault}
+use Rattle.schedule_core.specs.declared.fault.RunFault.TheVariants as fault
+use Rattle.schedule_core.specs.Following.{Unfollowed}
 use Rattle.schedule_core.specs.Driving.{Breaks, Drives, WantsMemory}
 use Rattle.schedule_core.specs.Runs.{HasRoundsOf, first_answers}
-use Rattle.event_worlds.specs.state_parts.declared.answer.CommitFault.{CommitFault}
-use Rattle.event_worlds.specs.state_parts.declared.answer.CommitFault.TheVariants as fault
 use Rattle.event_worlds.specs.state_parts.declared.parts.StatePart.{StatePart}
 use Rattle.event_worlds.specs.storm_ids.declared.ids.Ids.{Ghosts}
 use Rattle.storm_stores.specs.CellMaps.{CellMap}
@@ -22,9 +23,10 @@ use Rattle.event_worlds.specs.topology_plan.Topology.{Topology, tasks_in_all}
 use Rattle.world_progress.specs.Rounding.{ShutsNone}
 
 -- what a run answers that came to this, where an engine that nothing stopped answers that
-abbrev pub end_by : Result (Unit {0}) CommitFault → Result Ended Stop → Result Ended Stop
+abbrev pub end_by : Result (Unit {0}) RunFault → Result Ended Stop → Result Ended Stop
 end_by (Ok done) answer = answer
 end_by (Err (fault.BadCell key)) answer = Err (stop.BadCell key)
+end_by (Err (fault.Follow txid)) answer = Err (stop.Follow txid)
 end_by (Err fault.Memory) answer = Err stop.Memory
 
 -- a round up to the coordinator's step
@@ -61,7 +63,7 @@ pub record Asked {T : Type 0} (handed : T → ℕ) (ticking : T → List ℕ →
 pub record Rounded {I S T : Type 0} {g : Ghosts I} (tells : I → (ℕ → ℕ) → ℕ → Type 0)
     (holds : S → CellMap → Type 0) (count : S → ℕ) (handed : T → ℕ)
     (ticking : T → List ℕ → Type 0) (t : Topology) (custom : Custom) (cut : Cut)
-    (done : Result (Unit {0}) CommitFault) (old new : Engine I g)
+    (done : Result (Unit {0}) RunFault) (old new : Engine I g)
     (was is : List (StatePart S)) (before after : T) : Type 0 where
   pub answers : List ℕ
   pub asked : Asked handed ticking answers before after
@@ -71,5 +73,7 @@ pub record Rounded {I S T : Type 0} {g : Ghosts I} (tells : I → (ℕ → ℕ) 
   pub drives : OnOk done (Drives tells holds count t custom cut steps old new was is)
   pub bad : (key : List ℕ) → done ≡ Err (fault.BadCell key)
       → Breaks tells holds count t custom cut steps key old new was is
+  pub failed : (txid : ℕ) → done ≡ Err (fault.Follow txid)
+      → Unfollowed tells holds count t custom cut steps txid old new was is
   pub short : done ≡ Err fault.Memory
       → WantsMemory tells holds count t custom cut old new.fates was is

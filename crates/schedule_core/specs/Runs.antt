@@ -16,6 +16,7 @@ use Rattle.schedule_core.specs.declared.ended.Ended.TheVariants as ending
 use Rattle.event_worlds.specs.record_offers.Offers.{is_gone}
 use Rattle.event_worlds.specs.record_spans.declared.span.Span.{Span}
 use Rattle.schedule_core.specs.Driving.{AreBefore, AreKept}
+use Rattle.schedule_core.specs.Following.{EndsByCommit}
 use Rattle.schedule_core.specs.Schedules.{HadMemory, IsAnswer, IsOfWorld}
 use Rattle.event_worlds.specs.state_parts.Commits.{IsBadAt}
 use Rattle.event_worlds.specs.state_parts.declared.parts.StatePart.{StatePart}
@@ -57,6 +58,7 @@ Answers t cut ticks fates (Ok ending.All) = IsWhole cut ticks fates
 Answers t cut ticks fates (Ok (ending.Unfinished txid)) = IsUnfinished cut txid fates
 Answers t cut ticks fates (Err (stop.Exhausted txid)) = HasRunOut t cut txid fates
 Answers t cut ticks fates (Err (stop.BadCell key)) = Unit {0}
+Answers t cut ticks fates (Err (stop.Follow txid)) = EndsByCommit txid fates
 Answers t cut ticks fates (Err stop.Memory) = Unit {0}
 
 -- the start is at the first transaction, with no record gone

@@ -4,7 +4,7 @@ use Rattle.std.specs.List.{flat_map}
 use Rattle.event_worlds.specs.attempt_fates.declared.fates.Attempt.{Attempt}
 use Rattle.event_worlds.specs.bolt_ops.RowOp.{Custom}
 use Rattle.event_worlds.specs.commit_order.declared.stop.Stop.{Stop}
-use Rattle.event_worlds.specs.commit_order.declared.stop.Stop.TheVariants.{Exhausted, BadCell, Memory}
+use Rattle.event_worlds.specs.commit_order.declared.stop.Stop.TheVariants.{Exhausted, BadCell, Follow, Memory}
 use Rattle.event_worlds.specs.commit_turns.Turns.{is_finished}
 use Rattle.event_worlds.specs.Worlds.{Step, World, coordinator_steps, of_acker, of_open, of_shut, of_task, of_tick, outcomes_of, rounds_steps, world_after}
 use Rattle.schedule_core.specs.declared.ended.Ended.{Ended}
@@ -39,11 +39,13 @@ answer_by None false committed = Ok (Unfinished committed)
 abbrev pub answer_of : Topology → Cut → World → Result Ended Stop
 answer_of t cut w = answer_by w.desk.exhausted (is_finished t cut w.desk) w.desk.committed
 
--- the answer is one that a world gives: it is no want of memory and no bad cell
+-- the answer is one that a world gives: it is no want of memory, no bad cell and no fault of a
+-- follower
 abbrev pub IsAnswer : Result Ended Stop → Type 0
 IsAnswer (Ok ending) = Unit {0}
 IsAnswer (Err (Exhausted txid)) = Unit {0}
 IsAnswer (Err (BadCell key)) = ⊥
+IsAnswer (Err (Follow txid)) = ⊥
 IsAnswer (Err Memory) = ⊥
 
 -- it is anything but want of memory
@@ -51,6 +53,7 @@ abbrev pub HadMemory : Result Ended Stop → Type 0
 HadMemory (Ok ending) = Unit {0}
 HadMemory (Err (Exhausted txid)) = Unit {0}
 HadMemory (Err (BadCell key)) = Unit {0}
+HadMemory (Err (Follow txid)) = Unit {0}
 HadMemory (Err Memory) = ⊥
 
 -- The answer and the fates are those of the world after these steps, where sources have these words

@@ -5,16 +5,16 @@ ghost use Rattle.schedule_core.specs.Rounding.{end_by};
 ghost use Rattle.schedule_core.specs.Schedules.{answer_of};
 
 use crate::ended::Ended;
+use crate::fault::RunFault;
 use event_engine::Engine;
 use event_worlds::attempt_fates::Fates;
 use event_worlds::commit_order::Stop;
-use event_worlds::state_parts::CommitFault;
 use event_worlds::storm_ids::Ids;
 
 /// What a run answers whose last call came to this: what stopped it, or else what its coordinator
 /// knows. The attempts that ended take the place of those that are there, whatever the answer.
 pub fn end_run<I: Ids>(
-    done: Result<(), CommitFault>,
+    done: Result<(), RunFault>,
     engine: Engine<'_, I>,
     fates: &mut Fates,
 ) -> Result<Ended, Stop>
@@ -26,8 +26,9 @@ pub fn end_run<I: Ids>(
     *fates = engine.into_fates();
     match done {
         Ok(()) => answer,
-        Err(CommitFault::BadCell(key)) => Err(Stop::BadCell(key)),
-        Err(CommitFault::Memory) => Err(Stop::Memory),
+        Err(RunFault::BadCell(key)) => Err(Stop::BadCell(key)),
+        Err(RunFault::Follow(txid)) => Err(Stop::Follow(txid)),
+        Err(RunFault::Memory) => Err(Stop::Memory),
     }
 }
 

@@ -1,22 +1,26 @@
 //! A run by rounds, with the ticks of a source.
-ghost use Rattle.std.specs.Prelude.{◌≡◌, true, [], length, OnOk, OnErr};
+ghost use Rattle.std.specs.Prelude.{◌≡◌, ◌+◌, ℕ, true, [], length, Err, OnOk, OnErr};
 ghost use Rattle.event_worlds.specs.attempt_fates.Fates.{IsOnce};
 ghost use Rattle.event_worlds.specs.commit_turns.Turns.{last_tick};
 ghost use Rattle.event_engine.specs.Engines.{cut_in, has_ended, topology_in};
 ghost use Rattle.event_worlds.specs.Accounted.{IsInput};
 ghost use Rattle.schedule_core.specs.Driving.{AreKept, IsAtRest, IsOfSameRun};
 ghost use Rattle.schedule_core.specs.Rounding.{Rounded};
-ghost use Rattle.schedule_core.specs.Runs.{RoundsCome};
+ghost use Rattle.event_worlds.specs.commit_order.Follows.{IsTaken};
+ghost use Rattle.event_worlds.specs.commit_order.declared.stop.Stop.TheVariants as stop;
+ghost use Rattle.schedule_core.specs.Following.{Followed, RunFollowed, StandLess, next_txid};
+ghost use Rattle.schedule_core.specs.Runs.{RoundsCome, ended};
 ghost use Rattle.event_worlds.specs.state_parts.PartPlans.{AreParts};
 
 use crate::answer::end_run;
 use crate::drive::{close_round, open_boosted};
+use crate::fault::RunFault;
 use crate::laws::{laws_of_runs, laws_of_steps};
 use event_engine::Engine;
 use event_worlds::attempt_fates::Fates;
 use event_worlds::bolt_ops::RowOp;
-use event_worlds::commit_order::{Offers, Stop};
-use event_worlds::state_parts::{CommitFault, Parts};
+use event_worlds::commit_order::{Follow, Offers, Stop};
+use event_worlds::state_parts::Parts;
 use event_worlds::storm_ids::{IdMaker, Ids};
 use event_worlds::topology_plan::Plan;
 use std::alloc::Global;
@@ -28,8 +32,9 @@ use storm_ticks::Ticks;
 /// is left uncommitted or as many attempts of a transaction aborted as the plan allows.
 ///
 /// Before each step of the coordinator it asks once how many ticks passed. Nothing says that it
-/// ends. The attempts that ended are in the fates, whatever the answer.
-pub fn run_rounds<R: Wait, T: Ticks, N: IdMaker, C: CellStore, O: RowOp>(
+/// ends. The attempts that ended are in the fates, whatever the answer. The follower is told each
+/// commit that was done, and stops the run where it fails.
+pub fn run_rounds<R: Wait, T: Ticks, N: IdMaker, C: CellStore, O: RowOp, W: Follow>(
     rt: &R,
     alloc: Global,
     plan: &Plan,
@@ -38,37 +43,48 @@ pub fn run_rounds<R: Wait, T: Ticks, N: IdMaker, C: CellStore, O: RowOp>(
     ids: &mut N,
     parts: &mut Parts<C>,
     custom: &O,
+    follow: &mut W,
     fates: &mut Fates,
 ) -> Result<(), Stop>
     requires empty { fates.old ≡ [] }
     requires input { IsInput plan.now offers }
     requires parts { AreParts plan.now parts.old }
+    requires takes { IsTaken (offers.start + 1) (W.takes follow.old) }
 
     // What the answer, the fates, the ticks and the parts come to.
     ensures comes { RoundsCome (N.tells ids.old) (T.tells ticks.old) C.tells C.fault_count plan.now
         (O.meaning custom.now) offers (T.handed_out ticks.old) (T.handed_out ticks.new) result
         fates.new parts.old parts.new }
+
+    // The follower was told what was committed, in order, but perhaps the last one where it failed.
+    ensures followed { RunFollowed W.tells W.fault_count (ended result) fates.new
+        follow.old follow.new }
+    ensures less { (txid : ℕ) → result ≡ Err (stop.Follow txid)
+        → StandLess C.tells plan.now (O.meaning custom.now) offers fates.new parts.old parts.new }
 {
     laws_of_runs::<C>();
     let mut engine = match Engine::start(alloc, plan, offers, ids) {
         Ok(engine) => engine,
         Err(_) => return Err(Stop::Memory),
     };
-    let done = rounds_until_over(rt, &mut engine, ticks, parts, custom);
+    let done = rounds_until_over(rt, &mut engine, ticks, parts, custom, follow);
     end_run(done, engine, fates)?;
     Ok(())
 }
 
 /// Boosted rounds until all is over, each with as many ticks as the source answers.
-fn rounds_until_over<R: Wait, T: Ticks, I: Ids, C: CellStore, O: RowOp>(
+fn rounds_until_over<R: Wait, T: Ticks, I: Ids, C: CellStore, O: RowOp, W: Follow>(
     rt: &R,
     engine: &mut Engine<'_, I>,
     ticks: &mut T,
     parts: &mut Parts<C>,
     custom: &O,
-) -> Result<(), CommitFault>
+    follow: &mut W,
+) -> Result<(), RunFault>
     requires at_rest { IsAtRest engine.old }
     requires parts { AreParts (topology_in engine.old) parts.old }
+    requires takes { IsTaken (next_txid (cut_in engine.old) engine.old.fates)
+        (W.takes follow.old) }
     ensures same_run { OnOk result (IsOfSameRun engine.old engine.new) }
     ensures over { OnOk result (has_ended engine.new ≡ true) }
     ensures comes { Rounded I.tells C.tells C.fault_count T.handed_out T.tells
@@ -76,6 +92,8 @@ fn rounds_until_over<R: Wait, T: Ticks, I: Ids, C: CellStore, O: RowOp>(
         engine.new parts.old parts.new ticks.old ticks.new }
     ensures once { OnErr result (IsOnce (cut_in engine.old) last_tick engine.new.fates) }
     ensures kept { AreKept C.tells parts.old parts.new }
+    ensures followed { Followed W.tells W.fault_count result
+        engine.old.fates engine.new.fates follow.old follow.new }
 {
     laws_of_steps::<C>();
     for _ in rt.forever() {
@@ -84,7 +102,7 @@ fn rounds_until_over<R: Wait, T: Ticks, I: Ids, C: CellStore, O: RowOp>(
         }
         open_boosted(engine, custom)?;
         let passed = ticks.passed();
-        close_round(engine, parts, custom, passed)?;
+        close_round(engine, parts, custom, follow, passed)?;
     }
     unreachable!()
 }

@@ -4,15 +4,18 @@ ghost use Rattle.state_parts.specs.declared.answer.CommitFault.TheVariants as fa
 ghost use Rattle.state_parts.specs.Answers.{joined, noted};
 ghost use Rattle.state_parts.specs.Commits.{answer_of};
 
+use record_spans::Spans;
 use state_cells::PartFault;
 use thiserror::Error;
 use tree_model::PackedWrites;
 use tree_model::storm_values::{Bytes, Memory, Root};
 
-/// The commit of an attempt of a batch, with the writes of the batch for all parts, in their order.
+/// The commit of an attempt of a batch, with the spans of its records and the writes of the batch
+/// for all parts, in their order.
 #[derive(Debug, Drop)]
 pub struct Commit {
     pub root: Root,
+    pub spans: Spans,
     pub writes: PackedWrites,
 }
 

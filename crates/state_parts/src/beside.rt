@@ -108,12 +108,12 @@ pub(crate) fn commit_parts_beside<C: CellStore + Send, R: Threads + Sync, O: Row
     alloc: Global,
     firsts: &[usize],
     parts: &mut Vec<StatePart<C>>,
-    commit: Commit,
+    commit: &Commit,
     custom: &O,
 ) -> Result<CommitOutcome, CommitFault>
     requires { AreIndexed firsts.now 0 (plans_of parts.old.items) }
-    ensures { IsCommit C.tells (O.meaning custom.now) C.fault_count commit.root commit.writes
-        parts.old.items parts.new.items result }
+    ensures { IsCommit C.tells (O.meaning custom.now) C.fault_count
+        commit.now.root commit.now.writes parts.old.items parts.new.items result }
 {
     let dealt = match split(alloc, firsts, parts, &commit.writes) {
         Ok(dealt) => dealt,

@@ -79,19 +79,19 @@ pub(crate) fn commit_parts<C: CellStore, O: RowOp>(
     alloc: Global,
     firsts: &[usize],
     parts: &mut Vec<StatePart<C>>,
-    commit: Commit,
+    commit: &Commit,
     custom: &O,
 ) -> Result<CommitOutcome, CommitFault>
     requires { AreIndexed firsts.now 0 (plans_of parts.old.items) }
     ensures plans { plans_of parts.new.items ≡ plans_of parts.old.items }
     ensures comes { (result ≡ Err CommitFault.Memory → ⊥) →
-        Comes C.tells (O.meaning custom.now) C.fault_count commit.root commit.writes
+        Comes C.tells (O.meaning custom.now) C.fault_count commit.now.root commit.now.writes
         parts.old.items parts.new.items result }
     ensures done { result ≡ Ok CommitOutcome.Done →
-        AreCommitted C.tells (O.meaning custom.now) commit.root commit.writes
+        AreCommitted C.tells (O.meaning custom.now) commit.now.root commit.now.writes
         parts.old.items parts.new.items }
-    ensures kept { ArePerhapsCommitted C.tells (O.meaning custom.now) commit.root commit.writes
-        parts.old.items parts.new.items }
+    ensures kept { ArePerhapsCommitted C.tells (O.meaning custom.now)
+        commit.now.root commit.now.writes parts.old.items parts.new.items }
     ensures failed { (component part before after : ℕ) →
         result ≡ Ok (CommitOutcome.Failed component part before after) →
         IsFailedPart C.fault_count parts.old.items parts.new.items component part before after }

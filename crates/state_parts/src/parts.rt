@@ -103,18 +103,18 @@ impl<C: CellStore> Parts<C> {
     /// any fault each key of each part has its old cell or the commit's.
     pub fn commit_all<O: RowOp>(
         &mut self,
-        commit: Commit,
+        commit: &Commit,
         custom: &O,
     ) -> Result<CommitOutcome, CommitFault>
         ensures plans { plans_of self.new ≡ plans_of self.old }
         ensures comes { (result ≡ Err CommitFault.Memory → ⊥) →
-            Comes C.tells (O.meaning custom.now) C.fault_count commit.root commit.writes
+            Comes C.tells (O.meaning custom.now) C.fault_count commit.now.root commit.now.writes
             self.old self.new result }
         ensures done { result ≡ Ok CommitOutcome.Done →
-            AreCommitted C.tells (O.meaning custom.now) commit.root commit.writes
+            AreCommitted C.tells (O.meaning custom.now) commit.now.root commit.now.writes
             self.old self.new }
-        ensures kept { ArePerhapsCommitted C.tells (O.meaning custom.now) commit.root commit.writes
-            self.old self.new }
+        ensures kept { ArePerhapsCommitted C.tells (O.meaning custom.now)
+            commit.now.root commit.now.writes self.old self.new }
         ensures failed { (component part before after : ℕ) →
             result ≡ Ok (CommitOutcome.Failed component part before after) →
             IsFailedPart C.fault_count self.old self.new component part before after }
@@ -200,18 +200,18 @@ impl<C: CellStore + Send> Parts<C> {
         &mut self,
         rt: &R,
         threads: usize,
-        commit: Commit,
+        commit: &Commit,
         custom: &O,
     ) -> Result<CommitOutcome, CommitFault>
         ensures plans { plans_of self.new ≡ plans_of self.old }
         ensures comes { (result ≡ Err CommitFault.Memory → ⊥) →
-            Comes C.tells (O.meaning custom.now) C.fault_count commit.root commit.writes
+            Comes C.tells (O.meaning custom.now) C.fault_count commit.now.root commit.now.writes
             self.old self.new result }
         ensures done { result ≡ Ok CommitOutcome.Done →
-            AreCommitted C.tells (O.meaning custom.now) commit.root commit.writes
+            AreCommitted C.tells (O.meaning custom.now) commit.now.root commit.now.writes
             self.old self.new }
-        ensures kept { ArePerhapsCommitted C.tells (O.meaning custom.now) commit.root commit.writes
-            self.old self.new }
+        ensures kept { ArePerhapsCommitted C.tells (O.meaning custom.now)
+            commit.now.root commit.now.writes self.old self.new }
         ensures failed { (component part before after : ℕ) →
             result ≡ Ok (CommitOutcome.Failed component part before after) →
             IsFailedPart C.fault_count self.old self.new component part before after }

@@ -1,7 +1,8 @@
 use Rattle.std.specs.Prelude.{replicate}
 use Rattle.event_engine.specs.Engines.{cut_in, topology_in}
 use Rattle.event_worlds.specs.Worlds.{coordinator_steps, of_tick}
-use Rattle.schedule_core.proofs.Resting.{breaks_on, drives_on, handed_on, wants_on}
+use Rattle.schedule_core.proofs.Following.{followed-handed, followed-then, follows-same, follows-then, taken_still}
+use Rattle.schedule_core.proofs.Resting.{breaks_on, drives_on, handed_on, unfollowed_on, wants_on}
 use Rattle.event_worlds.specs.topology_plan.Topology.{Topology}
 use Rattle.schedule_core.proofs.drive.close_round.Goals as goal
 
@@ -30,3 +31,30 @@ returns-clause-drives g c =
     let laws = c.laws_of_steps.ensures (topology_in old) custom (cut_in old) in
     let ticked = c.tick_on.ensures in
     drives_on g.I.Ids.tells g.C.CellStore.tells g.C.CellStore.fault_count custom (λ (u : Topology). replicate c.args.passed of_tick) (λ (u : Topology). coordinator_steps) old c.tick_on.new.engine c.coordinate.new.engine c.args.parts.now c.coordinate.new.parts laws ticked.same_run (ticked.goes custom) ticked.still (c.in_ok-coordinate.ensures.drives)
+
+-- ---- a follower
+
+pub coordinate-requires-clause-takes : goal.coordinate-requires-clause-takes
+coordinate-requires-clause-takes g c = λ lives bounds. taken_still c.args.engine.now c.tick_on.new.engine (g.W.Follow.takes c.args.follow.now) c.tick_on.ensures.still c.requires.takes
+
+pub returns-in_err-coordinate-clause-failed : goal.returns-in_err-coordinate-clause-failed
+returns-in_err-coordinate-clause-failed g c = λ txid is.
+    let custom = g.O.RowOp.meaning c.args.custom.now in
+    let old = c.args.engine.now in
+    let laws = c.laws_of_steps.ensures (topology_in old) custom (cut_in old) in
+    let ticked = c.tick_on.ensures in
+    unfollowed_on g.I.Ids.tells g.C.CellStore.tells g.C.CellStore.fault_count custom (λ (u : Topology). replicate c.args.passed of_tick) (λ (u : Topology). coordinator_steps) old c.tick_on.new.engine c.coordinate.new.engine c.args.parts.now c.coordinate.new.parts laws ticked.same_run (ticked.goes custom) c.tick_on.ensures.still txid
+    (c.coordinate.ensures.failed txid (handed_on c.from_residual.result c.coordinate.result _ _ c.from_residual.ensures.1 c.in_err-coordinate.was is))
+
+pub returns-in_err-coordinate-clause-followed : goal.returns-in_err-coordinate-clause-followed
+returns-in_err-coordinate-clause-followed g c =
+    let old = c.args.engine.now in
+    let x = c.args.follow.now in
+    followed-handed g.W.Follow.tells g.W.Follow.fault_count c.from_residual.result c.coordinate.result _ old.fates c.coordinate.new.engine.fates x c.coordinate.new.follow c.from_residual.ensures.1 c.in_err-coordinate.was
+    (followed-then g.W.Follow.tells g.W.Follow.fault_count c.coordinate.result old.fates c.tick_on.new.engine.fates c.coordinate.new.engine.fates x x c.coordinate.new.follow (follows-same g.W.Follow.tells g.W.Follow.fault_count old.fates c.tick_on.new.engine.fates x c.tick_on.ensures.still.fates) c.coordinate.ensures.followed)
+
+pub returns-clause-followed : goal.returns-clause-followed
+returns-clause-followed g c =
+    let old = c.args.engine.now in
+    let x = c.args.follow.now in
+    follows-then g.W.Follow.tells g.W.Follow.fault_count old.fates c.tick_on.new.engine.fates c.coordinate.new.engine.fates x x c.coordinate.new.follow (follows-same g.W.Follow.tells g.W.Follow.fault_count old.fates c.tick_on.new.engine.fates x c.tick_on.ensures.still.fates) c.in_ok-coordinate.ensures.followed

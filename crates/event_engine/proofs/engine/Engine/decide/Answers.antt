@@ -41,7 +41,7 @@ returns-in_ok-fail_without_memory-in-Err g c =
     let ordered = c.requires.out.1 in
     let goes = has_stop_none t cut old ready ordered.goes_on in
     let kept = c.desks_are_kept.ensures.outcome t cut (desk_of old.coordinator) old.fates ready.input.valid ready.input.start (none_exhausted t cut old ordered.goes_on) ready.kept c.args.how in
-    let stop = stop_of_txid c.committed.result c.in-Err.stop c.in-Err.is c.in_ok-fail_without_memory-in-Err.ensures.ok c.committed.ensures.no_cell in
+    let stop = stop_of_txid c.committed.result c.in-Err.stop c.in-Err.is c.in_ok-fail_without_memory-in-Err.ensures.ok c.committed.ensures.no_cell c.committed.ensures.no_follower in
     let to = c.committed.ensures.stops goes stop.0 stop.1 in
     let decides : Decides t cut old new c.args.how w ready ordered =
     record { office = to.office; collector = to.collector; fates = to.fates; own = c.committed.ensures.own to.has_memory; has_memory = to.has_memory; plan = refl; others = refl; tasks = refl; ackers = refl } in

@@ -46,7 +46,7 @@ returns-in_ok-fail_without_memory-in-Err g c =
     let found = c.pop_front-verdict.result in
     let goes = has_stop_none t cut old ready c.requires.goes_on in
     let kept = c.desks_are_kept.ensures.turn t cut d old.fates ready.input.valid ready.input.start (none_exhausted t cut old c.requires.goes_on) ready.kept found old.unheard old.shut in
-    let stop = stop_of_txid c.turn.result c.in-Err.stop c.in-Err.is c.in_ok-fail_without_memory-in-Err.ensures.ok c.turn.ensures.no_cell in
+    let stop = stop_of_txid c.turn.result c.in-Err.stop c.in-Err.is c.in_ok-fail_without_memory-in-Err.ensures.ok c.turn.ensures.no_cell c.turn.ensures.no_follower in
     record {
       taken =
           turn_stopped g.I.Ids.tells old _ found ready c.requires.goes_on c.requires.empty kept stop.0
