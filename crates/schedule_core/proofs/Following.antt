@@ -258,4 +258,3 @@ module _ {I : Type 0} {g : Ghosts I} (told : (ℕ → ℕ → ℕ) → Type 0) (
       let none : length (committed_txids []) ≡ 0 = refl in
       let here : next_txid cut [] ≡ cut.start + 1 = omega arith in
       taken_same (cut.start + 1) (next_txid (cut_in e) e.fates) o (first ∙ here) taken
-

@@ -83,25 +83,25 @@ module _ {W : Type 0} (tells : W → List Commit → Type 0) (count : W → ℕ)
 
 module _ {I S : Type 0} {g : Ghosts I} (tells : I → (ℕ → ℕ) → ℕ → Type 0)
     (holds : S → CellMap → Type 0) (count : S → ℕ) (t : Topology) (custom : Custom) (cut : Cut)
-    where
-  -- An engine went through the first of these steps, up to the commit of a transaction at which a
-  -- follower failed. The commit is the last end, and was tried when the earlier ones were there: so
-  -- parts stand at what these say was committed too.
-  pub record Unfollowed (whole : List Step) (txid : ℕ) (old new : Engine I g)
-      (was is : List (StatePart S)) : Type 0 where
-    pub steps : List Step
-    pub rest : List Step
-    pub first : whole ≡ steps ++ rest
-    pub drives : Drives tells holds count t custom cut steps old new was is
-    pub ends : EndsByCommit txid new.fates
-    pub less : WantsMemory tells holds count t custom cut old ends.earlier was is
+  where
+    -- An engine went through the first of these steps, up to the commit of a transaction at which a
+    -- follower failed. The commit is the last end, and was tried when the earlier ones were there: so
+    -- parts stand at what these say was committed too.
+    pub record Unfollowed (whole : List Step) (txid : ℕ) (old new : Engine I g)
+        (was is : List (StatePart S)) : Type 0 where
+      pub steps : List Step
+      pub rest : List Step
+      pub first : whole ≡ steps ++ rest
+      pub drives : Drives tells holds count t custom cut steps old new was is
+      pub ends : EndsByCommit txid new.fates
+      pub less : WantsMemory tells holds count t custom cut old ends.earlier was is
 
-  -- the same of an engine that went on by steps or in any other way
-  pub record LedUnfollowed (txid : ℕ) (old new : Engine I g) (was is : List (StatePart S))
-      : Type 0 where
-    pub leads : LeadsOn tells holds count t custom cut old new was is
-    pub ends : EndsByCommit txid new.fates
-    pub less : RunsOut tells holds count t custom cut old ends.earlier was is
+    -- the same of an engine that went on by steps or in any other way
+    pub record LedUnfollowed (txid : ℕ) (old new : Engine I g) (was is : List (StatePart S))
+        : Type 0 where
+      pub leads : LeadsOn tells holds count t custom cut old new was is
+      pub ends : EndsByCommit txid new.fates
+      pub less : RunsOut tells holds count t custom cut old ends.earlier was is
 
 -- Parts that stood at the batches before the start stand at these and those that were committed but
 -- the last, which was the last end.

@@ -10,11 +10,7 @@ use event_worlds::state_parts::{Commit, CommitOutcome};
 use storm_stores::StoreFault;
 
 /// Tells a follower a commit that was done, and of one that failed nothing.
-pub fn tell<W: Follow>(
-    follow: &mut W,
-    commit: &Commit,
-    how: CommitOutcome,
-) -> Result<(), RunFault>
+pub fn tell<W: Follow>(follow: &mut W, commit: &Commit, how: CommitOutcome) -> Result<(), RunFault>
     requires { how ≡ outcome.Done → IsTaken commit.now.root.txid (W.takes follow.old) }
     ensures { TellsOf W.tells W.takes W.fault_count how commit.now result
         follow.old follow.new }

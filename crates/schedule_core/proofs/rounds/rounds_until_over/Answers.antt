@@ -29,8 +29,8 @@ loop-preserved g c =
     record {
       turning =
           turning-then g.I.Ids.tells g.C.CellStore.tells g.C.CellStore.fault_count g.T.Ticks.handed_out g.T.Ticks.tells custom c.args.engine.now c.args.parts.now c.args.ticks.now (λ (t : Topology) (cut : Cut). c.laws_of_steps.ensures t custom cut) c.loop.engine c.loop.parts c.loop.ticks c.loop.invariant.turning
-    c.open_boosted.new.engine c.passed-passed.result c.passed-passed.new.self behind.quiet behind.none behind.shut_none opened.same_run behind.goes c.open_boosted.ensures.still asked.counted asked.told asked.tells_the_rest
-    c.close_round.new.engine c.close_round.new.parts closed.at_rest closed.same_run closed.drives c.close_round.ensures.kept;
+          c.open_boosted.new.engine c.passed-passed.result c.passed-passed.new.self behind.quiet behind.none behind.shut_none opened.same_run behind.goes c.open_boosted.ensures.still asked.counted asked.told asked.tells_the_rest
+          c.close_round.new.engine c.close_round.new.parts closed.at_rest closed.same_run closed.drives c.close_round.ensures.kept;
       told =
           so_far-then g.W.Follow.tells g.W.Follow.takes g.W.Follow.fault_count c.args.engine.now mid c.close_round.new.engine c.args.follow.now c.loop.follow c.close_round.new.follow c.loop.invariant.told closed.takes
           (follows-then g.W.Follow.tells g.W.Follow.fault_count mid.fates c.open_boosted.new.engine.fates c.close_round.new.engine.fates c.loop.follow c.loop.follow c.close_round.new.follow (follows-same g.W.Follow.tells g.W.Follow.fault_count mid.fates c.open_boosted.new.engine.fates c.loop.follow c.open_boosted.ensures.still.fates) closed.followed);
