@@ -4,3 +4,4 @@ pub mod Starts
 pub mod Lending
 pub mod Exchanges
 pub mod Boosts
+pub mod Shutting

@@ -6,12 +6,13 @@ ghost use Rattle.event_worlds.specs.commit_order.Orders.{desk_of};
 ghost use Rattle.event_worlds.specs.commit_order.declared.stop.Stop.TheVariants as stop;
 ghost use Rattle.event_worlds.specs.commit_turns.Turns.{is_finished};
 ghost use Rattle.event_engine.specs.Engines.{Answers, DecidesShort, Goes, Happens, IsIdle, IsReady, IsSeated, IsStill, IsThere, MayDecide, TakesTurn, TurnsShort, cut_in, has_ended, shape, sources, topology_in};
+ghost use Rattle.event_engine.specs.Shutting.{shutting, shutting_steps};
 ghost use Rattle.event_worlds.specs.Worlds.{acker_step, delivered, of_acker, of_open, of_outcome, of_shut, of_task, of_tick, of_turn, outcomes_of, task_at, task_needs, task_step, tick_step};
 ghost use Rattle.event_worlds.specs.topology_plan.Topology.{Topology, tasks_in_all};
 ghost use Rattle.event_worlds.specs.taken_records.Cuts.{Cut};
 
 use crate::acker::{AckerSeat, answer_at, put_message};
-use crate::shutting::{with_open, with_shut};
+use crate::shutting::{has_shut, with_open, with_shut};
 use crate::task::{TaskSeat, execute_at, hand_over_at, has_parcel_at, put_tuple};
 use event_worlds::acker_core::Verdict;
 use event_worlds::attempt_fates::Fates;
@@ -215,6 +216,37 @@ impl<'p, I: Ids> Engine<'p, I> {
             return;
         }
         self.take_shut(with_open(self.shut, partition));
+    }
+
+    /// The partitions whose bits are set are shut, and all others are opened. Partition q has bit q,
+    /// counted from the lowest bit on.
+    pub fn shut_by(&mut self, shut: u16)
+        requires { IsReady (topology_in self.old) (cut_in self.old) self.old }
+        ensures ready { IsReady (topology_in self.old) (cut_in self.old) self.new }
+        ensures goes { (custom : Custom) → Goes I.tells (topology_in self.old) custom
+            (cut_in self.old) (shutting_steps (topology_in self.old).partitions shut)
+            self.old self.new }
+        ensures still { IsStill self.old self.new }
+    {
+        for partition in 0..self.plan.partitions() {
+            self.shut_one(shut, partition);
+        }
+    }
+
+    // A partition is shut or opened, by its bit.
+    fn shut_one(&mut self, shut: u16, partition: u32)
+        requires few { partition < 16 }
+        requires ready { IsReady (topology_in self.old) (cut_in self.old) self.old }
+        ensures ready { IsReady (topology_in self.old) (cut_in self.old) self.new }
+        ensures goes { (custom : Custom) → Goes I.tells (topology_in self.old) custom
+            (cut_in self.old) (shutting shut partition ∷ []) self.old self.new }
+        ensures still { IsStill self.old self.new }
+    {
+        if has_shut(shut, partition) {
+            self.shut(partition);
+        } else {
+            self.open(partition);
+        }
     }
 
     /// Whether all is over: no record is left uncommitted, or as many attempts of a transaction
