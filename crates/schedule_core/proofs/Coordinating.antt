@@ -1,6 +1,6 @@
 -- The coordinator's steps over the parts.
-use Rattle.std.proofs.Common.{◌≡◌, ℕ, suc, ◌+◌, ◌==◌, ◌&&◌, Bool, true, false, cond, List, [], ◌∷◌, ◌++◌, All, length, find, get_or, Option, None, Some, is_some, Result, Ok, Err, refl, sym, ap, subst, ◌∙◌, append_assoc, append-nil, true≢false}
-use Rattle.std.specs.Prelude.{◌⊎◌, inl, inr, OnOk, slice_get}
+use Rattle.std.proofs.Common.{◌≡◌, ℕ, suc, ◌+◌, ◌==◌, ◌&&◌, Bool, true, false, cond, List, [], ◌∷◌, ◌++◌, All, length, find, get_or, inl, inr, Option, None, Some, is_some, Result, Ok, Err, refl, sym, ap, subst, ◌∙◌, append_assoc, append-nil, true≢false, arith}
+use Rattle.std.specs.Prelude.{◌⊎◌, OnOk, slice_get}
 use Rattle.std.specs.List.{AllZip}
 use Rattle.std.specs.Result.{IsErrAnd}
 use Rattle.std.proofs.lemmas.List.{append_cancel_left}
@@ -22,7 +22,6 @@ use Rattle.event_worlds.specs.commit_turns.Kept.{IsKept}
 use Rattle.event_worlds.specs.commit_turns.Outcomes.{IsOutcome}
 use Rattle.event_worlds.specs.commit_turns.Turns.{decided, decided_by, drops, end_by, next_to_commit, turned}
 use Rattle.event_worlds.proofs.commit_writes.Whole.{whole_writes}
-use Rattle.event_worlds.specs.commit_writes.Writes.{AreWritesOf}
 use Rattle.event_engine.proofs.GoesLemmas.{goes-idle, next-told, outcomes-append}
 use Rattle.event_engine.proofs.LoopLemmas.{goes_there}
 use Rattle.event_engine.specs.declared.engine.Engine.{Engine}
@@ -114,9 +113,19 @@ module _ {S : Type 0} (holds : S → CellMap → Type 0) (count : S → ℕ) (t 
       by None same some i at = absurd (true≢false (sym some))
       by (Some list) same some i at =
           let whole = more.settled words all h k input led i w list at same in
-          whole_writes t custom (rows_at cut w.spans) w.root list commit.writes input.valid whole.0.is_true whole.0.is_single whole.2 (is.1.1 list same)
+          whole_writes t custom (rows_at cut w.spans) w.root list commit.writes input.valid whole.0.is_true whole.0.is_single whole.2 (is.2 list same)
 
 -- ---- the attempt whose commit was ordered ends
+
+module _ (t : Topology) (cut : Cut) where
+  -- it is settled
+  settled_next : (d : Desk) (w : Wait) → next_to_commit t cut d ≡ Some w → is_some w.settled ≡ true
+  settled_next d w next =
+      let found = found_at (λ (x : Wait). (x.root.txid == d.committed + 1) && is_some x.settled) d.pending w next in both_true (w.root.txid == d.committed + 1) (is_some w.settled) found.2
+
+  done_is : (o : Option (List AckMsg)) → is_committed (end_by t cut Done o) ≡ true
+  done_is None = refl
+  done_is (Some list) = refl
 
 module _ (t : Topology) (cut : Cut) (d : Desk) (w : Wait) where
   -- the end of an attempt whose commit came to this
@@ -393,15 +402,6 @@ module _ {I S : Type 0} {g : Ghosts I} (tells : I → (ℕ → ℕ) → ℕ → 
 
   -- ---- what a follower is told
 
-  -- the attempt whose commit is ordered next is settled
-  settled_next : (d : Desk) (w : Wait) → next_to_commit t cut d ≡ Some w → is_some w.settled ≡ true
-  settled_next d w next =
-      let found = found_at (λ (x : Wait). (x.root.txid == d.committed + 1) && is_some x.settled) d.pending w next in both_true (w.root.txid == d.committed + 1) (is_some w.settled) found.2
-
-  done_is : (o : Option (List AckMsg)) → is_committed (end_by t cut Done o) ≡ true
-  done_is None = refl
-  done_is (Some list) = refl
-
   module _ {W : Type 0} (ftells : W → List Commit → Type 0) (takes : W → Option ℕ) (fcount : W → ℕ) (old mid new : Engine I g) (goes : Goes tells t custom cut (of_turn ∷ []) old mid) where
     -- nothing in a turn
     pub follows-turn : (w : W) → Follows ftells fcount old.fates mid.fates w w
@@ -433,20 +433,20 @@ module _ {I S : Type 0} {g : Ghosts I} (tells : I → (ℕ → ℕ) → ℕ → 
       by_commit : IsCommitBy (told_end t cut (shape mid).desk order.wait Done) commit
       by_commit = record {
         root = order.is.0;
-        spans = order.is.1.0;
-        writes = λ list is. by order.wait.settled refl (settled_next (shape mid).desk order.wait w_next) list is;
+        spans = order.is.1;
+        writes = λ list is. order.is.2 list (by order.wait.settled refl (settled_next t cut (shape mid).desk order.wait w_next) list is);
       }
         where
-          by : (o : Option (List AckMsg)) → order.wait.settled ≡ o → is_some o ≡ true → (list : List AckMsg) → end_by t cut Done o ≡ Committed list → AreWritesOf list commit.writes
+          by : (o : Option (List AckMsg)) → order.wait.settled ≡ o → is_some o ≡ true → (list : List AckMsg) → end_by t cut Done o ≡ Committed list → order.wait.settled ≡ Some list
           by None same some list is = absurd (true≢false (sym some))
-          by (Some l) same some list is = subst (λ (ms : List AckMsg). AreWritesOf ms commit.writes) (let e : Committed l ≡ Committed list = is in cc) (order.is.1.1 l same)
+          by (Some l) same some list is = same ∙ ap Some (let e : Committed l ≡ Committed list = is in cc)
 
       done_are : AreCommitsOf (told_end t cut (shape mid).desk order.wait Done ∷ []) (commit ∷ [])
       done_are =
-          subst (λ (b : Bool). AllZip IsCommitBy (cond b (told_end t cut (shape mid).desk order.wait Done ∷ []) []) (commit ∷ [])) (sym (done_is order.wait.settled)) (by_commit, tt)
+          subst (λ (b : Bool). AllZip IsCommitBy (cond b (told_end t cut (shape mid).desk order.wait Done ∷ []) []) (commit ∷ [])) (sym (done_is t cut order.wait.settled)) (by_commit, tt)
 
       done_many : length (committed (told_end t cut (shape mid).desk order.wait Done ∷ [])) ≡ 1
-      done_many = ap (λ (b : Bool). length (cond b (told_end t cut (shape mid).desk order.wait Done ∷ []) [])) (done_is order.wait.settled)
+      done_many = ap (λ (b : Bool). length (cond b (told_end t cut (shape mid).desk order.wait Done ∷ []) [])) (done_is t cut order.wait.settled)
 
       -- the fates after an outcome
       ends_added : (how : CommitOutcome) → Goes tells t custom cut (of_outcome ∷ []) mid new → outcomes_of new.fates ≡ outcomes_of mid.fates ++ how ∷ [] → new.fates ≡ mid.fates ++ (decided t cut how (shape mid).desk).ended
@@ -484,7 +484,7 @@ module _ {I S : Type 0} {g : Ghosts I} (tells : I → (ℕ → ℕ) → ℕ → 
             more = [];
             last = told_end t cut (shape mid).desk order.wait Done;
             added = done_added after told;
-            done = done_is order.wait.settled;
+            done = done_is t cut order.wait.settled;
             number = sym (ap (λ (k : Root). k.txid) order.is.0) ∙ was.number;
             commits = [];
             are = tt;
@@ -498,7 +498,7 @@ module _ {I S : Type 0} {g : Ghosts I} (tells : I → (ℕ → ℕ) → ℕ → 
           either : (earlier : List Commit) → ftells y earlier ⊎ ftells y (earlier ++ commit ∷ []) → ftells y (earlier ++ []) ⊎ ftells y (earlier ++ commit ∷ [])
           either earlier (inl is) = inl (subst (λ (cs : List Commit). ftells y cs) (sym (append-nil earlier)) is)
           either earlier (inr is) = inr is
-      followed-ordered Done (Err fault.Memory) x y after told was = tt
+      followed-ordered Done (Err fault.Memory) x y after told was = was
       followed-ordered (Failed component part before later) (Ok ok) x y after told was =
           let q = failed_quiet component part before later after told in
           let all = follows-then ftells fcount old.fates mid.fates new.fates x x x (follows-turn x) (follows-quiet ftells fcount mid.fates q.0 new.fates x q.1 q.2) in
@@ -542,7 +542,7 @@ module _ {I S : Type 0} {g : Ghosts I} (tells : I → (ℕ → ℕ) → ℕ → 
               earlier = mid.fates;
               last = told_end t cut (shape mid).desk order.wait Done;
               added = done_added after told;
-              done = done_is order.wait.settled;
+              done = done_is t cut order.wait.settled;
               number = sym (ap (λ (k : Root). k.txid) order.is.0) ∙ tells_so.number ∙ same;
             };
             less = less;

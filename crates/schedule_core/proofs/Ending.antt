@@ -20,7 +20,7 @@ use Rattle.schedule_core.proofs.Telling.{WentOn, answer_then, less_at_end, tells
 use Rattle.schedule_core.proofs.TicksOfRuns.{run-tick, ticks-of-rounds}
 use Rattle.schedule_core.specs.declared.ended.Ended.{Ended}
 use Rattle.schedule_core.specs.Driving.{AreKept, Breaks, Drives, IsAtRest, IsOfSameRun, WantsMemory}
-use Rattle.schedule_core.specs.Following.{EndsByCommit, StandLess, Unfollowed}
+use Rattle.schedule_core.specs.Following.{StandLess, Unfollowed}
 use Rattle.schedule_core.specs.Laws.{WorldLaws}
 use Rattle.schedule_core.specs.Rounding.{end_by}
 use Rattle.schedule_core.specs.Runs.{RunComes}

@@ -4,6 +4,7 @@ use Rattle.std.specs.Prelude.{nat_le}
 use Rattle.std.specs.List.{AllByRecursion, range_with_len}
 use Rattle.std.proofs.lemmas.Bool.Decides.{nat_tests}
 use Rattle.std.proofs.lemmas.Bool.{cases_lt}
+use Rattle.std.proofs.lemmas.List.{length-map}
 use Rattle.event_worlds.proofs.counted_items.Each.{each-weaker}
 use Rattle.event_worlds.proofs.taken_records.Leaving.{some_mark_left}
 use Rattle.event_worlds.proofs.taken_records.Running.{stands_within}
@@ -147,7 +148,7 @@ pub record AnswersFor (t : Topology) (cut : Cut) (d : Desk) (ticks : ℕ) (fates
   pub ran_out : (txid : ℕ) → d.exhausted ≡ Some txid
       → (aborts_of txid fates ≡ t.attempts) × (cut.start + committed_count fates < txid)
   pub whole : is_finished t cut d ≡ true → IsWhole cut ticks fates
-  pub unfinished : is_finished t cut d ≡ false → IsUnfinished cut d.committed fates
+  pub unfinished : is_finished t cut d ≡ false → IsUnfinished cut (length (committed fates)) fates
 
 -- what a desk says holds, where it is kept with the fates
 pub answers-from : {S : Type 0} (holds : S → CellMap → Type 0) (count : S → ℕ) (t : Topology) (custom : Custom) (cut : Cut) → WorldLaws holds count t custom cut → IsStart cut → (d : Desk) (ticks : ℕ) (fates : List Attempt)
@@ -156,12 +157,13 @@ answers-from holds count t custom cut laws start d ticks fates kept later = reco
   ran_out = λ txid is. let out = kept.ran_out txid is in (out.0, subst (λ (k : ℕ). k < txid) kept.commits out.1);
   whole = λ done. whole-later cut d.tick ticks fates (laws.whole d fates kept done) later;
   unfinished = λ left. record {
-    committed = sym kept.commits;
+    committed = length-map (committed fates) (λ (a : Attempt). a.root.txid);
     some_left = some_left t cut d fates kept left;
     more_batches = λ none.
         let few = few_committed t cut d fates kept start none in
         let last = laws.at_last_batch d fates start kept none in
         let other : d.committed ≡ batches_in cut → ⊥ = λ all. true≢false (sym (last.1 all) ∙ left) in
-        omega (arith, few, other);
+        let all = kept.commits in
+        let same = length-map (committed fates) (λ (a : Attempt). a.root.txid) in omega (arith, few, other, all, same);
   };
 }

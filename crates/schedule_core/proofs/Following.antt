@@ -38,10 +38,6 @@ pub ok_of : {T E X : Type 0} (r : Result T E) → X → OnOk r X
 ok_of (Ok v) x = x
 ok_of (Err e) x = tt
 
-pub no_ok : {T E X : Type 0} (r : Result T E) (P : E → Type 0) → IsErrAnd r P → OnOk r X
-no_ok (Ok v) P exits = absurd exits
-no_ok (Err e) P exits = tt
-
 -- a bad cell that is handed on is the one that a commit met
 pub met_bad : {T : Type 0} (r : Result T RunFault) (why : CommitFault) (key : List ℕ) → IsErrAnd r (λ e. e ≡ of_commit why) → r ≡ Err (fault.BadCell key) → why ≡ commit_fault.BadCell key
 met_bad (Ok v) why key exits is = absurd exits
@@ -152,7 +148,7 @@ module _ {W : Type 0} (tells : W → List Commit → Type 0) (count : W → ℕ)
   followed-then (Ok ok) a b c x y z first second = follows-then a b c x y z first second
   followed-then (Err (fault.BadCell key)) a b c x y z first second = follows-then a b c x y z first second
   followed-then (Err (fault.Follow txid)) a b c x y z first second = fails-then txid a b c x y z first second
-  followed-then (Err fault.Memory) a b c x y z first second = tt
+  followed-then (Err fault.Memory) a b c x y z first second = second ∙ first.quiet
 
   -- a fault is handed on
   pub followed-handed : (r s : Result (Unit {0}) RunFault) (error : RunFault) (old new : List Attempt) (x y : W) → IsErrAnd r (λ e. e ≡ error) → s ≡ Err error → Followed tells count s old new x y → Followed tells count r old new x y
@@ -162,11 +158,11 @@ module _ {W : Type 0} (tells : W → List Commit → Type 0) (count : W → ℕ)
       subst (λ (q : Result (Unit {0}) RunFault). Followed tells count q old new x y) (was ∙ ap (λ (k : RunFault). Err k) same) is
 
   -- want of memory
-  pub followed-short : (r : Result (Unit {0}) RunFault) (old new : List Attempt) (x y : W) → IsErrAnd r (λ e. e ≡ fault.Memory) → Followed tells count r old new x y
-  followed-short (Ok ok) old new x y exits = absurd exits
-  followed-short (Err e) old new x y exits =
+  pub followed-short : (r : Result (Unit {0}) RunFault) (old new : List Attempt) (x y : W) → IsErrAnd r (λ e. e ≡ fault.Memory) → count y ≡ count x → Followed tells count r old new x y
+  followed-short (Ok ok) old new x y exits quiet = absurd exits
+  followed-short (Err e) old new x y exits quiet =
       let same : fault.Memory ≡ e = sym exits in
-      subst (λ (q : Result (Unit {0}) RunFault). Followed tells count q old new x y) (ap (λ (k : RunFault). Err k) same) tt
+      subst (λ (q : Result (Unit {0}) RunFault). Followed tells count q old new x y) (ap (λ (k : RunFault). Err k) same) quiet
 
   -- the parts did not take a commit
   pub followed-commit : (r : Result (Unit {0}) RunFault) (why : CommitFault) (old new : List Attempt) (x y : W) → IsErrAnd r (λ e. e ≡ of_commit why) → Follows tells count old new x y → Followed tells count r old new x y
@@ -174,7 +170,7 @@ module _ {W : Type 0} (tells : W → List Commit → Type 0) (count : W → ℕ)
   followed-commit (Err e) (commit_fault.BadCell key) old new x y exits is =
       let same : fault.BadCell key ≡ e = sym exits in
       subst (λ (q : Result (Unit {0}) RunFault). Followed tells count q old new x y) (ap (λ (k : RunFault). Err k) same) is
-  followed-commit (Err e) commit_fault.Memory old new x y exits is = followed-short (Err e) old new x y exits
+  followed-commit (Err e) commit_fault.Memory old new x y exits is = followed-short (Err e) old new x y exits is.quiet
 
 -- ---- the transaction that is taken next
 
@@ -230,10 +226,10 @@ module _ {W : Type 0} (tells : W → List Commit → Type 0) (count : W → ℕ)
   followed_by None false n fates x y is = is
 
   followed_end : (t : Topology) (cut : Cut) (w : World) (done : Result (Unit {0}) RunFault) (fates : List Attempt) (x y : W) → Followed tells count done [] fates x y → RunFollowed tells count (end_by done (answer_of t cut w)) fates x y
-  followed_end t cut w (Ok ok) fates x y is = followed_by w.desk.exhausted (is_finished t cut w.desk) w.desk.committed fates x y is
+  followed_end t cut w (Ok ok) fates x y is = followed_by w.desk.exhausted (is_finished t cut w.desk) (length (committed w.fates)) fates x y is
   followed_end t cut w (Err (fault.BadCell key)) fates x y is = is
   followed_end t cut w (Err (fault.Follow txid)) fates x y is = is
-  followed_end t cut w (Err fault.Memory) fates x y is = tt
+  followed_end t cut w (Err fault.Memory) fates x y is = is
 
   -- what a follower was told in a run from the start
   pub run_followed : (t : Topology) (cut : Cut) (w : World) (done : Result (Unit {0}) RunFault) (answer : Result Ended Stop) (first last fates : List Attempt) (x y : W)

@@ -13,7 +13,7 @@ use Rattle.event_worlds.specs.Rounds.{round_with}
 use Rattle.event_worlds.specs.Worlds.{Step, coordinator_steps, of_acker, of_task, of_tick}
 use Rattle.schedule_core.proofs.Drives.{breaks-then, drives-still, drives-then, unfollowed-then, wants-then}
 use Rattle.schedule_core.specs.Laws.{Laws}
-use Rattle.schedule_core.specs.Rounding.{closing_steps, opening_steps}
+use Rattle.schedule_core.specs.Rounding.{OpensBoosted, closing_steps, opening_steps}
 use Rattle.schedule_core.specs.Driving.{Breaks, Drives, IsAtRest, IsOfSameRun, WantsMemory}
 use Rattle.schedule_core.specs.Following.{Unfollowed}
 use Rattle.schedule_core.specs.Schedules.{steps_of}
@@ -67,6 +67,11 @@ module _ {I : Type 0} {g : Ghosts I} (tells : I → (ℕ → ℕ) → ℕ → Ty
   goes_there steps old mid new same own =
       subst (λ (u : Topology). Goes tells u custom (cut_in old) (steps u) mid new) same.topology
       (subst (λ (k : Cut). Goes tells (topology_in mid) custom k (steps (topology_in mid)) mid new) same.cut own)
+
+  pub opens_there : (old mid new : Engine I g) → IsOfSameRun old mid → OpensBoosted tells (topology_in mid) custom (cut_in mid) mid new → OpensBoosted tells (topology_in old) custom (cut_in old) mid new
+  opens_there old mid new same own =
+      subst (λ (u : Topology). OpensBoosted tells u custom (cut_in old) mid new) same.topology
+      (subst (λ (k : Cut). OpensBoosted tells (topology_in mid) custom k mid new) same.cut own)
 
   -- each task's event, and then each acker's
   pub goes_opened : (a b c : Engine I g) → IsReady (topology_in a) (cut_in a) b

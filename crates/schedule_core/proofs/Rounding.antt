@@ -1,23 +1,26 @@
 -- Rounds with the ticks that a source answers.
-use Rattle.std.proofs.Common.{◌≡◌, ◌≤◌, ◌<◌, ℕ, zero, suc, ◌+◌, ◌-◌, ◌^◌, Bool, true, false, cond, List, [], ◌∷◌, ◌++◌, All, length, map, drop, get_or, fold, refl, sym, ap, subst, ◌∙◌, append_assoc, append-nil, arith}
+use Rattle.std.proofs.Common.{◌≡◌, ◌≤◌, ◌<◌, ℕ, zero, suc, ◌+◌, ◌-◌, ◌^◌, Bool, true, false, cond, List, [], ◌∷◌, ◌++◌, ◌==◌, All, length, map, drop, get_or, fold, refl, sym, ap, subst, ◌∙◌, append_assoc, append-nil, arith, true≢false}
 use Rattle.std.specs.Prelude.{nat_le, replicate}
 use Rattle.std.specs.List.{AllByRecursion, range_with_len}
 use Rattle.std.proofs.lemmas.Bool.{leb-false}
+use Rattle.std.proofs.lemmas.Nat.Bits.{bit_at-zero}
 use Rattle.std.proofs.lemmas.List.{length-append}
-use Rattle.std.proofs.lemmas.List.Elements.{All-append, All-from_recursion}
+use Rattle.std.proofs.lemmas.List.Elements.{All-from_recursion}
 use Rattle.std.proofs.lemmas.List.FromFn.{fill_by_all, map-range_with_len_more}
 use Rattle.std.proofs.lemmas.List.Sums.{fold-append}
 use Rattle.event_worlds.specs.bolt_ops.RowOp.{Custom}
 use Rattle.event_worlds.specs.commit_turns.Turns.{last_tick}
 use Rattle.event_engine.specs.declared.engine.Engine.{Engine}
 use Rattle.event_engine.specs.Engines.{Gives, Goes, HasOutcomes, shape}
+use Rattle.event_engine.specs.Shutting.{shutting, shutting_steps}
 use Rattle.event_worlds.proofs.counted_items.Each.{each-append}
-use Rattle.event_worlds.specs.Rounds.{round_with, ticks_in}
-use Rattle.event_worlds.specs.Worlds.{Known, Step, World, coordinator_steps, of_acker, of_task, of_tick, outcomes_of, run}
+use Rattle.event_worlds.specs.Rounds.{HasRounds, round_with, ticks_in}
+use Rattle.event_worlds.specs.record_offers.Offers.{is_shut}
+use Rattle.event_worlds.specs.Worlds.{Known, Step, World, coordinator_steps, of_acker, of_open, of_outcome, of_shut, of_task, of_tick, of_turn, outcomes_of, run}
 use Rattle.schedule_core.proofs.Ending.{Allows}
 use Rattle.schedule_core.proofs.TicksOfRuns.{run-tick, ticks-of-rounds}
-use Rattle.schedule_core.specs.Rounding.{Asked, closing_steps}
-use Rattle.schedule_core.specs.Runs.{HasRoundsOf, first_answers, ticks_between}
+use Rattle.schedule_core.specs.Rounding.{Asked, AskedShut, closing_steps}
+use Rattle.schedule_core.specs.Runs.{HasRoundsOf, IsWork, first_answers, ticks_between}
 use Rattle.event_worlds.specs.storm_ids.declared.ids.Ids.{Ghosts}
 use Rattle.storm_ticks.specs.Ticking.{first_answer, handed_on}
 use Rattle.event_worlds.specs.topology_plan.Topology.{Topology, tasks_in_all}
@@ -26,17 +29,56 @@ use Rattle.world_progress.specs.Rounding.{ShutsNone}
 
 -- ---- what a source was asked
 
-first-is : (xs : List ℕ) (i : ℕ) → first_answer (drop i xs) ≡ get_or xs i 0
-first-is [] zero = refl
-first-is [] (suc i) = refl
-first-is (x ∷ xs) zero = refl
-first-is (x ∷ xs) (suc i) = first-is xs i
+first-is : (xs : List ℕ) → first_answer xs ≡ get_or xs 0 0
+first-is [] = refl
+first-is (x ∷ xs) = refl
+
+first-there : (xs : List ℕ) (i : ℕ) → get_or (drop i xs) 0 0 ≡ get_or xs i 0
+first-there [] zero = refl
+first-there [] (suc i) = refl
+first-there (x ∷ xs) zero = refl
+first-there (x ∷ xs) (suc i) = first-there xs i
 
 drop-next : (xs : List ℕ) (i : ℕ) → drop 1 (drop i xs) ≡ drop (suc i) xs
 drop-next [] zero = refl
 drop-next [] (suc i) = refl
 drop-next (x ∷ xs) zero = refl
 drop-next (x ∷ xs) (suc i) = drop-next xs i
+
+-- a source that gave the first of its answers to come gave one more
+module _ {T : Type 0} (telling : T → List ℕ → Type 0) (answers : List ℕ) (n : ℕ) (before mid after : T)
+    (first : (xs : List ℕ) → telling before xs → answers ≡ first_answers (length answers) xs)
+    (rest : (xs : List ℕ) → telling before xs → telling mid (drop (length answers) xs)) where
+  more-first : ((xs : List ℕ) → telling mid xs → n ≡ get_or xs 0 0)
+      → (xs : List ℕ) → telling before xs → answers ++ n ∷ [] ≡ first_answers (length (answers ++ n ∷ [])) xs
+  more-first told xs is =
+      let here : n ≡ get_or xs (length answers) 0 =
+      told (drop (length answers) xs) (rest xs is) ∙ first-there xs (length answers) in
+      (λ i. first xs is i ++ here i ∷ [])
+      ∙ sym (map-range_with_len_more (λ (k : ℕ). get_or xs k 0) 0 (length answers) (length answers) (omega arith))
+      ∙ ap (λ (k : ℕ). first_answers k xs) (sym (length-append answers (n ∷ [])))
+
+  more-rest : ((xs : List ℕ) → telling mid xs → telling after (drop 1 xs))
+      → (xs : List ℕ) → telling before xs → telling after (drop (length (answers ++ n ∷ [])) xs)
+  more-rest tells xs is =
+      let many : suc (length answers) ≡ length (answers ++ n ∷ []) =
+      (let e = length-append answers (n ∷ []) in omega arith) in
+      subst (telling after) (drop-next xs (length answers) ∙ ap (λ (k : ℕ). drop k xs) many)
+      (tells (drop (length answers) xs) (rest xs is))
+
+module _ {V : Type 0} (availing : V → List ℕ → Type 0) where
+  pub asked_shut-none : (v : V) → AskedShut availing [] v v
+  asked_shut-none v = record { first = λ to_come told. refl; rest = λ to_come told. told }
+
+  -- it was asked once more
+  pub asked_shut-more : (shuts : List ℕ) (n : ℕ) (before mid after : V) → AskedShut availing shuts before mid
+      → ((xs : List ℕ) → availing mid xs → n ≡ get_or xs 0 0)
+      → ((xs : List ℕ) → availing mid xs → availing after (drop 1 xs))
+      → AskedShut availing (shuts ++ n ∷ []) before after
+  asked_shut-more shuts n before mid after so told rest = record {
+    first = more-first availing shuts n before mid after so.first so.rest told;
+    rest = more-rest availing shuts n before mid after so.first so.rest rest;
+  }
 
 module _ {T : Type 0} (handed : T → ℕ) (ticking : T → List ℕ → Type 0) where
   pub asked-none : (x : T) → Asked handed ticking [] x x
@@ -56,20 +98,8 @@ module _ {T : Type 0} (handed : T → ℕ) (ticking : T → List ℕ → Type 0)
     handed_out =
         counted ∙ ap (λ (k : ℕ). handed_on k n) so.handed_out
         ∙ sym (fold-append handed_on (handed before) answers (n ∷ []));
-    first = λ to_come is.
-        let here : n ≡ get_or to_come (length answers) 0 =
-        told (drop (length answers) to_come) (so.rest to_come is)
-        ∙ first-is to_come (length answers) in
-        (λ i. so.first to_come is i ++ here i ∷ [])
-        ∙ sym (map-range_with_len_more (λ (k : ℕ). get_or to_come k 0) 0 (length answers)
-        (length answers) (omega arith))
-        ∙ ap (λ (k : ℕ). first_answers k to_come) (sym (length-append answers (n ∷ [])));
-    rest = λ to_come is.
-        let many : suc (length answers) ≡ length (answers ++ n ∷ []) =
-        (let e = length-append answers (n ∷ []) in omega arith) in
-        subst (ticking after)
-        (drop-next to_come (length answers) ∙ ap (λ (k : ℕ). drop k to_come) many)
-        (rest (drop (length answers) to_come) (so.rest to_come is));
+    first = more-first ticking answers n before mid after so.first so.rest (λ xs is. told xs is ∙ first-is xs);
+    rest = more-rest ticking answers n before mid after so.first so.rest rest;
   }
 
 -- ---- ticks of rounds
@@ -122,11 +152,94 @@ open-round t n =
     open-ticks zero = tt
     open-ticks (suc k) = (tt, open-ticks k)
 
--- one more round, behind steps that shut none
-pub open-round-more : (t : Topology) (steps quiet : List Step) (n : ℕ) → All ShutsNone steps → AllByRecursion ShutsNone quiet → All ShutsNone (steps ++ (quiet ++ round_with t n))
-open-round-more t steps quiet n before quietly =
-    All-append ShutsNone steps (quiet ++ round_with t n) before
-    (All-from_recursion ShutsNone (quiet ++ round_with t n) (each-append ShutsNone quiet (round_with t n) quietly (open-round t n)))
+-- ---- steps before a round
+
+-- steps of tasks and ackers have no ticks
+pub no-ticks-work : (events : List Step) → AllByRecursion IsWork events → ticks_in events ≡ 0
+no-ticks-work [] work = refl
+no-ticks-work (of_task n ∷ events) work = no-ticks-work events work.1
+no-ticks-work (of_acker n ∷ events) work = no-ticks-work events work.1
+no-ticks-work (of_turn ∷ events) work = absurd work.0
+no-ticks-work (of_outcome ∷ events) work = absurd work.0
+no-ticks-work (of_tick ∷ events) work = absurd work.0
+no-ticks-work (of_shut q ∷ events) work = absurd work.0
+no-ticks-work (of_open q ∷ events) work = absurd work.0
+
+-- and shut no partition
+pub open-work : (events : List Step) → AllByRecursion IsWork events → AllByRecursion ShutsNone events
+open-work [] work = tt
+open-work (of_task n ∷ events) work = (tt, open-work events work.1)
+open-work (of_acker n ∷ events) work = (tt, open-work events work.1)
+open-work (of_turn ∷ events) work = absurd work.0
+open-work (of_outcome ∷ events) work = absurd work.0
+open-work (of_tick ∷ events) work = absurd work.0
+open-work (of_shut q ∷ events) work = absurd work.0
+open-work (of_open q ∷ events) work = absurd work.0
+
+-- steps that shut and open partitions have no ticks
+no-ticks-shutting : (shut : ℕ) (qs : List ℕ) → ticks_in (map (shutting shut) qs) ≡ 0
+no-ticks-shutting shut [] = refl
+no-ticks-shutting shut (q ∷ qs) = ticks-of-rounds (shutting shut q ∷ []) (map (shutting shut) qs) ∙ (λ i. one (is_shut shut q) i + no-ticks-shutting shut qs i)
+  where
+    one : (b : Bool) → ticks_in (cond b (of_shut q) (of_open q) ∷ []) ≡ 0
+    one true = refl
+    one false = refl
+
+-- and shut none by no bit
+open-shutting : (shut : ℕ) (qs : List ℕ) → shut ≡ 0 → AllByRecursion ShutsNone (map (shutting shut) qs)
+open-shutting shut [] none = tt
+open-shutting shut (q ∷ qs) none = (one (is_shut shut q) (ap (λ (n : ℕ). is_shut n q) none ∙ ap (λ (bit : ℕ). bit == 1) (bit_at-zero q)), open-shutting shut qs none)
+  where
+    one : (b : Bool) → b ≡ false → ShutsNone (cond b (of_shut q) (of_open q))
+    one true is = absurd (true≢false is)
+    one false is = tt
+
+-- what comes before a round has no ticks
+pub no-ticks-before : (partitions shut : ℕ) (events : List Step) → AllByRecursion IsWork events → ticks_in (shutting_steps partitions shut ++ events) ≡ 0
+no-ticks-before partitions shut events work =
+    ticks-of-rounds (shutting_steps partitions shut) events ∙ (λ i. no-ticks-shutting shut (range_with_len 0 partitions) i + no-ticks-work events work i)
+
+-- and shuts none by no bit, or where there is no partition
+pub open-before : (partitions shut : ℕ) (events : List Step) → (0 < partitions → shut ≡ 0) → AllByRecursion IsWork events → AllByRecursion ShutsNone (shutting_steps partitions shut ++ events)
+open-before zero shut events none work = open-work events work
+open-before (suc p) shut events none work =
+    each-append ShutsNone (shutting_steps (suc p) shut) events (open-shutting shut (range_with_len 0 (suc p)) (none (omega arith))) (open-work events work)
+
+-- the steps of rounds, where all partitions are told to be open
+open-rounds : (t : Topology) (answers shuts : List ℕ) (steps : List Step) → HasRoundsOf t answers shuts steps → (0 < t.partitions → AllByRecursion (λ (shut : ℕ). shut ≡ 0) shuts) → AllByRecursion ShutsNone steps
+open-rounds t [] [] steps has none = subst (AllByRecursion ShutsNone) (sym has) tt
+open-rounds t [] (shut ∷ shuts) steps has none = absurd has
+open-rounds t (n ∷ answers) [] steps has none = absurd has
+open-rounds t (n ∷ answers) (shut ∷ shuts) steps has none =
+    subst (AllByRecursion ShutsNone) (sym (has.2 ∙ sym (append_assoc (shutting_steps t.partitions shut) has.0 (round_with t n ++ has.1))))
+    (each-append ShutsNone (shutting_steps t.partitions shut ++ has.0) (round_with t n ++ has.1) (open-before t.partitions shut has.0 (λ some. (none some).0) has.3)
+    (each-append ShutsNone (round_with t n) has.1 (open-round t n) (open-rounds t answers shuts has.1 has.4 (λ some. (none some).1))))
+
+-- the answers of a source that tells that all partitions are open
+all-open : (shuts : List ℕ) → shuts ≡ first_answers (length shuts) [] → AllByRecursion (λ (shut : ℕ). shut ≡ 0) shuts
+all-open shuts are = subst (AllByRecursion (λ (shut : ℕ). shut ≡ 0)) (sym are) (zeros (range_with_len 0 (length shuts)))
+  where
+    zeros : (ks : List ℕ) → AllByRecursion (λ (shut : ℕ). shut ≡ 0) (map (λ (k : ℕ). get_or [] k 0) ks)
+    zeros [] = tt
+    zeros (k ∷ ks) = (refl, zeros ks)
+
+-- rounds shut no partition where all are told to be open, or where there is none
+pub rounds-open : (t : Topology) (availing : List ℕ → Type 0) (answers shuts : List ℕ) (steps : List Step) → ((xs : List ℕ) → availing xs → shuts ≡ first_answers (length shuts) xs) → HasRoundsOf t answers shuts steps → (0 < t.partitions → availing []) → All ShutsNone steps
+rounds-open t availing answers shuts steps first has open_all = All-from_recursion ShutsNone steps (open-rounds t answers shuts steps has (λ some. all-open shuts (first [] (open_all some))))
+
+-- ---- rounds
+
+-- they have a whole round for each answer
+pub has-rounds : (t : Topology) (answers shuts : List ℕ) (steps : List Step) → HasRoundsOf t answers shuts steps → HasRounds t (length answers) steps
+has-rounds t [] shuts steps has = tt
+has-rounds t (n ∷ answers) [] steps has = absurd has
+has-rounds t (n ∷ answers) (shut ∷ shuts) steps has = (
+  shutting_steps t.partitions shut ++ has.0,
+  has.1,
+  n,
+  has.2 ∙ sym (append_assoc (shutting_steps t.partitions shut) has.0 (round_with t n ++ has.1)),
+  has-rounds t answers shuts has.1 has.4,
+)
 
 pub total : List ℕ → ℕ
 total [] = 0
@@ -142,39 +255,58 @@ total-more [] n = omega arith
 total-more (m ∷ answers) n = let rest = total-more answers n in omega arith
 
 -- the steps have no other ticks
-ticks-of-answers : (t : Topology) (answers : List ℕ) (steps : List Step) → HasRoundsOf t answers steps
+ticks-of-answers : (t : Topology) (answers shuts : List ℕ) (steps : List Step) → HasRoundsOf t answers shuts steps
     → ticks_in steps ≡ total answers
 unfolding total
-ticks-of-answers t [] steps has = has
-ticks-of-answers t (n ∷ ns) steps has =
-    let a = ticks-of-rounds has.0 (round_with t n ++ has.1) in
-    let b = ticks-of-rounds (round_with t n) has.1 in
-    let c = ticks-of-round t n in
-    let d = ticks-of-answers t ns has.1 has.4 in
-    let e = ap ticks_in has.2 in
-    let f = has.3 in omega arith
+ticks-of-answers t [] [] steps has = ap ticks_in has
+ticks-of-answers t [] (shut ∷ shuts) steps has = absurd has
+ticks-of-answers t (n ∷ ns) [] steps has = absurd has
+ticks-of-answers t (n ∷ ns) (shut ∷ shuts) steps has =
+    let front : List Step = shutting_steps t.partitions shut in
+    let a = ticks-of-rounds front (has.0 ++ (round_with t n ++ has.1)) in
+    let b = ticks-of-rounds has.0 (round_with t n ++ has.1) in
+    let c = ticks-of-rounds (round_with t n) has.1 in
+    let d = ticks-of-round t n in
+    let e = ticks-of-answers t ns shuts has.1 has.4 in
+    let f = ap ticks_in has.2 in
+    let h = no-ticks-shutting shut (range_with_len 0 t.partitions) in
+    let k = no-ticks-work has.0 has.3 in omega arith
 
--- one more round, behind steps without ticks
-pub one-round-more : (t : Topology) (answers : List ℕ) (steps quiet : List Step) (n : ℕ)
-    → ticks_in quiet ≡ 0 → HasRoundsOf t answers steps
-    → HasRoundsOf t (answers ++ n ∷ []) (steps ++ (quiet ++ round_with t n))
-one-round-more t [] steps quiet n none has = (
-  steps ++ quiet,
-  [],
-  sym (append_assoc steps quiet (round_with t n))
-      ∙ ap (λ (zs : List Step). (steps ++ quiet) ++ zs) (sym (append-nil (round_with t n))),
-  ticks-of-rounds steps quiet ∙ (λ i. has i + none i),
-  refl,
-)
-one-round-more t (m ∷ ms) steps quiet n none has =
-    let more : List Step = quiet ++ round_with t n in (
+-- what comes before a round
+abbrev pub before_round : ℕ → List Step → Topology → List Step
+before_round shut events t = shutting_steps t.partitions shut ++ events
+
+-- and the round behind it
+abbrev pub turn_of : (shut : ℕ) → List Step → (n : ℕ) → Topology → List Step
+turn_of shut events n t = before_round shut events t ++ round_with t n
+
+-- one more round
+pub one-round-more : (t : Topology) (answers shuts : List ℕ) (steps : List Step) (shut : ℕ) (events : List Step) (n : ℕ)
+    → AllByRecursion IsWork events → HasRoundsOf t answers shuts steps
+    → HasRoundsOf t (answers ++ n ∷ []) (shuts ++ shut ∷ []) (steps ++ turn_of shut events n t)
+one-round-more t [] [] steps shut events n work has =
+    let front : List Step = shutting_steps t.partitions shut in (
+      events,
+      [],
+      ap (λ (zs : List Step). zs ++ turn_of shut events n t) has
+          ∙ append_assoc front events (round_with t n)
+          ∙ ap (λ (zs : List Step). front ++ (events ++ zs)) (sym (append-nil (round_with t n))),
+      work,
+      refl,
+    )
+one-round-more t [] (s ∷ shuts) steps shut events n work has = absurd has
+one-round-more t (m ∷ ms) [] steps shut events n work has = absurd has
+one-round-more t (m ∷ ms) (s ∷ shuts) steps shut events n work has =
+    let front : List Step = shutting_steps t.partitions s in
+    let more : List Step = turn_of shut events n t in (
       has.0,
       has.1 ++ more,
       ap (λ (zs : List Step). zs ++ more) has.2
-          ∙ append_assoc has.0 (round_with t m ++ has.1) more
-          ∙ ap (λ (zs : List Step). has.0 ++ zs) (append_assoc (round_with t m) has.1 more),
+          ∙ append_assoc front (has.0 ++ (round_with t m ++ has.1)) more
+          ∙ ap (λ (zs : List Step). front ++ zs) (append_assoc has.0 (round_with t m ++ has.1) more)
+          ∙ ap (λ (zs : List Step). front ++ (has.0 ++ zs)) (append_assoc (round_with t m) has.1 more),
       has.3,
-      one-round-more t ms has.1 quiet n none has.4,
+      one-round-more t ms shuts has.1 shut events n work has.4,
     )
 
 -- ---- ticks that were handed out
@@ -201,11 +333,11 @@ answered-between answers before after is n most last = by (nat_le (2 ^ 64 - 1) a
         omega arith
 
 -- the coordinator may count what was handed out between
-pub allows-between : (t : Topology) (answers : List ℕ) (steps : List Step) (before after : ℕ)
-    → HasRoundsOf t answers steps → after ≡ fold handed_on before answers
+pub allows-between : (t : Topology) (answers shuts : List ℕ) (steps : List Step) (before after : ℕ)
+    → HasRoundsOf t answers shuts steps → after ≡ fold handed_on before answers
     → Allows steps (ticks_between before after)
-allows-between t answers steps before after has is n most last =
-    let ticks = ticks-of-answers t answers steps has in
+allows-between t answers shuts steps before after has is n most last =
+    let ticks = ticks-of-answers t answers shuts steps has in
     answered-between answers before after is n (omega arith) last
 
 -- ---- ticks of an engine

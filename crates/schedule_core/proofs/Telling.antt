@@ -1,8 +1,8 @@
 -- What a run tells of its answer, its fates and its parts, from what it has come to. It names no
 -- step.
-use Rattle.std.proofs.Common.{◌≡◌, ◌≤◌, ℕ, Bool, true, false, List, [], ◌∷◌, ◌++◌, All, Option, None, Some, Result, Ok, Err, refl, sym, ap, subst, ◌∙◌, append-nil, arith}
+use Rattle.std.proofs.Common.{◌≡◌, ◌≤◌, ℕ, Bool, true, false, List, [], ◌∷◌, ◌++◌, All, length, Option, None, Some, Result, Ok, Err, refl, sym, ap, subst, ◌∙◌, append-nil, arith}
 use Rattle.std.specs.Prelude.{OnErr, OnOk}
-use Rattle.event_worlds.specs.attempt_fates.Fates.{DropsFollow, IsOnce, committed_batches}
+use Rattle.event_worlds.specs.attempt_fates.Fates.{DropsFollow, IsOnce, committed, committed_batches}
 use Rattle.event_worlds.specs.attempt_fates.declared.fates.Attempt.{Attempt}
 use Rattle.batch_commits.specs.Standing.{AllButLastAreCounted, HasStrangeAt, PartsStand}
 use Rattle.event_worlds.specs.bolt_ops.RowOp.{Custom, IsCustom}
@@ -42,7 +42,7 @@ use Rattle.event_worlds.specs.topology_plan.Topology.{Topology}
 use Rattle.event_worlds.specs.taken_records.Cuts.{Cut}
 
 -- what is answered of what the coordinator knows
-answers_by : (t : Topology) (cut : Cut) (d : Desk) (ticks : ℕ) (fates : List Attempt) → AnswersFor t cut d ticks fates → (o : Option ℕ) (b : Bool) → d.exhausted ≡ o → is_finished t cut d ≡ b → Answers t cut ticks fates (answer_by o b d.committed)
+answers_by : (t : Topology) (cut : Cut) (d : Desk) (ticks : ℕ) (fates : List Attempt) → AnswersFor t cut d ticks fates → (o : Option ℕ) (b : Bool) → d.exhausted ≡ o → is_finished t cut d ≡ b → Answers t cut ticks fates (answer_by o b (length (committed fates)))
 answers_by t cut d ticks fates from (Some txid) b out is = let r = from.ran_out txid out in record { all_aborted = r.0; none_committed = r.1 }
 answers_by t cut d ticks fates from None true out is = from.whole is
 answers_by t cut d ticks fates from None false out is = from.unfinished is
@@ -164,7 +164,7 @@ module _ {I S : Type 0} {g : Ghosts I} (holds : S → CellMap → Type 0) (count
       failed_in_turn = λ ok. come_kept.fails_in_turn;
       drops = λ ok. come_kept.drops;
       strange = come.strange;
-      bad_cell = λ key is_bad. absurd (no_bad_cell (shape e).desk.exhausted (is_finished t cut (shape e).desk) (shape e).desk.committed key is_bad);
+      bad_cell = λ key is_bad. absurd (no_bad_cell (shape e).desk.exhausted (is_finished t cut (shape e).desk) (length (committed e.fates)) key is_bad);
       stands = stands_behind holds count t custom cut laws e.fates was is come.stands;
       stands_first = stands_first holds count t custom cut laws e.fates was is (stands_behind holds count t custom cut laws e.fates was is come.stands);
       counted = λ ok. come.counted;
@@ -185,7 +185,7 @@ module _ {I S : Type 0} {g : Ghosts I} (holds : S → CellMap → Type 0) (count
       bad_cell = λ key is_bad. absurd (follow_no_cell (Err (stop.Follow txid)) txid key refl is_bad);
       stands = stands_behind holds count t custom cut laws e.fates was is come.stands;
       stands_first = stands_first holds count t custom cut laws e.fates was is (stands_behind holds count t custom cut laws e.fates was is come.stands);
-      counted = λ ok. absurd ok;
+      counted = λ ok. come.counted;
       but_last = laws.all_told e.fates was is come.counted;
       kept = kept;
     }
@@ -299,7 +299,7 @@ module _ {I S : Type 0} {g : Ghosts I} (told : (ℕ → ℕ → ℕ) → Type 0)
     pub less_at_end : (ticks txid : ℕ) (done : Result (Unit {0}) RunFault) (e0 e : Engine I g) (was is : List (StatePart S)) (answer : Result Ended Stop) (fates : List Attempt) → WentOn ticks done e0 e was is
         → answer ≡ end_by done (answer_of (topology_in e) (cut_in e) (shape e)) → fates ≡ e.fates → answer ≡ Err (stop.Follow txid) → StandLess holds t custom cut fates was is
     less_at_end ticks txid (Ok ok) e0 e was is answer fates went answer_is fates_are is_follow =
-        absurd (no_follower (shape e).desk.exhausted (is_finished (topology_in e) (cut_in e) (shape e).desk) (shape e).desk.committed txid (sym answer_is ∙ is_follow))
+        absurd (no_follower (shape e).desk.exhausted (is_finished (topology_in e) (cut_in e) (shape e).desk) (length (committed e.fates)) txid (sym answer_is ∙ is_follow))
     less_at_end ticks txid (Err (fault.BadCell key)) e0 e was is answer fates went answer_is fates_are is_follow = absurd (follow_no_cell answer txid key is_follow answer_is)
     less_at_end ticks txid (Err fault.Memory) e0 e was is answer fates went answer_is fates_are is_follow = absurd (let a : answer ≡ Err stop.Memory = answer_is in let b = is_follow in cc)
     less_at_end ticks txid (Err (fault.Follow own)) e0 e was is answer fates went answer_is fates_are is_follow =

@@ -58,20 +58,20 @@ module _ {W : Type 0} (tells : W → List Commit → Type 0) (takes : W → Opti
   TellsOf Done commit (Ok done) was is = WasTold commit was is
   TellsOf Done commit (Err (fault.BadCell key)) was is = ⊥
   TellsOf Done commit (Err (fault.Follow txid)) was is = FailedAt txid commit was is
-  TellsOf Done commit (Err fault.Memory) was is = Unit {0}
+  TellsOf Done commit (Err fault.Memory) was is = count is ≡ count was
   TellsOf (Failed component part before after) commit (Ok done) was is = is ≡ was
   TellsOf (Failed component part before after) commit (Err why) was is = ⊥
 
 module _ {W : Type 0} (tells : W → List Commit → Type 0) (count : W → ℕ) where
   -- ---- steps, and runs
 
-  -- What a follower was told while attempts ended, whatever came of the steps. Nothing is said
-  -- where memory was wanted.
+  -- What a follower was told while attempts ended, whatever came of the steps. Where memory was
+  -- wanted it is known that it did not fail.
   abbrev pub Followed : Result (Unit {0}) RunFault → (old new : List Attempt) → W → W → Type 0
   Followed (Ok done) old new was is = Follows tells count old new was is
   Followed (Err (fault.BadCell key)) old new was is = Follows tells count old new was is
   Followed (Err (fault.Follow txid)) old new was is = FailsAtLast tells count txid old new was is
-  Followed (Err fault.Memory) old new was is = Unit {0}
+  Followed (Err fault.Memory) old new was is = count is ≡ count was
 
   -- the same of a run that left these fates
   abbrev pub RunFollowed : Result Ended Stop → List Attempt → W → W → Type 0
@@ -79,7 +79,7 @@ module _ {W : Type 0} (tells : W → List Commit → Type 0) (count : W → ℕ)
   RunFollowed (Err (stop.Exhausted txid)) fates was is = Follows tells count [] fates was is
   RunFollowed (Err (stop.BadCell key)) fates was is = Follows tells count [] fates was is
   RunFollowed (Err (stop.Follow txid)) fates was is = FailsAtLast tells count txid [] fates was is
-  RunFollowed (Err stop.Memory) fates was is = Unit {0}
+  RunFollowed (Err stop.Memory) fates was is = count is ≡ count was
 
 module _ {I S : Type 0} {g : Ghosts I} (tells : I → (ℕ → ℕ) → ℕ → Type 0)
     (holds : S → CellMap → Type 0) (count : S → ℕ) (t : Topology) (custom : Custom) (cut : Cut)

@@ -1,6 +1,6 @@
 -- What a run of steps over the parts of all states comes to. This project's own.
 use Rattle.std.specs.Prelude.{◌≡◌, ◌<◌, ◌≤◌, ◌+◌, ◌-◌, ◌^◌, ℕ, false, List, [], ◌∷◌, ◌++◌, Result, Ok, Err, All, length, map, fold, get_or, nat_le, if◌then◌else◌}
-use Rattle.std.specs.List.{range_with_len}
+use Rattle.std.specs.List.{AllByRecursion, range_with_len}
 use Rattle.event_worlds.specs.attempt_fates.declared.fates.Attempt.{Attempt}
 use Rattle.event_worlds.specs.attempt_fates.Fates.{DropsFollow, IsOnce, IsWhole, aborts_of, committed_batches, committed_txids}
 use Rattle.batch_commits.specs.Standing.{AllButLastAreCounted, FailuresAreCounted, HasStrangeAt, PartsStand, batches_in}
@@ -10,14 +10,15 @@ use Rattle.event_worlds.specs.commit_order.declared.stop.Stop.TheVariants as sto
 use Rattle.event_worlds.specs.commit_turns.Kept.{FailsInTurn}
 use Rattle.event_worlds.specs.commit_turns.Turns.{last_tick}
 use Rattle.event_worlds.specs.Accounted.{AreCaused}
-use Rattle.event_worlds.specs.Worlds.{Step}
+use Rattle.event_worlds.specs.Worlds.{Step, of_acker, of_open, of_outcome, of_shut, of_task, of_tick, of_turn}
+use Rattle.event_engine.specs.Shutting.{shutting_steps}
 use Rattle.schedule_core.specs.declared.ended.Ended.{Ended}
 use Rattle.schedule_core.specs.declared.ended.Ended.TheVariants as ending
 use Rattle.event_worlds.specs.record_offers.Offers.{is_gone}
 use Rattle.event_worlds.specs.record_spans.declared.span.Span.{Span}
 use Rattle.schedule_core.specs.Driving.{AreBefore, AreKept}
 use Rattle.schedule_core.specs.Following.{EndsByCommit}
-use Rattle.schedule_core.specs.Schedules.{HadMemory, IsAnswer, IsOfWorld}
+use Rattle.schedule_core.specs.Schedules.{EndsEach, HadMemory, IsAnswer, IsOfWorld}
 use Rattle.event_worlds.specs.state_parts.Commits.{IsBadAt}
 use Rattle.event_worlds.specs.state_parts.declared.parts.StatePart.{StatePart}
 use Rattle.event_worlds.specs.state_parts.Standing.{IsEmpty}
@@ -27,7 +28,7 @@ use Rattle.event_worlds.specs.taken_records.Cuts.{Cut}
 use Rattle.event_worlds.specs.taken_records.Taken.{times_in}
 use Rattle.event_worlds.specs.topology_plan.Topology.{Topology}
 use Rattle.world_progress.specs.Rounding.{ShutsNone}
-use Rattle.event_worlds.specs.Rounds.{round_with, ticks_in}
+use Rattle.event_worlds.specs.Rounds.{round_with}
 
 -- how many batches the fates say were committed
 abbrev pub committed_count : List Attempt → ℕ
@@ -45,17 +46,17 @@ pub record IsLeft (cut : Cut) (fates : List Attempt) (n : ℕ) : Type 0 where
   pub fresh : is_gone cut.gone n ≡ false
   pub in_none : times_in (committed_batches fates) n ≡ 0
 
--- Some record is left uncommitted, and this is the last transaction that is committed.
-pub record IsUnfinished (cut : Cut) (txid : ℕ) (fates : List Attempt) : Type 0 where
-  pub committed : cut.start + committed_count fates ≡ txid
+-- Some record is left uncommitted, and so many batches were committed since the start.
+pub record IsUnfinished (cut : Cut) (count : ℕ) (fates : List Attempt) : Type 0 where
+  pub committed : committed_count fates ≡ count
   pub some_left : (n : ℕ) × IsLeft cut fates n
   -- without partitions there are more batches
-  pub more_batches : cut.partitions ≡ 0 → txid < batches_in cut
+  pub more_batches : cut.partitions ≡ 0 → cut.start + count < batches_in cut
 
 -- What the answer of a run says of its fates.
 abbrev pub Answers : Topology → Cut → ℕ → List Attempt → Result Ended Stop → Type 0
 Answers t cut ticks fates (Ok ending.All) = IsWhole cut ticks fates
-Answers t cut ticks fates (Ok (ending.Unfinished txid)) = IsUnfinished cut txid fates
+Answers t cut ticks fates (Ok (ending.Unfinished count)) = IsUnfinished cut count fates
 Answers t cut ticks fates (Err (stop.Exhausted txid)) = HasRunOut t cut txid fates
 Answers t cut ticks fates (Err (stop.BadCell key)) = Unit {0}
 Answers t cut ticks fates (Err (stop.Follow txid)) = EndsByCommit txid fates
@@ -93,7 +94,7 @@ pub record RunTells {S : Type 0} (holds : S → CellMap → Type 0) (count : S �
       → PartsStand holds t custom cut (committed_batches fates) new
   -- no store failed but at the commits that failed, and, where a fault stopped the run, at the last
   -- one that was tried
-  pub counted : IsAnswer answer → FailuresAreCounted count fates old new
+  pub counted : EndsEach answer → FailuresAreCounted count fates old new
   pub but_last : AllButLastAreCounted count fates old new
   -- the parts can be given back
   pub kept : AreKept holds old new
@@ -110,13 +111,28 @@ pub record RunComes {S : Type 0} (holds : S → CellMap → Type 0) (count : S �
 
 -- ---- rounds
 
--- The steps have a whole round for each of these numbers of ticks, in order, with that many ticks
--- before the coordinator's step, and no other ticks.
-abbrev pub HasRoundsOf : Topology → List ℕ → List Step → Type 0
-HasRoundsOf t [] steps = ticks_in steps ≡ 0
-HasRoundsOf t (ticks ∷ answers) steps =
-    (first rest : List Step) × (steps ≡ first ++ (round_with t ticks ++ rest))
-    × (ticks_in first ≡ 0) × HasRoundsOf t answers rest
+-- a step of a task or of an acker
+abbrev pub IsWork : Step → Type 0
+IsWork (of_task n) = Unit {0}
+IsWork (of_acker n) = Unit {0}
+IsWork of_turn = ⊥
+IsWork of_outcome = ⊥
+IsWork of_tick = ⊥
+IsWork (of_shut q) = ⊥
+IsWork (of_open q) = ⊥
+
+-- The steps are one round after another, each of one of these numbers of ticks and one of these
+-- answers which partitions are shut, in order. Before a round each partition is shut or opened by
+-- the answer, and then tasks and ackers have steps; in it that many ticks come before the
+-- coordinator's step.
+abbrev pub HasRoundsOf : Topology → (answers shuts : List ℕ) → List Step → Type 0
+HasRoundsOf t [] [] steps = steps ≡ []
+HasRoundsOf t [] (shut ∷ shuts) steps = ⊥
+HasRoundsOf t (ticks ∷ answers) [] steps = ⊥
+HasRoundsOf t (ticks ∷ answers) (shut ∷ shuts) steps =
+    (events rest : List Step)
+    × (steps ≡ shutting_steps t.partitions shut ++ (events ++ (round_with t ticks ++ rest)))
+    × AllByRecursion IsWork events × HasRoundsOf t answers shuts rest
 
 -- how many ticks were handed out between two counts of them, which end at 2^64 - 1
 abbrev pub ticks_between : ℕ → ℕ → ℕ
@@ -132,22 +148,26 @@ abbrev pub ended : Result (Unit {0}) Stop → Result Ended Stop
 ended (Ok done) = Ok ending.All
 ended (Err why) = Err why
 
--- A run of rounds, which asked a source of ticks once a round, and over sources of ids and of ticks
--- that tell came to what these tell.
+-- A run of rounds, which asked once a round which partitions are shut and how many ticks passed, and
+-- over sources that tell came to what these tell.
 pub record RoundsCome {S : Type 0} (told : (ℕ → ℕ → ℕ) → Type 0) (ticking : List ℕ → Type 0)
-    (tells : S → CellMap → Type 0) (count : S → ℕ) (t : Topology) (custom : Custom) (cut : Cut)
-    (before after : ℕ) (answer : Result (Unit {0}) Stop) (fates : List Attempt)
-    (old new : List (StatePart S)) : Type 0 where
+    (availing : List ℕ → Type 0) (tells : S → CellMap → Type 0) (count : S → ℕ) (t : Topology)
+    (custom : Custom) (cut : Cut) (before after : ℕ) (answer : Result (Unit {0}) Stop)
+    (fates : List Attempt) (old new : List (StatePart S)) : Type 0 where
   -- what the source of ticks answered
   pub answers : List ℕ
   pub handed_out : after ≡ fold handed_on before answers
   pub asked : (to_come : List ℕ) → ticking to_come
       → answers ≡ first_answers (length answers) to_come
+  -- and which partitions were told to be shut
+  pub shuts : List ℕ
+  pub asked_shut : (to_come : List ℕ) → availing to_come
+      → shuts ≡ first_answers (length shuts) to_come
   -- the steps
   pub steps : List Step
-  pub rounds : HasRoundsOf t answers steps
-  -- they shut no partition
-  pub shut_none : All ShutsNone steps
+  pub rounds : HasRoundsOf t answers shuts steps
+  -- where all partitions are told to be open they shut none
+  pub shut_none : (0 < t.partitions → availing []) → All ShutsNone steps
   pub comes : RunComes tells count t custom cut steps (ticks_between before after) (ended answer)
       fates old new
   pub of_told : (words : ℕ → ℕ → ℕ) → told words → IsAnswer (ended answer)

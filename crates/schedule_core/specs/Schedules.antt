@@ -1,7 +1,8 @@
 -- The steps of a schedule's events, and what a world answers. This project's own.
-use Rattle.std.specs.Prelude.{◌≡◌, ℕ, Bool, true, false, List, [], ◌∷◌, Option, None, Some, Result, Ok, Err}
+use Rattle.std.specs.Prelude.{◌≡◌, ℕ, Bool, true, false, List, [], ◌∷◌, Option, None, Some, Result, Ok, Err, length}
 use Rattle.std.specs.List.{flat_map}
 use Rattle.event_worlds.specs.attempt_fates.declared.fates.Attempt.{Attempt}
+use Rattle.event_worlds.specs.attempt_fates.Fates.{committed}
 use Rattle.event_worlds.specs.bolt_ops.RowOp.{Custom}
 use Rattle.event_worlds.specs.commit_order.declared.stop.Stop.{Stop}
 use Rattle.event_worlds.specs.commit_order.declared.stop.Stop.TheVariants.{Exhausted, BadCell, Follow, Memory}
@@ -30,14 +31,15 @@ all_steps t events = flat_map (steps_of t) events
 -- ---- answers
 
 abbrev pub answer_by : Option ℕ → Bool → ℕ → Result Ended Stop
-answer_by (Some txid) finished committed = Err (Exhausted txid)
-answer_by None true committed = Ok All
-answer_by None false committed = Ok (Unfinished committed)
+answer_by (Some txid) finished count = Err (Exhausted txid)
+answer_by None true count = Ok All
+answer_by None false count = Ok (Unfinished count)
 
 -- as many attempts of a transaction aborted as a plan allows, or no record is left uncommitted, or
--- some is, and this is the last transaction that is committed
+-- some is, and so many batches were committed
 abbrev pub answer_of : Topology → Cut → World → Result Ended Stop
-answer_of t cut w = answer_by w.desk.exhausted (is_finished t cut w.desk) w.desk.committed
+answer_of t cut w =
+    answer_by w.desk.exhausted (is_finished t cut w.desk) (length (committed w.fates))
 
 -- the answer is one that a world gives: it is no want of memory, no bad cell and no fault of a
 -- follower
@@ -55,6 +57,14 @@ HadMemory (Err (Exhausted txid)) = Unit {0}
 HadMemory (Err (BadCell key)) = Unit {0}
 HadMemory (Err (Follow txid)) = Unit {0}
 HadMemory (Err Memory) = ⊥
+
+-- each commit that was tried has its end in the fates
+abbrev pub EndsEach : Result Ended Stop → Type 0
+EndsEach (Ok ending) = Unit {0}
+EndsEach (Err (Exhausted txid)) = Unit {0}
+EndsEach (Err (BadCell key)) = ⊥
+EndsEach (Err (Follow txid)) = Unit {0}
+EndsEach (Err Memory) = ⊥
 
 -- The answer and the fates are those of the world after these steps, where sources have these words
 -- and commits come to what the fates show.

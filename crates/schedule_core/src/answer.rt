@@ -1,9 +1,11 @@
 //! What a run answers at its end.
-ghost use Rattle.std.specs.Prelude.{◌≡◌};
+ghost use Rattle.std.specs.Prelude.{◌≡◌, length};
 ghost use Rattle.event_engine.specs.Engines.{cut_in, shape, topology_in};
+ghost use Rattle.event_worlds.specs.attempt_fates.Fates.{committed};
 ghost use Rattle.schedule_core.specs.Rounding.{end_by};
-ghost use Rattle.schedule_core.specs.Schedules.{answer_of};
+ghost use Rattle.schedule_core.specs.Schedules.{answer_by, answer_of};
 
+use crate::committed::committed_in;
 use crate::ended::Ended;
 use crate::fault::RunFault;
 use event_engine::Engine;
@@ -22,27 +24,28 @@ pub fn end_run<I: Ids>(
         (answer_of (topology_in engine.entry) (cut_in engine.entry) (shape engine.entry)) }
     ensures fates { fates.new ≡ (shape engine.entry).fates }
 {
-    let answer = answer_of(&engine);
+    let exhausted = engine.exhausted();
+    let finished = engine.is_finished();
     *fates = engine.into_fates();
     match done {
-        Ok(()) => answer,
+        Ok(()) => answer_by(exhausted, finished, fates),
         Err(RunFault::BadCell(key)) => Err(Stop::BadCell(key)),
         Err(RunFault::Follow(txid)) => Err(Stop::Follow(txid)),
         Err(RunFault::Memory) => Err(Stop::Memory),
     }
 }
 
-// What an engine answers that nothing stopped.
-fn answer_of<I: Ids>(engine: &Engine<'_, I>) -> Result<Ended, Stop>
-    ensures { result ≡ answer_of (topology_in engine.now) (cut_in engine.now) (shape engine.now) }
+// What a run answers that nothing stopped.
+fn answer_by(exhausted: Option<u64>, finished: bool, fates: &Fates) -> Result<Ended, Stop>
+    ensures { result ≡ answer_by exhausted finished (length (committed fates.now)) }
 {
-    match engine.exhausted() {
+    match exhausted {
         Some(txid) => Err(Stop::Exhausted(txid)),
         None => {
-            if engine.is_finished() {
+            if finished {
                 Ok(Ended::All)
             } else {
-                Ok(Ended::Unfinished(engine.committed_count()))
+                Ok(Ended::Unfinished(committed_in(fates.as_slice())))
             }
         }
     }

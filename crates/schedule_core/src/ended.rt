@@ -3,7 +3,7 @@
 pub enum Ended {
     /// No record is left uncommitted.
     All,
-    /// Some record is left uncommitted after the events, and this is the last transaction that is
-    /// committed: that of the start, where no batch was committed after it.
+    /// Some record is left uncommitted after the events, and so many batches were committed in the
+    /// run.
     Unfinished(u64),
 }

@@ -4,6 +4,7 @@
 
 mod answer;
 mod beside;
+mod committed;
 mod drive;
 mod ended;
 mod fault;
@@ -14,6 +15,7 @@ mod rounds;
 
 pub use answer::end_run;
 pub use beside::close_round_beside;
+pub use committed::committed_in;
 pub use ended::Ended;
 pub use fault::RunFault;
 pub use follow::tell;

@@ -1,11 +1,11 @@
-//! A run by rounds, with the ticks of a source.
+//! A run by rounds, with the ticks of a source and the partitions that another one says are shut.
 ghost use Rattle.std.specs.Prelude.{◌≡◌, ◌+◌, ℕ, true, [], length, Err, OnOk, OnErr};
 ghost use Rattle.event_worlds.specs.attempt_fates.Fates.{IsOnce};
 ghost use Rattle.event_worlds.specs.commit_turns.Turns.{last_tick};
-ghost use Rattle.event_engine.specs.Engines.{cut_in, has_ended, topology_in};
+ghost use Rattle.event_engine.specs.Engines.{IsStill, cut_in, has_ended, topology_in};
 ghost use Rattle.event_worlds.specs.Accounted.{IsInput};
 ghost use Rattle.schedule_core.specs.Driving.{AreKept, IsAtRest, IsOfSameRun};
-ghost use Rattle.schedule_core.specs.Rounding.{Rounded};
+ghost use Rattle.schedule_core.specs.Rounding.{OpensShut, Rounded};
 ghost use Rattle.event_worlds.specs.commit_order.Follows.{IsTaken};
 ghost use Rattle.event_worlds.specs.commit_order.declared.stop.Stop.TheVariants as stop;
 ghost use Rattle.schedule_core.specs.Following.{Followed, RunFollowed, StandLess, next_txid};
@@ -22,24 +22,27 @@ use event_worlds::bolt_ops::RowOp;
 use event_worlds::commit_order::{Follow, Offers, Stop};
 use event_worlds::state_parts::Parts;
 use event_worlds::storm_ids::{IdMaker, Ids};
+use event_worlds::storm_values::Memory;
 use event_worlds::topology_plan::Plan;
 use std::alloc::Global;
 use std::sync::Wait;
+use storm_avail::Avail;
 use storm_stores::CellStore;
 use storm_ticks::Ticks;
 
 /// Runs a plan over what a spout offers from a start on, by rounds on one thread, until no record
 /// is left uncommitted or as many attempts of a transaction aborted as the plan allows.
 ///
-/// Before each step of the coordinator it asks once how many ticks passed. Nothing says that it
-/// ends. The attempts that ended are in the fates, whatever the answer. The follower is told each
+/// Before each step of the coordinator it asks once which partitions are shut and how many ticks
+/// passed. Nothing says that it ends. The attempts that ended are in the fates, whatever the answer. The follower is told each
 /// commit that was done, and stops the run where it fails.
-pub fn run_rounds<R: Wait, T: Ticks, N: IdMaker, C: CellStore, O: RowOp, W: Follow>(
+pub fn run_rounds<R: Wait, T: Ticks, V: Avail, N: IdMaker, C: CellStore, O: RowOp, W: Follow>(
     rt: &R,
     alloc: Global,
     plan: &Plan,
     offers: Offers,
     ticks: &mut T,
+    avail: &mut V,
     ids: &mut N,
     parts: &mut Parts<C>,
     custom: &O,
@@ -52,9 +55,9 @@ pub fn run_rounds<R: Wait, T: Ticks, N: IdMaker, C: CellStore, O: RowOp, W: Foll
     requires takes { IsTaken (offers.start + 1) (W.takes follow.old) }
 
     // What the answer, the fates, the ticks and the parts come to.
-    ensures comes { RoundsCome (N.tells ids.old) (T.tells ticks.old) C.tells C.fault_count plan.now
-        (O.meaning custom.now) offers (T.handed_out ticks.old) (T.handed_out ticks.new) result
-        fates.new parts.old parts.new }
+    ensures comes { RoundsCome (N.tells ids.old) (T.tells ticks.old) (V.tells avail.old) C.tells
+        C.fault_count plan.now (O.meaning custom.now) offers (T.handed_out ticks.old)
+        (T.handed_out ticks.new) result fates.new parts.old parts.new }
 
     // The follower was told what was committed, in order, but perhaps the last one where it failed.
     ensures followed { RunFollowed W.tells W.fault_count (ended result) fates.new
@@ -67,16 +70,18 @@ pub fn run_rounds<R: Wait, T: Ticks, N: IdMaker, C: CellStore, O: RowOp, W: Foll
         Ok(engine) => engine,
         Err(_) => return Err(Stop::Memory),
     };
-    let done = rounds_until_over(rt, &mut engine, ticks, parts, custom, follow);
+    let done = rounds_until_over(rt, &mut engine, ticks, avail, parts, custom, follow);
     end_run(done, engine, fates)?;
     Ok(())
 }
 
-/// Boosted rounds until all is over, each with as many ticks as the source answers.
-fn rounds_until_over<R: Wait, T: Ticks, I: Ids, C: CellStore, O: RowOp, W: Follow>(
+/// Boosted rounds until all is over, each with the partitions shut that one source names, and as
+/// many ticks as the other answers.
+fn rounds_until_over<R: Wait, T: Ticks, V: Avail, I: Ids, C: CellStore, O: RowOp, W: Follow>(
     rt: &R,
     engine: &mut Engine<'_, I>,
     ticks: &mut T,
+    avail: &mut V,
     parts: &mut Parts<C>,
     custom: &O,
     follow: &mut W,
@@ -87,9 +92,9 @@ fn rounds_until_over<R: Wait, T: Ticks, I: Ids, C: CellStore, O: RowOp, W: Follo
         (W.takes follow.old) }
     ensures same_run { OnOk result (IsOfSameRun engine.old engine.new) }
     ensures over { OnOk result (has_ended engine.new ≡ true) }
-    ensures comes { Rounded I.tells C.tells C.fault_count T.handed_out T.tells
+    ensures comes { Rounded I.tells C.tells C.fault_count T.handed_out T.tells V.tells
         (topology_in engine.old) (O.meaning custom.now) (cut_in engine.old) result engine.old
-        engine.new parts.old parts.new ticks.old ticks.new }
+        engine.new parts.old parts.new ticks.old ticks.new avail.old }
     ensures once { OnErr result (IsOnce (cut_in engine.old) last_tick engine.new.fates) }
     ensures kept { AreKept C.tells parts.old parts.new }
     ensures followed { Followed W.tells W.fault_count result
@@ -100,9 +105,29 @@ fn rounds_until_over<R: Wait, T: Ticks, I: Ids, C: CellStore, O: RowOp, W: Follo
         if engine.is_over() {
             return Ok(());
         }
-        open_boosted(engine, custom)?;
+        let shut = avail.shut();
+        open_shut(engine, custom, shut)?;
         let passed = ticks.passed();
         close_round(engine, parts, custom, follow, passed)?;
     }
     unreachable!()
+}
+
+/// Each partition is shut or opened by its bit, and a boosted round is opened.
+fn open_shut<I: Ids, O: RowOp>(
+    engine: &mut Engine<'_, I>,
+    custom: &O,
+    shut: u16,
+) -> Result<(), Memory>
+    requires { IsAtRest engine.old }
+    ensures at_rest { OnOk result (IsAtRest engine.new) }
+    ensures same_run { OnOk result (IsOfSameRun engine.old engine.new) }
+    ensures opens { OnOk result (OpensShut I.tells (topology_in engine.old)
+        (O.meaning custom.now) (cut_in engine.old) shut engine.old engine.new) }
+    ensures still { IsStill engine.old engine.new }
+    ensures once { OnErr result (IsOnce (cut_in engine.old) last_tick engine.new.fates) }
+{
+    engine.shut_by(shut);
+    open_boosted(engine, custom)?;
+    Ok(())
 }

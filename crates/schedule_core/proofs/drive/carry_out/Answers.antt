@@ -1,4 +1,4 @@
-use Rattle.std.proofs.Common.{[], ◌∷◌, ap}
+use Rattle.std.proofs.Common.{[], ◌∷◌, ap, refl}
 use Rattle.event_engine.specs.Engines.{cut_in, topology_in}
 use Rattle.event_worlds.specs.Worlds.{of_acker, of_open, of_shut, of_task, of_tick}
 use Rattle.schedule_core.proofs.Drives.{drives-still, wants-still}
@@ -156,13 +156,13 @@ pub returns-in_err-task-in-Task-clause-failed : goal.returns-in_err-task-in-Task
 returns-in_err-task-in-Task-clause-failed g c = λ txid is. absurd (short_no_follower c.from_residual.result txid c.from_residual.ensures.1 is)
 
 pub returns-in_err-task-in-Task-clause-followed : goal.returns-in_err-task-in-Task-clause-followed
-returns-in_err-task-in-Task-clause-followed g c = followed-short g.W.Follow.tells g.W.Follow.fault_count c.from_residual.result c.args.engine.now.fates c.task.new.self.fates c.args.follow.now c.args.follow.now c.from_residual.ensures.1
+returns-in_err-task-in-Task-clause-followed g c = followed-short g.W.Follow.tells g.W.Follow.fault_count c.from_residual.result c.args.engine.now.fates c.task.new.self.fates c.args.follow.now c.args.follow.now c.from_residual.ensures.1 refl
 
 pub returns-in_err-acker-in-Acker-clause-failed : goal.returns-in_err-acker-in-Acker-clause-failed
 returns-in_err-acker-in-Acker-clause-failed g c = λ txid is. absurd (short_no_follower c.from_residual-in_err-acker-in-Acker.result txid c.from_residual-in_err-acker-in-Acker.ensures.1 is)
 
 pub returns-in_err-acker-in-Acker-clause-followed : goal.returns-in_err-acker-in-Acker-clause-followed
-returns-in_err-acker-in-Acker-clause-followed g c = followed-short g.W.Follow.tells g.W.Follow.fault_count c.from_residual-in_err-acker-in-Acker.result c.args.engine.now.fates c.acker.new.self.fates c.args.follow.now c.args.follow.now c.from_residual-in_err-acker-in-Acker.ensures.1
+returns-in_err-acker-in-Acker-clause-followed g c = followed-short g.W.Follow.tells g.W.Follow.fault_count c.from_residual-in_err-acker-in-Acker.result c.args.engine.now.fates c.acker.new.self.fates c.args.follow.now c.args.follow.now c.from_residual-in_err-acker-in-Acker.ensures.1 refl
 
 pub returns-clause-takes : goal.returns-clause-takes
 returns-clause-takes g c =

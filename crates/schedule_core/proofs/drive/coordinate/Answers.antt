@@ -1,4 +1,4 @@
-use Rattle.std.proofs.Common.{Option, Ok, Err, [], ◌∷◌, ap, refl, subst}
+use Rattle.std.proofs.Common.{Option, Ok, Err, [], ◌∷◌, ap, refl, subst, ◌∙◌}
 use Rattle.event_engine.proofs.FatesLemmas.{kept_once}
 use Rattle.event_engine.specs.Engines.{Answers, cut_in, topology_in}
 use Rattle.event_worlds.specs.commit_order.Orders.{desk_of}
@@ -10,6 +10,8 @@ use Rattle.schedule_core.proofs.Drives.{wants-after}
 use Rattle.schedule_core.proofs.Ending.{at_rest}
 use Rattle.schedule_core.proofs.Following.{followed-commit, followed-short, met_bad, met_no_follower, ok_of, short_no_follower, taken_on, taken_same}
 use Rattle.schedule_core.proofs.Looping.{once_there}
+use Rattle.schedule_core.specs.Following.{next_txid}
+use Rattle.event_worlds.specs.taken_records.Cuts.{Cut}
 use Rattle.schedule_core.proofs.Resting.{on_err, same_run_after, same_run_then}
 use Rattle.event_worlds.specs.state_parts.declared.answer.Commit.{Commit}
 use Rattle.schedule_core.proofs.drive.coordinate.Goals as goal
@@ -96,8 +98,8 @@ returns-clause-drives g c =
 
 -- ---- a follower
 
-pub tell-requires-after_bounds : goal.tell-requires-after_bounds
-tell-requires-after_bounds g c κs within = λ done.
+pub tell-requires : goal.tell-requires
+tell-requires g c = λ done.
     let custom = g.O.RowOp.meaning c.args.custom.now in
     let t = topology_in c.args.engine.now in
     let cut = cut_in c.args.engine.now in
@@ -199,9 +201,9 @@ returns-in_default-clause-takes g c =
     let laws = c.laws_of_steps.ensures t custom cut in
     let more = c.laws_of_commits.ensures t custom cut in
     let same = same_run_after c.args.engine.now c.turn.new.self c.in_ok-commit.ensures.ready in
-    taken_on (Ok tt) cut (cut_in c.turn.new.self) c.turn.new.self.fates (g.W.Follow.takes c.args.follow.now) same.cut
-    (taken_same _ _ (g.W.Follow.takes c.args.follow.now)
-    (turn_txid g.I.Ids.tells g.C.CellStore.tells g.C.CellStore.fault_count t custom cut g.W.Follow.tells g.W.Follow.takes g.W.Follow.fault_count c.args.engine.now c.turn.new.self c.turn.new.self (c.in_ok-commit.ensures.goes custom)) c.requires.takes)
+    taken_same _ _ (g.W.Follow.takes c.args.follow.now)
+    (ap (λ (k : Cut). next_txid k c.turn.new.self.fates) same.cut
+    ∙ turn_txid g.I.Ids.tells g.C.CellStore.tells g.C.CellStore.fault_count t custom cut g.W.Follow.tells g.W.Follow.takes g.W.Follow.fault_count c.args.engine.now c.turn.new.self c.turn.new.self (c.in_ok-commit.ensures.goes custom)) c.requires.takes
 
 pub returns-in_default-clause-followed : goal.returns-in_default-clause-followed
 returns-in_default-clause-followed g c =
@@ -216,7 +218,7 @@ pub returns-in_err-commit-clause-failed : goal.returns-in_err-commit-clause-fail
 returns-in_err-commit-clause-failed g c = λ txid is. absurd (short_no_follower c.from_residual.result txid c.from_residual.ensures.1 is)
 
 pub returns-in_err-commit-clause-followed : goal.returns-in_err-commit-clause-followed
-returns-in_err-commit-clause-followed g c = followed-short g.W.Follow.tells g.W.Follow.fault_count c.from_residual.result c.args.engine.now.fates c.turn.new.self.fates c.args.follow.now c.args.follow.now c.from_residual.ensures.1
+returns-in_err-commit-clause-followed g c = followed-short g.W.Follow.tells g.W.Follow.fault_count c.from_residual.result c.args.engine.now.fates c.turn.new.self.fates c.args.follow.now c.args.follow.now c.from_residual.ensures.1 refl
 
 pub returns-in_err-how-clause-failed : goal.returns-in_err-how-clause-failed
 returns-in_err-how-clause-failed g c = λ txid is. absurd (met_no_follower c.from_residual-in_err-how.result _ txid c.from_residual-in_err-how.ensures.1 is)
@@ -235,7 +237,7 @@ pub returns-in_err-decide-clause-failed : goal.returns-in_err-decide-clause-fail
 returns-in_err-decide-clause-failed g c = λ txid is. absurd (short_no_follower c.from_residual-in_err-decide.result txid c.from_residual-in_err-decide.ensures.1 is)
 
 pub returns-in_err-decide-clause-followed : goal.returns-in_err-decide-clause-followed
-returns-in_err-decide-clause-followed g c = followed-short g.W.Follow.tells g.W.Follow.fault_count c.from_residual-in_err-decide.result c.args.engine.now.fates c.decide.new.self.fates c.args.follow.now c.args.follow.now c.from_residual-in_err-decide.ensures.1
+returns-in_err-decide-clause-followed g c = followed-short g.W.Follow.tells g.W.Follow.fault_count c.from_residual-in_err-decide.result c.args.engine.now.fates c.decide.new.self.fates c.args.follow.now c.args.follow.now c.from_residual-in_err-decide.ensures.1 refl
 
 pub returns-in_err-commit-clause-kept : goal.returns-in_err-commit-clause-kept
 returns-in_err-commit-clause-kept g c = kept-none g.C.CellStore.tells c.args.parts.now

@@ -1,3 +1,4 @@
+use Rattle.std.proofs.Common.{refl}
 use Rattle.event_engine.specs.Engines.{cut_in, topology_in}
 use Rattle.event_worlds.specs.Worlds.{coordinator_steps}
 use Rattle.schedule_core.proofs.Drives.{wants-still}
@@ -75,4 +76,4 @@ pub returns-in_err-open_round-clause-failed : goal.returns-in_err-open_round-cla
 returns-in_err-open_round-clause-failed g c = λ txid is. absurd (short_no_follower c.from_residual.result txid c.from_residual.ensures.1 is)
 
 pub returns-in_err-open_round-clause-followed : goal.returns-in_err-open_round-clause-followed
-returns-in_err-open_round-clause-followed g c = followed-short g.W.Follow.tells g.W.Follow.fault_count c.from_residual.result c.args.engine.now.fates c.open_round.new.engine.fates c.args.follow.now c.args.follow.now c.from_residual.ensures.1
+returns-in_err-open_round-clause-followed g c = followed-short g.W.Follow.tells g.W.Follow.fault_count c.from_residual.result c.args.engine.now.fates c.open_round.new.engine.fates c.args.follow.now c.args.follow.now c.from_residual.ensures.1 refl

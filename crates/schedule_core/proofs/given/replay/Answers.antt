@@ -1,3 +1,4 @@
+use Rattle.std.proofs.Common.{refl}
 use Rattle.event_worlds.specs.Rounds.{ticks_in}
 use Rattle.event_engine.specs.Engines.{cut_in, shape, topology_in}
 use Rattle.schedule_core.proofs.Following.{run_followed, started_none, started_taken}
@@ -21,7 +22,7 @@ returns-in-Err g c = record {
   comes = not_begun g.C.CellStore.tells g.C.CellStore.fault_count c.args.plan.now (g.O.RowOp.meaning c.args.custom.now) c.args.offers (c.laws_of_runs.ensures c.args.plan.now (g.O.RowOp.meaning c.args.custom.now) c.args.offers) (all_steps c.args.plan.now c.args.events.now) (ticks_in (all_steps c.args.plan.now c.args.events.now)) c.args.fates.now c.args.parts.now c.requires.input c.requires.empty;
   told = λ words are ok. absurd ok;
   drawn = λ words are ok. absurd ok;
-  followed = tt;
+  followed = refl;
   less = λ txid is. cc;
 }
 

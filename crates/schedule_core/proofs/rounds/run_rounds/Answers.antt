@@ -1,4 +1,4 @@
-use Rattle.std.proofs.Common.{Ok, Result, subst}
+use Rattle.std.proofs.Common.{Ok, Result, refl, subst}
 use Rattle.event_engine.specs.Engines.{cut_in, shape, topology_in}
 use Rattle.event_worlds.specs.commit_order.declared.stop.Stop.{Stop}
 use Rattle.schedule_core.specs.declared.ended.Ended.{Ended}
@@ -17,7 +17,7 @@ rounds_until_over-done-requires-clause-takes g c = λ lives bounds.
 
 pub returns-in-Err : goal.returns-in-Err
 returns-in-Err g c =
-    record { comes = rounds-not-begun g.T.Ticks.handed_out g.T.Ticks.tells (g.N.IdMaker.tells c.args.ids.now) g.C.CellStore.tells g.C.CellStore.fault_count c.args.plan.now (g.O.RowOp.meaning c.args.custom.now) c.args.offers (c.laws_of_runs.ensures c.args.plan.now (g.O.RowOp.meaning c.args.custom.now) c.args.offers) c.args.ticks.now c.args.fates.now c.args.parts.now c.requires.input c.requires.empty; followed = tt; less = λ txid is. cc }
+    record { comes = rounds-not-begun g.T.Ticks.handed_out g.T.Ticks.tells (g.V.Avail.tells c.args.avail.now) (g.N.IdMaker.tells c.args.ids.now) g.C.CellStore.tells g.C.CellStore.fault_count c.args.plan.now (g.O.RowOp.meaning c.args.custom.now) c.args.offers (c.laws_of_runs.ensures c.args.plan.now (g.O.RowOp.meaning c.args.custom.now) c.args.offers) c.args.ticks.now c.args.fates.now c.args.parts.now c.requires.input c.requires.empty; followed = refl; less = λ txid is. cc }
 
 pub returns-in_err-end_run : goal.returns-in_err-end_run
 returns-in_err-end_run g c =
@@ -26,8 +26,8 @@ returns-in_err-end_run g c =
     let cut = c.args.offers in
     let run = c.rounds_until_over-done in
     record {
-      comes = rounds-end (g.N.IdMaker.tells c.args.ids.now) g.N.I.Ids.tells g.C.CellStore.tells g.C.CellStore.fault_count g.T.Ticks.handed_out g.T.Ticks.tells t custom cut (c.laws_of_runs.ensures t custom cut) c.requires.input (g.O.RowOp.keeps c.args.custom.now)
-          run.result c.in-Ok.engine run.new.engine c.args.parts.now run.new.parts c.args.ticks.now run.new.ticks c.from_residual.result c.end_run.result c.end_run.new.fates
+      comes = rounds-end (g.N.IdMaker.tells c.args.ids.now) g.N.I.Ids.tells g.C.CellStore.tells g.C.CellStore.fault_count g.T.Ticks.handed_out g.T.Ticks.tells g.V.Avail.tells t custom cut (c.laws_of_runs.ensures t custom cut) c.requires.input (g.O.RowOp.keeps c.args.custom.now)
+          run.result c.in-Ok.engine run.new.engine c.args.parts.now run.new.parts c.args.ticks.now run.new.ticks c.args.avail.now c.from_residual.result c.end_run.result c.end_run.new.fates
           c.in-Ok.ensures.ready c.in-Ok.ensures.started c.requires.parts run.ensures.same_run run.ensures.comes run.ensures.once run.ensures.kept c.end_run.ensures.answer c.end_run.ensures.fates
           (stopped_end c.end_run.result c.from_residual.result _ c.from_residual.ensures.1 c.in_err-end_run.was);
       followed =
@@ -35,8 +35,8 @@ returns-in_err-end_run g c =
           (run_followed g.W.Follow.tells g.W.Follow.fault_count (topology_in run.new.engine) (cut_in run.new.engine) (shape run.new.engine) run.result c.end_run.result c.in-Ok.engine.fates run.new.engine.fates c.end_run.new.fates c.args.follow.now run.new.follow
           (started_none (g.N.IdMaker.tells c.args.ids.now) g.N.I.Ids.tells t cut c.in-Ok.engine c.in-Ok.ensures.started) c.end_run.ensures.fates c.end_run.ensures.answer run.ensures.followed);
       less = λ txid is.
-          rounds-less (g.N.IdMaker.tells c.args.ids.now) g.N.I.Ids.tells g.C.CellStore.tells g.C.CellStore.fault_count g.T.Ticks.handed_out g.T.Ticks.tells t custom cut (c.laws_of_runs.ensures t custom cut) c.requires.input (g.O.RowOp.keeps c.args.custom.now)
-          txid run.result c.in-Ok.engine run.new.engine c.args.parts.now run.new.parts c.args.ticks.now run.new.ticks c.from_residual.result c.end_run.result c.end_run.new.fates
+          rounds-less (g.N.IdMaker.tells c.args.ids.now) g.N.I.Ids.tells g.C.CellStore.tells g.C.CellStore.fault_count g.T.Ticks.handed_out g.T.Ticks.tells g.V.Avail.tells t custom cut (c.laws_of_runs.ensures t custom cut) c.requires.input (g.O.RowOp.keeps c.args.custom.now)
+          txid run.result c.in-Ok.engine run.new.engine c.args.parts.now run.new.parts c.args.ticks.now run.new.ticks c.args.avail.now c.from_residual.result c.end_run.result c.end_run.new.fates
           c.in-Ok.ensures.ready c.in-Ok.ensures.started c.requires.parts run.ensures.same_run run.ensures.comes run.ensures.once run.ensures.kept c.end_run.ensures.answer c.end_run.ensures.fates
           (stopped_end c.end_run.result c.from_residual.result _ c.from_residual.ensures.1 c.in_err-end_run.was) is;
     }
@@ -48,8 +48,8 @@ returns g c =
     let cut = c.args.offers in
     let run = c.rounds_until_over-done in
     record {
-      comes = rounds-end (g.N.IdMaker.tells c.args.ids.now) g.N.I.Ids.tells g.C.CellStore.tells g.C.CellStore.fault_count g.T.Ticks.handed_out g.T.Ticks.tells t custom cut (c.laws_of_runs.ensures t custom cut) c.requires.input (g.O.RowOp.keeps c.args.custom.now)
-          run.result c.in-Ok.engine run.new.engine c.args.parts.now run.new.parts c.args.ticks.now run.new.ticks (Ok tt) c.end_run.result c.end_run.new.fates
+      comes = rounds-end (g.N.IdMaker.tells c.args.ids.now) g.N.I.Ids.tells g.C.CellStore.tells g.C.CellStore.fault_count g.T.Ticks.handed_out g.T.Ticks.tells g.V.Avail.tells t custom cut (c.laws_of_runs.ensures t custom cut) c.requires.input (g.O.RowOp.keeps c.args.custom.now)
+          run.result c.in-Ok.engine run.new.engine c.args.parts.now run.new.parts c.args.ticks.now run.new.ticks c.args.avail.now (Ok tt) c.end_run.result c.end_run.new.fates
           c.in-Ok.ensures.ready c.in-Ok.ensures.started c.requires.parts run.ensures.same_run run.ensures.comes run.ensures.once run.ensures.kept c.end_run.ensures.answer c.end_run.ensures.fates
           (whole_end run.result run.new.engine c.end_run.result _ run.ensures.over c.end_run.ensures.answer c.in_ok-end_run.was);
       followed =
@@ -57,8 +57,8 @@ returns g c =
           (run_followed g.W.Follow.tells g.W.Follow.fault_count (topology_in run.new.engine) (cut_in run.new.engine) (shape run.new.engine) run.result c.end_run.result c.in-Ok.engine.fates run.new.engine.fates c.end_run.new.fates c.args.follow.now run.new.follow
           (started_none (g.N.IdMaker.tells c.args.ids.now) g.N.I.Ids.tells t cut c.in-Ok.engine c.in-Ok.ensures.started) c.end_run.ensures.fates c.end_run.ensures.answer run.ensures.followed);
       less = λ txid is.
-          rounds-less (g.N.IdMaker.tells c.args.ids.now) g.N.I.Ids.tells g.C.CellStore.tells g.C.CellStore.fault_count g.T.Ticks.handed_out g.T.Ticks.tells t custom cut (c.laws_of_runs.ensures t custom cut) c.requires.input (g.O.RowOp.keeps c.args.custom.now)
-          txid run.result c.in-Ok.engine run.new.engine c.args.parts.now run.new.parts c.args.ticks.now run.new.ticks (Ok tt) c.end_run.result c.end_run.new.fates
+          rounds-less (g.N.IdMaker.tells c.args.ids.now) g.N.I.Ids.tells g.C.CellStore.tells g.C.CellStore.fault_count g.T.Ticks.handed_out g.T.Ticks.tells g.V.Avail.tells t custom cut (c.laws_of_runs.ensures t custom cut) c.requires.input (g.O.RowOp.keeps c.args.custom.now)
+          txid run.result c.in-Ok.engine run.new.engine c.args.parts.now run.new.parts c.args.ticks.now run.new.ticks c.args.avail.now (Ok tt) c.end_run.result c.end_run.new.fates
           c.in-Ok.ensures.ready c.in-Ok.ensures.started c.requires.parts run.ensures.same_run run.ensures.comes run.ensures.once run.ensures.kept c.end_run.ensures.answer c.end_run.ensures.fates
           (whole_end run.result run.new.engine c.end_run.result _ run.ensures.over c.end_run.ensures.answer c.in_ok-end_run.was) is;
     }
