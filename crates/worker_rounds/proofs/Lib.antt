@@ -3,4 +3,5 @@ pub mod Ticking
 pub mod Going
 pub mod Rounds
 mod Driving
-mod Calling
+pub mod Calling
+pub mod Offering

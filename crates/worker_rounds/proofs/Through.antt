@@ -16,6 +16,7 @@ use Rattle.event_worlds.specs.Rounds.{round_with}
 use Rattle.event_worlds.specs.Worlds.{AckerSide, Known, Step, TaskSide, World, acker_at, acker_step, acted_past, aged, answered_past, coordinator_steps, counted_up, executed, is_over, meets, next, next_outcome, next_words, no_acker, no_task, of_acker, of_open, of_outcome, of_shut, of_task, of_tick, of_turn, outcome_step, run, sent, step, task_at, task_needs, task_step, turn_needs, turn_past, turn_step, with_progress, with_task}
 use Rattle.event_worlds.proofs.Waiting.{weigh-front}
 use Rattle.event_worlds.specs.commit_turns.Turns.{decided}
+use Rattle.event_worlds.specs.record_offers.Offers.{is_shut}
 use Rattle.event_worlds.specs.state_parts.declared.answer.CommitOutcome.{CommitOutcome}
 use Rattle.event_worlds.specs.topology_plan.Topology.{Topology, tasks_in_all}
 use Rattle.event_worlds.specs.tree_model.declared.messages.AckMsg.{AckMsg}
@@ -25,6 +26,8 @@ use Rattle.event_worlds.specs.tree_model.declared.messages.Tuple.{Tuple}
 use Rattle.event_worlds.specs.taken_records.Cuts.{Cut}
 use Rattle.event_worlds.specs.tuple_account.Histories.{History, Packet, joined, nothing, of_parcel, of_verdict, taken}
 use Rattle.event_worlds.proofs.tuple_account.Moving.{taken-joined}
+use Rattle.worker_rounds.specs.Running.{round_by}
+use Rattle.worker_stretches.specs.event_engine.Shutting.{shutting}
 use Rattle.worker_stretches.specs.world_progress.Running as specs
 
 -- ---- inboxes with one changed
@@ -152,7 +155,8 @@ IsQuiet (of_tick ∷ steps) = IsQuiet steps
 IsQuiet (of_shut q ∷ steps) = ⊥
 IsQuiet (of_open q ∷ steps) = ⊥
 
--- tasks and ackers by rising numbers, from these on, and one turn at most
+-- partitions that are shut and opened, tasks and ackers by rising numbers, from these on, and one turn
+-- at most
 abbrev pub IsRising : Topology → ℕ → ℕ → List Step → Type 0
 IsRising t a b [] = Unit {0}
 IsRising t a b (of_task n ∷ steps) = (a ≤ n) × (n < tasks_in_all t) × IsRising t (n + 1) b steps
@@ -160,8 +164,8 @@ IsRising t a b (of_acker n ∷ steps) = (b ≤ n) × (n < t.ackers) × IsRising 
 IsRising t a b (of_turn ∷ steps) = IsQuiet steps
 IsRising t a b (of_outcome ∷ steps) = IsRising t a b steps
 IsRising t a b (of_tick ∷ steps) = IsRising t a b steps
-IsRising t a b (of_shut q ∷ steps) = ⊥
-IsRising t a b (of_open q ∷ steps) = ⊥
+IsRising t a b (of_shut q ∷ steps) = IsRising t a b steps
+IsRising t a b (of_open q ∷ steps) = IsRising t a b steps
 
 quiet-first : (xs ys : List Step) → IsQuiet (xs ++ ys) → IsQuiet xs
 quiet-first [] ys is = tt
@@ -189,8 +193,8 @@ module _ (t : Topology) where
   rising-first a b (of_turn ∷ xs) ys is = quiet-first xs ys is
   rising-first a b (of_outcome ∷ xs) ys is = rising-first a b xs ys is
   rising-first a b (of_tick ∷ xs) ys is = rising-first a b xs ys is
-  rising-first a b (of_shut q ∷ xs) ys is = is
-  rising-first a b (of_open q ∷ xs) ys is = is
+  rising-first a b (of_shut q ∷ xs) ys is = rising-first a b xs ys is
+  rising-first a b (of_open q ∷ xs) ys is = rising-first a b xs ys is
 
   rising-tasks : (a b count : ℕ) (rest : List Step) → a + count ≤ tasks_in_all t → ((c : ℕ) → IsRising t c b rest) → IsRising t a b (map of_task (range_with_len a count) ++ rest)
   rising-tasks a b zero rest below on = on a
@@ -204,11 +208,23 @@ module _ (t : Topology) where
   rising-ticks a b zero = tt
   rising-ticks a b (suc ticks) = rising-ticks a b ticks
 
-  pub rising-round : (ticks : ℕ) → IsRising t 0 0 (round_with t ticks)
+  rising-round : (ticks : ℕ) → IsRising t 0 0 (round_with t ticks)
   rising-round ticks =
       subst (IsRising t 0 0) (sym (parts-of-round t ticks))
       (rising-tasks 0 0 (tasks_in_all t) (map of_acker (range_with_len 0 t.ackers) ++ (replicate ticks of_tick ++ coordinator_steps)) (omega arith)
       (λ a. rising-ackers a 0 t.ackers (replicate ticks of_tick ++ coordinator_steps) (omega arith) (λ b. rising-ticks a b ticks)))
+
+  rising-shut : (a b shut : ℕ) (qs : List ℕ) (rest : List Step) → IsRising t a b rest → IsRising t a b (map (shutting shut) qs ++ rest)
+  rising-shut a b shut [] rest is = is
+  rising-shut a b shut (q ∷ qs) rest is = by (is_shut shut q) (rising-shut a b shut qs rest is)
+    where
+      by : (c : Bool) → IsRising t a b (map (shutting shut) qs ++ rest) → IsRising t a b (cond c (of_shut q) (of_open q) ∷ (map (shutting shut) qs ++ rest))
+      by true more = more
+      by false more = more
+
+  -- a round is in order
+  pub rising-by : (shut ticks : ℕ) → IsRising t 0 0 (round_by t shut ticks)
+  rising-by shut ticks = rising-shut 0 0 shut (range_with_len 0 t.partitions) (round_with t ticks) (rising-round ticks)
 
 -- ---- runs
 
@@ -256,6 +272,14 @@ module _ (t : Topology) (custom : Custom) (cut : Cut) (words : ℕ → ℕ → �
   unfolding step
   outcome-same f k = let e = through-outcome t custom cut f (next_outcome outcomes k.world.fates) k.world in omega arith
 
+  shut-same : (f : Packet → ℕ) (q : ℕ) (k : Known) → taken f (adds (of_shut q) k) + weigh_inboxes f (goes (of_shut q) k).world ≡ weigh_inboxes f k.world
+  unfolding step
+  shut-same f q k = omega arith
+
+  open-same : (f : Packet → ℕ) (q : ℕ) (k : Known) → taken f (adds (of_open q) k) + weigh_inboxes f (goes (of_open q) k).world ≡ weigh_inboxes f k.world
+  unfolding step
+  open-same f q k = omega arith
+
   tick-same : (f : Packet → ℕ) (k : Known) → taken f (adds of_tick k) + weigh_inboxes f (goes of_tick k).world ≡ weigh_inboxes f k.world
   unfolding step
   tick-same f k = omega arith
@@ -275,6 +299,14 @@ module _ (t : Topology) (custom : Custom) (cut : Cut) (words : ℕ → ℕ → �
   free-of_tick : (a b : ℕ) (k : Known) → IsFree t a b k.world → IsFree t a b (goes of_tick k).world
   unfolding step
   free-of_tick a b k is = record { task_count = is.task_count; acker_count = is.acker_count; tasks = is.tasks; ackers = is.ackers; orders = is.orders }
+
+  free-of_shut : (a b q : ℕ) (k : Known) → IsFree t a b k.world → IsFree t a b (goes (of_shut q) k).world
+  unfolding step
+  free-of_shut a b q k is = record { task_count = is.task_count; acker_count = is.acker_count; tasks = is.tasks; ackers = is.ackers; orders = is.orders }
+
+  free-of_open : (a b q : ℕ) (k : Known) → IsFree t a b k.world → IsFree t a b (goes (of_open q) k).world
+  unfolding step
+  free-of_open a b q k is = record { task_count = is.task_count; acker_count = is.acker_count; tasks = is.tasks; ackers = is.ackers; orders = is.orders }
 
   free-next : (c d : ℕ) (s : Step) (k : Known) → IsFree t c d k.world → IsFree t c d (goes s k).world → IsFree t c d (after s k).world
   free-next c d s k was is = by (is_over t cut k.world)
@@ -323,8 +355,10 @@ module _ (t : Topology) (custom : Custom) (cut : Cut) (words : ℕ → ℕ → �
       uses-run f a b steps (joined h (added t custom cut words of_outcome k)) (after of_outcome k) is (free-next a b of_outcome k free (free-of_outcome a b k free)) ∙ uses-next f of_outcome h k (outcome-same f k)
   uses-run f a b (of_tick ∷ steps) h k is free =
       uses-run f a b steps (joined h (added t custom cut words of_tick k)) (after of_tick k) is (free-next a b of_tick k free (free-of_tick a b k free)) ∙ uses-next f of_tick h k (tick-same f k)
-  uses-run f a b (of_shut q ∷ steps) h k is free = absurd is
-  uses-run f a b (of_open q ∷ steps) h k is free = absurd is
+  uses-run f a b (of_shut q ∷ steps) h k is free =
+      uses-run f a b steps (joined h (added t custom cut words (of_shut q) k)) (after (of_shut q) k) is (free-next a b (of_shut q) k free (free-of_shut a b q k free)) ∙ uses-next f (of_shut q) h k (shut-same f q k)
+  uses-run f a b (of_open q ∷ steps) h k is free =
+      uses-run f a b steps (joined h (added t custom cut words (of_open q) k)) (after (of_open q) k) is (free-next a b (of_open q) k free (free-of_open a b q k free)) ∙ uses-next f (of_open q) h k (open-same f q k)
 
   -- ---- what led to a world, and what was heard
 

@@ -9,7 +9,7 @@ use Rattle.worker_stretches.specs.event_engine.Starts.{IsStarted}
 use Rattle.pulse_board.specs.declared.rule.Book.{Book}
 use Rattle.pulse_board.specs.declared.seat.Board.{Board}
 use Rattle.pulse_board.specs.declared.seat.BoardSeat.{BoardSeat}
-use Rattle.event_worlds.specs.state_parts.declared.answer.CommitFault.{CommitFault}
+use Rattle.worker_rounds.specs.schedule_core.declared.fault.RunFault.{RunFault}
 use Rattle.event_worlds.specs.state_parts.declared.parts.StatePart.{StatePart}
 use Rattle.event_worlds.specs.storm_ids.declared.ids.Ids.{Ghosts}
 use Rattle.storm_stores.specs.CellMaps.{CellMap}
@@ -41,10 +41,10 @@ module _ {I : Type 0} {g : Ghosts I} (told : (ℕ → ℕ → ℕ) → Type 0) (
             ∙ sym (ap (λ (b : Book). min (length b.drawn) (2 ^ 64 - 1)) own.first);
       }))
 
-module _ {I S T : Type 0} {g : Ghosts I} (tells : I → (ℕ → ℕ) → ℕ → Type 0) (holds : S → CellMap → Type 0) (count : S → ℕ) (handed : T → ℕ) (ticking : T → List ℕ → Type 0) (custom : Custom) (boxes : List (Mailbox Mail)) (board : Board) (before after : T) (old : Engine I g)
-    (row : List (Pass Mail)) (was : List (StatePart S)) (done : Result (Unit {0}) CommitFault) (e : Engine I g) (now_row : List (Pass Mail)) (seat : BoardSeat) (is : List (StatePart S)) where
+module _ {I S T V : Type 0} {g : Ghosts I} (tells : I → (ℕ → ℕ) → ℕ → Type 0) (holds : S → CellMap → Type 0) (count : S → ℕ) (handed : T → ℕ) (ticking : T → List ℕ → Type 0) (availing : V → List ℕ → Type 0) (custom : Custom) (avail later : V) (boxes : List (Mailbox Mail)) (board : Board) (before after : T) (old : Engine I g)
+    (row : List (Pass Mail)) (was : List (StatePart S)) (done : Result (Unit {0}) RunFault) (e : Engine I g) (now_row : List (Pass Mail)) (seat : BoardSeat) (is : List (StatePart S)) where
   -- what ran is of the plan and the input that the engine was started with
-  pub ended-here : (u t : Topology) (k cut : Cut) → u ≡ t → k ≡ cut → RunEnded tells holds count handed ticking custom boxes board before after old row was done e now_row seat is u k → RunEnded tells holds count handed ticking custom boxes board before after old row was done e now_row seat is t cut
+  pub ended-here : (u t : Topology) (k cut : Cut) → u ≡ t → k ≡ cut → RunEnded tells holds count handed ticking availing custom avail later boxes board before after old row was done e now_row seat is u k → RunEnded tells holds count handed ticking availing custom avail later boxes board before after old row was done e now_row seat is t cut
   ended-here u t k cut plan input ran =
-      subst (λ (v : Topology). RunEnded tells holds count handed ticking custom boxes board before after old row was done e now_row seat is v cut) plan
-      (subst (λ (c : Cut). RunEnded tells holds count handed ticking custom boxes board before after old row was done e now_row seat is u c) input ran)
+      subst (λ (v : Topology). RunEnded tells holds count handed ticking availing custom avail later boxes board before after old row was done e now_row seat is v cut) plan
+      (subst (λ (c : Cut). RunEnded tells holds count handed ticking availing custom avail later boxes board before after old row was done e now_row seat is u c) input ran)

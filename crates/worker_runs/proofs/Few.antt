@@ -17,7 +17,8 @@ use Rattle.event_worlds.specs.taken_records.Cuts.{Cut}
 use Rattle.event_worlds.specs.tuple_account.Histories.{History}
 use Rattle.worker_runs.proofs.Rows.{none-held}
 use Rattle.worker_runs.specs.Going.{StoodAt}
-use Rattle.worker_stretches.specs.Standing.{GoesOn, Later, Stands, beside_it}
+use Rattle.worker_rounds.specs.Running.{LaterOn, MovesOn}
+use Rattle.worker_stretches.specs.Standing.{Stands, beside_it}
 use Rattle.worker_rounds.specs.worker_turns.Carrying.{AreEmpty}
 use Rattle.worker_stretches.specs.world_progress.Doing.{done}
 use Rattle.worker_stretches.specs.world_progress.Lasting.{Lasting, NoneAborted}
@@ -50,16 +51,16 @@ module _ (t : Topology) (custom : Custom) (cut : Cut) where
       → IsBounded
   bounded-by most none words h k input can lasting few apart = most words h k input lasting (none words h k input can lasting few apart)
 
-module _ {I : Type 0} {g : Ghosts I} (tells : I → (ℕ → ℕ) → ℕ → Type 0) (t : Topology) (custom : Custom) (cut : Cut) (outcomes : List CommitOutcome) (least : ℕ) (old new : Engine I g) (row now_row : List (Pass Mail)) (goes : GoesOn tells t custom cut least old new row now_row [] []) (stood : StoodAt tells t custom cut outcomes least old new row now_row goes) where
+module _ {I : Type 0} {g : Ghosts I} (tells : I → (ℕ → ℕ) → ℕ → Type 0) (t : Topology) (custom : Custom) (cut : Cut) (none : Type 0) (outcomes : List CommitOutcome) (least : ℕ) (old new : Engine I g) (row now_row : List (Pass Mail)) (goes : MovesOn tells t custom cut none least old new row now_row) (stood : StoodAt tells t custom cut none outcomes least old new row now_row goes) where
   -- what it went on to
-  pub later-of : Later t custom cut stood.words outcomes now_row [] least goes.given stood.counts stood.history (shape old) (shape new) (has_ended new ≡ true)
+  pub later-of : LaterOn t custom cut stood.words outcomes now_row none least goes.given stood.counts stood.history (shape old) (shape new) (has_ended new ≡ true)
   later-of = goes.on stood.words stood.counts outcomes stood.gives stood.has stood.input stood.keeps stood.good stood.history stood.stands
 
   -- where all is not over less rounds went by than are needed
-  pub rounds-left : IsBounded t custom cut → AreEmpty now_row → CanFinish t → IsOpen cut (shape old) → All DoesNotCoincide new.fates → All (λ (how : CommitOutcome). how ≡ Done) outcomes → new.tick < t.buckets → has_ended new ≡ false → least < rounds_needed t custom cut
-  rounds-left bounded empty can opened apart all few open_still =
+  pub rounds-left : IsBounded t custom cut → AreEmpty now_row → CanFinish t → none → IsOpen cut (shape old) → All DoesNotCoincide new.fates → All (λ (how : CommitOutcome). how ≡ Done) outcomes → new.tick < t.buckets → has_ended new ≡ false → least < rounds_needed t custom cut
+  rounds-left bounded empty can shut_none opened apart all few open_still =
       let later = later-of in
       let k : Known = record { world = shape new; counts = later.now } in
-      let rose = later.rose (λ more. opened) can all few (λ over. true≢false (sym over ∙ open_still)) in
+      let rose = later.rose (λ more. shut_none) (λ more. opened) can all few (λ over. true≢false (sym over ∙ open_still)) in
       let start = stood.stands.led.kept.commits in
       let most = bounded stood.words later.history k stood.input can (lasts-here t custom cut stood.words outcomes now_row later.history k empty later.stands all few) few apart in omega arith

@@ -1,5 +1,5 @@
 -- What stays as it was, or is so still, from one piece of a run to the next.
-use Rattle.std.proofs.Common.{◌≡◌, ◌-◌, ◌^◌, ℕ, List, [], ◌∷◌, length, min, refl, sym, ap, subst, ◌∙◌}
+use Rattle.std.proofs.Common.{◌≡◌, ◌-◌, ◌^◌, ℕ, List, [], ◌∷◌, length, min, sym, ap, subst, ◌∙◌}
 use Rattle.std.specs.List.{AllZip}
 use Rattle.event_worlds.specs.attempt_fates.Fates.{IsOnce}
 use Rattle.event_worlds.specs.attempt_fates.declared.fates.Attempt.{Attempt}
@@ -30,19 +30,12 @@ use Rattle.worker_rounds.specs.worker_turns.Carrying.{AreEmpty, EngineCarries, H
 -- ---- parts
 
 module _ {S : Type 0} (tells : S → CellMap → Type 0) where
-  told-none : (parts : List (StatePart S)) → AllZip (StillTells tells) parts parts
-  told-none [] = tt
-  told-none (x ∷ xs) = (λ cells told. (cells, told), told-none xs)
-
   told-then : (a b c : List (StatePart S)) → AllZip (StillTells tells) a b → AllZip (StillTells tells) b c → AllZip (StillTells tells) a c
   told-then [] [] c first second = second
   told-then [] (y ∷ ys) c first second = absurd first
   told-then (x ∷ xs) [] c first second = absurd first
   told-then (x ∷ xs) (y ∷ ys) [] first second = absurd second
   told-then (x ∷ xs) (y ∷ ys) (z ∷ zs) first second = (λ cells told. let mid = first.0 cells told in second.0 mid.0 mid.1, told-then xs ys zs first.1 second.1)
-
-  pub kept-none : (parts : List (StatePart S)) → AreKept tells parts parts
-  kept-none parts = record { plans = refl; told = told-none parts }
 
   pub kept-then : (a b c : List (StatePart S)) → AreKept tells a b → AreKept tells b c → AreKept tells a c
   kept-then a b c first second = record { plans = second.plans ∙ first.plans; told = told-then a b c first.told second.told }

@@ -9,6 +9,7 @@ use Rattle.event_worlds.specs.bolt_ops.RowOp.{Custom, IsCustom}
 use Rattle.worker_stretches.specs.box_account.Inboxes.{weigh_acker_inboxes, weigh_inboxes, weigh_task_inboxes}
 use Rattle.worker_stretches.specs.box_rows.declared.mail.Mail.{Mail}
 use Rattle.worker_stretches.specs.box_rows.FirstRow.{first_views}
+use Rattle.event_worlds.specs.commit_turns.Kept.{HaveSpans}
 use Rattle.event_worlds.specs.commit_turns.Outcomes.{IsOutcome}
 use Rattle.worker_stretches.proofs.event_engine.GoesLemmas.{draws-then, gives-parts}
 use Rattle.worker_stretches.proofs.event_engine.WorldLemmas.{told_gives, words_begin}
@@ -33,9 +34,9 @@ use Rattle.task_queues.specs.Passes.{view_of}
 use Rattle.event_worlds.specs.topology_plan.Topology.{Topology, tasks_in_all}
 use Rattle.event_worlds.specs.taken_records.Cuts.{Cut}
 use Rattle.event_worlds.specs.tuple_account.Histories.{Packet}
-use Rattle.worker_rounds.specs.Running.{RunsOn}
+use Rattle.worker_rounds.specs.Running.{HasOffered, IsOffered, RunsOn}
 use Rattle.worker_runs.proofs.Few.{led-here}
-use Rattle.worker_runs.proofs.Going.{gives-next}
+use Rattle.worker_rounds.proofs.Going.{gives-next}
 use Rattle.worker_runs.proofs.Rows.{first-empty, none-held, none-taken}
 use Rattle.worker_runs.specs.Going.{StoodAt}
 use Rattle.worker_runs.specs.Laws.{RunLaws}
@@ -100,6 +101,12 @@ module _ {I : Type 0} {g : Ghosts I} (told : (ℕ → ℕ → ℕ) → Type 0) (
   pub no-fates : e0.fates ≡ []
   no-fates = ap (λ (w : World). w.fates) some-first.1
 
+  -- nothing was offered
+  pub offered-start : (partitions : ℕ) → HasOffered partitions [] e0
+  offered-start partitions =
+      let first : first_world t cut some-first.0 ≡ shape e0 = sym some-first.1 in
+      subst (λ (w : World). HaveSpans (λ root spans. IsOffered partitions [] spans) w.desk w.fates) first (record { waits = tt; ends = tt })
+
   module _ {S : Type 0} (holds : S → CellMap → Type 0) (count : S → ℕ) (custom : Custom) (run_laws : RunLaws t custom cut) (steps : Laws count t custom cut) (input : IsInput t cut) (keeps : IsCustom custom)
       (row : List (Pass Mail)) (first : map view_of row ≡ first_views t) (was : List (StatePart S)) (planned : AreParts t was) where
     no-outcomes : All (IsOutcome t) (outcomes_of e0.fates)
@@ -111,13 +118,13 @@ module _ {I : Type 0} {g : Ghosts I} (told : (ℕ → ℕ → ℕ) → Type 0) (
         subst (λ (w : World). Stands t custom cut words outcomes row [] (first_history t words) (record { world = w; counts = first_counts t words })) (sym (started.first words begins))
         (stands-first t custom cut run_laws input row first words outcomes)
 
-    module _ (n : ℕ) (e : Engine I g) (now_row : List (Pass Mail)) (is : List (StatePart S)) (runs : RunsOn tells holds count t custom cut n e0 e row now_row was is) where
+    module _ (none : Type 0) (n : ℕ) (e : Engine I g) (now_row : List (Pass Mail)) (is : List (StatePart S)) (runs : RunsOn tells holds count t custom cut none n e0 e row now_row was is) where
       pub good-now : All (IsOutcome t) (outcomes_of e.fates)
       good-now = runs.outcomes planned no-outcomes
 
       -- it went on from where all stood, by words that begin with what was given
       pub stood-start : (words : ℕ → ℕ → ℕ) (outcomes : List CommitOutcome) → Gives words (λ s. 0) started.given → Gives words (first_counts t words) runs.goes.given → HasOutcomes outcomes e.fates → All (IsOutcome t) outcomes
-          → StoodAt tells t custom cut outcomes n e0 e row now_row runs.goes
+          → StoodAt tells t custom cut none outcomes n e0 e row now_row runs.goes
       stood-start words outcomes begins gives has good = record {
         words = words;
         counts = first_counts t words;
@@ -154,15 +161,15 @@ module _ {I : Type 0} {g : Ghosts I} (told : (ℕ → ℕ → ℕ) → Type 0) (
     came-told e is came words are = (came.by words (started.gives words are) (told_gives told tells t cut e0 started came.given e came.draws came.none words are)).come
 
     -- rounds and stretches came to an engine with empty boxes
-    pub came-runs : (n : ℕ) (e : Engine I g) (now_row : List (Pass Mail)) (is : List (StatePart S)) → RunsOn tells holds count t custom cut n e0 e row now_row was is → AreEmpty now_row → CameBy e is
-    came-runs n e now_row is runs empty = record {
+    pub came-runs : (none : Type 0) (n : ℕ) (e : Engine I g) (now_row : List (Pass Mail)) (is : List (StatePart S)) → RunsOn tells holds count t custom cut none n e0 e row now_row was is → AreEmpty now_row → CameBy e is
+    came-runs none n e now_row is runs empty = record {
       given = runs.goes.given;
       draws = runs.goes.draws;
-      none = runs.goes.none;
+      none = runs.goes.off;
       by = λ words begins gives.
           let outcomes = outcomes_of e.fates in
           let has : HasOutcomes outcomes e.fates = record { rest = []; first = sym (append-nil outcomes) } in
-          let good = good-now n e now_row is runs in
+          let good = good-now none n e now_row is runs in
           let stands = stands-start words outcomes begins in
           let later = runs.goes.on words (first_counts t words) outcomes gives has input keeps good (first_history t words) stands in
           let k : Known = record { world = shape e; counts = later.now } in record {

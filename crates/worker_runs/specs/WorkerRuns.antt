@@ -1,5 +1,5 @@
 -- What a run of workers over boxes and a board comes to. This project's own.
-use Rattle.std.specs.Prelude.{◌≡◌, ◌<◌, ◌-◌, ◌^◌, ℕ, List, Result, Ok, Err, fold, length, map}
+use Rattle.std.specs.Prelude.{◌≡◌, ◌<◌, ◌-◌, ◌^◌, ℕ, List, Result, Ok, Err, All, fold, length, map}
 use Rattle.event_worlds.specs.attempt_fates.declared.fates.Attempt.{Attempt}
 use Rattle.event_worlds.specs.bolt_ops.RowOp.{Custom}
 use Rattle.worker_stretches.specs.box_rows.declared.boxes.Boxes.{Boxes}
@@ -20,6 +20,7 @@ use Rattle.storm_ticks.specs.Ticking.{handed_on}
 use Rattle.task_queues.specs.Passes.{view_of}
 use Rattle.event_worlds.specs.topology_plan.Topology.{Topology}
 use Rattle.event_worlds.specs.taken_records.Cuts.{Cut}
+use Rattle.worker_rounds.specs.Running.{IsOffered}
 use Rattle.worker_stretches.specs.Parts.{IsWholeSeat}
 
 -- ---- what a run begins with
@@ -37,17 +38,25 @@ pub record IsFirstSeat (board : Board) (seat : BoardSeat) : Type 0 where
 
 -- ---- what it comes to
 
--- A run of workers, which asked a source of ticks again and again, and over sources of ids and of
--- ticks that tell came to what these tell.
+-- A run of workers, which asked sources again and again how many ticks passed and which partitions
+-- are shut, and over sources that tell, of ids too, came to what these tell.
 pub record WorkersCome {S : Type 0} (told : (ℕ → ℕ → ℕ) → Type 0) (ticking : List ℕ → Type 0)
-    (holds : S → CellMap → Type 0) (count : S → ℕ) (t : Topology) (custom : Custom) (cut : Cut)
-    (before after : ℕ) (answer : Result (Unit {0}) Stop) (fates : List Attempt)
-    (old new : List (StatePart S)) : Type 0 where
+    (availing : List ℕ → Type 0) (holds : S → CellMap → Type 0) (count : S → ℕ) (t : Topology)
+    (custom : Custom) (cut : Cut) (before after : ℕ) (answer : Result (Unit {0}) Stop)
+    (fates : List Attempt) (old new : List (StatePart S)) : Type 0 where
   -- what the source of ticks answered
   pub answers : List ℕ
   pub handed_out : after ≡ fold handed_on before answers
   pub asked : (to_come : List ℕ) → ticking to_come
       → answers ≡ first_answers (length answers) to_come
+  -- which partitions are shut, by the other source, which was asked as often
+  pub shuts : List ℕ
+  pub as_often : length shuts ≡ length answers
+  pub asked_shut : (to_come : List ℕ) → availing to_come
+      → shuts ≡ first_answers (length shuts) to_come
+  -- with partitions each attempt has records of partitions that are open by one of these answers
+  pub offered : HadMemory (ended answer) → 0 < t.partitions
+      → All (λ (a : Attempt). IsOffered t.partitions shuts a.spans) fates
   -- what the answer, the fates and the parts tell
   pub tells : RunTells holds count t custom cut (ticks_between before after) (ended answer) fates
       old new
@@ -59,6 +68,7 @@ abbrev pub NothingRanOut : Result (Unit {0}) Stop → Type 0
 NothingRanOut (Ok done) = Unit {0}
 NothingRanOut (Err (stop.Exhausted txid)) = ⊥
 NothingRanOut (Err (stop.BadCell key)) = Unit {0}
+NothingRanOut (Err (stop.Follow txid)) = Unit {0}
 NothingRanOut (Err stop.Memory) = Unit {0}
 
 -- a seat drew a number for each of so many ticks, where the count of them has not come to its end
