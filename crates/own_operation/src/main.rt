@@ -10,6 +10,7 @@ ghost use Rattle.own_operation.specs.BothWays.{both_ways, IsCustom-both_ways};
 use bolt_ops::RowOp;
 use std::alloc::Global;
 use std::process::ExitCode;
+use storm_avail::AllOpen;
 use storm_gates::OpenGate;
 use storm_ids::ChaChaMaker;
 use storm_outside::{FileShelf, OutSink};
@@ -60,6 +61,7 @@ fn main(rt: HostRuntime) -> ExitCode {
         &mut FileShelf::new(&rt),
         &mut OutSink::new(&rt),
         &mut ClockTicks::new(&rt),
+        &mut AllOpen,
         &mut MemMaker::new(alloc),
         &mut ChaChaMaker { key: [0; 32] },
         &BothWays,

@@ -1,12 +1,14 @@
 -- What a run over the stores of a maker comes to, from what it came to over parts.
-use Rattle.std.proofs.Common.{◌≡◌, ◌≤◌, ◌<◌, ◌+◌, ◌-◌, ◌^◌, ◌++◌, inl, inr, ℕ, List, [], All, IfOk, OnErr, length, sum, Result, Ok, Err, refl, sym, ap, subst, ◌∙◌, arith}
+use Rattle.std.proofs.Common.{◌≡◌, ◌≤◌, ◌<◌, ◌+◌, ◌-◌, ◌^◌, ◌++◌, ◌⊎◌, inl, inr, ℕ, List, [], ◌∷◌, All, IfOk, IsErr, OnErr, length, sum, Result, Ok, Err, refl, sym, ap, subst, ◌∙◌, arith, true≢false}
 use Rattle.std.specs.List.{AllZip}
+use Rattle.std.proofs.lemmas.Bool.{cases_lt}
 use Rattle.event_worlds.specs.attempt_fates.declared.fates.Attempt.{Attempt}
 use Rattle.event_worlds.specs.attempt_fates.Fates.{IsOnce, IsWhole, committed_batches}
-use Rattle.batch_commits.specs.Standing.{FailsAtOneOf, FailuresAreCounted, HoldAll, PartsStand, failed_commits}
+use Rattle.batch_commits.specs.Standing.{FailsAtOneOf, FailuresAreCounted, HasStrangeAt, HoldAll, PartsStand, failed_commits}
 use Rattle.event_worlds.specs.bolt_ops.RowOp.{Custom, IsCustom}
 use Rattle.event_worlds.specs.commit_order.declared.stop.Stop.{Stop}
 use Rattle.event_worlds.specs.commit_order.declared.stop.Stop.TheVariants as stop
+use Rattle.event_worlds.specs.commit_order.Follows.{FailsAtLast}
 use Rattle.event_worlds.specs.commit_turns.Turns.{last_tick}
 use Rattle.event_worlds.specs.Accounted.{AreCaused, IsInput}
 use Rattle.event_worlds.specs.Rounds.{HasRounds, rounds_needed, ticks_in}
@@ -16,23 +18,26 @@ use Rattle.schedule_core.specs.declared.ended.Ended.TheVariants as ended
 use Rattle.event_worlds.proofs.taken_records.Taking.{times_append}
 use Rattle.event_worlds.specs.record_spans.declared.span.Span.{Span}
 use Rattle.schedule_core.specs.Driving.{AreBefore}
+use Rattle.schedule_core.specs.Following.{RunFollowed, StandLess}
 use Rattle.schedule_core.specs.Runs.{Answers, HasRoundsOf, IsFirst, RoundsCome, RunTells, ended as ended_of, first_answers}
-use Rattle.schedule_core.specs.Schedules.{HadMemory, IsAnswer, IsOfWorld}
+use Rattle.schedule_core.specs.Schedules.{EndsEach, HadMemory, IsAnswer, IsOfWorld}
 use Rattle.event_worlds.specs.state_parts.Commits.{SameCounts}
+use Rattle.event_worlds.specs.state_parts.declared.answer.Commit.{Commit}
 use Rattle.event_worlds.specs.state_parts.declared.parts.StatePart.{StatePart}
 use Rattle.event_worlds.specs.state_parts.Makers.{RoseBySum, faults_of}
 use Rattle.event_worlds.specs.state_parts.PartPlans.{plans_of}
 use Rattle.event_worlds.specs.state_parts.PartTables.{IsTableOver}
 use Rattle.stored_runs.proofs.Faults.{counted_broken, counted_fault, counted_quiet, fail_at_parts}
 use Rattle.stored_runs.proofs.Finished.{given_all, not_raised, rounds_all}
-use Rattle.stored_runs.proofs.Lent.{Lent, are_empty, came_back, had_strange, maps_stand, not_strange, parts_stood}
+use Rattle.stored_runs.proofs.Lent.{Lent, are_empty, came_back, had_strange, maps_stand, not_strange, not_strange_stood, part_strange, parts_stood}
 use Rattle.stored_runs.specs.Closing.{Closes}
 use Rattle.stored_runs.specs.declared.ending.RunEnd.{RunEnd}
 use Rattle.stored_runs.specs.declared.ending.RunEnd.TheVariants as end
 use Rattle.stored_runs.specs.Laws.{PartLaws, WorldLaws}
-use Rattle.stored_runs.specs.Makers.{BeganEmpty, CameBack, FaultsAreCounted, FaultsBeforeBadCell, MapsStood, maker_use}
-use Rattle.stored_runs.specs.StoredRuns.{AreTablesOfCommits, EndComes, FaultsCome, IsAll, IsEndOfWorld, IsRun, IsRunByRounds, IsRunOfWorld, NothingIsInTheWay, StandAtCommits, StandsWithoutMemory}
+use Rattle.stored_runs.specs.Makers.{BeganEmpty, CameBack, FaultsAreCounted, FaultsBeforeBadCell, HadStrangeAt, HoldsStrangeAt, MapsStood, maker_use}
+use Rattle.stored_runs.specs.StoredRuns.{AreTablesOfCommits, BeganWell, EndComes, EndFollowed, FaultsCome, IsAll, IsEndOfWorld, IsRun, IsRunByRounds, IsRunOfWorld, NothingIsInTheWay, StandAtCommits, StandBeforeLast, StandsWithoutMemory}
 use Rattle.storm_stores.specs.CellMaps.{CellMap}
+use Rattle.event_worlds.specs.storm_values.Counts.{Rose, raised}
 use Rattle.event_worlds.specs.topology_plan.Topology.{Topology}
 use Rattle.event_worlds.specs.tree_model.declared.write.Table.{Table}
 use Rattle.event_worlds.specs.tree_model.Tables.{states_of}
@@ -55,6 +60,13 @@ hold_first : (cut : Cut) (ticks : ℕ) (fates : List Attempt) → IsFirst cut �
 hold_first cut ticks fates is whole n first last =
     let all = whole.all_records n first last in
     let none = ap one_if (is.none_gone n first last) in omega (arith, all, none)
+
+-- no batch stands before the first transaction, where no record was gone
+none_before : (cut : Cut) → IsFirst cut → AreBefore cut []
+none_before cut is = record {
+  many = sym is.start;
+  gone = λ n first last. sym (ap one_if (is.none_gone n first last));
+}
 
 -- where no run was begun no batch was committed
 pub once_at_first : (t : Topology) (custom : Custom) (cut : Cut) → WorldLaws t custom cut
@@ -89,6 +101,16 @@ MetNoBadCell (end.Exhausted txid) = Unit {0}
 MetNoBadCell (end.Unfinished k) = Unit {0}
 MetNoBadCell end.StoreFault = Unit {0}
 MetNoBadCell (end.BadCell key) = ⊥
+MetNoBadCell (end.Follow txid) = Unit {0}
+
+-- nor did a follower fail
+abbrev MetNoFault : RunEnd → Type 0
+MetNoFault (end.All tables) = Unit {0}
+MetNoFault (end.Exhausted txid) = Unit {0}
+MetNoFault (end.Unfinished k) = Unit {0}
+MetNoFault end.StoreFault = Unit {0}
+MetNoFault (end.BadCell key) = ⊥
+MetNoFault (end.Follow txid) = ⊥
 
 -- What a run over parts told of its answer, also by the words that sources of ids told.
 pub record Ran {S : Type 0} (tells : S → CellMap → Type 0) (count : S → ℕ) (t : Topology)
@@ -127,13 +149,23 @@ module _ {S M : Type 0} {tells : S → CellMap → Type 0} {count : S → ℕ}
     had_memory end.StoreFault closes = subst HadMemory (sym closes.0) tt
     had_memory (end.BadCell key) (inl bad) = subst HadMemory (sym bad) tt
     had_memory (end.BadCell key) (inr bad) = subst HadMemory (sym bad.0) tt
+    had_memory (end.Follow txid) closes = subst HadMemory (sym closes) tt
 
-    had_answer : (ending : RunEnd) → ClosesAs ending → MetNoBadCell ending → IsAnswer answer
+    had_answer : (ending : RunEnd) → ClosesAs ending → MetNoFault ending → IsAnswer answer
     had_answer (end.All tables) closes none = subst IsAnswer (sym closes.0) tt
     had_answer (end.Exhausted txid) closes none = subst IsAnswer (sym closes) tt
     had_answer (end.Unfinished k) closes none = subst IsAnswer (sym closes) tt
     had_answer end.StoreFault closes none = subst IsAnswer (sym closes.0) tt
     had_answer (end.BadCell key) closes none = absurd none
+    had_answer (end.Follow txid) closes none = absurd none
+
+    ends_each : (ending : RunEnd) → ClosesAs ending → MetNoBadCell ending → EndsEach answer
+    ends_each (end.All tables) closes none = subst EndsEach (sym closes.0) tt
+    ends_each (end.Exhausted txid) closes none = subst EndsEach (sym closes) tt
+    ends_each (end.Unfinished k) closes none = subst EndsEach (sym closes) tt
+    ends_each end.StoreFault closes none = subst EndsEach (sym closes.0) tt
+    ends_each (end.BadCell key) closes none = absurd none
+    ends_each (end.Follow txid) closes none = subst EndsEach (sym closes) tt
 
     -- ---- what the end says
 
@@ -185,6 +217,8 @@ module _ {S M : Type 0} {tells : S → CellMap → Type 0} {count : S → ℕ}
     end_comes (end.BadCell key) (inr bad) =
         had_strange tells count holds made faults t old new parts key lent.planned lent.began
         (run.told_so.strange key (laws.bad_row ran key bad.1))
+    end_comes (end.Follow txid) closes =
+        subst (λ (r : Result Ended Stop). Answers t cut ticks fates r) closes run.told_so.answers
 
     -- ---- counts
 
@@ -199,10 +233,10 @@ module _ {S M : Type 0} {tells : S → CellMap → Type 0} {count : S → ℕ}
     failed_by ok counted = (laws.sum fates parts ran (fails ok) counted).at_least
 
     -- the counts where the reading did not fail
-    quiet_by : HadMemory answer → IsAnswer answer → SameCounts count ran closed
+    quiet_by : HadMemory answer → EndsEach answer → SameCounts count ran closed
         → FaultsAreCounted t (maker_use tells count holds made faults old new) fates
-    quiet_by ok answers same =
-        let counted = run.told_so.counted answers in
+    quiet_by ok each same =
+        let counted = run.told_so.counted each in
         counted_quiet tells count holds made faults t old mid new parts ran closed lent fates counted
         (failed_by ok counted) same
 
@@ -221,35 +255,76 @@ module _ {S M : Type 0} {tells : S → CellMap → Type 0} {count : S → ℕ}
     counted_by : (ending : RunEnd) → ClosesAs ending → Quiet ending
         → FaultsCome t (maker_use tells count holds made faults old new) fates ending
     counted_by (end.All tables) closes quiet =
-        quiet_by (had_memory (end.All tables) closes) (had_answer (end.All tables) closes tt)
+        quiet_by (had_memory (end.All tables) closes) (ends_each (end.All tables) closes tt)
         (quiet (λ same. cc))
     counted_by (end.Exhausted txid) closes quiet =
-        quiet_by (had_memory (end.Exhausted txid) closes) (had_answer (end.Exhausted txid) closes tt)
+        quiet_by (had_memory (end.Exhausted txid) closes) (ends_each (end.Exhausted txid) closes tt)
         (quiet (λ same. cc))
     counted_by (end.Unfinished k) closes quiet =
-        quiet_by (had_memory (end.Unfinished k) closes) (had_answer (end.Unfinished k) closes tt)
+        quiet_by (had_memory (end.Unfinished k) closes) (ends_each (end.Unfinished k) closes tt)
         (quiet (λ same. cc))
     counted_by end.StoreFault closes quiet =
         let ok = had_memory end.StoreFault closes in
-        let counted = run.told_so.counted (had_answer end.StoreFault closes tt) in
+        let counted = run.told_so.counted (ends_each end.StoreFault closes tt) in
         counted_fault tells count holds made faults t old mid new parts ran closed lent fates counted
         (failed_by ok counted) closes.1
     counted_by (end.BadCell key) closes quiet = broken_by key closes (quiet (λ same. cc))
+    counted_by (end.Follow txid) closes quiet =
+        quiet_by (had_memory (end.Follow txid) closes) (ends_each (end.Follow txid) closes tt)
+        (quiet (λ same. cc))
 
     -- ---- the run
 
-    -- whatever was answered, maps stand where parts do
-    stands_at : StandAtCommits t custom cut (maker_use tells count holds made faults old new) fates
-    stands_at = record {
+    -- maps stand where parts do
+    stand_with : (xs : List Attempt)
+        → ((before : List (List Span)) → AreBefore cut before
+        → MapsStood t custom cut before (maker_use tells count holds made faults old new)
+        → PartsStand tells t custom cut (before ++ committed_batches xs) ran)
+        → (IsFirst cut → BeganEmpty t (maker_use tells count holds made faults old new)
+        → PartsStand tells t custom cut (committed_batches xs) ran)
+        → StandAtCommits t custom cut (maker_use tells count holds made faults old new) xs
+    stand_with xs later first = record {
       later = λ before are stood.
           maps_stand tells count holds made faults t old mid new custom cut
-          (before ++ committed_batches fates) parts ran closed lent
-          (laws.hold_known (before ++ committed_batches fates)) (stands_later before are stood);
-      first = λ first empty.
+          (before ++ committed_batches xs) parts ran closed lent
+          (laws.hold_known (before ++ committed_batches xs)) (later before are stood);
+      first = λ is empty.
           maps_stand tells count holds made faults t old mid new custom cut
-          (committed_batches fates) parts ran closed lent
-          (laws.hold_known (committed_batches fates)) (stands_first first empty);
+          (committed_batches xs) parts ran closed lent
+          (laws.hold_known (committed_batches xs)) (first is empty);
+      strange = λ key has.
+          had_strange tells count holds made faults t old new parts key lent.planned lent.began
+          (run.told_so.strange key
+          (part_strange tells count holds made faults t old mid new key parts ran closed lent has));
     }
+
+    -- whatever was answered
+    stands_at : StandAtCommits t custom cut (maker_use tells count holds made faults old new) fates
+    stands_at = stand_with fates stands_later stands_first
+
+    -- where a follower failed they stand at what was committed before too
+    less_at : StandLess tells t custom cut fates parts ran
+        → StandBeforeLast t custom cut (maker_use tells count holds made faults old new) fates
+    less_at less = λ earlier last is.
+        stand_with earlier
+        (λ before are stood.
+        less earlier last is before are
+        (parts_stood tells count holds made faults t old new custom cut before parts lent.planned
+        lent.began stood))
+        (λ first empty.
+        less earlier last is [] (none_before cut first)
+        (laws.begin parts
+        (are_empty tells count holds made faults t old new parts lent.planned lent.began empty)))
+
+    pub less_is : (r : Result RunEnd E) → Closes tells count t answer ran closed r
+        → ((txid : ℕ) → answer ≡ Err (stop.Follow txid)
+        → StandLess tells t custom cut fates parts ran)
+        → (txid : ℕ) → r ≡ Ok (end.Follow txid)
+        → StandBeforeLast t custom cut (maker_use tells count holds made faults old new) fates
+    less_is r closes less txid is =
+        less_at
+        (less txid
+        (subst (λ (x : Result RunEnd E). Closes tells count t answer ran closed x) is closes))
 
     run_at : (ending : RunEnd) → ClosesAs ending → Quiet ending
         → IsRun told t custom cut ticks (maker_use tells count holds made faults old new) fates
@@ -308,8 +383,9 @@ module _ {S M : Type 0} {tells : S → CellMap → Type 0} {count : S → ℕ}
           subst (λ (r : Result Ended Stop). IsOfWorld t custom cut words steps r fates) closes.0
           (is (had_answer end.StoreFault closes tt))
       world_at words (end.BadCell key) closes is = tt
+      world_at words (end.Follow txid) closes is = tt
 
-      world_by : (ending : RunEnd) → ClosesAs ending → MetNoBadCell ending
+      world_by : (ending : RunEnd) → ClosesAs ending → MetNoFault ending
           → (words : ℕ → ℕ → ℕ) × IsEndOfWorld t custom cut words steps fates ending
       world_by ending closes none =
           let of_world = world.by_some (had_answer ending closes none) in
@@ -322,6 +398,7 @@ module _ {S M : Type 0} {tells : S → CellMap → Type 0} {count : S → ℕ}
       world_some (end.Unfinished k) closes = world_by (end.Unfinished k) closes tt
       world_some end.StoreFault closes = world_by end.StoreFault closes tt
       world_some (end.BadCell key) closes = (λ s k. 0, tt)
+      world_some (end.Follow txid) closes = (λ s k. 0, tt)
 
       -- it is the run of one world
       pub world_is : (r : Result RunEnd E) → Closes tells count t answer ran closed r
@@ -349,6 +426,7 @@ module _ {S M : Type 0} {tells : S → CellMap → Type 0} {count : S → ℕ}
     more_faults (end.Unfinished k) = 0
     more_faults end.StoreFault = 1
     more_faults (end.BadCell key) = 0
+    more_faults (end.Follow txid) = 0
 
     and_none : (n : ℕ) → RoseBySum n (faults old) (faults new)
         → RoseBySum (n + 0) (faults old) (faults new)
@@ -365,17 +443,28 @@ module _ {S M : Type 0} {tells : S → CellMap → Type 0} {count : S → ℕ}
     failures_of (end.Unfinished k) come = and_none (failed_commits fates) come.by_failures
     failures_of end.StoreFault come = come.by_failures
     failures_of (end.BadCell key) come = and_none (failed_commits fates) come.by_failures
+    failures_of (end.Follow txid) come = and_none (failed_commits fates) come.by_failures
 
-    module _ (ends : faults old ≤ 2 ^ 64 - 1) where
+    -- no strange cell was there where the stores began well
+    none_strange : (key : List ℕ)
+        → BeganWell t custom cut (maker_use tells count holds made faults old new)
+        → HadStrangeAt t (maker_use tells count holds made faults old new) key → ⊥
+    none_strange key (inl empty) = not_strange tells count holds made faults t old new key empty.1
+    none_strange key (inr stood) =
+        not_strange_stood tells count holds made faults t old new custom cut stood.before key
+        stood.stood stood.texts
+
+    module _ (ends : faults old ≤ 2 ^ 64 - 1)
+        (unfailed : (txid : ℕ) → answer ≡ Err (stop.Follow txid) → ⊥) where
       none_more : (ending : RunEnd) → ClosesAs ending → Quiet ending
-          → NothingIsInTheWay t (maker_use tells count holds made faults old new) fates
+          → NothingIsInTheWay t custom cut (maker_use tells count holds made faults old new) fates
           → failed_commits fates + more_faults ending ≡ 0
       none_more ending closes quiet free =
           not_raised (failed_commits fates + more_faults ending) (faults old) (faults new)
           (failures_of ending (counted_by ending closes quiet)) ends free.no_fault
 
       all_at : (ending : RunEnd) → ClosesAs ending → Quiet ending
-          → NothingIsInTheWay t (maker_use tells count holds made faults old new) fates
+          → NothingIsInTheWay t custom cut (maker_use tells count holds made faults old new) fates
           → (IsAnswer answer → failed_commits fates ≡ 0 → answer ≡ Ok ended.All) → IsAll ending
       unfolding more_faults
       all_at (end.All tables) closes quiet free finishes = tt
@@ -390,12 +479,12 @@ module _ {S M : Type 0} {tells : S → CellMap → Type 0} {count : S → ℕ}
       all_at end.StoreFault closes quiet free finishes =
           let none = none_more end.StoreFault closes quiet free in omega arith
       all_at (end.BadCell key) closes quiet free finishes =
-          not_strange tells count holds made faults t old new key free.began_empty
-          (end_comes (end.BadCell key) closes)
+          none_strange key free.began (end_comes (end.BadCell key) closes)
+      all_at (end.Follow txid) closes quiet free finishes = unfailed txid closes
 
       all_by : (r : Result RunEnd E) → Closes tells count t answer ran closed r
           → ((r ≡ Ok end.StoreFault → ⊥) → SameCounts count ran closed)
-          → NothingIsInTheWay t (maker_use tells count holds made faults old new) fates
+          → NothingIsInTheWay t custom cut (maker_use tells count holds made faults old new) fates
           → (IsAnswer answer → failed_commits fates ≡ 0 → answer ≡ Ok ended.All) → IfOk r IsAll
       all_by (Ok ending) closes quiet free finishes =
           all_at ending closes (λ other. quiet (λ same. other (of_ok ending same))) free finishes
@@ -409,7 +498,7 @@ module _ {S M : Type 0} {tells : S → CellMap → Type 0} {count : S → ℕ}
       pub none_out_finishes : (done : Result (Unit {0}) Stop) → answer ≡ ended_of done
           → (r : Result RunEnd E) → Closes tells count t answer ran closed r
           → ((r ≡ Ok end.StoreFault → ⊥) → SameCounts count ran closed)
-          → NothingIsInTheWay t (maker_use tells count holds made faults old new) fates
+          → NothingIsInTheWay t custom cut (maker_use tells count holds made faults old new) fates
           → (failed_commits fates ≡ 0 → NothingRanOut done) → IfOk r IsAll
       none_out_finishes done is r closes quiet free finishes =
           all_by r closes quiet free
@@ -420,6 +509,7 @@ module _ {S M : Type 0} {tells : S → CellMap → Type 0} {count : S → ℕ}
           all_of (Ok all) ok none = refl
           all_of (Err (stop.Exhausted txid)) ok none = absurd none
           all_of (Err (stop.BadCell key)) ok none = absurd ok
+          all_of (Err (stop.Follow txid)) ok none = absurd ok
           all_of (Err stop.Memory) ok none = absurd ok
 
       module _ {steps : List Step} (world : OfWorld t custom cut told steps answer fates) where
@@ -427,7 +517,7 @@ module _ {S M : Type 0} {tells : S → CellMap → Type 0} {count : S → ℕ}
         pub given_finishes : WorldLaws t custom cut → IsCustom custom
             → (r : Result RunEnd E) → Closes tells count t answer ran closed r
             → ((r ≡ Ok end.StoreFault → ⊥) → SameCounts count ran closed)
-            → NothingIsInTheWay t (maker_use tells count holds made faults old new) fates
+            → NothingIsInTheWay t custom cut (maker_use tells count holds made faults old new) fates
             → HasRounds t (rounds_needed t custom cut) steps → ticks_in steps < t.buckets
             → (0 < t.partitions → All ShutsNone steps) → IfOk r IsAll
         given_finishes worlds keeps r closes quiet free rounds few opened =
@@ -440,21 +530,22 @@ module _ {S M : Type 0} {tells : S → CellMap → Type 0} {count : S → ℕ}
 
         -- so does a run of rounds, with few ticks in the first of them
         pub rounds_finish : WorldLaws t custom cut → IsCustom custom
-            → (done : Result (Unit {0}) Stop) → answer ≡ ended_of done → (answers to_come : List ℕ)
-            → HasRoundsOf t answers steps → All ShutsNone steps
+            → (done : Result (Unit {0}) Stop) → answer ≡ ended_of done
+            → (answers shuts to_come : List ℕ)
+            → HasRoundsOf t answers shuts steps → All ShutsNone steps
             → answers ≡ first_answers (length answers) to_come
             → (r : Result RunEnd E) → Closes tells count t answer ran closed r
             → ((r ≡ Ok end.StoreFault → ⊥) → SameCounts count ran closed)
-            → NothingIsInTheWay t (maker_use tells count holds made faults old new) fates
+            → NothingIsInTheWay t custom cut (maker_use tells count holds made faults old new) fates
             → sum (first_answers (rounds_needed t custom cut) to_come) < t.buckets
             → IfOk r IsAll
-        rounds_finish worlds keeps done is answers to_come has opened are r closes quiet free few =
+        rounds_finish worlds keeps done is answers shuts to_come has opened are r closes quiet free few =
             all_by r closes quiet free
             (λ ok none.
             let of_world = world.by_some ok in
             is
             ∙ rounds_all t custom cut worlds input keeps free.can_finish of_world.0 fates none
-            free.no_coincidence steps answers to_come done
+            free.no_coincidence steps answers shuts to_come done
             (subst (λ (s : Result Ended Stop). IsOfWorld t custom cut of_world.0 steps s fates) is
             of_world.1)
             has opened are few)
@@ -472,21 +563,88 @@ none_left {E = E} tells count t ran closed done r closes k left =
     no_end (Err e) same = cc
 
 -- the world of a run by rounds is the one after its rounds
-pub by_rounds : {S E : Type 0} {told : (ℕ → ℕ → ℕ) → Type 0} {ticking : List ℕ → Type 0}
-    {tells : S → CellMap → Type 0} {count : S → ℕ} {t : Topology} {custom : Custom} {cut : Cut}
+pub by_rounds : {S E : Type 0} {told : (ℕ → ℕ → ℕ) → Type 0}
+    {ticking availing : List ℕ → Type 0} {tells : S → CellMap → Type 0} {count : S → ℕ} {t : Topology} {custom : Custom} {cut : Cut}
     {before after : ℕ} {done : Result (Unit {0}) Stop} {fates : List Attempt}
     {made ran : List (StatePart S)}
-    (come : RoundsCome told ticking tells count t custom cut before after done fates made ran)
+    (come : RoundsCome told ticking availing tells count t custom cut before after done fates made
+    ran)
     (r : Result RunEnd E) → IfOk r (IsRunOfWorld told t custom cut come.steps fates)
-    → IfOk r (IsRunByRounds told ticking t custom cut before after fates)
+    → IfOk r (IsRunByRounds told ticking availing t custom cut before after fates)
 by_rounds come (Ok ending) world =
     record {
       answers = come.answers;
       handed_out = come.handed_out;
       asked = come.asked;
+      shuts = come.shuts;
+      asked_shut = come.asked_shut;
       steps = come.steps;
       rounds = come.rounds;
       world = world;
     }
 by_rounds come (Err e) world =
     tt
+
+-- ---- followers
+
+-- a count that was raised rose
+rose_raised : (before after : ℕ) → after ≡ raised before → Rose before after
+rose_raised before after is = by (cases_lt before (2 ^ 64 - 1))
+  where
+    by : (before < 2 ^ 64 - 1) ⊎ (2 ^ 64 - 1 ≤ before) → Rose before after
+    by (inl less) = inl (omega arith)
+    by (inr most) = inr (omega arith)
+
+module _ {W : Type 0} (told : W → List Commit → Type 0) (failures : W → ℕ) (was is : W)
+    (fates : List Attempt) where
+  -- a follower whose count did not rise did not fail
+  pub unfailed_by : (answer : Result Ended Stop)
+      → RunFollowed told failures answer fates was is
+      → (Rose (failures was) (failures is) → ⊥) → (txid : ℕ) → answer ≡ Err (stop.Follow txid) → ⊥
+  unfailed_by answer followed none txid same =
+      let at : FailsAtLast told failures txid [] fates was is =
+      subst (λ (r : Result Ended Stop). RunFollowed told failures r fates was is) same followed in
+      none (rose_raised (failures was) (failures is) at.failed)
+
+  -- what it was told by the answer, it was told by the end
+  pub followed_is : {S E : Type 0} (tells : S → CellMap → Type 0) (count : S → ℕ) (t : Topology)
+      (ran closed : List (StatePart S)) (answer : Result Ended Stop) (r : Result RunEnd E)
+      → Closes tells count t answer ran closed r → RunFollowed told failures answer fates was is
+      → EndFollowed told failures r fates was is
+  followed_is {S} {E} tells count t ran closed answer r closes followed = by r closes
+    where
+      of_answer : (other : Result Ended Stop) → answer ≡ other
+          → RunFollowed told failures other fates was is
+      of_answer other same =
+          subst (λ (s : Result Ended Stop). RunFollowed told failures s fates was is) same followed
+
+      by : (r : Result RunEnd E) → Closes tells count t answer ran closed r
+          → EndFollowed told failures r fates was is
+      by (Ok (end.All tables)) closes = of_answer (Ok ended.All) closes.0
+      by (Ok (end.Exhausted txid)) closes = of_answer (Err (stop.Exhausted txid)) closes
+      by (Ok (end.Unfinished k)) closes = of_answer (Ok (ended.Unfinished k)) closes
+      by (Ok end.StoreFault) closes = of_answer (Ok ended.All) closes.0
+      by (Ok (end.BadCell key)) (inl bad) = of_answer (Err (stop.BadCell key)) bad
+      by (Ok (end.BadCell key)) (inr bad) = of_answer (Ok ended.All) bad.0
+      by (Ok (end.Follow txid)) closes = of_answer (Err (stop.Follow txid)) closes
+      by (Err e) (inl short) = of_answer (Err stop.Memory) short
+      by (Err e) (inr whole) = (of_answer (Ok ended.All) whole).quiet
+
+-- a follower that was not called did not fail
+pub followed_short : {W E : Type 0} (told : W → List Commit → Type 0) (failures : W → ℕ) (was : W)
+    (fates : List Attempt) (r : Result RunEnd E) → IsErr r → EndFollowed told failures r fates was was
+followed_short told failures was fates (Err e) err = refl
+followed_short told failures was fates (Ok ending) err = absurd (true≢false (sym err))
+
+-- a run of rounds that a follower stopped answers so
+pub follow_of : (done : Result (Unit {0}) Stop) (txid : ℕ)
+    → ended_of done ≡ Err (stop.Follow txid) → done ≡ Err (stop.Follow txid)
+follow_of (Ok all) txid same = absurd (none same)
+  where
+    none : Ok ended.All ≡ Err (stop.Follow txid) → ⊥
+    none e = cc
+follow_of (Err e) txid same = by same
+  where
+    by : ◌≡◌ {A = Result Ended Stop} (Err e) (Err (stop.Follow txid))
+        → ◌≡◌ {A = Result (Unit {0}) Stop} (Err e) (Err (stop.Follow txid))
+    by is = cc

@@ -6,7 +6,7 @@ use Rattle.std.proofs.lemmas.List.Elements.{All-from_recursion, All-weaker, recu
 use Rattle.event_worlds.specs.attempt_fates.declared.fates.Attempt.{Attempt}
 use Rattle.event_worlds.specs.attempt_fates.declared.fates.End.{End}
 use Rattle.event_worlds.specs.attempt_fates.declared.fates.End.TheVariants as end
-use Rattle.event_worlds.specs.attempt_fates.Fates.{HasBatch, aborts_of, is_abort, is_failed_commit}
+use Rattle.event_worlds.specs.attempt_fates.Fates.{HasBatch, aborts_of, committed, is_abort, is_failed_commit}
 use Rattle.batch_commits.specs.Standing.{batches_in, failed_commits}
 use Rattle.event_worlds.specs.bolt_ops.RowOp.{Custom, IsCustom}
 use Rattle.event_worlds.specs.commit_order.declared.stop.Stop.{Stop}
@@ -144,9 +144,9 @@ finished_answer t custom cut w laws start kept none_abort some done =
     (not_exhausted t custom cut w.desk w.fates laws start kept none_abort some done) done
   where
     by : (o : Option ℕ) (b : Bool) → ((txid : ℕ) → o ≡ Some txid → ⊥) → b ≡ true
-        → answer_by o b w.desk.committed ≡ Ok ended.All
+        → answer_by o b (length (committed w.fates)) ≡ Ok ended.All
     by (Some txid) b none is = absurd (none txid refl)
-    by None b none is = ap (λ (c : Bool). answer_by None c w.desk.committed) is
+    by None b none is = ap (λ (c : Bool). answer_by None c (length (committed w.fates))) is
 
 -- ---- when all is over
 
@@ -159,11 +159,11 @@ over_answer t cut w done is = by w.desk.exhausted (is_finished t cut w.desk) is
     no_end (Ok all) k same = cc
     no_end (Err e) k same = cc
 
-    by : (o : Option ℕ) (b : Bool) → ended_of done ≡ answer_by o b w.desk.committed
+    by : (o : Option ℕ) (b : Bool) → ended_of done ≡ answer_by o b (length (committed w.fates))
         → cond (is_some o) true b ≡ true
     by (Some txid) b same = refl
     by None true same = refl
-    by None false same = absurd (no_end done w.desk.committed same)
+    by None false same = absurd (no_end done (length (committed w.fates)) same)
 
 module _ (t : Topology) (custom : Custom) (cut : Cut) (laws : WorldLaws t custom cut)
     (input : IsInput t cut) (keeps : IsCustom custom) (can : CanFinish t) (words : ℕ → ℕ → ℕ)
@@ -205,12 +205,13 @@ module _ (t : Topology) (custom : Custom) (cut : Cut) (laws : WorldLaws t custom
       (subst (All DoesNotCoincide) is.fates_are apart) rounds few opened)
 
   -- a run of rounds of which the first are enough
-  pub rounds_all : (steps : List Step) (answers to_come : List ℕ) (done : Result (Unit {0}) Stop)
-      → IsOfWorld t custom cut words steps (ended_of done) fates → HasRoundsOf t answers steps
+  pub rounds_all : (steps : List Step) (answers shuts to_come : List ℕ)
+      (done : Result (Unit {0}) Stop)
+      → IsOfWorld t custom cut words steps (ended_of done) fates → HasRoundsOf t answers shuts steps
       → All ShutsNone steps → answers ≡ first_answers (length answers) to_come
       → sum (first_answers (rounds_needed t custom cut) to_come) < t.buckets
       → ended_of done ≡ Ok ended.All
-  rounds_all steps answers to_come done is has opened are few =
+  rounds_all steps answers shuts to_come done is has opened are few =
       from_finished steps (ended_of done) is
       (subst (λ (k : Known). NoneAborted cut k.world.fates) (sym same)
       (laws.none_abort words (outcomes_of fates) f.front input keeps can
@@ -218,7 +219,7 @@ module _ (t : Topology) (custom : Custom) (cut : Cut) (laws : WorldLaws t custom
       (subst (λ (k : Known). is_finished t cut k.world.desk ≡ true) (sym same) finished)
     where
       f : Front t (rounds_needed t custom cut) answers steps
-      f = front_of t (rounds_needed t custom cut) answers steps has
+      f = front_of t (rounds_needed t custom cut) answers shuts steps has
 
       over : is_over t cut (after steps).world ≡ true
       over = over_answer t cut (after steps).world done is.answer_is

@@ -1,12 +1,14 @@
 -- What is known of a maker by the parts over its stores: before a run, and when they came back.
-use Rattle.std.proofs.Common.{◌≡◌, ◌≤◌, ◌⊎◌, inl, inr, Result, Ok, Err, OnErr, ℕ, zero, suc, List, [], ◌∷◌, All, length, map, Option, None, Some, IsSome, slice_get, rules, refl, sym, ap, subst, ◌∙◌, append-nil, arith}
+use Rattle.std.proofs.Common.{◌≡◌, ◌≤◌, ◌+◌, ◌⊎◌, inl, inr, Result, Ok, Err, OnErr, ℕ, zero, suc, List, [], ◌∷◌, All, length, map, Option, None, Some, IsSome, slice_get, rules, refl, sym, ap, subst, ◌∙◌, append-nil, arith}
 use Rattle.std.specs.List.{AllByRecursion, AllZip}
 use Rattle.std.proofs.lemmas.List.Elements.{All-from_recursion, All-weaker, recursion_from_All}
 use Rattle.batch_commits.specs.Standing.{HasStrangeAt, HoldAll, IsNextBatch, IsStrange, PartsStand, writes_at, writes_of}
 use Rattle.event_worlds.specs.tree_model.Tables.{folded}
 use Rattle.event_worlds.specs.bolt_ops.RowOp.{Custom}
 use Rattle.cell_format.proofs.CommitLemmas.{Stands-none}
+use Rattle.cell_format.specs.Commits.{Holds}
 use Rattle.cell_format.specs.Standing.{Stands}
+use Rattle.cell_format.specs.declared.cell.Cell.{Cell}
 use Rattle.event_worlds.proofs.counted_items.Each.{each-map, each-to_map}
 use Rattle.event_worlds.specs.record_spans.declared.span.Span.{Span}
 use Rattle.schedule_core.specs.Driving.{AreKept, StillTells}
@@ -16,7 +18,8 @@ use Rattle.event_worlds.specs.state_parts.Makers.{AreMade, Began, CameBack as Pa
 use Rattle.event_worlds.specs.state_parts.PartPlans.{AreParts, IsOneOf, PartPlan, plan_of, planned_parts, plans_of}
 use Rattle.event_worlds.specs.state_parts.PartTables.{AreRead, IsRead}
 use Rattle.event_worlds.specs.state_parts.Standing.{IsEmpty, PartIsAt, PartStands}
-use Rattle.stored_runs.specs.Makers.{AllStandAt, BeganEmpty, CameBack, HadStrangeAt, MapsStand, MapsStood, StandsAt, StillTold, maker_use, writes_of_part}
+use Rattle.state_cells.specs.Turns.{IsBad}
+use Rattle.stored_runs.specs.Makers.{AllStandAt, BeganEmpty, CameBack, HadStrangeAt, HadTextKeys, HoldsStrangeAt, MapsStand, MapsStood, StandsAt, StillTold, maker_use, writes_of_part}
 use Rattle.stored_runs.specs.StoredRuns.{StandAtCommits}
 use Rattle.storm_stores.specs.CellMaps.{CellMap, cell_at}
 use Rattle.event_worlds.specs.storm_values.Counts.{raised_by}
@@ -25,6 +28,7 @@ use Rattle.event_worlds.specs.topology_plan.Topology.{Topology, tasks_of}
 use Rattle.event_worlds.specs.tree_model.declared.write.Write.{Write}
 use Rattle.event_worlds.specs.tree_model.Trees.{nodes_of}
 use Rattle.event_worlds.specs.taken_records.Cuts.{Cut}
+use Rattle.event_worlds.specs.taken_records.Taken.{batch_spans}
 
 -- What the calls of a body told of a maker and of the parts: it made the parts, a run went over
 -- them, they were read, and their stores went back.
@@ -122,6 +126,13 @@ no_strange kind key (inr some) = has_none (cell_at [] key) refl some.0
     has_none None same is = search rules
     has_none (Some x) same is = cc
 
+-- bytes that are some cell's are not refused
+not_bad : (kind : Kind) (held : Option (List ℕ)) (cell : Option Cell) → Holds kind held cell
+    → IsBad kind held → ⊥
+not_bad kind None cell holds bad = bad
+not_bad kind (Some bytes) None holds bad = holds.bytes
+not_bad kind (Some bytes) (Some cell) holds bad = bad cell holds.good holds.bytes
+
 module _ {S M : Type 0} (tells : S → CellMap → Type 0) (count : S → ℕ)
     (holds : M → ℕ → ℕ → CellMap → Type 0) (made : M → ℕ → ℕ → Type 0) (faults : M → ℕ)
     (t : Topology) (old new : M) where
@@ -218,6 +229,26 @@ module _ {S M : Type 0} (tells : S → CellMap → Type 0) (count : S → ℕ)
         strange = λ cells held. has.strange cells (part_began cells held);
       }
 
+  -- maps that stood had no cell that no part takes, and so none that is strange where keys are texts
+  pub not_strange_stood : (custom : Custom) (cut : Cut) (batches : List (List Span))
+      (key : List ℕ)
+      → MapsStood t custom cut batches (maker_use tells count holds made faults old new)
+      → HadTextKeys t (maker_use tells count holds made faults old new)
+      → HadStrangeAt t (maker_use tells count holds made faults old new) key → ⊥
+  not_strange_stood custom cut batches key stood texts had =
+      let spans : List Span = batch_spans (length cut.gone) cut.size (length batches + 1) in
+      let at : StandsAt t custom cut batches spans (holds old) had.part =
+      each-get (StandsAt t custom cut batches spans (holds old)) (planned_parts t) had.place had.part
+      (recursion_from_All (StandsAt t custom cut batches spans (holds old)) (planned_parts t)
+      (stood spans (λ none. refl))) had.at in
+      by (cell_at at.cells key) (at.stands.keys key).cell (at.stands.keys key).is
+      (had.strange at.cells at.told)
+    where
+      by : (held : Option (List ℕ)) (cell : Option Cell) → Holds had.part.kind held cell
+          → IsStrange had.part.kind key held → ⊥
+      by held cell holds (inl bad) = not_bad had.part.kind held cell holds bad
+      by held cell holds (inr strange) = texts key strange.1 had
+
   -- no maker that told of no cell had a strange one
   pub not_strange : (key : List ℕ) → BeganEmpty t (maker_use tells count holds made faults old new)
       → HadStrangeAt t (maker_use tells count holds made faults old new) key → ⊥
@@ -280,6 +311,54 @@ module _ {S M : Type 0} (tells : S → CellMap → Type 0) (count : S → ℕ)
         lent.others_back c p cells of_closed (lent.others_out c p cells of_made held);
     never_falls = let up = lent.never_falls in let same = lent.same_count in omega arith;
   }
+
+  -- ---- strange cells
+
+  -- cells that are strange at a key, where they are told
+  abbrev AreStrange : (CellMap → Type 0) → Kind → List ℕ → Type 0
+  AreStrange told kind key = (cells : CellMap) → told cells → IsStrange kind key (cell_at cells key)
+
+  one_strange : (key : List ℕ) (y z : StatePart S) (part : PartPlan) → plan_of z ≡ plan_of y
+      → plan_of y ≡ part → IsRead tells count y z → PartCameBack tells holds new z
+      → AreStrange (holds new part.component part.part) part.kind key
+      → AreStrange (tells y.over.store) y.over.kind key
+  one_strange key y z part then is read back strange = λ cells told.
+      let held : holds new z.component z.part cells = back cells (read.same cells told) in
+      subst (λ (p : PartPlan). IsStrange p.kind key (cell_at cells key)) (sym is)
+      (strange cells
+      (subst (λ (p : PartPlan). holds new p.component p.part cells) (then ∙ is) held))
+
+  strange_each : (key : List ℕ) (part : PartPlan)
+      → AreStrange (holds new part.component part.part) part.kind key
+      → (ys zs : List (StatePart S)) → plans_of zs ≡ plans_of ys
+      → AllZip (IsRead tells count) ys zs → AllByRecursion (PartCameBack tells holds new) zs
+      → (place : ℕ) → slice_get (plans_of ys) place ≡ Some part
+      → (at : StatePart S) × (slice_get ys place ≡ Some at)
+      × AreStrange (tells at.over.store) at.over.kind key
+  strange_each key part strange [] zs then read back place is = absurd (no_part is)
+    where
+      no_part : None ≡ Some part → ⊥
+      no_part e = cc
+  strange_each key part strange (y ∷ ys) [] then read back place is = absurd read
+  strange_each key part strange (y ∷ ys) (z ∷ zs) then read back zero is =
+      let plan : plan_of z ≡ plan_of y = cc in
+      let same : plan_of y ≡ part = cc in
+      (y, refl, one_strange key y z part plan same read.0 back.0 strange)
+  strange_each key part strange (y ∷ ys) (z ∷ zs) then read back (suc place) is =
+      let plans : plans_of zs ≡ plans_of ys = cc in
+      strange_each key part strange ys zs plans read.1 back.1 place is
+
+  -- a strange cell of a map that came back was in a part
+  pub part_strange : (key : List ℕ) (parts ran closed : List (StatePart S))
+      → Lent tells count holds faults t old mid new parts ran closed
+      → HoldsStrangeAt t (maker_use tells count holds made faults old new) key
+      → HasStrangeAt tells ran key
+  part_strange key parts ran closed lent has =
+      let found = strange_each key has.part has.strange ran closed lent.plans lent.read
+      (recursion_from_All (PartCameBack tells holds new) closed lent.back) has.place
+      (subst (λ (plans : List PartPlan). slice_get plans has.place ≡ Some has.part)
+      (sym (lent.kept.plans ∙ lent.planned)) has.at) in
+      record { place = has.place; at = found.0; is_at = found.1; strange = found.2 }
 
   module _ (custom : Custom) (cut : Cut) (batches : List (List Span)) where
     module _ (spans : List Span) where
@@ -423,4 +502,11 @@ module _ {S M : Type 0} (tells : S → CellMap → Type 0) (count : S → ℕ)
         (StandsAt t custom cut [] spans (holds new))
         (λ part held. one_idle spans part (same part.component part.part [] held))
         (planned_parts t) empty;
+    strange = λ key has. record {
+      place = has.place;
+      part = has.part;
+      at = has.at;
+      strange = λ cells held.
+          has.strange cells (same has.part.component has.part.part cells held);
+    };
   }

@@ -12,7 +12,8 @@ use Rattle.event_worlds.specs.commit_turns.Turns.{decided, is_finished}
 use Rattle.event_worlds.specs.Rounds.{HasRounds, is_tick, round_with, ticks_in}
 use Rattle.event_worlds.specs.Worlds.{Acted, Known, Step, World, acted, coordinator_steps, delivered, is_over, next, next_outcome, next_words, of_acker, of_open, of_outcome, of_shut, of_task, of_tick, of_turn, run, sent, step, task_at, task_needs, turn_needs, turn_past, with_progress, with_task}
 use Rattle.event_worlds.proofs.counted_items.Each.{each-append, each-back, each-front}
-use Rattle.schedule_core.proofs.Rounding.{open-round}
+use Rattle.event_engine.specs.Shutting.{shutting_steps}
+use Rattle.schedule_core.proofs.Rounding.{no-ticks-before, open-round}
 use Rattle.schedule_core.specs.Runs.{HasRoundsOf, first_answers}
 use Rattle.event_worlds.specs.state_parts.declared.answer.CommitOutcome.{CommitOutcome}
 use Rattle.event_worlds.specs.topology_plan.Topology.{Topology, tasks_in_all}
@@ -121,10 +122,10 @@ regrouped first round xs more ys rest same =
     ∙ sym (append_assoc round ys rest))
     ∙ sym (append_assoc first (round ++ ys) rest)
 
-pub front_of : (t : Topology) (count : ℕ) (answers : List ℕ) (steps : List Step)
-    → HasRoundsOf t answers steps → Front t count answers steps
+pub front_of : (t : Topology) (count : ℕ) (answers shuts : List ℕ) (steps : List Step)
+    → HasRoundsOf t answers shuts steps → Front t count answers steps
 unfolding sum_first
-front_of t zero answers steps has = record {
+front_of t zero answers shuts steps has = record {
   front = [];
   rest = steps;
   more = [];
@@ -133,7 +134,9 @@ front_of t zero answers steps has = record {
   ticks = refl;
   shut_none = λ all. tt;
 }
-front_of t (suc n) [] steps has = record {
+front_of t (suc n) [] (shut ∷ shuts) steps has = absurd has
+front_of t (suc n) (a ∷ answers) [] steps has = absurd has
+front_of t (suc n) [] [] steps has = record {
   front = steps ++ quiet_rounds t (suc n);
   rest = [];
   more = quiet_rounds t (suc n);
@@ -141,32 +144,37 @@ front_of t (suc n) [] steps has = record {
   rounds = quiet-rounds t (suc n) steps;
   ticks =
       let both = ticks-both steps (quiet_rounds t (suc n)) in
+      let own = ap ticks_in has in
       let none = ticks-quiet t (suc n) in omega arith;
   shut_none = λ all.
       each-append ShutsNone steps (quiet_rounds t (suc n)) all (open-quiet t (suc n));
 }
-front_of t (suc n) (a ∷ answers) steps has =
-    let later : Front t n answers has.1 = front_of t n answers has.1 has.4 in
+front_of t (suc n) (a ∷ answers) (shut ∷ shuts) steps has =
+    let before : List Step = shutting_steps t.partitions shut ++ has.0 in
+    let is : steps ≡ before ++ (round_with t a ++ has.1) =
+    has.2 ∙ sym (append_assoc (shutting_steps t.partitions shut) has.0 (round_with t a ++ has.1)) in
+    let none : ticks_in before ≡ 0 = no-ticks-before t.partitions shut has.0 has.3 in
+    let later : Front t n answers has.1 = front_of t n answers shuts has.1 has.4 in
     record {
-      front = has.0 ++ (round_with t a ++ later.front);
+      front = before ++ (round_with t a ++ later.front);
       rest = later.rest;
       more = later.more;
       same =
-          ap (λ (xs : List Step). xs ++ later.more) has.2
-          ∙ regrouped has.0 (round_with t a) has.1 later.more later.front later.rest later.same;
-      rounds = (has.0, later.front, a, refl, later.rounds);
+          ap (λ (xs : List Step). xs ++ later.more) is
+          ∙ regrouped before (round_with t a) has.1 later.more later.front later.rest later.same;
+      rounds = (before, later.front, a, refl, later.rounds);
       ticks =
-          let both = ticks-both has.0 (round_with t a ++ later.front) in
+          let both = ticks-both before (round_with t a ++ later.front) in
           let own = ticks-both (round_with t a) later.front in
-          let first = has.3 in
+          let first = none in
           let round = ticks-of_round t a in
           let last = later.ticks in omega arith;
       shut_none = λ all.
-          let parts : AllByRecursion ShutsNone (has.0 ++ (round_with t a ++ has.1)) =
-          subst (AllByRecursion ShutsNone) has.2 all in
-          let own = each-back ShutsNone has.0 (round_with t a ++ has.1) parts in
-          each-append ShutsNone has.0 (round_with t a ++ later.front)
-          (each-front ShutsNone has.0 (round_with t a ++ has.1) parts)
+          let parts : AllByRecursion ShutsNone (before ++ (round_with t a ++ has.1)) =
+          subst (AllByRecursion ShutsNone) is all in
+          let own = each-back ShutsNone before (round_with t a ++ has.1) parts in
+          each-append ShutsNone before (round_with t a ++ later.front)
+          (each-front ShutsNone before (round_with t a ++ has.1) parts)
           (each-append ShutsNone (round_with t a) later.front (open-round t a)
           (later.shut_none (each-back ShutsNone (round_with t a) has.1 own)));
     }

@@ -15,17 +15,19 @@ use Rattle.event_worlds.specs.topology_plan.Topology.{Topology}
 use Rattle.event_worlds.specs.tree_model.Tables.{states_of}
 
 -- Where no record was left uncommitted the parts were read: they have these tables, or a store
--- failed, or one has a cell that no table takes. All other answers stand as they are.
+-- failed, or one has a cell that no table takes, or memory was wanted. All other answers stand as
+-- they are.
 abbrev pub Closes : {S E : Type 0} → (S → CellMap → Type 0) → (S → ℕ) → Topology
     → Result Ended Stop → List (StatePart S) → List (StatePart S) → Result RunEnd E → Type 0
 Closes tells count t answer old new (Ok (end.All tables)) =
     (answer ≡ Ok ended.All)
     × ((custom : Custom) → AllZip (IsTableOver tells old) (states_of t custom) tables)
 Closes tells count t answer old new (Ok (end.Exhausted txid)) = answer ≡ Err (stop.Exhausted txid)
-Closes tells count t answer old new (Ok (end.Unfinished txid)) =
-    answer ≡ Ok (ended.Unfinished txid)
+Closes tells count t answer old new (Ok (end.Unfinished many)) =
+    answer ≡ Ok (ended.Unfinished many)
 Closes tells count t answer old new (Ok end.StoreFault) =
     (answer ≡ Ok ended.All) × OneRaised count old new
 Closes tells count t answer old new (Ok (end.BadCell key)) =
     (answer ≡ Err (stop.BadCell key)) ⊎ ((answer ≡ Ok ended.All) × IsBadRowAt tells old key)
-Closes tells count t answer old new (Err e) = Unit {0}
+Closes tells count t answer old new (Ok (end.Follow txid)) = answer ≡ Err (stop.Follow txid)
+Closes tells count t answer old new (Err e) = (answer ≡ Err stop.Memory) ⊎ (answer ≡ Ok ended.All)

@@ -1,5 +1,5 @@
 -- The laws that a run over the stores of a maker rests on. This project's own.
-use Rattle.std.specs.Prelude.{◌≡◌, ◌<◌, ◌⊎◌, ◌↔◌, ℕ, true, List, All, length}
+use Rattle.std.specs.Prelude.{◌≡◌, ◌<◌, ◌⊎◌, ◌↔◌, ℕ, true, List, [], All, length}
 use Rattle.std.specs.List.{AllZip}
 use Rattle.event_worlds.specs.attempt_fates.declared.fates.Attempt.{Attempt}
 use Rattle.batch_commits.specs.Standing.{AllButLastAreCounted, FailsAtOneOf, FailuresAreCounted, HasStrangeAt, HoldAll, PartsStand, RoseByFailures, batches_in, failed_commits, writes_of}
@@ -19,6 +19,7 @@ use Rattle.event_worlds.specs.state_parts.Commits.{IsBadAt}
 use Rattle.event_worlds.specs.state_parts.Makers.{RoseBySum, faults_of}
 use Rattle.event_worlds.specs.state_parts.PartPlans.{AreParts, IsOneOf, plans_of}
 use Rattle.event_worlds.specs.state_parts.PartTables.{IsBadRowAt, IsTableOver}
+use Rattle.event_worlds.specs.state_parts.Standing.{IsEmpty}
 use Rattle.storm_stores.specs.CellMaps.{CellMap}
 use Rattle.event_worlds.specs.topology_plan.Topology.{Topology}
 use Rattle.event_worlds.specs.topology_plan.Wired.{IsWired}
@@ -54,8 +55,8 @@ pub record WorldLaws (t : Topology) (custom : Custom) (cut : Cut) : Type 0 where
       → (0 < cut.partitions → All ShutsNone steps)
       → is_finished t cut (world_after t custom cut words outcomes steps).desk ≡ true
 
--- Failed commits are counted by the parts at which they fail, parts that stand have the tables, and
--- a bad cell that is met is a strange one.
+-- Failed commits are counted by the parts at which they fail, empty parts stand at no batches,
+-- parts that stand have the tables, and a bad cell that is met is a strange one.
 pub record PartLaws {S : Type 0} (tells : S → CellMap → Type 0) (count : S → ℕ) (t : Topology)
     (custom : Custom) (cut : Cut) : Type 0 where
   pub sum : (fates : List Attempt) (a b : List (StatePart S))
@@ -66,6 +67,8 @@ pub record PartLaws {S : Type 0} (tells : S → CellMap → Type 0) (count : S �
       → RoseBySum (failed_commits fates) (faults_of count a) (faults_of count b)
   pub part : (parts : List (StatePart S)) (component part : ℕ) → AreParts t parts
       → IsPart t component part → IsOneOf (plans_of parts) component part
+  pub begin : (parts : List (StatePart S)) → All (IsEmpty tells) parts
+      → PartsStand tells t custom cut [] parts
   pub tables : (batches : List (List Span)) (parts : List (StatePart S)) (tables : List Table)
       → IsWired t → AreParts t parts → HoldAll cut batches
       → PartsStand tells t custom cut batches parts

@@ -1,6 +1,7 @@
 -- A maker of stores before and after a run over its stores. This project's own.
 use Rattle.std.specs.Prelude.{◌≡◌, ◌≤◌, ◌+◌, ℕ, List, [], All, Some, filter, length, slice_get, sum}
 use Rattle.std.specs.List.{AllZip}
+use Rattle.std.specs.Str.{IsUtf8}
 use Rattle.event_worlds.specs.attempt_fates.declared.fates.Attempt.{Attempt}
 use Rattle.batch_commits.specs.Standing.{CountsRun, HoldAll, IsNextBatch, IsStrange, failed_commits, writes_at, writes_of}
 use Rattle.event_worlds.specs.bolt_ops.RowOp.{Custom}
@@ -94,11 +95,23 @@ pub record HadStrangeAt (t : Topology) (maker : MakerUse) (key : List ℕ) : Typ
   pub strange : (cells : CellMap) → maker.held part.component part.part cells
       → IsStrange part.kind key (cell_at cells key)
 
+-- no cell was at a key that is no text
+abbrev pub HadTextKeys : Topology → MakerUse → Type 0
+HadTextKeys t maker = (key : List ℕ) → (IsUtf8 key → ⊥) → HadStrangeAt t maker key → ⊥
+
 -- ---- what it tells after
 
 -- the maps of all parts stand at these batches
 abbrev pub MapsStand : Topology → Custom → Cut → List (List Span) → MakerUse → Type 0
 MapsStand t custom cut batches maker = AllStandAt t custom cut batches maker.holds
+
+-- one of the parts has such a cell at this key, as `HadStrangeAt` says it of what was told before
+pub record HoldsStrangeAt (t : Topology) (maker : MakerUse) (key : List ℕ) : Type 0 where
+  pub place : ℕ
+  pub part : PartPlan
+  pub at : slice_get (planned_parts t) place ≡ Some part
+  pub strange : (cells : CellMap) → maker.holds part.component part.part cells
+      → IsStrange part.kind key (cell_at cells key)
 
 -- a part of which cells were told is told still
 abbrev pub StillTold : MakerUse → PartPlan → Type 0

@@ -1,10 +1,11 @@
 -- What a run over the stores of a maker comes to. This project's own.
-use Rattle.std.specs.Prelude.{◌≡◌, ◌++◌, ℕ, List, Ok, Err, All, fold, length}
+use Rattle.std.specs.Prelude.{◌≡◌, ◌++◌, ◌⊎◌, ℕ, List, [], ◌∷◌, Result, Ok, Err, All, fold, length}
 use Rattle.event_worlds.specs.attempt_fates.declared.fates.Attempt.{Attempt}
 use Rattle.event_worlds.specs.attempt_fates.Fates.{DropsFollow, IsOnce, IsWhole, committed_batches}
 use Rattle.batch_commits.specs.Standing.{writes_of}
 use Rattle.event_worlds.specs.bolt_ops.RowOp.{Custom}
 use Rattle.event_worlds.specs.commit_order.declared.stop.Stop.TheVariants as stop
+use Rattle.event_worlds.specs.commit_order.Follows.{FailsAtLast, Follows}
 use Rattle.event_worlds.specs.commit_turns.Kept.{FailsInTurn}
 use Rattle.event_worlds.specs.Accounted.{AreCaused}
 use Rattle.event_worlds.specs.Rounds.{CanFinish, DoesNotCoincide}
@@ -12,13 +13,15 @@ use Rattle.event_worlds.specs.Worlds.{Step}
 use Rattle.event_worlds.specs.record_spans.declared.span.Span.{Span}
 use Rattle.schedule_core.specs.declared.ended.Ended.TheVariants as ended
 use Rattle.schedule_core.specs.Driving.{AreBefore}
+use Rattle.schedule_core.specs.Following.{EndsByCommit}
 use Rattle.schedule_core.specs.Runs.{HasRoundsOf, HasRunOut, IsFirst, IsUnfinished, first_answers}
 use Rattle.schedule_core.specs.Schedules.{IsOfWorld}
+use Rattle.event_worlds.specs.state_parts.declared.answer.Commit.{Commit}
 use Rattle.event_worlds.specs.storm_values.Counts.{Rose}
 use Rattle.storm_ticks.specs.Ticking.{handed_on}
 use Rattle.stored_runs.specs.declared.ending.RunEnd.{RunEnd}
 use Rattle.stored_runs.specs.declared.ending.RunEnd.TheVariants as end
-use Rattle.stored_runs.specs.Makers.{BeganEmpty, FaultsAreCounted, FaultsBeforeBadCell, HadStrangeAt, MakerUse, MapsStand, MapsStood, ReadingFailed}
+use Rattle.stored_runs.specs.Makers.{BeganEmpty, FaultsAreCounted, FaultsBeforeBadCell, HadStrangeAt, HadTextKeys, HoldsStrangeAt, MakerUse, MapsStand, MapsStood, ReadingFailed}
 use Rattle.event_worlds.specs.topology_plan.Topology.{Topology}
 use Rattle.event_worlds.specs.tree_model.declared.write.Table.{Table}
 use Rattle.event_worlds.specs.tree_model.Tables.{AreTables}
@@ -39,25 +42,28 @@ pub record AreTablesOfCommits (t : Topology) (custom : Custom) (cut : Cut) (make
       → AreTables t custom (writes_of t custom cut (committed_batches fates)) tables
 
 -- What the end of a run says: no record is left uncommitted, and these are the tables; or as many
--- attempts of a transaction aborted as the plan allows; or some record is left uncommitted, and
--- this is the last transaction that is committed; or none is left, and a store failed at the last
--- reading; or a store had at this key a cell before the run that no part takes.
+-- attempts of a transaction aborted as the plan allows; or some record is left uncommitted, and so
+-- many batches were committed; or none is left, and a store failed at the last reading; or a store
+-- had at this key a cell before the run that no part takes; or a follower failed at the commit of
+-- this transaction, which is the last end.
 abbrev pub EndComes : Topology → Custom → Cut → ℕ → MakerUse → List Attempt → RunEnd → Type 0
 EndComes t custom cut ticks maker fates (end.All tables) =
     IsWhole cut ticks fates × AreTablesOfCommits t custom cut maker fates tables
 EndComes t custom cut ticks maker fates (end.Exhausted txid) = HasRunOut t cut txid fates
-EndComes t custom cut ticks maker fates (end.Unfinished txid) = IsUnfinished cut txid fates
+EndComes t custom cut ticks maker fates (end.Unfinished many) = IsUnfinished cut many fates
 EndComes t custom cut ticks maker fates end.StoreFault = IsWhole cut ticks fates
 EndComes t custom cut ticks maker fates (end.BadCell key) = HadStrangeAt t maker key
+EndComes t custom cut ticks maker fates (end.Follow txid) = EndsByCommit txid fates
 
 -- What the end says of faults: what stores failed is what the fates tell, and one fault more at the
 -- last reading where that failed.
 abbrev pub FaultsCome : Topology → MakerUse → List Attempt → RunEnd → Type 0
 FaultsCome t maker fates (end.All tables) = FaultsAreCounted t maker fates
 FaultsCome t maker fates (end.Exhausted txid) = FaultsAreCounted t maker fates
-FaultsCome t maker fates (end.Unfinished txid) = FaultsAreCounted t maker fates
+FaultsCome t maker fates (end.Unfinished many) = FaultsAreCounted t maker fates
 FaultsCome t maker fates end.StoreFault = ReadingFailed t maker fates
 FaultsCome t maker fates (end.BadCell key) = FaultsBeforeBadCell t maker fates
+FaultsCome t maker fates (end.Follow txid) = FaultsAreCounted t maker fates
 
 -- ---- a run
 
@@ -78,6 +84,8 @@ pub record StandAtCommits (t : Topology) (custom : Custom) (cut : Cut) (maker : 
   -- so over stores that began empty, where no record was gone before, at those that were committed
   pub first : IsFirst cut → BeganEmpty t maker
       → MapsStand t custom cut (committed_batches fates) maker
+  -- a cell that no part takes, or at a key that is no text, was there before
+  pub strange : (key : List ℕ) → HoldsStrangeAt t maker key → HadStrangeAt t maker key
 
 -- A run over the stores of a maker, in which so many ticks were handed out, left these fates and
 -- ended so. The sources of ids told these words.
@@ -101,6 +109,30 @@ pub record IsRun (told : (ℕ → ℕ → ℕ) → Type 0) (t : Topology) (custo
 abbrev pub StandsWithoutMemory : Topology → Custom → Cut → MakerUse → List Attempt → Type 0
 StandsWithoutMemory t custom cut maker fates = StandAtCommits t custom cut maker fates
 
+-- ---- followers
+
+-- What a follower was told of a run that left these fates: all that was committed, in order, and of
+-- the last commit perhaps nothing where it failed at it. Where memory was wanted it did not fail.
+abbrev pub EndFollowed : {W E : Type 0} → (W → List Commit → Type 0) → (W → ℕ)
+    → Result RunEnd E → List Attempt → W → W → Type 0
+EndFollowed tells count (Ok (end.All tables)) fates was is = Follows tells count [] fates was is
+EndFollowed tells count (Ok (end.Exhausted txid)) fates was is =
+    Follows tells count [] fates was is
+EndFollowed tells count (Ok (end.Unfinished many)) fates was is =
+    Follows tells count [] fates was is
+EndFollowed tells count (Ok end.StoreFault) fates was is = Follows tells count [] fates was is
+EndFollowed tells count (Ok (end.BadCell key)) fates was is = Follows tells count [] fates was is
+EndFollowed tells count (Ok (end.Follow txid)) fates was is =
+    FailsAtLast tells count txid [] fates was is
+EndFollowed tells count (Err e) fates was is = count is ≡ count was
+
+-- All maps stand at what was committed before the last end. So it is where a follower failed at the
+-- last commit, which is left out, as one that was begun.
+abbrev pub StandBeforeLast : Topology → Custom → Cut → MakerUse → List Attempt → Type 0
+StandBeforeLast t custom cut maker fates =
+    (earlier : List Attempt) (last : Attempt) → fates ≡ earlier ++ last ∷ []
+    → StandAtCommits t custom cut maker earlier
+
 -- ---- worlds
 
 -- the fates, and the answer with this end, are those of the world after these steps
@@ -110,11 +142,12 @@ IsEndOfWorld t custom cut words steps fates (end.All tables) =
     IsOfWorld t custom cut words steps (Ok ended.All) fates
 IsEndOfWorld t custom cut words steps fates (end.Exhausted txid) =
     IsOfWorld t custom cut words steps (Err (stop.Exhausted txid)) fates
-IsEndOfWorld t custom cut words steps fates (end.Unfinished txid) =
-    IsOfWorld t custom cut words steps (Ok (ended.Unfinished txid)) fates
+IsEndOfWorld t custom cut words steps fates (end.Unfinished many) =
+    IsOfWorld t custom cut words steps (Ok (ended.Unfinished many)) fates
 IsEndOfWorld t custom cut words steps fates end.StoreFault =
     IsOfWorld t custom cut words steps (Ok ended.All) fates
 IsEndOfWorld t custom cut words steps fates (end.BadCell key) = Unit {0}
+IsEndOfWorld t custom cut words steps fates (end.Follow txid) = Unit {0}
 
 -- They are so by some words of the sources of ids, and by those that the sources told.
 pub record IsRunOfWorld (told : (ℕ → ℕ → ℕ) → Type 0) (t : Topology) (custom : Custom) (cut : Cut)
@@ -123,28 +156,48 @@ pub record IsRunOfWorld (told : (ℕ → ℕ → ℕ) → Type 0) (t : Topology)
   pub by_told : (words : ℕ → ℕ → ℕ) → told words
       → IsEndOfWorld t custom cut words steps fates ending
 
--- A run by rounds, which asked a source of ticks once a round, is that of the world after them.
--- Over sources of ids and of ticks that tell it came to what these tell.
-pub record IsRunByRounds (told : (ℕ → ℕ → ℕ) → Type 0) (ticking : List ℕ → Type 0) (t : Topology)
-    (custom : Custom) (cut : Cut) (before after : ℕ) (fates : List Attempt) (ending : RunEnd)
-    : Type 0 where
+-- A run by rounds, which asked once a round which partitions are shut and how many ticks passed, is
+-- that of the world after them. Over sources that tell it came to what these tell.
+pub record IsRunByRounds (told : (ℕ → ℕ → ℕ) → Type 0) (ticking availing : List ℕ → Type 0)
+    (t : Topology) (custom : Custom) (cut : Cut) (before after : ℕ) (fates : List Attempt)
+    (ending : RunEnd) : Type 0 where
   -- what the source of ticks answered
   pub answers : List ℕ
   pub handed_out : after ≡ fold handed_on before answers
   pub asked : (to_come : List ℕ) → ticking to_come
       → answers ≡ first_answers (length answers) to_come
+  -- and which partitions were told to be shut
+  pub shuts : List ℕ
+  pub asked_shut : (to_come : List ℕ) → availing to_come
+      → shuts ≡ first_answers (length shuts) to_come
   -- the steps
   pub steps : List Step
-  pub rounds : HasRoundsOf t answers steps
+  pub rounds : HasRoundsOf t answers shuts steps
   pub world : IsRunOfWorld told t custom cut steps fates ending
 
 -- ---- when a run has to commit all
 
--- Nothing is in the way: the stores began empty, no store failed, by a count that ends at 2^64 - 1,
+-- The maps stood at the batches before the start, and no cell was at a key that is no text. What a
+-- run leaves serves a later start: the maps stand at what was committed, and no strange cell is new
+-- (`StandAtCommits`).
+pub record StoodBefore (t : Topology) (custom : Custom) (cut : Cut) (maker : MakerUse)
+    : Type 0 where
+  pub before : List (List Span)
+  pub are : AreBefore cut before
+  pub stood : MapsStood t custom cut before maker
+  pub texts : HadTextKeys t maker
+
+-- the stores began empty, where no record was gone before, or stood at the batches before the start
+abbrev pub BeganWell : Topology → Custom → Cut → MakerUse → Type 0
+BeganWell t custom cut maker =
+    (IsFirst cut × BeganEmpty t maker) ⊎ StoodBefore t custom cut maker
+
+-- Nothing is in the way: the stores began well, no store failed, by a count that ends at 2^64 - 1,
 -- each bolt lets batches through within the attempts of the plan, and no attempt ended because its
 -- ids coincide.
-pub record NothingIsInTheWay (t : Topology) (maker : MakerUse) (fates : List Attempt) : Type 0 where
-  pub began_empty : BeganEmpty t maker
+pub record NothingIsInTheWay (t : Topology) (custom : Custom) (cut : Cut) (maker : MakerUse)
+    (fates : List Attempt) : Type 0 where
+  pub began : BeganWell t custom cut maker
   pub no_fault : Rose maker.faults_before maker.faults_after → ⊥
   pub can_finish : CanFinish t
   pub no_coincidence : All DoesNotCoincide fates
@@ -153,6 +206,7 @@ pub record NothingIsInTheWay (t : Topology) (maker : MakerUse) (fates : List Att
 abbrev pub IsAll : RunEnd → Type 0
 IsAll (end.All tables) = Unit {0}
 IsAll (end.Exhausted txid) = ⊥
-IsAll (end.Unfinished txid) = ⊥
+IsAll (end.Unfinished many) = ⊥
 IsAll end.StoreFault = ⊥
 IsAll (end.BadCell key) = ⊥
+IsAll (end.Follow txid) = ⊥

@@ -19,7 +19,7 @@ use storm_stores::CellStore;
 
 /// The end of a run that came to this answer. Where no record is left uncommitted the tables are
 /// read.
-pub(crate) fn close<C: CellStore>(
+pub fn close<C: CellStore>(
     plan: &Plan,
     parts: &mut Parts<C>,
     answer: Result<Ended, Stop>,
@@ -35,6 +35,7 @@ pub(crate) fn close<C: CellStore>(
         Ok(Ended::Unfinished(count)) => Ok(RunEnd::Unfinished(count)),
         Err(Stop::Exhausted(txid)) => Ok(RunEnd::Exhausted(txid)),
         Err(Stop::BadCell(key)) => Ok(RunEnd::BadCell(key)),
+        Err(Stop::Follow(txid)) => Ok(RunEnd::Follow(txid)),
         Err(Stop::Memory) => Err(AllocError),
     }
 }
@@ -57,7 +58,7 @@ fn read<C: CellStore>(plan: &Plan, parts: &mut Parts<C>) -> Result<RunEnd, Memor
 }
 
 /// What a run of rounds answers that nothing stopped: no record is left uncommitted.
-pub(crate) fn as_ended(done: Result<(), Stop>) -> Result<Ended, Stop>
+pub fn as_ended(done: Result<(), Stop>) -> Result<Ended, Stop>
     ensures { result ≡ ended done }
 {
     match done {

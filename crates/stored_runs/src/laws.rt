@@ -5,8 +5,8 @@ ghost use Rattle.event_worlds.specs.topology_plan.Topology.{Topology};
 ghost use Rattle.event_worlds.specs.taken_records.Cuts.{Cut};
 
 use batch_commits::{
-    all_batches_hold_all_records, counts_run_on, failures_of_commits_are_counted,
-    parts_that_stand_have_the_tables, strange_cells_were_there,
+    all_batches_hold_all_records, commits_of_batches_move_parts, counts_run_on,
+    failures_of_commits_are_counted, parts_that_stand_have_the_tables, strange_cells_were_there,
 };
 use event_worlds::commit_turns::finished_runs_are_whole;
 use event_worlds::worlds_are_accounted;
@@ -15,8 +15,8 @@ use world_progress::{
     enough_rounds_finish, lasting_worlds_go_on, no_attempt_aborts_with_partitions,
 };
 
-/// Laws of worlds, and of parts.
-pub(crate) fn laws_of_runs<C: CellStore>()
+/// A law: what runs over the stores of a maker rest on, of worlds and of parts.
+pub fn laws_of_runs<C: CellStore>()
     ensures worlds { (t : Topology) (custom : Custom) (cut : Cut) → WorldLaws t custom cut }
     ensures parts { (t : Topology) (custom : Custom) (cut : Cut)
         → PartLaws C.tells C.fault_count t custom cut }
@@ -29,6 +29,7 @@ pub(crate) fn laws_of_runs<C: CellStore>()
     all_batches_hold_all_records();
     failures_of_commits_are_counted::<C>();
     counts_run_on::<C>();
+    commits_of_batches_move_parts::<C>();
     parts_that_stand_have_the_tables::<C>();
     strange_cells_were_there::<C>();
 }

@@ -10,8 +10,10 @@ mod rounds;
 mod runs;
 mod workers;
 
+pub use closing::{as_ended, close};
 pub use ending::RunEnd;
 pub use given::replay_over;
+pub use laws::laws_of_runs;
 pub use rounds::run_over_rounds;
 pub use runs::run_over;
 pub use workers::run_over_workers;

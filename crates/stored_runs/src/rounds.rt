@@ -1,18 +1,21 @@
 //! Rounds with the ticks of a source, over the stores of a maker.
-ghost use Rattle.std.specs.Prelude.{◌≡◌, ◌<◌, ℕ, List, [], IfOk, OnErr, sum};
+ghost use Rattle.std.specs.Prelude.{◌≡◌, ◌<◌, ◌+◌, ℕ, List, [], Ok, IfOk, OnErr, sum};
 ghost use Rattle.event_worlds.specs.attempt_fates.Fates.{IsOnce};
+ghost use Rattle.event_worlds.specs.commit_order.Follows.{IsTaken};
 ghost use Rattle.event_worlds.specs.commit_turns.Turns.{last_tick};
 ghost use Rattle.event_worlds.specs.Accounted.{IsInput};
 ghost use Rattle.event_worlds.specs.Rounds.{rounds_needed};
 ghost use Rattle.schedule_core.specs.Runs.{first_answers, ticks_between};
+ghost use Rattle.event_worlds.specs.storm_values.Counts.{Rose};
 ghost use Rattle.stored_runs.specs.Makers.{CameBack, maker_use};
-ghost use Rattle.stored_runs.specs.StoredRuns.{IsAll, IsRun, IsRunByRounds, NothingIsInTheWay, StandsWithoutMemory};
+ghost use Rattle.stored_runs.specs.StoredRuns.{EndFollowed, IsAll, IsRun, IsRunByRounds, NothingIsInTheWay, StandBeforeLast, StandsWithoutMemory};
 
 use crate::closing::{as_ended, close};
 use crate::ending::RunEnd;
 use crate::laws::laws_of_runs;
 use event_worlds::attempt_fates::Fates;
 use event_worlds::bolt_ops::RowOp;
+use event_worlds::commit_order::Follow;
 use event_worlds::record_offers::Offers;
 use event_worlds::state_parts::Parts;
 use event_worlds::storm_ids::IdMaker;
@@ -21,6 +24,7 @@ use event_worlds::topology_plan::Plan;
 use schedule_core::run_rounds;
 use std::alloc::Global;
 use std::sync::Wait;
+use storm_avail::Avail;
 use storm_stores::StoreMaker;
 use storm_ticks::Ticks;
 
@@ -30,20 +34,23 @@ use storm_ticks::Ticks;
 ///
 /// It costs what `run_rounds` does, and one look at each key. The attempts that ended are in the
 /// fates, whatever the answer. With want of memory too all stores come back. It is never
-/// `Unfinished`.
-pub fn run_over_rounds<R: Wait, T: Ticks, N: IdMaker, M: StoreMaker, O: RowOp>(
+/// `Unfinished`. The follower is told each commit that was done, and stops the run where it fails.
+pub fn run_over_rounds<R: Wait, T: Ticks, V: Avail, N: IdMaker, M: StoreMaker, O: RowOp, W: Follow>(
     rt: &R,
     alloc: Global,
     plan: &Plan,
     offers: Offers,
     ticks: &mut T,
+    avail: &mut V,
     ids: &mut N,
     stores: &mut M,
     custom: &O,
+    follow: &mut W,
     fates: &mut Fates,
 ) -> Result<RunEnd, Memory>
     requires empty { fates.old ≡ [] }
     requires input { IsInput plan.now offers }
+    requires takes { IsTaken (offers.start + 1) (W.takes follow.old) }
 
     // What the end, the fates and the stores come to.
     ensures comes { IfOk result (IsRun (N.tells ids.old) plan.now (O.meaning custom.now) offers
@@ -59,24 +66,35 @@ pub fn run_over_rounds<R: Wait, T: Ticks, N: IdMaker, M: StoreMaker, O: RowOp>(
         (maker_use M.C.tells M.C.fault_count M.holds M.has_made M.fault_count
         stores.old stores.new) fates.new) }
 
-    // It is the run of one world, by rounds each with as many ticks as the source answered.
-    ensures world { IfOk result (IsRunByRounds (N.tells ids.old) (T.tells ticks.old) plan.now
-        (O.meaning custom.now) offers (T.handed_out ticks.old) (T.handed_out ticks.new)
-        fates.new) }
+    // The follower was told what was committed, in order, but perhaps the last one where it failed.
+    // Then the maps stand at what was committed before it too.
+    ensures followed { EndFollowed W.tells W.fault_count result fates.new follow.old follow.new }
+    ensures less { (txid : ℕ) → result ≡ Ok (RunEnd.Follow txid)
+        → StandBeforeLast plan.now (O.meaning custom.now) offers
+        (maker_use M.C.tells M.C.fault_count M.holds M.has_made M.fault_count
+        stores.old stores.new) fates.new }
 
-    // Where few ticks are to come in so many rounds as a run needs, every record is committed,
-    // where nothing is in the way.
+    // It is the run of one world, by rounds each with the partitions shut and as many ticks as the
+    // sources answered.
+    ensures world { IfOk result (IsRunByRounds (N.tells ids.old) (T.tells ticks.old)
+        (V.tells avail.old) plan.now (O.meaning custom.now) offers (T.handed_out ticks.old)
+        (T.handed_out ticks.new) fates.new) }
+
+    // Where few ticks are to come in so many rounds as a run needs, and no partition is shut, every
+    // record is committed, where nothing is in the way and the follower does not fail.
     ensures finishes { (to_come : List ℕ) → T.tells ticks.old to_come
-        → NothingIsInTheWay plan.now
+        → (0 < plan.now.partitions → V.tells avail.old [])
+        → NothingIsInTheWay plan.now (O.meaning custom.now) offers
         (maker_use M.C.tells M.C.fault_count M.holds M.has_made M.fault_count
         stores.old stores.new) fates.new
+        → (Rose (W.fault_count follow.old) (W.fault_count follow.new) → ⊥)
         → sum (first_answers (rounds_needed plan.now (O.meaning custom.now) offers) to_come)
         < plan.now.buckets → IfOk result IsAll }
 {
     laws_of_runs::<M::C>();
     let mut parts = Parts::make(alloc, plan, stores)?;
     let done = run_rounds(
-        rt, alloc, plan, offers, ticks, ids, &mut parts, custom, fates,
+        rt, alloc, plan, offers, ticks, avail, ids, &mut parts, custom, follow, fates,
     );
     let ended = close(plan, &mut parts, as_ended(done));
     parts.give_back(stores);

@@ -1,19 +1,22 @@
 //! A run with the ticks of a source, over the stores of a maker: by rounds for one worker, and by
 //! workers on threads for more.
-ghost use Rattle.std.specs.Prelude.{◌≡◌, ◌≤◌, ◌<◌, ℕ, List, [], IfOk, OnErr, sum};
+ghost use Rattle.std.specs.Prelude.{◌≡◌, ◌≤◌, ◌<◌, ◌+◌, ℕ, List, [], Ok, IfOk, OnErr, sum};
 ghost use Rattle.event_worlds.specs.attempt_fates.Fates.{IsOnce};
+ghost use Rattle.event_worlds.specs.commit_order.Follows.{IsTaken};
 ghost use Rattle.event_worlds.specs.commit_turns.Turns.{last_tick};
 ghost use Rattle.event_worlds.specs.Accounted.{IsInput};
 ghost use Rattle.event_worlds.specs.Rounds.{rounds_needed};
 ghost use Rattle.schedule_core.specs.Runs.{first_answers, ticks_between};
+ghost use Rattle.event_worlds.specs.storm_values.Counts.{Rose};
 ghost use Rattle.stored_runs.specs.Makers.{CameBack, maker_use};
-ghost use Rattle.stored_runs.specs.StoredRuns.{IsAll, IsRun, NothingIsInTheWay, StandsWithoutMemory};
+ghost use Rattle.stored_runs.specs.StoredRuns.{EndFollowed, IsAll, IsRun, NothingIsInTheWay, StandBeforeLast, StandsWithoutMemory};
 
 use crate::ending::RunEnd;
 use crate::rounds::run_over_rounds;
 use crate::workers::run_over_workers;
 use event_worlds::attempt_fates::Fates;
 use event_worlds::bolt_ops::RowOp;
+use event_worlds::commit_order::Follow;
 use event_worlds::record_offers::Offers;
 use event_worlds::storm_ids::IdMaker;
 use event_worlds::storm_values::Memory;
@@ -21,6 +24,7 @@ use event_worlds::topology_plan::Plan;
 use std::alloc::Global;
 use std::sync::Wait;
 use std::thread::Threads;
+use storm_avail::Avail;
 use storm_gates::Gate;
 use storm_stores::StoreMaker;
 use storm_ticks::Ticks;
@@ -32,18 +36,30 @@ use storm_ticks::Ticks;
 /// One worker goes by rounds on the caller's thread, without boxes, and passes no gate: no
 /// execution is beside another there. It costs what `run_rounds` or `run_by_workers` does, and one
 /// look at each key. The attempts that ended are in the fates, whatever the answer. With want of
-/// memory too all stores come back. It is never `Unfinished`.
-pub fn run_over<R: Threads + Wait + Sync, T: Ticks, N: IdMaker, M: StoreMaker, O: RowOp, G: Gate>(
+/// memory too all stores come back. It is never `Unfinished`. The follower is told each commit that
+/// was done, and stops the run where it fails.
+pub fn run_over<
+    R: Threads + Wait + Sync,
+    T: Ticks,
+    V: Avail,
+    N: IdMaker,
+    M: StoreMaker,
+    O: RowOp,
+    G: Gate,
+    W: Follow,
+>(
     rt: &R,
     alloc: Global,
     plan: &Plan,
     offers: Offers,
     workers: u32,
     ticks: &mut T,
+    avail: &mut V,
     ids: &mut N,
     stores: &mut M,
     custom: &O,
     gate: &G,
+    follow: &mut W,
     fates: &mut Fates,
 ) -> Result<RunEnd, Memory>
 where
@@ -51,6 +67,7 @@ where
     M::C: Send,
     requires empty { fates.old ≡ [] }
     requires input { IsInput plan.now offers }
+    requires takes { IsTaken (offers.start + 1) (W.takes follow.old) }
     requires some { 1 ≤ workers }
     requires few { workers ≤ 64 }
 
@@ -68,19 +85,31 @@ where
         (maker_use M.C.tells M.C.fault_count M.holds M.has_made M.fault_count
         stores.old stores.new) fates.new) }
 
-    // Where few ticks are to come in so many rounds as a run needs, every record is committed,
-    // where nothing is in the way.
+    // The follower was told what was committed, in order, but perhaps the last one where it failed.
+    // Then the maps stand at what was committed before it too.
+    ensures followed { EndFollowed W.tells W.fault_count result fates.new follow.old follow.new }
+    ensures less { (txid : ℕ) → result ≡ Ok (RunEnd.Follow txid)
+        → StandBeforeLast plan.now (O.meaning custom.now) offers
+        (maker_use M.C.tells M.C.fault_count M.holds M.has_made M.fault_count
+        stores.old stores.new) fates.new }
+
+    // Where few ticks are to come in so many rounds as a run needs, and no partition is shut, every
+    // record is committed, where nothing is in the way and the follower does not fail.
     ensures finishes { (to_come : List ℕ) → T.tells ticks.old to_come
-        → NothingIsInTheWay plan.now
+        → (0 < plan.now.partitions → V.tells avail.old [])
+        → NothingIsInTheWay plan.now (O.meaning custom.now) offers
         (maker_use M.C.tells M.C.fault_count M.holds M.has_made M.fault_count
         stores.old stores.new) fates.new
+        → (Rose (W.fault_count follow.old) (W.fault_count follow.new) → ⊥)
         → sum (first_answers (rounds_needed plan.now (O.meaning custom.now) offers) to_come)
         < plan.now.buckets → IfOk result IsAll }
 {
     if workers == 1 {
-        return run_over_rounds(rt, alloc, plan, offers, ticks, ids, stores, custom, fates);
+        return run_over_rounds(
+            rt, alloc, plan, offers, ticks, avail, ids, stores, custom, follow, fates,
+        );
     }
     run_over_workers(
-        rt, alloc, plan, offers, workers, ticks, ids, stores, custom, gate, fates,
+        rt, alloc, plan, offers, workers, ticks, avail, ids, stores, custom, gate, follow, fates,
     )
 }

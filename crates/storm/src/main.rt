@@ -1,8 +1,8 @@
 //! Runs the command that the words after the program's name give. Bolts with the operation `custom`
 //! turn a row's values round, and states with the fold `custom` keep the first amount of a key.
 //!
-//! A run has a tick each 10 seconds, keeps the cells of its states in memory, and has its ids from
-//! ChaCha20 with a key of 32 zero bytes.
+//! A run has a tick each 10 seconds, finds all partitions open, keeps the cells of its states in
+//! memory, and has its ids from ChaCha20 with a key of 32 zero bytes.
 #![tactic(auto)]
 
 ghost use Rattle.std.specs.Prelude.{◌≡◌, map, replicate, string_bytes};
@@ -23,6 +23,7 @@ use std::process::ExitCode;
 use std::sync::Wait;
 use std::thread::Threads;
 use stored_folds::{CombineFn, First, OneFn, StoredFold};
+use storm_avail::{AllOpen, Avail};
 use storm_gates::OpenGate;
 use storm_ids::{ChaChaMaker, IdMaker};
 use storm_outside::{FileShelf, OutSink, Shelf, Sink};
@@ -34,15 +35,24 @@ use storm_values::Row;
 /// In bytes. The C library's allocator learns from pieces of up to 32 MiB.
 const LARGE: usize = 24 << 20;
 
-/// Carries out the words over some files, an output, ticks, stores and sources of ids, and gives
-/// the exit status.
-fn exit_status<R: Threads + Wait + Sync, H: Shelf, K: Sink, T: Ticks, M: StoreMaker, N: IdMaker>(
+/// Carries out the words over some files, an output, ticks, partitions that are shut or open,
+/// stores and sources of ids, and gives the exit status.
+fn exit_status<
+    R: Threads + Wait + Sync,
+    H: Shelf,
+    K: Sink,
+    T: Ticks,
+    V: Avail,
+    M: StoreMaker,
+    N: IdMaker,
+>(
     rt: &R,
     alloc: Global,
     words: &[String],
     shelf: &mut H,
     out: &mut K,
     ticks: &mut T,
+    avail: &mut V,
     stores: &mut M,
     ids: &mut N,
 ) -> u8
@@ -55,13 +65,13 @@ where
         (run_use (maker_use M.C.tells M.C.fault_count M.holds M.has_made M.fault_count
         stores.old stores.new)
         (N.tells ids.old))
-        (ticks_use T.handed_out T.tells ticks.old ticks.new) result }
+        (ticks_use T.handed_out T.tells ticks.old ticks.new) (V.tells avail.old) result }
 {
     let turn = |alloc: Global, row: &Row| reversed_row(alloc, row);
     let one = |amount: i64| i128::from(amount);
     let first = |earlier: i128, _later: i128| earlier;
     status_over(
-        rt, alloc, words, shelf, out, ticks, stores, ids, turn, one, first,
+        rt, alloc, words, shelf, out, ticks, avail, stores, ids, turn, one, first,
     )
 }
 
@@ -71,6 +81,7 @@ fn status_over<
     H: Shelf,
     K: Sink,
     T: Ticks,
+    V: Avail,
     M: StoreMaker,
     N: IdMaker,
     F: RowFn + Sync + Drop,
@@ -83,6 +94,7 @@ fn status_over<
     shelf: &mut H,
     out: &mut K,
     ticks: &mut T,
+    avail: &mut V,
     stores: &mut M,
     ids: &mut N,
     turn: F,
@@ -101,14 +113,14 @@ where
         (run_use (maker_use M.C.tells M.C.fault_count M.holds M.has_made M.fault_count
         stores.old stores.new)
         (N.tells ids.old))
-        (ticks_use T.handed_out T.tells ticks.old ticks.new) result }
+        (ticks_use T.handed_out T.tells ticks.old ticks.new) (V.tells avail.old) result }
 {
     let mut fates = Fates::new(alloc);
     let rows = StoredOp::<Reverse, F>::new(turn);
     let op = StoredFold::<First, StoredOp<Reverse, F>, A, B>::new(rows, one, combine);
     let gate = OpenGate {};
     let status = storm(
-        rt, alloc, words, shelf, out, ticks, stores, ids, &op, &gate, &mut fates,
+        rt, alloc, words, shelf, out, ticks, avail, stores, ids, &op, &gate, &mut fates,
     );
     status.code()
 }
@@ -145,6 +157,7 @@ fn main(rt: HostRuntime) -> ExitCode {
         &mut shelf,
         &mut out,
         &mut ticks,
+        &mut AllOpen,
         &mut stores,
         &mut ids,
     );

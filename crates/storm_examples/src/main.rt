@@ -13,6 +13,7 @@ use std::alloc::Global;
 use std::process::ExitCode;
 use std::sync::Wait;
 use std::thread::Threads;
+use storm_avail::AllOpen;
 use storm_gates::OpenGate;
 use storm_ids::{ChaChaMaker, IdMaker, ScriptIds, Words};
 use storm_outside::{FileShelf, InFault, MemSink, OutSink, Shelf, Sink, read_all, write_all};
@@ -194,6 +195,7 @@ where
         shelf,
         &mut out,
         &mut ticks,
+        &mut AllOpen,
         &mut stores,
         ids,
         &First,

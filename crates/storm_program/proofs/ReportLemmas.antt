@@ -1,5 +1,5 @@
 -- What is written of a run over accepted files, from what the run came to.
-use Rattle.std.proofs.Common.{◌≡◌, ◌⊎◌, inr, ℕ, List, All, length, Result, Ok, Err, IfOk, IfErr, refl, sym, ap, subst, ◌∙◌, String, string_bytes}
+use Rattle.std.proofs.Common.{◌≡◌, ◌+◌, ◌^◌, ◌<◌, ◌-◌, ◌⊎◌, arith, inl, inr, ℕ, List, All, length, Result, Ok, Err, IfOk, IfErr, refl, sym, ap, subst, ◌∙◌, String, string_bytes}
 use Rattle.std.specs.List.{AllByRecursion}
 use Rattle.std.proofs.lemmas.List.Elements.{All-from_recursion}
 use Rattle.event_worlds.specs.attempt_fates.declared.fates.Attempt.{Attempt}
@@ -19,14 +19,16 @@ use Rattle.storm_program.specs.Load.{IsLoadLine, line_of}
 use Rattle.storm_program.specs.Outside.{RunUse}
 use Rattle.storm_program.specs.Replay.{IsReplayReport, ticks_of_schedule}
 use Rattle.storm_program.specs.Reports.{EndsSo, IsEndText, IsReport, WasAcked, cut_by}
-use Rattle.storm_program.specs.Run.{IsNotBegun, IsShort}
-use Rattle.storm_program.specs.steps.Ended.{IsLineOfEnd, IsRoundsEnd, IsStopOfEnd, WorkStops, status_of}
+use Rattle.storm_program.specs.Run.{IsNotBegun, IsShort, IsUnhindered}
+use Rattle.storm_program.specs.steps.Ended.{IsLineOfEnd, IsRoundsEnd, IsStopOfEnd, IsUnfollowed, WorkStops, status_of}
 use Rattle.storm_program.specs.steps.Stops.{IsMemory, Stops}
+use Rattle.event_worlds.specs.state_parts.declared.answer.Commit.{Commit}
+use Rattle.event_worlds.specs.storm_values.Counts.{Rose}
 use Rattle.event_worlds.specs.storm_values.declared.value.Value.{Value}
 use Rattle.stored_runs.specs.declared.ending.RunEnd.{RunEnd}
 use Rattle.stored_runs.specs.declared.ending.RunEnd.TheVariants as end
 use Rattle.stored_runs.specs.Makers.{CameBack}
-use Rattle.stored_runs.specs.StoredRuns.{IsAll, IsRun, IsRunOfWorld, StandsWithoutMemory}
+use Rattle.stored_runs.specs.StoredRuns.{EndFollowed, IsAll, IsRun, IsRunOfWorld, NothingIsInTheWay, StandsWithoutMemory}
 use Rattle.event_worlds.specs.record_offers.Offers.{batch_count}
 use Rattle.event_worlds.specs.taken_records.Cuts.{Cut}
 use Rattle.event_worlds.specs.topology_plan.Topology.{Topology}
@@ -67,6 +69,7 @@ module _ (custom : Custom) (plan : Topology) (records : List (List Value)) (base
   report_of r r_is input (end.Unfinished k) text all printed run back = absurd all
   report_of r r_is input end.StoreFault text all printed run back = absurd all
   report_of r r_is input (end.BadCell key) text all printed run back = absurd all
+  report_of r r_is input (end.Follow txid) text all printed run back = absurd all
 
   -- over offers that are those of the plan, of so many records
   module _ (cut : Cut) (cut_is : cut ≡ cut_by plan records) (r : ℕ) (r_is : r ≡ length cut.records) where
@@ -115,6 +118,7 @@ module _ (custom : Custom) (plan : Topology) (records : List (List Value)) (base
   replay_report_if (end.Unfinished k) (Ok text) input all printed run back world = absurd all
   replay_report_if end.StoreFault (Ok text) input all printed run back world = absurd all
   replay_report_if (end.BadCell key) (Ok text) input all printed run back world = absurd all
+  replay_report_if (end.Follow txid) (Ok text) input all printed run back world = absurd all
 
   -- the line of a load in place of the report
   pub load_line_if : (b : ℕ) → b ≡ batch_count (length cut.records) cut.size → (ending : RunEnd) (report text : List ℕ) → IsInput plan cut → IsAll ending → IsEndText plan r fates ending report → IsLineOfEnd r b ending text → IsRun base.words plan custom cut (ticks_of_schedule plan events) base.stores fates ending → CameBack plan base.stores
@@ -137,6 +141,7 @@ module _ (custom : Custom) (plan : Topology) (records : List (List Value)) (base
   load_line_if b b_is (end.Unfinished k) report text input all printed line run back world = absurd all
   load_line_if b b_is end.StoreFault report text input all printed line run back world = absurd all
   load_line_if b b_is (end.BadCell key) report text input all printed line run back world = absurd all
+  load_line_if b b_is (end.Follow txid) report text input all printed line run back world = absurd all
 
 -- a run by rounds does not end unfinished
 pub rounds_end : {E : Type 0} (r : Result RunEnd E) (ending : RunEnd) → r ≡ Ok ending → ((k : ℕ) → r ≡ Ok (end.Unfinished k) → ⊥) → IsRoundsEnd ending
@@ -145,20 +150,60 @@ rounds_end r (end.Exhausted txid) is goes_on = tt
 rounds_end r (end.Unfinished k) is goes_on = goes_on k is
 rounds_end r end.StoreFault is goes_on = tt
 rounds_end r (end.BadCell key) is goes_on = tt
+rounds_end r (end.Follow txid) is goes_on = tt
+
+-- where nothing is in the way of a run from the first transaction on, nothing is in that of its cut
+pub free_over : (custom : Custom) (plan : Topology) (records : List (List Value)) (base : RunUse) (fates : List Attempt) (cut : Cut) → cut ≡ cut_by plan records → IsUnhindered plan base.stores fates → NothingIsInTheWay plan custom cut base.stores fates
+free_over custom plan records base fates cut cut_is free =
+    subst (λ (k : Cut). NothingIsInTheWay plan custom k base.stores fates) (sym cut_is)
+    (record {
+      began = inl (begins_first plan records, free.began_empty);
+      no_fault = free.no_fault;
+      can_finish = free.can_finish;
+      no_coincidence = free.no_coincidence;
+    })
+
+-- a count of no faults does not rise
+pub none_rose : Rose 0 0 → ⊥
+none_rose (inl more) = absurd (omega arith)
+none_rose (inr most) = absurd (omega arith)
+
+-- a follower that counts no fault does not fail
+pub unfollowed : {W E : Type 0} (tells : W → List Commit → Type 0) (count : W → ℕ) (was is : W) (fates : List Attempt) (r : Result RunEnd E) (ending : RunEnd) → ((w : W) → count w ≡ 0) → r ≡ Ok ending → EndFollowed tells count r fates was is → IsUnfollowed ending
+unfollowed {W} {E} tells count was is fates r ending none same followed = by ending (subst (λ (x : Result RunEnd E). EndFollowed tells count x fates was is) same followed)
+  where
+    by : (e : RunEnd) → EndFollowed {W = W} {E = E} tells count (Ok e) fates was is → IsUnfollowed e
+    by (end.All tables) told = tt
+    by (end.Exhausted txid) told = tt
+    by (end.Unfinished k) told = tt
+    by end.StoreFault told = tt
+    by (end.BadCell key) told = tt
+    by (end.Follow txid) told =
+        let before = none was in let after = none is in let more = told.failed in absurd (omega (arith, before, after, more))
 
 -- the stop of a run that ended so, where `Ends` holds of its text
-work_told : (Ends : RunEnd → List ℕ → Type 0) (Short : Type 0) (ending : RunEnd) (text : List ℕ) → (IsAll ending → ⊥) → Ends ending text → HasText (status_of ending) × WorkStops Ends Short (status_of ending) text
-work_told Ends Short (end.All tables) text not_all ends = absurd (not_all tt)
-work_told Ends Short (end.Exhausted txid) text not_all ends = (tt, (txid, ends))
-work_told Ends Short (end.Unfinished k) text not_all ends = (tt, (k, ends))
-work_told Ends Short end.StoreFault text not_all ends = (tt, ends)
-work_told Ends Short (end.BadCell key) text not_all ends = (tt, (key, ends))
+work_told : (Ends : RunEnd → List ℕ → Type 0) (Short : Type 0) (ending : RunEnd) (text : List ℕ) → (IsAll ending → ⊥) → IsUnfollowed ending → Ends ending text → HasText (status_of ending) × WorkStops Ends Short (status_of ending) text
+work_told Ends Short (end.All tables) text not_all unfollowed ends = absurd (not_all tt)
+work_told Ends Short (end.Exhausted txid) text not_all unfollowed ends = (tt, (txid, ends))
+work_told Ends Short (end.Unfinished k) text not_all unfollowed ends = (tt, (k, ends))
+work_told Ends Short end.StoreFault text not_all unfollowed ends = (tt, ends)
+work_told Ends Short (end.BadCell key) text not_all unfollowed ends = (tt, (key, ends))
+work_told Ends Short (end.Follow txid) text not_all unfollowed ends = absurd unfollowed
+
+-- an end that has a text is no follower's fault
+has_no_fault : (plan : Topology) (r : ℕ) (fates : List Attempt) (ending : RunEnd) (text : List ℕ) → IsEndText plan r fates ending text → IsUnfollowed ending
+has_no_fault plan r fates (end.All tables) text printed = tt
+has_no_fault plan r fates (end.Exhausted txid) text printed = tt
+has_no_fault plan r fates (end.Unfinished k) text printed = tt
+has_no_fault plan r fates end.StoreFault text printed = tt
+has_no_fault plan r fates (end.BadCell key) text printed = tt
+has_no_fault plan r fates (end.Follow txid) text printed = printed
 
 pub work_stops : {T : Type 0} (Ends : RunEnd → List ℕ → Type 0) (Short : Type 0) (plan : Topology) (r : ℕ) (fates : List Attempt) (ending : RunEnd) (result : Result T EarlyEnd) → ((text : List ℕ) → IsEndText plan r fates ending text → Ends ending text) → Short → IfErr result (IsStopOfEnd plan r fates ending) → IfErr result (Stops (WorkStops Ends Short))
 work_stops Ends Short plan r fates ending (Ok x) makes short stops = tt
 work_stops Ends Short plan r fates ending (Err Memory) makes short stops = short
 work_stops Ends Short plan r fates ending (Err (Told s line)) makes short (not_all, is, printed) =
-    subst (λ (t : Status). HasText t × WorkStops Ends Short t (string_bytes line)) (sym is) (work_told Ends Short ending (string_bytes line) not_all (makes (string_bytes line) printed))
+    subst (λ (t : Status). HasText t × WorkStops Ends Short t (string_bytes line)) (sym is) (work_told Ends Short ending (string_bytes line) not_all (has_no_fault plan r fates ending (string_bytes line) printed) (makes (string_bytes line) printed))
 
 -- where all had to be committed, only memory can stop it
 pub work_finishes : {T : Type 0} (plan : Topology) (r : ℕ) (fates : List Attempt) (ending : RunEnd) (result : Result T EarlyEnd) → IsAll ending → IfErr result (IsStopOfEnd plan r fates ending) → IfErr result IsMemory

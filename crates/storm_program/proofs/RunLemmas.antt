@@ -20,7 +20,7 @@ use Rattle.storm_program.specs.Outside.{Fetched, RunUse, ShelfFailed, ShelfUse, 
 use Rattle.storm_program.specs.Plain.{PlainComes, plain_promise}
 use Rattle.storm_program.specs.Replay.{IsReplayReport, ReplayComes, ReplayEndsSo, ReplayMustCommitAll, ticks_of_schedule}
 use Rattle.storm_program.specs.Reports.{EndsSo, IsReport, cut_by}
-use Rattle.storm_program.specs.Run.{IsNotBegun, IsShort, MustCommitAll, RunComes, ticks_of_run}
+use Rattle.storm_program.specs.Run.{IsNotBegun, IsShort, IsUnhindered, MustCommitAll, RunComes, ticks_of_run}
 use Rattle.storm_program.specs.Schedules.{AllFilesCome, AreAllAccepted, TellsEvents}
 use Rattle.storm_program.specs.Storm.{ComesOfWords, IsNotStarted, WordsCome, command_promise, promise}
 use Rattle.storm_program.specs.Texts.{usage}
@@ -32,7 +32,6 @@ use Rattle.storm_program.proofs.EndLemmas.{Ends-weaker, ends_memory, ends_writte
 use Rattle.event_worlds.specs.storm_values.declared.value.Value.{Value}
 use Rattle.event_worlds.specs.storm_values.Lines.{records_of}
 use Rattle.stored_runs.specs.Makers.{IsUntouched, maker_use}
-use Rattle.stored_runs.specs.StoredRuns.{NothingIsInTheWay}
 use Rattle.storm_stores.specs.CellMaps.{CellMap}
 use Rattle.event_worlds.specs.topology_plan.Topology.{Topology}
 use Rattle.world_progress.specs.Rounding.{ShutsNone}
@@ -124,20 +123,22 @@ module _ (custom : Custom) (shelf : ShelfUse) (base : RunUse) (ticks : TicksUse)
   run_of_work plan records twice accepted _ text comes = absurd comes
 
   -- where it must commit all, nothing is in the way of what was accepted
-  pub record GoesThrough (plan : Topology) (records : List (List Value)) : Type 0 where
+  pub record GoesThrough (availing : List ℕ → Type 0) (plan : Topology) (records : List (List Value)) : Type 0 where
     pub to_come : List ℕ
     pub told : ticks.to_come to_come
-    pub free : NothingIsInTheWay plan base.stores fates
+    pub all_open : 0 < plan.partitions → availing []
+    pub free : IsUnhindered plan base.stores fates
     pub few : sum (first_answers (rounds_needed plan custom (cut_by plan records)) to_come) < plan.buckets
 
-  pub goes_through : (plan : Topology) (records : List (List Value)) → AreAccepted shelf.holds topology input plan records → MustCommitAll custom shelf base ticks topology input fates → GoesThrough plan records
-  goes_through plan records accepted must =
+  pub goes_through : (availing : List ℕ → Type 0) (plan : Topology) (records : List (List Value)) → AreAccepted shelf.holds topology input plan records → MustCommitAll custom shelf base ticks availing topology input fates → GoesThrough availing plan records
+  goes_through availing plan records accepted must =
       let of_plan : plan ≡ must.plan = same_plan shelf.holds topology must.plan plan must.tells_plan accepted.topology_file in
       let of_records : records ≡ records_of must.tells_input.bytes = same_records shelf.holds topology input must.plan plan must.tells_plan accepted.topology_file records must.tells_input accepted.input_file in
       record {
         to_come = must.to_come;
         told = must.told;
-        free = subst (λ (p : Topology). NothingIsInTheWay p base.stores fates) (sym of_plan) must.free;
+        all_open = subst (λ (p : Topology). 0 < p.partitions → availing []) (sym of_plan) must.all_open;
+        free = subst (λ (p : Topology). IsUnhindered p base.stores fates) (sym of_plan) must.free;
         few =
             subst (λ (p : Topology). sum (first_answers (rounds_needed p custom (cut_by p records)) must.to_come) < p.buckets) (sym of_plan)
             (subst (λ (rs : List (List Value)). sum (first_answers (rounds_needed must.plan custom (cut_by must.plan rs)) must.to_come) < must.plan.buckets) (sym of_records) must.few_ticks);
@@ -170,7 +171,7 @@ module _ (custom : Custom) (shelf : ShelfUse) (base : RunUse) (topology input sc
   replay_of_work plan records events thrice accepted _ text comes = absurd comes
 
   pub record ReplayGoesThrough (plan : Topology) (records : List (List Value)) (events : List Event) : Type 0 where
-    pub free : NothingIsInTheWay plan base.stores fates
+    pub free : IsUnhindered plan base.stores fates
     pub rounds : HasRounds plan (rounds_needed plan custom (cut_by plan records)) (all_steps plan events)
     pub few : ticks_of_schedule plan events < plan.buckets
     pub shuts_none : 0 < plan.partitions → All ShutsNone (all_steps plan events)
@@ -182,7 +183,7 @@ module _ (custom : Custom) (shelf : ShelfUse) (base : RunUse) (topology input sc
       let of_records : records ≡ records_of must.tells_input.bytes = same_records shelf.holds topology input must.plan plan must.tells_plan files.topology_file records must.tells_input files.input_file in
       let of_events : events ≡ must.events = same_events shelf.holds topology input must.plan plan must.tells_plan files.topology_file schedule events must.events must.tells_events accepted.schedule_file in
       record {
-        free = subst (λ (p : Topology). NothingIsInTheWay p base.stores fates) (sym of_plan) must.free;
+        free = subst (λ (p : Topology). IsUnhindered p base.stores fates) (sym of_plan) must.free;
         rounds =
             subst (λ (p : Topology). HasRounds p (rounds_needed p custom (cut_by p records)) (all_steps p events)) (sym of_plan)
             (subst (λ (rs : List (List Value)). HasRounds must.plan (rounds_needed must.plan custom (cut_by must.plan rs)) (all_steps must.plan events)) (sym of_records)
@@ -202,46 +203,46 @@ of_own : (shelf : ShelfUse) (base : RunUse) (fates : List Attempt) (Comes : Stat
 of_own shelf base fates Comes status.Memory text comes = inl comes
 of_own shelf base fates Comes _ text comes = comes
 
-module _ (custom : Custom) (shelf : ShelfUse) (sink : SinkUse) (base : RunUse) (ticks : TicksUse) (fates : List Attempt) (said : Option Command) (answer : Status) where
+module _ (custom : Custom) (shelf : ShelfUse) (sink : SinkUse) (base : RunUse) (ticks : TicksUse) (availing : List ℕ → Type 0) (fates : List Attempt) (said : Option Command) (answer : Status) where
   -- an end of the command that the words give is one of the call
-  pub ends_own : (given : Option Command) → said ≡ given → Ends (command_promise custom shelf sink base ticks fates given).comes sink answer → Ends (promise custom shelf sink base ticks fates said).comes sink answer
+  pub ends_own : (given : Option Command) → said ≡ given → Ends (command_promise custom shelf sink base ticks availing fates given).comes sink answer → Ends (promise custom shelf sink base ticks availing fates said).comes sink answer
   ends_own given is ends =
-      let Own : Status → List ℕ → Type 0 = (command_promise custom shelf sink base ticks fates given).comes in
-      subst (λ c. Ends (promise custom shelf sink base ticks fates c).comes sink answer) (sym is)
+      let Own : Status → List ℕ → Type 0 = (command_promise custom shelf sink base ticks availing fates given).comes in
+      subst (λ c. Ends (promise custom shelf sink base ticks availing fates c).comes sink answer) (sym is)
       (Ends-weaker Own (ComesOfWords shelf base fates Own) sink answer (of_own shelf base fates Own) ends)
 
-  pub ends_check : (topology : List ℕ) → said ≡ Some (check topology) → fates ≡ [] → IsUntouched base.stores → Ends (CheckComes shelf topology) sink answer → Ends (promise custom shelf sink base ticks fates said).comes sink answer
+  pub ends_check : (topology : List ℕ) → said ≡ Some (check topology) → fates ≡ [] → IsUntouched base.stores → Ends (CheckComes shelf topology) sink answer → Ends (promise custom shelf sink base ticks availing fates said).comes sink answer
   ends_check topology is none idle ends =
       ends_own (Some (check topology)) is
       (Ends-weaker (CheckComes shelf topology) (check_promise shelf base.stores fates topology).comes sink answer (λ s text comes. (comes, none, idle)) ends)
 
-  pub ends_plain : (topology input : List ℕ) → said ≡ Some (plain topology input) → fates ≡ [] → IsUntouched base.stores → Ends (PlainComes custom shelf topology input) sink answer → Ends (promise custom shelf sink base ticks fates said).comes sink answer
+  pub ends_plain : (topology input : List ℕ) → said ≡ Some (plain topology input) → fates ≡ [] → IsUntouched base.stores → Ends (PlainComes custom shelf topology input) sink answer → Ends (promise custom shelf sink base ticks availing fates said).comes sink answer
   ends_plain topology input is none idle ends =
       ends_own (Some (plain topology input)) is
       (Ends-weaker (PlainComes custom shelf topology input) (plain_promise custom shelf base.stores fates topology input).comes sink answer (λ s text comes. (comes, none, idle)) ends)
 
   -- a fold comes to what `plain` does
-  pub ends_fold : (topology input : List ℕ) (workers : ℕ) → said ≡ Some (fold_over topology input workers) → fates ≡ [] → IsUntouched base.stores → Ends (PlainComes custom shelf topology input) sink answer → Ends (promise custom shelf sink base ticks fates said).comes sink answer
+  pub ends_fold : (topology input : List ℕ) (workers : ℕ) → said ≡ Some (fold_over topology input workers) → fates ≡ [] → IsUntouched base.stores → Ends (PlainComes custom shelf topology input) sink answer → Ends (promise custom shelf sink base ticks availing fates said).comes sink answer
   ends_fold topology input workers is none idle ends =
       ends_own (Some (fold_over topology input workers)) is
       (Ends-weaker (PlainComes custom shelf topology input) (plain_promise custom shelf base.stores fates topology input).comes sink answer (λ s text comes. (comes, none, idle)) ends)
 
-  pub ends_track : (topology input : List ℕ) (workers : ℕ) → said ≡ Some (track topology input workers) → fates ≡ [] → IsUntouched base.stores → Ends (TrackComes custom shelf topology input) sink answer → Ends (promise custom shelf sink base ticks fates said).comes sink answer
+  pub ends_track : (topology input : List ℕ) (workers : ℕ) → said ≡ Some (track topology input workers) → fates ≡ [] → IsUntouched base.stores → Ends (TrackComes custom shelf topology input) sink answer → Ends (promise custom shelf sink base ticks availing fates said).comes sink answer
   ends_track topology input workers is none idle ends =
       ends_own (Some (track topology input workers)) is
       (Ends-weaker (TrackComes custom shelf topology input) (track_promise custom shelf base.stores fates topology input).comes sink answer (λ s text comes. (comes, none, idle)) ends)
 
-  pub ends_load : (count seed : ℕ) → said ≡ Some (load count seed) → shelf.fetches_after ≡ shelf.fetches_before → Ends (LoadComes custom base count seed fates) sink answer → Ends (promise custom shelf sink base ticks fates said).comes sink answer
+  pub ends_load : (count seed : ℕ) → said ≡ Some (load count seed) → shelf.fetches_after ≡ shelf.fetches_before → Ends (LoadComes custom base count seed fates) sink answer → Ends (promise custom shelf sink base ticks availing fates said).comes sink answer
   ends_load count seed is still ends =
       ends_own (Some (load count seed)) is
       (Ends-weaker (LoadComes custom base count seed fates) (load_promise custom shelf sink base fates count seed).comes sink answer (λ s text comes. (still, comes)) ends)
 
   -- words that are no command come to the usage line
-  pub ends_words : (text : List ℕ) → said ≡ None → IsNotBegun base fates → shelf.fetches_after ≡ shelf.fetches_before → text ≡ usage → IsWritten status.Words text sink answer → Ends (promise custom shelf sink base ticks fates said).comes sink answer
+  pub ends_words : (text : List ℕ) → said ≡ None → IsNotBegun base fates → shelf.fetches_after ≡ shelf.fetches_before → text ≡ usage → IsWritten status.Words text sink answer → Ends (promise custom shelf sink base ticks availing fates said).comes sink answer
   ends_words text none idle still line written =
       ends_own None none (ends_written (WordsCome shelf base fates) sink status.Words answer text tt (still, line, idle) written)
 
 -- want of memory for the words comes before all else
-pub ends_short : (custom : Custom) (shelf : ShelfUse) (sink : SinkUse) (base : RunUse) (ticks : TicksUse) (fates : List Attempt) (said : Option Command) → IsNotStarted shelf base fates → sink.taken_after ≡ sink.taken_before → Ends (promise custom shelf sink base ticks fates said).comes sink status.Memory
-ends_short custom shelf sink base ticks fates said idle nothing =
-    ends_memory (promise custom shelf sink base ticks fates said).comes sink (inr idle) nothing
+pub ends_short : (custom : Custom) (shelf : ShelfUse) (sink : SinkUse) (base : RunUse) (ticks : TicksUse) (availing : List ℕ → Type 0) (fates : List Attempt) (said : Option Command) → IsNotStarted shelf base fates → sink.taken_after ≡ sink.taken_before → Ends (promise custom shelf sink base ticks availing fates said).comes sink status.Memory
+ends_short custom shelf sink base ticks availing fates said idle nothing =
+    ends_memory (promise custom shelf sink base ticks availing fates said).comes sink (inr idle) nothing

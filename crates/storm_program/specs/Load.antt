@@ -9,7 +9,7 @@ use Rattle.storm_program.specs.declared.status.Status.TheVariants as status
 use Rattle.storm_program.specs.Ends.{Promise}
 use Rattle.storm_program.specs.Outside.{RunUse, ShelfUse, SinkFailed, SinkUse}
 use Rattle.storm_program.specs.Replay.{IsReplayReport, ReplayEndsSo}
-use Rattle.storm_program.specs.Run.{IsNotBegun, IsShort}
+use Rattle.storm_program.specs.Run.{IsNotBegun, IsShort, IsUnhindered}
 use Rattle.event_worlds.specs.attempt_fates.declared.fates.Attempt.{Attempt}
 use Rattle.event_worlds.specs.bolt_ops.RowOp.{Custom}
 use Rattle.stored_runs.specs.declared.ending.RunEnd.{RunEnd}
@@ -18,7 +18,6 @@ use Rattle.schedule_reader.specs.declared.event.Event.{Event}
 use Rattle.schedule_reader.specs.declared.event.Event.TheVariants.{Rounds}
 use Rattle.event_worlds.specs.record_offers.Offers.{batch_count}
 use Rattle.event_worlds.specs.storm_values.declared.value.Value.{Value}
-use Rattle.stored_runs.specs.StoredRuns.{NothingIsInTheWay}
 use Rattle.event_worlds.specs.topology_plan.Topology.{Topology}
 use Rattle.event_worlds.specs.tree_model.declared.write.Pair.{Pair}
 use Rattle.event_worlds.specs.tree_model.declared.write.Table.{Table}
@@ -115,7 +114,7 @@ LoadCalls ending = ending ≡ status.Done
 pub record LoadMustCommitAll (base : RunUse) (fates : List Attempt) : Type 0 where
   pub plan : Topology
   pub is_plan : IsFilePlan load_text plan
-  pub free : NothingIsInTheWay plan base.stores fates
+  pub free : IsUnhindered plan base.stores fates
 
 -- so it has to be done, where the sink did not fail either
 abbrev pub LoadMustFinish : SinkUse → RunUse → List Attempt → Type 0

@@ -11,13 +11,13 @@ use Rattle.storm_program.specs.Ends.{Promise}
 use Rattle.storm_program.specs.Files.{TellsInput, TellsPlan}
 use Rattle.storm_program.specs.Outside.{Fetched, RunUse, ShelfFailed, ShelfUse, SinkFailed, SinkUse}
 use Rattle.storm_program.specs.Reports.{EndsSo, IsReport, cut_by}
-use Rattle.storm_program.specs.Run.{IsNotBegun, IsShort}
+use Rattle.storm_program.specs.Run.{IsNotBegun, IsShort, IsUnhindered}
 use Rattle.storm_program.specs.Schedules.{AllFilesCall, AllFilesCome, AreAllAccepted, TellsEvents}
 use Rattle.event_worlds.specs.storm_values.declared.value.Value.{Value}
 use Rattle.event_worlds.specs.storm_values.Lines.{records_of}
 use Rattle.stored_runs.specs.declared.ending.RunEnd.{RunEnd}
 use Rattle.stored_runs.specs.declared.ending.RunEnd.TheVariants as run_end
-use Rattle.stored_runs.specs.StoredRuns.{IsRunOfWorld, NothingIsInTheWay}
+use Rattle.stored_runs.specs.StoredRuns.{IsRunOfWorld}
 use Rattle.event_worlds.specs.topology_plan.Topology.{Topology}
 use Rattle.world_progress.specs.Rounding.{ShutsNone}
 
@@ -105,7 +105,7 @@ pub record ReplayMustCommitAll (custom : Custom) (shelf : ShelfUse) (base : RunU
   pub tells_events : TellsEvents shelf.holds plan schedule events
   -- the shelf did not fail, or was ready
   pub shelf_fine : (ShelfFailed shelf → ⊥) ⊎ shelf.ready
-  pub free : NothingIsInTheWay plan base.stores fates
+  pub free : IsUnhindered plan base.stores fates
   pub rounds : HasRounds plan
       (rounds_needed plan custom (cut_by plan (records_of tells_input.bytes)))
       (all_steps plan events)

@@ -78,7 +78,7 @@ pub record IsReport (custom : Custom) (plan : Topology) (records : List (List Va
   pub stands : BeganEmpty plan base.stores
       → MapsStand plan custom (cut_by plan records) (committed_batches fates) base.stores
 
--- the text of a run over so many records that ended so
+-- The text of a run over so many records that ended so. The follower of a command never fails.
 abbrev pub IsEndText : Topology → ℕ → List Attempt → RunEnd → List ℕ → Type 0
 IsEndText plan records fates (run_end.All tables) text =
     IsTextOf plan fates (cells_of tables) (ok records (length (committed fates))) text
@@ -88,6 +88,7 @@ IsEndText plan records fates (run_end.Unfinished k) text =
     IsTextOf plan fates [] (unfinished k) text
 IsEndText plan records fates run_end.StoreFault text = text ≡ store_fault_line
 IsEndText plan records fates (run_end.BadCell key) text = text ≡ bad_cell_line
+IsEndText plan records fates (run_end.Follow txid) text = ⊥
 
 -- A run over the records of an input ended so, left these fates, and this is its text.
 pub record EndsSo (custom : Custom) (plan : Topology) (records : List (List Value)) (base : RunUse)

@@ -32,23 +32,25 @@ words_promise shelf base fates = record {
 
 -- What each command promises of its own. One line a command. A fold promises what `plain` does,
 -- whatever the number of workers.
-abbrev pub command_promise : Custom → ShelfUse → SinkUse → RunUse → TicksUse → List Attempt
-    → Option Command → Promise
-command_promise custom shelf sink base ticks fates (Some (check topology)) =
+abbrev pub command_promise : Custom → ShelfUse → SinkUse → RunUse → TicksUse → (List ℕ → Type 0)
+    → List Attempt → Option Command → Promise
+command_promise custom shelf sink base ticks availing fates (Some (check topology)) =
     check_promise shelf base.stores fates topology
-command_promise custom shelf sink base ticks fates (Some (plain topology input)) =
+command_promise custom shelf sink base ticks availing fates (Some (plain topology input)) =
     plain_promise custom shelf base.stores fates topology input
-command_promise custom shelf sink base ticks fates (Some (replay topology input schedule)) =
+command_promise custom shelf sink base ticks availing fates
+    (Some (replay topology input schedule)) =
     replay_promise custom shelf sink base fates topology input schedule
-command_promise custom shelf sink base ticks fates (Some (run topology input workers)) =
-    run_promise custom shelf sink base ticks fates topology input
-command_promise custom shelf sink base ticks fates (Some (load count seed)) =
+command_promise custom shelf sink base ticks availing fates (Some (run topology input workers)) =
+    run_promise custom shelf sink base ticks availing fates topology input
+command_promise custom shelf sink base ticks availing fates (Some (load count seed)) =
     load_promise custom shelf sink base fates count seed
-command_promise custom shelf sink base ticks fates (Some (track topology input workers)) =
+command_promise custom shelf sink base ticks availing fates (Some (track topology input workers)) =
     track_promise custom shelf base.stores fates topology input
-command_promise custom shelf sink base ticks fates (Some (fold_over topology input workers)) =
+command_promise custom shelf sink base ticks availing fates
+    (Some (fold_over topology input workers)) =
     plain_promise custom shelf base.stores fates topology input
-command_promise custom shelf sink base ticks fates None = words_promise shelf base fates
+command_promise custom shelf sink base ticks availing fates None = words_promise shelf base fates
 
 -- no file is fetched, and nothing is run
 abbrev pub IsNotStarted : ShelfUse → RunUse → List Attempt → Type 0
@@ -63,27 +65,29 @@ ComesOfWords shelf base fates Comes status.Memory text =
 ComesOfWords shelf base fates Comes ending text = Comes ending text
 
 -- What a call promises, by the command that its words give.
-abbrev pub promise : Custom → ShelfUse → SinkUse → RunUse → TicksUse → List Attempt
-    → Option Command → Promise
-promise custom shelf sink base ticks fates said =
-    let own = command_promise custom shelf sink base ticks fates said in
+abbrev pub promise : Custom → ShelfUse → SinkUse → RunUse → TicksUse → (List ℕ → Type 0)
+    → List Attempt → Option Command → Promise
+promise custom shelf sink base ticks availing fates said =
+    let own = command_promise custom shelf sink base ticks availing fates said in
     record own { comes = ComesOfWords shelf base fates own.comes }
 
--- A call with an operation that was handed in, over a shelf, a sink, stores, ids and ticks, ended
--- with a status, and left these fates.
+-- A call with an operation that was handed in, over a shelf, a sink, stores, ids, ticks and what
+-- was told of the partitions that are shut, ended with a status, and left these fates.
 pub record Calls (custom : Custom) (words : List (List ℕ)) (shelf : ShelfUse) (sink : SinkUse)
-    (base : RunUse) (ticks : TicksUse) (fates : List Attempt) (ending : Status) : Type 0 where
-  pub ends : Ends (promise custom shelf sink base ticks fates (command words)).comes sink ending
-  pub answered : IsAnswered (promise custom shelf sink base ticks fates (command words)).calls shelf sink
-      ending
-  pub finishes : (promise custom shelf sink base ticks fates (command words)).must_finish
+    (base : RunUse) (ticks : TicksUse) (availing : List ℕ → Type 0) (fates : List Attempt)
+    (ending : Status) : Type 0 where
+  pub ends : Ends
+      (promise custom shelf sink base ticks availing fates (command words)).comes sink ending
+  pub answered : IsAnswered
+      (promise custom shelf sink base ticks availing fates (command words)).calls shelf sink ending
+  pub finishes : (promise custom shelf sink base ticks availing fates (command words)).must_finish
       → IsDoneOrShort ending
   pub counts : Counts shelf sink base.stores
 
 -- the program ended with an exit status, that of a call
 pub record Exits (custom : Custom) (words : List (List ℕ)) (shelf : ShelfUse) (sink : SinkUse)
-    (base : RunUse) (ticks : TicksUse) (code : ℕ) : Type 0 where
+    (base : RunUse) (ticks : TicksUse) (availing : List ℕ → Type 0) (code : ℕ) : Type 0 where
   pub ending : Status
   pub fates : List Attempt
   pub is_code : code ≡ code_of ending
-  pub call : Calls custom words shelf sink base ticks fates ending
+  pub call : Calls custom words shelf sink base ticks availing fates ending

@@ -4,12 +4,12 @@ ghost use Rattle.storm_program.specs.declared.status.Status.{Status};
 ghost use Rattle.storm_program.specs.Load.{IsLoadLine, LoadComes, LoadMustCommitAll, cells_in, first_half, line_of, load_events, load_line, values_in, with_values};
 ghost use Rattle.storm_program.specs.Outside.{run_use};
 ghost use Rattle.storm_program.specs.Replay.{ReplayEndsSo};
-ghost use Rattle.storm_program.specs.Run.{IsNotBegun, IsShort};
+ghost use Rattle.storm_program.specs.Run.{IsNotBegun, IsShort, IsUnhindered};
 ghost use Rattle.storm_program.specs.steps.Ended.{IsLineOfEnd, WorkStops};
 ghost use Rattle.storm_program.specs.steps.Stops.{IsMemory, Stops};
 ghost use Rattle.stored_runs.specs.Makers.{maker_use};
 ghost use Rattle.schedule_reader.specs.declared.event.Event.TheVariants.{Rounds};
-ghost use Rattle.stored_runs.specs.StoredRuns.{IsAll, NothingIsInTheWay};
+ghost use Rattle.stored_runs.specs.StoredRuns.{IsAll};
 ghost use Rattle.event_worlds.specs.storm_values.Rows.{IsRow};
 ghost use Rattle.event_worlds.specs.topology_plan.Wired.{width_of};
 ghost use Rattle.event_worlds.specs.tree_model.Trees.{node_count};
@@ -20,6 +20,7 @@ use crate::files::Accepted;
 use crate::report::{Counted, counted_in, offers_of, text_of_end};
 use event_worlds::attempt_fates::Fates;
 use event_worlds::bolt_ops::RowOp;
+use event_worlds::commit_order::NoFollow;
 use event_worlds::storm_ids::IdMaker;
 use event_worlds::storm_values::{Memory, Rows};
 use event_worlds::topology_plan::{Origin, Plan};
@@ -95,7 +96,7 @@ fn load_accepted<M: StoreMaker, N: IdMaker, O: RowOp>(
         (run_use (maker_use M.C.tells M.C.fault_count M.holds M.has_made M.fault_count
         stores.old stores.new)
         (N.tells ids.old)) fates.new))) }
-    ensures finishes { NothingIsInTheWay files.plan
+    ensures finishes { IsUnhindered files.plan
         (maker_use M.C.tells M.C.fault_count M.holds M.has_made M.fault_count
         stores.old stores.new) fates.new
         → files.plan.attempts ≡ 4 → files.plan.buckets ≡ 3 → IfErr result IsMemory }
@@ -105,7 +106,17 @@ fn load_accepted<M: StoreMaker, N: IdMaker, O: RowOp>(
     let offers = offers_of(&plan, rows)?;
     let counted = counted_in(&offers);
     let events = rounds_enough(alloc, &plan, offers.rows(), counted.batches, custom)?;
-    let ending = replay_over(alloc, &plan, offers, &events, ids, stores, custom, fates)?;
+    let ending = replay_over(
+        alloc,
+        &plan,
+        offers,
+        &events,
+        ids,
+        stores,
+        custom,
+        &mut NoFollow,
+        fates,
+    )?;
     let _ = text_of_end(alloc, &plan, counted.records, fates, &ending)?;
     let line = line_of_end(alloc, counted, &ending)?;
     Ok(line)

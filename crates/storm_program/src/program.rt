@@ -27,6 +27,7 @@ use event_worlds::storm_ids::IdMaker;
 use std::alloc::Global;
 use std::sync::Wait;
 use std::thread::Threads;
+use storm_avail::Avail;
 use storm_gates::Gate;
 use storm_outside::{Shelf, Sink};
 use storm_stores::StoreMaker;
@@ -38,12 +39,14 @@ use storm_words::{Command, USAGE, read_words};
 /// The words are those of `check`, `plain`, `replay`, `run`, `load`, `track` and `fold`; all others
 /// get the usage line. Bolts with the operation `custom`, and states with the fold `custom`, do
 /// what is handed in. Stores are made by `stores` and given back, ids come of sources that `ids`
-/// makes, and ticks of `ticks`. A run of two workers or more passes `gate` before each execution.
+/// makes, ticks of `ticks`, and which partitions of a run are shut of `avail`. A run of two workers
+/// or more passes `gate` before each execution.
 pub fn storm<
     R: Threads + Wait + Sync,
     H: Shelf,
     K: Sink,
     T: Ticks,
+    V: Avail,
     M: StoreMaker,
     N: IdMaker,
     O: RowOp,
@@ -55,6 +58,7 @@ pub fn storm<
     shelf: &mut H,
     out: &mut K,
     ticks: &mut T,
+    avail: &mut V,
     stores: &mut M,
     ids: &mut N,
     custom: &O,
@@ -74,7 +78,7 @@ where
         (run_use
         (maker_use M.C.tells M.C.fault_count M.holds M.has_made M.fault_count
         stores.old stores.new) (N.tells ids.old))
-        (ticks_use T.handed_out T.tells ticks.old ticks.new) fates.new
+        (ticks_use T.handed_out T.tells ticks.old ticks.new) (V.tells avail.old) fates.new
         (command (map string_bytes words.now))).comes
         (sink_use K.taken K.faults out.old out.new) result }
 
@@ -86,7 +90,7 @@ where
         (run_use
         (maker_use M.C.tells M.C.fault_count M.holds M.has_made M.fault_count
         stores.old stores.new) (N.tells ids.old))
-        (ticks_use T.handed_out T.tells ticks.old ticks.new) fates.new
+        (ticks_use T.handed_out T.tells ticks.old ticks.new) (V.tells avail.old) fates.new
         (command (map string_bytes words.now))).calls
         (shelf_use H.holds H.ready H.fetches H.faults shelf.old shelf.new)
         (sink_use K.taken K.faults out.old out.new) result }
@@ -98,7 +102,7 @@ where
         (run_use
         (maker_use M.C.tells M.C.fault_count M.holds M.has_made M.fault_count
         stores.old stores.new) (N.tells ids.old))
-        (ticks_use T.handed_out T.tells ticks.old ticks.new) fates.new
+        (ticks_use T.handed_out T.tells ticks.old ticks.new) (V.tells avail.old) fates.new
         (command (map string_bytes words.now))).must_finish
         → IsDoneOrShort result }
 
@@ -130,8 +134,8 @@ where
             input,
             workers,
         } => storm_run(
-            rt, alloc, topology, input, workers, shelf, out, ticks, stores, ids, custom, gate,
-            fates,
+            rt, alloc, topology, input, workers, shelf, out, ticks, avail, stores, ids, custom,
+            gate, fates,
         ),
         Command::Load { records, seed } => {
             storm_load(alloc, records, seed, out, stores, ids, custom, fates)
@@ -269,12 +273,14 @@ pub fn storm_replay<H: Shelf, K: Sink, M: StoreMaker, N: IdMaker, O: RowOp>(
 /// tuple tree was acked. Attempts that fail, time out or coincide are tried again, and so are those
 /// whose commit a store refused. It reads both files before it begins, and builds the whole text
 /// before it writes. Time and memory are proportional to the number of tuples; the messages of all
-/// committed tuples are kept in the fates.
+/// committed tuples are kept in the fates. Before each step of the coordinator it asks which
+/// partitions are shut.
 pub fn storm_run<
     R: Threads + Wait + Sync,
     H: Shelf,
     K: Sink,
     T: Ticks,
+    V: Avail,
     M: StoreMaker,
     N: IdMaker,
     O: RowOp,
@@ -288,6 +294,7 @@ pub fn storm_run<
     shelf: &mut H,
     out: &mut K,
     ticks: &mut T,
+    avail: &mut V,
     stores: &mut M,
     ids: &mut N,
     custom: &O,
@@ -318,14 +325,15 @@ where
         (shelf_use H.holds H.ready H.fetches H.faults shelf.old shelf.new)
         (sink_use K.taken K.faults out.old out.new) result }
 
-    // Where few ticks are to come every batch is committed, where nothing is in the way.
+    // Where few ticks are to come and no partition is shut every batch is committed, where nothing
+    // is in the way.
     ensures finishes { MustFinish (O.meaning custom.now)
         (shelf_use H.holds H.ready H.fetches H.faults shelf.old shelf.new)
         (sink_use K.taken K.faults out.old out.new)
         (run_use
         (maker_use M.C.tells M.C.fault_count M.holds M.has_made M.fault_count
         stores.old stores.new) (N.tells ids.old))
-        (ticks_use T.handed_out T.tells ticks.old ticks.new)
+        (ticks_use T.handed_out T.tells ticks.old ticks.new) (V.tells avail.old)
         topology.now input.now fates.new → IsDoneOrShort result }
     ensures counts { Counts
         (shelf_use H.holds H.ready H.fetches H.faults shelf.old shelf.new)
@@ -334,7 +342,7 @@ where
         stores.old stores.new) }
 {
     let came = run_files(
-        rt, alloc, topology, input, workers, shelf, ticks, stores, ids, custom, gate, fates,
+        rt, alloc, topology, input, workers, shelf, ticks, avail, stores, ids, custom, gate, fates,
     );
     write_answer(came, out)
 }

@@ -7,12 +7,11 @@ ghost use Rattle.storm_program.specs.declared.status.Status.{Status};
 ghost use Rattle.storm_program.specs.Outside.{run_use, shelf_use};
 ghost use Rattle.storm_program.specs.Replay.{IsReplayReport, ReplayComes, ReplayEndsSo, ReplayMustCommitAll, ticks_of_schedule};
 ghost use Rattle.storm_program.specs.Reports.{cut_by};
-ghost use Rattle.storm_program.specs.Run.{IsNotBegun, IsShort};
+ghost use Rattle.storm_program.specs.Run.{IsNotBegun, IsShort, IsUnhindered};
 ghost use Rattle.storm_program.specs.steps.Ended.{WorkStops};
 ghost use Rattle.storm_program.specs.steps.Stops.{IsMemory, Stops};
 ghost use Rattle.event_worlds.specs.storm_values.Rows.{IsRow};
 ghost use Rattle.stored_runs.specs.Makers.{maker_use};
-ghost use Rattle.stored_runs.specs.StoredRuns.{NothingIsInTheWay};
 ghost use Rattle.world_progress.specs.Rounding.{ShutsNone};
 
 use crate::early_end::EarlyEnd;
@@ -21,6 +20,7 @@ use crate::report::{offers_of, text_of_end};
 use crate::schedule::read_events;
 use event_worlds::attempt_fates::Fates;
 use event_worlds::bolt_ops::RowOp;
+use event_worlds::commit_order::NoFollow;
 use event_worlds::storm_ids::IdMaker;
 use schedule_reader::Events;
 use std::alloc::Global;
@@ -98,7 +98,7 @@ fn replay_accepted<M: StoreMaker, N: IdMaker, O: RowOp>(
         (run_use (maker_use M.C.tells M.C.fault_count M.holds M.has_made M.fault_count
         stores.old stores.new)
         (N.tells ids.old)) fates.new))) }
-    ensures finishes { NothingIsInTheWay files.plan
+    ensures finishes { IsUnhindered files.plan
         (maker_use M.C.tells M.C.fault_count M.holds M.has_made M.fault_count
         stores.old stores.new) fates.new
         → HasRounds files.plan
@@ -112,6 +112,16 @@ fn replay_accepted<M: StoreMaker, N: IdMaker, O: RowOp>(
     let Accepted { plan, rows } = files;
     let offers = offers_of(&plan, rows)?;
     let records = offers.rows().len() as u64;
-    let ending = replay_over(alloc, &plan, offers, events, ids, stores, custom, fates)?;
+    let ending = replay_over(
+        alloc,
+        &plan,
+        offers,
+        events,
+        ids,
+        stores,
+        custom,
+        &mut NoFollow,
+        fates,
+    )?;
     text_of_end(alloc, &plan, records, fates, &ending)
 }

@@ -1,19 +1,19 @@
 ghost use Rattle.std.specs.Prelude.{◌≡◌, All, IfOk, IfErr, length, string_bytes};
 ghost use Rattle.event_worlds.specs.Accounted.{IsInput};
-ghost use Rattle.event_worlds.specs.attempt_fates.Fates.{committed, is_committed};
 ghost use Rattle.event_worlds.specs.record_offers.Offers.{batch_count};
 ghost use Rattle.event_worlds.specs.storm_values.Rows.{IsRow};
 ghost use Rattle.storm_program.specs.Reports.{IsEndText, cut_by};
-ghost use Rattle.storm_program.specs.steps.Ended.{IsStopOfEnd};
+ghost use Rattle.storm_program.specs.steps.Ended.{IsStopOfEnd, IsUnfollowed};
 ghost use Rattle.stored_runs.specs.StoredRuns.{IsAll};
 
 use crate::early_end::{EarlyEnd, told};
 use crate::status::Status;
-use event_worlds::attempt_fates::{Attempt, End, Fates};
+use event_worlds::attempt_fates::Fates;
 use event_worlds::record_offers::Offers;
 use event_worlds::storm_values::{Memory, Rows};
 use event_worlds::topology_plan::Plan;
 use run_report::{Tail, report_text};
+use schedule_core::committed_in;
 use std::alloc::Global;
 use stored_runs::RunEnd;
 
@@ -45,27 +45,8 @@ pub fn counted_in(offers: &Offers) -> Counted
     }
 }
 
-/// How many batches were committed.
-fn committed_in(fates: &[Attempt]) -> u64
-    ensures { result ≡ length (committed fates.now) }
-{
-    let mut count = 0;
-    for attempt in fates {
-        if is_committed(&attempt.end) {
-            count += 1;
-        }
-    }
-    count
-}
-
-fn is_committed(end: &End) -> bool
-    ensures { result ≡ is_committed end.now }
-{
-    matches!(end, End::Committed(_))
-}
-
 /// What is written of a run that ended so: its report where every batch is committed, and else why
-/// it stopped.
+/// it stopped. No follower failed.
 pub fn text_of_end(
     alloc: Global,
     plan: &Plan,
@@ -73,6 +54,7 @@ pub fn text_of_end(
     fates: &Fates,
     ending: &RunEnd,
 ) -> Result<String, EarlyEnd>
+    requires { IsUnfollowed ending.now }
     ensures all { IfOk result (λ _. IsAll ending.now) }
     ensures done { IfOk result (λ text.
         IsEndText plan.now records fates.now ending.now (string_bytes text)) }
@@ -97,5 +79,6 @@ pub fn text_of_end(
         }
         RunEnd::StoreFault => Err(told(alloc, Status::StoreFault, "store fault\n")),
         RunEnd::BadCell(_) => Err(told(alloc, Status::BadCell, "bad cell\n")),
+        RunEnd::Follow(_) => unreachable!(),
     }
 }

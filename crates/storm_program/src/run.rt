@@ -4,24 +4,25 @@ ghost use Rattle.schedule_core.specs.Runs.{first_answers};
 ghost use Rattle.storm_program.specs.declared.status.Status.{Status};
 ghost use Rattle.storm_program.specs.Outside.{run_use, shelf_use, ticks_use};
 ghost use Rattle.storm_program.specs.Reports.{EndsSo, IsReport, cut_by};
-ghost use Rattle.storm_program.specs.Run.{IsNotBegun, IsShort, MustCommitAll, RunComes, ticks_of_run};
+ghost use Rattle.storm_program.specs.Run.{IsNotBegun, IsShort, IsUnhindered, MustCommitAll, RunComes, ticks_of_run};
 ghost use Rattle.storm_program.specs.steps.Ended.{IsRoundsEnd, WorkStops};
 ghost use Rattle.storm_program.specs.steps.Stops.{IsMemory, Stops};
 ghost use Rattle.event_worlds.specs.storm_values.Limits.{most_workers};
 ghost use Rattle.event_worlds.specs.storm_values.Rows.{IsRow};
 ghost use Rattle.stored_runs.specs.Makers.{maker_use};
-ghost use Rattle.stored_runs.specs.StoredRuns.{NothingIsInTheWay};
 
 use crate::early_end::EarlyEnd;
 use crate::files::{Accepted, read_files};
 use crate::report::{offers_of, text_of_end};
 use event_worlds::attempt_fates::Fates;
 use event_worlds::bolt_ops::RowOp;
+use event_worlds::commit_order::NoFollow;
 use event_worlds::storm_ids::IdMaker;
 use std::alloc::Global;
 use std::sync::Wait;
 use std::thread::Threads;
 use stored_runs::run_over;
+use storm_avail::Avail;
 use storm_gates::Gate;
 use storm_outside::Shelf;
 use storm_stores::StoreMaker;
@@ -32,6 +33,7 @@ pub fn run_files<
     R: Threads + Wait + Sync,
     H: Shelf,
     T: Ticks,
+    V: Avail,
     M: StoreMaker,
     N: IdMaker,
     O: RowOp,
@@ -44,6 +46,7 @@ pub fn run_files<
     workers: u32,
     shelf: &mut H,
     ticks: &mut T,
+    avail: &mut V,
     stores: &mut M,
     ids: &mut N,
     custom: &O,
@@ -73,23 +76,32 @@ where
         (run_use (maker_use M.C.tells M.C.fault_count M.holds M.has_made M.fault_count
         stores.old stores.new)
         (N.tells ids.old)) (ticks_use T.handed_out T.tells ticks.old ticks.new)
-        topology.now input.now fates.new → IfErr result IsMemory }
+        (V.tells avail.old) topology.now input.now fates.new → IfErr result IsMemory }
     ensures never_falls { H.faults shelf.old ≤ H.faults shelf.new }
     ensures store_faults { M.fault_count stores.old ≤ M.fault_count stores.new }
 {
     let files = read_files(alloc, topology, input, shelf)?;
     run_accepted(
-        rt, alloc, files, workers, ticks, stores, ids, custom, gate, fates,
+        rt, alloc, files, workers, ticks, avail, stores, ids, custom, gate, fates,
     )
 }
 
 /// Runs a plan over the records of its input, and makes the report.
-fn run_accepted<R: Threads + Wait + Sync, T: Ticks, M: StoreMaker, N: IdMaker, O: RowOp, G: Gate>(
+fn run_accepted<
+    R: Threads + Wait + Sync,
+    T: Ticks,
+    V: Avail,
+    M: StoreMaker,
+    N: IdMaker,
+    O: RowOp,
+    G: Gate,
+>(
     rt: &R,
     alloc: Global,
     files: Accepted,
     workers: u32,
     ticks: &mut T,
+    avail: &mut V,
     stores: &mut M,
     ids: &mut N,
     custom: &O,
@@ -126,7 +138,8 @@ where
         stores.old stores.new)
         (N.tells ids.old)) fates.new))) }
     ensures finishes { (to_come : List ℕ) → T.tells ticks.old to_come
-        → NothingIsInTheWay files.plan
+        → (0 < files.plan.partitions → V.tells avail.old [])
+        → IsUnhindered files.plan
         (maker_use M.C.tells M.C.fault_count M.holds M.has_made M.fault_count
         stores.old stores.new) fates.new
         → sum (first_answers
@@ -138,7 +151,19 @@ where
     let offers = offers_of(&plan, rows)?;
     let records = offers.rows().len() as u64;
     let ending = run_over(
-        rt, alloc, &plan, offers, workers, ticks, ids, stores, custom, gate, fates,
+        rt,
+        alloc,
+        &plan,
+        offers,
+        workers,
+        ticks,
+        avail,
+        ids,
+        stores,
+        custom,
+        gate,
+        &mut NoFollow,
+        fates,
     )?;
     text_of_end(alloc, &plan, records, fates, &ending)
 }

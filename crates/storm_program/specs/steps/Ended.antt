@@ -12,13 +12,20 @@ use Rattle.stored_runs.specs.declared.ending.RunEnd.TheVariants as end
 use Rattle.stored_runs.specs.StoredRuns.{IsAll}
 use Rattle.event_worlds.specs.topology_plan.Topology.{Topology}
 
--- the status of a run that ended so
+-- The status of a run that ended so. The follower of a command never fails, so that its fault may
+-- have any.
 abbrev pub status_of : RunEnd → Status
 status_of (end.All tables) = status.Done
 status_of (end.Exhausted txid) = status.Exhausted
 status_of (end.Unfinished k) = status.Unfinished
 status_of end.StoreFault = status.StoreFault
 status_of (end.BadCell key) = status.BadCell
+status_of (end.Follow txid) = status.StoreFault
+
+-- no follower failed
+abbrev pub IsUnfollowed : RunEnd → Type 0
+IsUnfollowed (end.Follow txid) = ⊥
+IsUnfollowed _ = Unit {0}
 
 -- the stop tells a run that did not commit all, by its status and its text
 abbrev pub IsStopOfEnd : Topology → ℕ → List Attempt → RunEnd → EarlyEnd → Type 0

@@ -32,3 +32,11 @@ returns-in-Err-Memory-clause-read g c =
 pub returns-in-Err-Memory-clause-quiet : goal.returns-in-Err-Memory-clause-quiet
 returns-in-Err-Memory-clause-quiet g c = λ other.
     have_same_counts g.C.CellStore.fault_count c.args.parts.now
+
+pub returns-in-Err-Follow-clause-read : goal.returns-in-Err-Follow-clause-read
+returns-in-Err-Follow-clause-read g c =
+    are_read g.C.CellStore.tells g.C.CellStore.fault_count c.args.parts.now
+
+pub returns-in-Err-Follow-clause-quiet : goal.returns-in-Err-Follow-clause-quiet
+returns-in-Err-Follow-clause-quiet g c = λ other.
+    have_same_counts g.C.CellStore.fault_count c.args.parts.now

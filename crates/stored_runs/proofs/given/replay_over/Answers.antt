@@ -1,8 +1,8 @@
-use Rattle.std.proofs.Common.{List, subst, sym}
+use Rattle.std.proofs.Common.{List, subst, sym, rules}
 use Rattle.event_worlds.specs.attempt_fates.declared.fates.Attempt.{Attempt}
 use Rattle.event_worlds.specs.Rounds.{ticks_in}
 use Rattle.schedule_core.specs.Schedules.{all_steps}
-use Rattle.stored_runs.proofs.Comings.{OfWorld, Ran, all_back, given_finishes, once_at_first, run_is, short_is, world_is}
+use Rattle.stored_runs.proofs.Comings.{OfWorld, Ran, all_back, followed_is, followed_short, given_finishes, less_is, once_at_first, run_is, short_is, unfailed_by, world_is}
 use Rattle.stored_runs.proofs.Lent.{Lent, idle_stand, on_err, still_made}
 use Rattle.stored_runs.specs.Makers.{maker_use}
 use Rattle.stored_runs.specs.StoredRuns.{StandAtCommits}
@@ -58,8 +58,16 @@ returns g c =
       once = c.replay-answer.ensures.comes.tells.once;
       back = all_back made lent;
       world = world_is made lent laws input run _ world r closes;
-      finishes = λ free rounds few opened.
-          given_finishes made lent laws input run _ ends world worlds keeps r closes quiet free rounds few opened;
+      followed =
+          followed_is g.W.Follow.tells g.W.Follow.fault_count c.args.follow.now c.replay-answer.new.follow
+          c.replay-answer.new.fates g.M.C.CellStore.tells g.M.C.CellStore.fault_count c.args.plan.now
+          c.replay-answer.new.parts c.close-ended.new.parts c.replay-answer.result r closes c.replay-answer.ensures.followed;
+      less = less_is made lent laws input run _ r closes c.replay-answer.ensures.less;
+      finishes = λ free none rounds few opened.
+          given_finishes made lent laws input run _ ends
+          (unfailed_by g.W.Follow.tells g.W.Follow.fault_count c.args.follow.now
+          c.replay-answer.new.follow c.replay-answer.new.fates c.replay-answer.result c.replay-answer.ensures.followed none)
+          world worlds keeps r closes quiet free rounds few opened;
     }
 
 pub returns-in_err-parts-clause-short : goal.returns-in_err-parts-clause-short
@@ -82,3 +90,8 @@ returns-in_err-parts-clause-once g c =
     (c.laws_of_runs.ensures.worlds c.args.plan.now (g.O.RowOp.meaning c.args.custom.now)
     c.args.offers)
     c.requires.input c.args.fates.now c.requires.empty
+
+pub returns-in_err-parts-clause-followed : goal.returns-in_err-parts-clause-followed
+returns-in_err-parts-clause-followed g c =
+    followed_short g.W.Follow.tells g.W.Follow.fault_count c.args.follow.now c.args.fates.now
+    c.from_residual.result (search rules)

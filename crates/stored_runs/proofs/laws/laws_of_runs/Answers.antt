@@ -25,6 +25,7 @@ returns g c = record {
     sum = c.counts_run_on.ensures.sum;
     last_sum = c.counts_run_on.ensures.last_sum;
     part = c.failures_of_commits_are_counted.ensures.part t;
+    begin = c.commits_of_batches_move_parts.ensures.first t custom cut;
     tables = c.parts_that_stand_have_the_tables.ensures t custom cut;
     hold_known = c.all_batches_hold_all_records.ensures.known cut;
     bad_cell = c.strange_cells_were_there.ensures.bad_cell;

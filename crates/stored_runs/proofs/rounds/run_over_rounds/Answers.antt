@@ -1,9 +1,9 @@
-use Rattle.std.proofs.Common.{List, Result, refl, subst, sym}
+use Rattle.std.proofs.Common.{List, Result, refl, subst, sym, rules}
 use Rattle.event_worlds.specs.attempt_fates.declared.fates.Attempt.{Attempt}
 use Rattle.event_worlds.specs.commit_order.declared.stop.Stop.{Stop}
 use Rattle.schedule_core.specs.declared.ended.Ended.{Ended}
 use Rattle.schedule_core.specs.Runs.{ended, ticks_between}
-use Rattle.stored_runs.proofs.Comings.{OfWorld, Ran, all_back, by_rounds, none_left, rounds_finish, once_at_first, run_is, short_is, world_is}
+use Rattle.stored_runs.proofs.Comings.{OfWorld, Ran, all_back, by_rounds, follow_of, followed_is, followed_short, less_is, none_left, once_at_first, rounds_finish, run_is, short_is, unfailed_by, world_is}
 use Rattle.stored_runs.proofs.Lent.{Lent, idle_stand, on_err, still_made}
 use Rattle.stored_runs.specs.Makers.{maker_use}
 use Rattle.stored_runs.specs.StoredRuns.{StandAtCommits}
@@ -71,9 +71,20 @@ returns g c =
       once = c.run_rounds-done.ensures.comes.comes.tells.once;
       back = all_back made lent;
       world = by_rounds asked r (world_is made lent laws input run _ world r closes);
-      finishes = λ to_come tells free few.
-          rounds_finish made lent laws input run _ ends world worlds keeps c.run_rounds-done.result refl
-          asked.answers to_come asked.rounds asked.shut_none (asked.asked to_come tells) r closes quiet free few;
+      followed =
+          followed_is g.W.Follow.tells g.W.Follow.fault_count c.args.follow.now c.run_rounds-done.new.follow
+          c.run_rounds-done.new.fates g.M.C.CellStore.tells g.M.C.CellStore.fault_count c.args.plan.now
+          c.run_rounds-done.new.parts c.close-ended.new.parts (ended c.run_rounds-done.result) r closes c.run_rounds-done.ensures.followed;
+      less =
+          less_is made lent laws input run _ r closes
+          (λ txid is. c.run_rounds-done.ensures.less txid (follow_of c.run_rounds-done.result txid is));
+      finishes = λ to_come tells open_all free none few.
+          rounds_finish made lent laws input run _ ends
+          (unfailed_by g.W.Follow.tells g.W.Follow.fault_count c.args.follow.now
+          c.run_rounds-done.new.follow c.run_rounds-done.new.fates (ended c.run_rounds-done.result) c.run_rounds-done.ensures.followed none)
+          world worlds keeps c.run_rounds-done.result refl
+          asked.answers asked.shuts to_come asked.rounds (asked.shut_none open_all) (asked.asked to_come tells) r closes quiet
+          free few;
     }
 
 pub returns-in_err-parts-clause-short : goal.returns-in_err-parts-clause-short
@@ -96,3 +107,8 @@ returns-in_err-parts-clause-once g c =
     (c.laws_of_runs.ensures.worlds c.args.plan.now (g.O.RowOp.meaning c.args.custom.now)
     c.args.offers)
     c.requires.input c.args.fates.now c.requires.empty
+
+pub returns-in_err-parts-clause-followed : goal.returns-in_err-parts-clause-followed
+returns-in_err-parts-clause-followed g c =
+    followed_short g.W.Follow.tells g.W.Follow.fault_count c.args.follow.now c.args.fates.now
+    c.from_residual.result (search rules)

@@ -1,9 +1,9 @@
-use Rattle.std.proofs.Common.{List, Result, refl, subst, sym}
+use Rattle.std.proofs.Common.{List, Result, refl, subst, sym, rules}
 use Rattle.event_worlds.specs.attempt_fates.declared.fates.Attempt.{Attempt}
 use Rattle.event_worlds.specs.commit_order.declared.stop.Stop.{Stop}
 use Rattle.schedule_core.specs.declared.ended.Ended.{Ended}
 use Rattle.schedule_core.specs.Runs.{ended, ticks_between}
-use Rattle.stored_runs.proofs.Comings.{Ran, all_back, none_left, none_out_finishes, once_at_first, run_is, short_is}
+use Rattle.stored_runs.proofs.Comings.{Ran, all_back, follow_of, followed_is, followed_short, less_is, none_left, none_out_finishes, once_at_first, run_is, short_is, unfailed_by}
 use Rattle.stored_runs.proofs.Lent.{Lent, idle_stand, on_err, still_made}
 use Rattle.stored_runs.specs.Makers.{maker_use}
 use Rattle.stored_runs.specs.StoredRuns.{StandAtCommits}
@@ -62,9 +62,21 @@ returns g c =
           c.run_by_workers-done.new.parts c.close-ended.new.parts c.run_by_workers-done.result r closes;
       once = c.run_by_workers-done.ensures.comes.tells.once;
       back = all_back made lent;
-      finishes = λ to_come tells free few.
-          none_out_finishes made lent laws input run _ ends c.run_by_workers-done.result refl r closes quiet free
-          (λ none. c.run_by_workers-done.ensures.finishes to_come tells free.can_finish free.no_coincidence none few);
+      followed =
+          followed_is g.W.Follow.tells g.W.Follow.fault_count c.args.follow.now c.run_by_workers-done.new.follow
+          c.run_by_workers-done.new.fates g.M.C.CellStore.tells g.M.C.CellStore.fault_count c.args.plan.now
+          c.run_by_workers-done.new.parts c.close-ended.new.parts (ended c.run_by_workers-done.result) r closes c.run_by_workers-done.ensures.followed;
+      less =
+          less_is made lent laws input run _ r closes
+          (λ txid is. c.run_by_workers-done.ensures.less txid (follow_of c.run_by_workers-done.result txid is));
+      finishes = λ to_come tells open_all free none few.
+          none_out_finishes made lent laws input run _ ends
+          (unfailed_by g.W.Follow.tells g.W.Follow.fault_count c.args.follow.now
+          c.run_by_workers-done.new.follow c.run_by_workers-done.new.fates (ended c.run_by_workers-done.result) c.run_by_workers-done.ensures.followed none)
+          c.run_by_workers-done.result refl r closes quiet free
+          (λ no_failure.
+          c.run_by_workers-done.ensures.finishes to_come tells open_all free.can_finish
+          free.no_coincidence no_failure few);
     }
 
 pub returns-in_err-parts-clause-short : goal.returns-in_err-parts-clause-short
@@ -87,3 +99,8 @@ returns-in_err-parts-clause-once g c =
     (c.laws_of_runs.ensures.worlds c.args.plan.now (g.O.RowOp.meaning c.args.custom.now)
     c.args.offers)
     c.requires.input c.args.fates.now c.requires.empty
+
+pub returns-in_err-parts-clause-followed : goal.returns-in_err-parts-clause-followed
+returns-in_err-parts-clause-followed g c =
+    followed_short g.W.Follow.tells g.W.Follow.fault_count c.args.follow.now c.args.fates.now
+    c.from_residual.result (search rules)

@@ -1,4 +1,4 @@
-use Rattle.std.proofs.Common.{◌≡◌, ◌⊎◌, ℕ, ◌+◌, ◌*◌, List, [], ◌∷◌, Err, string_bytes, subst, rules}
+use Rattle.std.proofs.Common.{◌≡◌, ◌⊎◌, ℕ, ◌+◌, ◌*◌, List, [], ◌∷◌, Err, refl, string_bytes, subst, sym, rules}
 use Rattle.event_worlds.specs.attempt_fates.declared.fates.Attempt.{Attempt}
 use Rattle.event_worlds.specs.taken_records.Cuts.{Cut}
 use Rattle.event_worlds.specs.tree_model.Trees.{node_count}
@@ -7,7 +7,7 @@ use Rattle.schedule_reader.specs.declared.event.Event.{Event}
 use Rattle.schedule_reader.specs.declared.event.Event.TheVariants.{Rounds}
 use Rattle.storm_program.proofs.EndLemmas.{IfErr-exit}
 use Rattle.storm_program.proofs.LoadLemmas.{events_are, few_ticks, rounds_serve, shuts_none}
-use Rattle.storm_program.proofs.ReportLemmas.{ends_so, load_line_if, work_finishes, work_short, work_stops}
+use Rattle.storm_program.proofs.ReportLemmas.{ends_so, free_over, load_line_if, none_rose, unfollowed, work_finishes, work_short, work_stops}
 use Rattle.storm_program.specs.Load.{IsLoadLine, load_events}
 use Rattle.storm_program.specs.Outside.{RunUse, run_use}
 use Rattle.storm_program.specs.Replay.{ReplayEndsSo}
@@ -38,7 +38,9 @@ returns-in_err-text_of_end-clause-finishes g c = λ free four three.
     let one : c.in_ok-events.events ≡ Rounds (64 * (node_count c.args.files.plan (g.O.RowOp.meaning c.args.custom.now) c.in_ok-offers.offers.records + c.counted_in-counted.result.batches + 1)) ∷ [] = search rules in
     IfErr-exit c.from_residual-in_err-text_of_end.result c.in_err-text_of_end.field-0.0 _ c.from_residual-in_err-text_of_end.ensures.1
     (work_finishes {T = ℕ} c.args.files.plan c.counted_in-counted.result.records c.replay_over.new.fates c.in_ok-ending.ending (Err c.in_err-text_of_end.field-0.0)
-    (c.in_ok-ending.ensures.finishes free
+    (c.in_ok-ending.ensures.finishes
+    (free_over (g.O.RowOp.meaning c.args.custom.now) c.args.files.plan c.args.files.rows (run_use (maker_use g.M.C.CellStore.tells g.M.C.CellStore.fault_count g.M.StoreMaker.holds g.M.StoreMaker.has_made g.M.StoreMaker.fault_count c.args.stores.now c.replay_over.new.stores) (g.N.IdMaker.tells c.args.ids.now)) c.replay_over.new.fates c.in_ok-offers.offers c.in_ok-offers.ensures.cut free)
+    none_rose
     (rounds_serve c.args.files.plan (g.O.RowOp.meaning c.args.custom.now) c.in_ok-offers.offers c.counted_in-counted.result.batches c.counted_in-counted.ensures.batches c.in_ok-events.events one four)
     (few_ticks c.args.files.plan (g.O.RowOp.meaning c.args.custom.now) c.in_ok-offers.offers c.counted_in-counted.result.batches c.counted_in-counted.ensures.batches c.in_ok-events.events one three)
     (λ some. shuts_none c.args.files.plan (g.O.RowOp.meaning c.args.custom.now) c.in_ok-offers.offers c.counted_in-counted.result.batches c.counted_in-counted.ensures.batches c.in_ok-events.events one))
@@ -52,3 +54,7 @@ returns-clause-line g c =
     let same : c.in_ok-events.events ≡ load_events c.args.files.plan (g.O.RowOp.meaning c.args.custom.now) c.args.files.rows = events_are c.args.files.plan (g.O.RowOp.meaning c.args.custom.now) c.in_ok-offers.offers c.counted_in-counted.result.batches c.counted_in-counted.ensures.batches c.in_ok-events.events one c.args.files.rows c.in_ok-offers.ensures.cut in
     subst (λ (es : List Event). IsLoadLine (g.O.RowOp.meaning c.args.custom.now) c.args.files.plan c.args.files.rows es base fates (string_bytes c.in_ok-line.line)) same
     (load_line_if (g.O.RowOp.meaning c.args.custom.now) c.args.files.plan c.args.files.rows base fates c.in_ok-offers.offers c.in_ok-offers.ensures.cut c.counted_in-counted.result.records c.counted_in-counted.ensures.records c.in_ok-events.events c.counted_in-counted.result.batches c.counted_in-counted.ensures.batches c.in_ok-ending.ending (string_bytes c.in_ok-text_of_end.field-0) (string_bytes c.in_ok-line.line) c.in_ok-offers.ensures.input c.in_ok-text_of_end.ensures.all c.in_ok-text_of_end.ensures.done c.in_ok-line.ensures c.in_ok-ending.ensures.comes c.replay_over.ensures.back c.in_ok-ending.ensures.world)
+
+pub text_of_end-requires : goal.text_of_end-requires
+text_of_end-requires g c =
+    unfollowed _ (λ w. 0) _ _ c.replay_over.new.fates c.replay_over.result c.in_ok-ending.ending (λ w. refl) c.in_ok-ending.was c.replay_over.ensures.followed

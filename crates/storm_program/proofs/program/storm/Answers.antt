@@ -13,7 +13,7 @@ returns-in-Check-clause-ends g c =
     (shelf_use g.H.Shelf.holds g.H.Shelf.ready g.H.Shelf.fetches g.H.Shelf.faults c.args.shelf.now c.storm_check.new.shelf)
     (sink_use g.K.Sink.taken g.K.Sink.faults c.args.out.now c.storm_check.new.out)
     (run_use (maker_use g.M.C.CellStore.tells g.M.C.CellStore.fault_count g.M.StoreMaker.holds g.M.StoreMaker.has_made g.M.StoreMaker.fault_count c.args.stores.now c.args.stores.now) (g.N.IdMaker.tells c.args.ids.now))
-    (ticks_use g.T.Ticks.handed_out g.T.Ticks.tells c.args.ticks.now c.args.ticks.now)
+    (ticks_use g.T.Ticks.handed_out g.T.Ticks.tells c.args.ticks.now c.args.ticks.now) (g.V.Avail.tells c.args.avail.now)
     c.args.fates.now (command (map string_bytes c.args.words.now)) c.storm_check.result
     c.in-Check.topology.now is c.requires (untouched g.M.C.CellStore.tells g.M.C.CellStore.fault_count g.M.StoreMaker.holds g.M.StoreMaker.has_made g.M.StoreMaker.fault_count c.args.stores.now) c.storm_check.ensures.ends
 
@@ -25,7 +25,7 @@ returns-in-Plain-clause-ends g c =
     (shelf_use g.H.Shelf.holds g.H.Shelf.ready g.H.Shelf.fetches g.H.Shelf.faults c.args.shelf.now c.storm_plain.new.shelf)
     (sink_use g.K.Sink.taken g.K.Sink.faults c.args.out.now c.storm_plain.new.out)
     (run_use (maker_use g.M.C.CellStore.tells g.M.C.CellStore.fault_count g.M.StoreMaker.holds g.M.StoreMaker.has_made g.M.StoreMaker.fault_count c.args.stores.now c.args.stores.now) (g.N.IdMaker.tells c.args.ids.now))
-    (ticks_use g.T.Ticks.handed_out g.T.Ticks.tells c.args.ticks.now c.args.ticks.now)
+    (ticks_use g.T.Ticks.handed_out g.T.Ticks.tells c.args.ticks.now c.args.ticks.now) (g.V.Avail.tells c.args.avail.now)
     c.args.fates.now (command (map string_bytes c.args.words.now)) c.storm_plain.result
     c.in-Plain.topology.now c.in-Plain.input.now is c.requires (untouched g.M.C.CellStore.tells g.M.C.CellStore.fault_count g.M.StoreMaker.holds g.M.StoreMaker.has_made g.M.StoreMaker.fault_count c.args.stores.now) c.storm_plain.ensures.ends
 
@@ -37,7 +37,7 @@ returns-in-Replay-clause-ends g c =
     (shelf_use g.H.Shelf.holds g.H.Shelf.ready g.H.Shelf.fetches g.H.Shelf.faults c.args.shelf.now c.storm_replay.new.shelf)
     (sink_use g.K.Sink.taken g.K.Sink.faults c.args.out.now c.storm_replay.new.out)
     (run_use (maker_use g.M.C.CellStore.tells g.M.C.CellStore.fault_count g.M.StoreMaker.holds g.M.StoreMaker.has_made g.M.StoreMaker.fault_count c.args.stores.now c.storm_replay.new.stores) (g.N.IdMaker.tells c.args.ids.now))
-    (ticks_use g.T.Ticks.handed_out g.T.Ticks.tells c.args.ticks.now c.args.ticks.now)
+    (ticks_use g.T.Ticks.handed_out g.T.Ticks.tells c.args.ticks.now c.args.ticks.now) (g.V.Avail.tells c.args.avail.now)
     c.storm_replay.new.fates (command (map string_bytes c.args.words.now)) c.storm_replay.result
     (Some (replay c.in-Replay.topology.now c.in-Replay.input.now c.in-Replay.schedule.now)) is c.storm_replay.ensures.ends
 
@@ -49,7 +49,7 @@ returns-in-Run-clause-ends g c =
     (shelf_use g.H.Shelf.holds g.H.Shelf.ready g.H.Shelf.fetches g.H.Shelf.faults c.args.shelf.now c.storm_run.new.shelf)
     (sink_use g.K.Sink.taken g.K.Sink.faults c.args.out.now c.storm_run.new.out)
     (run_use (maker_use g.M.C.CellStore.tells g.M.C.CellStore.fault_count g.M.StoreMaker.holds g.M.StoreMaker.has_made g.M.StoreMaker.fault_count c.args.stores.now c.storm_run.new.stores) (g.N.IdMaker.tells c.args.ids.now))
-    (ticks_use g.T.Ticks.handed_out g.T.Ticks.tells c.args.ticks.now c.storm_run.new.ticks)
+    (ticks_use g.T.Ticks.handed_out g.T.Ticks.tells c.args.ticks.now c.storm_run.new.ticks) (g.V.Avail.tells c.args.avail.now)
     c.storm_run.new.fates (command (map string_bytes c.args.words.now)) c.storm_run.result
     (Some (run c.in-Run.topology.now c.in-Run.input.now c.in-Run.workers)) is c.storm_run.ensures.ends
 
@@ -61,7 +61,7 @@ returns-in-Load-clause-ends g c =
     (shelf_use g.H.Shelf.holds g.H.Shelf.ready g.H.Shelf.fetches g.H.Shelf.faults c.args.shelf.now c.args.shelf.now)
     (sink_use g.K.Sink.taken g.K.Sink.faults c.args.out.now c.storm_load.new.out)
     (run_use (maker_use g.M.C.CellStore.tells g.M.C.CellStore.fault_count g.M.StoreMaker.holds g.M.StoreMaker.has_made g.M.StoreMaker.fault_count c.args.stores.now c.storm_load.new.stores) (g.N.IdMaker.tells c.args.ids.now))
-    (ticks_use g.T.Ticks.handed_out g.T.Ticks.tells c.args.ticks.now c.args.ticks.now)
+    (ticks_use g.T.Ticks.handed_out g.T.Ticks.tells c.args.ticks.now c.args.ticks.now) (g.V.Avail.tells c.args.avail.now)
     c.storm_load.new.fates (command (map string_bytes c.args.words.now)) c.storm_load.result
     c.in-Load.records c.in-Load.seed is refl c.storm_load.ensures.ends
 
@@ -73,7 +73,7 @@ returns-in-Track-clause-ends g c =
     (shelf_use g.H.Shelf.holds g.H.Shelf.ready g.H.Shelf.fetches g.H.Shelf.faults c.args.shelf.now c.storm_track.new.shelf)
     (sink_use g.K.Sink.taken g.K.Sink.faults c.args.out.now c.storm_track.new.out)
     (run_use (maker_use g.M.C.CellStore.tells g.M.C.CellStore.fault_count g.M.StoreMaker.holds g.M.StoreMaker.has_made g.M.StoreMaker.fault_count c.args.stores.now c.args.stores.now) (g.N.IdMaker.tells c.args.ids.now))
-    (ticks_use g.T.Ticks.handed_out g.T.Ticks.tells c.args.ticks.now c.args.ticks.now)
+    (ticks_use g.T.Ticks.handed_out g.T.Ticks.tells c.args.ticks.now c.args.ticks.now) (g.V.Avail.tells c.args.avail.now)
     c.args.fates.now (command (map string_bytes c.args.words.now)) c.storm_track.result
     c.in-Track.topology.now c.in-Track.input.now c.in-Track.workers is c.requires (untouched g.M.C.CellStore.tells g.M.C.CellStore.fault_count g.M.StoreMaker.holds g.M.StoreMaker.has_made g.M.StoreMaker.fault_count c.args.stores.now) c.storm_track.ensures.ends
 
@@ -85,7 +85,7 @@ returns-in-Fold-clause-ends g c =
     (shelf_use g.H.Shelf.holds g.H.Shelf.ready g.H.Shelf.fetches g.H.Shelf.faults c.args.shelf.now c.storm_fold.new.shelf)
     (sink_use g.K.Sink.taken g.K.Sink.faults c.args.out.now c.storm_fold.new.out)
     (run_use (maker_use g.M.C.CellStore.tells g.M.C.CellStore.fault_count g.M.StoreMaker.holds g.M.StoreMaker.has_made g.M.StoreMaker.fault_count c.args.stores.now c.args.stores.now) (g.N.IdMaker.tells c.args.ids.now))
-    (ticks_use g.T.Ticks.handed_out g.T.Ticks.tells c.args.ticks.now c.args.ticks.now)
+    (ticks_use g.T.Ticks.handed_out g.T.Ticks.tells c.args.ticks.now c.args.ticks.now) (g.V.Avail.tells c.args.avail.now)
     c.args.fates.now (command (map string_bytes c.args.words.now)) c.storm_fold.result
     c.in-Fold.topology.now c.in-Fold.input.now c.in-Fold.workers is c.requires (untouched g.M.C.CellStore.tells g.M.C.CellStore.fault_count g.M.StoreMaker.holds g.M.StoreMaker.has_made g.M.StoreMaker.fault_count c.args.stores.now) c.storm_fold.ensures.ends
 
@@ -97,6 +97,6 @@ returns-in-Ok-None-clause-ends g c =
     (shelf_use g.H.Shelf.holds g.H.Shelf.ready g.H.Shelf.fetches g.H.Shelf.faults c.args.shelf.now c.args.shelf.now)
     (sink_use g.K.Sink.taken g.K.Sink.faults c.args.out.now c.write_text.new.out)
     (run_use (maker_use g.M.C.CellStore.tells g.M.C.CellStore.fault_count g.M.StoreMaker.holds g.M.StoreMaker.has_made g.M.StoreMaker.fault_count c.args.stores.now c.args.stores.now) (g.N.IdMaker.tells c.args.ids.now))
-    (ticks_use g.T.Ticks.handed_out g.T.Ticks.tells c.args.ticks.now c.args.ticks.now)
+    (ticks_use g.T.Ticks.handed_out g.T.Ticks.tells c.args.ticks.now c.args.ticks.now) (g.V.Avail.tells c.args.avail.now)
     c.args.fates.now (command (map string_bytes c.args.words.now)) c.write_text.result
     _ is (c.requires, untouched g.M.C.CellStore.tells g.M.C.CellStore.fault_count g.M.StoreMaker.holds g.M.StoreMaker.has_made g.M.StoreMaker.fault_count c.args.stores.now) refl c.as_bytes.ensures.value c.write_text.ensures.written

@@ -1,9 +1,9 @@
-use Rattle.std.proofs.Common.{◌≡◌, ◌⊎◌, List, length, rules, sym, subst}
+use Rattle.std.proofs.Common.{◌≡◌, ◌⊎◌, List, length, refl, rules, sym, subst}
 use Rattle.event_worlds.specs.Rounds.{HasRounds, rounds_needed}
 use Rattle.event_worlds.specs.attempt_fates.declared.fates.Attempt.{Attempt}
 use Rattle.event_worlds.specs.taken_records.Cuts.{Cut}
 use Rattle.schedule_core.specs.Schedules.{all_steps}
-use Rattle.storm_program.proofs.ReportLemmas.{ends_so, replay_report_if, work_finishes, work_short, work_stops}
+use Rattle.storm_program.proofs.ReportLemmas.{ends_so, free_over, none_rose, replay_report_if, unfollowed, work_finishes, work_short, work_stops}
 use Rattle.storm_program.specs.Outside.{RunUse, run_use}
 use Rattle.storm_program.specs.Replay.{ReplayEndsSo, ticks_of_schedule}
 use Rattle.storm_program.specs.Run.{IsNotBegun, IsShort}
@@ -32,4 +32,9 @@ returns-clause-stop g c =
 pub returns-clause-finishes : goal.returns-clause-finishes
 returns-clause-finishes g c = λ free rounds few shuts_none.
     let here = subst (λ (k : Cut). HasRounds c.args.files.plan (rounds_needed c.args.files.plan (g.O.RowOp.meaning c.args.custom.now) k) (all_steps c.args.files.plan c.args.events.now)) (sym c.in_ok-offers.ensures.cut) rounds in
-    work_finishes _ _ _ c.in_ok-ending.ending c.text_of_end.result (c.in_ok-ending.ensures.finishes free here few shuts_none) c.text_of_end.ensures.stop
+    let free_here = free_over (g.O.RowOp.meaning c.args.custom.now) c.args.files.plan c.args.files.rows (run_use (maker_use g.M.C.CellStore.tells g.M.C.CellStore.fault_count g.M.StoreMaker.holds g.M.StoreMaker.has_made g.M.StoreMaker.fault_count c.args.stores.now c.replay_over.new.stores) (g.N.IdMaker.tells c.args.ids.now)) c.replay_over.new.fates c.in_ok-offers.offers c.in_ok-offers.ensures.cut free in
+    work_finishes _ _ _ c.in_ok-ending.ending c.text_of_end.result (c.in_ok-ending.ensures.finishes free_here none_rose here few shuts_none) c.text_of_end.ensures.stop
+
+pub text_of_end-requires : goal.text_of_end-requires
+text_of_end-requires g c =
+    unfollowed _ (λ w. 0) _ _ c.replay_over.new.fates c.replay_over.result c.in_ok-ending.ending (λ w. refl) c.in_ok-ending.was c.replay_over.ensures.followed

@@ -1,5 +1,8 @@
-use Rattle.std.proofs.Common.{◌≡◌, ◌⊎◌, ℕ, List, length, rules}
-use Rattle.storm_program.proofs.ReportLemmas.{ends_so, report_if, rounds_end, work_stops, work_short}
+use Rattle.std.proofs.Common.{◌≡◌, ◌<◌, ◌⊎◌, ℕ, List, length, refl, rules, subst, sum, sym}
+use Rattle.event_worlds.specs.Rounds.{rounds_needed}
+use Rattle.event_worlds.specs.taken_records.Cuts.{Cut}
+use Rattle.schedule_core.specs.Runs.{first_answers}
+use Rattle.storm_program.proofs.ReportLemmas.{ends_so, free_over, none_rose, report_if, rounds_end, unfollowed, work_finishes, work_short, work_stops}
 use Rattle.event_worlds.specs.attempt_fates.declared.fates.Attempt.{Attempt}
 use Rattle.storm_program.specs.Outside.{RunUse, run_use, ticks_use}
 use Rattle.storm_program.specs.Reports.{EndsSo}
@@ -28,3 +31,13 @@ returns-clause-stop g c =
     ))
     (work_short (g.O.RowOp.meaning c.args.custom.now) c.args.files.plan c.args.files.rows base ticks fates _ c.in_ok-offers.ensures.cut c.run_over.ensures.once c.run_over.ensures.back c.in_ok-ending.ensures.comes.stands)
     c.text_of_end.ensures.stop
+
+pub text_of_end-requires : goal.text_of_end-requires
+text_of_end-requires g c =
+    unfollowed _ (λ w. 0) _ _ c.run_over.new.fates c.run_over.result c.in_ok-ending.ending (λ w. refl) c.in_ok-ending.was c.run_over.ensures.followed
+
+pub returns-clause-finishes : goal.returns-clause-finishes
+returns-clause-finishes g c = λ to_come told all_open free few.
+    let here = free_over (g.O.RowOp.meaning c.args.custom.now) c.args.files.plan c.args.files.rows (run_use (maker_use g.M.C.CellStore.tells g.M.C.CellStore.fault_count g.M.StoreMaker.holds g.M.StoreMaker.has_made g.M.StoreMaker.fault_count c.args.stores.now c.run_over.new.stores) (g.N.IdMaker.tells c.args.ids.now)) c.run_over.new.fates c.in_ok-offers.offers c.in_ok-offers.ensures.cut free in
+    let few_here = subst (λ (k : Cut). sum (first_answers (rounds_needed c.args.files.plan (g.O.RowOp.meaning c.args.custom.now) k) to_come) < c.args.files.plan.buckets) (sym c.in_ok-offers.ensures.cut) few in
+    work_finishes _ _ _ c.in_ok-ending.ending c.text_of_end.result (c.in_ok-ending.ensures.finishes to_come told all_open here none_rose few_here) c.text_of_end.ensures.stop

@@ -45,5 +45,5 @@ returns-clause-finishes g c = λ must.
     (shelf_use g.H.Shelf.holds g.H.Shelf.ready g.H.Shelf.fetches g.H.Shelf.faults c.args.shelf.now c.read_files.new.shelf)
     (run_use (maker_use g.M.C.CellStore.tells g.M.C.CellStore.fault_count g.M.StoreMaker.holds g.M.StoreMaker.has_made g.M.StoreMaker.fault_count c.args.stores.now c.run_accepted.new.stores) (g.N.IdMaker.tells c.args.ids.now))
     (ticks_use g.T.Ticks.handed_out g.T.Ticks.tells c.args.ticks.now c.run_accepted.new.ticks)
-    c.args.topology.now c.args.input.now c.run_accepted.new.fates _ _ c.in_ok-files.ensures.accepted must in
-    c.run_accepted.ensures.finishes through.to_come through.told through.free through.few
+    c.args.topology.now c.args.input.now c.run_accepted.new.fates (g.V.Avail.tells c.args.avail.now) _ _ c.in_ok-files.ensures.accepted must in
+    c.run_accepted.ensures.finishes through.to_come through.told through.all_open through.free through.few

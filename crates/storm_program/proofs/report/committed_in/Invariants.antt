@@ -1,9 +1,0 @@
-use Rattle.std.proofs.Common.{◌≡◌, ◌+◌, ◌≤◌, drop, length}
-use Rattle.event_worlds.specs.attempt_fates.Fates.{committed}
-use Rattle.storm_program.proofs.report.committed_in.Given as goal
-
-abbrev pub invariant-loop-attempt : goal.invariant-loop-attempt
-invariant-loop-attempt l = record {
-  few : l.count ≤ l.attempt-index;
-  rest : l.count + length (committed (drop l.attempt-index l.fates)) ≡ length (committed l.fates);
-}
