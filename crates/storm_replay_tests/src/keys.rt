@@ -2,6 +2,7 @@
 ghost use Rattle.std.specs.Prelude.{◌≡◌, IfOk};
 ghost use Rattle.event_worlds.specs.Accounted.{IsInput};
 
+use event_worlds::commit_order::NoFollow;
 use event_worlds::record_offers::Offers;
 use sample_operations::Backwards;
 use sample_topologies::STEADY;
@@ -54,6 +55,7 @@ fn end_over(alloc: Global, plan: &Plan, cell: Cell) -> Result<RunEnd, Mismatch> 
         &mut ids,
         &mut stores,
         &Backwards,
+        &mut NoFollow,
         &mut fates,
     );
     Ok(ended?)

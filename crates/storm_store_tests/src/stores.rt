@@ -2,6 +2,7 @@
 // part.
 use sample_operations::Backwards;
 use sample_topologies::{STEADY, one_bolt};
+use storm_avail::AllOpen;
 use storm_gates::OpenGate;
 use storm_ids::ChaChaMaker;
 use storm_stores::{CallKind, CellStore, FailAt, MemMaker, StoreFault, StoreMaker};
@@ -199,6 +200,7 @@ fn a_store_comes_back_with_its_cell(rt: HostRuntime) -> Result<(), Mismatch> {
         &mut shelf,
         &mut sink,
         &mut ticks,
+        &mut AllOpen,
         &mut stores,
         &mut ChaChaMaker { key: [0; 32] },
         &Backwards,

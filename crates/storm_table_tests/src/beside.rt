@@ -4,6 +4,7 @@ use sample_topologies::WORD_COUNT;
 use std::alloc::Global;
 use std::fmt::Write;
 use std::test::Fail;
+use storm_avail::AllOpen;
 use storm_gates::OpenGate;
 use storm_ids::ChaChaMaker;
 use storm_stores::MemMaker;
@@ -83,6 +84,7 @@ fn the_tables_of_three_hundred_lines(rt: HostRuntime) -> Result<(), Fail> {
         &mut shelf,
         &mut sink,
         &mut ticks,
+        &mut AllOpen,
         &mut stores,
         &mut ids,
         &Backwards,

@@ -6,6 +6,7 @@ use sample_operations::Backwards;
 use std::alloc::Global;
 use std::sync::Wait;
 use std::thread::Threads;
+use storm_avail::AllOpen;
 use storm_gates::{Gate, OpenGate};
 use storm_ids::{ChaChaMaker, IdMaker};
 use storm_program::{Attempt, End, Fates, Status, storm};
@@ -102,6 +103,7 @@ where
         &mut shelf,
         &mut sink,
         &mut ticks,
+        &mut AllOpen,
         &mut stores,
         ids,
         custom,
