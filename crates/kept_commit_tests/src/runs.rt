@@ -8,9 +8,9 @@ use std::alloc::Global;
 use storm_stores::StoreFault;
 use storm_values::Bytes;
 
-// The meta that is held, or the first one of an input of 9 records.
-fn start_of(alloc: Global, keeper: &mut MemKeeper) -> Result<Meta, Trouble> {
-    match Meta::load(alloc, keeper)? {
+// The meta that the keeper holds, or the first one of an input of 9 records.
+fn start_of(alloc: Global, kept: &mut KeptCommits<MemKeeper>) -> Result<Meta, Trouble> {
+    match kept.load()? {
         Some(meta) => Ok(meta),
         None => Ok(Meta {
             txid: 0,
@@ -20,14 +20,12 @@ fn start_of(alloc: Global, keeper: &mut MemKeeper) -> Result<Meta, Trouble> {
     }
 }
 
-// A run of these commits from where the keeper's meta says, and then the keeper.
-fn run(alloc: Global, keeper: MemKeeper, steps: &[Step]) -> Result<MemKeeper, Trouble> {
-    let mut keeper = keeper;
-    let start = start_of(alloc, &mut keeper)?;
+// A run of these commits from where the keeper's meta says.
+fn run(alloc: Global, kept: &mut KeptCommits<MemKeeper>, steps: &[Step]) -> Result<(), Trouble> {
+    let start = start_of(alloc, kept)?;
     let first = next_of(start.txid)?;
-    let mut kept = KeptCommits::new(alloc, keeper, start);
-    check_steps(alloc, &mut kept, first, steps)?;
-    Ok(kept.into_keeper())
+    kept.start(start);
+    check_steps(alloc, kept, first, steps)
 }
 
 // Spans that rise, one that fills a gap, none, an empty one, and some in no order.
@@ -73,9 +71,10 @@ const SECOND: [Step; 1] = [Step {
 #[test]
 fn a_run_goes_on(rt: HostRuntime) -> Result<(), Trouble> {
     let alloc = rt.alloc();
-    let keeper = run(alloc, MemKeeper::new(alloc, None), &FIRST)?;
-    run(alloc, keeper, &SECOND)?;
-    Ok(())
+    let mut first = KeptCommits::new(alloc, MemKeeper::new(alloc, None));
+    run(alloc, &mut first, &FIRST)?;
+    let mut second = KeptCommits::new(alloc, first.keeper);
+    run(alloc, &mut second, &SECOND)
 }
 
 const BEFORE: &str = "meta 1 txid 7 records 30 spans 2-4,10-12\n";
@@ -115,8 +114,8 @@ const LATER: [Step; 5] = [
 fn gaps_are_closed(rt: HostRuntime) -> Result<(), Trouble> {
     let alloc = rt.alloc();
     let held = Bytes::from_slice(alloc, BEFORE.as_bytes())?;
-    run(alloc, MemKeeper::new(alloc, Some(held)), &LATER)?;
-    Ok(())
+    let mut kept = KeptCommits::new(alloc, MemKeeper::new(alloc, Some(held)));
+    run(alloc, &mut kept, &LATER)
 }
 
 const ONE: &str = "meta 1 txid 1 records 9 spans 1-2\n";
@@ -162,6 +161,7 @@ const FOUR: [Step; 1] = [Step {
     held: "meta 1 txid 3 records 9 spans 1-9\n",
 }];
 
+// It is started again after the save that failed.
 fn check_broken(
     alloc: Global,
     happened: bool,
@@ -170,12 +170,12 @@ fn check_broken(
 ) -> Result<(), Trouble> {
     let mut keeper = MemKeeper::new(alloc, None);
     keeper.fail_save(2, happened)?;
-    let keeper = run(alloc, keeper, steps)?;
-    if keeper.faults() != 1 {
-        return Err(Trouble::Faults(keeper.faults()));
+    let mut kept = KeptCommits::new(alloc, keeper);
+    run(alloc, &mut kept, steps)?;
+    if kept.keeper.faults() != 1 {
+        return Err(Trouble::Faults(kept.keeper.faults()));
     }
-    run(alloc, keeper, later)?;
-    Ok(())
+    run(alloc, &mut kept, later)
 }
 
 #[test]
@@ -187,12 +187,12 @@ fn a_save_fails(rt: HostRuntime) -> Result<(), Trouble> {
 #[test]
 fn told_as_any_follower(rt: HostRuntime) -> Result<(), Trouble> {
     let alloc = rt.alloc();
-    let mut keeper = MemKeeper::new(alloc, None);
-    let start = start_of(alloc, &mut keeper)?;
+    let mut kept = KeptCommits::new(alloc, MemKeeper::new(alloc, None));
+    let start = start_of(alloc, &mut kept)?;
     let txid = next_of(start.txid)?;
     let commit = commit_of(alloc, txid, &[(1, 2)])?;
-    let mut kept = KeptCommits::new(alloc, keeper, start);
-    if !is_done(&mut kept, &commit) || !holds(kept.keeper(), ONE) {
+    kept.start(start);
+    if !is_done(&mut kept, &commit) || !holds(&kept.keeper, ONE) {
         return Err(Trouble::NotDone);
     }
     Ok(())

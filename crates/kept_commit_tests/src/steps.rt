@@ -97,7 +97,7 @@ fn check_step(
 {
     let commit = commit_of(alloc, txid, step.spans)?;
     let told = kept.told(&commit);
-    if !is_answer(told, step.answer) || !holds(kept.keeper(), step.held) {
+    if !is_answer(told, step.answer) || !holds(&kept.keeper, step.held) {
         return Err(Trouble::Step(txid));
     }
     match told {

@@ -1,3 +1,4 @@
 pub mod Keeping
+pub mod KeptRuns
 pub mod Runs
 pub mod Unique

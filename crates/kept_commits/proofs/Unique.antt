@@ -54,8 +54,8 @@ one_list a b separate_a separate_b same =
     let all = same_spans 0 (map up a) (map up b) (separate-up a separate_a) (separate-up b separate_b) (same-up a b separate_a same) (same-up b a separate_b (λ n. sym (same n))) in
     sym (down-up a) ∙ ap (map down) all ∙ down-up b
 
-pub one_text : (records : ℕ) (commits : List Commit) (a b : List ℕ) → IsKept records commits a → IsKept records commits b → a ≡ b
-one_text records commits a b kept_a kept_b =
+pub one_text : (commits : List Commit) (a b : List ℕ) → IsKept commits a → IsKept commits b → a ≡ b
+one_text commits a b kept_a kept_b =
     let spans = one_list kept_a.meta.spans kept_b.meta.spans kept_a.text.is_meta.separate kept_b.text.is_meta.separate (λ n. kept_a.of.gone n ∙ sym (kept_b.of.gone n)) in
     kept_a.text.is_text
     ∙ one kept_a.meta kept_b.meta (kept_a.of.txid ∙ sym kept_b.of.txid) (kept_a.of.input ∙ sym kept_b.of.input) spans

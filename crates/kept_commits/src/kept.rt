@@ -1,7 +1,9 @@
-ghost use Rattle.std.specs.Prelude.{◌≡◌, ◌+◌, ◌^◌, ◌<◌, ◌≤◌, ◌⊎◌, ◌++◌, ◌∷◌, [], ℕ, List, Some, IfOk, OnOk, OnErr, IsErrOf, IsTrue};
+ghost use Rattle.std.specs.Prelude.{◌≡◌, ◌+◌, ◌^◌, ◌<◌, ◌≤◌, ◌⊎◌, ◌++◌, ◌∷◌, [], List, None, Some, IfOk, IfSome, IfNone, OnOk, OnErr, IsErrOf, IsSomeAnd, IsTrue};
+ghost use Rattle.resume_meta.specs.Keepers.{Held};
+ghost use Rattle.resume_meta.specs.Meta.{IsNoText, IsTextOf};
 ghost use Rattle.storm_values.specs.Counts.{raised};
 ghost use Rattle.state_parts.specs.declared.answer.Commit.{Commit};
-ghost use Rattle.kept_commits.specs.Kept.{AreGoneBy, IsTold, Keeps};
+ghost use Rattle.kept_commits.specs.Kept.{IsTold, WasKept, first_meta, start_of};
 ghost use Rattle.kept_commits.specs.Steps.{IsNext, is_broken_by};
 
 use crate::joining::joined;
@@ -16,59 +18,66 @@ use storm_values::Memory;
 /// Keeps the meta of a run. After each commit it joins the spans of its records to those that are
 /// gone and lets a keeper hold the meta of them.
 ///
-/// After a save that failed the keeper holds the old meta or the new one, so that no further commit
-/// is taken.
+/// What the keeper holds is loaded first, and then a start is set. After a save that failed the
+/// keeper holds the old meta or the new one, so that no further commit is taken before another
+/// start.
 #[derive(Drop)]
 pub struct KeptCommits<P: Keeper> {
-    keeper: P,
+    pub keeper: P,
     meta: Meta,
     broken: bool,
     alloc: Global,
 }
 
 impl<P: Keeper> KeptCommits<P> {
-    /// Goes on from a meta: the one that the keeper holds, or the first one of an input where it
-    /// holds nothing.
-    pub fn new(alloc: Global, keeper: P, start: Meta) -> Self
-        ensures told { (commits : List Commit) → Keeps P.holds start.records keeper commits
-            → AreGoneBy commits start.spans
-            → ⟦<KeptCommits<P> as Follow>⟧.tells result commits }
-        ensures takes { ⟦<KeptCommits<P> as Follow>⟧.takes result ≡ Some (start.txid + 1) }
-        ensures records { result.meta.records ≡ start.records }
-        ensures quiet { ⟦<KeptCommits<P> as Follow>⟧.fault_count result ≡ P.fault_count keeper }
+    /// A follower that has a keeper and no start.
+    pub fn new(alloc: Global, keeper: P) -> Self
+        ensures keeper { result.keeper ≡ keeper }
+        ensures meta { result.meta ≡ first_meta 0 }
     {
         KeptCommits {
             keeper,
-            meta: start,
+            meta: Meta {
+                txid: 0,
+                records: 0,
+                spans: Spans::new(alloc),
+            },
             broken: false,
             alloc,
         }
     }
 
-    /// The number of records of the input.
-    pub fn records(&self) -> u64
-        ensures { result ≡ self.now.meta.records }
+    /// The meta that the keeper holds, or `None` where it holds nothing.
+    pub fn load(&mut self) -> Result<Option<Meta>, MetaFault>
+        ensures none { IfOk result (λ kept. IfNone kept
+            ((held : Held) → P.holds self.old.keeper held → held ≡ None)) }
+        ensures some { IfOk result (λ kept. IfSome kept (λ meta. (held : Held) →
+            P.holds self.old.keeper held → IsSomeAnd held (λ bytes. IsTextOf bytes meta))) }
+        ensures bad { IsErrOf result MetaFault.Bad → (held : Held) →
+            P.holds self.old.keeper held → IsSomeAnd held IsNoText }
+        ensures same { (held : Held) →
+            P.holds self.old.keeper held → P.holds self.new.keeper held }
+        ensures told_before { (held : Held) →
+            P.holds self.new.keeper held → P.holds self.old.keeper held }
+        ensures failed { IsErrOf result MetaFault.Keep →
+            P.fault_count self.new.keeper ≡ raised (P.fault_count self.old.keeper) }
+        ensures quiet { (IsErrOf result MetaFault.Keep → ⊥) →
+            P.fault_count self.new.keeper ≡ P.fault_count self.old.keeper }
+        ensures never_falls { P.fault_count self.old.keeper ≤ P.fault_count self.new.keeper }
     {
-        self.meta.records
+        Meta::load(self.alloc, &mut self.keeper)
     }
 
-    /// The keeper, which holds the meta of what was told.
-    pub fn keeper(&self) -> &P
-        ensures told { (commits : List Commit) → ⟦<KeptCommits<P> as Follow>⟧.tells self.now commits
-            → Keeps P.holds self.now.meta.records result.now commits }
-        ensures quiet { P.fault_count result.now
-            ≡ ⟦<KeptCommits<P> as Follow>⟧.fault_count self.now }
+    /// Sets the meta from which a run goes on: what the keeper holds, or the first one of an input
+    /// where it holds nothing.
+    pub fn start(&mut self, meta: Meta)
+        ensures keeper { self.new.keeper ≡ self.old.keeper }
+        ensures told { (held : Held) → P.holds self.old.keeper held → WasKept held meta
+            → ⟦<KeptCommits<P> as Follow>⟧.tells self.new (start_of meta ∷ []) }
+        ensures takes { ⟦<KeptCommits<P> as Follow>⟧.takes self.new ≡ Some (meta.txid + 1) }
     {
-        &self.keeper
-    }
-
-    /// The keeper, which holds the meta of what was told.
-    pub fn into_keeper(self) -> P
-        ensures told { (commits : List Commit) → ⟦<KeptCommits<P> as Follow>⟧.tells self commits
-            → Keeps P.holds self.meta.records result commits }
-        ensures quiet { P.fault_count result ≡ ⟦<KeptCommits<P> as Follow>⟧.fault_count self }
-    {
-        self.keeper
+        self.meta = meta;
+        self.broken = false;
     }
 }
 
@@ -124,10 +133,10 @@ impl<P: Keeper> Follow for KeptCommits<P> {
         if self.broken {
             return Err(StoreFault::Memory);
         }
-        let meta = next_meta(self.alloc, &self.meta, commit)?;
-        match meta.save(self.alloc, &mut self.keeper) {
+        let next = next_meta(self.alloc, &self.meta, commit)?;
+        match next.save(self.alloc, &mut self.keeper) {
             Ok(()) => {
-                self.meta = meta;
+                self.meta = next;
                 Ok(())
             }
             Err(MetaFault::Keep) => {

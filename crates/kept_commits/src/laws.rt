@@ -1,10 +1,10 @@
-ghost use Rattle.std.specs.Prelude.{◌≡◌, ℕ, List, [], ◌∷◌};
+ghost use Rattle.std.specs.Prelude.{◌≡◌, ℕ, List};
 ghost use Rattle.record_spans.specs.Spans.{stands_in};
 ghost use Rattle.record_spans.specs.declared.span.Span.{Span};
 ghost use Rattle.resume_meta.specs.Meta.{AreSeparate, IsTextOf};
 ghost use Rattle.resume_meta.specs.declared.meta.Meta.{Meta};
 ghost use Rattle.state_parts.specs.declared.answer.Commit.{Commit};
-ghost use Rattle.kept_commits.specs.Kept.{IsKept, IsMetaOf, commit_of};
+ghost use Rattle.kept_commits.specs.Kept.{IsKept, IsMetaOf};
 
 use resume_meta::metas_have_texts_of_their_own;
 
@@ -14,21 +14,16 @@ pub fn separate_spans_are_unique()
         → ((n : ℕ) → stands_in a n ≡ stands_in b n) → a ≡ b }
 {}
 
-/// A law: after some commits one text is held.
+/// A law: after a start and some commits one text is held.
 pub fn kept_texts_are_unique()
-    ensures { (records : ℕ) (commits : List Commit) (a b : List ℕ) → IsKept records commits a
-        → IsKept records commits b → a ≡ b }
+    ensures { (commits : List Commit) (a b : List ℕ) → IsKept commits a → IsKept commits b
+        → a ≡ b }
 {}
 
 /// A law: the meta that is loaded is that of the commits after which it is held.
 pub fn loads_go_on()
-    ensures { (records : ℕ) (commits : List Commit) (bytes : List ℕ) (meta : Meta)
-        → IsKept records commits bytes → IsTextOf bytes meta → IsMetaOf records commits meta }
+    ensures { (commits : List Commit) (bytes : List ℕ) (meta : Meta) → IsKept commits bytes
+        → IsTextOf bytes meta → IsMetaOf commits meta }
 {
     metas_have_texts_of_their_own();
 }
-
-/// A law: any meta is that of one commit, which stands for all before a start.
-pub fn starts_are_commits()
-    ensures { (meta : Meta) → IsMetaOf meta.records (commit_of meta ∷ []) meta }
-{}

@@ -6,4 +6,4 @@ mod kept;
 mod laws;
 
 pub use kept::KeptCommits;
-pub use laws::{kept_texts_are_unique, loads_go_on, separate_spans_are_unique, starts_are_commits};
+pub use laws::{kept_texts_are_unique, loads_go_on, separate_spans_are_unique};

@@ -3,3 +3,5 @@ pub mod Faults
 pub mod Prefixes
 pub mod Finished
 pub mod Comings
+pub mod Moved
+pub mod Resuming

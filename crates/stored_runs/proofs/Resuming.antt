@@ -22,9 +22,9 @@ use Rattle.event_worlds.specs.state_parts.PartTables.{AreRead, IsBadRowAt, OneRa
 use Rattle.event_worlds.specs.storm_values.Counts.{Rose, raised, raised_by}
 use Rattle.event_worlds.specs.taken_records.Cuts.{Cut}
 use Rattle.event_worlds.specs.topology_plan.Topology.{Topology}
-use Rattle.resumed_runs.proofs.Moved.{StandStill, tells_none}
-use Rattle.resumed_runs.specs.OverParts.{HasRows, Resumes, RunsOn, StopsAs, StopsFirst}
-use Rattle.resumed_runs.specs.Resuming.{FailsFirst, HadRows, IsResumed}
+use Rattle.stored_runs.proofs.Moved.{StandStill, tells_none}
+use Rattle.stored_runs.specs.OverParts.{HasRows, Resumes, RunsOn, StopsAs, StopsFirst}
+use Rattle.stored_runs.specs.Resuming.{FailsFirst, HadRows, IsResumed}
 use Rattle.schedule_core.specs.Driving.{AreKept}
 use Rattle.schedule_core.specs.Runs.{RunTells, ended as ended_of}
 use Rattle.state_cells.specs.Rows.{IsBadRow}

@@ -22,7 +22,7 @@ use Rattle.event_worlds.specs.taken_records.Taken.{one_if}
 use Rattle.event_worlds.specs.topology_plan.declared.parts.Kind.{Kind}
 use Rattle.event_worlds.specs.topology_plan.Topology.{Topology}
 use Rattle.event_worlds.specs.tree_model.declared.write.Write.{Write}
-use Rattle.resumed_runs.specs.OverParts.{HasRows, Runs}
+use Rattle.stored_runs.specs.OverParts.{HasRows, Runs}
 use Rattle.schedule_core.specs.declared.ended.Ended.{Ended}
 use Rattle.schedule_core.specs.Driving.{AreBefore, AreKept, StillTells}
 use Rattle.schedule_core.specs.Following.{StandLess}

@@ -7,7 +7,7 @@ use Rattle.schedule_core.specs.Runs.{ended as ended_of}
 use Rattle.schedule_core.specs.Schedules.{IsAnswer}
 use Rattle.stored_runs.proofs.Finished.{rounds_all}
 use Rattle.worker_runs.specs.WorkerRuns.{NothingRanOut}
-use Rattle.resumed_runs.proofs.over_parts.run_over_parts.Goals as goal
+use Rattle.stored_runs.proofs.over_parts.run_over_parts.Goals as goal
 
 -- where all is committed nothing ran out
 none_out : (done : Result (Unit {0}) Stop)

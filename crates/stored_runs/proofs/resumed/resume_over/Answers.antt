@@ -1,14 +1,14 @@
 use Rattle.std.proofs.Common.{List, subst, sym, rules}
 use Rattle.event_worlds.specs.attempt_fates.declared.fates.Attempt.{Attempt}
 use Rattle.event_worlds.specs.state_parts.Makers.{AreMade}
-use Rattle.resumed_runs.proofs.Moved.{StandStill}
-use Rattle.resumed_runs.proofs.Resuming.{Out, all_if, back_of, comes_of, goes_on_of, less_of, looked_of, once_of, short_of}
+use Rattle.stored_runs.proofs.Moved.{StandStill}
+use Rattle.stored_runs.proofs.Resuming.{Out, all_if, back_of, comes_of, goes_on_of, less_of, looked_of, once_of, short_of}
 use Rattle.schedule_core.specs.Runs.{ticks_between}
 use Rattle.stored_runs.proofs.Comings.{followed_short, once_at_first}
 use Rattle.stored_runs.proofs.Lent.{idle_stand, on_err}
 use Rattle.stored_runs.specs.Makers.{maker_use}
 use Rattle.stored_runs.specs.StoredRuns.{StandAtCommits}
-use Rattle.resumed_runs.proofs.resumed.resume_over.Goals as goal
+use Rattle.stored_runs.proofs.resumed.resume_over.Goals as goal
 
 pub give_back-requires : goal.give_back-requires
 give_back-requires g c =

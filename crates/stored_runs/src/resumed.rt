@@ -6,11 +6,13 @@ ghost use Rattle.event_worlds.specs.commit_turns.Turns.{last_tick};
 ghost use Rattle.event_worlds.specs.Accounted.{IsInput};
 ghost use Rattle.event_worlds.specs.Rounds.{rounds_needed};
 ghost use Rattle.event_worlds.specs.storm_values.Counts.{Rose};
-ghost use Rattle.resumed_runs.specs.Resuming.{HadRows, IsResumed};
+ghost use Rattle.stored_runs.specs.Resuming.{HadRows, IsResumed};
 ghost use Rattle.schedule_core.specs.Runs.{first_answers, ticks_between};
 ghost use Rattle.stored_runs.specs.Makers.{CameBack, maker_use};
 ghost use Rattle.stored_runs.specs.StoredRuns.{EndFollowed, IsAll, NothingIsInTheWay, StandBeforeLast, StandsWithoutMemory};
 
+use crate::ending::RunEnd;
+use crate::laws::laws_of_runs;
 use crate::migrating::resume_parts;
 use event_worlds::attempt_fates::Fates;
 use event_worlds::bolt_ops::RowOp;
@@ -23,13 +25,12 @@ use event_worlds::topology_plan::Plan;
 use std::alloc::Global;
 use std::sync::Wait;
 use std::thread::Threads;
-use stored_runs::{RunEnd, laws_of_runs};
 use storm_avail::Avail;
 use storm_gates::Gate;
 use storm_stores::StoreMaker;
 use storm_ticks::Ticks;
 
-/// Runs a plan by so many workers as `run_over` of `stored_runs` does, over stores that perhaps hold
+/// Runs a plan by so many workers as `run_over` does, over stores that perhaps hold
 /// the cells of an earlier run: all cells are brought to format 2 first.
 ///
 /// It costs what `run_over` does, and one more look at each key, with a put where its cell is of

@@ -1,10 +1,10 @@
 use Rattle.std.proofs.Common.{inl, Result, subst}
 use Rattle.event_worlds.specs.commit_order.declared.stop.Stop.{Stop}
-use Rattle.resumed_runs.proofs.Moved.{StandStill, had_rows, runs_on}
+use Rattle.stored_runs.proofs.Moved.{StandStill, had_rows, runs_on}
 use Rattle.schedule_core.specs.declared.ended.Ended.{Ended}
 use Rattle.schedule_core.specs.Runs.{ticks_between}
 use Rattle.stored_runs.specs.Closing.{Closes}
-use Rattle.resumed_runs.proofs.migrating.resume_parts.Goals as goal
+use Rattle.stored_runs.proofs.migrating.resume_parts.Goals as goal
 
 pub returns-in-Ok-clause-resumes : goal.returns-in-Ok-clause-resumes
 returns-in-Ok-clause-resumes g c =
