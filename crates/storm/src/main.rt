@@ -9,7 +9,7 @@ ghost use Rattle.std.specs.Prelude.{◌≡◌, map, replicate, string_bytes};
 ghost use Rattle.bolt_ops.specs.RowOp.{reversed_rows};
 ghost use Rattle.bolt_ops.specs.Stored.{Keeps};
 ghost use Rattle.storm.specs.Operation.{first, reversed_and_first, same};
-ghost use Rattle.storm_program.specs.Outside.{run_use, shelf_use, sink_use, ticks_use};
+ghost use Rattle.storm_program.specs.storm_answers.Outside.{run_use, shelf_use, sink_use, ticks_use};
 ghost use Rattle.storm_program.specs.Storm.{Exits};
 ghost use Rattle.storm_program.specs.stored_runs.Makers.{maker_use};
 ghost use Rattle.stored_folds.specs.Folds.{Keeps as KeepsFold};

@@ -1,7 +1,4 @@
 mod CauseLemmas
-mod EndLemmas
-mod FileLemmas
-mod InOrder
 mod LoadLemmas
-mod ReportLemmas
+mod ReplayLemmas
 mod RunLemmas

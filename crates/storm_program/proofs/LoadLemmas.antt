@@ -6,29 +6,29 @@ use Rattle.std.proofs.lemmas.List.{append-nil}
 use Rattle.std.proofs.lemmas.List.FromFn.{length-range_with_len}
 use Rattle.load_source.specs.File.{load_text}
 use Rattle.load_source.specs.Records.{records_after}
-use Rattle.storm_program.specs.declared.status.Status.{Status}
-use Rattle.storm_program.specs.declared.status.Status.TheVariants as status
+use Rattle.storm_resume.specs.storm_answers.declared.status.Status.{Status}
+use Rattle.storm_resume.specs.storm_answers.declared.status.Status.TheVariants as status
 use Rattle.storm_program.specs.Load.{LoadComes, load_events}
-use Rattle.storm_program.specs.Outside.{RunUse}
+use Rattle.storm_resume.specs.storm_answers.Outside.{RunUse}
 use Rattle.storm_program.specs.Replay.{ReplayEndsSo, ticks_of_schedule}
-use Rattle.storm_program.specs.Run.{IsNotBegun, IsShort}
-use Rattle.storm_program.specs.steps.Ended.{WorkStops}
-use Rattle.schedule_core.proofs.Rounding.{open-round}
-use Rattle.schedule_core.proofs.TicksOfRuns.{ticks-of-rounds}
+use Rattle.storm_resume.specs.storm_answers.Runs.{IsNotBegun, IsShort}
+use Rattle.storm_resume.specs.storm_answers.steps.Ended.{WorkStops}
+use Rattle.storm_resume.proofs.schedule_core.Rounding.{open-round}
+use Rattle.storm_resume.proofs.schedule_core.TicksOfRuns.{ticks-of-rounds}
 use Rattle.event_worlds.proofs.counted_items.Each.{each-append}
 use Rattle.world_progress.specs.Rounding.{ShutsNone}
 use Rattle.event_worlds.specs.attempt_fates.declared.fates.Attempt.{Attempt}
 use Rattle.event_worlds.specs.bolt_ops.RowOp.{Custom}
 use Rattle.event_worlds.specs.Rounds.{HasRounds, round_with, rounds_needed, ticks_in}
 use Rattle.event_worlds.specs.Worlds.{Step, coordinator_steps, of_acker, of_task, round_steps, rounds_steps}
-use Rattle.schedule_core.specs.Schedules.{all_steps}
+use Rattle.storm_resume.specs.schedule_core.Schedules.{all_steps}
 use Rattle.schedule_reader.specs.declared.event.Event.{Event}
 use Rattle.schedule_reader.specs.declared.event.Event.TheVariants.{Rounds}
 use Rattle.event_worlds.specs.storm_values.declared.value.Value.{Value}
 use Rattle.event_worlds.specs.tree_model.Trees.{node_count}
 use Rattle.event_worlds.specs.record_offers.Offers.{batch_count}
 use Rattle.event_worlds.specs.taken_records.Cuts.{Cut}
-use Rattle.storm_program.specs.Reports.{cut_by}
+use Rattle.storm_resume.specs.storm_answers.Reports.{cut_by}
 use Rattle.event_worlds.specs.topology_plan.Topology.{Topology, tasks_in_all}
 use Rattle.topology_reader.specs.FirstFault.{IsFilePlan}
 

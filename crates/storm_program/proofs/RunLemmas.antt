@@ -1,42 +1,42 @@
 -- What a check, a `plain`, a run and a replay come to, from what their parts came to.
-use Rattle.std.proofs.Common.{◌≡◌, ◌⊎◌, ◌<◌, ℕ, List, [], All, Option, Some, None, Result, Ok, Err, IfOk, String, string_bytes, inl, inr, refl, sym, subst, sum}
+use Rattle.std.proofs.Common.{◌≡◌, ◌⊎◌, ◌<◌, ℕ, List, [], All, Option, Some, None, Result, Ok, Err, IfOk, String, string_bytes, inl, inr, sym, subst, sum}
 use Rattle.event_worlds.specs.bolt_ops.RowOp.{Custom}
 use Rattle.event_worlds.specs.attempt_fates.declared.fates.Attempt.{Attempt}
 use Rattle.event_worlds.specs.Rounds.{HasRounds, rounds_needed}
-use Rattle.schedule_core.specs.Runs.{first_answers}
-use Rattle.schedule_core.specs.Schedules.{all_steps}
+use Rattle.storm_resume.specs.schedule_core.Runs.{first_answers}
+use Rattle.storm_resume.specs.schedule_core.Schedules.{all_steps}
 use Rattle.schedule_reader.specs.declared.event.Event.{Event}
-use Rattle.storm_program.specs.declared.status.Status.{Status}
-use Rattle.storm_program.specs.declared.status.Status.TheVariants as status
-use Rattle.storm_program.specs.declared.early_end.EarlyEnd.{EarlyEnd}
-use Rattle.storm_program.specs.declared.early_end.EarlyEnd.TheVariants.{Memory, Told}
+use Rattle.storm_resume.specs.storm_answers.declared.status.Status.{Status}
+use Rattle.storm_resume.specs.storm_answers.declared.status.Status.TheVariants as status
+use Rattle.storm_resume.specs.storm_answers.declared.early_end.EarlyEnd.{EarlyEnd}
+use Rattle.storm_resume.specs.storm_answers.declared.early_end.EarlyEnd.TheVariants.{Memory}
 use Rattle.storm_program.specs.Check.{CheckComes, check_promise}
-use Rattle.storm_program.specs.Files.{AreAccepted, FilesCome, IsReadFaultLine, TellsInput, TellsPlan, of_input, of_topology}
-use Rattle.storm_program.specs.steps.Ended.{IsRoundsEnd, WorkStops}
-use Rattle.storm_program.specs.steps.Reading.{TopologyComes}
-use Rattle.storm_program.specs.Ends.{Ends, HasText}
+use Rattle.storm_resume.specs.storm_answers.Files.{AreAccepted, FilesCome}
+use Rattle.storm_resume.specs.storm_answers.steps.Ended.{IsRoundsEnd, WorkStops}
+use Rattle.storm_resume.specs.storm_answers.steps.Reading.{TopologyComes}
+use Rattle.storm_resume.specs.storm_answers.Ends.{Ends}
 use Rattle.storm_program.specs.Load.{LoadComes, load_promise}
-use Rattle.storm_program.specs.Outside.{Fetched, RunUse, ShelfFailed, ShelfUse, SinkUse, TicksUse}
+use Rattle.storm_resume.specs.storm_answers.Outside.{Fetched, RunUse, ShelfUse, SinkUse, TicksUse}
 use Rattle.storm_program.specs.Plain.{PlainComes, plain_promise}
 use Rattle.storm_program.specs.Replay.{IsReplayReport, ReplayComes, ReplayEndsSo, ReplayMustCommitAll, ticks_of_schedule}
-use Rattle.storm_program.specs.Reports.{EndsSo, IsReport, cut_by}
-use Rattle.storm_program.specs.Run.{IsNotBegun, IsShort, IsUnhindered, MustCommitAll, RunComes, ticks_of_run}
-use Rattle.storm_program.specs.Schedules.{AllFilesCome, AreAllAccepted, TellsEvents}
+use Rattle.storm_resume.specs.storm_answers.Reports.{EndsSo, IsReport, cut_by}
+use Rattle.storm_resume.specs.storm_answers.Runs.{IsNotBegun, IsShort, IsUnhindered, ticks_of_run}
+use Rattle.storm_program.specs.Run.{MustCommitAll, RunComes}
+use Rattle.storm_resume.specs.storm_answers.Schedules.{AllFilesCome, AreAllAccepted}
 use Rattle.storm_program.specs.Storm.{ComesOfWords, IsNotStarted, WordsCome, command_promise, promise}
-use Rattle.storm_program.specs.Texts.{usage}
+use Rattle.storm_resume.specs.storm_answers.Texts.{usage}
 use Rattle.storm_program.specs.Track.{TrackComes, track_promise}
 use Rattle.storm_words.specs.Words.{Command, check, plain, load, track, fold_over}
-use Rattle.storm_program.specs.steps.Stops.{IsMemory, IsWritten, Stops}
-use Rattle.storm_program.proofs.CauseLemmas.{never_bad, never_bad_schedule, never_refused, same_events, same_plan, same_records}
-use Rattle.storm_program.proofs.EndLemmas.{Ends-weaker, ends_memory, ends_written}
+use Rattle.storm_resume.specs.storm_answers.steps.Stops.{IsWritten}
+use Rattle.storm_resume.proofs.storm_answers.EndLemmas.{Ends-weaker, ends_memory, ends_written}
 use Rattle.event_worlds.specs.storm_values.declared.value.Value.{Value}
 use Rattle.event_worlds.specs.storm_values.Lines.{records_of}
-use Rattle.stored_runs.specs.Makers.{IsUntouched, maker_use}
-use Rattle.storm_stores.specs.CellMaps.{CellMap}
+use Rattle.storm_resume.specs.stored_runs.Makers.{IsUntouched}
 use Rattle.event_worlds.specs.topology_plan.Topology.{Topology}
 use Rattle.world_progress.specs.Rounding.{ShutsNone}
-
 -- what a topology comes to that is not accepted comes of a check
+use Rattle.storm_resume.proofs.storm_answers.FileCauses.{same_events, same_plan, same_records}
+
 pub check_of_topology : (shelf : ShelfUse) (topology : List ℕ) (s : Status) (text : List ℕ) → TopologyComes shelf topology s text → CheckComes shelf topology s text
 check_of_topology shelf topology status.Done text comes = absurd comes
 check_of_topology shelf topology _ text comes = comes
@@ -50,49 +50,6 @@ plain_of_files custom shelf topology input _ text comes = comes
 pub track_of_files : (custom : Custom) (shelf : ShelfUse) (topology input : List ℕ) (s : Status) (text : List ℕ) → FilesCome shelf topology input s text → TrackComes custom shelf topology input s text
 track_of_files custom shelf topology input status.Done text comes = absurd comes
 track_of_files custom shelf topology input _ text comes = comes
-
--- a maker that was not called is untouched
-pub untouched : {S M : Type 0} (tells : S → CellMap → Type 0) (count : S → ℕ) (holds : M → ℕ → ℕ → CellMap → Type 0) (made : M → ℕ → ℕ → Type 0) (faults : M → ℕ) (maker : M) → IsUntouched (maker_use tells count holds made faults maker maker)
-untouched tells count holds made faults maker = record { none_made = λ c p was. was; same = λ c p cells held. held; no_fault = refl }
-
--- ---- files that were not accepted, where the told ones are good
-
-module _ (shelf : ShelfUse) (topology input : List ℕ) (plan : Topology) (tells_plan : TellsPlan shelf.holds topology plan) (tells_input : TellsInput shelf.holds plan input) (fine : (ShelfFailed shelf → ⊥) ⊎ shelf.ready) where
-  never_unread : (text : List ℕ) → IsReadFaultLine shelf topology input text → ⊥
-  never_unread text line = by fine line
-    where
-      by : (ShelfFailed shelf → ⊥) ⊎ shelf.ready → IsReadFaultLine shelf topology input text → ⊥
-      by (inl never) (of_topology once unread is) = never unread.rose
-      by (inl never) (of_input twice unread other accepted is) = never unread.rose
-      by (inr ready) (of_topology once unread is) = unread.never_ready ready tells_plan.bytes tells_plan.told
-      by (inr ready) (of_input twice unread other accepted is) = unread.never_ready ready tells_input.bytes tells_input.told
-
-  pub files_never : (s : Status) (text : List ℕ) → HasText s → FilesCome shelf topology input s text → ⊥
-  files_never status.Memory text has comes = has
-  files_never status.Topology text has comes = never_refused shelf.holds topology plan text tells_plan comes.1
-  files_never status.Input text has comes = never_bad shelf.holds topology input plan comes.1.0 tells_plan comes.1.1 text tells_input comes.1.2
-  files_never status.ReadFault text has comes = never_unread text comes
-  files_never _ text has comes = comes
-
-  pub all_files_never : (schedule : List ℕ) (events : List Event) → TellsEvents shelf.holds plan schedule events → (s : Status) (text : List ℕ) → HasText s → AllFilesCome shelf topology input schedule s text → ⊥
-  all_files_never schedule events tells status.Memory text has comes = has
-  all_files_never schedule events tells status.ReadFault text has (inl comes) = never_unread text comes
-  all_files_never schedule events tells status.ReadFault text has (inr comes) = by fine
-    where
-      by : (ShelfFailed shelf → ⊥) ⊎ shelf.ready → ⊥
-      by (inl never) = never comes.1.comes.rose
-      by (inr ready) = comes.1.comes.never_ready ready tells.bytes tells.told
-  all_files_never schedule events tells status.Schedule text has comes =
-      never_bad_schedule shelf.holds topology input plan comes.1.plan tells_plan comes.1.accepted.topology_file schedule text events tells comes.1.comes
-  all_files_never schedule events tells s text has comes = files_never s text has comes
-
-  pub finishes_by_files : (stop : EarlyEnd) → Stops (FilesCome shelf topology input) stop → IsMemory stop
-  finishes_by_files Memory stops = tt
-  finishes_by_files (Told s line) stops = absurd (files_never s (string_bytes line) stops.0 stops.1)
-
-  pub finishes_by_all_files : (schedule : List ℕ) (events : List Event) → TellsEvents shelf.holds plan schedule events → (stop : EarlyEnd) → Stops (AllFilesCome shelf topology input schedule) stop → IsMemory stop
-  finishes_by_all_files schedule events tells Memory stops = tt
-  finishes_by_all_files schedule events tells (Told s line) stops = absurd (all_files_never schedule events tells s (string_bytes line) stops.0 stops.1)
 
 -- ---- runs
 

@@ -1,14 +1,29 @@
 -- The command `check`.
-use Rattle.std.specs.Prelude.{◌≡◌, ℕ, List, []}
-use Rattle.event_worlds.specs.topology_plan.Topology.{Topology}
+use Rattle.std.specs.Prelude.{◌≡◌, ℕ, List, [], ◌++◌, length, codes, decimal}
+use Rattle.event_worlds.specs.topology_plan.Topology.{Topology, tasks_in_all, depth_of, weight_of}
 use Rattle.event_worlds.specs.attempt_fates.declared.fates.Attempt.{Attempt}
-use Rattle.storm_program.specs.declared.status.Status.{Status}
-use Rattle.storm_program.specs.declared.status.Status.TheVariants as status
-use Rattle.storm_program.specs.Ends.{Promise}
-use Rattle.storm_program.specs.Files.{IsAccepted, IsTopologyLine, IsNotRead, TellsPlan, TellsTopologyFault}
-use Rattle.storm_program.specs.Outside.{ShelfUse, Fetched}
-use Rattle.storm_program.specs.Texts.{valid_line, topology_not_read}
-use Rattle.stored_runs.specs.Makers.{IsUntouched, MakerUse}
+use Rattle.storm_resume.specs.storm_answers.declared.status.Status.{Status}
+use Rattle.storm_resume.specs.storm_answers.declared.status.Status.TheVariants as status
+use Rattle.storm_resume.specs.storm_answers.Ends.{Promise}
+use Rattle.storm_resume.specs.storm_answers.Files.{IsAccepted, IsTopologyLine, IsNotRead, TellsPlan, TellsTopologyFault}
+use Rattle.storm_resume.specs.storm_answers.Outside.{ShelfUse, Fetched}
+use Rattle.storm_resume.specs.storm_answers.Texts.{topology_not_read}
+use Rattle.storm_resume.specs.stored_runs.Makers.{IsUntouched, MakerUse}
+
+-- the line of these numbers of components and tasks, this weight and this depth
+
+unfoldable pub size_line : ℕ → ℕ → ℕ → ℕ → List ℕ
+size_line components tasks weight depth =
+    codes "valid components " ++ decimal components
+    ++ codes " tasks " ++ decimal tasks
+    ++ codes " weight " ++ decimal weight
+    ++ codes " depth " ++ decimal depth
+    ++ codes "\n"
+
+-- the line of a valid plan
+abbrev pub valid_line : Topology → List ℕ
+valid_line plan =
+    size_line (length plan.components) (tasks_in_all plan) (weight_of plan) (depth_of plan)
 
 -- the line of an accepted topology
 pub record IsValidLine (holds : List ℕ → List ℕ → Type 0) (name text : List ℕ) : Type 0 where

@@ -4,16 +4,16 @@ use Rattle.std.specs.Fmt.{signed_decimal}
 use Rattle.std.specs.Int.{saturate_signed, w128}
 use Rattle.load_source.specs.File.{load_text}
 use Rattle.load_source.specs.Records.{records_after}
-use Rattle.storm_program.specs.declared.status.Status.{Status}
-use Rattle.storm_program.specs.declared.status.Status.TheVariants as status
-use Rattle.storm_program.specs.Ends.{Promise}
-use Rattle.storm_program.specs.Outside.{RunUse, ShelfUse, SinkFailed, SinkUse}
+use Rattle.storm_resume.specs.storm_answers.declared.status.Status.{Status}
+use Rattle.storm_resume.specs.storm_answers.declared.status.Status.TheVariants as status
+use Rattle.storm_resume.specs.storm_answers.Ends.{Promise}
+use Rattle.storm_resume.specs.storm_answers.Outside.{RunUse, ShelfUse, SinkFailed, SinkUse}
 use Rattle.storm_program.specs.Replay.{IsReplayReport, ReplayEndsSo}
-use Rattle.storm_program.specs.Run.{IsNotBegun, IsShort, IsUnhindered}
+use Rattle.storm_resume.specs.storm_answers.Runs.{IsNotBegun, IsShort, IsUnhindered}
 use Rattle.event_worlds.specs.attempt_fates.declared.fates.Attempt.{Attempt}
 use Rattle.event_worlds.specs.bolt_ops.RowOp.{Custom}
-use Rattle.stored_runs.specs.declared.ending.RunEnd.{RunEnd}
-use Rattle.stored_runs.specs.declared.ending.RunEnd.TheVariants as run_end
+use Rattle.storm_resume.specs.stored_runs.declared.ending.RunEnd.{RunEnd}
+use Rattle.storm_resume.specs.stored_runs.declared.ending.RunEnd.TheVariants as run_end
 use Rattle.schedule_reader.specs.declared.event.Event.{Event}
 use Rattle.schedule_reader.specs.declared.event.Event.TheVariants.{Rounds}
 use Rattle.event_worlds.specs.record_offers.Offers.{batch_count}

@@ -10,12 +10,12 @@ use Rattle.event_worlds.specs.record_offers.Offers.{batch_count}
 use Rattle.event_worlds.specs.attempt_fates.declared.fates.Attempt.{Attempt}
 use Rattle.run_report.specs.Cells.{cells_of}
 use Rattle.run_report.specs.Report.{ok, report_text}
-use Rattle.storm_program.specs.declared.status.Status.{Status}
-use Rattle.storm_program.specs.declared.status.Status.TheVariants as status
-use Rattle.storm_program.specs.Ends.{Promise}
-use Rattle.storm_program.specs.Files.{AreAccepted, FilesCome, FilesCall}
-use Rattle.storm_program.specs.Outside.{ShelfUse, Fetched}
-use Rattle.stored_runs.specs.Makers.{IsUntouched, MakerUse}
+use Rattle.storm_resume.specs.storm_answers.declared.status.Status.{Status}
+use Rattle.storm_resume.specs.storm_answers.declared.status.Status.TheVariants as status
+use Rattle.storm_resume.specs.storm_answers.Ends.{Promise}
+use Rattle.storm_resume.specs.storm_answers.Files.{AreAccepted, FilesCome, FilesCall}
+use Rattle.storm_resume.specs.storm_answers.Outside.{ShelfUse, Fetched}
+use Rattle.storm_resume.specs.stored_runs.Makers.{IsUntouched, MakerUse}
 
 -- The report of a plan and the records of an input, with the operation that was handed in. The
 -- tables are those of one machine that takes all records in order, and there is no attempt line.

@@ -3,21 +3,21 @@ use Rattle.std.specs.Prelude.{◌⊎◌, ◌<◌, ℕ, List, [], All}
 use Rattle.event_worlds.specs.attempt_fates.declared.fates.Attempt.{Attempt}
 use Rattle.event_worlds.specs.bolt_ops.RowOp.{Custom}
 use Rattle.event_worlds.specs.Rounds.{HasRounds, rounds_needed, ticks_in}
-use Rattle.schedule_core.specs.Schedules.{all_steps}
+use Rattle.storm_resume.specs.schedule_core.Schedules.{all_steps}
 use Rattle.schedule_reader.specs.declared.event.Event.{Event}
-use Rattle.storm_program.specs.declared.status.Status.{Status}
-use Rattle.storm_program.specs.declared.status.Status.TheVariants as status
-use Rattle.storm_program.specs.Ends.{Promise}
-use Rattle.storm_program.specs.Files.{TellsInput, TellsPlan}
-use Rattle.storm_program.specs.Outside.{Fetched, RunUse, ShelfFailed, ShelfUse, SinkFailed, SinkUse}
-use Rattle.storm_program.specs.Reports.{EndsSo, IsReport, cut_by}
-use Rattle.storm_program.specs.Run.{IsNotBegun, IsShort, IsUnhindered}
-use Rattle.storm_program.specs.Schedules.{AllFilesCall, AllFilesCome, AreAllAccepted, TellsEvents}
+use Rattle.storm_resume.specs.storm_answers.declared.status.Status.{Status}
+use Rattle.storm_resume.specs.storm_answers.declared.status.Status.TheVariants as status
+use Rattle.storm_resume.specs.storm_answers.Ends.{Promise}
+use Rattle.storm_resume.specs.storm_answers.Files.{TellsInput, TellsPlan}
+use Rattle.storm_resume.specs.storm_answers.Outside.{Fetched, RunUse, ShelfFailed, ShelfUse, SinkFailed, SinkUse}
+use Rattle.storm_resume.specs.storm_answers.Reports.{EndsSo, IsReport, cut_by}
+use Rattle.storm_resume.specs.storm_answers.Runs.{IsNotBegun, IsShort, IsUnhindered}
+use Rattle.storm_resume.specs.storm_answers.Schedules.{AllFilesCall, AllFilesCome, AreAllAccepted, TellsEvents}
 use Rattle.event_worlds.specs.storm_values.declared.value.Value.{Value}
 use Rattle.event_worlds.specs.storm_values.Lines.{records_of}
-use Rattle.stored_runs.specs.declared.ending.RunEnd.{RunEnd}
-use Rattle.stored_runs.specs.declared.ending.RunEnd.TheVariants as run_end
-use Rattle.stored_runs.specs.StoredRuns.{IsRunOfWorld}
+use Rattle.storm_resume.specs.stored_runs.declared.ending.RunEnd.{RunEnd}
+use Rattle.storm_resume.specs.stored_runs.declared.ending.RunEnd.TheVariants as run_end
+use Rattle.storm_resume.specs.stored_runs.StoredRuns.{IsRunOfWorld}
 use Rattle.event_worlds.specs.topology_plan.Topology.{Topology}
 use Rattle.world_progress.specs.Rounding.{ShutsNone}
 

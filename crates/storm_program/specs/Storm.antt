@@ -2,17 +2,18 @@
 use Rattle.std.specs.Prelude.{◌≡◌, ◌⊎◌, ℕ, List, Option, Some, None}
 use Rattle.event_worlds.specs.bolt_ops.RowOp.{Custom}
 use Rattle.event_worlds.specs.attempt_fates.declared.fates.Attempt.{Attempt}
-use Rattle.storm_program.specs.declared.status.Status.{Status}
-use Rattle.storm_program.specs.declared.status.Status.TheVariants as status
+use Rattle.storm_resume.specs.storm_answers.declared.status.Status.{Status}
+use Rattle.storm_resume.specs.storm_answers.declared.status.Status.TheVariants as status
 use Rattle.storm_program.specs.Check.{check_promise}
-use Rattle.storm_program.specs.Ends.{Promise, Ends, IsAnswered, Counts, IsDoneOrShort}
+use Rattle.storm_resume.specs.storm_answers.Ends.{Promise, Ends, IsAnswered, Counts, IsDoneOrShort}
 use Rattle.storm_program.specs.Load.{load_promise}
-use Rattle.storm_program.specs.Outside.{RunUse, ShelfUse, SinkUse, TicksUse}
+use Rattle.storm_resume.specs.storm_answers.Outside.{RunUse, ShelfUse, SinkUse, TicksUse}
 use Rattle.storm_program.specs.Plain.{plain_promise}
 use Rattle.storm_program.specs.Replay.{replay_promise}
-use Rattle.storm_program.specs.Run.{IsNotBegun, run_promise}
-use Rattle.storm_program.specs.Statuses.{code_of}
-use Rattle.storm_program.specs.Texts.{usage}
+use Rattle.storm_resume.specs.storm_answers.Runs.{IsNotBegun}
+use Rattle.storm_program.specs.Run.{run_promise}
+use Rattle.storm_resume.specs.storm_answers.Statuses.{code_of}
+use Rattle.storm_resume.specs.storm_answers.Texts.{usage}
 use Rattle.storm_program.specs.Track.{track_promise}
 use Rattle.storm_words.specs.Words.{Command, check, plain, replay, run, load, track, fold_over, command}
 

@@ -3,13 +3,13 @@
 use Rattle.std.specs.Prelude.{◌≡◌, ℕ, List, []}
 use Rattle.event_worlds.specs.attempt_fates.declared.fates.Attempt.{Attempt}
 use Rattle.event_worlds.specs.bolt_ops.RowOp.{Custom}
-use Rattle.storm_program.specs.declared.status.Status.{Status}
-use Rattle.storm_program.specs.declared.status.Status.TheVariants as status
-use Rattle.storm_program.specs.Ends.{Promise}
-use Rattle.storm_program.specs.Files.{FilesCall, FilesCome}
-use Rattle.storm_program.specs.Outside.{Fetched, ShelfUse}
-use Rattle.storm_program.specs.Run.{IsOfFiles}
-use Rattle.stored_runs.specs.Makers.{IsUntouched, MakerUse}
+use Rattle.storm_resume.specs.storm_answers.declared.status.Status.{Status}
+use Rattle.storm_resume.specs.storm_answers.declared.status.Status.TheVariants as status
+use Rattle.storm_resume.specs.storm_answers.Ends.{Promise}
+use Rattle.storm_resume.specs.storm_answers.Files.{FilesCall, FilesCome}
+use Rattle.storm_resume.specs.storm_answers.Outside.{Fetched, ShelfUse}
+use Rattle.storm_resume.specs.storm_answers.Runs.{IsOfFiles}
+use Rattle.storm_resume.specs.stored_runs.Makers.{IsUntouched, MakerUse}
 use Rattle.track_runs.specs.Tracked.{IsTrackText}
 
 -- What it comes to, by its status. It comes to no other status, and neither the number of workers

@@ -1,17 +1,15 @@
 ghost use Rattle.std.specs.Prelude.{◌≡◌, ◌≤◌, IfOk, IfErr, string_bytes};
-ghost use Rattle.storm_program.specs.Check.{CheckComes};
-ghost use Rattle.storm_program.specs.declared.status.Status.{Status};
-ghost use Rattle.storm_program.specs.Outside.{shelf_use};
-ghost use Rattle.storm_program.specs.Texts.{size_line, valid_line};
-ghost use Rattle.storm_program.specs.steps.Stops.{Stops};
+ghost use Rattle.storm_program.specs.Check.{CheckComes, size_line, valid_line};
+ghost use Rattle.storm_resume.specs.storm_answers.declared.status.Status.{Status};
+ghost use Rattle.storm_resume.specs.storm_answers.Outside.{shelf_use};
+ghost use Rattle.storm_resume.specs.storm_answers.steps.Stops.{Stops};
 
-use crate::early_end::EarlyEnd;
-use crate::files::read_plan;
 use event_worlds::storm_values::Memory;
 use event_worlds::topology_plan::Plan;
 use std::alloc::Global;
 use std::fmt::Write;
 use storm_outside::Shelf;
+use storm_resume::storm_answers::{EarlyEnd, read_plan};
 
 /// Reads a topology, and tells the size of its plan.
 pub fn check_file<H: Shelf>(
@@ -44,7 +42,7 @@ fn size_of(alloc: Global, plan: &Plan) -> Result<String, Memory>
     )
 }
 
-#[tactic(auto, unfolding(crate::specs::Texts::size_line))]
+#[tactic(auto, unfolding(crate::specs::Check::size_line))]
 fn size_line(
     alloc: Global,
     components: u32,

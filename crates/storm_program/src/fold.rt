@@ -1,23 +1,20 @@
 ghost use Rattle.std.specs.Prelude.{◌≤◌, length, All, IfOk, IfErr, string_bytes};
 ghost use Rattle.event_worlds.specs.storm_values.Limits.{most_workers};
 ghost use Rattle.event_worlds.specs.storm_values.Rows.{IsRow};
-ghost use Rattle.storm_program.specs.declared.status.Status.{Status};
-ghost use Rattle.storm_program.specs.Ends.{Ends, IsAnswered, FilesCounts};
-ghost use Rattle.storm_program.specs.Outside.{shelf_use, sink_use};
+ghost use Rattle.storm_resume.specs.storm_answers.declared.status.Status.{Status};
+ghost use Rattle.storm_resume.specs.storm_answers.Ends.{Ends, IsAnswered, FilesCounts};
+ghost use Rattle.storm_resume.specs.storm_answers.Outside.{shelf_use, sink_use};
 ghost use Rattle.storm_program.specs.Plain.{IsPlainReport, PlainCalls, PlainComes};
-ghost use Rattle.storm_program.specs.steps.Stops.{Stops};
+ghost use Rattle.storm_resume.specs.storm_answers.steps.Stops.{Stops};
 
-use crate::early_end::EarlyEnd;
-use crate::files::{Accepted, read_files};
-use crate::output::write_answer;
 use crate::plain::report_of_tables;
-use crate::status::Status;
 use event_worlds::bolt_ops::RowOp;
 use event_worlds::storm_values::Memory;
 use fold_tables::fold_tables;
 use std::alloc::Global;
 use std::thread::Threads;
 use storm_outside::{Shelf, Sink};
+use storm_resume::storm_answers::{Accepted, EarlyEnd, Status, read_files, write_answer};
 
 /// Makes the tables of a topology file and the records of another file as `storm_plain` does, by so
 /// many workers, and writes the same report.

@@ -2,18 +2,12 @@
 #![tactic(auto)]
 
 mod check;
-mod early_end;
-mod files;
 mod fold;
 mod load;
-mod output;
 mod plain;
 mod program;
 mod replay;
-mod report;
 mod run;
-mod schedule;
-mod status;
 mod track;
 
 pub use event_worlds::attempt_fates::{
@@ -23,5 +17,5 @@ pub use fold::storm_fold;
 pub use program::{
     storm, storm_check, storm_load, storm_plain, storm_replay, storm_run, storm_track,
 };
-pub use status::Status;
-pub use stored_runs::{RunEnd, replay_over};
+pub use storm_resume::stored_runs::{RunEnd, replay_over};
+pub use storm_resume::storm_answers::Status;

@@ -1,23 +1,21 @@
 ghost use Rattle.std.specs.Prelude.{◌≡◌, ◌≤◌, ◌<◌, ◌⊎◌, ◌+◌, ◌-◌, ◌*◌, ◌^◌, ◌∷◌, [], length, All, IfOk, IfErr, IfSome, string_bytes};
 ghost use Rattle.load_source.specs.File.{load_text};
-ghost use Rattle.storm_program.specs.declared.status.Status.{Status};
+ghost use Rattle.storm_resume.specs.storm_answers.declared.status.Status.{Status};
 ghost use Rattle.storm_program.specs.Load.{IsLoadLine, LoadComes, LoadMustCommitAll, cells_in, first_half, line_of, load_events, load_line, values_in, with_values};
-ghost use Rattle.storm_program.specs.Outside.{run_use};
+ghost use Rattle.storm_resume.specs.storm_answers.Outside.{run_use};
 ghost use Rattle.storm_program.specs.Replay.{ReplayEndsSo};
-ghost use Rattle.storm_program.specs.Run.{IsNotBegun, IsShort, IsUnhindered};
-ghost use Rattle.storm_program.specs.steps.Ended.{IsLineOfEnd, WorkStops};
-ghost use Rattle.storm_program.specs.steps.Stops.{IsMemory, Stops};
-ghost use Rattle.stored_runs.specs.Makers.{maker_use};
+ghost use Rattle.storm_resume.specs.storm_answers.Runs.{IsNotBegun, IsShort, IsUnhindered};
+ghost use Rattle.storm_resume.specs.storm_answers.steps.Ended.{WorkStops};
+ghost use Rattle.storm_program.specs.steps.Lines.{IsLineOfEnd};
+ghost use Rattle.storm_resume.specs.storm_answers.steps.Stops.{IsMemory, Stops};
+ghost use Rattle.storm_resume.specs.stored_runs.Makers.{maker_use};
 ghost use Rattle.schedule_reader.specs.declared.event.Event.TheVariants.{Rounds};
-ghost use Rattle.stored_runs.specs.StoredRuns.{IsAll};
+ghost use Rattle.storm_resume.specs.stored_runs.StoredRuns.{IsAll};
 ghost use Rattle.event_worlds.specs.storm_values.Rows.{IsRow};
 ghost use Rattle.event_worlds.specs.topology_plan.Wired.{width_of};
 ghost use Rattle.event_worlds.specs.tree_model.Trees.{node_count};
 ghost use Rattle.topology_reader.specs.FirstFault.{IsFilePlan};
 
-use crate::early_end::EarlyEnd;
-use crate::files::Accepted;
-use crate::report::{Counted, counted_in, offers_of, text_of_end};
 use event_worlds::attempt_fates::Fates;
 use event_worlds::bolt_ops::RowOp;
 use event_worlds::commit_order::NoFollow;
@@ -29,7 +27,10 @@ use load_source::{load_file_is_fit, load_plan, load_records, load_records_are_ro
 use schedule_reader::{Event, Events};
 use std::alloc::{AllocError, Global};
 use std::fmt::Write;
-use stored_runs::{RunEnd, replay_over};
+use storm_resume::stored_runs::{RunEnd, replay_over};
+use storm_resume::storm_answers::{
+    Accepted, Counted, EarlyEnd, counted_in, offers_of, text_of_end,
+};
 use storm_stores::StoreMaker;
 
 /// Makes so many records of a seed, carries them through the topology of `load`, and makes its

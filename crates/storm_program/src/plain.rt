@@ -3,13 +3,11 @@ ghost use Rattle.event_worlds.specs.bolt_ops.RowOp.{Custom};
 ghost use Rattle.event_worlds.specs.storm_values.Rows.{IsRow};
 ghost use Rattle.event_worlds.specs.tree_model.Tables.{AreTables};
 ghost use Rattle.event_worlds.specs.tree_model.Trees.{writes};
-ghost use Rattle.storm_program.specs.declared.status.Status.{Status};
-ghost use Rattle.storm_program.specs.Outside.{shelf_use};
+ghost use Rattle.storm_resume.specs.storm_answers.declared.status.Status.{Status};
+ghost use Rattle.storm_resume.specs.storm_answers.Outside.{shelf_use};
 ghost use Rattle.storm_program.specs.Plain.{IsPlainReport, PlainComes};
-ghost use Rattle.storm_program.specs.steps.Stops.{Stops};
+ghost use Rattle.storm_resume.specs.storm_answers.steps.Stops.{Stops};
 
-use crate::early_end::EarlyEnd;
-use crate::files::{Accepted, read_files};
 use event_worlds::bolt_ops::RowOp;
 use event_worlds::storm_values::{Memory, Rows};
 use event_worlds::topology_plan::Plan;
@@ -17,6 +15,7 @@ use event_worlds::tree_model::{Tables, plain_tables};
 use run_report::{Tail, report_text};
 use std::alloc::Global;
 use storm_outside::Shelf;
+use storm_resume::storm_answers::{Accepted, EarlyEnd, read_files};
 
 /// Reads a topology and an input, and makes the tables by definition.
 pub fn plain_files<H: Shelf, O: RowOp>(

@@ -1,31 +1,30 @@
 ghost use Rattle.std.specs.Prelude.{◌≡◌, ◌≤◌, ◌<◌, ◌⊎◌, [], length, All, IfOk, IfErr, string_bytes};
 ghost use Rattle.std.specs.List.{AllByRecursion};
 ghost use Rattle.event_worlds.specs.Rounds.{HasRounds, rounds_needed};
-ghost use Rattle.schedule_core.specs.Schedules.{all_steps};
+ghost use Rattle.storm_resume.specs.schedule_core.Schedules.{all_steps};
 ghost use Rattle.schedule_reader.specs.Events.{FitsEvent};
-ghost use Rattle.storm_program.specs.declared.status.Status.{Status};
-ghost use Rattle.storm_program.specs.Outside.{run_use, shelf_use};
+ghost use Rattle.storm_resume.specs.storm_answers.declared.status.Status.{Status};
+ghost use Rattle.storm_resume.specs.storm_answers.Outside.{run_use, shelf_use};
 ghost use Rattle.storm_program.specs.Replay.{IsReplayReport, ReplayComes, ReplayEndsSo, ReplayMustCommitAll, ticks_of_schedule};
-ghost use Rattle.storm_program.specs.Reports.{cut_by};
-ghost use Rattle.storm_program.specs.Run.{IsNotBegun, IsShort, IsUnhindered};
-ghost use Rattle.storm_program.specs.steps.Ended.{WorkStops};
-ghost use Rattle.storm_program.specs.steps.Stops.{IsMemory, Stops};
+ghost use Rattle.storm_resume.specs.storm_answers.Reports.{cut_by};
+ghost use Rattle.storm_resume.specs.storm_answers.Runs.{IsNotBegun, IsShort, IsUnhindered};
+ghost use Rattle.storm_resume.specs.storm_answers.steps.Ended.{WorkStops};
+ghost use Rattle.storm_resume.specs.storm_answers.steps.Stops.{IsMemory, Stops};
 ghost use Rattle.event_worlds.specs.storm_values.Rows.{IsRow};
-ghost use Rattle.stored_runs.specs.Makers.{maker_use};
+ghost use Rattle.storm_resume.specs.stored_runs.Makers.{maker_use};
 ghost use Rattle.world_progress.specs.Rounding.{ShutsNone};
 
-use crate::early_end::EarlyEnd;
-use crate::files::{Accepted, read_files};
-use crate::report::{offers_of, text_of_end};
-use crate::schedule::read_events;
 use event_worlds::attempt_fates::Fates;
 use event_worlds::bolt_ops::RowOp;
 use event_worlds::commit_order::NoFollow;
 use event_worlds::storm_ids::IdMaker;
 use schedule_reader::Events;
 use std::alloc::Global;
-use stored_runs::replay_over;
 use storm_outside::Shelf;
+use storm_resume::stored_runs::replay_over;
+use storm_resume::storm_answers::{
+    Accepted, EarlyEnd, offers_of, read_events, read_files, text_of_end,
+};
 use storm_stores::StoreMaker;
 
 /// Reads a topology, an input and a schedule, and carries the schedule out.

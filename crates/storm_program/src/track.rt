@@ -1,20 +1,19 @@
 ghost use Rattle.std.specs.Prelude.{◌≤◌, length, All, IfOk, IfErr, string_bytes};
 ghost use Rattle.event_worlds.specs.storm_values.Limits.{most_workers};
 ghost use Rattle.event_worlds.specs.storm_values.Rows.{IsRow};
-ghost use Rattle.storm_program.specs.declared.status.Status.{Status};
-ghost use Rattle.storm_program.specs.Outside.{shelf_use};
+ghost use Rattle.storm_resume.specs.storm_answers.declared.status.Status.{Status};
+ghost use Rattle.storm_resume.specs.storm_answers.Outside.{shelf_use};
 ghost use Rattle.storm_program.specs.Track.{TrackComes};
-ghost use Rattle.storm_program.specs.steps.Stops.{Stops};
+ghost use Rattle.storm_resume.specs.storm_answers.steps.Stops.{Stops};
 ghost use Rattle.track_runs.specs.Tracked.{IsTrackText};
 
-use crate::early_end::EarlyEnd;
-use crate::files::{Accepted, read_files};
 use event_worlds::bolt_ops::RowOp;
 use event_worlds::storm_ids::IdMaker;
 use event_worlds::storm_values::Memory;
 use std::alloc::Global;
 use std::thread::Threads;
 use storm_outside::Shelf;
+use storm_resume::storm_answers::{Accepted, EarlyEnd, read_files};
 use track_runs::tracked_text;
 
 /// Reads a topology and an input, and tracks the records one by one.

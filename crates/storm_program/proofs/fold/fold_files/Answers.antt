@@ -1,4 +1,4 @@
-use Rattle.storm_program.proofs.EndLemmas.{IfErr-exit, Stops-weaker}
+use Rattle.storm_resume.proofs.storm_answers.EndLemmas.{IfErr-exit, Stops-weaker}
 use Rattle.storm_program.proofs.RunLemmas.{plain_of_files}
 use Rattle.storm_program.proofs.fold.fold_files.Goals as goal
 

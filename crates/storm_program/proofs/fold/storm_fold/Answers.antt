@@ -1,6 +1,6 @@
-use Rattle.storm_program.specs.Outside.{shelf_use, sink_use}
+use Rattle.storm_resume.specs.storm_answers.Outside.{shelf_use, sink_use}
 use Rattle.storm_program.proofs.CauseLemmas.{plain_answered}
-use Rattle.storm_program.proofs.EndLemmas.{ends_answer}
+use Rattle.storm_resume.proofs.storm_answers.EndLemmas.{ends_answer}
 use Rattle.storm_program.proofs.fold.storm_fold.Goals as goal
 
 pub returns-clause-ends : goal.returns-clause-ends

@@ -2,18 +2,19 @@ use Rattle.std.proofs.Common.{◌≡◌, ◌⊎◌, ℕ, ◌+◌, ◌*◌, List,
 use Rattle.event_worlds.specs.attempt_fates.declared.fates.Attempt.{Attempt}
 use Rattle.event_worlds.specs.taken_records.Cuts.{Cut}
 use Rattle.event_worlds.specs.tree_model.Trees.{node_count}
-use Rattle.schedule_core.specs.Schedules.{all_steps}
+use Rattle.storm_resume.specs.schedule_core.Schedules.{all_steps}
 use Rattle.schedule_reader.specs.declared.event.Event.{Event}
 use Rattle.schedule_reader.specs.declared.event.Event.TheVariants.{Rounds}
-use Rattle.storm_program.proofs.EndLemmas.{IfErr-exit}
+use Rattle.storm_resume.proofs.storm_answers.EndLemmas.{IfErr-exit}
 use Rattle.storm_program.proofs.LoadLemmas.{events_are, few_ticks, rounds_serve, shuts_none}
-use Rattle.storm_program.proofs.ReportLemmas.{ends_so, free_over, load_line_if, none_rose, unfollowed, work_finishes, work_short, work_stops}
+use Rattle.storm_program.proofs.ReplayLemmas.{load_line_if}
+use Rattle.storm_resume.proofs.storm_answers.ReportLemmas.{ends_so, free_over, none_rose, unfollowed, work_finishes, work_short, work_stops}
 use Rattle.storm_program.specs.Load.{IsLoadLine, load_events}
-use Rattle.storm_program.specs.Outside.{RunUse, run_use}
+use Rattle.storm_resume.specs.storm_answers.Outside.{RunUse, run_use}
 use Rattle.storm_program.specs.Replay.{ReplayEndsSo}
-use Rattle.storm_program.specs.Run.{IsNotBegun, IsShort}
-use Rattle.stored_runs.specs.Makers.{maker_use}
-use Rattle.stored_runs.specs.StoredRuns.{IsRunOfWorld}
+use Rattle.storm_resume.specs.storm_answers.Runs.{IsNotBegun, IsShort}
+use Rattle.storm_resume.specs.stored_runs.Makers.{maker_use}
+use Rattle.storm_resume.specs.stored_runs.StoredRuns.{IsRunOfWorld}
 use Rattle.storm_program.proofs.load.load_accepted.Goals as goal
 
 pub returns-in_err-text_of_end-clause-stop : goal.returns-in_err-text_of_end-clause-stop

@@ -1,8 +1,8 @@
 use Rattle.std.proofs.Common.{◌≡◌, subst}
 use Rattle.event_worlds.specs.topology_plan.Topology.{Topology}
 use Rattle.load_source.specs.File.{load_text}
-use Rattle.storm_program.specs.Run.{IsUnhindered}
-use Rattle.stored_runs.specs.Makers.{maker_use}
+use Rattle.storm_resume.specs.storm_answers.Runs.{IsUnhindered}
+use Rattle.storm_resume.specs.stored_runs.Makers.{maker_use}
 use Rattle.topology_reader.proofs.FilePlans.{one_plan}
 use Rattle.topology_reader.specs.FirstFault.{IsFilePlan}
 use Rattle.storm_program.proofs.load.load_records_of.Goals as goal

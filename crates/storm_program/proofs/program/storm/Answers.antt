@@ -1,8 +1,9 @@
 use Rattle.std.proofs.Common.{◌≡◌, None, Some, map, refl, rules, string_bytes}
-use Rattle.storm_program.specs.Outside.{run_use, shelf_use, sink_use, ticks_use}
-use Rattle.storm_program.proofs.RunLemmas.{ends_check, ends_fold, ends_load, ends_own, ends_plain, ends_track, ends_words, untouched}
+use Rattle.storm_resume.specs.storm_answers.Outside.{run_use, shelf_use, sink_use, ticks_use}
+use Rattle.storm_resume.proofs.storm_answers.FileCauses.{untouched}
+use Rattle.storm_program.proofs.RunLemmas.{ends_check, ends_fold, ends_load, ends_own, ends_plain, ends_track, ends_words}
 use Rattle.storm_words.specs.Words.{check, command, fold_over, load, plain, replay, run, track}
-use Rattle.stored_runs.specs.Makers.{maker_use}
+use Rattle.storm_resume.specs.stored_runs.Makers.{maker_use}
 use Rattle.storm_program.proofs.program.storm.Goals as goal
 
 pub returns-in-Check-clause-ends : goal.returns-in-Check-clause-ends

@@ -1,4 +1,4 @@
-use Rattle.storm_program.proofs.EndLemmas.{done_or_short, ends_answer}
+use Rattle.storm_resume.proofs.storm_answers.EndLemmas.{done_or_short, ends_answer}
 use Rattle.storm_program.proofs.program.storm_load.Goals as goal
 
 pub returns-clause-ends : goal.returns-clause-ends

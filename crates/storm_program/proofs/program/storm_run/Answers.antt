@@ -1,7 +1,7 @@
-use Rattle.storm_program.specs.Outside.{run_use, shelf_use, sink_use, ticks_use}
+use Rattle.storm_resume.specs.storm_answers.Outside.{run_use, shelf_use, sink_use, ticks_use}
 use Rattle.storm_program.proofs.CauseLemmas.{run_answered}
-use Rattle.storm_program.proofs.EndLemmas.{done_or_short, ends_answer}
-use Rattle.stored_runs.specs.Makers.{maker_use}
+use Rattle.storm_resume.proofs.storm_answers.EndLemmas.{done_or_short, ends_answer}
+use Rattle.storm_resume.specs.stored_runs.Makers.{maker_use}
 use Rattle.storm_program.proofs.program.storm_run.Goals as goal
 
 pub returns-clause-ends : goal.returns-clause-ends

@@ -2,13 +2,14 @@ use Rattle.std.proofs.Common.{◌≡◌, ◌⊎◌, List, length, refl, rules, s
 use Rattle.event_worlds.specs.Rounds.{HasRounds, rounds_needed}
 use Rattle.event_worlds.specs.attempt_fates.declared.fates.Attempt.{Attempt}
 use Rattle.event_worlds.specs.taken_records.Cuts.{Cut}
-use Rattle.schedule_core.specs.Schedules.{all_steps}
-use Rattle.storm_program.proofs.ReportLemmas.{ends_so, free_over, none_rose, replay_report_if, unfollowed, work_finishes, work_short, work_stops}
-use Rattle.storm_program.specs.Outside.{RunUse, run_use}
+use Rattle.storm_resume.specs.schedule_core.Schedules.{all_steps}
+use Rattle.storm_program.proofs.ReplayLemmas.{replay_report_if}
+use Rattle.storm_resume.proofs.storm_answers.ReportLemmas.{ends_so, free_over, none_rose, unfollowed, work_finishes, work_short, work_stops}
+use Rattle.storm_resume.specs.storm_answers.Outside.{RunUse, run_use}
 use Rattle.storm_program.specs.Replay.{ReplayEndsSo, ticks_of_schedule}
-use Rattle.storm_program.specs.Run.{IsNotBegun, IsShort}
-use Rattle.stored_runs.specs.Makers.{maker_use}
-use Rattle.stored_runs.specs.StoredRuns.{IsRunOfWorld}
+use Rattle.storm_resume.specs.storm_answers.Runs.{IsNotBegun, IsShort}
+use Rattle.storm_resume.specs.stored_runs.Makers.{maker_use}
+use Rattle.storm_resume.specs.stored_runs.StoredRuns.{IsRunOfWorld}
 use Rattle.storm_program.proofs.replay.replay_accepted.Goals as goal
 
 pub returns-clause-report : goal.returns-clause-report

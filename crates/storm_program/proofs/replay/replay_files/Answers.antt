@@ -1,9 +1,10 @@
 use Rattle.std.proofs.Common.{refl}
-use Rattle.storm_program.specs.Outside.{run_use, shelf_use}
-use Rattle.storm_program.proofs.EndLemmas.{IfErr-exit, Stops-weaker, stops_on}
-use Rattle.storm_program.proofs.FileLemmas.{all_accepted, files_of_schedule, files_of_two, three_fetches}
-use Rattle.storm_program.proofs.RunLemmas.{done_of_replay, finishes_by_all_files, finishes_by_files, replay_goes_through, replay_of_files, replay_of_work, untouched}
-use Rattle.stored_runs.specs.Makers.{maker_use}
+use Rattle.storm_resume.specs.storm_answers.Outside.{run_use, shelf_use}
+use Rattle.storm_resume.proofs.storm_answers.EndLemmas.{IfErr-exit, Stops-weaker, stops_on}
+use Rattle.storm_resume.proofs.storm_answers.FileLemmas.{all_accepted, files_of_schedule, files_of_two, three_fetches}
+use Rattle.storm_resume.proofs.storm_answers.FileCauses.{finishes_by_all_files, finishes_by_files, untouched}
+use Rattle.storm_program.proofs.RunLemmas.{done_of_replay, replay_goes_through, replay_of_files, replay_of_work}
+use Rattle.storm_resume.specs.stored_runs.Makers.{maker_use}
 use Rattle.storm_program.proofs.replay.replay_files.Goals as goal
 
 pub returns-in_err-files-clause-stop : goal.returns-in_err-files-clause-stop

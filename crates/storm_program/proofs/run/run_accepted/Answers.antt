@@ -1,15 +1,15 @@
 use Rattle.std.proofs.Common.{◌≡◌, ◌<◌, ◌⊎◌, ℕ, List, length, refl, rules, subst, sum, sym}
 use Rattle.event_worlds.specs.Rounds.{rounds_needed}
 use Rattle.event_worlds.specs.taken_records.Cuts.{Cut}
-use Rattle.schedule_core.specs.Runs.{first_answers}
-use Rattle.storm_program.proofs.ReportLemmas.{ends_so, free_over, none_rose, report_if, rounds_end, unfollowed, work_finishes, work_short, work_stops}
+use Rattle.storm_resume.specs.schedule_core.Runs.{first_answers}
+use Rattle.storm_resume.proofs.storm_answers.ReportLemmas.{ends_so, free_over, none_rose, report_if, rounds_end, unfollowed, work_finishes, work_short, work_stops}
 use Rattle.event_worlds.specs.attempt_fates.declared.fates.Attempt.{Attempt}
-use Rattle.storm_program.specs.Outside.{RunUse, run_use, ticks_use}
-use Rattle.storm_program.specs.Reports.{EndsSo}
-use Rattle.storm_program.specs.Run.{IsNotBegun, IsShort, ticks_of_run}
-use Rattle.storm_program.specs.steps.Ended.{IsRoundsEnd}
-use Rattle.stored_runs.specs.declared.ending.RunEnd.{RunEnd}
-use Rattle.stored_runs.specs.Makers.{maker_use}
+use Rattle.storm_resume.specs.storm_answers.Outside.{RunUse, run_use, ticks_use}
+use Rattle.storm_resume.specs.storm_answers.Reports.{EndsSo}
+use Rattle.storm_resume.specs.storm_answers.Runs.{IsNotBegun, IsShort, ticks_of_run}
+use Rattle.storm_resume.specs.storm_answers.steps.Ended.{IsRoundsEnd}
+use Rattle.storm_resume.specs.stored_runs.declared.ending.RunEnd.{RunEnd}
+use Rattle.storm_resume.specs.stored_runs.Makers.{maker_use}
 use Rattle.storm_program.proofs.run.run_accepted.Goals as goal
 
 pub returns-clause-report : goal.returns-clause-report

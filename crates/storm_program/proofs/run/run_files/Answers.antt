@@ -1,7 +1,8 @@
-use Rattle.storm_program.specs.Outside.{run_use, shelf_use, ticks_use}
-use Rattle.storm_program.proofs.EndLemmas.{IfErr-exit, Stops-weaker, stops_on}
-use Rattle.storm_program.proofs.RunLemmas.{done_of_report, finishes_by_files, goes_through, run_of_files, run_of_work, untouched}
-use Rattle.stored_runs.specs.Makers.{maker_use}
+use Rattle.storm_resume.specs.storm_answers.Outside.{run_use, shelf_use, ticks_use}
+use Rattle.storm_resume.proofs.storm_answers.EndLemmas.{IfErr-exit, Stops-weaker, stops_on}
+use Rattle.storm_resume.proofs.storm_answers.FileCauses.{finishes_by_files, untouched}
+use Rattle.storm_program.proofs.RunLemmas.{done_of_report, goes_through, run_of_files, run_of_work}
+use Rattle.storm_resume.specs.stored_runs.Makers.{maker_use}
 use Rattle.storm_program.proofs.run.run_files.Goals as goal
 
 pub returns-in_err-files-clause-stop : goal.returns-in_err-files-clause-stop

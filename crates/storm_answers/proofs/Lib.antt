@@ -1,0 +1,5 @@
+pub mod EndLemmas
+pub mod FileCauses
+pub mod FileLemmas
+pub mod InOrder
+pub mod ReportLemmas

@@ -1,0 +1,4 @@
+mod Goings
+mod Keepings
+mod Reporting
+mod Calling
