@@ -9,6 +9,4 @@ mod gates;
 #[cfg(test)]
 mod numbers;
 #[cfg(test)]
-mod partitions_shut;
-#[cfg(test)]
 mod tables;
