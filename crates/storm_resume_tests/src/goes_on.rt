@@ -187,7 +187,7 @@ fn cells_are_brought_to_format_2(rt: HostRuntime) -> Result<(), Mismatch> {
     check_answer(alloc, &told, 0, OTHER_KEY)?;
     let mut store = stores.make(1, 0)?;
     let cell = store.get("[\"b\"]".as_bytes());
-    assert!(rt; matches!(cell, Ok(Some(bytes)) if bytes.as_slice() == FIVE_BY_1));
+    assert!(rt; matches!(cell, Ok(Some(bytes)) if bytes.as_slice() == FIVE_BY_1.as_slice()));
     Ok(())
 }
 

@@ -49,10 +49,10 @@ fn what_was_kept_is_of_no_such_run(rt: HostRuntime) -> Result<(), Mismatch> {
 // A topology, an input, a load that fails, and what the run ends with and writes, where other input
 // was kept.
 const IN_ORDER: [(Option<&str>, Option<&str>, u64, u8, &str); 7] = [
-    (None, None, 1, 5, "read fault t\n"),
+    (None, None, 1, 5, "read fault topology\n"),
     (Some("{"), None, 1, 3, "topology: no JSON\n"),
-    (Some(STEADY), None, 1, 5, "read fault i\n"),
-    (Some(STEADY), Some("1\n"), 1, 4, "line 1: not an array\n"),
+    (Some(STEADY), None, 1, 5, "read fault input\n"),
+    (Some(STEADY), Some("1\n"), 1, 4, "input: line 1: no array\n"),
     (Some(STEADY), Some(THREE), 1, 12, "keep fault\n"),
     (Some(STEADY), Some(THREE), 0, 13, OTHER_INPUT),
     (Some(STEADY), Some(THREE), 2, 13, OTHER_INPUT),
