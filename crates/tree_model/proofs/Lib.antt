@@ -11,4 +11,5 @@ mod TablesSoFar
 pub mod Walks
 pub mod TreePaths
 mod Within
+mod CountedWrites
 mod Counts
