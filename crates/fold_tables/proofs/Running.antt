@@ -1,13 +1,16 @@
--- What the values of later writes do to the pairs of the states.
-use Rattle.std.proofs.Common.{◌≡◌, ℕ, ◌+◌, ◌<◌, ◌≤◌, ◌⊎◌, inl, inr, arith, slice_get, ℤ, List, [], ◌∷◌, ◌++◌, length, get_or, set, Option, Some, None, IfSome, sym, refl, ap, subst, ◌∙◌}
-use Rattle.std.proofs.lemmas.Bool.{cases_eq, cases_lt}
-use Rattle.std.proofs.lemmas.List.{append-nil, map-id, length-map, map-set, get_or-map, get_or-set_same, get_or-set_other}
+-- What a write, and the values of later writes, do to the pairs of the states.
+use Rattle.std.proofs.Common.{◌≡◌, ℕ, zero, suc, ◌+◌, ◌==◌, ◌&&◌, ◌<◌, ◌≤◌, ◌⊎◌, inl, inr, Bool, true, false, cond, arith, slice_get, replicate, ℤ, List, [], ◌∷◌, ◌++◌, map, filter, fold, length, get_or, set, Option, Some, None, IfSome, sym, refl, ap, subst, ◌∙◌, ⊎_elim, length-set}
+use Rattle.std.proofs.lemmas.Bool.{and_left, cases_eq, cases_lt, eq-eqb, ne_eqb}
+use Rattle.std.proofs.lemmas.List.{append-nil, map-id, length-map, length-replicate, map-set, get_or-map, get_or-set_same, get_or-set_other}
 use Rattle.std.proofs.lemmas.List.Elements.{filter_map-append}
 use Rattle.std.proofs.lemmas.List.FromFn.{map-range_with_len_more}
-use Rattle.std.proofs.lemmas.Option.{none-some, same_Some, slice_get_past, option_and_then_some}
+use Rattle.std.proofs.lemmas.List.Sums.{fold-append}
+use Rattle.std.proofs.lemmas.Option.{none-some, same_Some, slice_get_cases, slice_get_past, option_and_then_some}
 use Rattle.std.proofs.lemmas.Slice.Zip.{all_zipped_more}
+use Rattle.std.specs.Cmp.Lexicographic.{bytes_decides}
 use Rattle.std.specs.List.{AllZip, cons_option, filter_map, range_with_len}
 use Rattle.std.specs.Option.{option_and_then}
+use Rattle.std.specs.Str.{bytes_eq}
 use Rattle.indexmap.specs.IndexMap.{IndexMap}
 use Rattle.tree_model.specs.bolt_ops.RowOp.{Custom, IsCustom}
 use Rattle.tree_model.specs.topology_plan.declared.parts.Body.{Body}
@@ -19,14 +22,111 @@ use Rattle.tree_model.specs.declared.write.Pair.{Pair}
 use Rattle.tree_model.specs.declared.write.Table.{Table}
 use Rattle.tree_model.specs.declared.write.Write.{Write}
 use Rattle.tree_model.specs.Inside.{entries_of}
-use Rattle.tree_model.specs.Tables.{StateOf, base, folded, state_by, state_at, value_at, IsTally, IsTableOf, AreRunningTables, AddsTable}
-use Rattle.fold_tables.specs.Merging.{AreMergedIn, AreFewWrites, joined, merged}
+use Rattle.tree_model.specs.Tables.{Folding, StateOf, amounts_of, base, folded, state_by, state_at, value_at, IsTally, IsTableOf, AreRunningTables, AddsTable}
+use Rattle.fold_tables.specs.Merging.{IsPut, AreMergedIn, AreFewWrites, joined, merged}
 use Rattle.fold_tables.specs.Pieces.{AreMergedStates, MergesAt, fold_by, fold_at, pairs_by}
-use Rattle.fold_tables.proofs.Joining.{base-append}
+use Rattle.fold_tables.proofs.Joining.{amounts_of-append, base-append}
+
+-- ---- one more write
+
+abbrev is_for : ℕ → List ℕ → Write → Bool
+is_for state key write = (write.state == state) && bytes_eq write.key key
+
+one_more : (by : Folding) (old : Option ℤ) (write : Write) (b : Bool) → fold (λ o amount. Some (by o amount)) old (map (λ (w : Write). w.amount) (cond b (write ∷ []) [])) ≡ cond b (Some (by old write.amount)) old
+one_more by old write true = refl
+one_more by old write false = refl
+
+-- one more write folds its amount in where it is for the key
+base-push : (by : Folding) (before : List Write) (write : Write) (state : ℕ) (key : List ℕ) → base by (before ++ write ∷ []) state key ≡ cond (is_for state key write) (Some (by (base by before state key) write.amount)) (base by before state key)
+base-push by before write state key =
+    ap (fold (λ old amount. Some (by old amount)) None) (amounts_of-append before (write ∷ []) state key)
+    ∙ fold-append (λ old amount. Some (by old amount)) None (amounts_of before state key) (amounts_of (write ∷ []) state key)
+    ∙ one_more by (base by before state key) write (is_for state key write)
+
+base-push_own : (by : Folding) (before : List Write) (write : Write) (state : ℕ) (key : List ℕ) → (write.state == state) ≡ true → base by (before ++ write ∷ []) state key ≡ cond (bytes_eq write.key key) (Some (by (base by before state key) write.amount)) (base by before state key)
+base-push_own by before write state key own =
+    base-push by before write state key
+    ∙ ap (λ b. cond (b && bytes_eq write.key key) (Some (by (base by before state key) write.amount)) (base by before state key)) own
+
+base-push_other : (by : Folding) (before : List Write) (write : Write) (state : ℕ) (key : List ℕ) → (write.state == state) ≡ false → base by (before ++ write ∷ []) state key ≡ base by before state key
+base-push_other by before write state key other =
+    base-push by before write state key
+    ∙ ap (λ b. cond b (Some (by (base by before state key) write.amount)) (base by before state key)) (and_left (write.state == state) (bytes_eq write.key key) other)
+
+-- a write for a state, in its pairs
+IsTally-put : (by : Folding) (before : List Write) (write : Write) (state : ℕ) (old new : List Pair) → (write.state == state) ≡ true → IsTally by before state old → IsPut (λ o. by o write.amount) old write.key new
+    → IsTally by (before ++ write ∷ []) state new
+IsTally-put by before write state old new own tally put = λ key.
+    put.values key
+    ∙ ap (λ value. cond (bytes_eq write.key key) (Some (by value write.amount)) (value_at old key)) (tally write.key)
+    ∙ same key (bytes_eq write.key key) refl
+    ∙ sym (base-push_own by before write state key own)
+  where
+    same : (key : List ℕ) (b : Bool) → bytes_eq write.key key ≡ b → cond (bytes_eq write.key key) (Some (by (base by before state write.key) write.amount)) (value_at old key) ≡ cond (bytes_eq write.key key) (Some (by (base by before state key) write.amount)) (base by before state key)
+    same key true is = rw is (ap (λ name. Some (by (base by before state name) write.amount)) ((bytes_decides write.key key).0 is))
+    same key false is = rw is (tally key)
 
 IfSome_with : {X : Type 0} {P Q : X → Type 0} (o : Option X) → IfSome o P → ((x : X) → o ≡ Some x → P x → Q x) → IfSome o Q
 IfSome_with None p step = tt
 IfSome_with (Some x) p step = step x refl p
+
+IfSome-at : {X : Type 0} (P : X → Type 0) (o : Option X) (x : X) → o ≡ Some x → IfSome o P → P x
+IfSome-at P o x some holds = rw some at holds
+
+module _ (t : Topology) (custom : Custom) (before : List Write) (write : Write) (tables : List (List Pair)) (is : AreRunningTables t custom before tables) where
+  state_within : (state : StateOf) → state_at t custom write.state ≡ Some state → write.state < length tables
+  state_within state found = rw is.count (⊎_elim (λ there. there.1) (λ past. absurd (none-some state (ap (option_and_then (λ (component : Component). state_by custom write.state component component.body)) (sym past.1) ∙ found))) (slice_get_cases t.components write.state).1)
+
+  others : (number : ℕ) → (write.state ≡ number → ⊥) → (state : StateOf) → IsTally state.by before number (get_or tables number []) → IsTally state.by (before ++ write ∷ []) number (get_or tables number [])
+  others number differs state tally = λ key. tally key ∙ sym (base-push_other state.by before write number key (ne_eqb _ _ differs))
+
+  -- what a write for no state leaves
+  pub ignored : state_at t custom write.state ≡ None → AreRunningTables t custom (before ++ write ∷ []) tables
+  ignored none = record {
+    count = is.count;
+    tables = λ number. IfSome_with (state_at t custom number) (is.tables number) (λ state found tally. others number (λ same. none-some state (sym none ∙ ap (state_at t custom) same ∙ found)) state tally);
+  }
+
+  -- what a write for a state leaves
+  module _ (state : StateOf) (found : state_at t custom write.state ≡ Some state) (pairs : List Pair) (put : IsPut (λ o. state.by o write.amount) (get_or tables write.state []) write.key pairs) where
+    own : IsTally state.by (before ++ write ∷ []) write.state (get_or (set tables write.state pairs) write.state [])
+    own =
+        rw (get_or-set_same tables write.state pairs [] (state_within state found))
+        (IsTally-put state.by before write write.state (get_or tables write.state []) pairs (eq-eqb _ _ refl) (IfSome-at (λ here. IsTally here.by before write.state (get_or tables write.state [])) (state_at t custom write.state) state found (is.tables write.state)) put)
+
+    at : (number : ℕ) (here : StateOf) → state_at t custom number ≡ Some here → IsTally here.by before number (get_or tables number []) → (write.state ≡ number) ⊎ (write.state ≡ number → ⊥) → IsTally here.by (before ++ write ∷ []) number (get_or (set tables write.state pairs) number [])
+    at number here found_here tally (inl same) =
+        let one : state ≡ here = same_Some _ _ (sym found ∙ ap (state_at t custom) same ∙ found_here) in
+        subst (λ n. IsTally here.by (before ++ write ∷ []) n (get_or (set tables write.state pairs) n [])) same
+        (subst (λ (s : StateOf). IsTally s.by (before ++ write ∷ []) write.state (get_or (set tables write.state pairs) write.state [])) one own)
+    at number here found_here tally (inr differs) =
+        rw (get_or-set_other tables write.state number pairs [] (λ e. differs (sym e))) (others number differs here tally)
+
+    pub written : AreRunningTables t custom (before ++ write ∷ []) (set tables write.state pairs)
+    written = record {
+      count = length-set tables write.state pairs ∙ is.count;
+      tables = λ number. IfSome_with (state_at t custom number) (is.tables number) (λ here found_here tally. at number here found_here tally (cases_eq write.state number));
+    }
+
+-- the state of a number, by its component
+state_found : (t : Topology) (custom : Custom) (number : ℕ) (component : Component) (body : Body) → slice_get t.components number ≡ Some component → component.body ≡ body → state_at t custom number ≡ state_by custom number component body
+state_found t custom number component body there is =
+    ap (option_and_then (λ (c : Component). state_by custom number c c.body)) there ∙ ap (state_by custom number component) is
+
+module _ (t : Topology) (custom : Custom) (write : Write) (before : List Write) (tables : List (List Pair)) where
+  -- a write for a number that is no component's
+  pub past_all : slice_get t.components write.state ≡ None → AreRunningTables t custom before tables → AreRunningTables t custom (before ++ write ∷ []) tables
+  past_all none is = ignored t custom before write tables is (ap (option_and_then (λ (c : Component). state_by custom write.state c c.body)) none)
+
+  -- a write for a bolt
+  pub for_bolt : (component : Component) (op : _) → slice_get t.components write.state ≡ Some component → component.body ≡ Bolt op → AreRunningTables t custom before tables → AreRunningTables t custom (before ++ write ∷ []) tables
+  for_bolt component op there bolt is = ignored t custom before write tables is (state_found t custom write.state component (Bolt op) there bolt)
+
+  -- a write for a state
+  pub for_state : (component : Component) (spec : _) (pairs : List Pair) → slice_get t.components write.state ≡ Some component → component.body ≡ State spec → IsPut (λ o. folded custom spec.fold o write.amount) (get_or tables write.state []) write.key pairs
+      → AreRunningTables t custom before tables → AreRunningTables t custom (before ++ write ∷ []) (set tables write.state pairs)
+  for_state component spec pairs there state put is =
+      written t custom before write tables is (record { number = write.state; name = component.name; by = folded custom spec.fold }) (state_found t custom write.state component (State spec) there state) pairs put
 
 -- ---- later writes
 
@@ -123,6 +223,23 @@ module _ (t : Topology) (custom : Custom) (old later : List (List Pair)) where
       at : (number : ℕ) → (number < length t.components) ⊎ (length t.components ≤ number) → IfSome (fold_at t number) (λ by. AreMergedIn (joined custom by) (get_or old number []) (get_or later number []) (get_or new number []))
       at number (inl below) = all.merged number below
       at number (inr past) = rw (slice_get_past t.components number past) tt
+
+-- ---- no writes
+
+IfSome-always : {X : Type 0} {P : X → Type 0} (o : Option X) → ((x : X) → P x) → IfSome o P
+IfSome-always None each = tt
+IfSome-always (Some x) each = each x
+
+get_or-replicate_same : {X : Type 0} (n i : ℕ) (x : X) → get_or (replicate n x) i x ≡ x
+get_or-replicate_same zero i x = refl
+get_or-replicate_same (suc n) zero x = refl
+get_or-replicate_same (suc n) (suc i) x = get_or-replicate_same n i x
+
+pub AreRunningTables-none : (t : Topology) (custom : Custom) → AreRunningTables t custom [] (replicate (length t.components) [])
+AreRunningTables-none t custom = record {
+  count = length-replicate (length t.components) [];
+  tables = λ number. IfSome-always (state_at t custom number) (λ state. rw (get_or-replicate_same {X = List Pair} (length t.components) number []) (λ key. refl));
+}
 
 -- ---- the tables at the end
 

@@ -12,7 +12,7 @@ use Rattle.tree_model.specs.topology_plan.Topology.{Topology}
 use Rattle.tree_model.specs.declared.write.Pair.{Pair}
 use Rattle.tree_model.specs.declared.write.Write.{Write}
 use Rattle.tree_model.specs.Inside.{entries_of}
-use Rattle.tree_model.specs.Tables.{AreRunningTables}
+use Rattle.tree_model.specs.Tables.{AreRunningTables, value_at}
 use Rattle.fold_tables.specs.declared.piece.Piece.{Piece}
 use Rattle.fold_tables.specs.Merging.{AreMergedIn, joined}
 

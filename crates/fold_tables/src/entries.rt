@@ -1,16 +1,15 @@
 //! The values of a state by key.
 ghost use Rattle.std.specs.Prelude.{◌≡◌, IfOk, OnOk};
 ghost use Rattle.tree_model.specs.Inside.{entries_of};
-ghost use Rattle.tree_model.specs.Tables.{AreSorted};
+ghost use Rattle.tree_model.specs.Tables.{AreSorted, folded};
 ghost use Rattle.fold_tables.specs.Merging.{IsPut, AreMergedIn, joined, joined_onto};
 
 use indexmap::IndexMap;
-use indexmap::map::Entry;
 use std::alloc::Global;
 use tree_model::bolt_ops::RowOp;
 use tree_model::storm_values::{Memory, Seq, Txt};
 use tree_model::topology_plan::Fold;
-use tree_model::{Pair, Pairs};
+use tree_model::{Pair, Pairs, fold_amount};
 
 /// Values by key text, found by hash.
 pub(crate) type Entries = IndexMap<Txt, i128>;
@@ -27,7 +26,30 @@ fn joined_value<O: RowOp>(custom: &O, by: Fold, earlier: i128, later: i128) -> i
     }
 }
 
-/// Merges a later value of a key into the one that it has, with one search.
+/// Folds an amount into the value of a key, with one search where the key has one.
+pub(crate) fn fold_in<O: RowOp>(
+    entries: &mut Entries,
+    custom: &O,
+    by: Fold,
+    key: Txt,
+    amount: i64,
+) -> Result<(), Memory>
+    ensures { OnOk result (IsPut (λ old. folded (O.meaning custom.now) by old amount)
+        (entries_of entries.old) key (entries_of entries.new)) }
+{
+    match entries.get_mut(&key) {
+        Some(value) => {
+            *value = fold_amount(custom, by, Some(*value), amount);
+            Ok(())
+        }
+        None => {
+            entries.insert(key, fold_amount(custom, by, None, amount))?;
+            Ok(())
+        }
+    }
+}
+
+/// Merges a later value of a key into the one that it has, with one search where it has one.
 fn merge_in<O: RowOp>(
     entries: &mut Entries,
     custom: &O,
@@ -38,16 +60,16 @@ fn merge_in<O: RowOp>(
     ensures { OnOk result (IsPut (λ old. joined_onto (joined (O.meaning custom.now) by) old later)
         (entries_of entries.old) key (entries_of entries.new)) }
 {
-    match entries.entry(key)? {
-        Entry::Occupied(entry) => {
-            let value = entry.into_mut();
+    match entries.get_mut(&key) {
+        Some(value) => {
             *value = joined_value(custom, by, *value, later);
+            Ok(())
         }
-        Entry::Vacant(entry) => {
-            entry.insert(later);
+        None => {
+            entries.insert(key, later)?;
+            Ok(())
         }
     }
-    Ok(())
 }
 
 /// Merges later values into those that are there.

@@ -8,11 +8,12 @@ ghost use Rattle.fold_tables.specs.Pieces.{IsPiece};
 
 use crate::piece::Piece;
 use std::alloc::Global;
+use std::slice::from_ref;
 use std::thread::{Threads, join};
 use tree_model::bolt_ops::RowOp;
 use tree_model::storm_values::{Memory, Row, Rows};
 use tree_model::topology_plan::{Origin, Plan};
-use tree_model::{Tables, plain_tables};
+use tree_model::{Tables, plain_tables, writes_of};
 
 /// With so many writes, which no run comes to, sums might come to an end of 128 bits.
 const MANY: u64 = 1 << 63;
@@ -63,7 +64,7 @@ fn fold_rows<R: Threads + Sync, O: RowOp>(
         (writes plan.now (O.meaning custom.now) rows.now)) }
 {
     if workers < 2 || rows.len() < 2 {
-        return Piece::of_rows(alloc, plan, rows, custom);
+        return fold_each(alloc, plan, rows, custom);
     }
     let few = workers / 2;
     let (first, rest) = rows.split_at(rows.len() / workers as usize * few as usize);
@@ -102,5 +103,23 @@ fn both_halves<R: Threads + Sync, O: RowOp>(
     let (earlier, later) = join(rt, ahead, behind);
     let mut piece = earlier?;
     piece.merge(alloc, plan, custom, later?)?;
+    Ok(piece)
+}
+
+/// What records leave, one after another.
+fn fold_each<O: RowOp>(
+    alloc: Global,
+    plan: &Plan,
+    rows: &[Row],
+    custom: &O,
+) -> Result<Piece, Memory>
+    requires { All (IsRow (width_of plan.now Origin.Spout)) rows.now }
+    ensures { IfOk result (IsPiece plan.now (O.meaning custom.now)
+        (writes plan.now (O.meaning custom.now) rows.now)) }
+{
+    let mut piece = Piece::new(alloc, plan)?;
+    for row in rows {
+        piece.add_all(plan, custom, writes_of(alloc, plan, from_ref(row), custom)?)?;
+    }
     Ok(piece)
 }

@@ -1,22 +1,21 @@
-//! The tables of a piece of the records.
-ghost use Rattle.std.specs.Prelude.{◌≡◌, ◌<◌, [], ◌++◌, ℕ, List, All, length, IfOk, OnOk};
+//! The tables of a piece of the records, as they grow.
+ghost use Rattle.std.specs.Prelude.{◌≡◌, ◌<◌, ◌∷◌, [], ◌++◌, ℕ, List, length, IfOk, OnOk};
+ghost use Rattle.std.specs.Int.{w64};
+ghost use Rattle.std.specs.Int.RustNames.{FitsSigned};
 ghost use Rattle.tree_model.specs.bolt_ops.RowOp.{Custom};
 ghost use Rattle.tree_model.specs.declared.write.Write.{Write};
-ghost use Rattle.tree_model.specs.storm_values.Rows.{IsRow};
-ghost use Rattle.tree_model.specs.topology_plan.Wired.{width_of};
 ghost use Rattle.tree_model.specs.Inside.{entries_of};
 ghost use Rattle.tree_model.specs.Tables.{AddsTable, AreRunningTables, AreTables, state_by};
-ghost use Rattle.tree_model.specs.Trees.{writes};
 ghost use Rattle.fold_tables.specs.Pieces.{AreMergedStates, IsPiece, MergesAt, fold_by, pairs_by};
 
-use crate::entries::{Entries, merge_all, sorted_pairs};
+use crate::entries::{Entries, fold_in, merge_all, sorted_pairs};
 use indexmap::IndexMap;
 use std::alloc::Global;
 use std::mem::replace;
 use tree_model::bolt_ops::RowOp;
-use tree_model::storm_values::{Duplicate, Memory, Row, Seq};
-use tree_model::topology_plan::{Body, Component, Origin, Plan};
-use tree_model::{CountedTables, Table, Tables, counted_tables};
+use tree_model::storm_values::{Duplicate, Memory, Seq, Txt};
+use tree_model::topology_plan::{Body, Component, Plan};
+use tree_model::{Table, Tables, Write, Writes};
 
 /// The values of the states by key, of some writes, and how many writes there were.
 #[derive(Drop)]
@@ -28,19 +27,52 @@ pub(crate) struct Piece {
 }
 
 impl Piece {
-    /// What records leave.
-    pub(crate) fn of_rows<O: RowOp>(
-        alloc: Global,
-        plan: &Plan,
-        rows: &[Row],
-        custom: &O,
-    ) -> Result<Self, Memory>
-        requires { All (IsRow (width_of plan.now Origin.Spout)) rows.now }
-        ensures { IfOk result (IsPiece plan.now (O.meaning custom.now)
-            (writes plan.now (O.meaning custom.now) rows.now)) }
+    /// What no writes leave.
+    pub(crate) fn new(alloc: Global, plan: &Plan) -> Result<Self, Memory>
+        ensures { IfOk result (λ piece. (custom : Custom) → IsPiece plan.now custom [] piece) }
     {
-        let CountedTables { states, writes } = counted_tables(alloc, plan, rows, custom)?;
-        Ok(Piece { states, writes })
+        let mut states = Vec::new(alloc);
+        for _ in 0..plan.components() {
+            states.push(no_entries(alloc))?;
+        }
+        Ok(Piece { states, writes: 0 })
+    }
+
+    /// Folds writes in, one after another.
+    pub(crate) fn add_all<O: RowOp>(
+        &mut self,
+        plan: &Plan,
+        custom: &O,
+        writes: Writes,
+    ) -> Result<(), Memory>
+        requires { length self.old.states.items ≡ length plan.now.components }
+        ensures length { length self.new.states.items ≡ length plan.now.components }
+        ensures more { OnOk result ((made : List Write)
+            → IsPiece plan.now (O.meaning custom.now) made self.old
+            → IsPiece plan.now (O.meaning custom.now) (made ++ writes) self.new) }
+    {
+        for write in writes.into_vec() {
+            self.add(plan, custom, write)?;
+        }
+        Ok(())
+    }
+
+    /// Folds a write in.
+    fn add<O: RowOp>(&mut self, plan: &Plan, custom: &O, write: Write) -> Result<(), Memory>
+        requires { length self.old.states.items ≡ length plan.now.components }
+        ensures length { length self.new.states.items ≡ length plan.now.components }
+        ensures more { OnOk result ((made : List Write)
+            → IsPiece plan.now (O.meaning custom.now) made self.old
+            → IsPiece plan.now (O.meaning custom.now) (made ++ write ∷ []) self.new) }
+    {
+        let Write {
+            state,
+            key,
+            amount,
+            ..
+        } = write;
+        self.writes = self.writes.saturating_add(1);
+        fold_write(&mut self.states, plan, custom, state, key, amount)
     }
 
     /// Merges the piece of the records that come next.
@@ -81,6 +113,33 @@ fn no_entries(alloc: Global) -> Entries
     ensures { entries_of result ≡ [] }
 {
     IndexMap::new(alloc)
+}
+
+/// Folds an amount into the value of a key of a state.
+fn fold_write<O: RowOp>(
+    states: &mut Vec<Entries>,
+    plan: &Plan,
+    custom: &O,
+    state: u32,
+    key: Txt,
+    amount: i64,
+) -> Result<(), Memory>
+    requires { length states.old.items ≡ length plan.now.components }
+    ensures length { length states.new.items ≡ length plan.now.components }
+    ensures fits { FitsSigned w64 amount }
+    ensures more { OnOk result ((made : List Write) (part : ℕ)
+        → AreRunningTables plan.now (O.meaning custom.now) made (pairs_by states.old.items)
+        → AreRunningTables plan.now (O.meaning custom.now)
+        (made ++ record { state = state; part = part; key = key; amount = amount } ∷ [])
+        (pairs_by states.new.items)) }
+{
+    if state >= plan.components() {
+        return Ok(());
+    }
+    match &plan.component(state).body {
+        Body::Bolt(_) => Ok(()),
+        Body::State(spec) => fold_in(&mut states[state as usize], custom, spec.fold, key, amount),
+    }
 }
 
 /// Merges the later values of each state.

@@ -2,18 +2,15 @@
 //! turn a row's values round, and states with the fold `custom` keep the first amount of a key.
 //!
 //! A run has a tick each 10 seconds, finds all partitions open, keeps the cells of its states in
-//! memory, and has its ids from ChaCha20 with a key of 32 zero bytes. `resume` alone keeps them, and
-//! what was committed, in files of the folder `storm_state`.
+//! memory, and has its ids from ChaCha20 with a key of 32 zero bytes.
 #![tactic(auto)]
 
 ghost use Rattle.std.specs.Prelude.{◌≡◌, map, replicate, string_bytes};
 ghost use Rattle.bolt_ops.specs.RowOp.{reversed_rows};
 ghost use Rattle.bolt_ops.specs.Stored.{Keeps};
-ghost use Rattle.storm.specs.Going.{goes_on};
 ghost use Rattle.storm.specs.Operation.{first, reversed_and_first, same};
 ghost use Rattle.storm_program.specs.storm_answers.Outside.{run_use, shelf_use, sink_use, ticks_use};
 ghost use Rattle.storm_program.specs.Storm.{Exits};
-ghost use Rattle.storm_program.specs.storm_resume.Keeping.{keeper_use};
 ghost use Rattle.storm_program.specs.stored_runs.Makers.{maker_use};
 ghost use Rattle.stored_folds.specs.Folds.{Keeps as KeepsFold};
 
@@ -21,9 +18,6 @@ mod arguments;
 
 use crate::arguments::words;
 use bolt_ops::{Reverse, RowFn, StoredOp, reversed_row};
-use kept_commits::KeptCommits;
-use part_files::{FileMaker, STATE_FOLDER};
-use resume_meta::{FileKeeper, Keeper, MemKeeper};
 use std::alloc::Global;
 use std::process::ExitCode;
 use std::sync::Wait;
@@ -42,7 +36,7 @@ use storm_values::Row;
 const LARGE: usize = 24 << 20;
 
 /// Carries out the words over some files, an output, ticks, partitions that are shut or open,
-/// stores, sources of ids and a keeper, and gives the exit status.
+/// stores and sources of ids, and gives the exit status.
 fn exit_status<
     R: Threads + Wait + Sync,
     H: Shelf,
@@ -51,7 +45,6 @@ fn exit_status<
     V: Avail,
     M: StoreMaker,
     N: IdMaker,
-    P: Keeper,
 >(
     rt: &R,
     alloc: Global,
@@ -62,7 +55,6 @@ fn exit_status<
     avail: &mut V,
     stores: &mut M,
     ids: &mut N,
-    keeper: &mut KeptCommits<P>,
 ) -> u8
 where
     N::I: Send,
@@ -73,14 +65,13 @@ where
         (run_use (maker_use M.C.tells M.C.fault_count M.holds M.has_made M.fault_count
         stores.old stores.new)
         (N.tells ids.old))
-        (keeper_use P.holds P.fault_count keeper.old.keeper keeper.new.keeper)
         (ticks_use T.handed_out T.tells ticks.old ticks.new) (V.tells avail.old) result }
 {
     let turn = |alloc: Global, row: &Row| reversed_row(alloc, row);
     let one = |amount: i64| i128::from(amount);
     let first = |earlier: i128, _later: i128| earlier;
     status_over(
-        rt, alloc, words, shelf, out, ticks, avail, stores, ids, keeper, turn, one, first,
+        rt, alloc, words, shelf, out, ticks, avail, stores, ids, turn, one, first,
     )
 }
 
@@ -93,7 +84,6 @@ fn status_over<
     V: Avail,
     M: StoreMaker,
     N: IdMaker,
-    P: Keeper,
     F: RowFn + Sync + Drop,
     A: OneFn + Sync + Drop,
     B: CombineFn + Sync + Drop,
@@ -107,7 +97,6 @@ fn status_over<
     avail: &mut V,
     stores: &mut M,
     ids: &mut N,
-    keeper: &mut KeptCommits<P>,
     turn: F,
     one: A,
     combine: B,
@@ -124,7 +113,6 @@ where
         (run_use (maker_use M.C.tells M.C.fault_count M.holds M.has_made M.fault_count
         stores.old stores.new)
         (N.tells ids.old))
-        (keeper_use P.holds P.fault_count keeper.old.keeper keeper.new.keeper)
         (ticks_use T.handed_out T.tells ticks.old ticks.new) (V.tells avail.old) result }
 {
     let mut fates = Fates::new(alloc);
@@ -132,7 +120,7 @@ where
     let op = StoredFold::<First, StoredOp<Reverse, F>, A, B>::new(rows, one, combine);
     let gate = OpenGate {};
     let status = storm(
-        rt, alloc, words, shelf, out, ticks, avail, stores, ids, &op, &gate, keeper, &mut fates,
+        rt, alloc, words, shelf, out, ticks, avail, stores, ids, &op, &gate, &mut fates,
     );
     status.code()
 }
@@ -151,56 +139,27 @@ fn ids_of_key_zero() -> ChaChaMaker
     ChaChaMaker { key: [0; 32] }
 }
 
-/// Whether the words are those of a run that goes on, whose state outlives the process.
-fn goes_on(words: &[String]) -> bool
-    ensures { result ≡ goes_on (map string_bytes words.now) }
-{
-    match words.first() {
-        Some(verb) => verb.as_str() == "resume",
-        None => false,
-    }
-}
-
 fn main(rt: HostRuntime) -> ExitCode {
     let alloc = rt.alloc();
     keep_what_is_freed(alloc);
     let Ok(words) = words(&rt, alloc) else {
         return ExitCode::from(Status::Memory.code());
     };
-    let words = words.as_slice();
     let mut shelf = FileShelf::new(&rt);
     let mut out = OutSink::new(&rt);
     let mut ticks = ClockTicks::new(&rt);
+    let mut stores = MemMaker::new(alloc);
     let mut ids = ids_of_key_zero();
-    let code = if goes_on(words) {
-        let Ok(meta) = FileKeeper::new(&rt, alloc, STATE_FOLDER) else {
-            return ExitCode::from(Status::Memory.code());
-        };
-        exit_status(
-            &rt,
-            alloc,
-            words,
-            &mut shelf,
-            &mut out,
-            &mut ticks,
-            &mut AllOpen,
-            &mut FileMaker::new(&rt, alloc),
-            &mut ids,
-            &mut KeptCommits::new(alloc, meta),
-        )
-    } else {
-        exit_status(
-            &rt,
-            alloc,
-            words,
-            &mut shelf,
-            &mut out,
-            &mut ticks,
-            &mut AllOpen,
-            &mut MemMaker::new(alloc),
-            &mut ids,
-            &mut KeptCommits::new(alloc, MemKeeper::new(alloc, None)),
-        )
-    };
+    let code = exit_status(
+        &rt,
+        alloc,
+        words.as_slice(),
+        &mut shelf,
+        &mut out,
+        &mut ticks,
+        &mut AllOpen,
+        &mut stores,
+        &mut ids,
+    );
     ExitCode::from(code)
 }

@@ -12,7 +12,7 @@ use Rattle.topology_reader.specs.Faults.{fault_text}
 abbrev pub usage : List ℕ
 usage =
     codes "usage: storm check T | plain T I | replay T I S | run T I [W] "
-    ++ codes "| load N SEED | resume T I [W] | track T I [W] | fold T I [W]\n"
+    ++ codes "| load N SEED | track T I [W] | fold T I [W]\n"
 
 -- the lines that refuse a topology, an input and a schedule
 abbrev pub topology_line : TopoFault → List ℕ

@@ -8,8 +8,6 @@
 
 ghost use Rattle.std.specs.Prelude.{[]};
 
-use kept_commits::KeptCommits;
-use resume_meta::MemKeeper;
 use sample_operations::First;
 use std::alloc::Global;
 use std::process::ExitCode;
@@ -189,7 +187,6 @@ where
     let mut out = MemSink::new(alloc, ROOM, ROOM)?;
     let mut ticks = ticks(alloc, handed)?;
     let mut stores = stores(alloc, handed)?;
-    let mut keeper = KeptCommits::new(alloc, MemKeeper::new(alloc, None));
     let mut fates = Fates::new(alloc);
     let _ = storm(
         rt,
@@ -203,7 +200,6 @@ where
         ids,
         &First,
         &OpenGate {},
-        &mut keeper,
         &mut fates,
     );
     Ok(out)

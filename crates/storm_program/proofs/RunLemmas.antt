@@ -1,5 +1,5 @@
 -- What a check, a `plain`, a run and a replay come to, from what their parts came to.
-use Rattle.std.proofs.Common.{◌≡◌, ◌⊎◌, ◌<◌, ℕ, List, [], All, Option, Some, None, Result, Ok, Err, IfOk, String, string_bytes, inl, inr, refl, sym, subst, sum}
+use Rattle.std.proofs.Common.{◌≡◌, ◌⊎◌, ◌<◌, ℕ, List, [], All, Option, Some, None, Result, Ok, Err, IfOk, String, string_bytes, inl, inr, sym, subst, sum}
 use Rattle.event_worlds.specs.bolt_ops.RowOp.{Custom}
 use Rattle.event_worlds.specs.attempt_fates.declared.fates.Attempt.{Attempt}
 use Rattle.event_worlds.specs.Rounds.{HasRounds, rounds_needed}
@@ -23,14 +23,12 @@ use Rattle.storm_resume.specs.storm_answers.Reports.{EndsSo, IsReport, cut_by}
 use Rattle.storm_resume.specs.storm_answers.Runs.{IsNotBegun, IsShort, IsUnhindered, ticks_of_run}
 use Rattle.storm_program.specs.Run.{MustCommitAll, RunComes}
 use Rattle.storm_resume.specs.storm_answers.Schedules.{AllFilesCome, AreAllAccepted}
-use Rattle.storm_program.specs.Storm.{ComesOfWords, KeepsBy, WordsCome, command_promise, promise}
+use Rattle.storm_program.specs.Storm.{ComesOfWords, IsNotStarted, WordsCome, command_promise, promise}
 use Rattle.storm_resume.specs.storm_answers.Texts.{usage}
 use Rattle.storm_program.specs.Track.{TrackComes, track_promise}
-use Rattle.storm_resume.specs.Keeping.{IsUnchanged, KeeperUse, keeper_use}
-use Rattle.resume_meta.specs.Keepers.{Held}
 use Rattle.storm_words.specs.Words.{Command, check, plain, load, track, fold_over}
 use Rattle.storm_resume.specs.storm_answers.steps.Stops.{IsWritten}
-use Rattle.storm_resume.proofs.storm_answers.EndLemmas.{Ends-weaker, ends_written}
+use Rattle.storm_resume.proofs.storm_answers.EndLemmas.{Ends-weaker, ends_memory, ends_written}
 use Rattle.event_worlds.specs.storm_values.declared.value.Value.{Value}
 use Rattle.event_worlds.specs.storm_values.Lines.{records_of}
 use Rattle.storm_resume.specs.stored_runs.Makers.{IsUntouched}
@@ -158,54 +156,50 @@ module _ (custom : Custom) (shelf : ShelfUse) (base : RunUse) (topology input sc
 -- ---- the call by words
 
 -- what a command comes to of its own, the call comes to
-of_own : (shelf : ShelfUse) (base : RunUse) (keeper : KeeperUse) (fates : List Attempt) (Comes : Status → List ℕ → Type 0) (s : Status) (text : List ℕ) → Comes s text → ComesOfWords shelf base keeper fates Comes s text
-of_own shelf base keeper fates Comes status.Memory text comes = inl comes
-of_own shelf base keeper fates Comes _ text comes = comes
+of_own : (shelf : ShelfUse) (base : RunUse) (fates : List Attempt) (Comes : Status → List ℕ → Type 0) (s : Status) (text : List ℕ) → Comes s text → ComesOfWords shelf base fates Comes s text
+of_own shelf base fates Comes status.Memory text comes = inl comes
+of_own shelf base fates Comes _ text comes = comes
 
-module _ (custom : Custom) (shelf : ShelfUse) (sink : SinkUse) (base : RunUse) (keeper : KeeperUse) (ticks : TicksUse) (availing : List ℕ → Type 0) (fates : List Attempt) (said : Option Command) (answer : Status) where
+module _ (custom : Custom) (shelf : ShelfUse) (sink : SinkUse) (base : RunUse) (ticks : TicksUse) (availing : List ℕ → Type 0) (fates : List Attempt) (said : Option Command) (answer : Status) where
   -- an end of the command that the words give is one of the call
-  pub ends_own : (given : Option Command) → said ≡ given → Ends (command_promise custom shelf sink base keeper ticks availing fates given).comes sink answer → Ends (promise custom shelf sink base keeper ticks availing fates said).comes sink answer
+  pub ends_own : (given : Option Command) → said ≡ given → Ends (command_promise custom shelf sink base ticks availing fates given).comes sink answer → Ends (promise custom shelf sink base ticks availing fates said).comes sink answer
   ends_own given is ends =
-      let Own : Status → List ℕ → Type 0 = (command_promise custom shelf sink base keeper ticks availing fates given).comes in
-      subst (λ c. Ends (promise custom shelf sink base keeper ticks availing fates c).comes sink answer) (sym is)
-      (Ends-weaker Own (ComesOfWords shelf base keeper fates Own) sink answer (of_own shelf base keeper fates Own) ends)
+      let Own : Status → List ℕ → Type 0 = (command_promise custom shelf sink base ticks availing fates given).comes in
+      subst (λ c. Ends (promise custom shelf sink base ticks availing fates c).comes sink answer) (sym is)
+      (Ends-weaker Own (ComesOfWords shelf base fates Own) sink answer (of_own shelf base fates Own) ends)
 
-  pub ends_check : (topology : List ℕ) → said ≡ Some (check topology) → fates ≡ [] → IsUntouched base.stores → Ends (CheckComes shelf topology) sink answer → Ends (promise custom shelf sink base keeper ticks availing fates said).comes sink answer
+  pub ends_check : (topology : List ℕ) → said ≡ Some (check topology) → fates ≡ [] → IsUntouched base.stores → Ends (CheckComes shelf topology) sink answer → Ends (promise custom shelf sink base ticks availing fates said).comes sink answer
   ends_check topology is none idle ends =
       ends_own (Some (check topology)) is
       (Ends-weaker (CheckComes shelf topology) (check_promise shelf base.stores fates topology).comes sink answer (λ s text comes. (comes, none, idle)) ends)
 
-  pub ends_plain : (topology input : List ℕ) → said ≡ Some (plain topology input) → fates ≡ [] → IsUntouched base.stores → Ends (PlainComes custom shelf topology input) sink answer → Ends (promise custom shelf sink base keeper ticks availing fates said).comes sink answer
+  pub ends_plain : (topology input : List ℕ) → said ≡ Some (plain topology input) → fates ≡ [] → IsUntouched base.stores → Ends (PlainComes custom shelf topology input) sink answer → Ends (promise custom shelf sink base ticks availing fates said).comes sink answer
   ends_plain topology input is none idle ends =
       ends_own (Some (plain topology input)) is
       (Ends-weaker (PlainComes custom shelf topology input) (plain_promise custom shelf base.stores fates topology input).comes sink answer (λ s text comes. (comes, none, idle)) ends)
 
   -- a fold comes to what `plain` does
-  pub ends_fold : (topology input : List ℕ) (workers : ℕ) → said ≡ Some (fold_over topology input workers) → fates ≡ [] → IsUntouched base.stores → Ends (PlainComes custom shelf topology input) sink answer → Ends (promise custom shelf sink base keeper ticks availing fates said).comes sink answer
+  pub ends_fold : (topology input : List ℕ) (workers : ℕ) → said ≡ Some (fold_over topology input workers) → fates ≡ [] → IsUntouched base.stores → Ends (PlainComes custom shelf topology input) sink answer → Ends (promise custom shelf sink base ticks availing fates said).comes sink answer
   ends_fold topology input workers is none idle ends =
       ends_own (Some (fold_over topology input workers)) is
       (Ends-weaker (PlainComes custom shelf topology input) (plain_promise custom shelf base.stores fates topology input).comes sink answer (λ s text comes. (comes, none, idle)) ends)
 
-  pub ends_track : (topology input : List ℕ) (workers : ℕ) → said ≡ Some (track topology input workers) → fates ≡ [] → IsUntouched base.stores → Ends (TrackComes custom shelf topology input) sink answer → Ends (promise custom shelf sink base keeper ticks availing fates said).comes sink answer
+  pub ends_track : (topology input : List ℕ) (workers : ℕ) → said ≡ Some (track topology input workers) → fates ≡ [] → IsUntouched base.stores → Ends (TrackComes custom shelf topology input) sink answer → Ends (promise custom shelf sink base ticks availing fates said).comes sink answer
   ends_track topology input workers is none idle ends =
       ends_own (Some (track topology input workers)) is
       (Ends-weaker (TrackComes custom shelf topology input) (track_promise custom shelf base.stores fates topology input).comes sink answer (λ s text comes. (comes, none, idle)) ends)
 
-  pub ends_load : (count seed : ℕ) → said ≡ Some (load count seed) → shelf.fetches_after ≡ shelf.fetches_before → Ends (LoadComes custom base count seed fates) sink answer → Ends (promise custom shelf sink base keeper ticks availing fates said).comes sink answer
+  pub ends_load : (count seed : ℕ) → said ≡ Some (load count seed) → shelf.fetches_after ≡ shelf.fetches_before → Ends (LoadComes custom base count seed fates) sink answer → Ends (promise custom shelf sink base ticks availing fates said).comes sink answer
   ends_load count seed is still ends =
       ends_own (Some (load count seed)) is
       (Ends-weaker (LoadComes custom base count seed fates) (load_promise custom shelf sink base fates count seed).comes sink answer (λ s text comes. (still, comes)) ends)
 
   -- words that are no command come to the usage line
-  pub ends_words : (text : List ℕ) → said ≡ None → IsNotBegun base fates → shelf.fetches_after ≡ shelf.fetches_before → text ≡ usage → IsWritten status.Words text sink answer → Ends (promise custom shelf sink base keeper ticks availing fates said).comes sink answer
+  pub ends_words : (text : List ℕ) → said ≡ None → IsNotBegun base fates → shelf.fetches_after ≡ shelf.fetches_before → text ≡ usage → IsWritten status.Words text sink answer → Ends (promise custom shelf sink base ticks availing fates said).comes sink answer
   ends_words text none idle still line written =
       ends_own None none (ends_written (WordsCome shelf base fates) sink status.Words answer text tt (still, line, idle) written)
 
--- ---- what is kept
-
--- a keeper that was not called
-pub unchanged : {P : Type 0} (holds : P → Held → Type 0) (count : P → ℕ) (keeper : P) → IsUnchanged (keeper_use holds count keeper keeper)
-unchanged holds count keeper = record { same = λ held told. told; no_fault = refl }
-
-pub kept_still : (said given : Option Command) (keeper : KeeperUse) → said ≡ given → KeepsBy given keeper → KeepsBy said keeper
-kept_still said given keeper is kept = subst (λ (c : Option Command). KeepsBy c keeper) (sym is) kept
+-- want of memory for the words comes before all else
+pub ends_short : (custom : Custom) (shelf : ShelfUse) (sink : SinkUse) (base : RunUse) (ticks : TicksUse) (availing : List ℕ → Type 0) (fates : List Attempt) (said : Option Command) → IsNotStarted shelf base fates → sink.taken_after ≡ sink.taken_before → Ends (promise custom shelf sink base ticks availing fates said).comes sink status.Memory
+ends_short custom shelf sink base ticks availing fates said idle nothing =
+    ends_memory (promise custom shelf sink base ticks availing fates said).comes sink (inr idle) nothing

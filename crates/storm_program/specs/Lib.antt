@@ -6,6 +6,5 @@ pub mod Run
 pub mod Storm
 pub mod Track
 pub mod steps
-pub use Rattle.storm_resume.specs as storm_resume
 pub use Rattle.storm_resume.specs.storm_answers as storm_answers
 pub use Rattle.storm_resume.specs.stored_runs as stored_runs

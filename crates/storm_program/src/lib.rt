@@ -19,4 +19,3 @@ pub use program::{
 };
 pub use storm_resume::stored_runs::{RunEnd, replay_over};
 pub use storm_resume::storm_answers::Status;
-pub use storm_resume::storm_resume;

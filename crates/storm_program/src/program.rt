@@ -7,9 +7,8 @@ ghost use Rattle.storm_resume.specs.storm_answers.Outside.{run_use, shelf_use, s
 ghost use Rattle.storm_program.specs.Plain.{PlainComes, PlainCalls};
 ghost use Rattle.storm_program.specs.Replay.{ReplayComes, ReplayCalls, ReplayMustFinish};
 ghost use Rattle.storm_program.specs.Run.{RunComes, RunCalls, MustFinish};
-ghost use Rattle.storm_program.specs.Storm.{KeepsBy, promise};
+ghost use Rattle.storm_program.specs.Storm.{promise};
 ghost use Rattle.storm_program.specs.Track.{TrackCalls, TrackComes};
-ghost use Rattle.storm_resume.specs.Keeping.{keeper_use};
 ghost use Rattle.storm_words.specs.Words.{command};
 ghost use Rattle.storm_resume.specs.stored_runs.Makers.{maker_use};
 
@@ -23,8 +22,6 @@ use crate::track::track_files;
 use event_worlds::attempt_fates::Fates;
 use event_worlds::bolt_ops::RowOp;
 use event_worlds::storm_ids::IdMaker;
-use kept_commits::KeptCommits;
-use resume_meta::Keeper;
 use std::alloc::Global;
 use std::sync::Wait;
 use std::thread::Threads;
@@ -32,18 +29,17 @@ use storm_avail::Avail;
 use storm_gates::Gate;
 use storm_outside::{Shelf, Sink};
 use storm_resume::storm_answers::{Status, write_answer, write_text};
-use storm_resume::storm_resume;
 use storm_stores::StoreMaker;
 use storm_ticks::Ticks;
 use storm_words::{Command, USAGE, read_words};
 
 /// Carries out the command that the words after the program's name give.
 ///
-/// The words are those of `check`, `plain`, `replay`, `run`, `load`, `resume`, `track` and `fold`;
-/// all others get the usage line. Bolts with the operation `custom`, and states with the fold `custom`, do
+/// The words are those of `check`, `plain`, `replay`, `run`, `load`, `track` and `fold`; all others
+/// get the usage line. Bolts with the operation `custom`, and states with the fold `custom`, do
 /// what is handed in. Stores are made by `stores` and given back, ids come of sources that `ids`
 /// makes, ticks of `ticks`, and which partitions of a run are shut of `avail`. A run of two workers
-/// or more passes `gate` before each execution. `resume` goes on from what `keeper` holds.
+/// or more passes `gate` before each execution.
 pub fn storm<
     R: Threads + Wait + Sync,
     H: Shelf,
@@ -54,7 +50,6 @@ pub fn storm<
     N: IdMaker,
     O: RowOp,
     G: Gate,
-    P: Keeper,
 >(
     rt: &R,
     alloc: Global,
@@ -67,7 +62,6 @@ pub fn storm<
     ids: &mut N,
     custom: &O,
     gate: &G,
-    keeper: &mut KeptCommits<P>,
     fates: &mut Fates,
 ) -> Status
 where
@@ -83,7 +77,6 @@ where
         (run_use
         (maker_use M.C.tells M.C.fault_count M.holds M.has_made M.fault_count
         stores.old stores.new) (N.tells ids.old))
-        (keeper_use P.holds P.fault_count keeper.old.keeper keeper.new.keeper)
         (ticks_use T.handed_out T.tells ticks.old ticks.new) (V.tells avail.old) fates.new
         (command (map string_bytes words.now))).comes
         (sink_use K.taken K.faults out.old out.new) result }
@@ -96,20 +89,18 @@ where
         (run_use
         (maker_use M.C.tells M.C.fault_count M.holds M.has_made M.fault_count
         stores.old stores.new) (N.tells ids.old))
-        (keeper_use P.holds P.fault_count keeper.old.keeper keeper.new.keeper)
         (ticks_use T.handed_out T.tells ticks.old ticks.new) (V.tells avail.old) fates.new
         (command (map string_bytes words.now))).calls
         (shelf_use H.holds H.ready H.fetches H.faults shelf.old shelf.new)
         (sink_use K.taken K.faults out.old out.new) result }
 
-    // Where nothing is in its way a run, a replay or a run that goes on commits every batch.
+    // Where nothing is in its way a run or a replay commits every batch.
     ensures finishes { (promise (O.meaning custom.now)
         (shelf_use H.holds H.ready H.fetches H.faults shelf.old shelf.new)
         (sink_use K.taken K.faults out.old out.new)
         (run_use
         (maker_use M.C.tells M.C.fault_count M.holds M.has_made M.fault_count
         stores.old stores.new) (N.tells ids.old))
-        (keeper_use P.holds P.fault_count keeper.old.keeper keeper.new.keeper)
         (ticks_use T.handed_out T.tells ticks.old ticks.new) (V.tells avail.old) fates.new
         (command (map string_bytes words.now))).must_finish
         → IsDoneOrShort result }
@@ -119,10 +110,6 @@ where
         (sink_use K.taken K.faults out.old out.new)
         (maker_use M.C.tells M.C.fault_count M.holds M.has_made M.fault_count
         stores.old stores.new) }
-
-    // Only a run that goes on has to do with the keeper.
-    ensures kept { KeepsBy (command (map string_bytes words.now))
-        (keeper_use P.holds P.fault_count keeper.old.keeper keeper.new.keeper) }
 {
     let command = match read_words(alloc, words) {
         Ok(Some(command)) => command,
@@ -152,14 +139,6 @@ where
         Command::Load { records, seed } => {
             storm_load(alloc, records, seed, out, stores, ids, custom, fates)
         }
-        Command::Resume {
-            topology,
-            input,
-            workers,
-        } => storm_resume(
-            rt, alloc, topology, input, workers, shelf, out, ticks, avail, stores, ids, custom,
-            gate, keeper, fates,
-        ),
         Command::Track {
             topology,
             input,

@@ -114,7 +114,7 @@ const REFUSED_INPUTS: [(&str, &str); 7] = [
 ];
 
 const USAGE: &str = "usage: storm check T | plain T I | replay T I S | run T I [W] \
-     | load N SEED | resume T I [W] | track T I [W] | fold T I [W]\n";
+     | load N SEED | track T I [W] | fold T I [W]\n";
 
 // Words that are no command.
 const NO_COMMANDS: [&[&str]; 47] = [

@@ -1,11 +1,7 @@
 // Calls of `storm` over what is outside in memory.
-use crate::outside::{
-    Outside, keeper, scripted_ids, scripted_ticks, shelf, sink, stores, taken,
-};
+use crate::outside::{Outside, scripted_ids, scripted_ticks, shelf, sink, stores, taken};
 use crate::scenes::{Scene, owned};
 use bolt_ops::RowOp;
-use kept_commits::KeptCommits;
-use resume_meta::MemKeeper;
 use sample_operations::Backwards;
 use std::alloc::Global;
 use std::sync::Wait;
@@ -14,7 +10,6 @@ use storm_avail::AllOpen;
 use storm_gates::{Gate, OpenGate};
 use storm_ids::{ChaChaMaker, IdMaker};
 use storm_program::{Attempt, End, Fates, Status, storm};
-use storm_stores::MemMaker;
 use storm_values::{Memory, Root, Seq};
 use test_kit::{Mismatch, compare, lines_without};
 
@@ -31,16 +26,14 @@ pub struct Fate {
     pub committed: bool,
 }
 
-/// What a call answered, what it wrote, its fates, how often the stores that came back and the
-/// keeper have failed, and the text that the keeper holds, where it holds one.
+/// What a call answered, what it wrote, its fates, and how often the stores that came back have
+/// failed.
 #[derive(Debug, Drop)]
 pub struct Told {
     pub status: Status,
     pub text: String,
     pub fates: Seq<Fate>,
     pub store_faults: u64,
-    pub keeper_faults: u64,
-    pub kept: Option<String>,
 }
 
 /// Calls `storm`.
@@ -85,29 +78,6 @@ pub fn call_custom<R: Threads + Wait + Sync, O: RowOp>(
     call_with(rt, alloc, scene, outside, &mut ids, custom, &OpenGate {})
 }
 
-/// Calls `storm` over stores and a keeper that were there before, with the ids of the program.
-pub fn call_over<R: Threads + Wait + Sync>(
-    rt: &R,
-    alloc: Global,
-    scene: Scene<'_>,
-    outside: Outside<'_>,
-    stores: &mut MemMaker,
-    keeper: &mut KeptCommits<MemKeeper>,
-) -> Result<Told, Mismatch> {
-    let mut ids = ChaChaMaker { key: [0; 32] };
-    call_whole(
-        rt,
-        alloc,
-        scene,
-        outside,
-        &mut ids,
-        &Backwards,
-        &OpenGate {},
-        stores,
-        keeper,
-    )
-}
-
 fn call_with<R: Threads + Wait + Sync, N: IdMaker, O: RowOp, G: Gate>(
     rt: &R,
     alloc: Global,
@@ -120,39 +90,11 @@ fn call_with<R: Threads + Wait + Sync, N: IdMaker, O: RowOp, G: Gate>(
 where
     N::I: Send,
 {
-    let mut stores = stores(alloc, outside)?;
-    let mut keeper = keeper(alloc, outside)?;
-    call_whole(
-        rt,
-        alloc,
-        scene,
-        outside,
-        ids,
-        custom,
-        gate,
-        &mut stores,
-        &mut keeper,
-    )
-}
-
-fn call_whole<R: Threads + Wait + Sync, N: IdMaker, O: RowOp, G: Gate>(
-    rt: &R,
-    alloc: Global,
-    scene: Scene<'_>,
-    outside: Outside<'_>,
-    ids: &mut N,
-    custom: &O,
-    gate: &G,
-    stores: &mut MemMaker,
-    keeper: &mut KeptCommits<MemKeeper>,
-) -> Result<Told, Mismatch>
-where
-    N::I: Send,
-{
     let words = owned(alloc, scene.words)?;
     let mut shelf = shelf(alloc, scene, outside)?;
     let mut sink = sink(alloc, outside)?;
     let mut ticks = scripted_ticks(alloc, outside.ticks)?;
+    let mut stores = stores(alloc, outside)?;
     let mut fates = Fates::new(alloc);
     let status = storm(
         rt,
@@ -162,11 +104,10 @@ where
         &mut sink,
         &mut ticks,
         &mut AllOpen,
-        stores,
+        &mut stores,
         ids,
         custom,
         gate,
-        keeper,
         &mut fates,
     );
     Ok(Told {
@@ -174,20 +115,7 @@ where
         text: taken(alloc, &sink)?,
         fates: fates_told(alloc, &fates)?,
         store_faults: stores.faults(),
-        keeper_faults: keeper.keeper.faults(),
-        kept: kept(alloc, &keeper.keeper)?,
     })
-}
-
-/// The text that a keeper holds, where it holds one.
-pub fn kept(alloc: Global, keeper: &MemKeeper) -> Result<Option<String>, Mismatch> {
-    let Some(bytes) = keeper.held() else {
-        return Ok(None);
-    };
-    match str::from_utf8(bytes) {
-        Ok(text) => Ok(Some(String::from_str(alloc, text)?)),
-        Err(_) => bad_case(alloc, "kept bytes").map(|_| None),
-    }
 }
 
 fn fates_told(alloc: Global, fates: &Fates) -> Result<Seq<Fate>, Memory> {
@@ -223,8 +151,8 @@ pub fn check_call<R: Threads + Wait + Sync>(
     check_answer(alloc, &call(rt, alloc, scene, outside)?, code, want)
 }
 
-/// Calls `storm`, which ends with this status, writes this text, tells no fate of an attempt, lets
-/// no store fail, and leaves the keeper alone.
+/// Calls `storm`, which ends with this status, writes this text, tells no fate of an attempt, and
+/// lets no store fail.
 pub fn check_refusal<R: Threads + Wait + Sync>(
     rt: &R,
     alloc: Global,
@@ -235,10 +163,7 @@ pub fn check_refusal<R: Threads + Wait + Sync>(
 ) -> Result<(), Mismatch> {
     let told = call(rt, alloc, scene, outside)?;
     check_answer(alloc, &told, code, want)?;
-    let held = outside.kept.unwrap_or("");
-    let holds = told.kept.as_ref().map_or("", |text| text.as_str());
-    let left_alone = told.fates.is_empty() && told.store_faults == 0 && held == holds;
-    if left_alone {
+    if told.fates.is_empty() && told.store_faults == 0 {
         Ok(())
     } else {
         bad_case(alloc, "fates of a refusal")

@@ -1,10 +1,8 @@
-// Files, an output, ticks, stores, ids and a keeper in memory.
+// Files, an output, ticks, stores and ids in memory.
 ghost use Rattle.std.specs.Prelude.{ℕ};
 ghost use Rattle.storm_stores.specs.MemoryMaker.{HasMade};
 
 use crate::scenes::Scene;
-use kept_commits::KeptCommits;
-use resume_meta::MemKeeper;
 use std::alloc::Global;
 use storm_ids::{ScriptIds, Words};
 use storm_outside::{MemShelf, MemSink};
@@ -26,8 +24,7 @@ pub type Script = [&'static [u64]; 3];
 /// 1. None has the number 0.
 ///
 /// Ticks pass as the list says, one item a question, and then none. Where no words are named the
-/// ids are those of ChaCha20 with a key of 32 zero bytes. Stores begin with the cells, and the
-/// keeper with what is kept, or with nothing; of a save that fails it is said whether it happens.
+/// ids are those of ChaCha20 with a key of 32 zero bytes. Stores begin with the cells.
 #[derive(Clone, Copy)]
 pub struct Outside<'a> {
     pub read: usize,
@@ -40,9 +37,6 @@ pub struct Outside<'a> {
     pub words: Option<&'a Script>,
     pub cells: &'a [Cell],
     pub failing: &'a [Failing],
-    pub kept: Option<&'a str>,
-    pub failing_load: u64,
-    pub failing_save: (u64, bool),
 }
 
 /// Nothing fails, no tick passes, and no store has a cell.
@@ -57,9 +51,6 @@ pub const CALM: Outside<'static> = Outside {
     words: None,
     cells: &[],
     failing: &[],
-    kept: None,
-    failing_load: 0,
-    failing_save: (0, false),
 };
 
 // ---- files and the output
@@ -150,24 +141,6 @@ fn refuse(stores: &mut MemMaker, component: u32, part: u32, at: FailAt) -> Resul
 
 fn bytes_of(alloc: Global, bytes: &[u8]) -> Result<Bytes, Memory> {
     Ok(Bytes::from_vec(bytes.to_vec(alloc)?))
-}
-
-// ---- the keeper
-
-/// The keeper of a call.
-pub fn keeper(
-    alloc: Global,
-    outside: Outside<'_>,
-) -> Result<KeptCommits<MemKeeper>, Memory> {
-    let held = match outside.kept {
-        Some(text) => Some(bytes_of(alloc, text.as_bytes())?),
-        None => None,
-    };
-    let mut keeper = MemKeeper::new(alloc, held);
-    keeper.fail_load(outside.failing_load)?;
-    let (number, happened) = outside.failing_save;
-    keeper.fail_save(number, happened)?;
-    Ok(KeptCommits::new(alloc, keeper))
 }
 
 // ---- ids and ticks

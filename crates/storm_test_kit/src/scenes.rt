@@ -12,9 +12,6 @@ pub const RUN: [&str; 3] = ["run", "t", "i"];
 /// The words of a run by one worker, which takes the same steps in the same order each time.
 pub const RUN_ALONE: [&str; 4] = ["run", "t", "i", "1"];
 
-/// The words of a run that goes on, by one worker.
-pub const RESUME_ALONE: [&str; 4] = ["resume", "t", "i", "1"];
-
 /// The words of a replay.
 pub const REPLAY: [&str; 4] = ["replay", "t", "i", "s"];
 
@@ -47,14 +44,6 @@ pub fn run_of<'a>(topology: &'a str, input: &'a str) -> Scene<'a> {
 pub fn run_alone<'a>(topology: &'a str, input: &'a str) -> Scene<'a> {
     Scene {
         words: &RUN_ALONE,
-        ..run_of(topology, input)
-    }
-}
-
-/// The scene of a run that goes on, by one worker.
-pub fn resume_of<'a>(topology: &'a str, input: &'a str) -> Scene<'a> {
-    Scene {
-        words: &RESUME_ALONE,
         ..run_of(topology, input)
     }
 }

@@ -6,10 +6,10 @@ use test_kit::{Mismatch, compare};
 const NONE: &str = "none";
 
 const USAGE_LINE: &str = "usage: storm check T | plain T I | replay T I S | run T I [W] \
-     | load N SEED | resume T I [W] | track T I [W] | fold T I [W]\n";
+     | load N SEED | track T I [W] | fold T I [W]\n";
 
 // Words, and their command with its texts and numbers between bars.
-const COMMANDS: [(&[&str], &str); 51] = [
+const COMMANDS: [(&[&str], &str); 45] = [
     (&["check", "t"], "check|t"),
     (&["check", "check"], "check|check"),
     (&["check", "help"], "check|help"),
@@ -43,12 +43,6 @@ const COMMANDS: [(&[&str], &str); 51] = [
     (&["load", "9999", "65534"], "load|9999|65534"),
     (&["load", "10000", "65535"], "load|10000|65535"),
     (&["load", "010", "0010"], "load|10|10"),
-    (&["resume", "t", "i"], "resume|t|i|4"),
-    (&["resume", "t", "t"], "resume|t|t|4"),
-    (&["resume", "t", "i", "1"], "resume|t|i|1"),
-    (&["resume", "t", "i", "08"], "resume|t|i|8"),
-    (&["resume", "t", "i", "00064"], "resume|t|i|64"),
-    (&["resume", "resume", "run", "64"], "resume|resume|run|64"),
     (&["track", "t", "i"], "track|t|i|4"),
     (&["track", "t", "t"], "track|t|t|4"),
     (&["track", "t", "i", "1"], "track|t|i|1"),
@@ -64,7 +58,7 @@ const COMMANDS: [(&[&str], &str); 51] = [
 ];
 
 // Words that are no command: too few of them, or too many.
-const TOO_FEW_OR_MANY: [&[&str]; 31] = [
+const TOO_FEW_OR_MANY: [&[&str]; 27] = [
     &[],
     &["check"],
     &["check", "t", "u"],
@@ -83,10 +77,6 @@ const TOO_FEW_OR_MANY: [&[&str]; 31] = [
     &["load"],
     &["load", "1"],
     &["load", "1", "1", "1"],
-    &["resume"],
-    &["resume", "t"],
-    &["resume", "t", "i", "4", "4"],
-    &["resume", "t", "i", "4", "5", "6"],
     &["track"],
     &["track", "t"],
     &["track", "t", "i", "4", "4"],
@@ -99,7 +89,7 @@ const TOO_FEW_OR_MANY: [&[&str]; 31] = [
 ];
 
 // No command has the name of the first of these.
-const OTHER_NAMES: [&[&str]; 22] = [
+const OTHER_NAMES: [&[&str]; 19] = [
     &["t"],
     &["t", "check"],
     &["help"],
@@ -108,9 +98,6 @@ const OTHER_NAMES: [&[&str]; 22] = [
     &["Check", "t"],
     &["CHECK", "t"],
     &["Load", "1", "1"],
-    &["Resume", "t", "i"],
-    &["resum", "t", "i"],
-    &["resumes", "t", "i"],
     &["Track", "t", "i"],
     &["trac", "t", "i"],
     &["tracks", "t", "i"],
@@ -156,8 +143,8 @@ const NO_WORDS: [&[&str]; 28] = [
     &["load", "-1", "1"],
 ];
 
-// The last word of a run, of one that goes on, of a tracking or of a fold, and words of a load,
-// that are no number within its range.
+// The last word of a run, a tracking or a fold, and words of a load, that are no number within its
+// range.
 const NO_WORKERS: [&str; 16] = [
     "0", "00000", "65", "00065", "99999", "100000", "000004", "+4", "4.0", "4 ", " 4", "four",
     "0x4", "1e1", "4,0", "٤",
@@ -206,13 +193,6 @@ fn told(alloc: Global, words: &[&str]) -> Result<String, Mismatch> {
         ) => format!(in alloc; "run|{topology}|{input}|{workers}")?,
         Some(Command::Load { records, seed }) => format!(in alloc; "load|{records}|{seed}")?,
         Some(
-            Command::Resume {
-                topology,
-                input,
-                workers,
-            },
-        ) => format!(in alloc; "resume|{topology}|{input}|{workers}")?,
-        Some(
             Command::Track {
                 topology,
                 input,
@@ -260,7 +240,6 @@ fn words_of_none(rt: HostRuntime) -> Result<(), Mismatch> {
     check_none(alloc, &NO_LOADS)?;
     for workers in NO_WORKERS {
         check(alloc, &["run", "t", "i", workers], NONE)?;
-        check(alloc, &["resume", "t", "i", workers], NONE)?;
         check(alloc, &["track", "t", "i", workers], NONE)?;
         check(alloc, &["fold", "t", "i", workers], NONE)?;
     }

@@ -17,7 +17,7 @@ use Rattle.clap.specs.Faults.{defaults_fault, walk_fault}
 use Rattle.storm_words.specs.Words.{Command, command, is_word, command_of}
 use Rattle.storm_words.specs.steps.Parser.{storm_app}
 use Rattle.storm_words.proofs.Walks.{ending, strays}
-use Rattle.storm_words.proofs.Verbs.{Agrees, accepted, app, check_agrees, fold_agrees, is_none, load_agrees, plain_agrees, refused, replay_agrees, resume_agrees, run_agrees, track_agrees}
+use Rattle.storm_words.proofs.Verbs.{Agrees, accepted, app, check_agrees, fold_agrees, is_none, load_agrees, plain_agrees, refused, replay_agrees, run_agrees, track_agrees}
 
 -- texts that differ do so either way round
 turned : (x y : Text) → bytes_eq x y ≡ false → bytes_eq y x ≡ false
@@ -26,14 +26,13 @@ turned x y apart = elim (cases_Bool (bytes_eq y x)) [
   | inr off ↦ off
 ]
 
--- the word names none of the eight
+-- the word names none of the seven
 record IsOther (verb : Text) : Type 0 where
   pub check : bytes_eq verb (codes "check") ≡ false
   pub plain : bytes_eq verb (codes "plain") ≡ false
   pub replay : bytes_eq verb (codes "replay") ≡ false
   pub run : bytes_eq verb (codes "run") ≡ false
   pub load : bytes_eq verb (codes "load") ≡ false
-  pub resume : bytes_eq verb (codes "resume") ≡ false
   pub track : bytes_eq verb (codes "track") ≡ false
   pub fold : bytes_eq verb (codes "fold") ≡ false
 
@@ -45,16 +44,15 @@ found_none verb o =
     let r = turned verb (codes "replay") o.replay in
     let n = turned verb (codes "run") o.run in
     let l = turned verb (codes "load") o.load in
-    let m = turned verb (codes "resume") o.resume in
     let t = turned verb (codes "track") o.track in
     let f = turned verb (codes "fold") o.fold in
-    rw (c, p, r, n, l, m, t, f) refl
+    rw (c, p, r, n, l, t, f) refl
 
 none_of : (verb : Text) (rest : List Text) → IsOther verb → command_of (verb ∷ rest) ≡ None
 none_of verb [] o = refl
 none_of verb (a ∷ []) o = let e = o.check in rw e refl
-none_of verb (a ∷ b ∷ []) o = let p = o.plain in let r = o.run in let l = o.load in let m = o.resume in let t = o.track in let f = o.fold in rw (p, r, l, m, t, f) refl
-none_of verb (a ∷ b ∷ c ∷ []) o = let p = o.replay in let r = o.run in let m = o.resume in let t = o.track in let f = o.fold in rw (p, r, m, t, f) refl
+none_of verb (a ∷ b ∷ []) o = let p = o.plain in let r = o.run in let l = o.load in let t = o.track in let f = o.fold in rw (p, r, l, t, f) refl
+none_of verb (a ∷ b ∷ c ∷ []) o = let p = o.replay in let r = o.run in let t = o.track in let f = o.fold in rw (p, r, t, f) refl
 none_of verb (a ∷ b ∷ c ∷ d ∷ rest) o = refl
 
 -- its parse has a fault there
@@ -87,14 +85,11 @@ agrees (verb ∷ rest) g =
             | inl same ↦ named verb (codes "run") rest same (run_agrees rest h.1)
             | inr n ↦ elim (cases_Bool (bytes_eq verb (codes "load"))) [
               | inl same ↦ named verb (codes "load") rest same (load_agrees rest h.1)
-              | inr l ↦ elim (cases_Bool (bytes_eq verb (codes "resume"))) [
-                | inl same ↦ named verb (codes "resume") rest same (resume_agrees rest h.1)
-                | inr m ↦ elim (cases_Bool (bytes_eq verb (codes "track"))) [
-                  | inl same ↦ named verb (codes "track") rest same (track_agrees rest h.1)
-                  | inr t ↦ elim (cases_Bool (bytes_eq verb (codes "fold"))) [
-                    | inl same ↦ named verb (codes "fold") rest same (fold_agrees rest h.1)
-                    | inr f ↦ other_agrees verb rest h.0 (record { check = c; plain = p; replay = r; run = n; load = l; resume = m; track = t; fold = f })
-                  ]
+              | inr l ↦ elim (cases_Bool (bytes_eq verb (codes "track"))) [
+                | inl same ↦ named verb (codes "track") rest same (track_agrees rest h.1)
+                | inr t ↦ elim (cases_Bool (bytes_eq verb (codes "fold"))) [
+                  | inl same ↦ named verb (codes "fold") rest same (fold_agrees rest h.1)
+                  | inr f ↦ other_agrees verb rest h.0 (record { check = c; plain = p; replay = r; run = n; load = l; track = t; fold = f })
                 ]
               ]
             ]

@@ -9,7 +9,7 @@ use Rattle.clap.specs.Simple.{built, built_leaf, entered, inherited, rows_at}
 use Rattle.clap.specs.Walk.{Walk, nothing_held, finished, walk, walked}
 use Rattle.clap.specs.Faults.{level_fault, walk_fault, defaults_fault}
 use Rattle.storm_words.specs.Words.{Command, is_word, command_of}
-use Rattle.storm_words.specs.steps.Parser.{storm_app, check_app, plain_app, replay_app, run_app, load_app, resume_app, track_app, fold_app}
+use Rattle.storm_words.specs.steps.Parser.{storm_app, check_app, plain_app, replay_app, run_app, load_app, track_app, fold_app}
 use Rattle.storm_words.specs.steps.Reading.{read_of}
 use Rattle.storm_words.proofs.Walks.{GoesOn, GoesOnTwo, GoesOnThree, after_one, after_two, after_three, start, enters, leaf_ending, one_text, two_texts, three_texts, one_fault, two_faults, three_faults, four_faults}
 
@@ -250,45 +250,6 @@ run_agrees (a ∷ b ∷ c ∷ d ∷ rest) g =
     let g2 = and_parts (is_word c) (list_all is_word (d ∷ rest)) g1.1 in
     let g3 = and_parts (is_word d) (list_all is_word (rest)) g2.1 in
     long run_leaf (codes "run") (a ∷ b ∷ c ∷ d ∷ rest) run_enters _ _ (four_faults run_leaf a b c d (rest) run_on_three g0.0 g1.0 g2.0 g3.0) refl
-
--- ---- resume
-
-abbrev resume_leaf : Shape
-resume_leaf = leaf resume_app
-
-resume_enters : Enters resume_leaf (codes "resume")
-unfolding walked walk_fault defaults_fault
-resume_enters rest =
-    let e = enters app (codes "resume") rest refl refl in
-    (e.0, ap (λ (w : Walk). entered app w.stopped) e.1)
-
-resume_on : GoesOnTwo resume_leaf
-resume_on = (λ a. refl, λ a b. refl)
-
-resume_on_three : GoesOnThree resume_leaf
-resume_on_three = (resume_on, λ a b c. refl)
-
-pub resume_agrees : (rest : List Text) → list_all is_word rest ≡ true → Agrees (codes "resume" ∷ rest)
-unfolding walk_fault defaults_fault
-resume_agrees [] g = short resume_leaf (codes "resume") [] resume_enters start refl refl refl refl
-resume_agrees (a ∷ []) g =
-    let g0 = and_parts (is_word a) (list_all is_word ([])) g in
-    short resume_leaf (codes "resume") (a ∷ []) resume_enters (after_one resume_leaf a) (one_text resume_leaf a [] g0.0) (one_fault resume_leaf a [] g0.0) refl refl
-resume_agrees (a ∷ b ∷ []) g =
-    let g0 = and_parts (is_word a) (list_all is_word (b ∷ [])) g in
-    let g1 = and_parts (is_word b) (list_all is_word ([])) g0.1 in
-    good resume_leaf (codes "resume") (a ∷ b ∷ []) resume_enters (after_two resume_leaf a b) (two_texts resume_leaf a b [] resume_on.0 g0.0 g1.0) (two_faults resume_leaf a b [] resume_on.0 g0.0 g1.0) refl refl
-resume_agrees (a ∷ b ∷ c ∷ []) g =
-    let g0 = and_parts (is_word a) (list_all is_word (b ∷ c ∷ [])) g in
-    let g1 = and_parts (is_word b) (list_all is_word (c ∷ [])) g0.1 in
-    let g2 = and_parts (is_word c) (list_all is_word ([])) g1.1 in
-    good resume_leaf (codes "resume") (a ∷ b ∷ c ∷ []) resume_enters (after_three resume_leaf a b c) (three_texts resume_leaf a b c [] resume_on g0.0 g1.0 g2.0) (three_faults resume_leaf a b c [] resume_on g0.0 g1.0 g2.0) refl refl
-resume_agrees (a ∷ b ∷ c ∷ d ∷ rest) g =
-    let g0 = and_parts (is_word a) (list_all is_word (b ∷ c ∷ d ∷ rest)) g in
-    let g1 = and_parts (is_word b) (list_all is_word (c ∷ d ∷ rest)) g0.1 in
-    let g2 = and_parts (is_word c) (list_all is_word (d ∷ rest)) g1.1 in
-    let g3 = and_parts (is_word d) (list_all is_word (rest)) g2.1 in
-    long resume_leaf (codes "resume") (a ∷ b ∷ c ∷ d ∷ rest) resume_enters _ _ (four_faults resume_leaf a b c d (rest) resume_on_three g0.0 g1.0 g2.0 g3.0) refl
 
 -- ---- track
 

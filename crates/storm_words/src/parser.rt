@@ -1,62 +1,31 @@
 ghost use Rattle.std.specs.Prelude.{◌≡◌, ◌∷◌, [], List, IfOk, true, false};
 ghost use Rattle.clap.specs.Words.{app_of, with_rule, with_subcommand};
 ghost use Rattle.clap.specs.declared.builder.command.Command.TheViews.{out-Command as fields_of};
-ghost use Rattle.storm_words.specs.steps.Parser.{app_with, load_app, positional, storm_app, top_app, topology, input, with_threadless, worked_app, workers};
+ghost use Rattle.storm_words.specs.steps.Parser.{app_with, positional, storm_app, top_app, topology, input, workers};
 
 use clap::{Arg, Command};
 use std::alloc::{AllocError, Global};
 
-/// Eight subcommands, each with positional texts.
+/// Seven subcommands, each with positional texts.
 pub fn storm_parser<'a>(alloc: Global) -> Result<Command<'a>, AllocError>
     ensures app { IfOk result (λ made. app_of made ≡ storm_app) }
-    ensures local { IfOk result (λ made. (fields_of made).has_globals ≡ false) }
-{
-    let storm = with_threadless(alloc, top(alloc))?;
-    let storm = with_worked(alloc, storm, "run")?;
-    let storm = with_load(alloc, storm)?;
-    let storm = with_worked(alloc, storm, "resume")?;
-    let storm = with_worked(alloc, storm, "track")?;
-    with_worked(alloc, storm, "fold")
-}
-
-/// The three subcommands over files that go by one thread.
-fn with_threadless<'a>(alloc: Global, command: Command<'a>) -> Result<Command<'a>, AllocError>
-    requires local { (fields_of command).has_globals ≡ false }
-    ensures app { IfOk result (λ made. app_of made ≡ with_threadless (app_of command.entry)) }
     ensures local { IfOk result (λ made. (fields_of made).has_globals ≡ false) }
 {
     let check = with_text(alloc, Command::new(alloc, "check"), "topology")?;
     let plain = over_files(alloc, "plain")?;
     let replay = with_text(alloc, over_files(alloc, "replay")?, "schedule")?;
-    let command = with_command(command, check)?;
-    let command = with_command(command, plain)?;
-    with_command(command, replay)
-}
-
-fn with_load<'a>(alloc: Global, command: Command<'a>) -> Result<Command<'a>, AllocError>
-    requires local { (fields_of command).has_globals ≡ false }
-    ensures app { IfOk result (λ made. app_of made
-        ≡ with_subcommand (app_of command.entry) load_app.top) }
-    ensures local { IfOk result (λ made. (fields_of made).has_globals ≡ false) }
-{
+    let run = with_workers(alloc, over_files(alloc, "run")?)?;
     let load = with_text(alloc, Command::new(alloc, "load"), "records")?;
     let load = with_text(alloc, load, "seed")?;
-    with_command(command, load)
-}
-
-/// One more subcommand over two files, which may say its workers.
-fn with_worked<'a>(
-    alloc: Global,
-    command: Command<'a>,
-    name: &'a str,
-) -> Result<Command<'a>, AllocError>
-    requires local { (fields_of command).has_globals ≡ false }
-    ensures app { IfOk result (λ made. app_of made
-        ≡ with_subcommand (app_of command.entry) (worked_app name.entry.now).top) }
-    ensures local { IfOk result (λ made. (fields_of made).has_globals ≡ false) }
-{
-    let worked = with_workers(alloc, over_files(alloc, name)?)?;
-    with_command(command, worked)
+    let track = with_workers(alloc, over_files(alloc, "track")?)?;
+    let fold = with_workers(alloc, over_files(alloc, "fold")?)?;
+    let storm = with_command(top(alloc), check)?;
+    let storm = with_command(storm, plain)?;
+    let storm = with_command(storm, replay)?;
+    let storm = with_command(storm, run)?;
+    let storm = with_command(storm, load)?;
+    let storm = with_command(storm, track)?;
+    with_command(storm, fold)
 }
 
 fn top<'a>(alloc: Global) -> Command<'a>

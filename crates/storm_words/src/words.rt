@@ -4,7 +4,7 @@ ghost use Rattle.std.specs.Char.{is_ascii_digit};
 ghost use Rattle.clap.specs.Words.{first_of, found_of, rows_of, subcommand_rows_of};
 ghost use Rattle.storm_words.specs.Commands.{command_of_words, IsWithin};
 ghost use Rattle.storm_values.specs.Limits.{most_workers};
-ghost use Rattle.storm_words.specs.Words.{is_word, digits_value, number_word, command, load, resume, run, track, fold_over};
+ghost use Rattle.storm_words.specs.Words.{is_word, digits_value, number_word, command, load, run, track, fold_over};
 ghost use Rattle.storm_words.specs.steps.Reading.{read_of, text_of, workers_of};
 
 use crate::parser::storm_parser;
@@ -15,7 +15,7 @@ use storm_values::{MOST_WORKERS, Memory};
 
 /// The line that refuses words.
 pub const USAGE: &str = "usage: storm check T | plain T I | replay T I S | run T I [W] \
-     | load N SEED | resume T I [W] | track T I [W] | fold T I [W]\n";
+     | load N SEED | track T I [W] | fold T I [W]\n";
 
 /// How many workers there are where the words do not say it.
 const WORKERS: u32 = 4;
@@ -48,11 +48,6 @@ pub enum Command<'a> {
     Load {
         records: u32,
         seed: u32,
-    },
-    Resume {
-        topology: &'a str,
-        input: &'a str,
-        workers: u32,
     },
     Track {
         topology: &'a str,
@@ -103,7 +98,6 @@ fn command_in<'a>(matches: &ArgMatches<'a>) -> Option<Command<'a>>
         }),
         "run" => run_of(topology, input, text_given(given, "workers")),
         "load" => load_of(text(given, "records"), text(given, "seed")),
-        "resume" => resume_of(topology, input, text_given(given, "workers")),
         "track" => track_of(topology, input, text_given(given, "workers")),
         _ => fold_of(topology, input, text_given(given, "workers")),
     }
@@ -133,20 +127,6 @@ fn run_of<'a>(topology: &'a str, input: &'a str, workers: Option<&str>) -> Optio
 {
     let workers = workers_of(workers)?;
     Some(Command::Run {
-        topology,
-        input,
-        workers,
-    })
-}
-
-fn resume_of<'a>(topology: &'a str, input: &'a str, workers: Option<&str>) -> Option<Command<'a>>
-    ensures command { option_map command_of_words result ≡ option_and_then
-        (λ w. Some (resume topology.now input.now w))
-        (workers_of (option_map (λ s. s.now) workers.entry)) }
-    ensures range { IfSome result IsWithin }
-{
-    let workers = workers_of(workers)?;
-    Some(Command::Resume {
         topology,
         input,
         workers,

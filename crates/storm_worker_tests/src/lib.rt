@@ -9,4 +9,6 @@ mod gates;
 #[cfg(test)]
 mod numbers;
 #[cfg(test)]
+mod partitions_shut;
+#[cfg(test)]
 mod tables;

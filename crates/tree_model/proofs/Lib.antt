@@ -11,5 +11,4 @@ mod TablesSoFar
 pub mod Walks
 pub mod TreePaths
 mod Within
-mod CountedWrites
 mod Counts

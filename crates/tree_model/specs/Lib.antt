@@ -1,4 +1,3 @@
-pub mod Counting
 pub mod Courses
 pub mod Inside
 pub mod Lists

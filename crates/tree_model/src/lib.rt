@@ -4,7 +4,6 @@
 //! lists this one alone.
 #![tactic(auto)]
 
-mod counted;
 mod fold;
 mod laws;
 mod messages;
@@ -15,7 +14,6 @@ mod tree;
 mod write;
 
 pub use bolt_ops;
-pub use counted::{CountedTables, counted_tables};
 pub use counted_items;
 pub use fold::fold_amount;
 pub use laws::{

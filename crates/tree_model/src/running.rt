@@ -74,17 +74,6 @@ impl RunningTables {
         }
         Ok(tables)
     }
-
-    /// The values of each component by the JSON texts of the keys, as the keys came.
-    pub(crate) fn entries(self, alloc: Global) -> Result<Vec<Entries>, Memory>
-        ensures { IfOk result (λ made. map entries_of made.items ≡ self) }
-    {
-        let mut made = Vec::new(alloc);
-        for values in self.values {
-            made.push(whole_entries(values)?)?;
-        }
-        Ok(made)
-    }
 }
 
 /// The tables so far, and the folds by which amounts go in.
@@ -153,15 +142,6 @@ fn sorted_pairs(alloc: Global, mut values: Values) -> Result<Pairs, Memory>
     make_whole(&mut values)?;
     let Values { entries, .. } = values;
     sorted_entries(alloc, entries)
-}
-
-/// The values of a state by the JSON texts of its keys.
-fn whole_entries(mut values: Values) -> Result<Entries, Memory>
-    ensures { IfOk result (λ made. entries_of made ≡ pairs_of values) }
-{
-    make_whole(&mut values)?;
-    let Values { entries, .. } = values;
-    Ok(entries)
 }
 
 fn sorted_entries(alloc: Global, mut entries: Entries) -> Result<Pairs, Memory>

@@ -44,24 +44,18 @@ plain_app = app_with (codes "plain") (topology ∷ input ∷ [])
 abbrev pub replay_app : App
 replay_app = app_with (codes "replay") (topology ∷ input ∷ schedule ∷ [])
 
+abbrev pub run_app : App
+run_app = with_rule (app_with (codes "run") (topology ∷ input ∷ [])) (positional workers false)
+
 abbrev pub load_app : App
 load_app = app_with (codes "load") (records ∷ seed ∷ [])
 
--- those over two files, which may say their workers
-abbrev pub worked_app : Text → App
-worked_app name = with_rule (app_with name (topology ∷ input ∷ [])) (positional workers false)
-
-abbrev pub run_app : App
-run_app = worked_app (codes "run")
-
-abbrev pub resume_app : App
-resume_app = worked_app (codes "resume")
-
 abbrev pub track_app : App
-track_app = worked_app (codes "track")
+track_app =
+    with_rule (app_with (codes "track") (topology ∷ input ∷ [])) (positional workers false)
 
 abbrev pub fold_app : App
-fold_app = worked_app (codes "fold")
+fold_app = with_rule (app_with (codes "fold") (topology ∷ input ∷ [])) (positional workers false)
 
 -- the words are those after the program's name, and there is no help
 abbrev pub top_shape : Shape
@@ -74,15 +68,9 @@ top_shape = record (new_shape (codes "storm")) {
 abbrev pub top_app : App
 top_app = record { top = top_shape; subs = [] }
 
--- with the subcommands over files that go by one thread
-abbrev pub with_threadless : App → App
-with_threadless app =
-    with_subcommand (with_subcommand (with_subcommand app check_app.top) plain_app.top)
-    replay_app.top
-
 -- the whole parser
 abbrev pub storm_app : App
 storm_app =
     with_subcommand (with_subcommand (with_subcommand (with_subcommand (with_subcommand
-    (with_threadless top_app) run_app.top) load_app.top) resume_app.top) track_app.top)
-    fold_app.top
+    (with_subcommand (with_subcommand top_app check_app.top) plain_app.top) replay_app.top)
+    run_app.top) load_app.top) track_app.top) fold_app.top

@@ -3,7 +3,7 @@ use Rattle.std.specs.Prelude.{ℕ, List, [], Option, Some, None, codes, option_a
 use Rattle.std.specs.Str.{bytes_eq}
 use Rattle.clap.specs.Words.{Row, Text, first_of}
 use Rattle.storm_values.specs.Limits.{most_workers}
-use Rattle.storm_words.specs.Words.{Command, check, plain, replay, run, load, resume, track, fold_over, number_word}
+use Rattle.storm_words.specs.Words.{Command, check, plain, replay, run, load, track, fold_over, number_word}
 use Rattle.storm_words.specs.steps.Parser.{topology, input, schedule, workers, records, seed}
 
 -- the text of an argument, empty where it has none
@@ -31,11 +31,8 @@ read_of (Some (name, rows)) =
     then option_and_then
     (λ n. option_and_then (λ s. Some (load n s)) (number_word 0 65535 (text_of seed rows)))
     (number_word 1 10000 (text_of records rows))
-    else (if bytes_eq name (codes "resume")
-    then option_and_then (λ w. Some (resume (text_of topology rows) (text_of input rows) w))
-    (workers_of (first_of workers rows))
     else (if bytes_eq name (codes "track")
     then option_and_then (λ w. Some (track (text_of topology rows) (text_of input rows) w))
     (workers_of (first_of workers rows))
     else option_and_then (λ w. Some (fold_over (text_of topology rows) (text_of input rows) w))
-    (workers_of (first_of workers rows))))))))
+    (workers_of (first_of workers rows)))))))

@@ -1,4 +1,4 @@
-use Rattle.std.proofs.Common.{sym, subst, rules}
+use Rattle.std.proofs.Common.{◌≡◌, ◌++◌, IfOk, Result, sym, subst, rules}
 use Rattle.tree_model.specs.Trees.{writes}
 use Rattle.tree_model.proofs.Walks.{writes-append}
 use Rattle.fold_tables.specs.Pieces.{IsPiece}

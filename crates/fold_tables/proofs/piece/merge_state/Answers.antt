@@ -1,5 +1,6 @@
-use Rattle.std.proofs.Common.{rules}
+use Rattle.std.proofs.Common.{◌≡◌, ◌∙◌, refl, subst, sym, ap, rules}
 use Rattle.std.proofs.lemmas.Result.{on_ok_weaker}
+use Rattle.fold_tables.specs.Pieces.{MergesAt, fold_by, pairs_by}
 use Rattle.fold_tables.proofs.Running.{merges_state}
 use Rattle.fold_tables.proofs.piece.merge_state.Goals as goal
 

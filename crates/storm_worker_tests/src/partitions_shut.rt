@@ -9,7 +9,7 @@ use storm_avail::ScriptAvail;
 use storm_gates::OpenGate;
 use storm_ids::ChaChaMaker;
 use storm_test_kit::storm_program::{Fates, Status, storm};
-use storm_test_kit::{CALM, Scene, keeper, owned, run_of, scripted_ticks, shelf, sink, stores, taken};
+use storm_test_kit::{CALM, Scene, owned, run_of, scripted_ticks, shelf, sink, stores, taken};
 use storm_values::Seq;
 use test_kit::{Mismatch, compare};
 
@@ -70,7 +70,6 @@ fn text_of_run<R: Threads + Wait + Sync>(
     let mut sink = sink(alloc, CALM)?;
     let mut ticks = scripted_ticks(alloc, &[])?;
     let mut stores = stores(alloc, CALM)?;
-    let mut keeper = keeper(alloc, CALM)?;
     let mut fates = Fates::new(alloc);
     let status = storm(
         rt,
@@ -84,7 +83,6 @@ fn text_of_run<R: Threads + Wait + Sync>(
         &mut ChaChaMaker { key: [0; 32] },
         &Backwards,
         &OpenGate {},
-        &mut keeper,
         &mut fates,
     );
     if status == Status::Done {
